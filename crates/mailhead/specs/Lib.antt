@@ -1,0 +1,5 @@
+pub mod Lines
+pub mod Cuts
+pub mod Fields
+pub mod Heads
+pub mod Reads
