@@ -1,5 +1,5 @@
 -- A text has one list of lines, and its body is its end.
-use Rattle.std.proofs.Common.{◌≡◌, ◌≢◌, ◌⊎◌, ℕ, zero, suc, ◌+◌, ◌-◌, ◌<◌, ◌≤◌, Bool, true, false, cond, ◌==◌, ◌&&◌, not, List, [], ◌∷◌, ◌++◌, length, take, drop, refl, sym, ap, ◌∙◌, inl, inr, ⊎_elim, arith}
+use Rattle.std.proofs.Common.{◌≡◌, ◌≢◌, ◌⊎◌, ℕ, ◌+◌, Bool, true, false, cond, not, List, [], ◌∷◌, ◌++◌, length, drop, refl, sym, ap, ◌∙◌, inl, inr, arith}
 use Rattle.std.proofs.lemmas.Bool.{eqb-true}
 use Rattle.std.proofs.lemmas.List.{append-nil, append_assoc, drop_at, length-append}
 use Rattle.std.specs.List.{concat, list_all}
@@ -23,10 +23,13 @@ longer octet line rest not_feed (inl ended) = inl (record {
   spelled = ap (λ t. octet ∷ t) ended.spelled;
   others = and_true _ _ (other_from octet not_feed) ended.others;
 })
-longer octet line rest not_feed (inr last) = inr (record {
-  present = λ none. absurd (cc none);
-  others = and_true _ _ (other_from octet not_feed) last.0.others;
-}, last.1)
+longer octet line rest not_feed (inr last) = inr (
+  record {
+    present = λ none. absurd (cc none);
+    others = and_true _ _ (other_from octet not_feed) last.0.others;
+  },
+  last.1,
+)
 
 found_cut : (test : Bool) (octet : ℕ) (rest : List ℕ) (lines : List (List ℕ)) → is_feed octet ≡ test → AreLines lines rest
     → AreLines (cond test ((octet ∷ []) ∷ lines) (at_front octet lines)) (octet ∷ rest)

@@ -1,10 +1,10 @@
 -- Lemmas on logical lines, and on what is left of a text after one.
-use Rattle.std.proofs.Common.{◌≡◌, ℕ, zero, suc, ◌+◌, ◌-◌, ◌<◌, ◌≤◌, Bool, true, false, cond, ◌==◌, ◌&&◌, ◌||◌, Option, None, Some, List, [], ◌∷◌, ◌++◌, length, take, drop, refl, sym, ap, ◌∙◌, arith}
+use Rattle.std.proofs.Common.{◌≡◌, ℕ, ◌+◌, ◌-◌, ◌<◌, Bool, true, false, cond, ◌==◌, ◌&&◌, None, Some, List, [], ◌∷◌, ◌++◌, length, take, drop, refl, sym, ap, ◌∙◌, arith}
 use Rattle.std.proofs.lemmas.List.{append_assoc, append-nil, take_at, drop_at, length-append}
 use Rattle.std.proofs.lemmas.List.Folds.{list_all-append, concat-append}
 use Rattle.std.specs.List.{concat, list_all}
 use Rattle.octets.specs.Ascii.{is_blank}
-use Rattle.mailhead.specs.Lines.{lines_of, begins_blank, goes_on, onto_first, logical_lines, is_empty_line, header_lines, body_lines}
+use Rattle.mailhead.specs.Lines.{lines_of, begins_blank, goes_on, logical_lines, is_empty_line, header_lines, body_lines}
 use Rattle.mailhead.specs.Cuts.{CutsLine, CutsLogicalLine, after_empty}
 use Rattle.mailhead.proofs.LineLemmas.{begins_blank-append, goes_on-lines_of}
 
@@ -37,20 +37,20 @@ folded_more text after line rest so_far blank cut = record {
   first = so_far.first;
   others = so_far.others ++ line ∷ [];
   lines =
-    so_far.lines ∙ ap (λ t. so_far.first ∷ (so_far.others ++ t)) cut.first
-    ∙ ap (λ t. so_far.first ∷ t) (sym (append_assoc so_far.others (line ∷ []) (lines_of rest)));
+      so_far.lines ∙ ap (λ t. so_far.first ∷ (so_far.others ++ t)) cut.first
+      ∙ ap (λ t. so_far.first ∷ t) (sym (append_assoc so_far.others (line ∷ []) (lines_of rest)));
   spelled =
-    let all = concat-append so_far.others (line ∷ []) in
-    let last = append-nil line in
-    let left = append_assoc so_far.first (concat so_far.others) line in
-    let right = append_assoc (so_far.first ++ concat so_far.others) line rest in
-    let was = so_far.spelled in
-    let now = cut.spelled in
-    was ∙ (ap (λ t. (so_far.first ++ concat so_far.others) ++ t) now ∙ (sym right ∙ ap (λ t. t ++ rest) (left ∙ ap (λ t. so_far.first ++ t) (sym (all ∙ ap (λ t. concat so_far.others ++ t) last)))));
+      let all = concat-append so_far.others (line ∷ []) in
+      let last = append-nil line in
+      let left = append_assoc so_far.first (concat so_far.others) line in
+      let right = append_assoc (so_far.first ++ concat so_far.others) line rest in
+      let was = so_far.spelled in
+      let now = cut.spelled in
+      was ∙ (ap (λ t. (so_far.first ++ concat so_far.others) ++ t) now ∙ (sym right ∙ ap (λ t. t ++ rest) (left ∙ ap (λ t. so_far.first ++ t) (sym (all ∙ ap (λ t. concat so_far.others ++ t) last)))));
   present = so_far.present;
   folded =
-    let begins : begins_blank line ≡ true = sym (begins_blank-append line rest cut.present) ∙ (ap begins_blank (sym cut.spelled) ∙ blank) in
-    list_all-append begins_blank so_far.others (line ∷ []) ∙ and_true _ _ so_far.folded (and_true _ _ begins refl);
+      let begins : begins_blank line ≡ true = sym (begins_blank-append line rest cut.present) ∙ (ap begins_blank (sym cut.spelled) ∙ blank) in
+      list_all-append begins_blank so_far.others (line ∷ []) ∙ and_true _ _ so_far.folded (and_true _ _ begins refl);
 }
 
 -- the lines that were read are the logical line

@@ -1,11 +1,9 @@
 -- Lemmas on the form of a field.
-use Rattle.std.proofs.Common.{◌≡◌, ◌≢◌, ℕ, zero, suc, ◌+◌, ◌-◌, ◌<◌, ◌≤◌, Bool, true, false, cond, ◌==◌, ◌&&◌, Option, None, Some, List, [], ◌∷◌, ◌++◌, length, take, drop, refl, sym, ap, ◌∙◌, arith}
-use Rattle.std.proofs.lemmas.Bool.{false_from_ne_true, eq-eqb, eqb-true}
-use Rattle.std.specs.Option.{option_map}
-use Rattle.std.specs.List.{list_all, prefix_len, take_while}
-use Rattle.octets.specs.Ascii.{is_blank}
+use Rattle.std.proofs.Common.{◌≡◌, ◌≢◌, ℕ, Bool, true, false, cond, ◌==◌, Option, None, Some, List, [], ◌∷◌, refl}
+use Rattle.std.proofs.lemmas.Bool.{false_from_ne_true, eqb-true}
+use Rattle.std.specs.List.{prefix_len, take_while}
 use Rattle.mailhead.specs.Lines.{without_end}
-use Rattle.mailhead.specs.Fields.{FieldText, IsField, is_name, field_of, after_colon, after_blanks, after_name}
+use Rattle.mailhead.specs.Fields.{FieldText, is_name, field_of, after_blanks, after_name}
 
 none_both : (test : Bool) → let none : Option FieldText = None in cond test none none ≡ none
 none_both true = refl

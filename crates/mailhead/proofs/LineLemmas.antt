@@ -1,11 +1,11 @@
 -- Lemmas on the lines of a text.
-use Rattle.std.proofs.Common.{◌≡◌, ◌≢◌, ◌⊎◌, ℕ, zero, suc, ◌+◌, ◌-◌, ◌<◌, ◌≤◌, Bool, true, false, cond, ◌==◌, not, List, [], ◌∷◌, ◌++◌, length, get_or, take, drop, Option, None, Some, refl, sym, ap, ◌∙◌, subst, inl, inr, add-one, arith}
+use Rattle.std.proofs.Common.{◌≡◌, ℕ, zero, suc, ◌+◌, ◌<◌, ◌≤◌, Bool, true, false, cond, ◌==◌, List, [], ◌∷◌, ◌++◌, length, get_or, take, drop, None, Some, refl, sym, ap, ◌∙◌, add-one, arith}
 use Rattle.std.proofs.lemmas.List.{append-nil, take_all, drop_all, take-append-drop, length-take-le}
 use Rattle.std.proofs.lemmas.Bool.{false_from_ne_true}
-use Rattle.std.specs.List.{concat, list_all}
+use Rattle.std.specs.List.{concat}
 use Rattle.memchr.specs.Find.{IsFirstByte, is_byte}
 use Rattle.mailhead.specs.Cuts.{CutsLine}
-use Rattle.mailhead.specs.Lines.{is_feed, is_other, at_front, lines_of, begins_blank, goes_on}
+use Rattle.mailhead.specs.Lines.{is_feed, at_front, lines_of, begins_blank, goes_on}
 
 -- the first line ends at the first LF
 pub lines_at : (text : List ℕ) (k : ℕ) → k < length text → (get_or text k 0 == 10) ≡ true

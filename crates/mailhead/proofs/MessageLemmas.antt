@@ -1,15 +1,11 @@
 -- Lemmas on reading a header line by line.
-use Rattle.std.proofs.Common.{◌≡◌, ◌≢◌, ℕ, zero, suc, ◌+◌, ◌-◌, ◌<◌, ◌≤◌, Bool, true, false, cond, ◌==◌, ◌&&◌, Option, None, Some, List, [], ◌∷◌, ◌++◌, length, map, refl, sym, ap, ◌∙◌, arith}
-use Rattle.std.proofs.lemmas.List.{append_assoc, append-nil, map-append}
-use Rattle.std.proofs.lemmas.Bool.{false_from_ne_true, eq-eqb, eqb-true, false≢true}
-use Rattle.std.specs.Option.{option_map}
+use Rattle.std.proofs.Common.{◌≡◌, ℕ, Bool, true, false, cond, ◌==◌, None, Some, List, [], ◌∷◌, ◌++◌, refl, sym, ap, ◌∙◌}
+use Rattle.std.proofs.lemmas.List.{append_assoc, map-append}
 use Rattle.std.specs.List.{concat, filter_map, cons_option}
-use Rattle.octets.proofs.Lists.{some_is}
-use Rattle.mailhead.specs.Lines.{is_feed, at_front, lines_of, logical_lines, is_empty_line, header_lines, body_lines}
+use Rattle.mailhead.specs.Lines.{at_front, lines_of, logical_lines, header_lines, body_lines}
 use Rattle.mailhead.specs.Cuts.{CutsLogicalLine, after_empty, rest_after_feed}
 use Rattle.mailhead.specs.Fields.{FieldText, field_of, text_of, texts_of}
-use Rattle.mailhead.specs.Heads.{fields_of, body_of}
-use Rattle.mailhead.specs.Reads.{Reads}
+use Rattle.mailhead.specs.Heads.{fields_of}
 use Rattle.mailhead.specs.declared.header.Field.{Field}
 use Rattle.mailhead.proofs.LineLemmas.{concat-lines_of}
 use Rattle.mailhead.proofs.FoldLemmas.{header_step, body_step}
@@ -53,9 +49,9 @@ read_some message fields pushed rest line after field so_far cut none is same =
     let texts : texts_of pushed ≡ texts_of fields ++ text_of field ∷ [] = ap texts_of same ∙ map-append text_of fields (field ∷ []) in
     record {
       fields_left =
-        so_far.fields_left ∙ (ap (λ t. texts_of fields ++ t) found
-        ∙ (sym (append_assoc (texts_of fields) (text_of field ∷ []) (fields_in (lines_of after)))
-        ∙ ap (λ t. t ++ fields_in (lines_of after)) (sym texts)));
+          so_far.fields_left ∙ (ap (λ t. texts_of fields ++ t) found
+          ∙ (sym (append_assoc (texts_of fields) (text_of field ∷ []) (fields_in (lines_of after)))
+          ∙ ap (λ t. t ++ fields_in (lines_of after)) (sym texts)));
       body_left = so_far.body_left ∙ body_step rest line after cut none;
     }
 

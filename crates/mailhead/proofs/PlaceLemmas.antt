@@ -1,14 +1,12 @@
 -- The fields stand at their places.
-use Rattle.std.proofs.Common.{◌≡◌, ◌≢◌, ◌⊎◌, ℕ, zero, suc, ◌+◌, ◌-◌, ◌*◌, ◌<◌, ◌≤◌, Bool, true, false, cond, ◌==◌, ◌&&◌, not, Option, None, Some, List, [], ◌∷◌, ◌++◌, length, take, drop, get_or, map, refl, sym, ap, ◌∙◌, inl, inr, subst, arith}
-use Rattle.std.proofs.lemmas.Bool.{eqb-true, cases_Bool}
+use Rattle.std.proofs.Common.{◌≡◌, ℕ, ◌+◌, ◌-◌, ◌≤◌, Bool, true, false, cond, ◌==◌, Option, None, Some, List, [], ◌∷◌, ◌++◌, length, take, drop, get_or, map, refl, sym, ap, ◌∙◌, arith}
 use Rattle.std.proofs.lemmas.List.{append-nil, append_assoc, take_at, drop_at, length-append, length-take-le, take-append-drop, get_or-append-add}
-use Rattle.std.specs.List.{concat, list_all, filter_map, cons_option, slice_range}
-use Rattle.mailhead.specs.Lines.{is_feed, lines_of, goes_on, onto_first, logical_lines, is_empty_line, header_lines, end_len, without_end}
+use Rattle.std.specs.List.{concat, filter_map, cons_option, slice_range}
+use Rattle.mailhead.specs.Lines.{is_feed, lines_of, goes_on, onto_first, logical_lines, is_empty_line, header_lines, end_len}
 use Rattle.mailhead.specs.Fields.{FieldText, IsField, field_of}
 use Rattle.mailhead.specs.Heads.{header_of, fields_of, FieldPlace, place_in, with_place, places_from, places_of, text_at}
 use Rattle.mailhead.proofs.LineLemmas.{concat-lines_of}
 use Rattle.mailhead.proofs.FormLemmas.{field_is}
-use Rattle.mailhead.proofs.CutLemmas.{Ends}
 
 cond_le : (test : Bool) (x y n : ℕ) → x ≤ n → y ≤ n → cond test x y ≤ n
 cond_le true x y n h k = h
@@ -43,7 +41,7 @@ end_len-behind front (octet ∷ []) =
     let last : get_or (before ++ octet ∷ []) (length (before ++ octet ∷ []) - 1) 0 ≡ octet = at_end before (octet ∷ []) _ 0 (omega (arith, size)) in
     let moved : before ++ octet ∷ [] ≡ front ++ (58 ∷ octet ∷ []) = append_assoc front (58 ∷ []) (octet ∷ []) in
     let other : get_or (before ++ octet ∷ []) (length (before ++ octet ∷ []) - 2) 0 ≡ 58 =
-        ap (λ t. get_or t (length (before ++ octet ∷ []) - 2) 0) moved ∙ at_end front (58 ∷ octet ∷ []) _ 0 (omega (arith, size, long)) in
+    ap (λ t. get_or t (length (before ++ octet ∷ []) - 2) 0) moved ∙ at_end front (58 ∷ octet ∷ []) _ 0 (omega (arith, size, long)) in
     rw (last, other) (one_octet octet)
 end_len-behind front (octet ∷ (next ∷ more)) =
     let before = front ++ 58 ∷ [] in
@@ -69,6 +67,7 @@ field_placed before line after field is = same_field _ field name raw where
       let split : line ++ after ≡ field.name ++ ((is.blanks ++ 58 ∷ is.behind) ++ after) = ap (λ t. t ++ after) is.spelled ∙ append_assoc field.name (is.blanks ++ 58 ∷ is.behind) after in
       ap (λ t. slice_range (before ++ t) (length before) (length before + length field.name)) split
       ∙ slice_at before field.name ((is.blanks ++ 58 ∷ is.behind) ++ after) _ _ refl refl
+
   raw : slice_range (before ++ (line ++ after)) (length before + (length line - end_len line) - length field.raw) (length before + (length line - end_len line)) ≡ field.raw
   raw =
       let front = (field.name ++ is.blanks) ++ 58 ∷ [] in
@@ -81,11 +80,11 @@ field_placed before line after field is = same_field _ field name raw where
       let size : length line ≡ length front + length is.behind = ap length whole ∙ length-append front is.behind in
       let start : length (before ++ front) ≡ length before + length front = length-append before front in
       let split : before ++ (line ++ after) ≡ (before ++ front) ++ (field.raw ++ (ending ++ after)) =
-          ap (λ t. before ++ (t ++ after)) whole
-          ∙ (ap (λ t. before ++ ((front ++ t) ++ after)) behind
-          ∙ (ap (λ t. before ++ t) (append_assoc front (field.raw ++ ending) after)
-          ∙ (ap (λ t. before ++ (front ++ t)) (append_assoc field.raw ending after)
-          ∙ sym (append_assoc before front (field.raw ++ (ending ++ after)))))) in
+      ap (λ t. before ++ (t ++ after)) whole
+      ∙ (ap (λ t. before ++ ((front ++ t) ++ after)) behind
+      ∙ (ap (λ t. before ++ t) (append_assoc front (field.raw ++ ending) after)
+      ∙ (ap (λ t. before ++ (front ++ t)) (append_assoc field.raw ending after)
+      ∙ sym (append_assoc before front (field.raw ++ (ending ++ after)))))) in
       ap (λ t. slice_range t (length before + (length line - end_len line) - length field.raw) (length before + (length line - end_len line))) split
       ∙ slice_at (before ++ front) field.raw (ending ++ after) _ _ (omega arith) (omega arith)
 
@@ -106,7 +105,7 @@ places_from_placed before (line ∷ more) after =
     let size : length (before ++ line) ≡ length before + length line = length-append before line in
     let whole : (before ++ line) ++ (concat more ++ after) ≡ before ++ (line ++ (concat more ++ after)) = append_assoc before line (concat more ++ after) in
     let here : map (text_at (before ++ (line ++ (concat more ++ after)))) (places_from (length before + length line) more) ≡ filter_map field_of more =
-        ap (λ t. map (text_at t) (places_from (length before + length line) more)) (sym whole) ∙ (ap (λ n. map (text_at ((before ++ line) ++ (concat more ++ after))) (places_from n more)) (sym size) ∙ later) in
+    ap (λ t. map (text_at t) (places_from (length before + length line) more)) (sym whole) ∙ (ap (λ n. map (text_at ((before ++ line) ++ (concat more ++ after))) (places_from n more)) (sym size) ∙ later) in
     ap (λ t. map (text_at (before ++ t)) (places_from (length before) (line ∷ more))) (append_assoc line (concat more) after)
     ∙ placed_step before line (concat more ++ after) (field_of line) (places_from (length before + length line) more) (filter_map field_of more) refl here
 

@@ -1,8 +1,8 @@
 -- Header fields (RFC 5322, section 2.2).
-use Rattle.std.specs.Prelude.{◌≡◌, ◌≢◌, ℕ, ◌+◌, ◌-◌, ◌==◌, nat_le, Bool, true, false, cond, ◌&&◌, not, List, [], ◌∷◌, ◌++◌, length, drop, Option, None, Some, option_map, map}
+use Rattle.std.specs.Prelude.{◌≡◌, ◌≢◌, ℕ, ◌==◌, nat_le, Bool, true, cond, ◌&&◌, not, List, [], ◌∷◌, ◌++◌, drop, Option, None, Some, option_map, map}
 use Rattle.std.specs.List.{list_all, prefix_len, take_while}
 use Rattle.octets.specs.Ascii.{is_blank}
-use Rattle.mailhead.specs.Lines.{end_len, without_end}
+use Rattle.mailhead.specs.Lines.{without_end}
 use Rattle.mailhead.specs.declared.header.Field.{Field}
 
 -- 33 to 126 without colon

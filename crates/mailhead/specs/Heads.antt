@@ -1,5 +1,5 @@
 -- A message's fields, where they stand, its body, its size, and unfolding (RFC 5322, section 2.2).
-use Rattle.std.specs.Prelude.{◌≡◌, ℕ, ◌+◌, ◌-◌, ◌==◌, Bool, cond, ◌&&◌, not, List, [], ◌∷◌, ◌++◌, length, Option, None, Some, filter_map, slice_range}
+use Rattle.std.specs.Prelude.{ℕ, ◌+◌, ◌-◌, ◌==◌, cond, ◌&&◌, not, List, [], ◌∷◌, ◌++◌, length, Option, None, Some, filter_map, slice_range}
 use Rattle.std.specs.List.{concat}
 use Rattle.mailhead.specs.Lines.{is_feed, lines_of, goes_on, logical_lines, header_lines, body_lines, end_len, without_end}
 use Rattle.mailhead.specs.Fields.{FieldText, field_of}

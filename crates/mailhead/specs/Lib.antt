@@ -3,3 +3,4 @@ pub mod Cuts
 pub mod Fields
 pub mod Heads
 pub mod Reads
+pub mod Sizes

@@ -5,11 +5,14 @@
 
 mod header;
 pub mod laws;
-mod message;
 mod line;
+mod message;
 mod size;
 mod unfolding;
 
 pub use header::Field;
 pub use message::Head;
 pub use unfolding::unfolded;
+
+#[cfg(test)]
+mod tests;

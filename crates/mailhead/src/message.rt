@@ -6,12 +6,11 @@ ghost use Rattle.mailhead.specs.Reads.{Reads};
 ghost use Rattle.mailhead.specs.Fields.{texts_of};
 ghost use Rattle.mailhead.specs.Heads.{fields_of, body_of, places_of, text_at, size_of};
 
-use std::alloc::{AllocError, Global};
-use std::marker::Model;
-
 use crate::header::{Field, read_field};
 use crate::line::{CR, LF, logical_line};
 use crate::size;
+use std::alloc::{AllocError, Global};
+use std::marker::Model;
 
 /// A message with its header read. It borrows the message and copies nothing of it; beside that it
 /// holds one `Field` for each field. Contracts see the message.

@@ -2,9 +2,8 @@
 ghost use Rattle.std.specs.Prelude.{◌≡◌, IfOk};
 ghost use Rattle.mailhead.specs.Heads.{unfold_of};
 
-use std::alloc::{AllocError, Global};
-
 use crate::line::{begins_blank, first_line, without_end};
+use std::alloc::{AllocError, Global};
 
 /// A raw value without each line end that a space or a tab follows: the value on one line, as a
 /// test or an address parser reads it.
@@ -17,7 +16,11 @@ pub fn unfolded(alloc: Global, raw: &[u8]) -> Result<Vec<u8>, AllocError>
     let mut rest = raw;
     while !rest.is_empty() {
         let (line, after) = first_line(rest);
-        let kept = if begins_blank(after) { without_end(line) } else { line };
+        let kept = if begins_blank(after) {
+            without_end(line)
+        } else {
+            line
+        };
         value.extend_from_slice(kept)?;
         rest = after;
     }

@@ -1,9 +1,8 @@
-use Rattle.std.proofs.Common.{◌≡◌, ◌≢◌, ℕ, ◌==◌, true, false, List, [], ◌∷◌, length, take, drop, sym, ap, ◌∙◌, refl, arith}
+use Rattle.std.proofs.Common.{◌≡◌, ◌≢◌, ℕ, List, ◌∷◌, length, take, drop, sym, ap, ◌∙◌, arith}
 use Rattle.std.proofs.lemmas.List.{nil_from_length}
 use Rattle.std.proofs.lemmas.Bool.{eqb-true, eq-eqb, false≢true}
 use Rattle.std.specs.List.{prefix_len}
-use Rattle.mailhead.specs.Fields.{is_name, after_name, after_blanks, text_of}
-use Rattle.mailhead.specs.Lines.{without_end}
+use Rattle.mailhead.specs.Fields.{is_name, after_name, after_blanks}
 use Rattle.mailhead.proofs.HeaderLemmas.{field_nameless, field_ended, field_other, field_there, same_texts}
 use Rattle.mailhead.proofs.header.read_field.Goals as goal
 
@@ -36,8 +35,8 @@ returns c =
     let first = c.in_ok-colon.ensures.cases.0 in
     let behind = left c.args.line.now _ text _ c.name_len.ensures.value c.split_at.ensures.back c.after_blanks.ensures in
     let there : prefix_len is_name c.args.line.now ≢ 0 = λ zero.
-        let size : length c.split_at.result.0.now ≡ 0 = omega (arith, zero, c.split_at.ensures.front_len, c.name_len.ensures.value) in
-        false≢true (sym c.if-is_empty.false ∙ (c.is_empty.ensures ∙ eq-eqb (length c.split_at.result.0.now) 0 size)) in
+    let size : length c.split_at.result.0.now ≡ 0 = omega (arith, zero, c.split_at.ensures.front_len, c.name_len.ensures.value) in
+    false≢true (sym c.if-is_empty.false ∙ (c.is_empty.ensures ∙ eq-eqb (length c.split_at.result.0.now) 0 size)) in
     let colon : after_blanks (after_name c.args.line.now) ≡ 58 ∷ c.in_ok-colon.behind.now = behind ∙ (first ∙ ap (λ b. b ∷ c.in_ok-colon.behind.now) c.if-colon-ne58.false) in
     let name = c.split_at.ensures.front ∙ ap (λ n. take n c.args.line.now) c.name_len.ensures.value in
     same_texts _ _ _ _ name c.without_end.ensures ∙ sym (field_there c.args.line.now c.in_ok-colon.behind.now there colon)

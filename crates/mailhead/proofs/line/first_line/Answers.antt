@@ -1,5 +1,3 @@
-use Rattle.std.proofs.Common.{◌≡◌, ◌+◌, take, drop, length, List, ap, subst}
-use Rattle.mailhead.specs.Cuts.{CutsLine}
 use Rattle.mailhead.proofs.LineLemmas.{cut_at, cut_none}
 use Rattle.mailhead.proofs.line.first_line.Goals as goal
 

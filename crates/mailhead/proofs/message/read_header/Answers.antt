@@ -1,4 +1,4 @@
-use Rattle.std.proofs.Common.{sym, ap, ◌∙◌}
+use Rattle.std.proofs.Common.{sym}
 use Rattle.mailhead.proofs.MessageLemmas.{read_some, read_none}
 use Rattle.mailhead.proofs.message.read_header.Goals as goal
 
