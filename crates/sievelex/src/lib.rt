@@ -7,6 +7,8 @@ mod front;
 mod number;
 mod quoted;
 mod scanner;
+#[cfg(test)]
+mod tests;
 mod text;
 mod token;
 
