@@ -1,5 +1,5 @@
 -- The longest spelling at a front, and the token that it is.
-use Rattle.std.proofs.Common.{◌≡◌, ◌⊎◌, ℕ, ◌<◌, ◌≤◌, List, length, take, drop, Ok, refl, sym, subst, inl, inr, arith}
+use Rattle.std.proofs.Common.{◌≡◌, ◌⊎◌, ℕ, ◌<◌, ◌≤◌, List, length, take, drop, sym, subst, inl, inr, arith}
 use Rattle.sievelex.specs.declared.token.Kind.{Kind}
 use Rattle.sievelex.specs.declared.token.Value.{Value}
 use Rattle.sievelex.specs.declared.front.Front.{Front}

@@ -1,5 +1,5 @@
 -- White space between tokens.
-use Rattle.std.proofs.Common.{◌≡◌, ℕ, ◌+◌, ◌-◌, ◌<◌, ◌≤◌, suc, zero, Bool, true, false, cond, List, [], ◌∷◌, ◌++◌, length, take, drop, refl, ap, sym, ◌∙◌, subst, arith}
+use Rattle.std.proofs.Common.{◌≡◌, ℕ, ◌+◌, ◌<◌, ◌≤◌, suc, zero, true, false, List, [], ◌∷◌, ◌++◌, length, take, drop, refl, ap, sym, ◌∙◌, arith}
 use Rattle.std.specs.List.{list_all, flat_map, prefix_len}
 use Rattle.std.proofs.lemmas.List.{length-take-le, append-nil, take-append-drop}
 use Rattle.std.proofs.lemmas.Bool.{false_from_ne_true}
@@ -7,7 +7,7 @@ use Rattle.std.proofs.lemmas.Bool.Decides.{nat_tests}
 use Rattle.octets.specs.Ascii.{is_digit}
 use Rattle.sievelex.specs.declared.token.Kind.{Kind}
 use Rattle.sievelex.specs.declared.token.Value.{Value}
-use Rattle.sievelex.specs.declared.class.Class.TheVariants.{White as OfWhite, Mark}
+use Rattle.sievelex.specs.declared.class.Class.TheVariants.{White as OfWhite}
 use Rattle.sievelex.specs.Class.{is_name_start, is_white, class_of}
 use Rattle.sievelex.specs.Shape.{IsShape}
 use Rattle.sievelex.specs.Spelling.{Space, AreSpaces, space_of, IsGap}

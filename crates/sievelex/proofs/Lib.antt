@@ -1,5 +1,6 @@
 pub mod Best
 pub mod Digits
+mod Examples
 pub mod FaultLemmas
 pub mod Gaps
 pub mod Marks

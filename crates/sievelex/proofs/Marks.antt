@@ -1,5 +1,5 @@
 -- Marks, and octets that begin nothing.
-use Rattle.std.proofs.Common.{◌≡◌, ◌⊎◌, ℕ, ◌+◌, ◌<◌, ◌≤◌, suc, zero, Bool, true, false, List, [], ◌∷◌, length, take, drop, refl, ap, sym, ◌∙◌, subst, inl, inr, arith}
+use Rattle.std.proofs.Common.{◌≡◌, ℕ, ◌≤◌, suc, zero, false, List, [], ◌∷◌, length, take, drop, refl, sym, subst, inr, arith}
 use Rattle.octets.specs.Ascii.{is_digit}
 use Rattle.sievelex.specs.declared.front.Front.{Front}
 use Rattle.sievelex.specs.declared.token.Kind.{Kind}

@@ -1,5 +1,5 @@
 -- Identifiers and tags.
-use Rattle.std.proofs.Common.{◌≡◌, ◌⊎◌, ℕ, ◌+◌, ◌<◌, ◌≤◌, suc, zero, Bool, true, false, ◌||◌, List, [], ◌∷◌, length, take, drop, get_or, refl, ap, sym, ◌∙◌, subst, inl, inr, arith}
+use Rattle.std.proofs.Common.{◌≡◌, ◌⊎◌, ℕ, ◌+◌, ◌<◌, ◌≤◌, suc, zero, true, false, List, [], ◌∷◌, length, take, drop, get_or, refl, ap, sym, ◌∙◌, subst, arith}
 use Rattle.std.specs.List.{list_all, prefix_len}
 use Rattle.std.proofs.lemmas.List.Sums.{prefix_len-le-length}
 use Rattle.sievelex.specs.declared.token.Kind.{Kind}
@@ -10,7 +10,7 @@ use Rattle.sievelex.specs.declared.class.Class.TheVariants.{Letter}
 use Rattle.sievelex.specs.Class.{is_name_start, is_name_octet, class_of}
 use Rattle.sievelex.specs.Shape.{IsShape, IsName}
 use Rattle.sievelex.proofs.Prefixes.{at_most, all_prefix, prefix_all, one_more}
-use Rattle.sievelex.proofs.Opening.{Opens, front_opened, shape_at, digit_no_start, class_start}
+use Rattle.sievelex.proofs.Opening.{Opens, front_opened, shape_at, class_start}
 use Rattle.sievelex.proofs.Opening.Opens.{Named, Numbered, Tagged, Quoted, Marked}
 use Rattle.sievelex.specs.declared.front.Front.{Front}
 use Rattle.sievelex.specs.Spelling.{OpensText}

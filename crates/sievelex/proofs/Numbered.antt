@@ -1,5 +1,5 @@
 -- Numbers.
-use Rattle.std.proofs.Common.{◌≡◌, ◌⊎◌, ℕ, ◌+◌, ◌-◌, ◌*◌, ◌<◌, ◌≤◌, ◌^◌, suc, zero, Bool, true, false, cond, ◌==◌, ◌||◌, Option, Some, None, is_some, List, [], ◌∷◌, ◌++◌, length, take, drop, get_or, refl, ap, sym, ◌∙◌, subst, inl, inr, arith, append_assoc, append-nil, length-append, length-drop, take-append-drop}
+use Rattle.std.proofs.Common.{◌≡◌, ◌⊎◌, ℕ, ◌+◌, ◌*◌, ◌<◌, ◌≤◌, ◌^◌, true, false, Some, List, [], ◌∷◌, ◌++◌, length, take, drop, get_or, refl, ap, sym, ◌∙◌, subst, inl, inr, arith, append_assoc, append-nil, length-append, length-drop}
 use Rattle.std.specs.List.{list_all, prefix_len}
 use Rattle.std.proofs.lemmas.List.{take_at, drop_at, length-take-le}
 use Rattle.std.proofs.lemmas.List.Sums.{prefix_len-le-length}
@@ -13,12 +13,12 @@ use Rattle.sievelex.specs.declared.token.Kind.TheVariants.{Number}
 use Rattle.sievelex.specs.declared.token.Value.{Value}
 use Rattle.sievelex.specs.declared.token.Value.TheVariants.{Amount}
 use Rattle.sievelex.specs.declared.class.Class.TheVariants.{Digit}
-use Rattle.sievelex.specs.Class.{is_name_start, class_of}
+use Rattle.sievelex.specs.Class.{class_of}
 use Rattle.sievelex.specs.Shape.{IsShape, IsNumber, factor_of}
 use Rattle.sievelex.specs.Digits.{letter_len}
 use Rattle.sievelex.specs.Front.{IsFront}
 use Rattle.sievelex.proofs.Prefixes.{one_more, at_most, all_prefix, prefix_all, prefix_len-passed, front_of, take_sum}
-use Rattle.sievelex.proofs.Opening.{Opens, front_opened, shape_at, digit_no_start, class_digit}
+use Rattle.sievelex.proofs.Opening.{Opens, front_opened, shape_at, class_digit}
 use Rattle.sievelex.proofs.Opening.Opens.{Named, Numbered, Tagged, Quoted, Marked}
 use Rattle.sievelex.proofs.Best.{IsBest, IsFound, best_found, best_too_large, found_at}
 

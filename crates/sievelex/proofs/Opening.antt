@@ -1,5 +1,5 @@
 -- Which token an octet begins.
-use Rattle.std.proofs.Common.{◌≡◌, ℕ, ◌<◌, suc, zero, Bool, true, false, cond, ◌==◌, ◌||◌, List, [], ◌∷◌, ◌++◌, take, Some, refl, ap, sym, ◌∙◌, subst, arith}
+use Rattle.std.proofs.Common.{◌≡◌, ℕ, ◌<◌, suc, zero, true, false, List, [], ◌∷◌, ◌++◌, take, refl, subst, arith}
 use Rattle.std.specs.List.{list_all, flat_map}
 use Rattle.std.proofs.lemmas.Bool.Decides.{nat_tests}
 use Rattle.octets.specs.Ascii.{is_digit}
@@ -7,10 +7,9 @@ use Rattle.sievelex.specs.declared.token.Kind.{Kind}
 use Rattle.sievelex.specs.declared.token.Kind.TheVariants.{Identifier, Tag, Number, Text}
 use Rattle.sievelex.specs.declared.token.Value.{Value}
 use Rattle.sievelex.specs.declared.token.Value.TheVariants.{Nothing, Amount, Chars}
-use Rattle.sievelex.specs.declared.class.Class.{Class}
 use Rattle.sievelex.specs.declared.class.Class.TheVariants.{Letter, Digit, Colon, Quote, Mark}
 use Rattle.sievelex.specs.Class.{is_name_start, class_of}
-use Rattle.sievelex.specs.Shape.{IsShape, IsName, IsNumber, spelling_of}
+use Rattle.sievelex.specs.Shape.{IsShape, spelling_of}
 use Rattle.sievelex.proofs.Prefixes.{both}
 
 -- no digit begins a name

@@ -1,5 +1,5 @@
 -- What the readers of single tokens answer.
-use Rattle.std.specs.Prelude.{◌≡◌, ℕ, ◌+◌, ◌*◌, ◌<◌, Bool, true, false, ◌==◌, ◌||◌, cond, Option, Some, None, is_some, List, [], ◌∷◌, ◌++◌}
+use Rattle.std.specs.Prelude.{ℕ, List}
 use Rattle.sievelex.specs.declared.front.Front.{Front}
 use Rattle.sievelex.specs.Spelling.{IsToken}
 

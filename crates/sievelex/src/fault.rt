@@ -144,6 +144,6 @@ impl<T: Drop> From<AllocFailed<T>> for ScriptError {
     ghost from_gives = { λ _ e. e ≡ Memory };
 
     fn from(_refused: AllocFailed<T>) -> ScriptError {
-        ScriptError::Memory
+        ScriptError::from(AllocError)
     }
 }

@@ -1,7 +1,6 @@
-use Rattle.std.proofs.Common.{◌≡◌, Some, sym, ◌∙◌}
-use Rattle.sievelex.specs.declared.token.Token.{Token}
+use Rattle.std.proofs.Common.{sym, ◌∙◌}
 use Rattle.sievelex.specs.Spelling.{IsNext}
-use Rattle.sievelex.proofs.Next.{next_further, lines_behind, tail_no_next}
+use Rattle.sievelex.proofs.Next.{next_further, lines_behind}
 use Rattle.sievelex.proofs.Scanned.{front_more, front_ends, front_only}
 use Rattle.sievelex.proofs.scanner.read_tokens.Goals as goal
 
