@@ -1,0 +1,52 @@
+-- Examples of the definitions: a right one and a near miss each.
+use Rattle.std.proofs.Common.{◌≡◌, ℕ, [], ◌∷◌, get_or, refl, ap, arith, lit<, lit≤}
+use Rattle.std.specs.Prelude.{codes}
+use Rattle.sievelex.specs.declared.token.Kind.TheVariants.{Identifier, Number}
+use Rattle.sievelex.specs.declared.token.Value.TheVariants.{Amount, Chars}
+use Rattle.sievelex.specs.declared.front.Front.{Front}
+use Rattle.sievelex.specs.Shape.{IsQuoted}
+use Rattle.sievelex.specs.Shape.Piece.{Plain, Escaped, BareLineEnd}
+use Rattle.sievelex.specs.Text.{IsText}
+use Rattle.sievelex.specs.Front.{IsFront}
+use Rattle.sievelex.specs.Spelling.{IsToken}
+use Rattle.sievelex.proofs.Best.{IsFound, best_only}
+use Rattle.sievelex.proofs.Named.{identifier_best, identifier_found, identifier_none}
+use Rattle.sievelex.proofs.Numbered.{number_found, number_none}
+use Rattle.sievelex.proofs.Strings.{string_none}
+
+-- `keep` begins `keep;`, and `kee` is no token there
+keep_found : IsFound (codes "keep;") (record { kind = Identifier; value = Chars (codes "keep"); len = 4 })
+keep_found = identifier_found (codes "keep;") (codes "keep") (codes ";") (codes "keep") 4 refl refl refl refl refl refl (λ t. let e : 107 ≡ 116 = ap (λ s. get_or s 0 0) t.0 in omega arith)
+
+kee_none : IsToken (codes "keep;") Identifier (Chars (codes "kee")) 3 → ⊥
+kee_none t =
+    let same : (3 ≡ 4) × ((Identifier ≡ Identifier) × (Chars (codes "kee") ≡ Chars (codes "keep"))) = best_only (codes "keep;") Identifier (Chars (codes "keep")) 4 (identifier_best (codes "keep;") refl) Identifier (Chars (codes "kee")) 3 t in
+    cc (same.0)
+
+-- `text` is an identifier before a blank, and nothing before a colon
+text_found : IsFound (codes "text :x") (record { kind = Identifier; value = Chars (codes "text"); len = 4 })
+text_found = identifier_found (codes "text :x") (codes "text") (codes " :x") (codes "text") 4 refl refl refl refl refl refl (λ t. cc (t.1))
+
+text_none : (g : Front) → IsFront (codes "TexT:") g → ⊥
+text_none = identifier_none (codes "TexT:") (codes "TexT") (codes ":") 4 refl refl refl refl (refl, refl)
+
+-- the greatest number with a multiplier, and the first one that is too large
+number_taken : IsFound (codes "8589934591G;") (record { kind = Number; value = Amount 9223372035781033984; len = 11 })
+number_taken = number_found (codes "8589934591G;") (codes "8589934591") (codes "G;") 10 1 1073741824 9223372035781033984 refl refl refl refl refl refl (lit≤ tt) refl refl (lit< tt)
+
+number_refused : (g : Front) → IsFront (codes "8589934592G;") g → ⊥
+number_refused = number_none (codes "8589934592G;") (codes "8589934592") (codes "G;") 10 1 1073741824 refl refl refl refl refl (lit≤ tt) refl (lit≤ tt)
+
+-- `"a\"` LF `"` stands for `a"` CRLF; `"a\"` alone is no string
+quoted : IsQuoted (34 ∷ (97 ∷ (92 ∷ (34 ∷ (10 ∷ (34 ∷ [])))))) (97 ∷ (34 ∷ (13 ∷ (10 ∷ []))))
+quoted = record { pieces = Plain 97 ∷ (Escaped 34 ∷ (BareLineEnd ∷ [])); each = ((refl, refl, refl, refl), ((refl, refl, refl), (tt, tt))); spelled = refl; valued = refl }
+
+unquoted : (g : Front) → IsFront (34 ∷ (97 ∷ (92 ∷ (34 ∷ [])))) g → ⊥
+unquoted g t = string_none (97 ∷ (92 ∷ (34 ∷ []))) refl g.kind g.value g.len _ t.shape
+
+apart : (a b : ℕ) → a ≡ 0 → b ≡ 10 → a ≡ b → ⊥
+apart a b p q e = omega arith
+
+-- a CR at the end is in no text
+lone_return : IsText (13 ∷ []) → ⊥
+lone_return t = apart 0 10 refl refl (t.octets.no_lone_cr 0 refl)

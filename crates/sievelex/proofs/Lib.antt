@@ -1,0 +1,13 @@
+pub mod Best
+pub mod Digits
+mod Examples
+pub mod FaultLemmas
+pub mod Gaps
+pub mod Marks
+pub mod Named
+pub mod Next
+pub mod Numbered
+pub mod Opening
+pub mod Prefixes
+pub mod Scanned
+pub mod Strings
