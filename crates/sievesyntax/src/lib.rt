@@ -1,6 +1,10 @@
 //! The commands of a Sieve script, and what they mean (RFC 5228, 8.2).
 #![tactic(auto)]
 
+mod argument;
+mod lexeme;
+mod reader;
+mod refusal;
 mod script;
 mod tree;
 

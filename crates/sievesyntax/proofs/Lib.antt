@@ -1,0 +1,3 @@
+pub mod ArgumentLemmas
+pub mod Chains
+pub mod FaultLemmas
