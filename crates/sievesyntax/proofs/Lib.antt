@@ -1,3 +1,4 @@
 pub mod ArgumentLemmas
 pub mod Chains
 pub mod FaultLemmas
+pub mod SettingLemmas

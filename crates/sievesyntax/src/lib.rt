@@ -6,6 +6,7 @@ mod lexeme;
 mod reader;
 mod refusal;
 mod script;
+mod setting;
 mod tree;
 
 pub use script::Script;
