@@ -2,3 +2,5 @@ pub mod ArgumentLemmas
 pub mod Chains
 pub mod FaultLemmas
 pub mod SettingLemmas
+pub mod RowLemmas
+pub mod ViewLemmas

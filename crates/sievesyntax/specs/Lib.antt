@@ -2,7 +2,9 @@ pub mod Arguments
 pub mod Chains
 pub mod Lexemes
 pub mod Parsing
+pub mod Rows
 pub mod Settings
 pub mod Tree
+pub mod Valid
 pub mod View
 pub mod Meaning

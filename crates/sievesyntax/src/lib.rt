@@ -2,9 +2,11 @@
 #![tactic(auto)]
 
 mod argument;
+mod granted;
 mod lexeme;
 mod reader;
 mod refusal;
+mod row;
 mod script;
 mod setting;
 mod tree;
