@@ -4,3 +4,5 @@ pub mod FaultLemmas
 pub mod SettingLemmas
 pub mod RowLemmas
 pub mod ViewLemmas
+pub mod ParserLemmas
+pub mod BlockLemmas

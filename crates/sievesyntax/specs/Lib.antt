@@ -2,6 +2,7 @@ pub mod Arguments
 pub mod Chains
 pub mod Lexemes
 pub mod Parsing
+pub mod Reading
 pub mod Rows
 pub mod Settings
 pub mod Tree

@@ -4,6 +4,7 @@
 mod argument;
 mod granted;
 mod lexeme;
+mod parser;
 mod reader;
 mod refusal;
 mod row;
