@@ -6,3 +6,4 @@ pub mod RowLemmas
 pub mod ViewLemmas
 pub mod ParserLemmas
 pub mod BlockLemmas
+pub mod OpeningLemmas

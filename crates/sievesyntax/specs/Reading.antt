@@ -1,5 +1,5 @@
 -- The grammar of tests and commands (RFC 5228, 8.2).
-use Rattle.std.specs.Prelude.{◌≡◌, ◌≤◌, ◌+◌, ℕ, List, [], ◌∷◌, All}
+use Rattle.std.specs.Prelude.{◌≡◌, ◌≤◌, ◌+◌, ℕ, List, [], ◌∷◌, ◌++◌, All}
 use Rattle.sievelex.specs.declared.token.Kind.TheVariants as K
 use Rattle.sievesyntax.specs.declared.lexeme.Word.{Word}
 use Rattle.sievesyntax.specs.declared.lexeme.Word.TheVariants as W
@@ -85,3 +85,16 @@ TakesRequire names from to = ReadsCommand (require names) from to × All IsCapab
 abbrev pub IsPastRequires : List Lexeme → Type 0
 IsPastRequires (word W.Require ∷ _) = ⊥
 IsPastRequires _ = Unit {0}
+
+-- the names of several `require`, in turn
+abbrev pub all_names : List (List (List ℕ)) → List (List ℕ)
+all_names [] = []
+all_names (names ∷ more) = names ++ all_names more
+
+-- requires at the front, up to another command or the end
+abbrev pub TakesRequires : List (List (List ℕ)) → List Lexeme → List Lexeme → Type 0
+TakesRequires each from to = Chain TakesRequire each from to × IsPastRequires to
+
+-- the commands of a whole script
+abbrev pub Reads : Commands → List Lexeme → Type 0
+Reads commands from = AreCommands commands from []

@@ -4,6 +4,7 @@
 mod argument;
 mod granted;
 mod lexeme;
+mod opening;
 mod parser;
 mod reader;
 mod refusal;

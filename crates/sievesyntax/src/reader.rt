@@ -60,4 +60,18 @@ impl<'a> Reader<'a> {
             _ => Err(ReadError::Fault(FaultKind::Unexpected)),
         }
     }
+
+    /// Nothing is left.
+    pub fn read_end(&mut self) -> Result<(), ReadError>
+        ensures found { OnOk result (self.old ≡ []) }
+        ensures fault { IfFault result (self.old ≡ [] → ⊥) }
+    {
+        match self.split_first() {
+            None => Ok(()),
+            Some((_, after)) => {
+                *self = after;
+                Err(ReadError::Fault(FaultKind::Unexpected))
+            }
+        }
+    }
 }
