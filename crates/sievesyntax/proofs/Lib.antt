@@ -7,3 +7,4 @@ pub mod ViewLemmas
 pub mod ParserLemmas
 pub mod BlockLemmas
 pub mod OpeningLemmas
+pub mod LineLemmas

@@ -8,4 +8,6 @@ pub mod Settings
 pub mod Tree
 pub mod Valid
 pub mod View
+pub mod Lines
 pub mod Meaning
+pub mod Means

@@ -13,5 +13,6 @@ mod script;
 mod setting;
 mod tree;
 
-pub use script::Script;
+pub use script::{Script, check};
+pub use sievelex::{FaultKind, ScriptError, ScriptFault};
 pub use tree::{Action, Bound, Branch, Check, Command, Size, Test};
