@@ -1,0 +1,5 @@
+pub mod RunLemmas
+pub mod TestLemmas
+pub mod PartLemmas
+pub mod PieceLemmas
+pub mod QuotedLemmas

@@ -1,0 +1,6 @@
+pub mod Runs
+pub mod Charsets
+pub mod Quoted
+pub mod Words
+pub mod Values
+pub mod Headers
