@@ -25,21 +25,36 @@ pub record IsPieceLength (text : List ℕ) (n : ℕ) : Type 0 where
   pub whole : IsCharBoundary text n
   pub longest : (m : ℕ) → n < m → m ≤ 45 → IsCharBoundary text m → ⊥
 
+-- the longest prefix of at most 45 octets that ends at a character, and what follows
+pub record CutsPiece (text piece rest : List ℕ) : Type 0 where
+  pub spelled : text ≡ piece ++ rest
+  pub present : piece ≢ []
+  pub length_is : IsPieceLength text (length piece)
+
 -- the longest prefixes of at most 45 octets that end at a character, of the text and of what is left behind each
 abbrev pub ArePieces : List (List ℕ) → List ℕ → Type 0
 ArePieces [] text = text ≡ []
 ArePieces (piece ∷ more) text =
-    (rest : List ℕ) × ((text ≡ piece ++ rest) × ((piece ≢ []) × (IsPieceLength text (length piece) × ArePieces more rest)))
+    (rest : List ℕ) × (CutsPiece text piece rest × ArePieces more rest)
 
 -- `=?UTF-8?B?..?=`
 abbrev pub word_for : List ℕ → List ℕ
 word_for piece = codes "=?UTF-8?B?" ++ (encode_of standard piece ++ codes "?=")
 
+-- CRLF and SP before the word of each of these pieces
+abbrev pub others_for : List (List ℕ) → List ℕ
+others_for [] = []
+others_for (piece ∷ more) = 13 ∷ 10 ∷ 32 ∷ (word_for piece ++ others_for more)
+
 -- the words of these pieces, with CRLF and SP between
 abbrev pub words_for : List (List ℕ) → List ℕ
 words_for [] = []
-words_for (piece ∷ []) = word_for piece
-words_for (piece ∷ (next ∷ more)) = word_for piece ++ (13 ∷ 10 ∷ 32 ∷ words_for (next ∷ more))
+words_for (piece ∷ more) = word_for piece ++ others_for more
+
+-- what stands between a value so far and its next word
+abbrev pub between : List ℕ → List ℕ
+between [] = []
+between (octet ∷ rest) = 13 ∷ 10 ∷ 32 ∷ []
 
 -- the words of a text's pieces
 pub record IsWorded (text value : List ℕ) : Type 0 where

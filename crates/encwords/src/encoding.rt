@@ -1,8 +1,8 @@
 //! How a text is written in a header field.
-ghost use Rattle.std.specs.Prelude.{◌≡◌, IfOk};
+ghost use Rattle.std.specs.Prelude.{◌≡◌, ◌<◌, ◌++◌, length, IfOk, OnOk, string_bytes};
 ghost use Rattle.std.specs.List.{list_all};
 ghost use Rattle.octets.specs.Ascii as ascii;
-ghost use Rattle.encwords.specs.Headers.{IsHeaderText, IsWorded, has_mark, is_plain};
+ghost use Rattle.encwords.specs.Headers.{CutsPiece, IsHeaderText, IsWorded, between, word_for, has_mark, is_plain};
 
 use base64::engine::general_purpose::STANDARD;
 use memchr::memmem;
@@ -51,14 +51,27 @@ fn words(alloc: Global, text: &str) -> Result<Vec<u8>, AllocError>
     let mut value = String::with_capacity(alloc, text.len())?;
     let mut rest = text;
     while !rest.is_empty() {
-        if !value.is_empty() {
-            value.push_str("\r\n ")?;
-        }
-        let (piece, after) = rest.split_at(rest.floor_char_boundary(WORD_LEN));
-        value.push_str("=?UTF-8?B?")?;
-        STANDARD.encode_string(piece.as_bytes(), &mut value)?;
-        value.push_str("?=")?;
+        let (piece, after) = next_piece(rest);
+        push_word(&mut value, piece)?;
         rest = after;
     }
     Ok(value.into_bytes())
+}
+
+/// The text of the next word, and what follows.
+fn next_piece(text: &str) -> (&str, &str)
+    requires { 0 < length text.now }
+    ensures { CutsPiece text.now result.0.now result.1.now }
+{
+    text.split_at(text.floor_char_boundary(WORD_LEN))
+}
+
+/// Appends a word, on a line of its own behind other words.
+fn push_word(value: &mut String, piece: &str) -> Result<(), AllocError>
+    ensures { OnOk result (string_bytes value.new ≡ string_bytes value.old ++ (between (string_bytes value.old) ++ word_for piece.now)) }
+{
+    value.push_str(if value.is_empty() { "" } else { "\r\n " })?;
+    value.push_str("=?UTF-8?B?")?;
+    STANDARD.encode_string(piece.as_bytes(), value)?;
+    value.push_str("?=")
 }
