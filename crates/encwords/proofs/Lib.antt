@@ -3,3 +3,5 @@ pub mod TestLemmas
 pub mod PartLemmas
 pub mod PieceLemmas
 pub mod QuotedLemmas
+pub mod AlphabetLemmas
+pub mod ReadBackLemmas

@@ -4,3 +4,4 @@ pub mod Quoted
 pub mod Words
 pub mod Values
 pub mod Headers
+pub mod Laws
