@@ -32,8 +32,8 @@ pub read_one : (text octets pushed : List ℕ) (mode next now : Mode) (i octet :
 read_one text octets pushed mode next now i octet read found so_far kept left is same = rw (same, is) (record {
   kept = kept;
   left =
-    let more = quoted_from next (drop (i + 1) text) in
-    sym (onto-push octets octet more) ∙ (ap (λ r. onto octets (with_read r more)) (sym found) ∙ (ap (onto octets) (sym left) ∙ so_far.left));
+      let more = quoted_from next (drop (i + 1) text) in
+      sym (onto-push octets octet more) ∙ (ap (λ r. onto octets (with_read r more)) (sym found) ∙ (ap (onto octets) (sym left) ∙ so_far.left));
 })
 
 -- no octet was read

@@ -123,7 +123,7 @@ unfold_crlf front rest all blank =
     let line : front ++ (13 ∷ 10 ∷ []) ≡ (front ++ 13 ∷ []) ++ 10 ∷ [] = sym (append_assoc front (13 ∷ []) (10 ∷ [])) in
     let others : list_all is_other (front ++ 13 ∷ []) ≡ true = list_all-append is_other front (13 ∷ []) ∙ and_true _ _ all refl in
     let cut : lines_of ((front ++ (13 ∷ 10 ∷ [])) ++ rest) ≡ (front ++ (13 ∷ 10 ∷ [])) ∷ lines_of rest =
-        ap (λ t. lines_of (t ++ rest)) line ∙ (cut_ended (front ++ 13 ∷ []) rest others ∙ ap (λ t. t ∷ lines_of rest) (sym line)) in
+    ap (λ t. lines_of (t ++ rest)) line ∙ (cut_ended (front ++ 13 ∷ []) rest others ∙ ap (λ t. t ∷ lines_of rest) (sym line)) in
     let goes : goes_on (lines_of rest) ≡ true = goes_on-lines_of rest ∙ blank in
     ap joined cut ∙ (ap (λ t. cond t (without_end (front ++ (13 ∷ 10 ∷ []))) (front ++ (13 ∷ 10 ∷ [])) ++ unfold_of rest) goes ∙ ap (λ t. t ++ unfold_of rest) (without_crlf front))
 
@@ -293,6 +293,6 @@ worded_back text value bytes valid worded =
 -- a text that was written in a header field is read back from it
 pub read_back : (text value : List ℕ) → IsBytes text → IsUtf8 text → IsReadBack text value
 read_back text value bytes valid written = ⊎_elim
-  (λ plain. ap (λ t. text_of (unfold_of t)) (written.plain plain) ∙ plain_back text plain)
-  (λ other. worded_back text value bytes valid (written.worded other))
-  (cases_Bool (is_plain text))
+    (λ plain. ap (λ t. text_of (unfold_of t)) (written.plain plain) ∙ plain_back text plain)
+    (λ other. worded_back text value bytes valid (written.worded other))
+    (cases_Bool (is_plain text))

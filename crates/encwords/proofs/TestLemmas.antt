@@ -18,8 +18,8 @@ use Rattle.encwords.specs.Headers.{begins_question, has_mark}
 pub differ : (test : Bool) (xs ys : List ℕ) → (IsTrue test ↔ (map to_ascii_lowercase xs ≡ map to_ascii_lowercase ys)) → test ≡ false → str_eq_ignore_ascii_case xs ys ≡ false
 differ test xs ys iff fails =
     false_from_ne_true (str_eq_ignore_ascii_case xs ys) (λ same.
-        let equal = (bytes_eq-Decides (map to_ascii_lowercase xs) (map to_ascii_lowercase ys)).0 same in
-        false≢true (sym fails ∙ iff.1 equal))
+    let equal = (bytes_eq-Decides (map to_ascii_lowercase xs) (map to_ascii_lowercase ys)).0 same in
+    false≢true (sym fails ∙ iff.1 equal))
 
 or_right : (a b : Bool) → b ≡ true → (a || b) ≡ true
 or_right true b holds = refl

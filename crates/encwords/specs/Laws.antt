@@ -1,6 +1,5 @@
 -- What is written in a header field says the text again.
 use Rattle.std.specs.Prelude.{◌≡◌, ℕ, List, codes}
-
 use Rattle.base64.specs.GeneralPurpose.{engine_symbols, engine_padding}
 use Rattle.base64.specs.declared.engine.general_purpose.GeneralPurpose.{GeneralPurpose}
 use Rattle.mailhead.specs.Heads.{unfold_of}

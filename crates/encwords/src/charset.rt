@@ -30,7 +30,11 @@ pub fn charset_named(name: &[u8]) -> Option<Charset>
         return None;
     }
     let (front, part) = name.split_at(9);
-    if front.eq_ignore_ascii_case(b"iso-8859-") { iso_part(part) } else { None }
+    if front.eq_ignore_ascii_case(b"iso-8859-") {
+        iso_part(part)
+    } else {
+        None
+    }
 }
 
 /// The part of ISO-8859 with this number, 1 to 16.
@@ -46,13 +50,25 @@ fn iso_part(number: &[u8]) -> Option<Charset>
 }
 
 /// Octets of a character set as UTF-8, if they are its.
-pub fn converted(alloc: Global, charset: Charset, octets: Vec<u8>) -> Result<Option<Vec<u8>>, AllocError>
+pub fn converted(
+    alloc: Global,
+    charset: Charset,
+    octets: Vec<u8>,
+) -> Result<Option<Vec<u8>>, AllocError>
     ensures { IfOk result (λ text. option_map (λ v. v.items) text ≡ charsets.converted charset octets.items) }
 {
     match charset {
-        Charset::Ascii => Ok(if are_ascii(octets.as_slice()) { Some(octets) } else { None }),
+        Charset::Ascii => Ok(if are_ascii(octets.as_slice()) {
+            Some(octets)
+        } else {
+            None
+        }),
         Charset::Latin1 => Ok(Some(latin1(alloc, octets.as_slice())?)),
-        Charset::Utf8 => Ok(if is_utf8(octets.as_slice()) { Some(octets) } else { None }),
+        Charset::Utf8 => Ok(if is_utf8(octets.as_slice()) {
+            Some(octets)
+        } else {
+            None
+        }),
     }
 }
 

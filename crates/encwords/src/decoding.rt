@@ -2,10 +2,9 @@
 ghost use Rattle.std.specs.Prelude.{◌≡◌, ◌&&◌, [], if◌then◌else◌, IfOk, option_map, unwrap_or};
 ghost use Rattle.encwords.specs.Values.{text_of};
 
-use std::alloc::{AllocError, Global};
-
 use crate::run::{blank_run, dark_run};
 use crate::word::word_text;
+use std::alloc::{AllocError, Global};
 
 /// The text of a header value, with each encoded word that is recognised in place of its text
 /// (RFC 2047). What isn't recognised stays as written.
@@ -33,7 +32,11 @@ pub fn decoded(alloc: Global, value: &[u8]) -> Result<Vec<u8>, AllocError>
 fn kept_blanks(behind_word: bool, before_word: bool, blanks: &[u8]) -> &[u8]
     ensures { result.now ≡ (if behind_word && before_word then [] else blanks.now) }
 {
-    if behind_word && before_word { blanks.split_at(0).0 } else { blanks }
+    if behind_word && before_word {
+        blanks.split_at(0).0
+    } else {
+        blanks
+    }
 }
 
 /// The text of a run that is a word, and else the run.

@@ -9,5 +9,4 @@ ghost use Rattle.encwords.specs.Laws.{HasStandardAlphabet, IsReadBack};
 pub fn text_read_back()
     ensures alphabet { HasStandardAlphabet standard }
     ensures back { (text value : List ℕ) → IsBytes text → IsUtf8 text → IsReadBack text value }
-{
-}
+{}

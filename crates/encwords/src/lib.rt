@@ -11,3 +11,6 @@ mod word;
 
 pub use decoding::decoded;
 pub use encoding::header_text;
+
+#[cfg(test)]
+mod tests;

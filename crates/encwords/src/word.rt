@@ -5,13 +5,12 @@ ghost use Rattle.base64.specs.Engines.{standard};
 ghost use Rattle.base64.specs.GeneralPurpose.{decoded_of};
 ghost use Rattle.encwords.specs.Words as words;
 
+use crate::charset::{charset_named, converted};
+use crate::quoted::from_quoted;
 use base64::DecodeAllocError;
 use base64::engine::general_purpose::STANDARD;
 use memchr::memchr;
 use std::alloc::{AllocError, Global};
-
-use crate::charset::{charset_named, converted};
-use crate::quoted::from_quoted;
 
 /// The text of a run that is a recognised word. One pass over the run.
 pub fn word_text(alloc: Global, run: &[u8]) -> Result<Option<Vec<u8>>, AllocError>
@@ -23,7 +22,12 @@ pub fn word_text(alloc: Global, run: &[u8]) -> Result<Option<Vec<u8>>, AllocErro
     }
 }
 
-fn meaning(alloc: Global, name: &[u8], encoding: &[u8], text: &[u8]) -> Result<Option<Vec<u8>>, AllocError>
+fn meaning(
+    alloc: Global,
+    name: &[u8],
+    encoding: &[u8],
+    text: &[u8],
+) -> Result<Option<Vec<u8>>, AllocError>
     ensures { IfOk result (λ found. option_map (λ v. v.items) found ≡ words.meaning_of name.now encoding.now text.now) }
 {
     if !is_encoded_text(text) {
@@ -86,7 +90,11 @@ fn parts(run: &[u8]) -> Option<(&[u8], &[u8], &[u8])>
     let (set, behind) = cut(behind)?;
     let (encoding, behind) = cut(behind)?;
     let (text, back) = cut(behind)?;
-    if are_equals_signs(front, back) { Some((set, encoding, text)) } else { None }
+    if are_equals_signs(front, back) {
+        Some((set, encoding, text))
+    } else {
+        None
+    }
 }
 
 fn are_equals_signs(front: &[u8], back: &[u8]) -> bool

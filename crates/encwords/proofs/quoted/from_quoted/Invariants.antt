@@ -1,5 +1,3 @@
-
-
 use Rattle.encwords.proofs.QuotedLemmas.{IsRead}
 use Rattle.encwords.proofs.quoted.from_quoted.Given as goal
 
