@@ -5,3 +5,5 @@ pub mod PieceLemmas
 pub mod QuotedLemmas
 pub mod AlphabetLemmas
 pub mod ReadBackLemmas
+pub mod RunLaws
+pub mod PieceLaws

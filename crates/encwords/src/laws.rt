@@ -2,7 +2,22 @@
 ghost use Rattle.std.specs.Prelude.{◌≡◌, ℕ, List, IsUtf8};
 ghost use Rattle.base64.specs.Engines.{standard};
 ghost use Rattle.base64.specs.GeneralPurpose.{IsBytes};
+ghost use Rattle.encwords.specs.Headers.{ArePieces};
+ghost use Rattle.encwords.specs.Runs.{AreRuns, runs_of};
 ghost use Rattle.encwords.specs.Laws.{HasStandardAlphabet, IsReadBack};
+
+/// A value has one list of runs.
+pub fn runs_of_a_value()
+    ensures found { (text : List ℕ) → AreRuns (runs_of text) text }
+    ensures only { (text : List ℕ) (runs : List (List ℕ)) → AreRuns runs text → runs ≡ runs_of text }
+{
+}
+
+/// A text has one list of pieces at most, so that what is written is the same at each call.
+pub fn pieces_of_a_text()
+    ensures { (text : List ℕ) (pieces others : List (List ℕ)) → ArePieces pieces text → ArePieces others text → pieces ≡ others }
+{
+}
 
 /// A text that was written in a header field is read back from it, unfolded and decoded. It rests on
 /// the alphabet of base64's `STANDARD`.
