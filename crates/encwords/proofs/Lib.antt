@@ -7,3 +7,4 @@ pub mod AlphabetLemmas
 pub mod ReadBackLemmas
 pub mod RunLaws
 pub mod PieceLaws
+pub mod QuotedLaws

@@ -1,8 +1,9 @@
 //! Laws of the definitions, each the contract of a function that does nothing.
-ghost use Rattle.std.specs.Prelude.{◌≡◌, ℕ, List, IsUtf8};
+ghost use Rattle.std.specs.Prelude.{◌≡◌, ◌↔◌, ℕ, List, IsUtf8, Some};
 ghost use Rattle.base64.specs.Engines.{standard};
 ghost use Rattle.base64.specs.GeneralPurpose.{IsBytes};
 ghost use Rattle.encwords.specs.Headers.{ArePieces};
+ghost use Rattle.encwords.specs.Quoted.{IsQuoted, quoted_of};
 ghost use Rattle.encwords.specs.Runs.{AreRuns, runs_of};
 ghost use Rattle.encwords.specs.Laws.{HasStandardAlphabet, IsReadBack};
 
@@ -10,6 +11,12 @@ ghost use Rattle.encwords.specs.Laws.{HasStandardAlphabet, IsReadBack};
 pub fn runs_of_a_value()
     ensures found { (text : List ℕ) → AreRuns (runs_of text) text }
     ensures only { (text : List ℕ) (runs : List (List ℕ)) → AreRuns runs text → runs ≡ runs_of text }
+{
+}
+
+/// A text in Q stands for the octets of its pieces, and for nothing where it has no pieces.
+pub fn octets_in_q()
+    ensures { (text octets : List ℕ) → (quoted_of text ≡ Some octets) ↔ IsQuoted text octets }
 {
 }
 
