@@ -6,9 +6,9 @@ use Rattle.encwords.specs.Headers.{IsPieceLength, CutsPiece, ArePieces}
 
 one_length : (text : List ℕ) (m n : ℕ) → IsPieceLength text m → IsPieceLength text n → m ≡ n
 one_length text m n a b = ⊎_elim
-  (λ less. absurd (a.longest n less b.small b.whole))
-  (λ more. ⊎_elim (λ less. absurd (b.longest m less a.small a.whole)) (λ same. omega arith) (cases_lt n m))
-  (cases_lt m n)
+    (λ less. absurd (a.longest n less b.small b.whole))
+    (λ more. ⊎_elim (λ less. absurd (b.longest m less a.small a.whole)) (λ same. omega arith) (cases_lt n m))
+    (cases_lt m n)
 
 cut_front : (text piece rest : List ℕ) → CutsPiece text piece rest → take (length piece) text ≡ piece
 cut_front text piece rest cut = ap (take (length piece)) cut.spelled ∙ take_at piece rest (length piece) refl

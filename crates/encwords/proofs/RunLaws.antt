@@ -12,9 +12,9 @@ pub runs_only : (text : List ℕ) (runs : List (List ℕ)) → AreRuns runs text
 runs_only text [] are = ap runs_of (sym are)
 runs_only text (run ∷ more) (rest, (spelled, (present, (kind, are)))) =
     ap (λ t. run ∷ t) (runs_only rest more are) ∙ (first run rest present kind ∙ ap runs_of (sym spelled)) where
-  first : (run rest : List ℕ) → run ≢ [] → IsRun run rest → run ∷ runs_of rest ≡ runs_of (run ++ rest)
-  first run rest present (inl blank) = sym (runs_blank run rest present blank.0 blank.1)
-  first run rest present (inr dark) = sym (runs_dark run rest present dark.0 dark.1)
+      first : (run rest : List ℕ) → run ≢ [] → IsRun run rest → run ∷ runs_of rest ≡ runs_of (run ++ rest)
+      first run rest present (inl blank) = sym (runs_blank run rest present blank.0 blank.1)
+      first run rest present (inr dark) = sym (runs_dark run rest present dark.0 dark.1)
 
 -- an octet before a run
 longer : (octet : ℕ) (run rest : List ℕ) (blank : Bool) → is_blank octet ≡ blank → run ≢ [] → IsRun run rest → cond blank (begins_blank run) (begins_dark run) ≡ true → IsRun (octet ∷ run) rest
@@ -46,8 +46,8 @@ found_before octet rest run more true same (behind, (spelled, (present, (kind, a
     (behind, (ap (λ t. octet ∷ t) spelled, ((λ none. absurd (cc none)), (longer octet run behind (is_blank octet) refl present kind same, are))))
 found_before octet rest run more false other (behind, (spelled, (present, (kind, are)))) =
     (rest, (refl, ((λ none. absurd (cc none)), (apart_at octet rest run behind spelled present other, (behind, (spelled, (present, (kind, are)))))))) where
-  apart_at : (octet : ℕ) (rest run behind : List ℕ) → rest ≡ run ++ behind → run ≢ [] → cond (is_blank octet) (begins_blank run) (begins_dark run) ≡ false → IsRun (octet ∷ []) rest
-  apart_at octet rest run behind spelled present other = rw spelled (apart octet run behind (is_blank octet) refl present other)
+      apart_at : (octet : ℕ) (rest run behind : List ℕ) → rest ≡ run ++ behind → run ≢ [] → cond (is_blank octet) (begins_blank run) (begins_dark run) ≡ false → IsRun (octet ∷ []) rest
+      apart_at octet rest run behind spelled present other = rw spelled (apart octet run behind (is_blank octet) refl present other)
 
 -- an octet before the runs of what follows
 runs_step : (octet : ℕ) (rest : List ℕ) (runs : List (List ℕ)) → AreRuns runs rest → AreRuns (before_runs octet runs) (octet ∷ rest)

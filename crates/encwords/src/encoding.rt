@@ -68,7 +68,8 @@ fn next_piece(text: &str) -> (&str, &str)
 
 /// Appends a word, on a line of its own behind other words.
 fn push_word(value: &mut String, piece: &str) -> Result<(), AllocError>
-    ensures { OnOk result (string_bytes value.new ≡ string_bytes value.old ++ (between (string_bytes value.old) ++ word_for piece.now)) }
+    ensures { OnOk result (string_bytes value.new
+        ≡ string_bytes value.old ++ (between (string_bytes value.old) ++ word_for piece.now)) }
 {
     value.push_str(if value.is_empty() { "" } else { "\r\n " })?;
     value.push_str("=?UTF-8?B?")?;

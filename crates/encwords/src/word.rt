@@ -84,7 +84,8 @@ fn from_base64(alloc: Global, text: &[u8]) -> Result<Option<Vec<u8>>, AllocError
 
 /// The charset, the encoding and the text of a run in the form of a word.
 fn parts(run: &[u8]) -> Option<(&[u8], &[u8], &[u8])>
-    ensures { MatchOption result (words.meaning_in (words.parts_of run.now) ≡ None) (λ p. words.meaning_in (words.parts_of run.now) ≡ words.meaning_of p.0.now p.1.now p.2.now) }
+    ensures { MatchOption result (words.word_of run.now ≡ None)
+        (λ p. words.word_of run.now ≡ words.meaning_of p.0.now p.1.now p.2.now) }
 {
     let (front, behind) = cut(run)?;
     let (set, behind) = cut(behind)?;
@@ -105,7 +106,8 @@ fn are_equals_signs(front: &[u8], back: &[u8]) -> bool
 
 /// What stands before and behind the first question mark of a text.
 fn cut(text: &[u8]) -> Option<(&[u8], &[u8])>
-    ensures { MatchOption result (words.parts_of text.now ≡ text.now ∷ []) (λ p. words.parts_of text.now ≡ p.0.now ∷ words.parts_of p.1.now) }
+    ensures { MatchOption result (words.parts_of text.now ≡ text.now ∷ [])
+        (λ p. words.parts_of text.now ≡ p.0.now ∷ words.parts_of p.1.now) }
 {
     let at = memchr(b'?', text)?;
     Some((text.split_at(at).0, text.split_at(at + 1).1))
