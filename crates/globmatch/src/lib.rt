@@ -1,13 +1,42 @@
-// A library with one function.
+//! Patterns with `*` and `?` (`:matches`, RFC 5228, section 2.7.1), by any comparator. Nothing here takes memory.
 #![tactic(auto)]
 
-ghost use Rattle.std.specs.Prelude.{◌≡◌};
-ghost use Rattle.globmatch.specs.Echo.{echo_of};
+ghost use Rattle.std.specs.Prelude.{◌↔◌, IsTrue};
+ghost use Rattle.globmatch.specs.Glob.{items, Glob};
 
-// The `ensures` clause is the contract: what `echo` returns is `echo_of` of its argument, a definition
-// in `specs/Echo.antt`, which a caller's clause can cite too.
-pub fn echo(x: usize) -> usize
-    ensures { result ≡ echo_of x }
+mod parts;
+mod pattern;
+
+use collation::Comparator;
+use parts::Segment;
+pub use pattern::Item;
+
+/// Whether a pattern matches the whole of `value`: `*` stands for any run of octets, `?` for one octet, a backslash
+/// makes the next octet stand for itself, and a last lone backslash stands for itself.
+///
+/// The items between two stars are taken at the first place where they stand; the items after the last star are
+/// compared once, at the end of the value. So the time is linear in the lengths of pattern and value, but for the
+/// segments between two stars that hold a `?`: each of these takes at most the number of its items for each octet that
+/// it moves over.
+pub fn matches<C: Comparator>(pattern: &[u8], value: &[u8]) -> bool
+    ensures { IsTrue result ↔ Glob C.image_of (items pattern.now) value.now }
 {
-    x
+    let head = Segment::read(pattern, 0);
+    if !head.stands_at::<C>(value, 0) {
+        return false;
+    }
+    let (mut end, mut i) = (head.end, head.count);
+    while end < pattern.len() {
+        let part = Segment::read(pattern, end + 1);
+        if part.end == pattern.len() {
+            return part.count <= value.len() - i
+                && part.stands_at::<C>(value, value.len() - part.count);
+        }
+        match part.find::<C>(value, i) {
+            None => return false,
+            Some(k) => i = k + part.count,
+        }
+        end = part.end;
+    }
+    i == value.len()
 }
