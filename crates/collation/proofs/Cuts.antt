@@ -1,5 +1,5 @@
 -- What a cut keeps of a key.
-use Rattle.std.proofs.Common.{◌≡◌, ℕ, ◌+◌, ◌-◌, ◌<◌, ◌≤◌, max, sym, subst, arith}
+use Rattle.std.proofs.Common.{◌≡◌, ℕ, ◌+◌, ◌-◌, ◌<◌, max, sym, subst, arith}
 use Rattle.memchr.specs.Critical.{IsCutPlace, NoPeriodBelow}
 use Rattle.memchr.proofs.lemmas.CriticalLemmas.{IsCut-long, IsCut-small}
 use Rattle.memchr.proofs.lemmas.SearchLemmas.{IsShift-large, IsShift-small}

@@ -1,11 +1,11 @@
 -- Equal images, and where a key stands in a value.
-use Rattle.std.proofs.Common.{refl, ◌≡◌, ℕ, ◌+◌, ◌-◌, ◌<◌, ◌≤◌, List, ◌++◌, map, length, take, drop, get_or, slice_index, sym, ap, subst, ◌∙◌, ⊎_elim, arith, Option, Some, None, is_some, true, false, ◌↔◌, IsTrue}
-use Rattle.std.proofs.lemmas.List.{length-map, map-append, append_assoc, take-append-drop, length-append, length-take, length-take-le, length-drop, get_or-take, get_or-drop, ext_get_or, get_or_append_left, get_or-append-add}
+use Rattle.std.proofs.Common.{refl, ◌≡◌, ℕ, ◌+◌, ◌-◌, ◌<◌, ◌≤◌, List, ◌++◌, map, length, take, drop, get_or, slice_index, sym, ap, subst, ◌∙◌, ⊎_elim, arith, Option, Some, None, is_some, ◌↔◌, IsTrue}
+use Rattle.std.proofs.lemmas.List.{length-map, map-append, append_assoc, take-append-drop, length-append, length-take-le, length-drop, get_or-take, get_or-drop, ext_get_or, get_or_append_left, get_or-append-add}
 use Rattle.std.proofs.Math.ListN.{get_or-map}
 use Rattle.std.proofs.lemmas.Bool.{cases_lt, false≢true}
 use Rattle.memchr.specs.Find.{IsFirst}
 use Rattle.collation.specs.Comparators.{EqualBy, ContainsBy, SameFrom}
-use Rattle.collation.specs.Search.{image_at, image_in, StandsAt}
+use Rattle.collation.specs.Search.{StandsAt}
 
 module _ (f : ℕ → ℕ) (xs ys : List ℕ) where
   pub EqualBy-at : EqualBy f xs ys → (k : ℕ) → f (get_or xs k 0) ≡ f (get_or ys k 0)

@@ -1,4 +1,4 @@
-use Rattle.std.proofs.Common.{◌≡◌, ℕ, ◌+◌, ◌≤◌, List, length, is_some, slice_index, sym, subst, ap, ◌∙◌, ◌↔◌, IsTrue, Bool}
+use Rattle.std.proofs.Common.{sym, subst, ◌↔◌, IsTrue, Bool}
 use Rattle.collation.specs.Comparators.{ContainsBy}
 use Rattle.collation.proofs.Standing.{ContainsBy-found}
 use Rattle.collation.proofs.contains.Goals as goal

@@ -1,4 +1,4 @@
-use Rattle.std.proofs.Common.{refl, ◌≡◌, ℕ, ◌<◌, ◌+◌, ◌-◌, ◌≤◌, length, get_or, sym, ◌∙◌, arith}
+use Rattle.std.proofs.Common.{refl, ◌≡◌, ℕ, ◌-◌, length, arith}
 use Rattle.std.proofs.lemmas.Bool.{false≢true}
 use Rattle.collation.proofs.Standing.{EqualBy-from, SameFrom-more, SameFrom-of}
 use Rattle.collation.proofs.is.Goals as goal

@@ -1,4 +1,4 @@
-use Rattle.std.proofs.Common.{refl, ◌-◌, max, ap, ◌∙◌, sym, subst, ◌≡◌, ℕ, ◌+◌, ◌<◌}
+use Rattle.std.proofs.Common.{refl, ◌-◌, max, ap, ◌∙◌, sym, ℕ, ◌+◌}
 use Rattle.std.proofs.lemmas.Bool.{false≢true}
 use Rattle.collation.specs.Search.{image_at}
 use Rattle.collation.proofs.Cuts.{IsCut-whole, IsCut-periodic}

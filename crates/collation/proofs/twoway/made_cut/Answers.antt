@@ -1,5 +1,5 @@
-use Rattle.std.proofs.Common.{ℕ, arith}
-use Rattle.collation.specs.Search.{image_at, Precedes}
+use Rattle.std.proofs.Common.{arith}
+use Rattle.collation.specs.Search.{Precedes}
 use Rattle.collation.specs.declared.twoway.Order.TheVariants.{Rising, Falling}
 use Rattle.memchr.proofs.lemmas.CriticalLemmas.{IsCutPlace-of}
 use Rattle.collation.proofs.Orders.{Precedes-trans, Precedes-irrefl, Precedes-opposed}
