@@ -1,5 +1,5 @@
 -- What the search for a key by Two-Way keeps of the key, and where the key stands in a value.
-use Rattle.std.specs.Prelude.{◌≡◌, ℕ, ◌+◌, ◌<◌, ◌≤◌, List, length, slice_index}
+use Rattle.std.specs.Prelude.{◌≡◌, ◌≢◌, ℕ, ◌+◌, ◌<◌, ◌≤◌, List, length, slice_index}
 use Rattle.memchr.specs.Critical.{IsCritical, NoPeriodBelow}
 use Rattle.memchr.specs.TwoWay.{OccursIn}
 use Rattle.collation.specs.declared.twoway.Order.{Order}
@@ -13,6 +13,10 @@ image_at image octet_at k = image (octet_at k)
 -- the image of the octet at a place of a text
 abbrev pub image_in : (ℕ → ℕ) → List ℕ → ℕ → ℕ
 image_in image text k = image (slice_index text k)
+
+-- none of a number of octets from a place on has an image
+abbrev pub LacksFrom : (ℕ → ℕ) → List ℕ → ℕ → ℕ → ℕ → Type 0
+LacksFrom image text from count wanted = (k : ℕ) → k < count → image_in image text (from + k) ≢ wanted
 
 -- the images of the key's octets, of which there are m, stand in those of the value from a place on
 abbrev pub StandsAt : (ℕ → ℕ) → (ℕ → ℕ) → ℕ → List ℕ → ℕ → Type 0

@@ -6,8 +6,8 @@
 ghost use Rattle.std.specs.Prelude.{◌≡◌, ◌≢◌, ◌↔◌, ℕ, ◌+◌, ◌-◌, ◌<◌, ◌≤◌, length, IsTrue};
 ghost use Rattle.std.specs.Ordering.{MatchOrdering};
 ghost use Rattle.memchr.specs.Critical.{IsSuffixAt, IsCutPlace};
-ghost use Rattle.memchr.specs.Find.{IsFirst};
-ghost use Rattle.collation.specs.Search.{image_at, image_in, StandsAt, Precedes, IsCut};
+ghost use Rattle.memchr.specs.Find.{IsFirst, Nowhere};
+ghost use Rattle.collation.specs.Search.{image_at, image_in, LacksFrom, StandsAt, Precedes, IsCut};
 
 use crate::Comparator;
 use crate::spelling::{Key, Spot};
@@ -195,6 +195,81 @@ fn matched_to<C: Comparator, K: Key>(
     spot
 }
 
+// How many octets are tried at a time for the first one after the cut: a run has no early end, so it becomes vector
+// code.
+const RUN: usize = 32;
+
+// Whether none of the `RUN` octets from place `from` on has the image `wanted`.
+#[inline(always)]
+fn run_lacks<C: Comparator>(value: &[u8], from: usize, wanted: u8) -> bool
+    requires { from + RUN ≤ length value.now }
+    ensures { IsTrue result ↔ LacksFrom C.image_of value.now from RUN wanted }
+{
+    let mut lacks = true;
+    for k in 0..RUN {
+        lacks &= C::image(value[from + k]) != wanted;
+    }
+    lacks
+}
+
+// Goes past each run before `end` that holds no octet with the image `wanted`.
+#[inline(always)]
+fn past_runs<C: Comparator>(value: &[u8], from: usize, end: usize, wanted: u8) -> usize
+    requires ordered { from ≤ end }
+    requires within { end ≤ length value.now }
+    ensures low { from ≤ result }
+    ensures high { result ≤ end }
+    ensures passed { (k : ℕ) → from ≤ k → k < result → image_in C.image_of value.now k ≢ wanted }
+{
+    let mut place = from;
+    while RUN <= end - place && run_lacks::<C>(value, place, wanted) {
+        place += RUN;
+    }
+    place
+}
+
+// The first place from `from` on, and before `end`, whose octet has the image `wanted`, or else `end`.
+#[inline(always)]
+fn next_place<C: Comparator>(value: &[u8], from: usize, end: usize, wanted: u8) -> usize
+    requires ordered { from ≤ end }
+    requires within { end ≤ length value.now }
+    ensures low { from ≤ result }
+    ensures high { result ≤ end }
+    ensures passed { (k : ℕ) → from ≤ k → k < result → image_in C.image_of value.now k ≢ wanted }
+{
+    let mut place = past_runs::<C>(value, from, end, wanted);
+    while place < end && C::image(value[place]) != wanted {
+        place += 1;
+    }
+    place
+}
+
+// The next place from `pos` on where a key of `m` octets may stand, as far as it fits: one where the first octet after
+// the cut stands. Where some of the key is known to match at `pos`, it is `pos`.
+#[inline(always)]
+fn next_candidate<C: Comparator, K: Key>(
+    key: &K,
+    critical: Spot,
+    value: &[u8],
+    pos: usize,
+    known: usize,
+) -> usize
+    requires below { critical.index < K.size key.now }
+    requires spot { K.is_spot key.now critical }
+    requires fits { pos + K.size key.now ≤ length value.now }
+    ensures low { pos ≤ result }
+    ensures high { result + K.size key.now ≤ length value.now + 1 }
+    ensures kept { 0 < known → result ≡ pos }
+    ensures passed { Nowhere (StandsAt C.image_of (K.octet_at key.now) (K.size key.now) value.now) pos result }
+{
+    if 0 < known {
+        return pos;
+    }
+    let end = value.len() - key.len() + critical.index + 1;
+    let wanted = C::image(key.octet(critical));
+    next_place::<C>(value, pos + critical.index, end, wanted) - critical.index
+}
+
 // The search with a key that is cut.
 fn find_cut<C: Comparator, K: Key>(key: &K, cut: Cut, value: &[u8], from: usize) -> Option<usize>
     requires cut { IsCut (image_at C.image_of (K.octet_at key.now)) (K.size key.now) cut }
@@ -207,6 +282,10 @@ fn find_cut<C: Comparator, K: Key>(key: &K, cut: Cut, value: &[u8], from: usize)
     let mut pos = from;
     let mut known = key.first();
     while m <= value.len() - pos {
+        pos = next_candidate::<C, K>(key, cut.critical, value, pos, known.index);
+        if value.len() - pos < m {
+            return None;
+        }
         let start = if known.index > cut.critical.index {
             known
         } else {
