@@ -262,11 +262,11 @@ fn next_candidate<C: Comparator, K: Key>(
     ensures kept { 0 < known → result ≡ pos }
     ensures passed { Nowhere (StandsAt C.image_of (K.octet_at key.now) (K.size key.now) value.now) pos result }
 {
-    if 0 < known {
+    let wanted = C::image(key.octet(critical));
+    if 0 < known || C::image(value[pos + critical.index]) == wanted {
         return pos;
     }
     let end = value.len() - key.len() + critical.index + 1;
-    let wanted = C::image(key.octet(critical));
     next_place::<C>(value, pos + critical.index, end, wanted) - critical.index
 }
 
