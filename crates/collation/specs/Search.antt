@@ -1,6 +1,7 @@
 -- What the search for a key by Two-Way keeps of the key, and where the key stands in a value.
-use Rattle.std.specs.Prelude.{◌≡◌, ◌≢◌, ℕ, ◌+◌, ◌<◌, ◌≤◌, List, length, slice_index}
+use Rattle.std.specs.Prelude.{◌≡◌, ◌≢◌, ℕ, ◌+◌, ◌<◌, ◌≤◌, List, Option, length, slice_index}
 use Rattle.memchr.specs.Critical.{IsCritical, NoPeriodBelow}
+use Rattle.memchr.specs.Find.{IsFirst}
 use Rattle.memchr.specs.TwoWay.{OccursIn}
 use Rattle.collation.specs.declared.twoway.Order.{Order}
 use Rattle.collation.specs.declared.twoway.Order.TheVariants.{Rising, Falling}
@@ -21,6 +22,10 @@ LacksFrom image text from count wanted = (k : ℕ) → k < count → image_in im
 -- the images of the key's octets, of which there are m, stand in those of the value from a place on
 abbrev pub StandsAt : (ℕ → ℕ) → (ℕ → ℕ) → ℕ → List ℕ → ℕ → Type 0
 StandsAt image octet_at m value place = OccursIn (image_at image octet_at) m (image_in image value) (length value) place
+
+-- r is the first place from `from` on where the key's images stand, or there is none
+abbrev pub FindsKey : (ℕ → ℕ) → (ℕ → ℕ) → ℕ → List ℕ → ℕ → Option ℕ → Type 0
+FindsKey image octet_at m value from r = IsFirst (StandsAt image octet_at m value) from (length value + 1) r
 
 -- which of two octets comes before the other in an order
 unfoldable pub Precedes : Order → ℕ → ℕ → Type 0

@@ -6,8 +6,8 @@
 ghost use Rattle.std.specs.Prelude.{◌≡◌, ◌≢◌, ◌↔◌, ℕ, ◌+◌, ◌-◌, ◌<◌, ◌≤◌, length, IsTrue};
 ghost use Rattle.std.specs.Ordering.{MatchOrdering};
 ghost use Rattle.memchr.specs.Critical.{IsSuffixAt, IsCutPlace};
-ghost use Rattle.memchr.specs.Find.{IsFirst, Nowhere};
-ghost use Rattle.collation.specs.Search.{image_at, image_in, LacksFrom, StandsAt, Precedes, IsCut};
+ghost use Rattle.memchr.specs.Find.{Nowhere};
+ghost use Rattle.collation.specs.Search.{image_at, image_in, LacksFrom, StandsAt, FindsKey, Precedes, IsCut};
 
 use crate::Comparator;
 use crate::spelling::{Key, Spot};
@@ -52,7 +52,8 @@ struct Cut {
 // The greatest suffix: each later suffix is a candidate, compared with the best so far by what follows their starts.
 fn greatest_suffix<C: Comparator, K: Key>(key: &K, order: Order) -> Suffix
     requires { 0 < K.size key.now }
-    ensures suffix { IsSuffixAt (Precedes order) (image_at C.image_of (K.octet_at key.now)) (K.size key.now) result.start.index result.period }
+    ensures suffix { IsSuffixAt (Precedes order) (image_at C.image_of (K.octet_at key.now)) (K.size key.now)
+        result.start.index result.period }
     ensures spot { K.is_spot key.now result.start }
 {
     let m = key.len();
@@ -143,7 +144,8 @@ fn made_cut<C: Comparator, K: Key>(key: &K) -> Cut
 
 // How far a mismatch left of the cut moves the search.
 fn cut_at<C: Comparator, K: Key>(key: &K, suffix: Suffix) -> Cut
-    requires place { IsCutPlace (image_at C.image_of (K.octet_at key.now)) (K.size key.now) suffix.start.index suffix.period }
+    requires place { IsCutPlace (image_at C.image_of (K.octet_at key.now)) (K.size key.now)
+        suffix.start.index suffix.period }
     requires spot { K.is_spot key.now suffix.start }
     ensures cut { IsCut (image_at C.image_of (K.octet_at key.now)) (K.size key.now) result }
     ensures critical { K.is_spot key.now result.critical }
@@ -197,7 +199,7 @@ fn matched_to<C: Comparator, K: Key>(
 
 // How many octets are tried at a time for the first one after the cut: a run has no early end, so it becomes vector
 // code.
-const RUN: usize = 32;
+const RUN: usize = 16;
 
 // Whether none of the `RUN` octets from place `from` on has the image `wanted`.
 #[inline(always)]
@@ -276,7 +278,7 @@ fn find_cut<C: Comparator, K: Key>(key: &K, cut: Cut, value: &[u8], from: usize)
     requires critical { K.is_spot key.now cut.critical }
     requires keep { K.is_spot key.now cut.keep }
     requires start { from ≤ length value.now }
-    ensures { IsFirst (StandsAt C.image_of (K.octet_at key.now) (K.size key.now) value.now) from (length value.now + 1) result }
+    ensures { FindsKey C.image_of (K.octet_at key.now) (K.size key.now) value.now from result }
 {
     let m = key.len();
     let mut pos = from;
@@ -309,12 +311,13 @@ fn find_cut<C: Comparator, K: Key>(key: &K, cut: Cut, value: &[u8], from: usize)
 
 /// The first place of `value`, from `from` on, where the images of `key` stand.
 ///
-/// It takes no memory, and time linear in the lengths of key and value together, whatever they hold: the search by
-/// Two-Way compares at most twice as many octets as the value has from `from` to the end of the match, after a few
-/// passes over the key.
+/// It takes no memory, and time linear in the lengths of key and value together, whatever they hold: after a few passes
+/// over the key, Two-Way compares each octet of the value at most twice, from `from` to the end of the match, and looks
+/// ahead by at most one run of octets more than it moves on. It is Two-Way of Crochemore and Perrin (Two-way
+/// string-matching, 1991).
 pub fn find<C: Comparator, K: Key>(key: &K, value: &[u8], from: usize) -> Option<usize>
     requires { from ≤ length value.now }
-    ensures { IsFirst (StandsAt C.image_of (K.octet_at key.now) (K.size key.now) value.now) from (length value.now + 1) result }
+    ensures { FindsKey C.image_of (K.octet_at key.now) (K.size key.now) value.now from result }
 {
     let m = key.len();
     if m == 0 {

@@ -57,7 +57,8 @@ impl<'p> Segment<'p> {
     pub(crate) fn stands_at<C: Comparator>(&self, value: &[u8], at: usize) -> bool
         requires segment { IsSegment self.now }
         requires within { at ≤ length value.now }
-        ensures { IsTrue result ↔ StandAt C.image_of (items (drop self.now.from self.now.pattern.now)) self.now.count value.now at }
+        ensures { IsTrue result ↔ StandAt C.image_of (items (drop self.now.from self.now.pattern.now))
+            self.now.count value.now at }
     {
         if value.len() - at < self.count {
             return false;
@@ -83,7 +84,8 @@ impl<'p> Segment<'p> {
     pub(crate) fn find<C: Comparator>(&self, value: &[u8], from: usize) -> Option<usize>
         requires segment { IsSegment self.now }
         requires within { from ≤ length value.now }
-        ensures { IsFirst (StandAt C.image_of (items (drop self.now.from self.now.pattern.now)) self.now.count value.now) from (length value.now + 1) result }
+        ensures { IsFirst (StandAt C.image_of (items (drop self.now.from self.now.pattern.now)) self.now.count value.now)
+            from (length value.now + 1) result }
     {
         if self.literal {
             let key = Literal {
