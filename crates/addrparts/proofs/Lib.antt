@@ -1,0 +1,4 @@
+pub mod Scanning
+pub mod Fronts
+pub mod Enclosed
+pub mod Cuts

@@ -1,0 +1,5 @@
+use Rattle.std.proofs.Common.{◌≡◌}
+use Rattle.addrparts.proofs.address.spell.Goals as goal
+
+pub returns-clause-again : goal.returns-clause-again
+returns-clause-again c = ?
