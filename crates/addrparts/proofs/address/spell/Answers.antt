@@ -1,6 +1,7 @@
 use Rattle.std.proofs.Common.{◌≡◌}
-use Rattle.addrparts.proofs.Enclosed as x
-use Rattle.addrparts.proofs.Cuts as y
+use Rattle.addrparts.proofs.Specs as x
+use Rattle.addrparts.proofs.PartLemmas as y
+use Rattle.addrparts.proofs.Lists as z
 use Rattle.addrparts.proofs.address.spell.Goals as goal
 
 pub returns-clause-again : goal.returns-clause-again
