@@ -4,4 +4,5 @@ pub mod Enclosed
 pub mod Cuts
 pub mod Specs
 pub mod PartLemmas
+pub mod Shapes
 pub mod Lists

@@ -1,6 +1,5 @@
 use Rattle.std.proofs.Common.{◌≡◌}
-use Rattle.addrparts.proofs.Specs as x
-use Rattle.addrparts.proofs.PartLemmas as y
+use Rattle.addrparts.proofs.Shapes as y
 use Rattle.addrparts.proofs.Lists as z
 use Rattle.addrparts.proofs.address.spell.Goals as goal
 
