@@ -6,3 +6,4 @@ pub mod Specs
 pub mod PartLemmas
 pub mod Shapes
 pub mod Lists
+pub mod Outbounds

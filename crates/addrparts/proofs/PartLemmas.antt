@@ -64,7 +64,7 @@ inside-reads (token ∷ more) d place inner =
     ap (λ e. runs e more) (inside-read d token.kind token.text place inner.0) ∙ inside-reads more (read d token.kind token.text) (read-place d token.kind token.text ∙ place) inner.1
 
 -- the tokens of an addr-spec can stand in one
-Each-append : (test : Kind → Bool) (front back : List Piece) → Each test front → Each test back → Each test (front ++ back)
+pub Each-append : (test : Kind → Bool) (front back : List Piece) → Each test front → Each test back → Each test (front ++ back)
 Each-append test [] back first second = second
 Each-append test (token ∷ more) back first second = (first.0, Each-append test more back first.1 second)
 
@@ -139,7 +139,7 @@ closes : (d : Draft) (address : Addr) (kind : Kind) (text : List ℕ) → kind �
 closes d address kind text is done =
     ap (λ k. outcome (taken d k text)) is ∙ ap (λ e. outcome (taken e K.Greater text)) done.is ∙ ap (λ b. cond (b && true) (Some address) None) done.ends
 
-inside-again : (tokens : List Piece) (address : Addr) (greater : Piece) → greater.kind ≡ K.Greater → IsSpec tokens address → outcome (runs (start_at P.Inside) (tokens ++ greater ∷ [])) ≡ Some address
+pub inside-again : (tokens : List Piece) (address : Addr) (greater : Piece) → greater.kind ≡ K.Greater → IsSpec tokens address → outcome (runs (start_at P.Inside) (tokens ++ greater ∷ [])) ≡ Some address
 inside-again tokens address greater is spec =
     ap outcome (runs-append (start_at P.Inside) tokens (greater ∷ [])) ∙ ap (λ d. outcome (taken d greater.kind greater.text)) (inside-reads tokens (start_at P.Inside) refl (spec-inner tokens address spec))
       ∙ closes (reads (start_at P.Inside) tokens) address greater.kind greater.text is (spec-again P.Inside tokens address spec)

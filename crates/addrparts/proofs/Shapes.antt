@@ -104,15 +104,19 @@ inside-is [] d address place all is = absurd (false≢true (sym (ap is_outside p
 inside-is (token ∷ more) d address place all is = bracket-step d token.kind token.text more address place all.0 all.1 (λ e inside rest. inside-is more e address inside all.1 rest) is
 
 -- an addr-spec, and the closing bracket
-record IsSpecClosed (tokens : List Piece) (address : Addr) : Type 0 where
-  inside : List Piece
-  greater : Piece
-  cut : tokens ≡ inside ++ greater ∷ []
-  closes : greater.kind ≡ K.Greater
-  spec : IsSpec inside address
+pub record IsSpecClosed (tokens : List Piece) (address : Addr) : Type 0 where
+  pub inside : List Piece
+  pub greater : Piece
+  pub cut : tokens ≡ inside ++ greater ∷ []
+  pub closes : greater.kind ≡ K.Greater
+  pub spec : IsSpec inside address
 
 spec-closed : (tokens : List Piece) (address : Addr) → IsBracketed (start_at P.Inside) tokens address → IsSpecClosed tokens address
 spec-closed tokens address b = record { inside = b.inside; greater = b.greater; cut = b.cut; closes = b.closes; spec = subst (IsSpec b.inside) b.gives (spec-is P.Inside b.inside b.ends) }
+
+-- what is read to an end in brackets
+pub closed-is : (tokens : List Piece) (address : Addr) → Each is_token tokens → outcome (runs (start_at P.Inside) tokens) ≡ Some address → IsSpecClosed tokens address
+closed-is tokens address all is = spec-closed tokens address (inside-is tokens (start_at P.Inside) address refl all is)
 
 -- a route up to its colon, an addr-spec, and the closing bracket
 record IsRouteClosed (tokens : List Piece) (address : Addr) : Type 0 where
