@@ -1,8 +1,11 @@
-use Rattle.std.proofs.Common.{◌≡◌}
+use Rattle.std.proofs.Common.{◌≡◌, Some, None, sym, ◌∙◌, refl, rules}
+use Rattle.addrparts.specs.Reading.{outbound}
+use Rattle.addrparts.proofs.Outbounds.{outbound-again, outbound-is}
 use Rattle.addrparts.proofs.outbound.sieve_address.Goals as goal
 
 pub returns-then-not-is_fit-clause-read : goal.returns-then-not-is_fit-clause-read
-returns-then-not-is_fit-clause-read c = ?
+unfolding outbound
+returns-then-not-is_fit-clause-read c = search rules
 
 pub returns-clause-found : goal.returns-clause-found
 returns-clause-found c = ?
@@ -11,4 +14,5 @@ pub returns-clause-only : goal.returns-clause-only
 returns-clause-only c = ?
 
 pub returns-clause-read : goal.returns-clause-read
-returns-clause-read c = ?
+unfolding outbound
+returns-clause-read c = search rules
