@@ -7,3 +7,4 @@ pub mod PartLemmas
 pub mod Shapes
 pub mod Lists
 pub mod Outbounds
+pub mod Spells

@@ -1,5 +1,5 @@
 -- The reading of a text is the address that it names.
-use Rattle.std.proofs.Common.{◌≡◌, ℕ, ◌+◌, ◌<◌, ◌≤◌, ◌⊎◌, ◌&&◌, not, Bool, true, false, cond, Option, Some, None, option_map, List, [], ◌∷◌, ◌++◌, take, length, filter, append_assoc, refl, ap, sym, ◌∙◌, subst, inl, inr, arith, length-append}
+use Rattle.std.proofs.Common.{◌≡◌, ℕ, Result, Ok, Err, IfOk, IfSome, ◌+◌, ◌<◌, ◌≤◌, ◌⊎◌, ◌&&◌, not, Bool, true, false, cond, Option, Some, None, option_map, List, [], ◌∷◌, ◌++◌, take, length, filter, append_assoc, refl, ap, sym, ◌∙◌, subst, inl, inr, arith, length-append}
 use Rattle.std.specs.List.{flat_map}
 use Rattle.std.proofs.lemmas.List.{append-nil, take_at}
 use Rattle.std.proofs.lemmas.Bool.{false≢true, cases_Bool, and_parts}
@@ -299,3 +299,13 @@ outbound-is text display address is = elim (fork (is_fit text) (outbound_fit tex
       inl p ↦ fit-is text display address (opening false 0 (pieces text)) p.0 refl p.1
     | inr p ↦ absurd (cc)
     ]
+
+-- the clauses of a result that is what the text is read as
+pub result-named : {E : Type 0} (text : List ℕ) (result : Result (Option (List ℕ × Addr)) E) → IfOk result (λ found. found ≡ outbound text) → IfOk result (λ found. IfSome found (λ r. IsOutbound text r.0 r.1))
+result-named text (Err e) is = is
+result-named text (Ok None) is = tt
+result-named text (Ok (Some found)) is = outbound-is text found.0 found.1 (sym is)
+
+pub result-only : {E : Type 0} (text : List ℕ) (result : Result (Option (List ℕ × Addr)) E) → IfOk result (λ found. found ≡ outbound text) → IfOk result (λ found. (display : List ℕ) (address : Addr) → IsOutbound text display address → found ≡ Some (display, address))
+result-only text (Err e) is = is
+result-only text (Ok found) is = λ display address o. is ∙ outbound-again text display address o

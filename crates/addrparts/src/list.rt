@@ -1,8 +1,9 @@
 //! The addresses of a list.
-ghost use Rattle.std.specs.Prelude.{◌≡◌, ◌++◌, List, IfOk, OnOk, option_to_list};
+ghost use Rattle.std.specs.Prelude.{◌≡◌, ◌++◌, List, IfOk, OnOk, All, option_to_list};
 ghost use Rattle.addrparts.specs.declared.address.Addr.{Addr};
 ghost use Rattle.addrparts.specs.Parts as spec;
 ghost use Rattle.addrparts.specs.Reading as reading;
+ghost use Rattle.addrparts.specs.Spelling.{IsDomain};
 
 use crate::address::Addr;
 use crate::draft::{Draft, Place};
@@ -49,6 +50,7 @@ pub fn addresses(alloc: Global, value: &[u8]) -> Result<Vec<Addr>, AllocError>
     ensures found { IfOk result (λ found. spec.AreAddresses value.now found.items) }
     ensures only { IfOk result (λ found. (others : List Addr) → spec.AreAddresses value.now others → others ≡ found.items) }
     ensures read { IfOk result (λ found. found.items ≡ reading.addrs value.now) }
+    ensures domains { IfOk result (λ found. All (λ address. IsDomain address.domain) found.items) }
 {
     let mut found = Vec::new(alloc);
     let mut draft = Draft::new(alloc, Place::Front);

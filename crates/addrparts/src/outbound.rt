@@ -4,6 +4,7 @@ ghost use Rattle.addrparts.specs.declared.address.Addr.{Addr};
 ghost use Rattle.std.specs.List.{list_all};
 ghost use Rattle.addrparts.specs.Outbound as spec;
 ghost use Rattle.addrparts.specs.Reading as reading;
+ghost use Rattle.addrparts.specs.Spelling.{IsDomain};
 
 use crate::address::Addr;
 use crate::draft::{Draft, Place, unquote};
@@ -97,6 +98,7 @@ pub fn sieve_address(alloc: Global, text: &[u8]) -> Result<Option<(Octets, Addr)
     ensures found { IfOk result (λ found. IfSome found (λ r. spec.IsOutbound text.now r.0 r.1)) }
     ensures only { IfOk result (λ found. (display : List ℕ) (address : Addr) → spec.IsOutbound text.now display address → found ≡ Some (display, address)) }
     ensures read { IfOk result (λ found. found ≡ reading.outbound text.now) }
+    ensures domain { IfOk result (λ found. IfSome found (λ r. IsDomain r.1.domain)) }
 {
     if !is_fit(text) {
         return Ok(None);

@@ -1,7 +1,12 @@
-use Rattle.std.proofs.Common.{◌≡◌}
-use Rattle.addrparts.proofs.Shapes as y
-use Rattle.addrparts.proofs.Outbounds as z
+use Rattle.std.proofs.Common.{◌≡◌, ◌++◌, ◌∷◌, sym, subst, arith}
+use Rattle.std.proofs.lemmas.Grind.{common_steps}
+use Rattle.addrparts.specs.Spelling.{spelling, IsDomain}
+use Rattle.addrparts.specs.Outbound.{IsOutbound, is_fit}
+use Rattle.addrparts.proofs.Spells.{spelling-law}
 use Rattle.addrparts.proofs.address.spell.Goals as goal
 
+pub returns-clause-spelled : goal.returns-clause-spelled
+returns-clause-spelled c = grind (arith, common_steps)
+
 pub returns-clause-again : goal.returns-clause-again
-returns-clause-again c = ?
+returns-clause-again c = spelling-law c.args.address.now _ (returns-clause-spelled c)

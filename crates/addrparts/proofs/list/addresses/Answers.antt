@@ -2,6 +2,7 @@ use Rattle.std.proofs.Common.{◌≡◌, sym, ◌∙◌, subst, rules}
 use Rattle.addrparts.specs.Parts.{AreAddresses}
 use Rattle.addrparts.specs.Reading.{addrs}
 use Rattle.addrparts.proofs.Lists.{addrs-are, addrs-only}
+use Rattle.addrparts.proofs.Spells.{addresses-domain}
 use Rattle.addrparts.proofs.list.addresses.Goals as goal
 
 pub returns-clause-read : goal.returns-clause-read
@@ -13,3 +14,6 @@ returns-clause-found c = subst (AreAddresses c.args.value.now) (sym (returns-cla
 
 pub returns-clause-only : goal.returns-clause-only
 returns-clause-only c = λ others are. addrs-only c.args.value.now others are ∙ sym (returns-clause-read c)
+
+pub returns-clause-domains : goal.returns-clause-domains
+returns-clause-domains c = addresses-domain c.args.value.now c.give.new.found.items (returns-clause-found c)
