@@ -1,6 +1,6 @@
 -- The pieces of a text are its only cut.
-use Rattle.std.proofs.Common.{◌≡◌, ℕ, zero, suc, ◌+◌, ◌-◌, ◌<◌, ◌≤◌, ◌==◌, ◌⊎◌, Bool, true, false, cond, List, [], ◌∷◌, ◌++◌, take, drop, length, Option, Some, None, refl, ap, sym, ◌∙◌, subst, inl, inr, arith, one-add, length-append, append_assoc}
-use Rattle.std.proofs.lemmas.Bool.{eqb-true, cases_Bool, false≢true, true≢false}
+use Rattle.std.proofs.Common.{◌≡◌, ℕ, zero, suc, ◌+◌, ◌-◌, ◌≤◌, ◌==◌, ◌⊎◌, Bool, true, false, cond, List, [], ◌∷◌, ◌++◌, take, drop, length, Option, Some, None, refl, ap, sym, ◌∙◌, subst, inl, inr, arith, one-add, length-append}
+use Rattle.std.proofs.lemmas.Bool.{eqb-true, cases_Bool, false≢true}
 use Rattle.std.proofs.lemmas.List.{take_at, drop_at, take_all, drop_all, append-nil}
 use Rattle.std.specs.List.{prefix_len}
 use Rattle.octets.proofs.Lists.{fork}
@@ -8,8 +8,8 @@ use Rattle.octets.specs.Ascii.{is_blank}
 use Rattle.addrparts.specs.declared.scanner.Kind.{Kind}
 use Rattle.addrparts.specs.declared.scanner.Kind.TheVariants as K
 use Rattle.addrparts.specs.Pieces.{Piece, kind_of, is_atom, is_atom_kind, is_stray, IsEnclosed, IsComment, IsClosed, IsSingle, AreAtoms, IsNoAtom, IsUnclosed, IsShape, Cut, written, noted}
-use Rattle.addrparts.specs.Reading.{front, front_of, closed, len_before, behind, behind_comment, pieces, IsNext}
-use Rattle.addrparts.proofs.Enclosed.{written-append, noted-append, behind-again, behind-is, comment-again, comment-is, IsScanned, IsNoted}
+use Rattle.addrparts.specs.Reading.{front, front_of, closed, len_before, behind, behind_comment, pieces}
+use Rattle.addrparts.proofs.Enclosed.{written-append, noted-append, behind-again, behind-is, comment-again, comment-is}
 use Rattle.addrparts.proofs.Fronts.{pieces-next, pieces-nil}
 
 -- the kinds that begin with one octet alone
@@ -40,30 +40,30 @@ no_later octet kind opens is = false≢true (sym (later-no_opener octet) ∙ ap 
 pub quoted-octet : (octet : ℕ) → kind_of octet ≡ K.Quoted → octet ≡ 34
 quoted-octet octet is =
     elim (fork (octet == 34) K.Quoted (cond (octet == 40) K.Comment (cond (octet == 91) K.Literal (later octet))) K.Quoted is) [
-      inl p ↦ eqb-true octet 34 p.0
-    | inr p ↦ elim (fork (octet == 40) K.Comment (cond (octet == 91) K.Literal (later octet)) K.Quoted p.1) [
-        inl q ↦ absurd (cc)
-      | inr q ↦ elim (fork (octet == 91) K.Literal (later octet) K.Quoted q.1) [ inl r ↦ absurd (cc) | inr r ↦ absurd (no_later octet K.Quoted refl r.1) ]
+      | inl p ↦ eqb-true octet 34 p.0
+      | inr p ↦ elim (fork (octet == 40) K.Comment (cond (octet == 91) K.Literal (later octet)) K.Quoted p.1) [
+        | inl q ↦ absurd (cc)
+        | inr q ↦ elim (fork (octet == 91) K.Literal (later octet) K.Quoted q.1) [ inl r ↦ absurd (cc) | inr r ↦ absurd (no_later octet K.Quoted refl r.1) ]
       ]
     ]
 
 pub comment-octet : (octet : ℕ) → kind_of octet ≡ K.Comment → octet ≡ 40
 comment-octet octet is =
     elim (fork (octet == 34) K.Quoted (cond (octet == 40) K.Comment (cond (octet == 91) K.Literal (later octet))) K.Comment is) [
-      inl p ↦ absurd (cc)
-    | inr p ↦ elim (fork (octet == 40) K.Comment (cond (octet == 91) K.Literal (later octet)) K.Comment p.1) [
-        inl q ↦ eqb-true octet 40 q.0
-      | inr q ↦ elim (fork (octet == 91) K.Literal (later octet) K.Comment q.1) [ inl r ↦ absurd (cc) | inr r ↦ absurd (no_later octet K.Comment refl r.1) ]
+      | inl p ↦ absurd (cc)
+      | inr p ↦ elim (fork (octet == 40) K.Comment (cond (octet == 91) K.Literal (later octet)) K.Comment p.1) [
+        | inl q ↦ eqb-true octet 40 q.0
+        | inr q ↦ elim (fork (octet == 91) K.Literal (later octet) K.Comment q.1) [ inl r ↦ absurd (cc) | inr r ↦ absurd (no_later octet K.Comment refl r.1) ]
       ]
     ]
 
 pub literal-octet : (octet : ℕ) → kind_of octet ≡ K.Literal → octet ≡ 91
 literal-octet octet is =
     elim (fork (octet == 34) K.Quoted (cond (octet == 40) K.Comment (cond (octet == 91) K.Literal (later octet))) K.Literal is) [
-      inl p ↦ absurd (cc)
-    | inr p ↦ elim (fork (octet == 40) K.Comment (cond (octet == 91) K.Literal (later octet)) K.Literal p.1) [
-        inl q ↦ absurd (cc)
-      | inr q ↦ elim (fork (octet == 91) K.Literal (later octet) K.Literal q.1) [ inl r ↦ eqb-true octet 91 r.0 | inr r ↦ absurd (no_later octet K.Literal refl r.1) ]
+      | inl p ↦ absurd (cc)
+      | inr p ↦ elim (fork (octet == 40) K.Comment (cond (octet == 91) K.Literal (later octet)) K.Literal p.1) [
+        | inl q ↦ absurd (cc)
+        | inr q ↦ elim (fork (octet == 91) K.Literal (later octet) K.Literal q.1) [ inl r ↦ eqb-true octet 91 r.0 | inr r ↦ absurd (no_later octet K.Literal refl r.1) ]
       ]
     ]
 
@@ -80,9 +80,9 @@ run-again (octet ∷ run) rest atoms ends = rw atoms.0 (ap (λ n. 1 + n) (run-ag
 run-atoms : (text : List ℕ) → AreAtoms (take (prefix_len is_atom text) text) × IsNoAtom (drop (prefix_len is_atom text) text)
 run-atoms [] = (tt, tt)
 run-atoms (octet ∷ more) = elim (cases_Bool (is_atom octet)) [
-      inl yes' ↦ rw (yes', one-add (prefix_len is_atom more)) ((yes', (run-atoms more).0), (run-atoms more).1)
-    | inr no' ↦ rw no' (tt, no')
-    ]
+  | inl yes' ↦ rw (yes', one-add (prefix_len is_atom more)) ((yes', (run-atoms more).0), (run-atoms more).1)
+  | inr no' ↦ rw no' (tt, no')
+]
 
 -- a piece that begins a text
 pub record Begins (kind : Kind) (text rest : List ℕ) : Type 0 where
@@ -100,7 +100,6 @@ closed-again kind others body rest found is seen =
     let long : 1 + (length others - length rest) ≡ suc (length body) = omega (arith, ap length is, length-append body rest) in
     rw seen (ap (pair kind) long)
 
-
 quoted-begins : (text rest : List ℕ) → IsEnclosed 34 34 text → Begins K.Quoted text rest
 quoted-begins text rest e =
     let body = written e.inside (34 ∷ []) in
@@ -108,7 +107,7 @@ quoted-begins text rest e =
       octet = 34;
       others = body ++ rest;
       is = ap (λ s. s ++ rest) e.spelled;
-      front = closed-again K.Quoted (body ++ rest) body rest (behind 34 false (body ++ rest)) refl (ap (behind 34 false) (written-append e.inside (34 ∷ []) rest) ∙ behind-again 34 e.inside rest refl e.plain) ∙ ap (λ s. pair K.Quoted (length s)) (sym e.spelled)
+      front = closed-again K.Quoted (body ++ rest) body rest (behind 34 false (body ++ rest)) refl (ap (behind 34 false) (written-append e.inside (34 ∷ []) rest) ∙ behind-again 34 e.inside rest refl e.plain) ∙ ap (λ s. pair K.Quoted (length s)) (sym e.spelled);
     }
 
 literal-begins : (text rest : List ℕ) → IsEnclosed 91 93 text → Begins K.Literal text rest
@@ -118,7 +117,7 @@ literal-begins text rest e =
       octet = 91;
       others = body ++ rest;
       is = ap (λ s. s ++ rest) e.spelled;
-      front = closed-again K.Literal (body ++ rest) body rest (behind 93 false (body ++ rest)) refl (ap (behind 93 false) (written-append e.inside (93 ∷ []) rest) ∙ behind-again 93 e.inside rest refl e.plain) ∙ ap (λ s. pair K.Literal (length s)) (sym e.spelled)
+      front = closed-again K.Literal (body ++ rest) body rest (behind 93 false (body ++ rest)) refl (ap (behind 93 false) (written-append e.inside (93 ∷ []) rest) ∙ behind-again 93 e.inside rest refl e.plain) ∙ ap (λ s. pair K.Literal (length s)) (sym e.spelled);
     }
 
 comment-begins : (text rest : List ℕ) → IsComment text → Begins K.Comment text rest
@@ -128,25 +127,25 @@ comment-begins text rest e =
       octet = 40;
       others = body ++ rest;
       is = ap (λ s. s ++ rest) e.spelled;
-      front = closed-again K.Comment (body ++ rest) body rest (behind_comment 0 false (body ++ rest)) refl (ap (behind_comment 0 false) (noted-append e.notes (41 ∷ []) rest) ∙ comment-again e.notes rest e.plain) ∙ ap (λ s. pair K.Comment (length s)) (sym e.spelled)
+      front = closed-again K.Comment (body ++ rest) body rest (behind_comment 0 false (body ++ rest)) refl (ap (behind_comment 0 false) (noted-append e.notes (41 ∷ []) rest) ∙ comment-again e.notes rest e.plain) ∙ ap (λ s. pair K.Comment (length s)) (sym e.spelled);
     }
 
 single-begins : (kind : Kind) (text rest : List ℕ) → ((others : List ℕ) → front_of kind others ≡ pair kind 1) → IsSingle kind text → Begins kind text rest
 single-begins kind text rest one s = record {
-      octet = s.octet;
-      others = rest;
-      is = ap (λ t. t ++ rest) s.alone;
-      front = ap (λ k. front_of k rest) s.begins ∙ one rest ∙ ap (λ t. pair kind (length t)) (sym s.alone)
-    }
+  octet = s.octet;
+  others = rest;
+  is = ap (λ t. t ++ rest) s.alone;
+  front = ap (λ k. front_of k rest) s.begins ∙ one rest ∙ ap (λ t. pair kind (length t)) (sym s.alone);
+}
 
 atom-begins : (text rest : List ℕ) → (text ≡ [] → ⊥) → AreAtoms text → IsNoAtom rest → Begins K.Atom text rest
 atom-begins [] rest some atoms ends = absurd (some refl)
 atom-begins (octet ∷ run) rest some atoms ends = record {
-      octet = octet;
-      others = run ++ rest;
-      is = refl;
-      front = ap (λ k. front_of k (run ++ rest)) (atom-kind (kind_of octet) atoms.0) ∙ ap (λ n. pair K.Atom (1 + n)) (run-again run rest atoms.1 ends) ∙ ap (pair K.Atom) (one-add (length run))
-    }
+  octet = octet;
+  others = run ++ rest;
+  is = refl;
+  front = ap (λ k. front_of k (run ++ rest)) (atom-kind (kind_of octet) atoms.0) ∙ ap (λ n. pair K.Atom (1 + n)) (run-again run rest atoms.1 ends) ∙ ap (pair K.Atom) (one-add (length run));
+}
 
 none-of : (found : Option (List ℕ)) → ((rest : List ℕ) → found ≡ Some rest → ⊥) → found ≡ None
 none-of None never = refl
@@ -157,19 +156,19 @@ quoted-none : (octet : ℕ) (more : List ℕ) → kind_of octet ≡ K.Quoted →
 quoted-none octet more kind never = none-of (behind 34 false more) (λ rest found.
     let e = behind-is 34 more rest found in
     never (34 ∷ written e.inside (34 ∷ [])) rest (ap (λ b. b ∷ more) (quoted-octet octet kind) ∙ ap (λ s. 34 ∷ s) (e.is ∙ sym (written-append e.inside (34 ∷ []) rest)))
-      (subst (λ k. IsClosed k (34 ∷ written e.inside (34 ∷ []))) (sym kind) (record { inside = e.inside; plain = e.plain; spelled = refl })))
+    (subst (λ k. IsClosed k (34 ∷ written e.inside (34 ∷ []))) (sym kind) (record { inside = e.inside; plain = e.plain; spelled = refl })))
 
 literal-none : (octet : ℕ) (more : List ℕ) → kind_of octet ≡ K.Literal → ((front back : List ℕ) → octet ∷ more ≡ front ++ back → IsClosed (kind_of octet) front → ⊥) → behind 93 false more ≡ None
 literal-none octet more kind never = none-of (behind 93 false more) (λ rest found.
     let e = behind-is 93 more rest found in
     never (91 ∷ written e.inside (93 ∷ [])) rest (ap (λ b. b ∷ more) (literal-octet octet kind) ∙ ap (λ s. 91 ∷ s) (e.is ∙ sym (written-append e.inside (93 ∷ []) rest)))
-      (subst (λ k. IsClosed k (91 ∷ written e.inside (93 ∷ []))) (sym kind) (record { inside = e.inside; plain = e.plain; spelled = refl })))
+    (subst (λ k. IsClosed k (91 ∷ written e.inside (93 ∷ []))) (sym kind) (record { inside = e.inside; plain = e.plain; spelled = refl })))
 
 comment-none : (octet : ℕ) (more : List ℕ) → kind_of octet ≡ K.Comment → ((front back : List ℕ) → octet ∷ more ≡ front ++ back → IsClosed (kind_of octet) front → ⊥) → behind_comment 0 false more ≡ None
 comment-none octet more kind never = none-of (behind_comment 0 false more) (λ rest found.
     let e = comment-is more rest found in
     never (40 ∷ noted e.notes (41 ∷ [])) rest (ap (λ b. b ∷ more) (comment-octet octet kind) ∙ ap (λ s. 40 ∷ s) (e.is ∙ sym (noted-append e.notes (41 ∷ []) rest)))
-      (subst (λ k. IsClosed k (40 ∷ noted e.notes (41 ∷ []))) (sym kind) (record { notes = e.notes; plain = e.plain; spelled = refl })))
+    (subst (λ k. IsClosed k (40 ∷ noted e.notes (41 ∷ []))) (sym kind) (record { notes = e.notes; plain = e.plain; spelled = refl })))
 
 unclosed-begins : (text rest : List ℕ) → IsUnclosed text → rest ≡ [] → Begins K.Bad text rest
 unclosed-begins text rest u last =
@@ -180,12 +179,12 @@ unclosed-begins text rest u last =
       others = u.more;
       is = ap (λ s. text ++ s) last ∙ append-nil text ∙ u.begins;
       front = elim u.opens [
-          inl kind ↦ ap (λ k. front_of k u.more) kind ∙ ap (λ o. closed K.Quoted u.more (len_before u.more o)) (quoted-none u.octet u.more kind never) ∙ ap (pair K.Bad) long
+        | inl kind ↦ ap (λ k. front_of k u.more) kind ∙ ap (λ o. closed K.Quoted u.more (len_before u.more o)) (quoted-none u.octet u.more kind never) ∙ ap (pair K.Bad) long
         | inr others ↦ elim others [
-            inl kind ↦ ap (λ k. front_of k u.more) kind ∙ ap (λ o. closed K.Literal u.more (len_before u.more o)) (literal-none u.octet u.more kind never) ∙ ap (pair K.Bad) long
+          | inl kind ↦ ap (λ k. front_of k u.more) kind ∙ ap (λ o. closed K.Literal u.more (len_before u.more o)) (literal-none u.octet u.more kind never) ∙ ap (pair K.Bad) long
           | inr kind ↦ ap (λ k. front_of k u.more) kind ∙ ap (λ o. closed K.Comment u.more (len_before u.more o)) (comment-none u.octet u.more kind never) ∙ ap (pair K.Bad) long
-          ]
         ]
+      ];
     }
 
 -- a piece of any kind is cut off as it is
@@ -281,8 +280,8 @@ pieces-begin kind text rest shape =
     let left : drop (front b.octet b.others).1 (b.octet ∷ b.others) ≡ rest = ap (λ f. drop f.1 (b.octet ∷ b.others)) b.front ∙ ap (drop (length text)) (sym b.is) ∙ drop_at text rest (length text) refl in
     let is_kind : (front b.octet b.others).0 ≡ kind = ap (λ f. f.0) b.front in
     ap pieces b.is ∙ n.pieces ∙ ap (λ r. (record { kind = (front b.octet b.others).0; text = take (front b.octet b.others).1 (b.octet ∷ b.others) }) ∷ pieces r) left
-      ∙ ap (λ t. (record { kind = (front b.octet b.others).0; text = t }) ∷ pieces rest) cut
-      ∙ ap (λ k. (record { kind = k; text = text }) ∷ pieces rest) is_kind
+    ∙ ap (λ t. (record { kind = (front b.octet b.others).0; text = t }) ∷ pieces rest) cut
+    ∙ ap (λ k. (record { kind = k; text = text }) ∷ pieces rest) is_kind
 
 -- every cut is the one that the reading finds
 pub cut-only : (value : List ℕ) (cut : List Piece) → Cut value cut → pieces value ≡ cut

@@ -1,6 +1,6 @@
 -- What is closed: quoted strings, literals and comments, and the scans for their ends.
-use Rattle.std.proofs.Common.{◌≡◌, ℕ, zero, suc, ◌+◌, ◌-◌, ◌<◌, ◌≤◌, ◌==◌, ◌⊎◌, Bool, true, false, List, [], ◌∷◌, ◌++◌, length, Option, Some, None, refl, ap, sym, ◌∙◌, subst, inl, inr, eq-eqb, arith}
-use Rattle.std.proofs.lemmas.Bool.{eqb-true, cases_Bool}
+use Rattle.std.proofs.Common.{◌≡◌, ℕ, zero, suc, ◌==◌, true, false, List, [], ◌∷◌, ◌++◌, length, Some, refl, ap, ◌∙◌, inl, inr, eq-eqb, arith}
+use Rattle.std.proofs.lemmas.Bool.{eqb-true}
 use Rattle.octets.proofs.Lists.{fork, some_is}
 use Rattle.addrparts.specs.Pieces.{Inner, Plain, Pair, written, IsInside, Notes, End, Note, Nested, noted, AreNotes}
 use Rattle.addrparts.specs.Reading.{behind, behind_comment}
@@ -44,15 +44,15 @@ pub behind-is : (close : ℕ) (text rest : List ℕ) → behind close false text
 behind-is close [] rest found = absurd (cc)
 behind-is close (octet ∷ []) rest found =
     elim (fork (octet == close) _ _ _ found) [
-      inl p ↦ scanned-end close octet [] rest p.0 p.1
-    | inr p ↦ elim (fork (octet == 92) _ _ _ p.1) [ inl q ↦ absurd (cc) | inr q ↦ absurd (cc) ]
+      | inl p ↦ scanned-end close octet [] rest p.0 p.1
+      | inr p ↦ elim (fork (octet == 92) _ _ _ p.1) [ inl q ↦ absurd (cc) | inr q ↦ absurd (cc) ]
     ]
 behind-is close (octet ∷ (next ∷ more)) rest found =
     elim (fork (octet == close) _ _ _ found) [
-      inl p ↦ scanned-end close octet (next ∷ more) rest p.0 p.1
-    | inr p ↦ elim (fork (octet == 92) _ _ _ p.1) [
-        inl q ↦ scanned-pair close octet next more rest q.0 (behind-is close more rest q.1)
-      | inr q ↦ scanned-plain close octet (next ∷ more) rest p.0 q.0 (behind-is close (next ∷ more) rest q.1)
+      | inl p ↦ scanned-end close octet (next ∷ more) rest p.0 p.1
+      | inr p ↦ elim (fork (octet == 92) _ _ _ p.1) [
+        | inl q ↦ scanned-pair close octet next more rest q.0 (behind-is close more rest q.1)
+        | inr q ↦ scanned-plain close octet (next ∷ more) rest p.0 q.0 (behind-is close (next ∷ more) rest q.1)
       ]
     ]
 
@@ -107,33 +107,33 @@ unwound : (depth : ℕ) (text rest : List ℕ) → behind_comment depth false te
 unwound depth [] rest found = absurd (cc)
 unwound zero (octet ∷ []) rest found =
     elim (fork (octet == 92) _ _ _ found) [
-      inl p ↦ absurd (cc)
-    | inr p ↦ elim (fork (octet == 40) _ _ _ p.1) [ inl q ↦ absurd (cc) | inr q ↦ elim (fork (octet == 41) _ _ _ q.1) [ inl r ↦ unwound-end octet [] rest r.0 r.1 | inr r ↦ absurd (cc) ] ]
+      | inl p ↦ absurd (cc)
+      | inr p ↦ elim (fork (octet == 40) _ _ _ p.1) [ inl q ↦ absurd (cc) | inr q ↦ elim (fork (octet == 41) _ _ _ q.1) [ inl r ↦ unwound-end octet [] rest r.0 r.1 | inr r ↦ absurd (cc) ] ]
     ]
 unwound zero (octet ∷ (next ∷ more)) rest found =
     elim (fork (octet == 92) _ _ _ found) [
-      inl p ↦ unwound-pair zero octet next more rest p.0 (unwound zero more rest p.1)
-    | inr p ↦ elim (fork (octet == 40) _ _ _ p.1) [
-        inl q ↦ unwound-open zero octet (next ∷ more) rest q.0 (unwound 1 (next ∷ more) rest q.1)
-      | inr q ↦ elim (fork (octet == 41) _ _ _ q.1) [
-          inl r ↦ unwound-end octet (next ∷ more) rest r.0 r.1
-        | inr r ↦ unwound-plain zero octet (next ∷ more) rest p.0 q.0 r.0 (unwound zero (next ∷ more) rest r.1)
+      | inl p ↦ unwound-pair zero octet next more rest p.0 (unwound zero more rest p.1)
+      | inr p ↦ elim (fork (octet == 40) _ _ _ p.1) [
+        | inl q ↦ unwound-open zero octet (next ∷ more) rest q.0 (unwound 1 (next ∷ more) rest q.1)
+        | inr q ↦ elim (fork (octet == 41) _ _ _ q.1) [
+          | inl r ↦ unwound-end octet (next ∷ more) rest r.0 r.1
+          | inr r ↦ unwound-plain zero octet (next ∷ more) rest p.0 q.0 r.0 (unwound zero (next ∷ more) rest r.1)
         ]
       ]
     ]
 unwound (suc depth) (octet ∷ []) rest found =
     elim (fork (octet == 92) _ _ _ found) [
-      inl p ↦ absurd (cc)
-    | inr p ↦ elim (fork (octet == 40) _ _ _ p.1) [ inl q ↦ absurd (cc) | inr q ↦ elim (fork (octet == 41) _ _ _ q.1) [ inl r ↦ absurd (cc) | inr r ↦ absurd (cc) ] ]
+      | inl p ↦ absurd (cc)
+      | inr p ↦ elim (fork (octet == 40) _ _ _ p.1) [ inl q ↦ absurd (cc) | inr q ↦ elim (fork (octet == 41) _ _ _ q.1) [ inl r ↦ absurd (cc) | inr r ↦ absurd (cc) ] ]
     ]
 unwound (suc depth) (octet ∷ (next ∷ more)) rest found =
     elim (fork (octet == 92) _ _ _ found) [
-      inl p ↦ unwound-pair (suc depth) octet next more rest p.0 (unwound (suc depth) more rest p.1)
-    | inr p ↦ elim (fork (octet == 40) _ _ _ p.1) [
-        inl q ↦ unwound-open (suc depth) octet (next ∷ more) rest q.0 (unwound (suc (suc depth)) (next ∷ more) rest q.1)
-      | inr q ↦ elim (fork (octet == 41) _ _ _ q.1) [
-          inl r ↦ unwound-close depth octet (next ∷ more) rest r.0 (unwound depth (next ∷ more) rest r.1)
-        | inr r ↦ unwound-plain (suc depth) octet (next ∷ more) rest p.0 q.0 r.0 (unwound (suc depth) (next ∷ more) rest r.1)
+      | inl p ↦ unwound-pair (suc depth) octet next more rest p.0 (unwound (suc depth) more rest p.1)
+      | inr p ↦ elim (fork (octet == 40) _ _ _ p.1) [
+        | inl q ↦ unwound-open (suc depth) octet (next ∷ more) rest q.0 (unwound (suc (suc depth)) (next ∷ more) rest q.1)
+        | inr q ↦ elim (fork (octet == 41) _ _ _ q.1) [
+          | inl r ↦ unwound-close depth octet (next ∷ more) rest r.0 (unwound depth (next ∷ more) rest r.1)
+          | inr r ↦ unwound-plain (suc depth) octet (next ∷ more) rest p.0 q.0 r.0 (unwound (suc depth) (next ∷ more) rest r.1)
         ]
       ]
     ]

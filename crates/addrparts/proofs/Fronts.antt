@@ -1,9 +1,8 @@
 -- The first piece of a text, and the pieces of what follows it.
-use Rattle.std.proofs.Common.{◌≡◌, ℕ, zero, suc, ◌+◌, ◌-◌, ◌<◌, ◌≤◌, false, List, [], ◌∷◌, ◌++◌, take, drop, length, Option, Some, None, refl, ap, sym, ◌∙◌, arith}
+use Rattle.std.proofs.Common.{◌≡◌, ℕ, zero, suc, ◌<◌, ◌≤◌, false, List, [], ◌∷◌, take, drop, length, Option, Some, None, refl, ap, sym, ◌∙◌, arith}
 use Rattle.std.proofs.lemmas.List.{length-drop, take-append-drop}
 use Rattle.addrparts.specs.declared.scanner.Kind.{Kind}
 use Rattle.addrparts.specs.declared.scanner.Kind.TheVariants as K
-use Rattle.addrparts.specs.Pieces.{Piece}
 use Rattle.addrparts.specs.Reading.{front, front_of, closed, len_before, behind, behind_comment, pieces, pieces_within, IsNext}
 
 closed-some : (kind : Kind) (others : List ℕ) (len : Option ℕ) → 0 < (closed kind others len).1
@@ -45,7 +44,7 @@ pieces-next octet others =
     record {
       shorter = omega arith;
       cut = sym (take-append-drop (front octet others).1 (octet ∷ others));
-      pieces = ap (λ more. (record { kind = (front octet others).0; text = take (front octet others).1 (octet ∷ others) }) ∷ more) (pieces-any (length others) (length rest) rest shorter (omega arith))
+      pieces = ap (λ more. (record { kind = (front octet others).0; text = take (front octet others).1 (octet ∷ others) }) ∷ more) (pieces-any (length others) (length rest) rest shorter (omega arith));
     }
 
 -- the first piece, as the scanner cuts it off

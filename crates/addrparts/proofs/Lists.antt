@@ -1,5 +1,5 @@
 -- The addresses of a value are what its parts give.
-use Rattle.std.proofs.Common.{◌≡◌, ℕ, zero, suc, ◌+◌, ◌<◌, ◌≤◌, ◌⊎◌, ◌&&◌, not, Bool, true, false, cond, Option, Some, None, List, [], ◌∷◌, ◌++◌, length, option_to_list, filter, append_assoc, refl, ap, sym, ◌∙◌, subst, inl, inr, arith, length-append}
+use Rattle.std.proofs.Common.{◌≡◌, ℕ, zero, suc, ◌≤◌, ◌&&◌, not, Bool, true, false, cond, Option, Some, None, List, [], ◌∷◌, ◌++◌, length, option_to_list, refl, ap, sym, ◌∙◌, subst, inl, inr, arith, length-append}
 use Rattle.std.proofs.lemmas.List.{append-nil}
 use Rattle.std.proofs.lemmas.Bool.{false≢true, cases_Bool}
 use Rattle.octets.proofs.Lists.{some_is}
@@ -9,9 +9,9 @@ use Rattle.addrparts.specs.declared.draft.Place.{Place}
 use Rattle.addrparts.specs.declared.draft.Place.TheVariants as P
 use Rattle.addrparts.specs.declared.draft.Draft.{Draft}
 use Rattle.addrparts.specs.declared.address.Addr.{Addr}
-use Rattle.addrparts.specs.Pieces.{Piece, Cut}
-use Rattle.addrparts.specs.Parts.{is_token, tokens, is_separator, is_open, is_open_after, IsUncut, Each, Part, AreParts, IsSpec, IsNamed, Gives, Answers, Collects, AreAddresses}
-use Rattle.addrparts.specs.Reading.{read, start, take_at, taken, is_outside, outcome, given, collected, pieces, addrs}
+use Rattle.addrparts.specs.Pieces.{Piece}
+use Rattle.addrparts.specs.Parts.{is_token, tokens, is_separator, is_open, is_open_after, IsUncut, Each, Part, AreParts, Gives, Answers, Collects, AreAddresses}
+use Rattle.addrparts.specs.Reading.{start, take_at, taken, is_outside, outcome, given, collected, pieces, addrs}
 use Rattle.addrparts.proofs.Cuts.{cut-only, cut-all}
 use Rattle.addrparts.proofs.Specs.{read-place}
 use Rattle.addrparts.proofs.PartLemmas.{runs, shape-again}
@@ -26,19 +26,19 @@ gap-passed d _ text more gap = absurd (false≢true (sym gap))
 pub tokens-collected : (all : List Piece) (d : Draft) → collected d all ≡ collected d (tokens all)
 tokens-collected [] d = refl
 tokens-collected (piece ∷ more) d = elim (cases_Bool (is_token piece.kind)) [
-      inl token ↦
-        ap (λ c. cond (is_separator piece.kind && is_outside d.place) (option_to_list (given d piece.kind) ++ c) (collected (taken d piece.kind piece.text) more)) (tokens-collected more start)
-        ∙ ap (λ c. cond (is_separator piece.kind && is_outside d.place) (option_to_list (given d piece.kind) ++ collected start (tokens more)) c) (tokens-collected more (taken d piece.kind piece.text))
-        ∙ ap (λ b. collected d (cond b (piece ∷ tokens more) (tokens more))) (sym token)
-    | inr gap ↦ gap-passed d piece.kind piece.text more gap ∙ tokens-collected more d ∙ ap (λ b. collected d (cond b (piece ∷ tokens more) (tokens more))) (sym gap)
-    ]
+  | inl token ↦
+      ap (λ c. cond (is_separator piece.kind && is_outside d.place) (option_to_list (given d piece.kind) ++ c) (collected (taken d piece.kind piece.text) more)) (tokens-collected more start)
+      ∙ ap (λ c. cond (is_separator piece.kind && is_outside d.place) (option_to_list (given d piece.kind) ++ collected start (tokens more)) c) (tokens-collected more (taken d piece.kind piece.text))
+      ∙ ap (λ b. collected d (cond b (piece ∷ tokens more) (tokens more))) (sym token)
+  | inr gap ↦ gap-passed d piece.kind piece.text more gap ∙ tokens-collected more d ∙ ap (λ b. collected d (cond b (piece ∷ tokens more) (tokens more))) (sym gap)
+]
 
 pub tokens-each : (all : List Piece) → Each is_token (tokens all)
 tokens-each [] = tt
 tokens-each (piece ∷ more) = elim (cases_Bool (is_token piece.kind)) [
-      inl token ↦ subst (λ b. Each is_token (cond b (piece ∷ tokens more) (tokens more))) (sym token) (token, tokens-each more)
-    | inr gap ↦ subst (λ b. Each is_token (cond b (piece ∷ tokens more) (tokens more))) (sym gap) (tokens-each more)
-    ]
+  | inl token ↦ subst (λ b. Each is_token (cond b (piece ∷ tokens more) (tokens more))) (sym token) (token, tokens-each more)
+  | inr gap ↦ subst (λ b. Each is_token (cond b (piece ∷ tokens more) (tokens more))) (sym gap) (tokens-each more)
+]
 
 -- a bracket is open at this place
 abbrev is_in : Place → Bool
@@ -86,7 +86,7 @@ uncut-collected [] d inside is uncut = refl
 uncut-collected (token ∷ more) d inside is uncut =
     let test : (is_separator token.kind && is_outside d.place) ≡ false = sym (in-outside d.place (is_separator token.kind)) ∙ ap (λ b. is_separator token.kind && not b) is ∙ uncut.0 in
     ap (λ b. cond b (option_to_list (given d token.kind) ++ collected start more) (collected (taken d token.kind token.text) more)) test
-      ∙ uncut-collected more (taken d token.kind token.text) (is_open inside token.kind) (in-after d token.kind token.text ∙ ap (λ b. is_open b token.kind) is) uncut.1
+    ∙ uncut-collected more (taken d token.kind token.text) (is_open inside token.kind) (in-after d token.kind token.text ∙ ap (λ b. is_open b token.kind) is) uncut.1
 
 -- and what ends at a separator
 pub part-collected : (all : List Piece) (mark : Piece) (behind : List Piece) (d : Draft) (inside : Bool) → is_in d.place ≡ inside → IsUncut inside all → is_open_after inside all ≡ false → is_separator mark.kind ≡ true → collected d (all ++ mark ∷ behind) ≡ option_to_list (given (runs d all) mark.kind) ++ collected start behind
@@ -96,7 +96,7 @@ part-collected [] mark behind d inside is uncut closed sep =
 part-collected (token ∷ more) mark behind d inside is uncut closed sep =
     let test : (is_separator token.kind && is_outside d.place) ≡ false = sym (in-outside d.place (is_separator token.kind)) ∙ ap (λ b. is_separator token.kind && not b) is ∙ uncut.0 in
     ap (λ b. cond b (option_to_list (given d token.kind) ++ collected start (more ++ mark ∷ behind)) (collected (taken d token.kind token.text) (more ++ mark ∷ behind))) test
-      ∙ part-collected more mark behind (taken d token.kind token.text) (is_open inside token.kind) (in-after d token.kind token.text ∙ ap (λ b. is_open b token.kind) is) uncut.1 closed sep
+    ∙ part-collected more mark behind (taken d token.kind token.text) (is_open inside token.kind) (in-after d token.kind token.text ∙ ap (λ b. is_open b token.kind) is) uncut.1 closed sep
 
 -- what a part gives, by its ending
 abbrev answer_of : Option Kind → Draft → Option Addr
@@ -134,34 +134,34 @@ given-other d _ other = refl
 gives-answer : (part : Part) (address : Addr) → Each is_token part.tokens → Gives part address → answer_of part.ending (runs start part.tokens) ≡ Some address
 gives-answer part address all gives = by_ending part.ending refl
   where
-  by_ending : (ending : Option Kind) → part.ending ≡ ending → answer_of ending (runs start part.tokens) ≡ Some address
-  by_ending None is = shape-again part.tokens address gives.shape
-  by_ending (Some mark) is = given-other (runs start part.tokens) mark (λ colon. gives.no_name (is ∙ ap Some colon)) ∙ shape-again part.tokens address gives.shape
+    by_ending : (ending : Option Kind) → part.ending ≡ ending → answer_of ending (runs start part.tokens) ≡ Some address
+    by_ending None is = shape-again part.tokens address gives.shape
+    by_ending (Some mark) is = given-other (runs start part.tokens) mark (λ colon. gives.no_name (is ∙ ap Some colon)) ∙ shape-again part.tokens address gives.shape
 
 answer-gives : (part : Part) (address : Addr) → Each is_token part.tokens → answer_of part.ending (runs start part.tokens) ≡ Some address → Gives part address
 answer-gives part address all is = by_ending part.ending refl is
   where
-  by_ending : (ending : Option Kind) → part.ending ≡ ending → answer_of ending (runs start part.tokens) ≡ Some address → Gives part address
-  by_ending None same found = record { no_name = λ e. absurd (cc); shape = shape-is part.tokens address all found }
-  by_ending (Some mark) same found =
-      let g = given-colon (runs start part.tokens) mark address found in
-      record { no_name = λ e. g.1 (some_is mark K.Colon (sym same ∙ e)); shape = shape-is part.tokens address all g.0 }
+    by_ending : (ending : Option Kind) → part.ending ≡ ending → answer_of ending (runs start part.tokens) ≡ Some address → Gives part address
+    by_ending None same found = record { no_name = λ e. absurd (cc); shape = shape-is part.tokens address all found }
+    by_ending (Some mark) same found =
+        let g = given-colon (runs start part.tokens) mark address found in
+        record { no_name = λ e. g.1 (some_is mark K.Colon (sym same ∙ e)); shape = shape-is part.tokens address all g.0 }
 
 -- the answer of a part is that of its draft, and no other
 answer-all : (part : Part) → Each is_token part.tokens → Answers part (answer_of part.ending (runs start part.tokens))
 answer-all part all = by_answer (answer_of part.ending (runs start part.tokens)) refl
   where
-  by_answer : (answer : Option Addr) → answer_of part.ending (runs start part.tokens) ≡ answer → Answers part answer
-  by_answer (Some address) is = answer-gives part address all is
-  by_answer None is = λ address gives. absurd (let found = gives-answer part address all gives in cc)
+    by_answer : (answer : Option Addr) → answer_of part.ending (runs start part.tokens) ≡ answer → Answers part answer
+    by_answer (Some address) is = answer-gives part address all is
+    by_answer None is = λ address gives. absurd (let found = gives-answer part address all gives in cc)
 
 answer-only : (part : Part) (answer : Option Addr) → Each is_token part.tokens → Answers part answer → answer ≡ answer_of part.ending (runs start part.tokens)
 answer-only part (Some address) all gives = sym (gives-answer part address all gives)
 answer-only part None all never = by_answer (answer_of part.ending (runs start part.tokens)) refl
   where
-  by_answer : (answer : Option Addr) → answer_of part.ending (runs start part.tokens) ≡ answer → None ≡ answer
-  by_answer (Some address) is = absurd (never address (answer-gives part address all is))
-  by_answer None is = refl
+    by_answer : (answer : Option Addr) → answer_of part.ending (runs start part.tokens) ≡ answer → None ≡ answer
+    by_answer (Some address) is = absurd (never address (answer-gives part address all is))
+    by_answer None is = refl
 
 -- the parts of a list give what is collected
 pub parts-only : (parts : List Part) (all : List Piece) (found : List Addr) → Each is_token all → AreParts all parts → Collects parts found → found ≡ collected start all
@@ -170,7 +170,7 @@ parts-only (part ∷ []) all found each parts collects =
     let each' : Each is_token part.tokens = subst (Each is_token) parts.0 each in
     let answer : collects.0 ≡ outcome (runs start part.tokens) = answer-only part collects.0 each' collects.2 ∙ ap (λ e. answer_of e (runs start part.tokens)) parts.1.1 in
     collects.4 ∙ ap (λ o. option_to_list collects.0 ++ o) collects.3 ∙ append-nil (option_to_list collects.0) ∙ ap option_to_list answer
-      ∙ sym (uncut-collected part.tokens start false refl parts.1.0) ∙ ap (collected start) (sym parts.0)
+    ∙ sym (uncut-collected part.tokens start false refl parts.1.0) ∙ ap (collected start) (sym parts.0)
 parts-only (part ∷ (next ∷ more)) all found each parts collects =
     let mark = parts.0 in
     let behind = parts.1 in
@@ -178,7 +178,7 @@ parts-only (part ∷ (next ∷ more)) all found each parts collects =
     let answer : collects.0 ≡ given (runs start part.tokens) mark.kind = answer-only part collects.0 (Each-front is_token part.tokens (mark ∷ behind) each') collects.2 ∙ ap (λ e. answer_of e (runs start part.tokens)) parts.6 in
     let others : collects.1 ≡ collected start behind = parts-only (next ∷ more) behind collects.1 (Each-back is_token part.tokens (mark ∷ behind) each').1 parts.7 collects.3 in
     collects.4 ∙ ap (λ o. option_to_list collects.0 ++ o) others ∙ ap (λ o. option_to_list o ++ collected start behind) answer
-      ∙ sym (part-collected part.tokens mark behind start false refl parts.3 parts.4 parts.5) ∙ ap (collected start) (sym parts.2)
+    ∙ sym (part-collected part.tokens mark behind start false refl parts.3 parts.4 parts.5) ∙ ap (collected start) (sym parts.2)
 
 -- the first part: up to the first separator outside brackets, or all
 data Split (inside : Bool) (all : List Piece) : Type 0 where
@@ -192,21 +192,21 @@ split-more inside token more plain (At front mark behind cut uncut closed sep) =
 split-here : (inside : Bool) (token : Piece) (more : List Piece) → (is_separator token.kind && not inside) ≡ true → Split inside (token ∷ more)
 split-here true token more here = absurd (by_kind (is_separator token.kind) here)
   where
-  by_kind : (b : Bool) → (b && false) ≡ true → ⊥
-  by_kind true is = false≢true is
-  by_kind false is = false≢true is
+    by_kind : (b : Bool) → (b && false) ≡ true → ⊥
+    by_kind true is = false≢true is
+    by_kind false is = false≢true is
 split-here false token more here = At [] token more refl tt refl (by_kind (is_separator token.kind) here)
   where
-  by_kind : (b : Bool) → (b && true) ≡ true → b ≡ true
-  by_kind true is = refl
-  by_kind false is = is
+    by_kind : (b : Bool) → (b && true) ≡ true → b ≡ true
+    by_kind true is = refl
+    by_kind false is = is
 
 split : (all : List Piece) (inside : Bool) → Split inside all
 split [] inside = Whole tt
 split (token ∷ more) inside = elim (cases_Bool (is_separator token.kind && not inside)) [
-      inl here ↦ split-here inside token more here
-    | inr plain ↦ split-more inside token more plain (split more (is_open inside token.kind))
-    ]
+  | inl here ↦ split-here inside token more here
+  | inr plain ↦ split-more inside token more plain (split more (is_open inside token.kind))
+]
 
 -- parts of a list that give what is collected
 record AreCollected (all : List Piece) : Type 0 where
@@ -222,7 +222,7 @@ collect-whole all each uncut =
       part = part;
       others = [];
       are = (refl, (uncut, refl));
-      collects = (outcome (runs start all), [], answer-all part each, refl, uncut-collected all start false refl uncut ∙ sym (append-nil (option_to_list (outcome (runs start all)))))
+      collects = (outcome (runs start all), [], answer-all part each, refl, uncut-collected all start false refl uncut ∙ sym (append-nil (option_to_list (outcome (runs start all)))));
     }
 
 collect-part : (all front : List Piece) (mark : Piece) (behind : List Piece) → Each is_token front → all ≡ front ++ mark ∷ behind → IsUncut false front → is_open_after false front ≡ false → is_separator mark.kind ≡ true → AreCollected behind → AreCollected all
@@ -232,7 +232,7 @@ collect-part all front mark behind each cut uncut closed sep rest =
       part = part;
       others = rest.part ∷ rest.others;
       are = (mark, behind, cut, uncut, closed, sep, refl, rest.are);
-      collects = (given (runs start front) mark.kind, collected start behind, answer-all part each, rest.collects, ap (collected start) cut ∙ part-collected front mark behind start false refl uncut closed sep)
+      collects = (given (runs start front) mark.kind, collected start behind, answer-all part each, rest.collects, ap (collected start) cut ∙ part-collected front mark behind start false refl uncut closed sep);
     }
 
 collect-split : (n : ℕ) (all : List Piece) → Each is_token all → length all ≤ suc n → ((behind : List Piece) → Each is_token behind → length behind ≤ n → AreCollected behind) → Split false all → AreCollected all
@@ -259,4 +259,4 @@ pub addrs-only : (value : List ℕ) (found : List Addr) → AreAddresses value f
 unfolding addrs
 addrs-only value found are =
     parts-only are.parts (tokens are.pieces) found (tokens-each are.pieces) are.split are.given
-      ∙ ap (λ ps. collected start (tokens ps)) (sym (cut-only value are.pieces are.cut)) ∙ sym (tokens-collected (pieces value) start)
+    ∙ ap (λ ps. collected start (tokens ps)) (sym (cut-only value are.pieces are.cut)) ∙ sym (tokens-collected (pieces value) start)

@@ -1,19 +1,16 @@
 -- A part gives the address that its draft ends with.
-use Rattle.std.proofs.Common.{◌≡◌, ℕ, ◌⊎◌, ◌&&◌, Bool, true, false, cond, Option, Some, None, List, [], ◌∷◌, ◌++◌, append_assoc, refl, ap, sym, ◌∙◌, subst, inl, inr}
-use Rattle.std.proofs.lemmas.Bool.{false≢true, true≢false, and_parts, and_left}
-use Rattle.octets.proofs.Lists.{fork, some_is}
+use Rattle.std.proofs.Common.{◌≡◌, ℕ, ◌⊎◌, ◌&&◌, Bool, true, cond, Some, None, List, [], ◌∷◌, ◌++◌, append_assoc, refl, ap, sym, ◌∙◌, subst, inl, inr}
+use Rattle.std.proofs.lemmas.Bool.{false≢true, and_parts}
 use Rattle.addrparts.specs.declared.scanner.Kind.{Kind}
 use Rattle.addrparts.specs.declared.scanner.Kind.TheVariants as K
 use Rattle.addrparts.specs.declared.draft.Place.{Place}
 use Rattle.addrparts.specs.declared.draft.Place.TheVariants as P
-use Rattle.addrparts.specs.declared.draft.Stage.{Stage}
-use Rattle.addrparts.specs.declared.draft.Stage.TheVariants as S
 use Rattle.addrparts.specs.declared.draft.Draft.{Draft}
 use Rattle.addrparts.specs.declared.address.Addr.{Addr}
 use Rattle.addrparts.specs.Pieces.{Piece}
 use Rattle.addrparts.specs.Parts.{is_token, is_plain, is_route, Each, IsWord, IsAtom, Dotted, IsLiteral, IsSpec, IsRouted, IsNamed}
-use Rattle.addrparts.specs.Reading.{read, put, stage_after, value_of, start, start_at, take_at, taken, is_end, is_outside, is_whole, outcome}
-use Rattle.addrparts.proofs.Specs.{draft, reads, reads-append, read-place, IsDone, spec-again, spec-is, read_address, wrong-stays}
+use Rattle.addrparts.specs.Reading.{read, start, start_at, take_at, taken, is_outside, outcome}
+use Rattle.addrparts.proofs.Specs.{reads, read-place, IsDone, spec-again}
 
 -- the tokens of a part, taken one after the other
 abbrev pub runs : Draft → List Piece → Draft
@@ -142,16 +139,16 @@ closes d address kind text is done =
 pub inside-again : (tokens : List Piece) (address : Addr) (greater : Piece) → greater.kind ≡ K.Greater → IsSpec tokens address → outcome (runs (start_at P.Inside) (tokens ++ greater ∷ [])) ≡ Some address
 inside-again tokens address greater is spec =
     ap outcome (runs-append (start_at P.Inside) tokens (greater ∷ [])) ∙ ap (λ d. outcome (taken d greater.kind greater.text)) (inside-reads tokens (start_at P.Inside) refl (spec-inner tokens address spec))
-      ∙ closes (reads (start_at P.Inside) tokens) address greater.kind greater.text is (spec-again P.Inside tokens address spec)
+    ∙ closes (reads (start_at P.Inside) tokens) address greater.kind greater.text is (spec-again P.Inside tokens address spec)
 
 open-again : (tokens : List Piece) (address : Addr) (greater : Piece) → greater.kind ≡ K.Greater → IsSpec tokens address → outcome (runs (start_at P.Open) (tokens ++ greater ∷ [])) ≡ Some address
 open-again tokens address greater is spec =
     ap (λ ts. outcome (runs (start_at P.Open) (ts ++ greater ∷ []))) spec.cut
-      ∙ ap (λ ts. outcome (runs (start_at P.Open) ts)) (append_assoc spec.local (spec.at ∷ spec.domain) (greater ∷ []))
-      ∙ ap outcome (first-word spec.local address.local (spec.at ∷ (spec.domain ++ greater ∷ [])) spec.words)
-      ∙ ap (λ ts. outcome (runs (start_at P.Inside) ts)) (sym (append_assoc spec.local (spec.at ∷ spec.domain) (greater ∷ [])))
-      ∙ ap (λ ts. outcome (runs (start_at P.Inside) (ts ++ greater ∷ []))) (sym spec.cut)
-      ∙ inside-again tokens address greater is spec
+    ∙ ap (λ ts. outcome (runs (start_at P.Open) ts)) (append_assoc spec.local (spec.at ∷ spec.domain) (greater ∷ []))
+    ∙ ap outcome (first-word spec.local address.local (spec.at ∷ (spec.domain ++ greater ∷ [])) spec.words)
+    ∙ ap (λ ts. outcome (runs (start_at P.Inside) ts)) (sym (append_assoc spec.local (spec.at ∷ spec.domain) (greater ∷ [])))
+    ∙ ap (λ ts. outcome (runs (start_at P.Inside) (ts ++ greater ∷ []))) (sym spec.cut)
+    ∙ inside-again tokens address greater is spec
 
 -- a route is passed over
 route-step : (kind : Kind) (text : List ℕ) → is_route kind ≡ true → taken (start_at P.Route) kind text ≡ start_at P.Route
@@ -167,12 +164,12 @@ routed-again : (tokens : List Piece) (address : Addr) (greater : Piece) → grea
 routed-again tokens address greater is r =
     let behind = r.others ++ greater ∷ [] in
     ap (λ ts. outcome (runs (start_at P.Open) (ts ++ greater ∷ []))) r.cut
-      ∙ ap (λ k. outcome (runs (taken (start_at P.Open) k r.at.text) (r.route ++ r.colon ∷ r.others ++ greater ∷ []))) r.begins
-      ∙ ap (λ ts. outcome (runs (start_at P.Route) ts)) (append_assoc r.route (r.colon ∷ r.others) (greater ∷ []))
-      ∙ ap outcome (runs-append (start_at P.Route) r.route (r.colon ∷ behind))
-      ∙ ap (λ d. outcome (runs d (r.colon ∷ behind))) (route-passed r.route r.up_to)
-      ∙ ap (λ k. outcome (runs (taken (start_at P.Route) k r.colon.text) behind)) r.first
-      ∙ inside-again r.others address greater is r.spec
+    ∙ ap (λ k. outcome (runs (taken (start_at P.Open) k r.at.text) (r.route ++ r.colon ∷ r.others ++ greater ∷ []))) r.begins
+    ∙ ap (λ ts. outcome (runs (start_at P.Route) ts)) (append_assoc r.route (r.colon ∷ r.others) (greater ∷ []))
+    ∙ ap outcome (runs-append (start_at P.Route) r.route (r.colon ∷ behind))
+    ∙ ap (λ d. outcome (runs d (r.colon ∷ behind))) (route-passed r.route r.up_to)
+    ∙ ap (λ k. outcome (runs (taken (start_at P.Route) k r.colon.text) behind)) r.first
+    ∙ inside-again r.others address greater is r.spec
 
 brackets-again : (tokens : List Piece) (address : Addr) (greater : Piece) → greater.kind ≡ K.Greater → IsSpec tokens address ⊎ IsRouted tokens address → outcome (runs (start_at P.Open) (tokens ++ greater ∷ [])) ≡ Some address
 brackets-again tokens address greater is (inl spec) = open-again tokens address greater is spec
@@ -182,8 +179,8 @@ brackets-again tokens address greater is (inr routed) = routed-again tokens addr
 pub named-again : (tokens : List Piece) (address : Addr) → IsNamed tokens address → outcome (runs start tokens) ≡ Some address
 named-again tokens address n =
     ap (λ ts. outcome (runs start ts)) n.cut ∙ ap outcome (runs-append start n.display (n.less ∷ (n.inside ++ n.greater ∷ [])))
-      ∙ ap (λ d. outcome (runs d (n.inside ++ n.greater ∷ []))) (less-opens (runs start n.display) n.less.kind n.less.text (display-front n.display start refl n.plain) n.opens)
-      ∙ brackets-again n.inside address n.greater n.closes n.spec
+    ∙ ap (λ d. outcome (runs d (n.inside ++ n.greater ∷ []))) (less-opens (runs start n.display) n.less.kind n.less.text (display-front n.display start refl n.plain) n.opens)
+    ∙ brackets-again n.inside address n.greater n.closes n.spec
 
 -- what gives an address gives it to the draft
 pub shape-again : (tokens : List Piece) (address : Addr) → IsSpec tokens address ⊎ IsNamed tokens address → outcome (runs start tokens) ≡ Some address

@@ -1,5 +1,5 @@
 -- One step of a scan for the end of a comment, a quoted string or a literal.
-use Rattle.std.proofs.Common.{◌≡◌, ℕ, zero, suc, ◌+◌, ◌-◌, ◌<◌, ◌==◌, Bool, true, false, Some, List, [], ◌∷◌, drop, get_or, length, refl, ap, sym, ◌∙◌, eq-eqb, sub-one}
+use Rattle.std.proofs.Common.{◌≡◌, ℕ, zero, suc, ◌+◌, ◌-◌, ◌<◌, ◌==◌, true, false, Some, List, ◌∷◌, drop, get_or, length, refl, ap, ◌∙◌, eq-eqb, sub-one}
 use Rattle.std.proofs.lemmas.List.{drop_more}
 use Rattle.std.proofs.lemmas.Bool.{ne_eqb}
 use Rattle.addrparts.specs.Reading.{behind, behind_comment}

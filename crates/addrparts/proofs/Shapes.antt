@@ -1,5 +1,5 @@
 -- What a draft ends with is the address of a shape.
-use Rattle.std.proofs.Common.{◌≡◌, ℕ, ◌⊎◌, ◌&&◌, Bool, true, false, cond, Option, Some, None, List, [], ◌∷◌, ◌++◌, append_assoc, refl, ap, sym, ◌∙◌, subst, inl, inr}
+use Rattle.std.proofs.Common.{◌≡◌, ℕ, ◌⊎◌, true, Some, None, List, [], ◌∷◌, ◌++◌, append_assoc, refl, ap, sym, ◌∙◌, subst, inl, inr}
 use Rattle.std.proofs.lemmas.Bool.{false≢true, and_parts, and_from}
 use Rattle.octets.proofs.Lists.{fork, some_is}
 use Rattle.addrparts.specs.declared.scanner.Kind.{Kind}
@@ -33,9 +33,9 @@ dead-behind d kind text = record { wrong = refl; late = inr refl }
 
 dead-at : (d : Draft) (kind : Kind) (text : List ℕ) → IsDead d → IsDead (take_at d.place d kind text)
 dead-at d kind text dead = elim dead.late [
-      inl place ↦ subst (λ p. IsDead (take_at p d kind text)) (sym place) (dead-inside d kind text dead.wrong place)
-    | inr place ↦ subst (λ p. IsDead (take_at p d kind text)) (sym place) (dead-behind d kind text)
-    ]
+  | inl place ↦ subst (λ p. IsDead (take_at p d kind text)) (sym place) (dead-inside d kind text dead.wrong place)
+  | inr place ↦ subst (λ p. IsDead (take_at p d kind text)) (sym place) (dead-behind d kind text)
+]
 
 dead-step : (d : Draft) (kind : Kind) (text : List ℕ) → IsDead d → IsDead (taken d kind text)
 dead-step d K.Blank text dead = dead
@@ -86,7 +86,7 @@ bracket-end d text more address all is =
       cut = ap (λ ts. (record { kind = K.Greater; text = text }) ∷ ts) none;
       closes = refl;
       ends = outcome-end behind address here;
-      gives = (outcome-some behind address here).1
+      gives = (outcome-some behind address here).1;
     }
 
 bracket-more : (d : Draft) (token : Piece) (more : List Piece) (address : Addr) → IsBracketed (read d token.kind token.text) more address → IsBracketed d (token ∷ more) address
@@ -138,14 +138,14 @@ route-first K.Blank text more address token all rec is = absurd (false≢true to
 route-first K.Comment text more address token all rec is = absurd (false≢true token)
 route-first K.Greater text more address token all rec is = absurd (no-outcome P.Behind more address all refl is)
 route-first K.Colon text more address token all rec is = record {
-      route = [];
-      colon = record { kind = K.Colon; text = text };
-      others = more;
-      cut = refl;
-      up_to = tt;
-      first = refl;
-      rest = spec-closed more address (inside-is more (start_at P.Inside) address refl all is)
-    }
+  route = [];
+  colon = record { kind = K.Colon; text = text };
+  others = more;
+  cut = refl;
+  up_to = tt;
+  first = refl;
+  rest = spec-closed more address (inside-is more (start_at P.Inside) address refl all is);
+}
 route-first kind text more address token all rec is =
     let r = rec is in
     record { route = (record { kind = kind; text = text }) ∷ r.route; colon = r.colon; others = r.others; cut = ap (λ ts. (record { kind = kind; text = text }) ∷ ts) r.cut; up_to = (refl, r.up_to); first = r.first; rest = r.rest }
@@ -164,12 +164,12 @@ record IsOpened (tokens : List Piece) (address : Addr) : Type 0 where
 
 opened-route : (text : List ℕ) (more : List Piece) (address : Addr) → IsRouteClosed more address → IsOpened ((record { kind = K.At; text = text }) ∷ more) address
 opened-route text more address r = record {
-      inside = (record { kind = K.At; text = text }) ∷ (r.route ++ r.colon ∷ r.rest.inside);
-      greater = r.rest.greater;
-      cut = ap (λ ts. (record { kind = K.At; text = text }) ∷ ts) (r.cut ∙ ap (λ ts. r.route ++ r.colon ∷ ts) r.rest.cut ∙ sym (append_assoc r.route (r.colon ∷ r.rest.inside) (r.rest.greater ∷ [])));
-      closes = r.rest.closes;
-      spec = inr (record { at = record { kind = K.At; text = text }; route = r.route; colon = r.colon; others = r.rest.inside; cut = refl; begins = refl; up_to = r.up_to; first = r.first; spec = r.rest.spec })
-    }
+  inside = (record { kind = K.At; text = text }) ∷ (r.route ++ r.colon ∷ r.rest.inside);
+  greater = r.rest.greater;
+  cut = ap (λ ts. (record { kind = K.At; text = text }) ∷ ts) (r.cut ∙ ap (λ ts. r.route ++ r.colon ∷ ts) r.rest.cut ∙ sym (append_assoc r.route (r.colon ∷ r.rest.inside) (r.rest.greater ∷ [])));
+  closes = r.rest.closes;
+  spec = inr (record { at = record { kind = K.At; text = text }; route = r.route; colon = r.colon; others = r.rest.inside; cut = refl; begins = refl; up_to = r.up_to; first = r.first; spec = r.rest.spec });
+}
 
 opened-spec : (token : Piece) (more : List Piece) (address : Addr) → IsBracketed (read (start_at P.Inside) token.kind token.text) more address → IsOpened (token ∷ more) address
 opened-spec token more address b =
@@ -210,15 +210,15 @@ front-step : (d : Draft) (kind : Kind) (text : List ℕ) (more : List Piece) (ad
 front-step d K.Blank text more address place token all rec is = absurd (false≢true token)
 front-step d K.Comment text more address place token all rec is = absurd (false≢true token)
 front-step d K.Less text more address place token all rec is = inr (record {
-      display = [];
-      less = record { kind = K.Less; text = text };
-      others = more;
-      cut = refl;
-      plain = tt;
-      opens = refl;
-      all = all;
-      is = ap (λ p. outcome (runs (take_at p d K.Less text) more)) (sym place) ∙ is
-    })
+  display = [];
+  less = record { kind = K.Less; text = text };
+  others = more;
+  cut = refl;
+  plain = tt;
+  opens = refl;
+  all = all;
+  is = ap (λ p. outcome (runs (take_at p d K.Less text) more)) (sym place) ∙ is;
+})
 front-step d K.Greater text more address place token all rec is =
     absurd (dead-never more (take_at P.Front d K.Greater text) address (record { wrong = refl; late = inr refl }) (ap (λ p. outcome (runs (take_at p d K.Greater text) more)) (sym place) ∙ is))
 front-step d kind text more address place token all rec is =

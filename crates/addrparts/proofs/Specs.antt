@@ -74,9 +74,9 @@ words-read place stage (word ∷ (dot ∷ more)) local value due dotted =
     let first = dotted.0 in
     let others = dotted.1 in
     ap (λ d. reads (read d dot.kind dot.text) more) (word-read place stage word.kind local [] word.text first due dotted.2)
-      ∙ ap (λ k. reads (read (draft place S.Word (local ++ first) []) k dot.text) more) dotted.3
-      ∙ words-read place S.Dot more (local ++ first ++ 46 ∷ []) others refl dotted.4
-      ∙ ap (λ l. draft place S.Word l []) (append_assoc (local ++ first) (46 ∷ []) others ∙ append_assoc local first (46 ∷ others) ∙ ap (λ v. local ++ v) (sym dotted.5))
+    ∙ ap (λ k. reads (read (draft place S.Word (local ++ first) []) k dot.text) more) dotted.3
+    ∙ words-read place S.Dot more (local ++ first ++ 46 ∷ []) others refl dotted.4
+    ∙ ap (λ l. draft place S.Word l []) (append_assoc (local ++ first) (46 ∷ []) others ∙ append_assoc local first (46 ∷ others) ∙ ap (λ v. local ++ v) (sym dotted.5))
 
 -- atoms with dots between are read to a name's end
 atoms-read : (place : Place) (stage : Stage) (atoms : List Piece) (local domain value : List ℕ) → is_name_due stage ≡ true → Dotted IsAtom atoms value → reads (draft place stage local domain) atoms ≡ draft place S.Name local (domain ++ value)
@@ -86,9 +86,9 @@ atoms-read place stage (atom ∷ (dot ∷ more)) local domain value due dotted =
     let first = dotted.0 in
     let others = dotted.1 in
     ap (λ d. reads (read d dot.kind dot.text) more) (atom-read place stage atom.kind local domain atom.text first due dotted.2)
-      ∙ ap (λ k. reads (read (draft place S.Name local (domain ++ first)) k dot.text) more) dotted.3
-      ∙ atoms-read place S.NameDot more local (domain ++ first ++ 46 ∷ []) others refl dotted.4
-      ∙ ap (λ d. draft place S.Name local d) (append_assoc (domain ++ first) (46 ∷ []) others ∙ append_assoc domain first (46 ∷ others) ∙ ap (λ v. domain ++ v) (sym dotted.5))
+    ∙ ap (λ k. reads (read (draft place S.Name local (domain ++ first)) k dot.text) more) dotted.3
+    ∙ atoms-read place S.NameDot more local (domain ++ first ++ 46 ∷ []) others refl dotted.4
+    ∙ ap (λ d. draft place S.Name local d) (append_assoc (domain ++ first) (46 ∷ []) others ∙ append_assoc domain first (46 ∷ others) ∙ ap (λ v. domain ++ v) (sym dotted.5))
 
 -- a draft that has been read to its end
 pub record IsDone (place : Place) (address : Addr) (d : Draft) : Type 0 where
@@ -102,10 +102,10 @@ literal-read place kind local text is = ap (λ k. read (draft place S.At local [
 host-read : (place : Place) (local : List ℕ) (domain : List Piece) (value : List ℕ) → Dotted IsAtom domain value ⊎ IsLiteral domain value → IsDone place (record { local = local; domain = value }) (reads (draft place S.At local []) domain)
 host-read place local domain value (inl atoms) = record { stage = S.Name; is = atoms-read place S.At domain local [] value refl atoms; ends = refl }
 host-read place local domain value (inr l) = record {
-      stage = S.Literal;
-      is = ap (reads (draft place S.At local [])) l.alone ∙ literal-read place l.literal.kind local l.literal.text l.kind ∙ ap (λ v. draft place S.Literal local v) (sym l.text);
-      ends = refl
-    }
+  stage = S.Literal;
+  is = ap (reads (draft place S.At local [])) l.alone ∙ literal-read place l.literal.kind local l.literal.text l.kind ∙ ap (λ v. draft place S.Literal local v) (sym l.text);
+  ends = refl;
+}
 
 done-as : (place : Place) (address : Addr) (d e : Draft) → d ≡ e → IsDone place address e → IsDone place address d
 done-as place address d e same done = record { stage = done.stage; is = same ∙ done.is; ends = done.ends }
@@ -114,10 +114,10 @@ done-as place address d e same done = record { stage = done.stage; is = same ∙
 pub spec-again : (place : Place) (tokens : List Piece) (address : Addr) → IsSpec tokens address → IsDone place address (reads (start_at place) tokens)
 spec-again place tokens address spec =
     done-as place address (reads (start_at place) tokens) (reads (draft place S.At address.local []) spec.domain)
-      (ap (reads (start_at place)) spec.cut ∙ reads-append (start_at place) spec.local (spec.at ∷ spec.domain)
-        ∙ ap (λ d. reads (read d spec.at.kind spec.at.text) spec.domain) (words-read place S.Start spec.local [] address.local refl spec.words)
-        ∙ ap (λ k. reads (read (draft place S.Word address.local []) k spec.at.text) spec.domain) spec.mark)
-      (host-read place address.local spec.domain address.domain spec.host)
+    (ap (reads (start_at place)) spec.cut ∙ reads-append (start_at place) spec.local (spec.at ∷ spec.domain)
+    ∙ ap (λ d. reads (read d spec.at.kind spec.at.text) spec.domain) (words-read place S.Start spec.local [] address.local refl spec.words)
+    ∙ ap (λ k. reads (read (draft place S.Word address.local []) k spec.at.text) spec.domain) spec.mark)
+    (host-read place address.local spec.domain address.domain spec.host)
 
 -- what is wrong stays wrong
 pub wrong-stays : (d : Draft) (tokens : List Piece) → d.stage ≡ S.Wrong → (reads d tokens).stage ≡ S.Wrong
@@ -151,19 +151,19 @@ record AtomsEnd (place : Place) (stage : Stage) (local domain : List ℕ) (token
 
 atom-then : (place : Place) (local domain text : List ℕ) (more : List Piece) → NameEnd place local (domain ++ text) more → AtomsEnd place S.NameDot local domain ((record { kind = K.Atom; text = text }) ∷ more)
 atom-then place local domain text more n = record {
-      value = text ++ n.value;
-      dotted = dotted-join IsAtom (record { kind = K.Atom; text = text }) more text n.value refl n.tail;
-      is_local = n.is_local;
-      is_domain = n.is_domain ∙ append_assoc domain text n.value
-    }
+  value = text ++ n.value;
+  dotted = dotted-join IsAtom (record { kind = K.Atom; text = text }) more text n.value refl n.tail;
+  is_local = n.is_local;
+  is_domain = n.is_domain ∙ append_assoc domain text n.value;
+}
 
 dot-then : (place : Place) (local domain text : List ℕ) (more : List Piece) → AtomsEnd place S.NameDot local (domain ++ 46 ∷ []) more → NameEnd place local domain ((record { kind = K.Dot; text = text }) ∷ more)
 dot-then place local domain text more n = record {
-      value = 46 ∷ n.value;
-      tail = (n.value, (refl, (n.dotted, refl)));
-      is_local = n.is_local;
-      is_domain = n.is_domain ∙ append_assoc domain (46 ∷ []) n.value
-    }
+  value = 46 ∷ n.value;
+  tail = (n.value, (refl, (n.dotted, refl)));
+  is_local = n.is_local;
+  is_domain = n.is_domain ∙ append_assoc domain (46 ∷ []) n.value;
+}
 
 name-two : (place : Place) (local domain : List ℕ) (kind kind' : Kind) (text text' : List ℕ) (more : List Piece) → ((domain' : List ℕ) → is_end (reads (draft place S.Name local domain') more).stage ≡ true → NameEnd place local domain' more) → is_end (reads (draft place S.Name local domain) ((record { kind = kind; text = text }) ∷ ((record { kind = kind'; text = text' }) ∷ more))).stage ≡ true → NameEnd place local domain ((record { kind = kind; text = text }) ∷ ((record { kind = kind'; text = text' }) ∷ more))
 name-two place local domain K.Dot K.Atom text text' more rec ends = dot-then place local domain text ((record { kind = K.Atom; text = text' }) ∷ more) (atom-then place local (domain ++ 46 ∷ []) text' more (rec (domain ++ 46 ∷ [] ++ text') ends))
@@ -192,11 +192,11 @@ literal-end place local text (token ∷ more) ends = absurd (wrong-never place l
 
 name-end : (place : Place) (local text : List ℕ) (more : List Piece) → NameEnd place local text more → HostEnd place local ((record { kind = K.Atom; text = text }) ∷ more)
 name-end place local text more n = record {
-      value = text ++ n.value;
-      host = inl (dotted-join IsAtom (record { kind = K.Atom; text = text }) more text n.value refl n.tail);
-      is_local = n.is_local;
-      is_domain = n.is_domain
-    }
+  value = text ++ n.value;
+  host = inl (dotted-join IsAtom (record { kind = K.Atom; text = text }) more text n.value refl n.tail);
+  is_local = n.is_local;
+  is_domain = n.is_domain;
+}
 
 host-first : (place : Place) (local : List ℕ) (kind : Kind) (text : List ℕ) (more : List Piece) → is_end (reads (read (draft place S.At local []) kind text) more).stage ≡ true → HostEnd place local ((record { kind = kind; text = text }) ∷ more)
 host-first place local K.Atom text more ends = name-end place local text more (name-is place local text more ends)
@@ -224,33 +224,33 @@ record WordEnd (place : Place) (local : List ℕ) (tokens : List Piece) : Type 0
 
 at-end : (place : Place) (local text : List ℕ) (more : List Piece) → HostEnd place local more → WordEnd place local ((record { kind = K.At; text = text }) ∷ more)
 at-end place local text more h = record {
-      words = [];
-      at = record { kind = K.At; text = text };
-      domain = more;
-      cut = refl;
-      mark = refl;
-      value = [];
-      tail = refl;
-      host_value = h.value;
-      host = h.host;
-      is_local = h.is_local ∙ sym (append-nil local);
-      is_domain = h.is_domain
-    }
+  words = [];
+  at = record { kind = K.At; text = text };
+  domain = more;
+  cut = refl;
+  mark = refl;
+  value = [];
+  tail = refl;
+  host_value = h.value;
+  host = h.host;
+  is_local = h.is_local ∙ sym (append-nil local);
+  is_domain = h.is_domain;
+}
 
 word-end : (place : Place) (local text : List ℕ) (word : Piece) (value : List ℕ) (more : List Piece) → IsWord word.kind word.text value → read (draft place S.Dot (local ++ 46 ∷ []) []) word.kind word.text ≡ draft place S.Word (local ++ 46 ∷ [] ++ value) [] → WordEnd place (local ++ 46 ∷ [] ++ value) more → WordEnd place local ((record { kind = K.Dot; text = text }) ∷ (word ∷ more))
 word-end place local text word value more is_word step w = record {
-      words = (record { kind = K.Dot; text = text }) ∷ (word ∷ w.words);
-      at = w.at;
-      domain = w.domain;
-      cut = ap (λ ts. (record { kind = K.Dot; text = text }) ∷ (word ∷ ts)) w.cut;
-      mark = w.mark;
-      value = 46 ∷ (value ++ w.value);
-      tail = (value ++ w.value, (refl, (dotted-join IsWord word w.words value w.value is_word w.tail, refl)));
-      host_value = w.host_value;
-      host = w.host;
-      is_local = ap (λ d. (reads d more).local) step ∙ w.is_local ∙ append_assoc (local ++ 46 ∷ []) value w.value ∙ append_assoc local (46 ∷ []) (value ++ w.value);
-      is_domain = ap (λ d. (reads d more).domain) step ∙ w.is_domain
-    }
+  words = (record { kind = K.Dot; text = text }) ∷ (word ∷ w.words);
+  at = w.at;
+  domain = w.domain;
+  cut = ap (λ ts. (record { kind = K.Dot; text = text }) ∷ (word ∷ ts)) w.cut;
+  mark = w.mark;
+  value = 46 ∷ (value ++ w.value);
+  tail = (value ++ w.value, (refl, (dotted-join IsWord word w.words value w.value is_word w.tail, refl)));
+  host_value = w.host_value;
+  host = w.host;
+  is_local = ap (λ d. (reads d more).local) step ∙ w.is_local ∙ append_assoc (local ++ 46 ∷ []) value w.value ∙ append_assoc local (46 ∷ []) (value ++ w.value);
+  is_domain = ap (λ d. (reads d more).domain) step ∙ w.is_domain;
+}
 
 word-two : (place : Place) (local : List ℕ) (kind kind' : Kind) (text text' : List ℕ) (more : List Piece) → ((local' : List ℕ) → is_end (reads (draft place S.Word local' []) more).stage ≡ true → WordEnd place local' more) → is_end (reads (draft place S.Word local []) ((record { kind = kind; text = text }) ∷ ((record { kind = kind'; text = text' }) ∷ more))).stage ≡ true → WordEnd place local ((record { kind = kind; text = text }) ∷ ((record { kind = kind'; text = text' }) ∷ more))
 word-two place local K.At kind' text text' more rec ends = at-end place local text ((record { kind = kind'; text = text' }) ∷ more) (host-is place local ((record { kind = kind'; text = text' }) ∷ more) ends)
@@ -286,7 +286,7 @@ spec-first place first value more is_word step ends =
       cut = ap (λ ts. first ∷ ts) w.cut;
       mark = w.mark;
       words = subst (λ v. Dotted IsWord (first ∷ w.words) v) (sym local) (dotted-join IsWord first w.words value w.value is_word w.tail);
-      host = subst (λ v. Dotted IsAtom w.domain v ⊎ IsLiteral w.domain v) (sym domain) w.host
+      host = subst (λ v. Dotted IsAtom w.domain v ⊎ IsLiteral w.domain v) (sym domain) w.host;
     }
 
 spec-begin : (place : Place) (kind : Kind) (text : List ℕ) (more : List Piece) → is_end (reads (read (start_at place) kind text) more).stage ≡ true → IsSpec ((record { kind = kind; text = text }) ∷ more) (read_address (reads (read (start_at place) kind text) more))

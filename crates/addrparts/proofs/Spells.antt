@@ -1,15 +1,15 @@
 -- What is spelled is read again.
-use Rattle.std.proofs.Common.{◌≡◌, ℕ, Result, Ok, Err, IfOk, IfSome, ◌==◌, ◌⊎◌, ◌&&◌, ◌||◌, not, Bool, true, false, cond, Option, Some, None, List, [], ◌∷◌, ◌++◌, filter, All, option_to_list, append_assoc, refl, ap, sym, ◌∙◌, subst, inl, inr}
+use Rattle.std.proofs.Common.{◌≡◌, ℕ, Result, Ok, Err, IfOk, IfSome, ◌==◌, ◌⊎◌, ◌&&◌, ◌||◌, not, Bool, true, false, cond, Option, Some, None, List, [], ◌∷◌, ◌++◌, All, option_to_list, append_assoc, refl, ap, sym, ◌∙◌, subst, inl, inr}
 use Rattle.std.proofs.lemmas.List.{append-nil}
 use Rattle.std.proofs.lemmas.List.Elements.{All-nil, All-cons, All-append}
-use Rattle.std.proofs.lemmas.Bool.{false≢true, true≢false, cases_Bool, and_parts, or_parts, eqb-true}
+use Rattle.std.proofs.lemmas.Bool.{false≢true, cases_Bool, and_parts, or_parts, eqb-true}
 use Rattle.octets.proofs.Lists.{fork}
 use Rattle.addrparts.specs.declared.scanner.Kind.{Kind}
 use Rattle.addrparts.specs.declared.scanner.Kind.TheVariants as K
 use Rattle.addrparts.specs.declared.address.Addr.{Addr}
-use Rattle.addrparts.specs.Pieces.{Piece, kind_of, is_atom, Inner, Plain, Pair, written, IsInside, IsEnclosed, IsClosed, IsSingle, AreAtoms, IsNoAtom, IsShape, Cut, unquoted, unquoted_from}
-use Rattle.addrparts.specs.Parts.{is_token, tokens, Each, IsWord, IsAtom, Dotted, IsLiteral, IsSpec, IsNamed, IsRouted, Part, AreParts, Gives, Answers, Collects, AreAddresses}
-use Rattle.addrparts.specs.Outbound.{is_fit, is_no_comment, IsBare, IsPhrased, IsOutbound}
+use Rattle.addrparts.specs.Pieces.{Piece, is_atom, Inner, Plain, Pair, written, IsInside, IsEnclosed, AreAtoms, IsNoAtom, IsShape, Cut, unquoted_from}
+use Rattle.addrparts.specs.Parts.{is_token, tokens, Each, IsWord, IsAtom, Dotted, IsLiteral, IsSpec, IsRouted, Part, AreParts, Gives, Answers, Collects, AreAddresses}
+use Rattle.addrparts.specs.Outbound.{is_fit, is_no_comment, IsOutbound}
 use Rattle.addrparts.specs.Spelling.{is_dotted, is_dot_atom, escaped, quoted, local_spelling, spelling, IsDomain}
 use Rattle.addrparts.proofs.PartLemmas.{is_inner, spec-inner}
 
@@ -25,9 +25,9 @@ cut-shaped value (piece ∷ more) (rest, (is, (shape, others))) = ((rest, shape)
 tokens-shaped : (all : List Piece) → Shaped all → Shaped (tokens all)
 tokens-shaped [] shaped = tt
 tokens-shaped (piece ∷ more) shaped = elim (cases_Bool (is_token piece.kind)) [
-      inl token ↦ subst (λ b. Shaped (cond b (piece ∷ tokens more) (tokens more))) (sym token) (shaped.0, tokens-shaped more shaped.1)
-    | inr gap ↦ subst (λ b. Shaped (cond b (piece ∷ tokens more) (tokens more))) (sym gap) (tokens-shaped more shaped.1)
-    ]
+  | inl token ↦ subst (λ b. Shaped (cond b (piece ∷ tokens more) (tokens more))) (sym token) (shaped.0, tokens-shaped more shaped.1)
+  | inr gap ↦ subst (λ b. Shaped (cond b (piece ∷ tokens more) (tokens more))) (sym gap) (tokens-shaped more shaped.1)
+]
 
 shaped-front : (front back : List Piece) → Shaped (front ++ back) → Shaped front
 shaped-front [] back shaped = tt
@@ -40,9 +40,9 @@ shaped-back (piece ∷ more) back shaped = shaped-back more back shaped.1
 -- no dot stands in an atom
 atom-no_dot : (octet : ℕ) → is_atom octet ≡ true → (octet == 46) ≡ false
 atom-no_dot octet atom = elim (cases_Bool (octet == 46)) [
-      inl dot ↦ absurd (false≢true (sym (ap is_atom (eqb-true octet 46 dot)) ∙ atom))
-    | inr other ↦ other
-    ]
+  | inl dot ↦ absurd (false≢true (sym (ap is_atom (eqb-true octet 46 dot)) ∙ atom))
+  | inr other ↦ other
+]
 
 run-more : (due : Bool) (octet : ℕ) (more : List ℕ) → is_atom octet ≡ true → is_dotted due (octet ∷ more) ≡ is_dotted false more
 run-more due octet more atom = ap (λ b. cond b (not due && is_dotted true more) (is_atom octet && is_dotted false more)) (atom-no_dot octet atom) ∙ ap (λ b. b && is_dotted false more) atom
@@ -86,10 +86,10 @@ pub outbound-domain : (text display : List ℕ) (address : Addr) → IsOutbound 
 outbound-domain text display address o =
     let shaped = cut-shaped text o.pieces o.cut in
     elim o.shape [
-      inl bare ↦ spec-domain (tokens o.pieces) address (tokens-shaped o.pieces shaped) bare.spec
-    | inr p ↦
-        let behind : Shaped p.others = (shaped-back p.phrase (p.less ∷ p.others) (subst Shaped p.cut shaped)).1 in
-        spec-domain p.inside address (shaped-front p.inside (p.greater ∷ []) (subst Shaped p.rest (tokens-shaped p.others behind))) p.spec
+      | inl bare ↦ spec-domain (tokens o.pieces) address (tokens-shaped o.pieces shaped) bare.spec
+      | inr p ↦
+          let behind : Shaped p.others = (shaped-back p.phrase (p.less ∷ p.others) (subst Shaped p.cut shaped)).1 in
+          spec-domain p.inside address (shaped-front p.inside (p.greater ∷ []) (subst Shaped p.rest (tokens-shaped p.others behind))) p.spec
     ]
 
 routed-domain : (all : List Piece) (address : Addr) → Shaped all → IsRouted all address → IsDomain address.domain
@@ -97,11 +97,11 @@ routed-domain all address shaped r = spec-domain r.others address (shaped-back r
 
 gives-domain : (part : Part) (address : Addr) → Shaped part.tokens → Gives part address → IsDomain address.domain
 gives-domain part address shaped gives = elim gives.shape [
-      inl spec ↦ spec-domain part.tokens address shaped spec
-    | inr n ↦
-        let inside : Shaped n.inside = shaped-front n.inside (n.greater ∷ []) (shaped-back n.display (n.less ∷ (n.inside ++ n.greater ∷ [])) (subst Shaped n.cut shaped)).1 in
-        elim n.spec [ inl spec ↦ spec-domain n.inside address inside spec | inr routed ↦ routed-domain n.inside address inside routed ]
-    ]
+  | inl spec ↦ spec-domain part.tokens address shaped spec
+  | inr n ↦
+      let inside : Shaped n.inside = shaped-front n.inside (n.greater ∷ []) (shaped-back n.display (n.less ∷ (n.inside ++ n.greater ∷ [])) (subst Shaped n.cut shaped)).1 in
+      elim n.spec [ inl spec ↦ spec-domain n.inside address inside spec | inr routed ↦ routed-domain n.inside address inside routed ]
+]
 
 -- the address has a domain
 abbrev pub HasDomain : Addr → Type 0
@@ -157,16 +157,24 @@ dot-piece = record { kind = K.Dot; text = 46 ∷ [] }
 joined-first : (octet : ℕ) (more : List ℕ) → is_atom octet ≡ true → Continued more → IsJoined (octet ∷ more)
 unfolding atom-piece dot-piece
 joined-first octet more atom (Ends atoms) = record {
-      pieces = atom-piece (octet ∷ more) ∷ [];
-      dotted = refl;
-      cut = λ rest others ends cut. (rest, (refl, (((λ none. absurd (cc)), ((atom, atoms), ends)), cut)))
-    }
+  pieces = atom-piece (octet ∷ more) ∷ [];
+  dotted = refl;
+  cut = λ rest others ends cut. (rest, (refl, (((λ none. absurd (cc)), ((atom, atoms), ends)), cut)));
+}
 joined-first octet more atom (Goes run others atoms is joined) = record {
-      pieces = atom-piece (octet ∷ run) ∷ (dot-piece ∷ joined.pieces);
-      dotted = (octet ∷ run, others, refl, refl, joined.dotted, ap (λ s. octet ∷ s) is);
-      cut = λ rest behind ends cut. (46 ∷ (others ++ rest), (ap (λ s. octet ∷ (s ++ rest)) is ∙ ap (λ s. octet ∷ s) (append_assoc run (46 ∷ others) rest), (((λ none. absurd (cc)), ((atom, atoms), refl)),
-        (others ++ rest, (refl, (record { octet = 46; alone = refl; begins = refl }, joined.cut rest behind ends cut))))))
-    }
+  pieces = atom-piece (octet ∷ run) ∷ (dot-piece ∷ joined.pieces);
+  dotted = (octet ∷ run, others, refl, refl, joined.dotted, ap (λ s. octet ∷ s) is);
+  cut = λ rest behind ends cut. (
+    46 ∷ (others ++ rest),
+    (
+      ap (λ s. octet ∷ (s ++ rest)) is ∙ ap (λ s. octet ∷ s) (append_assoc run (46 ∷ others) rest),
+      (
+        ((λ none. absurd (cc)), ((atom, atoms), refl)),
+        (others ++ rest, (refl, (record { octet = 46; alone = refl; begins = refl }, joined.cut rest behind ends cut))),
+      ),
+    ),
+  );
+}
 
 -- in an atom, and where one is due
 record IsCutUp (text : List ℕ) : Type 0 where
@@ -179,13 +187,13 @@ cut-up (octet ∷ more) =
     let rest = cut-up more in
     record {
       within = λ is. elim (fork (octet == 46) (true && is_dotted true more) (is_atom octet && is_dotted false more) true is) [
-          inl p ↦ Goes [] more tt (ap (λ b. b ∷ more) (eqb-true octet 46 p.0)) (rest.due p.1)
+        | inl p ↦ Goes [] more tt (ap (λ b. b ∷ more) (eqb-true octet 46 p.0)) (rest.due p.1)
         | inr p ↦ let both = and_parts (is_atom octet) (is_dotted false more) p.1 in continued-more octet more both.0 (rest.within both.1)
-        ];
+      ];
       due = λ is. elim (fork (octet == 46) (false && is_dotted true more) (is_atom octet && is_dotted false more) true is) [
-          inl p ↦ absurd (false≢true p.1)
+        | inl p ↦ absurd (false≢true p.1)
         | inr p ↦ let both = and_parts (is_atom octet) (is_dotted false more) p.1 in joined-first octet more both.0 (rest.within both.1)
-        ]
+      ];
     }
 
 -- atoms are words
@@ -207,29 +215,29 @@ escapes-written : (text : List ℕ) → escaped text ++ 34 ∷ [] ≡ written (e
 unfolding escapes
 escapes-written [] = refl
 escapes-written (octet ∷ more) = elim (cases_Bool (octet == 34 || octet == 92)) [
-      inl yes' ↦ ap (λ b. cond b (92 ∷ (octet ∷ escaped more)) (octet ∷ escaped more) ++ 34 ∷ []) yes' ∙ ap (λ s. 92 ∷ (octet ∷ s)) (escapes-written more) ∙ ap (λ b. written (cond b (Pair octet) (Plain octet) ∷ escapes more) (34 ∷ [])) (sym yes')
-    | inr no' ↦ ap (λ b. cond b (92 ∷ (octet ∷ escaped more)) (octet ∷ escaped more) ++ 34 ∷ []) no' ∙ ap (λ s. octet ∷ s) (escapes-written more) ∙ ap (λ b. written (cond b (Pair octet) (Plain octet) ∷ escapes more) (34 ∷ [])) (sym no')
-    ]
+  | inl yes' ↦ ap (λ b. cond b (92 ∷ (octet ∷ escaped more)) (octet ∷ escaped more) ++ 34 ∷ []) yes' ∙ ap (λ s. 92 ∷ (octet ∷ s)) (escapes-written more) ∙ ap (λ b. written (cond b (Pair octet) (Plain octet) ∷ escapes more) (34 ∷ [])) (sym yes')
+  | inr no' ↦ ap (λ b. cond b (92 ∷ (octet ∷ escaped more)) (octet ∷ escaped more) ++ 34 ∷ []) no' ∙ ap (λ s. octet ∷ s) (escapes-written more) ∙ ap (λ b. written (cond b (Pair octet) (Plain octet) ∷ escapes more) (34 ∷ [])) (sym no')
+]
 
 escapes-inside : (text : List ℕ) → IsInside 34 (escapes text)
 unfolding escapes
 escapes-inside [] = tt
 escapes-inside (octet ∷ more) = elim (cases_Bool (octet == 34 || octet == 92)) [
-      inl yes' ↦ subst (λ b. IsInside 34 (cond b (Pair octet) (Plain octet) ∷ escapes more)) (sym yes') (escapes-inside more)
-    | inr no' ↦ let both = or_parts (octet == 34) (octet == 92) no' in subst (λ b. IsInside 34 (cond b (Pair octet) (Plain octet) ∷ escapes more)) (sym no') (both.0, (both.1, escapes-inside more))
-    ]
+  | inl yes' ↦ subst (λ b. IsInside 34 (cond b (Pair octet) (Plain octet) ∷ escapes more)) (sym yes') (escapes-inside more)
+  | inr no' ↦ let both = or_parts (octet == 34) (octet == 92) no' in subst (λ b. IsInside 34 (cond b (Pair octet) (Plain octet) ∷ escapes more)) (sym no') (both.0, (both.1, escapes-inside more))
+]
 
 escaped-unquoted : (text : List ℕ) → unquoted_from false (escaped text ++ 34 ∷ []) ≡ text
 escaped-unquoted [] = refl
 escaped-unquoted (octet ∷ more) = elim (cases_Bool (octet == 34 || octet == 92)) [
-      inl yes' ↦ ap (λ b. unquoted_from false (cond b (92 ∷ (octet ∷ escaped more)) (octet ∷ escaped more) ++ 34 ∷ [])) yes' ∙ ap (λ s. octet ∷ s) (escaped-unquoted more)
-    | inr no' ↦
-        let both = or_parts (octet == 34) (octet == 92) no' in
-        ap (λ b. unquoted_from false (cond b (92 ∷ (octet ∷ escaped more)) (octet ∷ escaped more) ++ 34 ∷ [])) no'
-          ∙ ap (λ b. cond b (unquoted_from true (escaped more ++ 34 ∷ [])) (cond (octet == 34) (unquoted_from false (escaped more ++ 34 ∷ [])) (octet ∷ unquoted_from false (escaped more ++ 34 ∷ [])))) both.1
-          ∙ ap (λ b. cond b (unquoted_from false (escaped more ++ 34 ∷ [])) (octet ∷ unquoted_from false (escaped more ++ 34 ∷ []))) both.0
-          ∙ ap (λ s. octet ∷ s) (escaped-unquoted more)
-    ]
+  | inl yes' ↦ ap (λ b. unquoted_from false (cond b (92 ∷ (octet ∷ escaped more)) (octet ∷ escaped more) ++ 34 ∷ [])) yes' ∙ ap (λ s. octet ∷ s) (escaped-unquoted more)
+  | inr no' ↦
+      let both = or_parts (octet == 34) (octet == 92) no' in
+      ap (λ b. unquoted_from false (cond b (92 ∷ (octet ∷ escaped more)) (octet ∷ escaped more) ++ 34 ∷ [])) no'
+      ∙ ap (λ b. cond b (unquoted_from true (escaped more ++ 34 ∷ [])) (cond (octet == 34) (unquoted_from false (escaped more ++ 34 ∷ [])) (octet ∷ unquoted_from false (escaped more ++ 34 ∷ [])))) both.1
+      ∙ ap (λ b. cond b (unquoted_from false (escaped more ++ 34 ∷ [])) (octet ∷ unquoted_from false (escaped more ++ 34 ∷ []))) both.0
+      ∙ ap (λ s. octet ∷ s) (escaped-unquoted more)
+]
 
 -- the local part as it is spelled, as pieces that anything but an atom may follow
 record IsLocal (local text : List ℕ) : Type 0 where
@@ -239,18 +247,18 @@ record IsLocal (local text : List ℕ) : Type 0 where
 
 quoted-local : (local : List ℕ) → IsLocal local (quoted local)
 quoted-local local = record {
-      pieces = (record { kind = K.Quoted; text = quoted local }) ∷ [];
-      words = sym (escaped-unquoted local);
-      cut = λ rest more ends cut. (rest, (refl, (record { inside = escapes local; plain = escapes-inside local; spelled = ap (λ s. 34 ∷ s) (escapes-written local) }, cut)))
-    }
+  pieces = (record { kind = K.Quoted; text = quoted local }) ∷ [];
+  words = sym (escaped-unquoted local);
+  cut = λ rest more ends cut. (rest, (refl, (record { inside = escapes local; plain = escapes-inside local; spelled = ap (λ s. 34 ∷ s) (escapes-written local) }, cut)));
+}
 
 local-is : (local : List ℕ) → IsLocal local (local_spelling local)
 local-is local = elim (cases_Bool (is_dot_atom local)) [
-      inl plain ↦
-        let joined = (cut-up local).due plain in
-        subst (λ b. IsLocal local (cond b local (quoted local))) (sym plain) (record { pieces = joined.pieces; words = dotted-words joined.pieces local joined.dotted; cut = joined.cut })
-    | inr other ↦ subst (λ b. IsLocal local (cond b local (quoted local))) (sym other) (quoted-local local)
-    ]
+  | inl plain ↦
+      let joined = (cut-up local).due plain in
+      subst (λ b. IsLocal local (cond b local (quoted local))) (sym plain) (record { pieces = joined.pieces; words = dotted-words joined.pieces local joined.dotted; cut = joined.cut })
+  | inr other ↦ subst (λ b. IsLocal local (cond b local (quoted local))) (sym other) (quoted-local local)
+]
 
 -- a domain as pieces
 record IsHost (domain : List ℕ) : Type 0 where
@@ -264,13 +272,13 @@ host-is domain (inl plain) =
     record {
       pieces = joined.pieces;
       host = inl joined.dotted;
-      cut = subst (λ ps. Cut domain ps) (append-nil joined.pieces) (subst (λ s. Cut s (joined.pieces ++ [])) (append-nil domain) (joined.cut [] [] tt refl))
+      cut = subst (λ ps. Cut domain ps) (append-nil joined.pieces) (subst (λ s. Cut s (joined.pieces ++ [])) (append-nil domain) (joined.cut [] [] tt refl));
     }
 host-is domain (inr literal) = record {
-      pieces = (record { kind = K.Literal; text = domain }) ∷ [];
-      host = inr (record { literal = record { kind = K.Literal; text = domain }; alone = refl; kind = refl; text = refl });
-      cut = ([], (sym (append-nil domain), (literal, refl)))
-    }
+  pieces = (record { kind = K.Literal; text = domain }) ∷ [];
+  host = inr (record { literal = record { kind = K.Literal; text = domain }; alone = refl; kind = refl; text = refl });
+  cut = ([], (sym (append-nil domain), (literal, refl)));
+}
 
 -- an addr-spec has neither blanks nor comments
 inner-token : (kind : Kind) → is_inner kind ≡ true → is_token kind ≡ true
@@ -304,14 +312,15 @@ spelling-again address domain fit =
       pieces = all;
       cut = l.cut (64 ∷ address.domain) (at ∷ h.pieces) refl (address.domain, (refl, (record { octet = 64; alone = refl; begins = refl }, h.cut)));
       no_comment = inner-no_comment all inner;
-      shape = inl (record { spec = subst (λ ps. IsSpec ps address) (sym (inner-tokens all inner)) spec; shown = refl })
+      shape = inl (record { spec = subst (λ ps. IsSpec ps address) (sym (inner-tokens all inner)) spec; shown = refl });
     }
 
 -- the two facts under which a spelling names its address, and that it names it only then
 pub spelling-law : (address : Addr) (text : List ℕ) → text ≡ spelling address → (IsOutbound text [] address → IsDomain address.domain × (is_fit text ≡ true)) × (IsDomain address.domain × (is_fit text ≡ true) → IsOutbound text [] address)
-spelling-law address text is =
-    (λ o. (outbound-domain text [] address o, o.fit),
-     λ both. subst (λ t. IsOutbound t [] address) (sym is) (spelling-again address both.0 (subst (λ t. is_fit t ≡ true) is both.1)))
+spelling-law address text is = (
+  λ o. (outbound-domain text [] address o, o.fit),
+  λ both. subst (λ t. IsOutbound t [] address) (sym is) (spelling-again address both.0 (subst (λ t. is_fit t ≡ true) is both.1)),
+)
 
 -- the address of a result has a domain
 pub result-domain : {E : Type 0} (text : List ℕ) (result : Result (Option (List ℕ × Addr)) E) → IfOk result (λ found. IfSome found (λ r. IsOutbound text r.0 r.1)) → IfOk result (λ found. IfSome found (λ r. IsDomain r.1.domain))

@@ -1,5 +1,5 @@
 -- The address that a script or a command names.
-use Rattle.std.specs.Prelude.{◌≡◌, ℕ, ◌==◌, ◌&&◌, ◌⊎◌, not, nat_le, Bool, true, false, IsTrue, length, List, [], ◌∷◌, ◌++◌}
+use Rattle.std.specs.Prelude.{◌≡◌, ℕ, ◌==◌, ◌&&◌, ◌⊎◌, not, nat_le, Bool, true, false, length, List, [], ◌∷◌, ◌++◌}
 use Rattle.std.specs.List.{list_all, flat_map}
 use Rattle.octets.specs.Ascii.{trimmed}
 use Rattle.addrparts.specs.declared.scanner.Kind.{Kind}
@@ -34,11 +34,11 @@ abbrev pub BeginsWithWord : List Piece → Type 0
 BeginsWithWord [] = ⊥
 BeginsWithWord (piece ∷ more) = WordFirst piece.kind (BeginsWithWord more)
   where
-  WordFirst : Kind → Type 0 → Type 0
-  WordFirst K.Atom _ = Unit {0}
-  WordFirst K.Quoted _ = Unit {0}
-  WordFirst K.Blank others = others
-  WordFirst _ _ = ⊥
+    WordFirst : Kind → Type 0 → Type 0
+    WordFirst K.Atom _ = Unit {0}
+    WordFirst K.Quoted _ = Unit {0}
+    WordFirst K.Blank others = others
+    WordFirst _ _ = ⊥
 
 -- words, with dots behind the first, and an addr-spec in angle brackets (RFC 5322, 3.2.5 and 4.1: obs-phrase)
 pub record IsPhrased (pieces : List Piece) (display : List ℕ) (address : Addr) : Type 0 where

@@ -1,5 +1,5 @@
 -- The parts of a list of addresses, and which address each gives (RFC 5322, 3.4 and 4.4).
-use Rattle.std.specs.Prelude.{◌≡◌, ◌≢◌, ℕ, ◌||◌, ◌&&◌, ◌⊎◌, not, Bool, true, false, Option, Some, None, option_to_list, filter, List, [], ◌∷◌, ◌++◌}
+use Rattle.std.specs.Prelude.{◌≡◌, ◌≢◌, ℕ, ◌&&◌, ◌⊎◌, not, Bool, true, false, Option, Some, None, option_to_list, filter, List, [], ◌∷◌, ◌++◌}
 use Rattle.addrparts.specs.declared.scanner.Kind.{Kind}
 use Rattle.addrparts.specs.declared.scanner.Kind.TheVariants as K
 use Rattle.addrparts.specs.declared.address.Addr.{Addr}

@@ -1,6 +1,6 @@
 -- The definitions as functions, for definitions that need one: `addrs` and `outbound`. They say what AreAddresses and IsOutbound say,
 -- which the contracts of `addresses` and `sieve_address` prove.
-use Rattle.std.specs.Prelude.{◌≡◌, ℕ, suc, zero, ◌+◌, ◌-◌, ◌<◌, ◌==◌, ◌&&◌, Bool, true, false, if◌then◌else◌, cond, Option, Some, None, option_map, option_to_list, length, take, drop, List, [], ◌∷◌, ◌++◌}
+use Rattle.std.specs.Prelude.{◌≡◌, ℕ, suc, zero, ◌+◌, ◌-◌, ◌<◌, ◌==◌, ◌&&◌, Bool, true, false, if◌then◌else◌, Option, Some, None, option_map, option_to_list, length, take, drop, List, [], ◌∷◌, ◌++◌}
 use Rattle.std.specs.List.{prefix_len}
 use Rattle.octets.specs.Ascii.{trimmed}
 use Rattle.addrparts.specs.declared.scanner.Kind.{Kind}
@@ -175,23 +175,23 @@ abbrev pub sole : Draft → List Piece → Option Addr
 sole draft [] = outcome draft
 sole draft (piece ∷ more) = sole_at piece.kind (sole (taken draft piece.kind piece.text) more)
   where
-  sole_at : Kind → Option Addr → Option Addr
-  sole_at K.Comment _ = None
-  sole_at K.Less _ = None
-  sole_at _ others = others
+    sole_at : Kind → Option Addr → Option Addr
+    sole_at K.Comment _ = None
+    sole_at K.Less _ = None
+    sole_at _ others = others
 
 -- how many octets stand before the bracket behind the words of a display, and the pieces behind it; whether a word was seen
 abbrev pub opening : Bool → ℕ → List Piece → Option (ℕ × List Piece)
 opening seen at [] = None
 opening seen at (piece ∷ more) = opening_at piece.kind seen (at, more) (opening seen (at + length piece.text) more) (opening true (at + length piece.text) more)
   where
-  opening_at : Kind → Bool → ℕ × List Piece → Option (ℕ × List Piece) → Option (ℕ × List Piece) → Option (ℕ × List Piece)
-  opening_at K.Blank seen here same word = same
-  opening_at K.Atom seen here same word = word
-  opening_at K.Quoted seen here same word = word
-  opening_at K.Dot seen here same word = if seen then same else None
-  opening_at K.Less seen here same word = if seen then Some here else None
-  opening_at _ seen here same word = None
+    opening_at : Kind → Bool → ℕ × List Piece → Option (ℕ × List Piece) → Option (ℕ × List Piece) → Option (ℕ × List Piece)
+    opening_at K.Blank seen here same word = same
+    opening_at K.Atom seen here same word = word
+    opening_at K.Quoted seen here same word = word
+    opening_at K.Dot seen here same word = if seen then same else None
+    opening_at K.Less seen here same word = if seen then Some here else None
+    opening_at _ seen here same word = None
 
 -- an address with its display
 abbrev pub with_display : List ℕ → Option Addr → Option (List ℕ × Addr)

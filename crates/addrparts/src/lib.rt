@@ -6,9 +6,9 @@
 #![tactic(auto)]
 
 pub mod address;
+mod draft;
 pub mod list;
 pub mod outbound;
-mod draft;
 mod scanner;
 #[cfg(test)]
 mod tests;

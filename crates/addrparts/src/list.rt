@@ -31,7 +31,12 @@ fn give(found: &mut Vec<Addr>, address: Option<Addr>) -> Result<(), AllocError>
 }
 
 /// Ends the part at this mark; before a colon it gives none.
-fn end_part(alloc: Global, draft: &mut Draft, mark: Kind, found: &mut Vec<Addr>) -> Result<(), AllocError>
+fn end_part(
+    alloc: Global,
+    draft: &mut Draft,
+    mark: Kind,
+    found: &mut Vec<Addr>,
+) -> Result<(), AllocError>
     ensures given { OnOk result (found.new.items ≡ found.old.items ++ option_to_list (reading.given draft.old mark)) }
     ensures anew { draft.new ≡ reading.start }
 {

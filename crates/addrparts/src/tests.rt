@@ -7,27 +7,63 @@ use std::test::Fail;
 
 /// A value, and its addresses as `local|domain;` each.
 const LISTS: [(&[u8], &[u8]); 65] = [
-    (b"\"Q. \\\"X\\\"\" (note (n)) <a.b@ex.org>, friends: \"j d\"@ex.org, <@r.org:c@ex.org>, bad@@ex, d@[10.0.0.1];", b"a.b|ex.org;j d|ex.org;c|ex.org;d|[10.0.0.1];"),
+    (
+        b"\"Q. \\\"X\\\"\" (note (n)) <a.b@ex.org>, friends: \"j d\"@ex.org, <@r.org:c@ex.org>, bad@@ex, d@[10.0.0.1];",
+        b"a.b|ex.org;j d|ex.org;c|ex.org;d|[10.0.0.1];",
+    ),
     (b"\"a <x@y.org>", b""),
     // RFC 5322, A.1.1
     (b"John Doe <jdoe@machine.example>", b"jdoe|machine.example;"),
-    (b"Michael Jones <mjones@machine.example>", b"mjones|machine.example;"),
+    (
+        b"Michael Jones <mjones@machine.example>",
+        b"mjones|machine.example;",
+    ),
     // A.1.2
-    (b"\"Joe Q. Public\" <john.q.public@example.com>", b"john.q.public|example.com;"),
-    (b"Mary Smith <mary@x.test>, jdoe@example.org, Who? <one@y.test>", b"mary|x.test;jdoe|example.org;one|y.test;"),
-    (b"<boss@nil.test>, \"Giant; \\\"Big\\\" Box\" <sysservices@example.net>", b"boss|nil.test;sysservices|example.net;"),
+    (
+        b"\"Joe Q. Public\" <john.q.public@example.com>",
+        b"john.q.public|example.com;",
+    ),
+    (
+        b"Mary Smith <mary@x.test>, jdoe@example.org, Who? <one@y.test>",
+        b"mary|x.test;jdoe|example.org;one|y.test;",
+    ),
+    (
+        b"<boss@nil.test>, \"Giant; \\\"Big\\\" Box\" <sysservices@example.net>",
+        b"boss|nil.test;sysservices|example.net;",
+    ),
     // A.1.3
-    (b"A Group:Ed Jones <c@a.test>,joe@where.test,John <jdoe@one.test>;", b"c|a.test;joe|where.test;jdoe|one.test;"),
+    (
+        b"A Group:Ed Jones <c@a.test>,joe@where.test,John <jdoe@one.test>;",
+        b"c|a.test;joe|where.test;jdoe|one.test;",
+    ),
     (b"Undisclosed recipients:;", b""),
     // A.2, A.3
-    (b"\"Mary Smith: Personal Account\" <smith@home.example>", b"smith|home.example;"),
+    (
+        b"\"Mary Smith: Personal Account\" <smith@home.example>",
+        b"smith|home.example;",
+    ),
     // A.5
-    (b"Pete(A nice \\) chap) <pete(his account)@silly.test(his host)>", b"pete|silly.test;"),
-    (b"A Group(Some people)\t :Chris Jones <c@(Chris's host.)public.example>,\t joe@example.org,  John <jdoe@one.test> (my dear friend); (the end of the group)", b"c|public.example;joe|example.org;jdoe|one.test;"),
-    (b"(Empty list)(start)Hidden recipients  :(nobody(that I know))  ;", b""),
+    (
+        b"Pete(A nice \\) chap) <pete(his account)@silly.test(his host)>",
+        b"pete|silly.test;",
+    ),
+    (
+        b"A Group(Some people)\t :Chris Jones <c@(Chris's host.)public.example>,\t joe@example.org,  John <jdoe@one.test> (my dear friend); (the end of the group)",
+        b"c|public.example;joe|example.org;jdoe|one.test;",
+    ),
+    (
+        b"(Empty list)(start)Hidden recipients  :(nobody(that I know))  ;",
+        b"",
+    ),
     // A.6.1
-    (b"Joe Q. Public <john.q.public@example.com>", b"john.q.public|example.com;"),
-    (b"Mary Smith <@node.test:mary@example.net>, , jdoe@test  . example", b"mary|example.net;jdoe|test.example;"),
+    (
+        b"Joe Q. Public <john.q.public@example.com>",
+        b"john.q.public|example.com;",
+    ),
+    (
+        b"Mary Smith <@node.test:mary@example.net>, , jdoe@test  . example",
+        b"mary|example.net;jdoe|test.example;",
+    ),
     (b"", b""),
     (b" \t ", b""),
     (b",;:,;", b""),
@@ -159,14 +195,23 @@ fn named(alloc: Global, text: &[u8]) -> Result<Octets, AllocError> {
     Ok(out)
 }
 
-fn check_spelling(rt: &impl Abort, alloc: Global, local: &[u8], domain: &[u8], written: &[u8]) -> Result<(), AllocError> {
+fn check_spelling(
+    rt: &impl Abort,
+    alloc: Global,
+    local: &[u8],
+    domain: &[u8],
+    written: &[u8],
+) -> Result<(), AllocError> {
     let address = Addr {
         local: Octets::copy(alloc, local)?,
         domain: Octets::copy(alloc, domain)?,
     };
     assert_eq!(rt; spell(alloc, &address)?.as_slice(), written);
     let again = sieve_address(alloc, written)?;
-    assert!(rt; matches!(&again, Some((display, found)) if display.is_empty() && *found == address), "{written:?}");
+    assert!(rt;
+        matches!(&again, Some((display, found)) if display.is_empty() && *found == address),
+        "{written:?}"
+    );
     Ok(())
 }
 
@@ -183,7 +228,11 @@ fn reads_the_address_that_a_script_names(rt: HostRuntime) -> Result<(), Fail> {
     for (text, expected) in TEXTS {
         let found = named(rt.alloc(), text)?;
         let found = found.as_slice();
-        let found = if let Some((_, front)) = found.split_last() { front } else { found };
+        let found = if let Some((_, front)) = found.split_last() {
+            front
+        } else {
+            found
+        };
         assert_eq!(rt; found, expected, "{text:?}");
     }
     Ok(())
@@ -196,7 +245,10 @@ fn spells_an_address_so_that_it_is_read_again(rt: HostRuntime) -> Result<(), Fai
     }
     let found = addresses(rt.alloc(), b"\"j d\"@ex.org")?;
     assert_eq!(rt; found.len(), 1);
-    assert_eq!(rt; found[0].all(rt.alloc())?.as_slice(), b"j d@ex.org".as_slice());
+    assert_eq!(rt;
+        found[0].all(rt.alloc())?.as_slice(),
+        b"j d@ex.org".as_slice()
+    );
     Ok(())
 }
 
@@ -209,13 +261,29 @@ fn repeated(alloc: Global, octet: u8, times: usize, end: &[u8]) -> Result<Vec<u8
 
 #[test]
 fn takes_long_and_hostile_values(rt: HostRuntime) -> Result<(), Fail> {
-    for (octet, count) in [(b'(', 0usize), (b'"', 1), (b'<', 0), (b',', 1), (b'\\', 1), (b'[', 0), (b'@', 1), (b'.', 1)] {
+    for (octet, count) in [
+        (b'(', 0usize),
+        (b'"', 1),
+        (b'<', 0),
+        (b',', 1),
+        (b'\\', 1),
+        (b'[', 0),
+        (b'@', 1),
+        (b'.', 1),
+    ] {
         let value = repeated(rt.alloc(), octet, 1_000_000, b",a@b")?;
-        assert_eq!(rt; addresses(rt.alloc(), value.as_slice())?.len(), count, "{octet}");
+        assert_eq!(rt;
+            addresses(rt.alloc(), value.as_slice())?.len(),
+            count,
+            "{octet}"
+        );
     }
     let mut nested = repeated(rt.alloc(), b'(', 100_000, b"")?;
     nested.extend_from_slice(repeated(rt.alloc(), b')', 100_000, b"a@b")?.as_slice())?;
-    assert_eq!(rt; shown(rt.alloc(), nested.as_slice())?.as_slice(), b"a|b;".as_slice());
+    assert_eq!(rt;
+        shown(rt.alloc(), nested.as_slice())?.as_slice(),
+        b"a|b;".as_slice()
+    );
     let fits = repeated(rt.alloc(), b'a', 510, b"@b")?;
     assert!(rt; sieve_address(rt.alloc(), fits.as_slice())?.is_some());
     let long = repeated(rt.alloc(), b'a', 511, b"@b")?;

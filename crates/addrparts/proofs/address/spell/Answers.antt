@@ -1,7 +1,5 @@
-use Rattle.std.proofs.Common.{◌≡◌, ◌++◌, ◌∷◌, sym, subst, arith}
+use Rattle.std.proofs.Common.{arith}
 use Rattle.std.proofs.lemmas.Grind.{common_steps}
-use Rattle.addrparts.specs.Spelling.{spelling, IsDomain}
-use Rattle.addrparts.specs.Outbound.{IsOutbound, is_fit}
 use Rattle.addrparts.proofs.Spells.{spelling-law}
 use Rattle.addrparts.proofs.address.spell.Goals as goal
 

@@ -1,4 +1,4 @@
-use Rattle.std.proofs.Common.{◌≡◌, sym, ◌∙◌, subst, rules}
+use Rattle.std.proofs.Common.{sym, ◌∙◌, subst, rules}
 use Rattle.addrparts.specs.Parts.{AreAddresses}
 use Rattle.addrparts.specs.Reading.{addrs}
 use Rattle.addrparts.proofs.Lists.{addrs-are, addrs-only}
