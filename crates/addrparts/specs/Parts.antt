@@ -47,7 +47,11 @@ pub record Part : Type 0 where
 abbrev pub AreParts : List Piece → List Part → Type 0
 AreParts all [] = ⊥
 AreParts all (part ∷ []) = (all ≡ part.tokens) × (IsUncut false part.tokens × (part.ending ≡ None))
-AreParts all (part ∷ (next ∷ more)) = (mark : Piece) × (behind : List Piece) × (all ≡ part.tokens ++ mark ∷ behind) × (IsUncut false part.tokens) × (is_open_after false part.tokens ≡ false) × (is_separator mark.kind ≡ true) × (part.ending ≡ Some mark.kind) × AreParts behind (next ∷ more)
+AreParts all (part ∷ (next ∷ more)) =
+    (mark : Piece) × (behind : List Piece) × (all ≡ part.tokens ++ mark ∷ behind)
+    × (IsUncut false part.tokens) × (is_open_after false part.tokens ≡ false)
+    × (is_separator mark.kind ≡ true) × (part.ending ≡ Some mark.kind)
+    × AreParts behind (next ∷ more)
 
 -- a word is an atom or a quoted string, and has a value (RFC 5322, 3.2.5)
 abbrev pub IsWord : Kind → List ℕ → List ℕ → Type 0
@@ -64,7 +68,9 @@ IsAtom _ text value = ⊥
 abbrev pub Dotted : (Kind → List ℕ → List ℕ → Type 0) → List Piece → List ℕ → Type 0
 Dotted IsItem [] value = ⊥
 Dotted IsItem (item ∷ []) value = IsItem item.kind item.text value
-Dotted IsItem (item ∷ (dot ∷ more)) value = (first : List ℕ) × (others : List ℕ) × (IsItem item.kind item.text first) × (dot.kind ≡ K.Dot) × (Dotted IsItem more others) × (value ≡ first ++ 46 ∷ others)
+Dotted IsItem (item ∷ (dot ∷ more)) value =
+    (first : List ℕ) × (others : List ℕ) × (IsItem item.kind item.text first) × (dot.kind ≡ K.Dot)
+    × (Dotted IsItem more others) × (value ≡ first ++ 46 ∷ others)
 
 -- one domain literal, whose value is as it is written
 pub record IsLiteral (tokens : List Piece) (value : List ℕ) : Type 0 where
@@ -137,7 +143,9 @@ Answers part None = (address : Addr) → Gives part address → ⊥
 -- the addresses that the parts give, in order
 abbrev pub Collects : List Part → List Addr → Type 0
 Collects [] addresses = addresses ≡ []
-Collects (part ∷ more) addresses = (answer : Option Addr) × (others : List Addr) × (Answers part answer) × (Collects more others) × (addresses ≡ option_to_list answer ++ others)
+Collects (part ∷ more) addresses =
+    (answer : Option Addr) × (others : List Addr) × (Answers part answer) × (Collects more others)
+    × (addresses ≡ option_to_list answer ++ others)
 
 -- the addresses of a value
 pub record AreAddresses (value : List ℕ) (addresses : List Addr) : Type 0 where

@@ -31,6 +31,10 @@ local_spelling local = if is_dot_atom local then local else quoted local
 abbrev pub spelling : Addr → List ℕ
 spelling address = local_spelling address.local ++ 64 ∷ address.domain
 
+-- the address with nothing quoted
+abbrev pub all_of : Addr → List ℕ
+all_of address = address.local ++ 64 ∷ address.domain
+
 -- atoms with dots between, or a domain literal (RFC 5322, 3.4.1)
 abbrev pub IsDomain : List ℕ → Type 0
 IsDomain domain = (is_dot_atom domain ≡ true) ⊎ IsEnclosed 91 93 domain

@@ -1,5 +1,5 @@
 //! One address, and how it is written.
-ghost use Rattle.std.specs.Prelude.{◌≡◌, ◌↔◌, [], ◌∷◌, ◌++◌, IsTrue, IfOk, OnOk};
+ghost use Rattle.std.specs.Prelude.{◌≡◌, ◌↔◌, [], ◌++◌, IsTrue, IfOk, OnOk};
 ghost use Rattle.addrparts.specs.Spelling as spec;
 ghost use Rattle.addrparts.specs.Outbound as outbound;
 
@@ -20,7 +20,7 @@ pub struct Addr {
 impl Addr {
     /// The local part, `@` and the domain, with nothing quoted.
     pub fn all(&self, alloc: Global) -> Result<Octets, AllocError>
-        ensures { IfOk result (λ text. text ≡ self.now.local ++ 64 ∷ self.now.domain) }
+        ensures { IfOk result (λ text. text ≡ spec.all_of self.now) }
     {
         let local = self.local.as_slice();
         let domain = self.domain.as_slice();
@@ -80,7 +80,8 @@ fn escape(out: &mut Octets, text: &[u8]) -> Result<(), AllocError>
 /// limits.
 pub fn spell(alloc: Global, address: &Addr) -> Result<Octets, AllocError>
     ensures spelled { IfOk result (λ text. text ≡ spec.spelling address.now) }
-    ensures again { IfOk result (λ text. outbound.IsOutbound text [] address.now ↔ (spec.IsDomain address.now.domain × IsTrue (outbound.is_fit text))) }
+    ensures again { IfOk result (λ text. outbound.IsOutbound text [] address.now
+        ↔ (spec.IsDomain address.now.domain × IsTrue (outbound.is_fit text))) }
 {
     let mut text = Octets::new(alloc);
     if is_dot_atom(address.local.as_slice()) {

@@ -1,5 +1,5 @@
 //! The address that a part of a list gives, as far as its tokens have been read.
-ghost use Rattle.std.specs.Prelude.{◌≡◌, [], ◌++◌, OnOk};
+ghost use Rattle.std.specs.Prelude.{◌≡◌, [], ◌++◌, IfOk, OnOk};
 ghost use Rattle.addrparts.specs.Pieces as spec;
 ghost use Rattle.addrparts.specs.Reading as reading;
 
@@ -230,20 +230,34 @@ impl Draft {
         }
     }
 
-    /// The address that the part gives, if it ends here. The next part begins.
-    pub fn finish(&mut self, alloc: Global) -> Option<Addr>
-        ensures found { result ≡ reading.outcome self.old }
-        ensures anew { self.new ≡ reading.start }
+    /// The address that the part gives, if it ends here.
+    fn address(&self, alloc: Global) -> Result<Option<Addr>, AllocError>
+        ensures { IfOk result (λ found. found ≡ reading.outcome self.now) }
     {
-        let mut found = None;
-        if self.is_whole() {
-            found = Some(Addr {
-                local: mem::replace(&mut self.local, Octets::new(alloc)),
-                domain: mem::replace(&mut self.domain, Octets::new(alloc)),
-            });
+        if !self.is_whole() {
+            return Ok(None);
         }
+        Ok(Some(Addr {
+            local: self.local.copied(alloc)?,
+            domain: self.domain.copied(alloc)?,
+        }))
+    }
+
+    /// Begins the next part.
+    pub fn restart(&mut self, alloc: Global)
+        ensures { self.new ≡ reading.start }
+    {
         self.open(alloc);
         self.place = Place::Front;
-        found
+    }
+
+    /// The address that the part gives, if it ends here. The next part begins.
+    pub fn finish(&mut self, alloc: Global) -> Result<Option<Addr>, AllocError>
+        ensures found { IfOk result (λ found. found ≡ reading.outcome self.old) }
+        ensures anew { OnOk result (self.new ≡ reading.start) }
+    {
+        let found = self.address(alloc)?;
+        self.restart(alloc);
+        Ok(found)
     }
 }

@@ -38,13 +38,14 @@ fn end_part(
     found: &mut Vec<Addr>,
 ) -> Result<(), AllocError>
     ensures given { OnOk result (found.new.items ≡ found.old.items ++ option_to_list (reading.given draft.old mark)) }
-    ensures anew { draft.new ≡ reading.start }
+    ensures anew { OnOk result (draft.new ≡ reading.start) }
 {
-    let address = draft.finish(alloc);
-    match mark {
-        Kind::Colon => Ok(()),
-        _ => give(found, address),
+    if let Kind::Colon = mark {
+        draft.restart(alloc);
+        return Ok(());
     }
+    let address = draft.finish(alloc)?;
+    give(found, address)
 }
 
 /// The addresses of a header value, in order (RFC 5322, 3.4). The value is unfolded, and isn't decoded.
@@ -68,6 +69,7 @@ pub fn addresses(alloc: Global, value: &[u8]) -> Result<Vec<Addr>, AllocError>
         }
         rest = after;
     }
-    give(&mut found, draft.finish(alloc))?;
+    let last = draft.finish(alloc)?;
+    give(&mut found, last)?;
     Ok(found)
 }

@@ -37,7 +37,8 @@ fn is_fit(text: &[u8]) -> bool
 
 /// The place of the `<` behind a display, which is one or more words with dots behind the first, and what follows it.
 fn opening(text: &[u8]) -> Option<(usize, &[u8])>
-    ensures is { MatchOption result (reading.opening false 0 (reading.pieces text.now) ≡ None) (λ r. reading.opening false 0 (reading.pieces text.now) ≡ Some (r.0, reading.pieces r.1.now)) }
+    ensures is { let opens = reading.opening false 0 (reading.pieces text.now) in
+        MatchOption result (opens ≡ None) (λ r. opens ≡ Some (r.0, reading.pieces r.1.now)) }
     ensures within { IfSome result (λ r. r.0 ≤ length text.now) }
 {
     let mut seen = false;
@@ -70,7 +71,7 @@ fn sole(alloc: Global, place: Place, text: &[u8]) -> Result<Option<Addr>, AllocE
         }
         rest = after;
     }
-    Ok(draft.finish(alloc))
+    draft.finish(alloc)
 }
 
 /// The display and the address of a text that is fit.
@@ -96,7 +97,8 @@ fn read_fit(alloc: Global, text: &[u8]) -> Result<Option<(Octets, Addr)>, AllocE
 /// address. Linear in the text's length.
 pub fn sieve_address(alloc: Global, text: &[u8]) -> Result<Option<(Octets, Addr)>, AllocError>
     ensures found { IfOk result (λ found. IfSome found (λ r. spec.IsOutbound text.now r.0 r.1)) }
-    ensures only { IfOk result (λ found. (display : List ℕ) (address : Addr) → spec.IsOutbound text.now display address → found ≡ Some (display, address)) }
+    ensures only { IfOk result (λ found. (display : List ℕ) (address : Addr) →
+        spec.IsOutbound text.now display address → found ≡ Some (display, address)) }
     ensures read { IfOk result (λ found. found ≡ reading.outbound text.now) }
     ensures domain { IfOk result (λ found. IfSome found (λ r. IsDomain r.1.domain)) }
 {
