@@ -1,0 +1,4 @@
+pub mod Left
+pub mod Into
+pub mod Runs
+pub mod Names

@@ -1,0 +1,152 @@
+-- The lines of ManageSieve read octet by octet: a state for each octet, and no search.
+use Rattle.std.specs.Prelude.{ℕ, ◌+◌, ◌-◌, ◌^◌, Bool, true, false, ◌&&◌, ◌||◌, cond, ◌==◌, nat_lt, List, [], ◌∷◌, ◌++◌, Option, Some, None, codes}
+use Rattle.std.specs.Char.{to_ascii_uppercase, is_ascii_digit}
+use Rattle.octets.specs.Decimal.{with_digit}
+use Rattle.msproto.specs.Arguments.{is_quotable}
+
+-- ---- what may still stand on a line
+
+pub data Slots : Type 0 where
+  LineEnd : Slots
+  MaybeText : Slots
+  ThenText : Slots → Slots
+  ThenNumber : Slots
+
+-- the commands' names, and what may stand behind each
+unfoldable pub rows : List (List ℕ × Slots)
+rows = (codes "AUTHENTICATE", ThenText MaybeText)
+    ∷ (codes "CAPABILITY", LineEnd)
+    ∷ (codes "CHECKSCRIPT", ThenText LineEnd)
+    ∷ (codes "DELETESCRIPT", ThenText LineEnd)
+    ∷ (codes "GETSCRIPT", ThenText LineEnd)
+    ∷ (codes "HAVESPACE", ThenText ThenNumber)
+    ∷ (codes "LISTSCRIPTS", LineEnd)
+    ∷ (codes "LOGOUT", LineEnd)
+    ∷ (codes "NOOP", MaybeText)
+    ∷ (codes "PUTSCRIPT", ThenText (ThenText LineEnd))
+    ∷ (codes "RENAMESCRIPT", ThenText (ThenText LineEnd))
+    ∷ (codes "SETACTIVE", ThenText LineEnd)
+    ∷ (codes "UNAUTHENTICATE", LineEnd)
+    ∷ []
+
+-- whether the word begins with the letters
+abbrev pub begins : List ℕ → List ℕ → Bool
+begins [] word = true
+begins (letter ∷ letters) [] = false
+begins (letter ∷ letters) (other ∷ word) = letter == other && begins letters word
+
+-- whether some row's name begins with the letters
+abbrev pub begins_row : List (List ℕ × Slots) → List ℕ → Bool
+begins_row [] letters = false
+begins_row (row ∷ more) letters = begins letters row.0 || begins_row more letters
+
+-- whether the two words are one
+abbrev pub same_word : List ℕ → List ℕ → Bool
+same_word [] [] = true
+same_word [] (other ∷ word) = false
+same_word (letter ∷ letters) [] = false
+same_word (letter ∷ letters) (other ∷ word) = letter == other && same_word letters word
+
+-- what may stand behind the name
+abbrev pub slots_in : List (List ℕ × Slots) → List ℕ → Option Slots
+slots_in [] word = None
+slots_in (row ∷ more) word = cond (same_word row.0 word) (Some row.1) (slots_in more word)
+
+-- ---- states
+
+pub data State : Type 0 where
+  -- in a name, these letters of it read, in upper case
+  Word : List ℕ → State
+  -- behind a name or an argument
+  Between : Slots → State
+  -- where a string begins
+  Opening : Slots → State
+  -- between quotation marks, where so many octets more may come
+  Quoted : ℕ → Slots → State
+  -- behind a backslash
+  Escaped : ℕ → Slots → State
+  -- behind the brace of a literal
+  Brace : Slots → State
+  -- in its number, behind the plus, behind the closing brace, behind the CR
+  Count : ℕ → Slots → State
+  Plus : ℕ → Slots → State
+  Closed : ℕ → Slots → State
+  Return : ℕ → Slots → State
+  -- inside a literal, of which one octet and so many more are to come
+  Body : ℕ → Slots → State
+  -- where a number begins, and in a number
+  Number : State
+  Digits : ℕ → State
+  -- behind the line's CR, behind its LF, and where no command goes on
+  LineFeed : State
+  Whole : State
+  Dead : State
+
+-- behind a space
+abbrev pub after_space : Slots → State
+after_space LineEnd = Dead
+after_space MaybeText = Opening LineEnd
+after_space (ThenText more) = Opening more
+after_space ThenNumber = Number
+
+-- behind a CR that ends a line
+abbrev pub after_return : Slots → State
+after_return LineEnd = LineFeed
+after_return MaybeText = LineFeed
+after_return (ThenText more) = Dead
+after_return ThenNumber = Dead
+
+-- behind a name or an argument and one octet
+abbrev pub leave : Slots → ℕ → State
+leave slots octet = cond (octet == 32) (after_space slots) (cond (octet == 13) (after_return slots) Dead)
+
+-- behind a name, if it is one
+abbrev pub leave_named : Option Slots → ℕ → State
+leave_named None octet = Dead
+leave_named (Some slots) octet = leave slots octet
+
+-- a number and one digit more, if no extra zero is in front and it stays below 2^32
+abbrev pub longer : (ℕ → State) → ℕ → ℕ → State
+longer to number octet =
+    cond (number == 0) Dead (cond (nat_lt (with_digit number octet) (2 ^ 32)) (to (with_digit number octet)) Dead)
+
+-- where so many octets of a literal are to come
+abbrev pub literal_left : ℕ → Slots → State
+literal_left left slots = cond (left == 0) (Between slots) (Body (left - 1) slots)
+
+-- the state behind one octet more
+abbrev pub step : State → ℕ → State
+step (Word letters) octet =
+    cond (begins_row rows (letters ++ to_ascii_uppercase octet ∷ [])) (Word (letters ++ to_ascii_uppercase octet ∷ []))
+        (leave_named (slots_in rows letters) octet)
+step (Between slots) octet = leave slots octet
+step (Opening slots) octet = cond (octet == 34) (Quoted 1024 slots) (cond (octet == 123) (Brace slots) Dead)
+step (Quoted left slots) octet =
+    cond (octet == 34) (Between slots)
+        (cond (octet == 92) (cond (nat_lt 1 left) (Escaped (left - 2) slots) Dead)
+            (cond (is_quotable octet && nat_lt 0 left) (Quoted (left - 1) slots) Dead))
+step (Escaped left slots) octet = cond (octet == 34 || octet == 92) (Quoted left slots) Dead
+step (Brace slots) octet = cond (is_ascii_digit octet) (Count (with_digit 0 octet) slots) Dead
+step (Count number slots) octet =
+    cond (octet == 43) (Plus number slots)
+        (cond (is_ascii_digit octet) (longer (λ n. Count n slots) number octet) Dead)
+step (Plus number slots) octet = cond (octet == 125) (Closed number slots) Dead
+step (Closed number slots) octet = cond (octet == 13) (Return number slots) Dead
+step (Return number slots) octet = cond (octet == 10) (literal_left number slots) Dead
+step (Body left slots) octet = literal_left left slots
+step Number octet = cond (is_ascii_digit octet) (Digits (with_digit 0 octet)) Dead
+step (Digits number) octet =
+    cond (octet == 13) LineFeed (cond (is_ascii_digit octet) (longer (λ n. Digits n) number octet) Dead)
+step LineFeed octet = cond (octet == 10) Whole Dead
+step Whole octet = Dead
+step Dead octet = Dead
+
+-- the state behind a text
+abbrev pub run : State → List ℕ → State
+run state [] = state
+run state (octet ∷ rest) = run (step state octet) rest
+
+-- the state before the first octet of a line; while a challenge is pending the line is one string
+abbrev pub start : Bool → State
+start false = Word []
+start true = Opening LineEnd
