@@ -30,7 +30,7 @@ begins_split (x ∷ p) [] e = absurd cc
 begins_split (x ∷ p) (y ∷ w) e =
     let parts = and_parts (x == y) (begins p w) e in
     let rest = begins_split p w parts.1 in
-    (rest.0, rw (eqb-true x y parts.0, rest.1) refl)
+    (rest.0, ap (λ (z : ℕ). z ∷ w) (sym (eqb-true x y parts.0)) ∙ ap (λ (u : List ℕ). x ∷ u) rest.1)
 
 same-self : (w : List ℕ) → same_word w w ≡ true
 same-self [] = refl
@@ -233,24 +233,24 @@ handled (row ∷ rs) hs w s arguments e f =
     ]
 
 of_end : (word : List ℕ) (c : Command) → form_of c ≡ Named word [] → (arguments : List Argument) → Fill LineEnd arguments → Has word arguments
-of_end word c e [] at_end = (c, e)
+of_end word c e arguments at_end = (c, e)
 
 of_text : (word : List ℕ) (c : List ℕ → Command) → ((v : List ℕ) → form_of (c v) ≡ Named word (Text v ∷ [])) → (arguments : List Argument) → Fill (ThenText LineEnd) arguments → Has word arguments
-of_text word c e (Text v ∷ []) (then_text v at_end) = (c v, e v)
+of_text word c e arguments (then_text v at_end) = (c v, e v)
 
 of_texts : (word : List ℕ) (c : List ℕ → List ℕ → Command) → ((v u : List ℕ) → form_of (c v u) ≡ Named word (Text v ∷ Text u ∷ [])) → (arguments : List Argument) → Fill (ThenText (ThenText LineEnd)) arguments → Has word arguments
-of_texts word c e (Text v ∷ Text u ∷ []) (then_text v (then_text u at_end)) = (c v u, e v u)
+of_texts word c e arguments (then_text v (then_text u at_end)) = (c v u, e v u)
 
 of_authenticate : (arguments : List Argument) → Fill (ThenText MaybeText) arguments → Has (codes "AUTHENTICATE") arguments
-of_authenticate (Text v ∷ []) (then_text v without) = (Authenticate v None, refl)
-of_authenticate (Text v ∷ Text u ∷ []) (then_text v (with_one u)) = (Authenticate v (Some u), refl)
+of_authenticate arguments (then_text v without) = (Authenticate v None, refl)
+of_authenticate arguments (then_text v (with_one u)) = (Authenticate v (Some u), refl)
 
 of_noop : (arguments : List Argument) → Fill MaybeText arguments → Has (codes "NOOP") arguments
-of_noop [] without = (Noop None, refl)
-of_noop (Text v ∷ []) (with_one v) = (Noop (Some v), refl)
+of_noop arguments without = (Noop None, refl)
+of_noop arguments (with_one v) = (Noop (Some v), refl)
 
 of_space : (arguments : List Argument) → Fill (ThenText ThenNumber) arguments → Has (codes "HAVESPACE") arguments
-of_space (Text v ∷ Figure n ∷ []) (then_text v (then_figure n)) = (HaveSpace v n, refl)
+of_space arguments (then_text v (then_figure n)) = (HaveSpace v n, refl)
 
 pub named_command : (w : List ℕ) (s : Slots) (arguments : List Argument) → slots_in rows w ≡ Some s → Fill s arguments → Has w arguments
 unfolding rows
