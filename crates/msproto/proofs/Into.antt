@@ -305,10 +305,10 @@ proper_step (Quoted left slots) x h =
 proper_step (Escaped left slots) x h = either (x == 34 || x == 92) (Quoted left slots) Dead (λ e. tt) (λ e. tt)
 proper_step (Brace slots) x h = either (is_ascii_digit x) (Count (with_digit 0 x) slots) Dead (λ e. small_digit x e) (λ e. tt)
 proper_step (Count number slots) x h =
-    either (x == 43) (Plus number slots) _ (λ e. tt)
+    either (x == 43) (Plus number slots) _ (λ e. h)
         (λ e. either (is_ascii_digit x) (longer (λ n. Count n slots) number x) Dead (λ d. proper_longer (λ n. Count n slots) number x (λ n lt. lt)) (λ d. tt))
-proper_step (Plus number slots) x h = either (x == 125) (Closed number slots) Dead (λ e. tt) (λ e. tt)
-proper_step (Closed number slots) x h = either (x == 13) (Return number slots) Dead (λ e. tt) (λ e. tt)
+proper_step (Plus number slots) x h = either (x == 125) (Closed number slots) Dead (λ e. h) (λ e. tt)
+proper_step (Closed number slots) x h = either (x == 13) (Return number slots) Dead (λ e. h) (λ e. tt)
 proper_step (Return number slots) x h = either (x == 10) (literal_left number slots) Dead (λ e. proper_left number slots) (λ e. tt)
 proper_step (Body left slots) x h = proper_left left slots
 proper_step Number x h = either (is_ascii_digit x) (Digits (with_digit 0 x)) Dead (λ e. small_digit x e) (λ e. tt)

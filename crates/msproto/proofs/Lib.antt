@@ -2,3 +2,6 @@ pub mod Left
 pub mod Into
 pub mod Runs
 pub mod Names
+pub mod Law
+pub mod Outside
+pub mod Heads

@@ -136,6 +136,14 @@ no_space : (w : List ℕ) → begins_row rows (w ++ 32 ∷ []) ≡ false
 unfolding rows
 no_space w = begins_row_other 32 w rows refl
 
+pub no_nul : (w : List ℕ) → begins_row rows (w ++ 0 ∷ []) ≡ false
+unfolding rows
+no_nul w = begins_row_other 0 w rows refl
+
+pub no_brace : (w : List ℕ) → begins_row rows (w ++ 123 ∷ []) ≡ false
+unfolding rows
+no_brace w = begins_row_other 123 w rows refl
+
 no_return : (w : List ℕ) → begins_row rows (w ++ 13 ∷ []) ≡ false
 unfolding rows
 no_return w = begins_row_other 13 w rows refl

@@ -41,7 +41,7 @@ quoted-run (x ∷ v) left slots rest q short =
 
 -- ---- digits
 
-digit_range : (x : ℕ) → is_ascii_digit x ≡ true → (48 ≤ x) × (x ≤ 57)
+pub digit_range : (x : ℕ) → is_ascii_digit x ≡ true → (48 ≤ x) × (x ≤ 57)
 digit_range x e =
     let parts = and_parts (leb 48 x) (leb x 57) e in
     (leb-true 48 x parts.0, leb-true x 57 parts.1)
@@ -69,6 +69,16 @@ count_digit slots n d e =
     let other : (d == 43) ≡ false = ne_eqb d 43 (λ i. absurd (omega (arith, i, range))) in
     rw (other, e) refl
 
+-- a literal's number takes its state to that number
+pub count_digits : (digits : List ℕ) (number : ℕ) (slots : Slots) (u : List ℕ) → IsNumeral number digits → number < 2 ^ 32 → run (Brace slots) (digits ++ u) ≡ run (Count number slots) u
+count_digits [] number slots u numeral lt = absurd numeral
+count_digits (d ∷ ds) number slots u numeral lt =
+    let extra : with_digit 0 d ≡ 0 → ds ≡ [] = λ e. numeral.1 (omega (arith, e, digit_range d numeral.0.0)) in
+    let once : step (Brace slots) d ≡ Count (with_digit 0 d) slots = rw numeral.0.0 refl in
+    ap (λ (s : State). run s (ds ++ u)) once
+    ∙ digits-run (λ n. Count n slots) (count_digit slots) ds (with_digit 0 d) u numeral.0.1 extra (omega (arith, numeral.2, lt))
+    ∙ ap (λ (n : ℕ). run (Count n slots) u) numeral.2
+
 figure_digit : (n d : ℕ) → is_ascii_digit d ≡ true → step (Digits n) d ≡ longer (λ m. Digits m) n d
 figure_digit n d e =
     let range = digit_range d e in
@@ -88,14 +98,8 @@ body-run [] slots rest = refl
 body-run (x ∷ v) slots rest = ap (λ (s : State). run s (x ∷ (v ++ rest))) (left-suc (length v) slots) ∙ body-run v slots rest
 
 count-run : (digits value : List ℕ) (slots : Slots) (rest : List ℕ) → IsNumeral (length value) digits → length value < 2 ^ 32 → run (Brace slots) (digits ++ 43 ∷ 125 ∷ 13 ∷ 10 ∷ (value ++ rest)) ≡ run (Between slots) rest
-count-run [] value slots rest numeral lt = absurd numeral
-count-run (d ∷ ds) value slots rest numeral lt =
-    let extra : with_digit 0 d ≡ 0 → ds ≡ [] = λ e. numeral.1 (omega (arith, e, digit_range d numeral.0.0)) in
-    let once : step (Brace slots) d ≡ Count (with_digit 0 d) slots = rw numeral.0.0 refl in
-    ap (λ (s : State). run s (ds ++ 43 ∷ 125 ∷ 13 ∷ 10 ∷ (value ++ rest))) once
-    ∙ digits-run (λ n. Count n slots) (count_digit slots) ds (with_digit 0 d) (43 ∷ 125 ∷ 13 ∷ 10 ∷ (value ++ rest)) numeral.0.1 extra (omega (arith, numeral.2, lt))
-    ∙ ap (λ (n : ℕ). run (literal_left n slots) (value ++ rest)) numeral.2
-    ∙ body-run value slots rest
+count-run digits value slots rest numeral lt =
+    count_digits digits (length value) slots (43 ∷ 125 ∷ 13 ∷ 10 ∷ (value ++ rest)) numeral lt ∙ body-run value slots rest
 
 pub string-run : (value first : List ℕ) (slots : Slots) (rest : List ℕ) → IsString value first → run (Opening slots) (first ++ rest) ≡ run (Between slots) rest
 string-run value first slots rest (inl q) =

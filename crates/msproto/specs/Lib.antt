@@ -1,3 +1,5 @@
 pub mod Arguments
 pub mod Commands
+pub mod Items
 pub mod Machine
+pub mod Scanning

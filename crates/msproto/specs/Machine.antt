@@ -150,3 +150,29 @@ run state (octet ∷ rest) = run (step state octet) rest
 abbrev pub start : Bool → State
 start false = Word []
 start true = Opening LineEnd
+
+-- ---- what a state says
+
+-- the next octet stands inside a literal
+abbrev pub in_literal : State → Bool
+in_literal (Body left slots) = true
+in_literal _ = false
+
+-- a command ends here
+abbrev pub is_whole : State → Bool
+is_whole Whole = true
+is_whole _ = false
+
+-- no command goes on from here
+abbrev pub is_dead : State → Bool
+is_dead Dead = true
+is_dead _ = false
+
+-- an LF here begins a literal that is too large
+abbrev pub is_large : State → Bool
+is_large (Return number slots) = nat_lt 1048576 number
+is_large _ = false
+
+-- how many octets outside literals the next octet is
+abbrev pub weight : State → ℕ
+weight state = cond (in_literal state) 0 1

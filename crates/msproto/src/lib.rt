@@ -2,9 +2,11 @@
 #![tactic(auto)]
 
 ghost use Rattle.std.specs.Prelude.{◌≡◌};
-ghost use Rattle.msproto.specs.Commands.{IsSpelling};
+ghost use Rattle.msproto.specs.Items.{Gives};
+ghost use Rattle.msproto.specs.Scanning.{reach_of};
 
 pub mod command;
+pub mod item;
 
 pub fn nothing(x: u8) -> u8
     ensures { result ≡ x }
