@@ -5,3 +5,4 @@ pub mod Names
 pub mod Law
 pub mod Outside
 pub mod Heads
+pub mod Scans
