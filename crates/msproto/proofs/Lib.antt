@@ -6,3 +6,4 @@ pub mod Law
 pub mod Outside
 pub mod Heads
 pub mod Scans
+pub mod Verbs

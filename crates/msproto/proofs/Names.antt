@@ -24,7 +24,7 @@ begins-append : (p q : List ℕ) → begins p (p ++ q) ≡ true
 begins-append [] q = refl
 begins-append (x ∷ p) q = and_from (x == x) (begins p (p ++ q)) (eq_self x) (begins-append p q)
 
-begins_split : (p w : List ℕ) → begins p w ≡ true → (q : List ℕ) × (w ≡ p ++ q)
+pub begins_split : (p w : List ℕ) → begins p w ≡ true → (q : List ℕ) × (w ≡ p ++ q)
 begins_split [] w e = (w, refl)
 begins_split (x ∷ p) [] e = absurd cc
 begins_split (x ∷ p) (y ∷ w) e =

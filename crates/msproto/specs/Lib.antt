@@ -3,3 +3,4 @@ pub mod Commands
 pub mod Items
 pub mod Machine
 pub mod Scanning
+pub mod Shown

@@ -1,6 +1,8 @@
 -- The lines of ManageSieve read octet by octet: a state for each octet, and no search.
 use Rattle.std.specs.Prelude.{ℕ, ◌+◌, ◌-◌, ◌^◌, Bool, true, false, ◌&&◌, ◌||◌, cond, ◌==◌, nat_lt, List, [], ◌∷◌, ◌++◌, Option, Some, None, codes}
 use Rattle.std.specs.Char.{to_ascii_uppercase, is_ascii_digit}
+use Rattle.msproto.specs.declared.verb.Verb.{Verb}
+use Rattle.msproto.specs.declared.verb.Verb.TheVariants as verb
 use Rattle.octets.specs.Decimal.{with_digit}
 use Rattle.msproto.specs.Arguments.{is_quotable}
 
@@ -12,22 +14,50 @@ pub data Slots : Type 0 where
   ThenText : Slots → Slots
   ThenNumber : Slots
 
--- the commands' names, and what may stand behind each
+-- the names of the commands
+abbrev pub word_of : Verb → List ℕ
+word_of verb.Authenticate = codes "AUTHENTICATE"
+word_of verb.Capability = codes "CAPABILITY"
+word_of verb.CheckScript = codes "CHECKSCRIPT"
+word_of verb.DeleteScript = codes "DELETESCRIPT"
+word_of verb.GetScript = codes "GETSCRIPT"
+word_of verb.HaveSpace = codes "HAVESPACE"
+word_of verb.ListScripts = codes "LISTSCRIPTS"
+word_of verb.Logout = codes "LOGOUT"
+word_of verb.Noop = codes "NOOP"
+word_of verb.PutScript = codes "PUTSCRIPT"
+word_of verb.RenameScript = codes "RENAMESCRIPT"
+word_of verb.SetActive = codes "SETACTIVE"
+word_of verb.Unauthenticate = codes "UNAUTHENTICATE"
+
+-- what may stand behind each
+abbrev pub slots_of : Verb → Slots
+slots_of verb.Authenticate = ThenText MaybeText
+slots_of verb.Capability = LineEnd
+slots_of verb.CheckScript = ThenText LineEnd
+slots_of verb.DeleteScript = ThenText LineEnd
+slots_of verb.GetScript = ThenText LineEnd
+slots_of verb.HaveSpace = ThenText ThenNumber
+slots_of verb.ListScripts = LineEnd
+slots_of verb.Logout = LineEnd
+slots_of verb.Noop = MaybeText
+slots_of verb.PutScript = ThenText (ThenText LineEnd)
+slots_of verb.RenameScript = ThenText (ThenText LineEnd)
+slots_of verb.SetActive = ThenText LineEnd
+slots_of verb.Unauthenticate = LineEnd
+
+-- all of them
+abbrev pub verbs : List Verb
+verbs = verb.Authenticate ∷ verb.Capability ∷ verb.CheckScript ∷ verb.DeleteScript ∷ verb.GetScript ∷ verb.HaveSpace ∷ verb.ListScripts
+    ∷ verb.Logout ∷ verb.Noop ∷ verb.PutScript ∷ verb.RenameScript ∷ verb.SetActive ∷ verb.Unauthenticate ∷ []
+
+-- names, and what may stand behind each
+abbrev pub rows_of : List Verb → List (List ℕ × Slots)
+rows_of [] = []
+rows_of (verb ∷ more) = (word_of verb, slots_of verb) ∷ rows_of more
+
 unfoldable pub rows : List (List ℕ × Slots)
-rows = (codes "AUTHENTICATE", ThenText MaybeText)
-    ∷ (codes "CAPABILITY", LineEnd)
-    ∷ (codes "CHECKSCRIPT", ThenText LineEnd)
-    ∷ (codes "DELETESCRIPT", ThenText LineEnd)
-    ∷ (codes "GETSCRIPT", ThenText LineEnd)
-    ∷ (codes "HAVESPACE", ThenText ThenNumber)
-    ∷ (codes "LISTSCRIPTS", LineEnd)
-    ∷ (codes "LOGOUT", LineEnd)
-    ∷ (codes "NOOP", MaybeText)
-    ∷ (codes "PUTSCRIPT", ThenText (ThenText LineEnd))
-    ∷ (codes "RENAMESCRIPT", ThenText (ThenText LineEnd))
-    ∷ (codes "SETACTIVE", ThenText LineEnd)
-    ∷ (codes "UNAUTHENTICATE", LineEnd)
-    ∷ []
+rows = rows_of verbs
 
 -- whether the word begins with the letters
 abbrev pub begins : List ℕ → List ℕ → Bool
@@ -51,6 +81,11 @@ same_word (letter ∷ letters) (other ∷ word) = letter == other && same_word l
 abbrev pub slots_in : List (List ℕ × Slots) → List ℕ → Option Slots
 slots_in [] word = None
 slots_in (row ∷ more) word = cond (same_word row.0 word) (Some row.1) (slots_in more word)
+
+-- the verb of this name
+abbrev pub verb_in : List Verb → List ℕ → Option Verb
+verb_in [] word = None
+verb_in (verb ∷ more) word = cond (same_word (word_of verb) word) (Some verb) (verb_in more word)
 
 -- ---- states
 
