@@ -5,8 +5,8 @@ use Rattle.std.specs.Char.{to_ascii_uppercase}
 use Rattle.std.proofs.lemmas.List.{append-nil, length-replicate}
 use Rattle.msproto.specs.Arguments.{IsLine, IsAnswer}
 use Rattle.msproto.specs.Machine.{Slots, LineEnd, MaybeText, ThenText, ThenNumber, rows, slots_in, State, Word, Between, Opening, Quoted, Escaped, Brace, Count, Plus, Closed, Return, Body, Number, Digits, LineFeed, Whole, Dead, literal_left, step, run, start}
-use Rattle.msproto.specs.declared.command.Command.{Command}
-use Rattle.msproto.specs.declared.command.Command.TheVariants.{Response}
+use Rattle.msproto.specs.declared.commands.Command.{Command}
+use Rattle.msproto.specs.declared.commands.Command.TheVariants.{Response}
 use Rattle.msproto.specs.Commands.{Form, Named, Alone, form_of, IsFormed, IsSpelling, IsCommand, IsViable}
 use Rattle.msproto.proofs.Left.{IsAfter, InName, AtString, IsProper}
 use Rattle.msproto.proofs.Into.{whole_left, proper_start, proper_run}

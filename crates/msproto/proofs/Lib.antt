@@ -7,3 +7,7 @@ pub mod Outside
 pub mod Heads
 pub mod Scans
 pub mod Verbs
+pub mod Rooms
+pub mod Turning
+pub mod Parsing
+pub mod Unique

@@ -8,11 +8,11 @@ use Rattle.msproto.specs.Arguments.{Argument, Text, Figure, IsString, IsArgument
 use Rattle.msproto.specs.Machine.{Slots, LineEnd, MaybeText, ThenText, ThenNumber, rows, begins, begins_row, same_word, slots_in, State, Word, Between, leave, leave_named, step, run}
 use Rattle.msproto.proofs.Left.{IsAfter}
 use Rattle.msproto.proofs.Runs.{run-append}
-use Rattle.msproto.specs.declared.command.Command.{Command}
-use Rattle.msproto.specs.declared.command.Command.TheVariants.{Capability, Noop, Logout, Authenticate, Unauthenticate, HaveSpace, PutScript, CheckScript, ListScripts, SetActive, GetScript, DeleteScript, RenameScript, Response}
+use Rattle.msproto.specs.declared.commands.Command.{Command}
+use Rattle.msproto.specs.declared.commands.Command.TheVariants.{Capability, Noop, Logout, Authenticate, Unauthenticate, HaveSpace, PutScript, CheckScript, ListScripts, SetActive, GetScript, DeleteScript, RenameScript, Response}
 use Rattle.msproto.specs.Commands.{Form, Named, Alone, form_of}
 
-abbrev Rows : Type 0
+abbrev pub Rows : Type 0
 Rows = List (List ℕ × Slots)
 
 -- ---- words
@@ -46,7 +46,7 @@ same_is (x ∷ a) (y ∷ b) e =
 
 -- ---- rows
 
-slots_step : (o : Option Slots) (word w : List ℕ) (s t : Slots) → cond (same_word word w) (Some t) o ≡ Some s → ((word ≡ w) × (t ≡ s)) ⊎ (o ≡ Some s)
+pub slots_step : (o : Option Slots) (word w : List ℕ) (s t : Slots) → cond (same_word word w) (Some t) o ≡ Some s → ((word ≡ w) × (t ≡ s)) ⊎ (o ≡ Some s)
 slots_step o word w s t e = go (same_word word w) (same_is word w) e
   where
     go : (b : Bool) → (b ≡ true → word ≡ w) → cond b (Some t) o ≡ Some s → ((word ≡ w) × (t ≡ s)) ⊎ (o ≡ Some s)
@@ -111,7 +111,7 @@ unfolding rows
 name_goes_on p e = begins_slots rows p refl e
 
 -- the octet stands nowhere in the word
-abbrev lacks : ℕ → List ℕ → Bool
+abbrev pub lacks : ℕ → List ℕ → Bool
 lacks x [] = true
 lacks x (y ∷ w) = not (x == y) && lacks x w
 
@@ -122,7 +122,7 @@ begins_other x (a ∷ w) [] e = refl
 begins_other x (a ∷ w) (y ∷ word) e =
     and_right (a == y) (begins (w ++ x ∷ []) word) (begins_other x w word (and_parts (not (x == y)) (lacks x word) e).1)
 
-abbrev rows_lack : ℕ → Rows → Bool
+abbrev pub rows_lack : ℕ → Rows → Bool
 rows_lack x [] = true
 rows_lack x (row ∷ rs) = lacks x row.0 && rows_lack x rs
 

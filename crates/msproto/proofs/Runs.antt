@@ -46,7 +46,7 @@ digit_range x e =
     let parts = and_parts (leb 48 x) (leb x 57) e in
     (leb-true 48 x parts.0, leb-true x 57 parts.1)
 
-fold_grows : (ds : List ℕ) (n : ℕ) → n ≤ fold with_digit n ds
+pub fold_grows : (ds : List ℕ) (n : ℕ) → n ≤ fold with_digit n ds
 fold_grows [] n = omega arith
 fold_grows (d ∷ ds) n = omega (arith, fold_grows ds (with_digit n d))
 
@@ -87,7 +87,7 @@ figure_digit n d e =
 
 -- ---- literals
 
-left-suc : (n : ℕ) (slots : Slots) → literal_left (suc n) slots ≡ Body n slots
+pub left-suc : (n : ℕ) (slots : Slots) → literal_left (suc n) slots ≡ Body n slots
 left-suc n slots =
     let some : (suc n == 0) ≡ false = ne_eqb (suc n) 0 (λ e. absurd (omega (arith, e))) in
     let less : suc n - 1 ≡ n = omega arith in

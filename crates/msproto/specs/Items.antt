@@ -2,10 +2,10 @@
 use Rattle.std.specs.Prelude.{◌≡◌, ◌≢◌, ℕ, ◌+◌, ◌<◌, ◌≤◌, ◌^◌, ◌⊎◌, Bool, List, [], ◌∷◌, ◌++◌, length, take}
 use Rattle.msproto.specs.Arguments.{IsNumeral}
 use Rattle.msproto.specs.Commands.{IsSpelling, IsCommand, IsViable}
-use Rattle.msproto.specs.declared.item.Item.{Item}
-use Rattle.msproto.specs.declared.item.Item.TheVariants as item
-use Rattle.msproto.specs.declared.item.Reach.{Reach}
-use Rattle.msproto.specs.declared.item.Reach.TheVariants.{Need, Command, Bad, TooBig}
+use Rattle.msproto.specs.declared.items.Item.{Item}
+use Rattle.msproto.specs.declared.items.Item.TheVariants as item
+use Rattle.msproto.specs.declared.items.Reach.{Reach}
+use Rattle.msproto.specs.declared.items.Reach.TheVariants.{Need, Command, Bad, TooBig}
 
 -- ---- bad lines
 

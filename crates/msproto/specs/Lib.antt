@@ -4,3 +4,4 @@ pub mod Items
 pub mod Machine
 pub mod Scanning
 pub mod Shown
+pub mod Values

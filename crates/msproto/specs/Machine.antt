@@ -1,8 +1,10 @@
 -- The lines of ManageSieve read octet by octet: a state for each octet, and no search.
-use Rattle.std.specs.Prelude.{ℕ, ◌+◌, ◌-◌, ◌^◌, Bool, true, false, ◌&&◌, ◌||◌, cond, ◌==◌, nat_lt, List, [], ◌∷◌, ◌++◌, Option, Some, None, codes}
+use Rattle.std.specs.Prelude.{◌≡◌, refl, ℕ, zero, suc, ◌+◌, ◌-◌, ◌^◌, Bool, true, false, ◌&&◌, ◌||◌, cond, ◌==◌, nat_lt, List, [], ◌∷◌, ◌++◌, Option, Some, None, codes}
 use Rattle.std.specs.Char.{to_ascii_uppercase, is_ascii_digit}
 use Rattle.msproto.specs.declared.verb.Verb.{Verb}
 use Rattle.msproto.specs.declared.verb.Verb.TheVariants as verb
+use Rattle.std.proofs.Common.{ap}
+use Rattle.std.specs.Coded.{Coded, code_by, coded_ℕ}
 use Rattle.octets.specs.Decimal.{with_digit}
 use Rattle.msproto.specs.Arguments.{is_quotable}
 
@@ -13,6 +15,28 @@ pub data Slots : Type 0 where
   MaybeText : Slots
   ThenText : Slots → Slots
   ThenNumber : Slots
+
+-- slots as a number, which a type that shows them is stored by
+abbrev pub slots_number : Slots → ℕ
+slots_number LineEnd = zero
+slots_number MaybeText = suc zero
+slots_number ThenNumber = suc (suc zero)
+slots_number (ThenText more) = suc (suc (suc (slots_number more)))
+
+abbrev pub number_slots : ℕ → Slots
+number_slots zero = LineEnd
+number_slots (suc zero) = MaybeText
+number_slots (suc (suc zero)) = ThenNumber
+number_slots (suc (suc (suc n))) = ThenText (number_slots n)
+
+pub slots_back : (slots : Slots) → number_slots (slots_number slots) ≡ slots
+slots_back LineEnd = refl
+slots_back MaybeText = refl
+slots_back ThenNumber = refl
+slots_back (ThenText more) = ap ThenText (slots_back more)
+
+abbrev pub slots_code : Coded Slots
+slots_code = code_by ℕ coded_ℕ slots_number number_slots slots_back
 
 -- the names of the commands
 abbrev pub word_of : Verb → List ℕ
@@ -211,3 +235,29 @@ is_large _ = false
 -- how many octets outside literals the next octet is
 abbrev pub weight : State → ℕ
 weight state = cond (in_literal state) 0 1
+
+-- ---- how many octets of literals may still come, where no literal is too large
+
+abbrev pub slots_room : Slots → ℕ
+slots_room LineEnd = 0
+slots_room MaybeText = 1048576
+slots_room (ThenText more) = 1048576 + slots_room more
+slots_room ThenNumber = 0
+
+abbrev pub room : State → ℕ
+room (Word letters) = 2097152
+room (Between slots) = slots_room slots
+room (Opening slots) = 1048576 + slots_room slots
+room (Quoted left slots) = slots_room slots
+room (Escaped left slots) = slots_room slots
+room (Brace slots) = 1048576 + slots_room slots
+room (Count number slots) = 1048576 + slots_room slots
+room (Plus number slots) = 1048576 + slots_room slots
+room (Closed number slots) = 1048576 + slots_room slots
+room (Return number slots) = 1048576 + slots_room slots
+room (Body left slots) = left + 1 + slots_room slots
+room Number = 0
+room (Digits number) = 0
+room LineFeed = 0
+room Whole = 0
+room Dead = 0

@@ -1,8 +1,8 @@
 -- The first item of a stream as a function of the stream, for those who compute with it.
 use Rattle.std.specs.Prelude.{ℕ, ◌+◌, Bool, ◌||◌, ◌&&◌, ◌==◌, cond, nat_lt, List, fold}
-use Rattle.msproto.specs.Machine.{State, start, step, weight, is_large, is_whole, is_dead}
-use Rattle.msproto.specs.declared.item.Reach.{Reach}
-use Rattle.msproto.specs.declared.item.Reach.TheVariants.{Need, Command, Bad, TooBig}
+use Rattle.msproto.specs.Machine.{State, start, step, weight, is_large, is_whole, is_dead, Body}
+use Rattle.msproto.specs.declared.items.Reach.{Reach}
+use Rattle.msproto.specs.declared.items.Reach.TheVariants.{Need, Command, Bad, TooBig}
 
 -- what is known of the octets so far: the state behind them, how many of them stand outside literals and how many there are; or what came first
 pub data Scanned : Type 0 where
@@ -34,3 +34,8 @@ found (Found reach) = reach
 -- what comes first in the stream
 abbrev pub reach_of : Bool → List ℕ → Reach
 reach_of pending stream = found (scanned pending stream)
+
+-- how many octets of a literal come next
+abbrev pub literal_rest : Scanned → ℕ
+literal_rest (Open (Body left slots) outside used) = left + 1
+literal_rest _ = 0

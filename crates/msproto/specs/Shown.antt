@@ -1,5 +1,5 @@
 -- What the states of the code stand for.
-use Rattle.std.specs.Prelude.{ℕ, ◌^◌, ◌==◌, cond, nat_lt, List, take, Option, Some, None}
+use Rattle.std.specs.Prelude.{ℕ, ◌^◌, ◌==◌, ◌||◌, ◌&&◌, cond, nat_lt, List, take, Option, Some, None}
 use Rattle.std.specs.Char.{is_ascii_digit}
 use Rattle.octets.specs.Decimal.{with_digit}
 use Rattle.msproto.specs.declared.verb.Slots.{Slots}
@@ -7,6 +7,9 @@ use Rattle.msproto.specs.declared.verb.Slots.TheVariants as slots
 use Rattle.msproto.specs.declared.state.State.{State}
 use Rattle.msproto.specs.declared.state.State.TheVariants as state
 use Rattle.msproto.specs.Machine as machine
+use Rattle.msproto.specs.declared.items.Reach.{Reach}
+use Rattle.msproto.specs.declared.items.Reach.TheVariants as reach
+use Rattle.msproto.specs.Scanning.{Scanned, Open, Found}
 
 -- what may still stand on a line
 abbrev pub slots_shown : Slots → machine.Slots
@@ -53,3 +56,19 @@ next_digit number octet =
     cond (is_ascii_digit octet)
         (cond (number == 0) None (cond (nat_lt (with_digit number octet) (2 ^ 32)) (Some (with_digit number octet)) None))
         None
+
+-- ---- a scan
+
+-- what a scan keeps: where it stands, or what it found
+abbrev pub scan_shown : State → ℕ → ℕ → Reach → Scanned
+scan_shown state outside used reach.Need = Open (shown state) outside used
+scan_shown state outside used (reach.Command length) = Found (reach.Command length)
+scan_shown state outside used (reach.Bad length) = Found (reach.Bad length)
+scan_shown state outside used reach.TooBig = Found reach.TooBig
+
+-- what an octet ends, if anything
+abbrev pub ending : machine.State → ℕ → ℕ → ℕ → Reach
+ending state outside used octet =
+    cond (nat_lt 8192 outside || (machine.is_large state && octet == 10)) reach.TooBig
+        (cond (machine.is_whole (machine.step state octet)) (reach.Command used)
+            (cond (machine.is_dead (machine.step state octet) && octet == 10) (reach.Bad used) reach.Need))

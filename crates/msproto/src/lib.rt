@@ -1,17 +1,11 @@
-//! ManageSieve items.
+//! ManageSieve's items and replies (RFC 5804): what stands first in the octets of a client, and how answers are spelled.
 #![tactic(auto)]
 
-ghost use Rattle.std.specs.Prelude.{◌≡◌};
-ghost use Rattle.msproto.specs.Items.{Gives};
-ghost use Rattle.msproto.specs.Scanning.{reach_of};
-
-pub mod command;
-pub mod item;
+pub mod commands;
+pub mod items;
+mod scanner;
 mod state;
 mod verb;
 
-pub fn nothing(x: u8) -> u8
-    ensures { result ≡ x }
-{
-    x
-}
+pub use commands::Command;
+pub use items::{Item, Reach, extent};
