@@ -11,3 +11,4 @@ pub mod Rooms
 pub mod Turning
 pub mod Parsing
 pub mod Unique
+pub mod Quoting

@@ -10,7 +10,7 @@ use Rattle.msproto.specs.declared.commands.Command.TheVariants.{Capability, Noop
 use Rattle.msproto.specs.Arguments.{Argument, inside, AreDigits, IsNumeral, IsString, IsQuoted, IsLiteral, AreArguments}
 use Rattle.msproto.specs.Commands.{Form, Named, Alone, form_of, IsFormed, IsSpelling}
 use Rattle.msproto.specs.Machine.{Slots, rows, slots_in, verbs, verb_in, same_word}
-use Rattle.msproto.specs.Values.{Read, with_octet, quoted_in, number_in, octets_in, literal_in, string_in, text_in, name_length, verb_command, command_in}
+use Rattle.msproto.specs.Values.{Read, with_octet, quoted_in, number_in, octets_in, literal_in, string_in, size_in, text_in, name_length, verb_command, command_in}
 use Rattle.msproto.proofs.Runs.{fold_grows, digit_range}
 use Rattle.msproto.proofs.Names.{Rows, lacks, rows_lack, slots_step, filled, IsFilled}
 
@@ -78,7 +78,7 @@ read_back (HaveSpace name size) rest = λ h.
     let e = text_back name h.0 h.1 rest h.2 h.4 in
     let d : number_in 0 (h.3.0 ++ 13 ∷ 10 ∷ []) ≡ (size, 13 ∷ 10 ∷ []) = numeral_back size h.3.0 13 (10 ∷ []) h.3.2.0 h.3.2.1 refl in
     let at : h.1 ≡ 32 ∷ (h.3.0 ++ 13 ∷ 10 ∷ []) = h.3.4 ∙ ap (λ (u : List ℕ). 32 ∷ (h.3.0 ++ u)) h.3.3 in
-    rw e (ap (λ (t : List ℕ). Some (HaveSpace name (number_in 0 (drop 1 t)).0)) at ∙ ap (λ (p : ℕ × List ℕ). Some (HaveSpace name p.0)) d)
+    rw e (ap (λ (t : List ℕ). Some (HaveSpace name (size_in t))) at ∙ ap (λ (p : ℕ × List ℕ). Some (HaveSpace name p.0)) d)
 read_back (PutScript name script) rest = λ h.
     let e = text_back name h.0 h.1 rest h.2 h.4 in
     let d = text_back script h.3.0 h.3.1 h.1 h.3.2 h.3.4 in

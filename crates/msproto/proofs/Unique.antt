@@ -1,6 +1,7 @@
 -- Each stream has one first item.
 use Rattle.std.proofs.Common.{◌≡◌, ℕ, ◌+◌, ◌<◌, ◌≤◌, ◌⊎◌, inl, inr, Bool, List, [], ◌∷◌, ◌++◌, length, take, Option, Some, None, refl, sym, ap, ◌∙◌, subst, arith, append_assoc}
 use Rattle.std.proofs.lemmas.Bool.{cases_order}
+use Rattle.std.proofs.lemmas.List.{take-append-le}
 use Rattle.msproto.specs.declared.commands.Command.{Command}
 use Rattle.msproto.specs.declared.items.Item.{Item}
 use Rattle.msproto.specs.declared.items.Item.TheVariants as item
@@ -10,7 +11,7 @@ use Rattle.msproto.specs.Commands.{IsSpelling, IsCommand}
 use Rattle.msproto.specs.Items.{IsBadLine, IsTooBig, IsItem, NoItem, Reaches, Gives}
 use Rattle.msproto.specs.Scanning.{reach_of}
 use Rattle.msproto.specs.Values.{command_in, item_with, item_at, item_of}
-use Rattle.msproto.proofs.Scans.{reaches}
+use Rattle.msproto.proofs.Scans.{reaches, stays}
 use Rattle.msproto.proofs.Parsing.{spelling_back}
 
 command_no_line : (pending : Bool) (text : List ℕ) → IsCommand pending text → IsBadLine pending text → ⊥
@@ -96,3 +97,11 @@ gives_at pending item.TooBig stream h = ap (item_at pending stream) (reach_is pe
 
 pub one_item : (pending : Bool) (a b : Item) (stream : List ℕ) → Gives pending a stream → Gives pending b stream → a ≡ b
 one_item pending a b stream g h = gives_at pending a stream g ∙ sym (gives_at pending b stream h)
+
+pub item_stays_on : (pending : Bool) (i : Item) (stream more : List ℕ) → (i ≡ item.Need → ⊥) → Gives pending i stream → Gives pending i (stream ++ more)
+item_stays_on pending item.Need stream more some h = absurd (some refl)
+item_stays_on pending (item.Command c n) stream more some h =
+    let same : take n (stream ++ more) ≡ take n stream = take-append-le n stream more h.0.0 in
+    (stays pending (reach.Command n) stream more (λ i. cc) h.0, rw same h.1)
+item_stays_on pending (item.Bad n) stream more some h = stays pending (reach.Bad n) stream more (λ i. cc) h
+item_stays_on pending item.TooBig stream more some h = stays pending reach.TooBig stream more (λ i. cc) h

@@ -2,6 +2,7 @@ pub mod Arguments
 pub mod Commands
 pub mod Items
 pub mod Machine
+pub mod ReadShown
 pub mod Scanning
 pub mod Shown
 pub mod Values

@@ -81,9 +81,14 @@ abbrev pub authenticate_of : Read → Option Command
 authenticate_of None = None
 authenticate_of (Some read) = Some (Authenticate read.0 (read_text (text_in read.1)))
 
+-- a number behind a space
+abbrev pub size_in : List ℕ → ℕ
+size_in [] = 0
+size_in (octet ∷ digits) = (number_in 0 digits).0
+
 abbrev pub have_space_of : Read → Option Command
 have_space_of None = None
-have_space_of (Some read) = Some (HaveSpace read.0 (number_in 0 (drop 1 read.1)).0)
+have_space_of (Some read) = Some (HaveSpace read.0 (size_in read.1))
 
 -- the command of a verb and what stands behind it
 abbrev pub command_of : Verb → List ℕ → Option Command
@@ -100,6 +105,19 @@ command_of verb.PutScript rest = of_texts PutScript (text_in rest)
 command_of verb.RenameScript rest = of_texts RenameScript (text_in rest)
 command_of verb.SetActive rest = of_text SetActive (text_in rest)
 command_of verb.Unauthenticate rest = Some Unauthenticate
+
+-- the same where its first text was read
+abbrev pub command_with : Verb → List ℕ → List ℕ → Option Command
+command_with verb.Authenticate first rest = authenticate_of (Some (first, rest))
+command_with verb.CheckScript first rest = Some (CheckScript first)
+command_with verb.DeleteScript first rest = Some (DeleteScript first)
+command_with verb.GetScript first rest = Some (GetScript first)
+command_with verb.HaveSpace first rest = have_space_of (Some (first, rest))
+command_with verb.Noop first rest = Some (Noop (Some first))
+command_with verb.PutScript first rest = of_texts PutScript (Some (first, rest))
+command_with verb.RenameScript first rest = of_texts RenameScript (Some (first, rest))
+command_with verb.SetActive first rest = Some (SetActive first)
+command_with _ first rest = None
 
 abbrev pub verb_command : Option Verb → List ℕ → Option Command
 verb_command None rest = None

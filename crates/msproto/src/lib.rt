@@ -3,9 +3,10 @@
 
 pub mod commands;
 pub mod items;
+mod reading;
 mod scanner;
 mod state;
 mod verb;
 
 pub use commands::Command;
-pub use items::{Item, Reach, extent};
+pub use items::{Item, Reach, extent, first};

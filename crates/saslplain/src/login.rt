@@ -1,0 +1,82 @@
+//! What a client says by PLAIN.
+ghost use Rattle.std.specs.Prelude.{◌≡◌, ℕ, ◌≤◌, List, length, IfOk, MatchOption};
+ghost use Rattle.saslplain.specs.Login.{IsLogin, login_in, nul_at};
+
+use base64::DecodeAllocError;
+use base64::engine::general_purpose::STANDARD;
+use octets::Octets;
+use std::alloc::{AllocError, Global};
+
+/// A user's name and password, neither empty nor with a NUL in it.
+#[derive(Drop)]
+pub struct Login {
+    pub user: Octets,
+    pub password: Octets,
+}
+
+/// The login that a text says in base64 (RFC 4616, section 2; RFC 4648, section 4), if it says one.
+///
+/// The message behind the base64 is `[authzid] NUL authcid NUL passwd`: the user is the authcid, and an authzid that
+/// isn't empty has to be the same. The base64 is strict: padded, and with spare bits of zero. Time and memory are
+/// linear in the text; lack of memory is the only error.
+pub fn plain(alloc: Global, text: &[u8]) -> Result<Option<Login>, AllocError>
+    ensures { IfOk result (λ found. MatchOption found ((user password : List ℕ) → IsLogin text.now user password → ⊥) (λ login. IsLogin text.now login.user login.password)) }
+{
+    match STANDARD.decode(alloc, text) {
+        Ok(message) => login(alloc, message.as_slice()),
+        Err(DecodeAllocError::OutOfMemory) => Err(AllocError),
+        Err(DecodeAllocError::DecodeError(_)) => Ok(None),
+    }
+}
+
+// The login of a message.
+fn login(alloc: Global, message: &[u8]) -> Result<Option<Login>, AllocError>
+    ensures { IfOk result (λ found. shown found ≡ login_in message.now) }
+{
+    let Some((authzid, rest)) = cut(message) else {
+        return Ok(None);
+    };
+    let Some((user, password)) = cut(rest) else {
+        return Ok(None);
+    };
+    if user.is_empty() || password.is_empty() || has_nul(password) {
+        return Ok(None);
+    }
+    if !authzid.is_empty() && authzid != user {
+        return Ok(None);
+    }
+    Ok(Some(Login {
+        user: Octets::copy(alloc, user)?,
+        password: Octets::copy(alloc, password)?,
+    }))
+}
+
+// What stands before the first NUL, and what behind it.
+fn cut(text: &[u8]) -> Option<(&[u8], &[u8])>
+    ensures { cut_shown result ≡ cut_in text.now }
+{
+    let mut rest = text;
+    let mut count = 0;
+    while let Some((octet, more)) = rest.split_first() {
+        if *octet == b'\0' {
+            return Some((&text[..count], more));
+        }
+        count += 1;
+        rest = more;
+    }
+    None
+}
+
+// Whether a NUL stands in the text.
+fn has_nul(text: &[u8]) -> bool
+    ensures { result ≡ has_nul_in text.now }
+{
+    let mut rest = text;
+    while let Some((octet, more)) = rest.split_first() {
+        if *octet == b'\0' {
+            return true;
+        }
+        rest = more;
+    }
+    false
+}
