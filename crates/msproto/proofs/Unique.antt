@@ -1,5 +1,6 @@
 -- Each stream has one first item.
-use Rattle.std.proofs.Common.{◌≡◌, ℕ, ◌+◌, ◌<◌, ◌≤◌, ◌⊎◌, inl, inr, Bool, List, [], ◌∷◌, ◌++◌, length, take, Option, Some, None, refl, sym, ap, ◌∙◌, subst, arith, append_assoc}
+use Rattle.std.proofs.Common.{◌≡◌, ℕ, ◌+◌, ◌<◌, ◌≤◌, ◌⊎◌, inl, inr, Bool, List, [], ◌∷◌, ◌++◌, length, take, Option, Some, None, Result, Ok, Err, refl, sym, ap, ◌∙◌, subst, arith, append_assoc}
+use Rattle.std.specs.Prelude.{IfOk}
 use Rattle.std.proofs.lemmas.Bool.{cases_order}
 use Rattle.std.proofs.lemmas.List.{take-append-le}
 use Rattle.msproto.specs.declared.commands.Command.{Command}
@@ -105,3 +106,7 @@ item_stays_on pending (item.Command c n) stream more some h =
     (stays pending (reach.Command n) stream more (λ i. cc) h.0, rw same h.1)
 item_stays_on pending (item.Bad n) stream more some h = stays pending (reach.Bad n) stream more (λ i. cc) h
 item_stays_on pending item.TooBig stream more some h = stays pending reach.TooBig stream more (λ i. cc) h
+
+pub if_gives : {E : Type 0} (pending : Bool) (stream : List ℕ) (r : Result Item E) → IfOk r (λ i. i ≡ item_of pending stream) → IfOk r (λ i. Gives pending i stream)
+if_gives pending stream (Ok i) h = subst (λ (j : Item). Gives pending j stream) (sym h) (gives pending stream)
+if_gives pending stream (Err e) h = tt

@@ -65,10 +65,17 @@ pub fn extent(buffer: &[u8], pending: bool) -> Reach
 
 /// What comes first, with the value of a command. While a challenge is pending the item is one string.
 ///
-/// Reads the item's octets as `extent` does, and a command's once more for its value; takes memory for its strings alone.
+/// Reads the item's octets as `extent` does, and a command's once more for its value; takes memory for its strings
+/// alone, and lack of it is the only error.
 pub fn first(alloc: Global, buffer: &[u8], pending: bool) -> Result<Item, AllocError>
     ensures value { IfOk result (λ item. item ≡ item_of pending buffer.now) }
     ensures item { IfOk result (λ item. Gives pending item buffer.now) }
+{
+    read_first(alloc, buffer, pending)
+}
+
+fn read_first(alloc: Global, buffer: &[u8], pending: bool) -> Result<Item, AllocError>
+    ensures { IfOk result (λ item. item ≡ item_of pending buffer.now) }
 {
     Ok(match extent(buffer, pending) {
         Reach::Need => Item::Need,

@@ -4,9 +4,13 @@
 pub mod commands;
 pub mod items;
 mod reading;
+pub mod replies;
 mod scanner;
+pub mod spelling;
 mod state;
 mod verb;
 
 pub use commands::Command;
 pub use items::{Item, Reach, extent, first};
+pub use replies::{Code, Line, Lines, Reply, Word};
+pub use spelling::spell;
