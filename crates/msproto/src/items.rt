@@ -26,7 +26,7 @@ pub enum Item {
 }
 
 /// What comes first in the unread octets of a client, without the command's value.
-#[derive(Clone, Copy)]
+#[derive(Clone, Copy, Debug, PartialEq, Eq)]
 pub enum Reach {
     /// No whole item yet.
     Need,

@@ -14,3 +14,6 @@ pub use commands::Command;
 pub use items::{Item, Reach, extent, first};
 pub use replies::{Code, Line, Lines, Reply, Word};
 pub use spelling::spell;
+
+#[cfg(test)]
+mod tests;

@@ -4,8 +4,11 @@
 //! digest before it with the salt and the password.
 #![tactic(auto)]
 
-pub mod login;
+pub mod message;
 pub mod password;
 
-pub use login::{Login, plain};
+pub use message::{Login, plain};
 pub use password::{Record, accepts, digest};
+
+#[cfg(test)]
+mod tests;

@@ -1,5 +1,6 @@
 //! Passwords as they are kept.
-ghost use Rattle.std.specs.Prelude.{◌≡◌, ◌↔◌, IsTrue};
+ghost use Rattle.std.specs.Prelude.{◌≡◌, ◌↔◌, ◌++◌, IsTrue};
+ghost use Rattle.sha2.specs.Sha256.{sha256};
 ghost use Rattle.saslplain.specs.Password.{digest_of};
 
 use octets::Octets;

@@ -1,6 +1,7 @@
 //! What a client says by PLAIN.
 ghost use Rattle.std.specs.Prelude.{◌≡◌, ℕ, ◌≤◌, List, length, IfOk, MatchOption};
-ghost use Rattle.saslplain.specs.Login.{IsLogin, login_in, nul_at};
+ghost use Rattle.saslplain.specs.Login.{IsLogin};
+ghost use Rattle.saslplain.specs.Parts.{login_in, login_shown, cut_in, cut_shown, nul_place as place_of};
 
 use base64::DecodeAllocError;
 use base64::engine::general_purpose::STANDARD;
@@ -23,15 +24,15 @@ pub fn plain(alloc: Global, text: &[u8]) -> Result<Option<Login>, AllocError>
     ensures { IfOk result (λ found. MatchOption found ((user password : List ℕ) → IsLogin text.now user password → ⊥) (λ login. IsLogin text.now login.user login.password)) }
 {
     match STANDARD.decode(alloc, text) {
-        Ok(message) => login(alloc, message.as_slice()),
+        Ok(message) => read_login(alloc, message.as_slice()),
         Err(DecodeAllocError::OutOfMemory) => Err(AllocError),
         Err(DecodeAllocError::DecodeError(_)) => Ok(None),
     }
 }
 
 // The login of a message.
-fn login(alloc: Global, message: &[u8]) -> Result<Option<Login>, AllocError>
-    ensures { IfOk result (λ found. shown found ≡ login_in message.now) }
+fn read_login(alloc: Global, message: &[u8]) -> Result<Option<Login>, AllocError>
+    ensures { IfOk result (λ found. login_shown found ≡ login_in message.now) }
 {
     let Some((authzid, rest)) = cut(message) else {
         return Ok(None);
@@ -39,7 +40,7 @@ fn login(alloc: Global, message: &[u8]) -> Result<Option<Login>, AllocError>
     let Some((user, password)) = cut(rest) else {
         return Ok(None);
     };
-    if user.is_empty() || password.is_empty() || has_nul(password) {
+    if user.is_empty() || password.is_empty() || nul_place(password) < password.len() {
         return Ok(None);
     }
     if !authzid.is_empty() && authzid != user {
@@ -55,28 +56,26 @@ fn login(alloc: Global, message: &[u8]) -> Result<Option<Login>, AllocError>
 fn cut(text: &[u8]) -> Option<(&[u8], &[u8])>
     ensures { cut_shown result ≡ cut_in text.now }
 {
+    let place = nul_place(text);
+    if place == text.len() {
+        return None;
+    }
+    Some((&text[..place], &text[place + 1..]))
+}
+
+// How many octets stand before the first NUL.
+fn nul_place(text: &[u8]) -> usize
+    ensures value { result ≡ place_of text.now }
+    ensures within { result ≤ length text.now }
+{
     let mut rest = text;
     let mut count = 0;
     while let Some((octet, more)) = rest.split_first() {
         if *octet == b'\0' {
-            return Some((&text[..count], more));
+            break;
         }
         count += 1;
         rest = more;
     }
-    None
-}
-
-// Whether a NUL stands in the text.
-fn has_nul(text: &[u8]) -> bool
-    ensures { result ≡ has_nul_in text.now }
-{
-    let mut rest = text;
-    while let Some((octet, more)) = rest.split_first() {
-        if *octet == b'\0' {
-            return true;
-        }
-        rest = more;
-    }
-    false
+    count
 }
