@@ -75,30 +75,30 @@ brace_stays pending b x out e = record { front = b; outside = out; written = ap 
 
 first_stays : (pending : Bool) (b : List ℕ) (x : ℕ) → BehindBrace pending b → is_ascii_digit x ≡ true → BehindNumber pending (with_digit 0 x) [] (b ++ x ∷ [])
 first_stays pending b x h e = record {
-    front = h.front;
-    digits = x ∷ [];
-    outside = h.outside;
-    numeral = ((e, tt), (λ zero_is. refl), refl);
-    written = ap (λ (u : List ℕ). u ++ x ∷ []) h.written ∙ append_assoc h.front (123 ∷ []) (x ∷ [])
-  }
+  front = h.front;
+  digits = x ∷ [];
+  outside = h.outside;
+  numeral = ((e, tt), (λ zero_is. refl), refl);
+  written = ap (λ (u : List ℕ). u ++ x ∷ []) h.written ∙ append_assoc h.front (123 ∷ []) (x ∷ []);
+}
 
 digit_stays : (pending : Bool) (n : ℕ) (b : List ℕ) (x : ℕ) → BehindNumber pending n [] b → (n == 0) ≡ false → is_ascii_digit x ≡ true → BehindNumber pending (with_digit n x) [] (b ++ x ∷ [])
 digit_stays pending n b x h some e = record {
-    front = h.front;
-    digits = h.digits ++ x ∷ [];
-    outside = h.outside;
-    numeral = numeral_more n h.digits x h.numeral some e;
-    written = ap (λ (u : List ℕ). u ++ x ∷ []) (h.written ∙ ap (λ (u : List ℕ). h.front ++ 123 ∷ u) (append-nil h.digits)) ∙ append_assoc h.front (123 ∷ h.digits) (x ∷ []) ∙ ap (λ (u : List ℕ). h.front ++ 123 ∷ u) (sym (append-nil (h.digits ++ x ∷ [])))
-  }
+  front = h.front;
+  digits = h.digits ++ x ∷ [];
+  outside = h.outside;
+  numeral = numeral_more n h.digits x h.numeral some e;
+  written = ap (λ (u : List ℕ). u ++ x ∷ []) (h.written ∙ ap (λ (u : List ℕ). h.front ++ 123 ∷ u) (append-nil h.digits)) ∙ append_assoc h.front (123 ∷ h.digits) (x ∷ []) ∙ ap (λ (u : List ℕ). h.front ++ 123 ∷ u) (sym (append-nil (h.digits ++ x ∷ [])));
+}
 
 mark_stays : (pending : Bool) (n : ℕ) (tail b : List ℕ) (x y : ℕ) → BehindNumber pending n tail b → (x == y) ≡ true → BehindNumber pending n (tail ++ y ∷ []) (b ++ x ∷ [])
 mark_stays pending n tail b x y h e = record {
-    front = h.front;
-    digits = h.digits;
-    outside = h.outside;
-    numeral = h.numeral;
-    written = ap (λ (u : List ℕ). u ++ x ∷ []) h.written ∙ append_assoc h.front (123 ∷ (h.digits ++ tail)) (x ∷ []) ∙ ap (λ (u : List ℕ). h.front ++ 123 ∷ u) (append_assoc h.digits tail (x ∷ [])) ∙ ap (λ (z : ℕ). h.front ++ 123 ∷ (h.digits ++ (tail ++ z ∷ []))) (eqb-true x y e)
-  }
+  front = h.front;
+  digits = h.digits;
+  outside = h.outside;
+  numeral = h.numeral;
+  written = ap (λ (u : List ℕ). u ++ x ∷ []) h.written ∙ append_assoc h.front (123 ∷ (h.digits ++ tail)) (x ∷ []) ∙ ap (λ (u : List ℕ). h.front ++ 123 ∷ u) (append_assoc h.digits tail (x ∷ [])) ∙ ap (λ (z : ℕ). h.front ++ 123 ∷ (h.digits ++ (tail ++ z ∷ []))) (eqb-true x y e);
+}
 
 -- ---- each step
 
@@ -110,6 +110,7 @@ behind_leave pending t slots x = either pending t (x == 32) (after_space slots) 
     space MaybeText = tt
     space (ThenText more) = tt
     space ThenNumber = tt
+
     return : (slots : Slots) → IsBehind pending t (after_return slots)
     return LineEnd = tt
     return MaybeText = tt
@@ -126,25 +127,25 @@ behind_left pending t number slots = either pending t (number == 0) (Between slo
 behind_longer : (pending : Bool) (t : List ℕ) (to : ℕ → State) (number x : ℕ) → ((number == 0) ≡ false → IsBehind pending t (to (with_digit number x))) → IsBehind pending t (longer to number x)
 behind_longer pending t to number x f =
     either pending t (number == 0) Dead _ (λ e. tt)
-        (λ e. either pending t (nat_lt (with_digit number x) (2 ^ 32)) (to (with_digit number x)) Dead (λ lt. f e) (λ lt. tt))
+    (λ e. either pending t (nat_lt (with_digit number x) (2 ^ 32)) (to (with_digit number x)) Dead (λ lt. f e) (λ lt. tt))
 
 behind_step : (pending : Bool) (b : List ℕ) (s : State) (x : ℕ) → run (start pending) b ≡ s → IsBehind pending b s → IsBehind pending (b ++ x ∷ []) (step s x)
 behind_step pending b (Word p) x at h = either pending _ (begins_row rows (p ++ to_ascii_uppercase x ∷ [])) (Word (p ++ to_ascii_uppercase x ∷ [])) _ (λ e. tt) (λ e. behind_named pending _ (slots_in rows p) x)
 behind_step pending b (Between slots) x at h = behind_leave pending _ slots x
 behind_step pending b (Opening slots) x at h =
     either pending _ (x == 34) (Quoted 1024 slots) _ (λ e. tt)
-        (λ e. either pending _ (x == 123) (Brace slots) Dead (λ d. brace_stays pending b x (ap in_literal at) d) (λ d. tt))
+    (λ e. either pending _ (x == 123) (Brace slots) Dead (λ d. brace_stays pending b x (ap in_literal at) d) (λ d. tt))
 behind_step pending b (Quoted left slots) x at h =
     either pending _ (x == 34) (Between slots) _ (λ e. tt)
-        (λ e. either pending _ (x == 92) (cond (nat_lt 1 left) (Escaped (left - 2) slots) Dead) _
-            (λ d. either pending _ (nat_lt 1 left) (Escaped (left - 2) slots) Dead (λ c. tt) (λ c. tt))
-            (λ d. either pending _ (is_quotable x && nat_lt 0 left) (Quoted (left - 1) slots) Dead (λ c. tt) (λ c. tt)))
+    (λ e. either pending _ (x == 92) (cond (nat_lt 1 left) (Escaped (left - 2) slots) Dead) _
+    (λ d. either pending _ (nat_lt 1 left) (Escaped (left - 2) slots) Dead (λ c. tt) (λ c. tt))
+    (λ d. either pending _ (is_quotable x && nat_lt 0 left) (Quoted (left - 1) slots) Dead (λ c. tt) (λ c. tt)))
 behind_step pending b (Escaped left slots) x at h = either pending _ (x == 34 || x == 92) (Quoted left slots) Dead (λ e. tt) (λ e. tt)
 behind_step pending b (Brace slots) x at h = either pending _ (is_ascii_digit x) (Count (with_digit 0 x) slots) Dead (λ e. first_stays pending b x h e) (λ e. tt)
 behind_step pending b (Count number slots) x at h =
     either pending _ (x == 43) (Plus number slots) _ (λ e. mark_stays pending number [] b x 43 h e)
-        (λ e. either pending _ (is_ascii_digit x) (longer (λ n. Count n slots) number x) Dead
-            (λ d. behind_longer pending _ (λ n. Count n slots) number x (λ some. digit_stays pending number b x h some d)) (λ d. tt))
+    (λ e. either pending _ (is_ascii_digit x) (longer (λ n. Count n slots) number x) Dead
+    (λ d. behind_longer pending _ (λ n. Count n slots) number x (λ some. digit_stays pending number b x h some d)) (λ d. tt))
 behind_step pending b (Plus number slots) x at h = either pending _ (x == 125) (Closed number slots) Dead (λ e. mark_stays pending number (43 ∷ []) b x 125 h e) (λ e. tt)
 behind_step pending b (Closed number slots) x at h = either pending _ (x == 13) (Return number slots) Dead (λ e. mark_stays pending number (43 ∷ 125 ∷ []) b x 13 h e) (λ e. tt)
 behind_step pending b (Return number slots) x at h = either pending _ (x == 10) (literal_left number slots) Dead (λ e. behind_left pending _ number slots) (λ e. tt)
@@ -152,7 +153,7 @@ behind_step pending b (Body left slots) x at h = behind_left pending _ left slot
 behind_step pending b Number x at h = either pending _ (is_ascii_digit x) (Digits (with_digit 0 x)) Dead (λ e. tt) (λ e. tt)
 behind_step pending b (Digits number) x at h =
     either pending _ (x == 13) LineFeed _ (λ e. tt)
-        (λ e. either pending _ (is_ascii_digit x) (longer (λ n. Digits n) number x) Dead (λ d. behind_longer pending _ (λ n. Digits n) number x (λ some. tt)) (λ d. tt))
+    (λ e. either pending _ (is_ascii_digit x) (longer (λ n. Digits n) number x) Dead (λ d. behind_longer pending _ (λ n. Digits n) number x (λ some. tt)) (λ d. tt))
 behind_step pending b LineFeed x at h = either pending _ (x == 10) Whole Dead (λ e. tt) (λ e. tt)
 behind_step pending b Whole x at h = tt
 behind_step pending b Dead x at h = tt
@@ -161,7 +162,7 @@ behind_from : (pending : Bool) (b t : List ℕ) → IsBehind pending b (run (sta
 behind_from pending b [] h = subst (λ (u : List ℕ). IsBehind pending u (run (start pending) u)) (sym (append-nil b)) h
 behind_from pending b (x ∷ t) h =
     let once : IsBehind pending (b ++ x ∷ []) (run (start pending) (b ++ x ∷ [])) =
-        subst (λ (s : State). IsBehind pending (b ++ x ∷ []) s) (sym (after-push pending b x)) (behind_step pending b (run (start pending) b) x refl h) in
+    subst (λ (s : State). IsBehind pending (b ++ x ∷ []) s) (sym (after-push pending b x)) (behind_step pending b (run (start pending) b) x refl h) in
     subst (λ (u : List ℕ). IsBehind pending u (run (start pending) u)) (append_assoc b (x ∷ []) t) (behind_from pending (b ++ x ∷ []) t once)
 
 behind_start : (pending : Bool) → IsBehind pending [] (start pending)
@@ -194,7 +195,7 @@ large_head pending b x large feed =
     let found = large_is (run (start pending) b) large in
     let h : BehindNumber pending found.0 (43 ∷ 125 ∷ 13 ∷ []) b = subst (λ (s : State). IsBehind pending b s) found.2 (behind pending b) in
     let inside : in_literal (run (start pending) (b ++ x ∷ [])) ≡ true =
-        ap in_literal (after-push pending b x ∙ ap (λ (s : State). step s x) found.2) ∙ large_body found.0 found.1 x feed (omega (arith, found.3)) in
+    ap in_literal (after-push pending b x ∙ ap (λ (s : State). step s x) found.2) ∙ large_body found.0 found.1 x feed (omega (arith, found.3)) in
     record {
       front = h.front;
       digits = h.digits;
@@ -204,7 +205,7 @@ large_head pending b x large feed =
       fits = return_fits pending b found.0 found.1 found.2;
       outside = not_free pending h.front h.outside;
       opens = literal_free pending (b ++ x ∷ []) inside;
-      written = ap (λ (u : List ℕ). u ++ x ∷ []) h.written ∙ append_assoc h.front (123 ∷ (h.digits ++ 43 ∷ 125 ∷ 13 ∷ [])) (x ∷ []) ∙ ap (λ (u : List ℕ). h.front ++ 123 ∷ u) (append_assoc h.digits (43 ∷ 125 ∷ 13 ∷ []) (x ∷ [])) ∙ ap (λ (z : ℕ). h.front ++ 123 ∷ (h.digits ++ 43 ∷ 125 ∷ 13 ∷ z ∷ [])) feed
+      written = ap (λ (u : List ℕ). u ++ x ∷ []) h.written ∙ append_assoc h.front (123 ∷ (h.digits ++ 43 ∷ 125 ∷ 13 ∷ [])) (x ∷ []) ∙ ap (λ (u : List ℕ). h.front ++ 123 ∷ u) (append_assoc h.digits (43 ∷ 125 ∷ 13 ∷ []) (x ∷ [])) ∙ ap (λ (z : ℕ). h.front ++ 123 ∷ (h.digits ++ 43 ∷ 125 ∷ 13 ∷ z ∷ [])) feed;
     }
 
 -- ---- a brace between quotation marks begins no literal
@@ -267,14 +268,14 @@ brace_opens _ ds n out numeral lt inside = absurd (false≢true (sym (ap in_lite
 pub head_large : (pending : Bool) (b : List ℕ) (x : ℕ) → EndsInLargeHead pending (b ++ x ∷ []) → (is_large (run (start pending) b) ≡ true) × (x ≡ 10)
 head_large pending b x h =
     let all : b ++ x ∷ [] ≡ (h.front ++ 123 ∷ (h.digits ++ 43 ∷ 125 ∷ 13 ∷ [])) ++ 10 ∷ [] =
-        h.written ∙ ap (λ (u : List ℕ). h.front ++ 123 ∷ u) (sym (append_assoc h.digits (43 ∷ 125 ∷ 13 ∷ []) (10 ∷ []))) ∙ sym (append_assoc h.front (123 ∷ (h.digits ++ 43 ∷ 125 ∷ 13 ∷ [])) (10 ∷ [])) in
+    h.written ∙ ap (λ (u : List ℕ). h.front ++ 123 ∷ u) (sym (append_assoc h.digits (43 ∷ 125 ∷ 13 ∷ []) (10 ∷ []))) ∙ sym (append_assoc h.front (123 ∷ (h.digits ++ 43 ∷ 125 ∷ 13 ∷ [])) (10 ∷ [])) in
     let parts = same_from_push b (h.front ++ 123 ∷ (h.digits ++ 43 ∷ 125 ∷ 13 ∷ [])) x 10 all in
     let s0 = run (start pending) h.front in
     let out : in_literal s0 ≡ false = false_from_ne_true (in_literal s0) (λ e. h.outside (literal_free pending h.front e)) in
     let whole : run (start pending) (b ++ x ∷ []) ≡ run s0 (123 ∷ (h.digits ++ 43 ∷ 125 ∷ 13 ∷ 10 ∷ [])) =
-        ap (run (start pending)) h.written ∙ run-append (start pending) h.front (123 ∷ (h.digits ++ 43 ∷ 125 ∷ 13 ∷ 10 ∷ [])) in
+    ap (run (start pending)) h.written ∙ run-append (start pending) h.front (123 ∷ (h.digits ++ 43 ∷ 125 ∷ 13 ∷ 10 ∷ [])) in
     let found = brace_opens s0 h.digits h.size out h.numeral h.fits (sym (ap in_literal whole) ∙ free_literal pending (b ++ x ∷ []) h.opens) in
     let at : run (start pending) b ≡ Return h.size found.0 =
-        ap (run (start pending)) parts.0 ∙ run-append (start pending) h.front (123 ∷ (h.digits ++ 43 ∷ 125 ∷ 13 ∷ [])) ∙ found.1 in
+    ap (run (start pending)) parts.0 ∙ run-append (start pending) h.front (123 ∷ (h.digits ++ 43 ∷ 125 ∷ 13 ∷ [])) ∙ found.1 in
     let big : nat_lt 1048576 h.size ≡ true = lt-ltb 1048576 h.size h.large in
     (ap is_large at ∙ big, parts.1)

@@ -12,3 +12,4 @@ pub mod Turning
 pub mod Parsing
 pub mod Unique
 pub mod Quoting
+pub mod Examples

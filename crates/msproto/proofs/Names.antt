@@ -98,9 +98,12 @@ begins_slots [] p up e = absurd cc
 begins_slots (row ∷ rs) p up e =
     let ups = and_parts (all_upper row.0) (rows_upper rs) up in
     elim (or_cases (begins p row.0) (begins_row rs p) e) [
-      | inl h ↦ (let split = begins_split p row.0 h in
-          (split.0, row.1, slots_first row.0 (p ++ split.0) row.1 (slots_in rs (p ++ split.0)) split.1,
-            map_upper split.0 (all_upper-append p split.0 (rw (← split.1) ups.0))))
+      | inl h ↦ (let split = begins_split p row.0 h in (
+        split.0,
+        row.1,
+        slots_first row.0 (p ++ split.0) row.1 (slots_in rs (p ++ split.0)) split.1,
+        map_upper split.0 (all_upper-append p split.0 (rw (← split.1) ups.0)),
+      ))
       | inr h ↦ (let found = begins_slots rs p ups.1 h in
           let more = some_slots row.0 (p ++ found.0) row.1 (slots_in rs (p ++ found.0)) found.1 found.2 in
           (found.0, more.0, more.1, found.3))
@@ -262,16 +265,40 @@ of_space arguments (then_text v (then_figure n)) = (HaveSpace v n, refl)
 
 pub named_command : (w : List ℕ) (s : Slots) (arguments : List Argument) → slots_in rows w ≡ Some s → Fill s arguments → Has w arguments
 unfolding rows
-named_command = handled rows (of_authenticate,
-    (of_end _ Capability refl,
-    (of_text _ CheckScript (λ v. refl),
-    (of_text _ DeleteScript (λ v. refl),
-    (of_text _ GetScript (λ v. refl),
-    (of_space,
-    (of_end _ ListScripts refl,
-    (of_end _ Logout refl,
-    (of_noop,
-    (of_texts _ PutScript (λ v u. refl),
-    (of_texts _ RenameScript (λ v u. refl),
-    (of_text _ SetActive (λ v. refl),
-    (of_end _ Unauthenticate refl, tt)))))))))))))
+named_command = handled rows (
+  of_authenticate,
+  (
+    of_end _ Capability refl,
+    (
+      of_text _ CheckScript (λ v. refl),
+      (
+        of_text _ DeleteScript (λ v. refl),
+        (
+          of_text _ GetScript (λ v. refl),
+          (
+            of_space,
+            (
+              of_end _ ListScripts refl,
+              (
+                of_end _ Logout refl,
+                (
+                  of_noop,
+                  (
+                    of_texts _ PutScript (λ v u. refl),
+                    (
+                      of_texts _ RenameScript (λ v u. refl),
+                      (
+                        of_text _ SetActive (λ v. refl),
+                        (of_end _ Unauthenticate refl, tt),
+                      ),
+                    ),
+                  ),
+                ),
+              ),
+            ),
+          ),
+        ),
+      ),
+    ),
+  ),
+)

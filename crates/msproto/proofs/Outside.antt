@@ -27,7 +27,7 @@ literal_lives _ x e d = false≢true e
 pub literal_free : (pending : Bool) (text : List ℕ) → in_literal (run (start pending) text) ≡ true → IsInLiteral pending text
 literal_free pending text e x =
     live_viable pending (text ++ x ∷ [])
-        (λ dead. literal_lives (run (start pending) text) x e (sym (run-append (start pending) text (x ∷ [])) ∙ dead))
+    (λ dead. literal_lives (run (start pending) text) x e (sym (run-append (start pending) text (x ∷ [])) ∙ dead))
 
 -- a NUL kills each other state
 nul_named : (o : Option Slots) → leave_named o 0 ≡ Dead
@@ -55,7 +55,7 @@ nul_dies Dead e = refl
 pub not_free : (pending : Bool) (text : List ℕ) → in_literal (run (start pending) text) ≡ false → IsInLiteral pending text → ⊥
 not_free pending text e free =
     viable_live pending (text ++ 0 ∷ []) (free 0)
-        (run-append (start pending) text (0 ∷ []) ∙ nul_dies (run (start pending) text) e)
+    (run-append (start pending) text (0 ∷ []) ∙ nul_dies (run (start pending) text) e)
 
 pub free_literal : (pending : Bool) (text : List ℕ) → IsInLiteral pending text → in_literal (run (start pending) text) ≡ true
 free_literal pending text free =
@@ -90,7 +90,7 @@ counts pending [] front = refl
 counts pending (x ∷ rest) front =
     let s = run (start pending) front in
     counts_more pending front x rest (outside_from (step s x) rest) (in_literal s) refl
-        (subst (λ (u : State). Counts pending (front ++ x ∷ []) rest (outside_from u rest)) (after-push pending front x) (counts pending rest (front ++ x ∷ [])))
+    (subst (λ (u : State). Counts pending (front ++ x ∷ []) rest (outside_from u rest)) (after-push pending front x) (counts pending rest (front ++ x ∷ [])))
 
 weight_in : (s : State) → in_literal s ≡ true → weight s ≡ 0
 weight_in s e = rw e refl

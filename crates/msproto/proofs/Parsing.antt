@@ -136,7 +136,7 @@ formed_back : (pending : Bool) (form : Form) (c : Command) (text : List ℕ) →
 formed_back false (Named word arguments) c text e f back h =
     let named : slots_in rows (map to_ascii_uppercase h.name) ≡ Some f.0 = ap (slots_in rows) h.named ∙ f.1 in
     let stop : name_length (h.name ++ h.rest) ≡ length h.name =
-        name_back h.name h.rest (named_lacks_space (map to_ascii_uppercase h.name) f.0 named) (named_lacks_return (map to_ascii_uppercase h.name) f.0 named) (arguments_end arguments h.rest h.filled) in
+    name_back h.name h.rest (named_lacks_space (map to_ascii_uppercase h.name) f.0 named) (named_lacks_return (map to_ascii_uppercase h.name) f.0 named) (arguments_end arguments h.rest h.filled) in
     ap (command_in false) h.written
     ∙ ap (λ (n : ℕ). verb_command (verb_in verbs (map to_ascii_uppercase (take n (h.name ++ h.rest)))) (drop n (h.name ++ h.rest))) stop
     ∙ ap (λ (t : List ℕ). verb_command (verb_in verbs (map to_ascii_uppercase t)) (drop (length h.name) (h.name ++ h.rest))) (take_at h.name h.rest (length h.name) refl)

@@ -46,7 +46,7 @@ return_room ThenNumber = omega arith
 leave_room : (slots : Slots) (x : ℕ) → room (leave slots x) ≤ slots_room slots
 leave_room slots x =
     either (slots_room slots) (x == 32) (after_space slots) _ (λ e. space_room slots)
-        (λ e. either (slots_room slots) (x == 13) (after_return slots) Dead (λ d. return_room slots) (λ d. omega arith))
+    (λ e. either (slots_room slots) (x == 13) (after_return slots) Dead (λ d. return_room slots) (λ d. omega arith))
 
 named_room : (p : List ℕ) (o : Option Slots) (x : ℕ) → slots_in rows p ≡ o → room (leave_named o x) ≤ 2097152
 named_room p None x e = omega arith
@@ -57,12 +57,12 @@ named_room p (Some slots) x e = omega (arith, leave_room slots x, named_small p 
 left_room : (number : ℕ) (slots : Slots) → room (literal_left number slots) ≤ number + slots_room slots
 left_room number slots =
     either (number + slots_room slots) (number == 0) (Between slots) (Body (number - 1) slots) (λ e. omega arith)
-        (λ e. let some : number ≡ 0 → ⊥ = eqb-false number 0 e in omega (arith, some))
+    (λ e. let some : number ≡ 0 → ⊥ = eqb-false number 0 e in omega (arith, some))
 
 longer_room : (n : ℕ) (to : ℕ → State) (number x : ℕ) → ((m : ℕ) → room (to m) ≤ n) → room (longer to number x) ≤ n
 longer_room n to number x f =
     either n (number == 0) Dead _ (λ e. omega arith)
-        (λ e. either n (nat_lt (with_digit number x) (2 ^ 32)) (to (with_digit number x)) Dead (λ lt. f (with_digit number x)) (λ lt. omega arith))
+    (λ e. either n (nat_lt (with_digit number x) (2 ^ 32)) (to (with_digit number x)) Dead (λ lt. f (with_digit number x)) (λ lt. omega arith))
 
 not_large : (number x : ℕ) → (nat_lt 1048576 number && x == 10) ≡ false → (x == 10) ≡ true → number ≤ 1048576
 not_large number x e feed =
@@ -81,9 +81,9 @@ room-step (Opening slots) x e =
 room-step (Quoted left slots) x e =
     let n = slots_room slots in
     let below : room (step (Quoted left slots) x) ≤ n = either n (x == 34) (Between slots) _ (λ a. omega arith)
-        (λ a. either n (x == 92) (cond (nat_lt 1 left) (Escaped (left - 2) slots) Dead) _
-            (λ d. either n (nat_lt 1 left) (Escaped (left - 2) slots) Dead (λ c. omega arith) (λ c. omega arith))
-            (λ d. either n (is_quotable x && nat_lt 0 left) (Quoted (left - 1) slots) Dead (λ c. omega arith) (λ c. omega arith))) in
+    (λ a. either n (x == 92) (cond (nat_lt 1 left) (Escaped (left - 2) slots) Dead) _
+    (λ d. either n (nat_lt 1 left) (Escaped (left - 2) slots) Dead (λ c. omega arith) (λ c. omega arith))
+    (λ d. either n (is_quotable x && nat_lt 0 left) (Quoted (left - 1) slots) Dead (λ c. omega arith) (λ c. omega arith))) in
     omega (arith, below)
 room-step (Escaped left slots) x e =
     let below = either (slots_room slots) (x == 34 || x == 92) (Quoted left slots) Dead (λ a. omega arith) (λ a. omega arith) in
@@ -94,7 +94,7 @@ room-step (Brace slots) x e =
 room-step (Count number slots) x e =
     let n = 1048576 + slots_room slots in
     let below : room (step (Count number slots) x) ≤ n = either n (x == 43) (Plus number slots) _ (λ a. omega arith)
-        (λ a. either n (is_ascii_digit x) (longer (λ m. Count m slots) number x) Dead (λ d. longer_room n (λ m. Count m slots) number x (λ m. omega arith)) (λ d. omega arith)) in
+    (λ a. either n (is_ascii_digit x) (longer (λ m. Count m slots) number x) Dead (λ d. longer_room n (λ m. Count m slots) number x (λ m. omega arith)) (λ d. omega arith)) in
     omega (arith, below)
 room-step (Plus number slots) x e =
     let below = either (1048576 + slots_room slots) (x == 125) (Closed number slots) Dead (λ a. omega arith) (λ a. omega arith) in
@@ -112,7 +112,7 @@ room-step Number x e =
     omega (arith, below)
 room-step (Digits number) x e =
     let below : room (step (Digits number) x) ≤ 0 = either 0 (x == 13) LineFeed _ (λ a. omega arith)
-        (λ a. either 0 (is_ascii_digit x) (longer (λ m. Digits m) number x) Dead (λ d. longer_room 0 (λ m. Digits m) number x (λ m. omega arith)) (λ d. omega arith)) in
+    (λ a. either 0 (is_ascii_digit x) (longer (λ m. Digits m) number x) Dead (λ d. longer_room 0 (λ m. Digits m) number x (λ m. omega arith)) (λ d. omega arith)) in
     omega (arith, below)
 room-step LineFeed x e =
     let below = either 0 (x == 10) Whole Dead (λ a. omega arith) (λ a. omega arith) in

@@ -32,6 +32,7 @@ quoted-run (x ∷ v) left slots rest q short =
         let long : suc (suc (length (inside v))) ≤ left = rw e at short in
         let two : nat_lt 1 left ≡ true = lt-ltb 1 left (omega arith) in
         rw (e, two, e) (ih (omega arith))
+
     by_plain : (x == 34 || x == 92) ≡ false → (length (inside v) ≤ left - 1 → run (Quoted (left - 1) slots) (inside v ++ 34 ∷ rest) ≡ run (Between slots) rest) → run (Quoted left slots) (inside (x ∷ v) ++ 34 ∷ rest) ≡ run (Between slots) rest
     by_plain e ih =
         let long : suc (length (inside v)) ≤ left = rw e at short in

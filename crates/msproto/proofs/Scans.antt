@@ -100,25 +100,25 @@ pub record IsOpenLine (pending : Bool) (text : List ℕ) : Type 0 where
 
 open_more : (pending : Bool) (b : List ℕ) (x : ℕ) → IsOpenLine pending b → x ≢ 10 → IsOpenLine pending (b ++ x ∷ [])
 open_more pending b x h ne = record {
-    front = h.front;
-    octet = h.octet;
-    tail = h.tail ++ x ∷ [];
-    viable = h.viable;
-    fails = h.fails;
-    feedless = NoFeed-push (h.octet ∷ h.tail) x h.feedless ne;
-    written = ap (λ (u : List ℕ). u ++ x ∷ []) h.written ∙ append_assoc h.front (h.octet ∷ h.tail) (x ∷ [])
-  }
+  front = h.front;
+  octet = h.octet;
+  tail = h.tail ++ x ∷ [];
+  viable = h.viable;
+  fails = h.fails;
+  feedless = NoFeed-push (h.octet ∷ h.tail) x h.feedless ne;
+  written = ap (λ (u : List ℕ). u ++ x ∷ []) h.written ∙ append_assoc h.front (h.octet ∷ h.tail) (x ∷ []);
+}
 
 line_ends : (pending : Bool) (b : List ℕ) (x : ℕ) → IsOpenLine pending b → x ≡ 10 → IsBadLine pending (b ++ x ∷ [])
 line_ends pending b x h e = record {
-    front = h.front;
-    octet = h.octet;
-    tail = h.tail ++ x ∷ [];
-    viable = h.viable;
-    fails = h.fails;
-    line = ends_at_feed h.octet h.tail x h.feedless e;
-    written = ap (λ (u : List ℕ). u ++ x ∷ []) h.written ∙ append_assoc h.front (h.octet ∷ h.tail) (x ∷ [])
-  }
+  front = h.front;
+  octet = h.octet;
+  tail = h.tail ++ x ∷ [];
+  viable = h.viable;
+  fails = h.fails;
+  line = ends_at_feed h.octet h.tail x h.feedless e;
+  written = ap (λ (u : List ℕ). u ++ x ∷ []) h.written ∙ append_assoc h.front (h.octet ∷ h.tail) (x ∷ []);
+}
 
 -- ---- what stands for a text
 
@@ -194,14 +194,14 @@ module _ (pending : Bool) (s : State) (n k : ℕ) (b : List ℕ) (x : ℕ) (h : 
       elim (cases_Bool (is_dead s)) [
         | inl d ↦ open_more pending b x (h.open_line (dead_is s d)) ne
         | inr d ↦ record {
-            front = b;
-            octet = x;
-            tail = [];
-            viable = live_viable pending b (λ gone. both_ways (is_dead s) d (is_dead_of s (h.state_is ∙ gone)));
-            fails = λ v. viable_live pending (b ++ x ∷ []) v (next ∙ e);
-            feedless = (ne, tt);
-            written = refl
-          }
+          front = b;
+          octet = x;
+          tail = [];
+          viable = live_viable pending b (λ gone. both_ways (is_dead s) d (is_dead_of s (h.state_is ∙ gone)));
+          fails = λ v. viable_live pending (b ++ x ∷ []) v (next ∙ e);
+          feedless = (ne, tt);
+          written = refl;
+        }
       ]
 
   bad_line : (is_dead (step s x) && x == 10) ≡ true → IsBadLine pending (b ++ x ∷ [])
@@ -211,21 +211,21 @@ module _ (pending : Bool) (s : State) (n k : ℕ) (b : List ℕ) (x : ℕ) (h : 
       elim (cases_Bool (is_dead s)) [
         | inl d ↦ line_ends pending b x (h.open_line (dead_is s d)) feed
         | inr d ↦ record {
-            front = b;
-            octet = x;
-            tail = [];
-            viable = live_viable pending b (λ gone. both_ways (is_dead s) d (is_dead_of s (h.state_is ∙ gone)));
-            fails = λ v. viable_live pending (b ++ x ∷ []) v (next ∙ dead_is (step s x) parts.0);
-            line = feed;
-            written = refl
-          }
+          front = b;
+          octet = x;
+          tail = [];
+          viable = live_viable pending b (λ gone. both_ways (is_dead s) d (is_dead_of s (h.state_is ∙ gone)));
+          fails = λ v. viable_live pending (b ++ x ∷ []) v (next ∙ dead_is (step s x) parts.0);
+          line = feed;
+          written = refl;
+        }
       ]
 
   no_line : (is_dead (step s x) && x == 10) ≡ false → IsBadLine pending (b ++ x ∷ []) → ⊥
   no_line e l =
       let gone : run (start pending) (l.front ++ l.octet ∷ []) ≡ Dead = not_viable_dead pending (l.front ++ l.octet ∷ []) l.fails in
       let dead : run (start pending) (b ++ x ∷ []) ≡ Dead =
-          ap (run (start pending)) (l.written ∙ sym (append_assoc l.front (l.octet ∷ []) l.tail)) ∙ run-append (start pending) (l.front ++ l.octet ∷ []) l.tail ∙ ap (λ (u : State). run u l.tail) gone ∙ run_dead l.tail in
+      ap (run (start pending)) (l.written ∙ sym (append_assoc l.front (l.octet ∷ []) l.tail)) ∙ run-append (start pending) (l.front ++ l.octet ∷ []) l.tail ∙ ap (λ (u : State). run u l.tail) gone ∙ run_dead l.tail in
       let feed : x ≡ 10 = line_last l.front l.octet l.tail b x l.written l.line in
       both_ways (is_dead (step s x) && x == 10) e (and_from (is_dead (step s x)) (x == 10) (is_dead_of (step s x) (sym next ∙ dead)) (eq-eqb x 10 feed))
 
@@ -243,13 +243,13 @@ module _ (pending : Bool) (s : State) (n k : ℕ) (b : List ℕ) (x : ℕ) (h : 
 
   quiet : (nat_lt 8192 (n + weight s) || (is_large s && x == 10)) ≡ false → is_whole (step s x) ≡ false → (is_dead (step s x) && x == 10) ≡ false → Stands pending (step s x) (n + weight s) (k + 1) (b ++ x ∷ [])
   quiet big whole line = record {
-      state_is = sym next;
-      outside_is = sym count;
-      used_is = used_more;
-      low = ltb-false 8192 (n + weight s) (or_parts (nat_lt 8192 (n + weight s)) (is_large s && x == 10) big).0;
-      none = none_more pending b x h.none no_item;
-      open_line = λ d. dead_line d (λ feed. both_ways (is_dead (step s x) && x == 10) line (and_from (is_dead (step s x)) (x == 10) (is_dead_of (step s x) d) (eq-eqb x 10 feed)))
-    }
+    state_is = sym next;
+    outside_is = sym count;
+    used_is = used_more;
+    low = ltb-false 8192 (n + weight s) (or_parts (nat_lt 8192 (n + weight s)) (is_large s && x == 10) big).0;
+    none = none_more pending b x h.none no_item;
+    open_line = λ d. dead_line d (λ feed. both_ways (is_dead (step s x) && x == 10) line (and_from (is_dead (step s x)) (x == 10) (is_dead_of (step s x) d) (eq-eqb x 10 feed)));
+  }
     where
       no_item : IsItem pending (b ++ x ∷ []) → ⊥
       no_item (inl c) = no_command whole c
@@ -263,12 +263,12 @@ pick pending t false u v f g = g refl
 pub turned_holds : (pending : Bool) (sc : Scanned) (b : List ℕ) (x : ℕ) → Holds pending sc b → Holds pending (turned sc x) (b ++ x ∷ [])
 turned_holds pending (Open s n k) b x h =
     pick pending (b ++ x ∷ []) (nat_lt 8192 (n + weight s) || (is_large s && x == 10)) (Found TooBig) _
-        (λ e. ((length b + 1, omega (arith, length_push b x), before pending s n k b x h, rw (whole_text b x) (too_big pending s n k b x h e)), (λ i. cc)))
-        (λ big. pick pending (b ++ x ∷ []) (is_whole (step s x)) (Found (Command (k + 1))) _
-            (λ e. ((fits pending s n k b x h, before_used pending s n k b x h, rw (here pending s n k b x h) (command_ends pending s n k b x h e), rw (here pending s n k b x h) (not_big pending s n k b x h big)), (λ i. cc)))
-            (λ whole. pick pending (b ++ x ∷ []) (is_dead (step s x) && x == 10) (Found (Bad (k + 1))) (Open (step s x) (n + weight s) (k + 1))
-                (λ e. ((fits pending s n k b x h, before_used pending s n k b x h, rw (here pending s n k b x h) (bad_line pending s n k b x h e), rw (here pending s n k b x h) (not_big pending s n k b x h big)), (λ i. cc)))
-                (λ line. quiet pending s n k b x h big whole line)))
+    (λ e. ((length b + 1, omega (arith, length_push b x), before pending s n k b x h, rw (whole_text b x) (too_big pending s n k b x h e)), (λ i. cc)))
+    (λ big. pick pending (b ++ x ∷ []) (is_whole (step s x)) (Found (Command (k + 1))) _
+    (λ e. ((fits pending s n k b x h, before_used pending s n k b x h, rw (here pending s n k b x h) (command_ends pending s n k b x h e), rw (here pending s n k b x h) (not_big pending s n k b x h big)), (λ i. cc)))
+    (λ whole. pick pending (b ++ x ∷ []) (is_dead (step s x) && x == 10) (Found (Bad (k + 1))) (Open (step s x) (n + weight s) (k + 1))
+    (λ e. ((fits pending s n k b x h, before_used pending s n k b x h, rw (here pending s n k b x h) (bad_line pending s n k b x h e), rw (here pending s n k b x h) (not_big pending s n k b x h big)), (λ i. cc)))
+    (λ line. quiet pending s n k b x h big whole line)))
 turned_holds pending (Found r) b x h = (stays pending r b (x ∷ []) h.1 h.0, h.1)
 
 -- ---- the empty text
@@ -293,13 +293,13 @@ no_item_empty pending (inr (inr (inr g))) = omega (arith, g.1, g.2)
 
 pub fresh_holds : (pending : Bool) → Holds pending (fresh pending) []
 fresh_holds pending = record {
-    state_is = refl;
-    outside_is = sym (outside_from_nothing (start pending));
-    used_is = refl;
-    low = omega arith;
-    none = λ k lt item. no_item_empty pending (subst (λ (t : List ℕ). IsItem pending t) (take_all k [] (omega arith)) item);
-    open_line = λ e. absurd (alive pending e)
-  }
+  state_is = refl;
+  outside_is = sym (outside_from_nothing (start pending));
+  used_is = refl;
+  low = omega arith;
+  none = λ k lt item. no_item_empty pending (subst (λ (t : List ℕ). IsItem pending t) (take_all k [] (omega arith)) item);
+  open_line = λ e. absurd (alive pending e);
+}
   where
     alive : (p : Bool) → start p ≡ Dead → ⊥
     alive false e = cc

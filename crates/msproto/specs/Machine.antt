@@ -177,18 +177,18 @@ literal_left left slots = cond (left == 0) (Between slots) (Body (left - 1) slot
 abbrev pub step : State → ℕ → State
 step (Word letters) octet =
     cond (begins_row rows (letters ++ to_ascii_uppercase octet ∷ [])) (Word (letters ++ to_ascii_uppercase octet ∷ []))
-        (leave_named (slots_in rows letters) octet)
+    (leave_named (slots_in rows letters) octet)
 step (Between slots) octet = leave slots octet
 step (Opening slots) octet = cond (octet == 34) (Quoted 1024 slots) (cond (octet == 123) (Brace slots) Dead)
 step (Quoted left slots) octet =
     cond (octet == 34) (Between slots)
-        (cond (octet == 92) (cond (nat_lt 1 left) (Escaped (left - 2) slots) Dead)
-            (cond (is_quotable octet && nat_lt 0 left) (Quoted (left - 1) slots) Dead))
+    (cond (octet == 92) (cond (nat_lt 1 left) (Escaped (left - 2) slots) Dead)
+    (cond (is_quotable octet && nat_lt 0 left) (Quoted (left - 1) slots) Dead))
 step (Escaped left slots) octet = cond (octet == 34 || octet == 92) (Quoted left slots) Dead
 step (Brace slots) octet = cond (is_ascii_digit octet) (Count (with_digit 0 octet) slots) Dead
 step (Count number slots) octet =
     cond (octet == 43) (Plus number slots)
-        (cond (is_ascii_digit octet) (longer (λ n. Count n slots) number octet) Dead)
+    (cond (is_ascii_digit octet) (longer (λ n. Count n slots) number octet) Dead)
 step (Plus number slots) octet = cond (octet == 125) (Closed number slots) Dead
 step (Closed number slots) octet = cond (octet == 13) (Return number slots) Dead
 step (Return number slots) octet = cond (octet == 10) (literal_left number slots) Dead

@@ -13,9 +13,9 @@ pub data Scanned : Type 0 where
 abbrev pub turned : Scanned → ℕ → Scanned
 turned (Open state outside used) octet =
     cond (nat_lt 8192 (outside + weight state) || (is_large state && octet == 10)) (Found TooBig)
-        (cond (is_whole (step state octet)) (Found (Command (used + 1)))
-            (cond (is_dead (step state octet) && octet == 10) (Found (Bad (used + 1)))
-                (Open (step state octet) (outside + weight state) (used + 1))))
+    (cond (is_whole (step state octet)) (Found (Command (used + 1)))
+    (cond (is_dead (step state octet) && octet == 10) (Found (Bad (used + 1)))
+    (Open (step state octet) (outside + weight state) (used + 1))))
 turned (Found reach) octet = Found reach
 
 -- before the first octet

@@ -54,8 +54,8 @@ first_digit octet = cond (is_ascii_digit octet) (Some (with_digit 0 octet)) None
 abbrev pub next_digit : ℕ → ℕ → Option ℕ
 next_digit number octet =
     cond (is_ascii_digit octet)
-        (cond (number == 0) None (cond (nat_lt (with_digit number octet) (2 ^ 32)) (Some (with_digit number octet)) None))
-        None
+    (cond (number == 0) None (cond (nat_lt (with_digit number octet) (2 ^ 32)) (Some (with_digit number octet)) None))
+    None
 
 -- ---- a scan
 
@@ -70,5 +70,5 @@ scan_shown state outside used reach.TooBig = Found reach.TooBig
 abbrev pub ending : machine.State → ℕ → ℕ → ℕ → Reach
 ending state outside used octet =
     cond (nat_lt 8192 outside || (machine.is_large state && octet == 10)) reach.TooBig
-        (cond (machine.is_whole (machine.step state octet)) (reach.Command used)
-            (cond (machine.is_dead (machine.step state octet) && octet == 10) (reach.Bad used) reach.Need))
+    (cond (machine.is_whole (machine.step state octet)) (reach.Command used)
+    (cond (machine.is_dead (machine.step state octet) && octet == 10) (reach.Bad used) reach.Need))

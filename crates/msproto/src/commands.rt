@@ -20,9 +20,15 @@ pub enum Command {
     /// Leaves the login (section 2.14).
     Unauthenticate,
     /// Asks whether a script of so many octets would be taken (section 2.5).
-    HaveSpace { name: Octets, size: u32 },
+    HaveSpace {
+        name: Octets,
+        size: u32,
+    },
     /// Stores a script (section 2.6).
-    PutScript { name: Octets, script: Octets },
+    PutScript {
+        name: Octets,
+        script: Octets,
+    },
     /// Checks a script and stores nothing (section 2.12).
     CheckScript(Octets),
     /// Lists the scripts (section 2.7).
@@ -34,7 +40,10 @@ pub enum Command {
     /// Deletes a script (section 2.10).
     DeleteScript(Octets),
     /// Gives a script another name (section 2.11.1).
-    RenameScript { old: Octets, new: Octets },
+    RenameScript {
+        old: Octets,
+        new: Octets,
+    },
     /// The string alone that answers a challenge, while one is pending (section 2.1).
     Response(Octets),
 }

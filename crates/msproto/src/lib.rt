@@ -6,7 +6,7 @@ pub mod items;
 mod reading;
 pub mod replies;
 mod scanner;
-pub mod spelling;
+mod spelling;
 mod state;
 mod verb;
 

@@ -48,7 +48,12 @@ fn of_verb(alloc: Global, verb: Verb, rest: &[u8]) -> Result<Option<Command>, Al
 }
 
 // The command of a verb, its first text, and what stands behind that.
-fn with_text(alloc: Global, verb: Verb, first: Octets, more: &[u8]) -> Result<Option<Command>, AllocError>
+fn with_text(
+    alloc: Global,
+    verb: Verb,
+    first: Octets,
+    more: &[u8],
+) -> Result<Option<Command>, AllocError>
     ensures { IfOk result (λ command. command ≡ v.command_with verb first more.now) }
 {
     Ok(Some(match verb {

@@ -176,7 +176,11 @@ fn fits_quotes(text: &[u8]) -> bool
         if *octet == b'\0' || *octet == b'\n' || *octet == b'\r' {
             return false;
         }
-        count += if *octet == b'"' || *octet == b'\\' { 2 } else { 1 };
+        count += if *octet == b'"' || *octet == b'\\' {
+            2
+        } else {
+            1
+        };
         if count > LONGEST_QUOTED {
             return false;
         }

@@ -26,13 +26,21 @@ const STREAMS: [(&[u8], bool, Reach); 44] = [
     (b"SETACTIVE \"main\"\r\n", false, Reach::Command(18)),
     (b"SETACTIVE \"\"\r\n", false, Reach::Command(14)),
     (b"GETSCRIPT \"main\"\r\n", false, Reach::Command(18)),
-    (b"DELETESCRIPT \"a\\\"b\\\\\"\r\n", false, Reach::Command(23)),
+    (
+        b"DELETESCRIPT \"a\\\"b\\\\\"\r\n",
+        false,
+        Reach::Command(23),
+    ),
     (b"RENAMESCRIPT \"a\" \"b\"\r\n", false, Reach::Command(22)),
     (b"HAVESPACE \"a\" 65537\r\n", false, Reach::Command(21)),
     (b"HAVESPACE \"a\" 0\r\n", false, Reach::Command(17)),
     (b"HAVESPACE \"a\" 4294967295\r\n", false, Reach::Command(26)),
     (b"CHECKSCRIPT {5+}\r\nkeep;\r\n", false, Reach::Command(25)),
-    (b"CHECKSCRIPT {3+}\r\n\x00\r\n\r\n", false, Reach::Command(23)),
+    (
+        b"CHECKSCRIPT {3+}\r\n\x00\r\n\r\n",
+        false,
+        Reach::Command(23),
+    ),
     (b"PUTSCRIPT \"e\" {0+}\r\n\r\n", false, Reach::Command(22)),
     (b"NOOP \"t\"\r\n", false, Reach::Command(10)),
     // Bad lines end at the first LF at or behind the first octet with which no command goes on.
@@ -72,7 +80,11 @@ fn finds_the_first_item_at_its_last_octet_wherever_the_stream_is_cut(rt: HostRun
         };
         for cut in 0..=stream.len() {
             let expected = if cut < used { Reach::Need } else { reach };
-            assert_eq!(rt; extent(&stream[..cut], pending), expected, "in {stream:?} at {cut}");
+            assert_eq!(rt;
+                extent(&stream[..cut], pending),
+                expected,
+                "in {stream:?} at {cut}"
+            );
         }
     }
 }
@@ -104,7 +116,12 @@ fn keeps_to_its_limits(rt: HostRuntime) -> Result<(), Fail> {
         // The octet behind a backslash counts too.
         (b"GETSCRIPT \"", 1022, b"\\\\\"\r\n", Reach::Command(1038)),
         (b"GETSCRIPT \"", 1023, b"\\\n", Reach::Bad(1036)),
-        (b"CHECKSCRIPT {1048576+}\r\n", 1_048_576, b"\r\n", Reach::Command(1_048_602)),
+        (
+            b"CHECKSCRIPT {1048576+}\r\n",
+            1_048_576,
+            b"\r\n",
+            Reach::Command(1_048_602),
+        ),
         (b"CHECKSCRIPT {1048576+}\r\n", 1_048_575, b"", Reach::Need),
     ];
     for (front, count, back, reach) in cases {
@@ -225,12 +242,28 @@ fn gives_the_commands_of_a_session(rt: HostRuntime) -> Result<(), Fail> {
             false,
             b"space|a|65537;space|b|0;delete|c;rename|a|d;",
         ),
-        (b"authenticate {5+}\r\nplain\r\nUnAuthenticate\r\n", false, b"authenticate|plain;unauthenticate;"),
-        (b"NOOP \"a\\\\b\\\"c\"\r\nCapability\r\n", false, b"noop|a\\b\"c;capability;"),
+        (
+            b"authenticate {5+}\r\nplain\r\nUnAuthenticate\r\n",
+            false,
+            b"authenticate|plain;unauthenticate;",
+        ),
+        (
+            b"NOOP \"a\\\\b\\\"c\"\r\nCapability\r\n",
+            false,
+            b"noop|a\\b\"c;capability;",
+        ),
         (b"NOOP {1}\r\na\r\n", false, b"bad;bad;"),
         (b"PUTSCRIPT \"a\" {03+}\r\nabc\r\n", false, b"bad;bad;"),
-        (b"\"*\"\r\n{2+}\r\n\"\"\r\n", true, b"response|*;response|\"\";"),
-        (b"NOOP\r\nPUTSCRIPT \"a\" {1048577+}\r\nNOOP\r\n", false, b"noop;too big;"),
+        (
+            b"\"*\"\r\n{2+}\r\n\"\"\r\n",
+            true,
+            b"response|*;response|\"\";",
+        ),
+        (
+            b"NOOP\r\nPUTSCRIPT \"a\" {1048577+}\r\nNOOP\r\n",
+            false,
+            b"noop;too big;",
+        ),
     ];
     for (stream, pending, expected) in cases {
         let items = told(rt.alloc(), stream, pending)?;
@@ -258,17 +291,85 @@ fn spells_last_lines(rt: HostRuntime) -> Result<(), Fail> {
     let tag = Octets::copy(alloc, b"t")?;
     let cases = [
         (reply(alloc, Word::Ok, None, None), b"OK\r\n".as_slice()),
-        (reply(alloc, Word::Ok, None, text(alloc, b"Done.")?), b"OK \"Done.\"\r\n"),
-        (reply(alloc, Word::Ok, Some(Code::Tag(tag)), text(alloc, b"Done.")?), b"OK (TAG \"t\") \"Done.\"\r\n"),
-        (reply(alloc, Word::No, Some(Code::MaxSize), text(alloc, b"Script too large.")?), b"NO (QUOTA/MAXSIZE) \"Script too large.\"\r\n"),
-        (reply(alloc, Word::No, Some(Code::MaxScripts), text(alloc, b"Too many scripts.")?), b"NO (QUOTA/MAXSCRIPTS) \"Too many scripts.\"\r\n"),
-        (reply(alloc, Word::No, Some(Code::NonExistent), text(alloc, b"No such script.")?), b"NO (NONEXISTENT) \"No such script.\"\r\n"),
-        (reply(alloc, Word::No, Some(Code::Active), text(alloc, b"Script is active.")?), b"NO (ACTIVE) \"Script is active.\"\r\n"),
-        (reply(alloc, Word::No, Some(Code::AlreadyExists), text(alloc, b"Name is taken.")?), b"NO (ALREADYEXISTS) \"Name is taken.\"\r\n"),
-        (reply(alloc, Word::No, Some(Code::TryLater), text(alloc, b"Try later.")?), b"NO (TRYLATER) \"Try later.\"\r\n"),
-        (reply(alloc, Word::Bye, None, text(alloc, b"Too big.")?), b"BYE \"Too big.\"\r\n"),
-        (reply(alloc, Word::No, None, text(alloc, b"a\\\"\r\n")?), b"NO {5}\r\na\\\"\r\n\r\n"),
-        (reply(alloc, Word::No, None, text(alloc, b"a\\\"")?), b"NO \"a\\\\\\\"\"\r\n"),
+        (
+            reply(alloc, Word::Ok, None, text(alloc, b"Done.")?),
+            b"OK \"Done.\"\r\n",
+        ),
+        (
+            reply(
+                alloc,
+                Word::Ok,
+                Some(Code::Tag(tag)),
+                text(alloc, b"Done.")?,
+            ),
+            b"OK (TAG \"t\") \"Done.\"\r\n",
+        ),
+        (
+            reply(
+                alloc,
+                Word::No,
+                Some(Code::MaxSize),
+                text(alloc, b"Script too large.")?,
+            ),
+            b"NO (QUOTA/MAXSIZE) \"Script too large.\"\r\n",
+        ),
+        (
+            reply(
+                alloc,
+                Word::No,
+                Some(Code::MaxScripts),
+                text(alloc, b"Too many scripts.")?,
+            ),
+            b"NO (QUOTA/MAXSCRIPTS) \"Too many scripts.\"\r\n",
+        ),
+        (
+            reply(
+                alloc,
+                Word::No,
+                Some(Code::NonExistent),
+                text(alloc, b"No such script.")?,
+            ),
+            b"NO (NONEXISTENT) \"No such script.\"\r\n",
+        ),
+        (
+            reply(
+                alloc,
+                Word::No,
+                Some(Code::Active),
+                text(alloc, b"Script is active.")?,
+            ),
+            b"NO (ACTIVE) \"Script is active.\"\r\n",
+        ),
+        (
+            reply(
+                alloc,
+                Word::No,
+                Some(Code::AlreadyExists),
+                text(alloc, b"Name is taken.")?,
+            ),
+            b"NO (ALREADYEXISTS) \"Name is taken.\"\r\n",
+        ),
+        (
+            reply(
+                alloc,
+                Word::No,
+                Some(Code::TryLater),
+                text(alloc, b"Try later.")?,
+            ),
+            b"NO (TRYLATER) \"Try later.\"\r\n",
+        ),
+        (
+            reply(alloc, Word::Bye, None, text(alloc, b"Too big.")?),
+            b"BYE \"Too big.\"\r\n",
+        ),
+        (
+            reply(alloc, Word::No, None, text(alloc, b"a\\\"\r\n")?),
+            b"NO {5}\r\na\\\"\r\n\r\n",
+        ),
+        (
+            reply(alloc, Word::No, None, text(alloc, b"a\\\"")?),
+            b"NO \"a\\\\\\\"\"\r\n",
+        ),
     ];
     for (reply, expected) in cases {
         let mut out = Octets::copy(alloc, b"before ")?;
@@ -308,14 +409,22 @@ fn spells_the_lines_before_the_last(rt: HostRuntime) -> Result<(), Fail> {
     };
     let mut out = Octets::new(alloc);
     spell(alloc, &whole, &mut out)?;
-    assert_eq!(rt; out.as_slice(), b"\"IMPLEMENTATION\" \"sieved 1\"\r\n\"UNAUTHENTICATE\"\r\n\"main\" ACTIVE\r\n{2}\r\na\x00\r\n{8}\r\ndiscard;\r\n\"\"\r\n".as_slice());
+    assert_eq!(rt;
+        out.as_slice(),
+        b"\"IMPLEMENTATION\" \"sieved 1\"\r\n\"UNAUTHENTICATE\"\r\n\"main\" ACTIVE\r\n{2}\r\na\x00\r\n{8}\r\ndiscard;\r\n\"\"\r\n".as_slice()
+    );
     Ok(())
 }
 
 #[test]
 fn quotes_what_has_1024_octets_between_its_marks_and_no_more(rt: HostRuntime) -> Result<(), Fail> {
     let alloc = rt.alloc();
-    for (count, mark, front) in [(1024, b'a', b"NO \"".as_slice()), (1025, b'a', b"NO {"), (512, b'"', b"NO \""), (513, b'"', b"NO {")] {
+    for (count, mark, front) in [
+        (1024, b'a', b"NO \"".as_slice()),
+        (1025, b'a', b"NO {"),
+        (512, b'"', b"NO \""),
+        (513, b'"', b"NO {"),
+    ] {
         let value = Octets::from_vec(vec![in alloc; mark; count]?);
         let mut out = Octets::new(alloc);
         spell(alloc, &reply(alloc, Word::No, None, Some(value)), &mut out)?;

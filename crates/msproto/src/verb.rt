@@ -85,8 +85,10 @@ impl Verb {
     {
         match self {
             Verb::Authenticate => Slots::TextMaybeText,
-            Verb::Capability | Verb::ListScripts | Verb::Logout | Verb::Unauthenticate => Slots::LineEnd,
-            Verb::CheckScript | Verb::DeleteScript | Verb::GetScript | Verb::SetActive => Slots::Text,
+            Verb::Capability | Verb::ListScripts | Verb::Logout | Verb::Unauthenticate =>
+                Slots::LineEnd,
+            Verb::CheckScript | Verb::DeleteScript | Verb::GetScript | Verb::SetActive =>
+                Slots::Text,
             Verb::HaveSpace => Slots::TextNumber,
             Verb::Noop => Slots::MaybeText,
             Verb::PutScript | Verb::RenameScript => Slots::TwoTexts,

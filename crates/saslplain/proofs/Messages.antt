@@ -57,7 +57,7 @@ cut_at a b h =
     let more : (length a == length (a ++ 0 ∷ b)) ≡ false = ne_eqb _ _ (λ e. absurd (omega (arith, e, length-append a (0 ∷ b)))) in
     let next : length a + 1 ≡ length (a ++ 0 ∷ []) = sym (length-append a (0 ∷ [])) in
     let behind : drop (length a + 1) (a ++ 0 ∷ b) ≡ b =
-        ap (λ (n : ℕ). drop n (a ++ 0 ∷ b)) next ∙ ap (drop (length (a ++ 0 ∷ []))) (sym (append_assoc a (0 ∷ []) b)) ∙ drop_at (a ++ 0 ∷ []) b (length (a ++ 0 ∷ [])) refl in
+    ap (λ (n : ℕ). drop n (a ++ 0 ∷ b)) next ∙ ap (drop (length (a ++ 0 ∷ []))) (sym (append_assoc a (0 ∷ []) b)) ∙ drop_at (a ++ 0 ∷ []) b (length (a ++ 0 ∷ [])) refl in
     rw (place, more, take_at a (0 ∷ b) (length a) refl, behind) refl
 
 record IsCut (text first rest : List ℕ) : Type 0 where
@@ -76,7 +76,7 @@ is_cut t a b e = go (nul_place t == length t) refl e
         let same : suc (nul_place t) ≡ nul_place t + 1 = omega arith in
         record {
           without = subst NoNul first (none_before t);
-          written = split_at_nul t lt ∙ ap (λ (u : List ℕ). u ++ 0 ∷ drop (suc (nul_place t)) t) first ∙ ap (λ (n : ℕ). a ++ 0 ∷ drop n t) same ∙ ap (λ (u : List ℕ). a ++ 0 ∷ u) rest
+          written = split_at_nul t lt ∙ ap (λ (u : List ℕ). u ++ 0 ∷ drop (suc (nul_place t)) t) first ∙ ap (λ (n : ℕ). a ++ 0 ∷ drop n t) same ∙ ap (λ (u : List ℕ). a ++ 0 ∷ u) rest;
         }
 
 -- ---- checks
@@ -106,14 +106,14 @@ said message user password h =
     let first : cut_in message ≡ Some (h.authzid, user ++ 0 ∷ password) = ap cut_in h.written ∙ cut_at h.authzid (user ++ 0 ∷ password) free in
     let second : cut_in (user ++ 0 ∷ password) ≡ Some (user, password) = cut_at user password h.user_without in
     let bad : (length user == 0 || length password == 0 || nat_lt (nul_place password) (length password)) ≡ false =
-        or_from (length user == 0 || length password == 0) (nat_lt (nul_place password) (length password))
-            (or_from (length user == 0) (length password == 0) (has_octets user h.user_is_some) (has_octets password h.password_is_some))
-            (le-ltb (nul_place password) (length password) (omega (arith, place_none password h.password_without))) in
+    or_from (length user == 0 || length password == 0) (nat_lt (nul_place password) (length password))
+    (or_from (length user == 0) (length password == 0) (has_octets user h.user_is_some) (has_octets password h.password_is_some))
+    (le-ltb (nul_place password) (length password) (omega (arith, place_none password h.password_without))) in
     let other : (not (length h.authzid == 0) && not (pointwise nat_eq h.authzid user)) ≡ false =
-        elim h.same [
-          | inl e ↦ rw e refl
-          | inr e ↦ rw (e, text-self user) (and_right (not (length user == 0)) false refl)
-        ] in
+    elim h.same [
+      | inl e ↦ rw e refl
+      | inr e ↦ rw (e, text-self user) (and_right (not (length user == 0)) false refl)
+    ] in
     ap cut_twice first ∙ ap (checked h.authzid) second ∙ rw (bad, other) refl
 
 pub login_said : (message user password : List ℕ) → IsMessage message user password → login_in message ≡ Some (user, password)
@@ -137,10 +137,10 @@ read_checked message authzid rest user password cut e = go (cut_in rest) refl e
             let user_is : u ≡ user = cc in
             let password_is : q ≡ password = cc in
             let same : (authzid ≡ []) ⊎ (authzid ≡ u) =
-                elim (and_cases (not (length authzid == 0)) (not (pointwise nat_eq authzid u)) eb) [
-                  | inl n ↦ inl (nil_from_length authzid (eqb-true (length authzid) 0 (not-false (length authzid == 0) n)))
-                  | inr n ↦ inr (same_text authzid u (not-false (pointwise nat_eq authzid u) n))
-                ] in
+            elim (and_cases (not (length authzid == 0)) (not (pointwise nat_eq authzid u)) eb) [
+              | inl n ↦ inl (nil_from_length authzid (eqb-true (length authzid) 0 (not-false (length authzid == 0) n)))
+              | inr n ↦ inr (same_text authzid u (not-false (pointwise nat_eq authzid u) n))
+            ] in
             let made : IsMessage message u q = record {
               authzid = authzid;
               same = same;
@@ -148,7 +148,7 @@ read_checked message authzid rest user password cut e = go (cut_in rest) refl e
               user_without = second.without;
               password_is_some = some_octets q empties.1;
               password_without = none_at_all q (omega (arith, place_small q, ltb-false (nul_place q) (length q) parts.1));
-              written = cut.written ∙ ap (λ (t : List ℕ). authzid ++ 0 ∷ t) second.written
+              written = cut.written ∙ ap (λ (t : List ℕ). authzid ++ 0 ∷ t) second.written;
             } in
             subst (λ (v : List ℕ). IsMessage message v password) user_is (subst (λ (v : List ℕ). IsMessage message u v) password_is made)
 

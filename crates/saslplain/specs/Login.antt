@@ -1,8 +1,7 @@
 -- The message of PLAIN (RFC 4616, section 2).
 use Rattle.std.specs.Prelude.{◌≡◌, ◌≢◌, ℕ, zero, ◌⊎◌, Bool, true, false, ◌&&◌, ◌||◌, not, cond, ◌==◌, List, [], ◌∷◌, ◌++◌, Option, Some, None}
-use Rattle.std.specs.Byte.{IsBytes}
 use Rattle.base64.specs.Engines.{standard}
-use Rattle.base64.specs.GeneralPurpose.{encode_of}
+use Rattle.base64.specs.GeneralPurpose.{IsBytes, encode_of}
 
 -- no octet is NUL
 abbrev pub NoNul : List ℕ → Type 0

@@ -22,7 +22,7 @@ abbrev pub checked : List ℕ → Pair → Pair
 checked authzid None = None
 checked authzid (Some parts) =
     cond (length parts.0 == 0 || length parts.1 == 0 || nat_lt (nul_place parts.1) (length parts.1)) None
-        (cond (not (length authzid == 0) && not (pointwise nat_eq authzid parts.0)) None (Some parts))
+    (cond (not (length authzid == 0) && not (pointwise nat_eq authzid parts.0)) None (Some parts))
 
 abbrev pub cut_twice : Pair → Pair
 cut_twice None = None

@@ -8,15 +8,15 @@ use Rattle.msproto.proofs.state.in_word.Goals as goal
 pub returns-in-Some : goal.returns-in-Some
 returns-in-Some c =
     in_word_more c.args.verb c.in-Some.next c.args.count c.min.result c.word-word.result.now c.args.octet c.word-word.ensures c.min.ensures
-        (rw (← c.to_ascii_uppercase.ensures.value) c.in-Some.ensures)
+    (rw (← c.to_ascii_uppercase.ensures.value) c.in-Some.ensures)
 
 pub returns-then-letters-word : goal.returns-then-letters-word
 returns-then-letters-word c =
     c.leave.ensures ∙ ap (λ (slots : m.Slots). m.leave slots c.args.octet) c.slots.ensures
     ∙ in_word_end c.args.verb c.args.count c.min.result c.word-word.result.now c.args.octet c.word-word.ensures c.min.ensures c.if-letters-word.true
-        (rw (← c.to_ascii_uppercase.ensures.value) c.in-None.ensures)
+    (rw (← c.to_ascii_uppercase.ensures.value) c.in-None.ensures)
 
 pub returns-else-letters-word : goal.returns-else-letters-word
 returns-else-letters-word c =
     in_word_dies c.args.verb c.args.count c.min.result c.word-word.result.now c.args.octet c.word-word.ensures c.min.ensures c.if-letters-word.false
-        (rw (← c.to_ascii_uppercase.ensures.value) c.in-None.ensures)
+    (rw (← c.to_ascii_uppercase.ensures.value) c.in-None.ensures)
