@@ -1,7 +1,8 @@
 -- What the states of the code stand for.
-use Rattle.std.specs.Prelude.{ℕ, ◌^◌, ◌==◌, ◌||◌, ◌&&◌, cond, nat_lt, List, take, Option, Some, None}
+use Rattle.std.specs.Prelude.{List, None, Option, Some, [], cond, false, nat_lt, take, true, ℕ, ◌&&◌, ◌++◌, ◌==◌, ◌^◌, ◌||◌, ◌∷◌, ◌≡◌}
 use Rattle.std.specs.Char.{is_ascii_digit}
 use Rattle.octets.specs.Decimal.{with_digit}
+use Rattle.msproto.specs.declared.verb.Verb.{Verb}
 use Rattle.msproto.specs.declared.verb.Slots.{Slots}
 use Rattle.msproto.specs.declared.verb.Slots.TheVariants as slots
 use Rattle.msproto.specs.declared.state.State.{State}
@@ -72,3 +73,10 @@ ending state outside used octet =
     cond (nat_lt 8192 outside || (machine.is_large state && octet == 10)) reach.TooBig
     (cond (machine.is_whole (machine.step state octet)) (reach.Command used)
     (cond (machine.is_dead (machine.step state octet) && octet == 10) (reach.Bad used) reach.Need))
+
+-- ---- verbs
+
+-- a verb of these rows whose name begins with the letters and this one, or none where none does
+abbrev pub IsFurther : List (List ℕ × machine.Slots) → List ℕ → ℕ → Option Verb → Type 0
+IsFurther rows letters letter None = machine.begins_row rows (letters ++ letter ∷ []) ≡ false
+IsFurther rows letters letter (Some verb) = machine.begins (letters ++ letter ∷ []) (machine.word_of verb) ≡ true

@@ -90,12 +90,14 @@ fn read_first(alloc: Global, buffer: &[u8], pending: bool) -> Result<Item, Alloc
 
 /// What comes first is one: no stream has two first items.
 pub fn one_item()
-    ensures { (pending : Bool) (one other : ItemValue) (stream : List ℕ) → Gives pending one stream → Gives pending other stream → one ≡ other }
+    ensures { (pending : Bool) (one other : ItemValue) (stream : List ℕ) →
+        Gives pending one stream → Gives pending other stream → one ≡ other }
 {}
 
 /// An item stays the same whatever octets follow, so it doesn't matter how a stream is cut into pieces.
 pub fn item_stays()
-    ensures { (pending : Bool) (item : ItemValue) (stream more : List ℕ) → item ≢ Need → Gives pending item stream → Gives pending item (stream ++ more) }
+    ensures { (pending : Bool) (item : ItemValue) (stream more : List ℕ) →
+        item ≢ Need → Gives pending item stream → Gives pending item (stream ++ more) }
 {}
 
 /// The function of the first item gives what the relation says.
@@ -105,5 +107,6 @@ pub fn item_is()
 
 /// The octet behind a text stands inside a literal exactly where the machine has octets of one to come.
 pub fn literal_octets()
-    ensures { (pending : Bool) (text : List ℕ) → IsInLiteral pending text ↔ (in_literal (run (start pending) text) ≡ true) }
+    ensures { (pending : Bool) (text : List ℕ) →
+        IsInLiteral pending text ↔ (in_literal (run (start pending) text) ≡ true) }
 {}

@@ -40,7 +40,8 @@ impl Model for Scan {
 
     ghost view = { λ scan. scan_shown scan.state scan.outside scan.used scan.reach };
 
-    ghost invariant = { λ scan. (scan.outside ≤ 8192) × (scan.used + room (shown scan.state) ≤ scan.outside + 2097152) };
+    ghost invariant = { λ scan. (scan.outside ≤ 8192)
+        × (scan.used + room (shown scan.state) ≤ scan.outside + 2097152) };
 }
 
 impl Scan {

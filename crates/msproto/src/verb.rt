@@ -2,7 +2,7 @@
 ghost use Rattle.std.specs.Prelude.{◌≡◌, ◌∷◌, ◌++◌, [], map, true, false, MatchOption};
 ghost use Rattle.std.specs.Char.{to_ascii_uppercase};
 ghost use Rattle.msproto.specs.Machine.{word_of, slots_of, verbs, verb_in, rows, rows_of, begins, begins_row, same_word};
-ghost use Rattle.msproto.specs.Shown.{slots_shown};
+ghost use Rattle.msproto.specs.Shown.{slots_shown, IsFurther};
 
 /// The name of a command (RFC 5804, section 2).
 #[derive(Clone, Copy)]
@@ -104,7 +104,7 @@ impl Verb {
 
     /// A verb whose name begins with these letters and this one, upper case all: this one, if it does.
     pub fn further(self, letters: &[u8], letter: u8) -> Option<Verb>
-        ensures { MatchOption result (begins_row rows (letters.now ++ letter ∷ []) ≡ false) (λ verb. begins (letters.now ++ letter ∷ []) (word_of verb) ≡ true) }
+        ensures { IsFurther rows letters.now letter result }
     {
         if goes_on(self.word(), letters, letter) {
             return Some(self);
@@ -129,7 +129,7 @@ fn find_named(verbs: &[Verb], name: &[u8]) -> Option<Verb>
 
 // The first of the verbs whose name begins with these letters and this one.
 fn find_further(verbs: &[Verb], letters: &[u8], letter: u8) -> Option<Verb>
-    ensures { MatchOption result (begins_row (rows_of verbs.now) (letters.now ++ letter ∷ []) ≡ false) (λ verb. begins (letters.now ++ letter ∷ []) (word_of verb) ≡ true) }
+    ensures { IsFurther (rows_of verbs.now) letters.now letter result }
 {
     let mut rest = verbs;
     while let Some((verb, more)) = rest.split_first() {

@@ -1,11 +1,11 @@
 -- A login is what its base64 decodes to.
 use Rattle.std.proofs.Common.{◌≡◌, ℕ, Bool, true, false, List, Option, Some, None, Result, Ok, Err, refl, sym, ap, ◌∙◌, subst}
-use Rattle.std.specs.Prelude.{◌↔◌, MatchOption}
+use Rattle.std.specs.Prelude.{◌↔◌}
 use Rattle.base64.specs.Engines.{standard}
 use Rattle.base64.specs.GeneralPurpose.{IsBytes, IsStrict, encode_of, decode_of}
 use Rattle.base64.specs.declared.decode.DecodeError.{DecodeError}
 use Rattle.saslplain.specs.declared.message.Login.{Login}
-use Rattle.saslplain.specs.Login.{IsMessage, IsLogin}
+use Rattle.saslplain.specs.Login.{IsMessage, IsLogin, IsFound}
 use Rattle.saslplain.specs.Parts.{login_in, login_shown}
 use Rattle.saslplain.proofs.Messages.{login_said, login_read}
 
@@ -14,10 +14,6 @@ strict = (refl, refl)
 
 abbrev Strict : List ℕ → Type 0
 Strict text = (b : List ℕ) → IsBytes b → (decode_of standard text ≡ Ok b) ↔ (text ≡ encode_of standard b)
-
--- what was found in a text
-abbrev pub IsFound : List ℕ → Option Login → Type 0
-IsFound text found = MatchOption found ((user password : List ℕ) → IsLogin text user password → ⊥) (λ login. IsLogin text login.user login.password)
 
 same_message : (a b : List ℕ) → Ok {E = DecodeError} a ≡ Ok b → a ≡ b
 same_message a b e = cc

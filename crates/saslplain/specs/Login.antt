@@ -1,5 +1,6 @@
 -- The message of PLAIN (RFC 4616, section 2).
 use Rattle.std.specs.Prelude.{◌≡◌, ◌≢◌, ℕ, zero, ◌⊎◌, Bool, true, false, ◌&&◌, ◌||◌, not, cond, ◌==◌, List, [], ◌∷◌, ◌++◌, Option, Some, None}
+use Rattle.saslplain.specs.declared.message.Login.{Login}
 use Rattle.base64.specs.Engines.{standard}
 use Rattle.base64.specs.GeneralPurpose.{IsBytes, encode_of}
 
@@ -24,3 +25,8 @@ pub record IsLogin (text user password : List ℕ) : Type 0 where
   pub octets : IsBytes message
   pub encoded : text ≡ encode_of standard message
   pub said : IsMessage message user password
+
+-- what is found in a text: its login, or none where it says none
+abbrev pub IsFound : List ℕ → Option Login → Type 0
+IsFound text None = (user password : List ℕ) → IsLogin text user password → ⊥
+IsFound text (Some login) = IsLogin text login.user login.password

@@ -1,6 +1,6 @@
 //! What a client says by PLAIN.
-ghost use Rattle.std.specs.Prelude.{◌≡◌, ℕ, ◌≤◌, List, length, IfOk, MatchOption};
-ghost use Rattle.saslplain.specs.Login.{IsLogin};
+ghost use Rattle.std.specs.Prelude.{◌≡◌, ◌≤◌, length, IfOk};
+ghost use Rattle.saslplain.specs.Login.{IsFound};
 ghost use Rattle.saslplain.specs.Parts.{login_in, login_shown, cut_in, cut_shown, nul_place as place_of};
 
 use base64::DecodeAllocError;
@@ -21,7 +21,7 @@ pub struct Login {
 /// isn't empty has to be the same. The base64 is strict: padded, and with spare bits of zero. Time and memory are
 /// linear in the text; lack of memory is the only error.
 pub fn plain(alloc: Global, text: &[u8]) -> Result<Option<Login>, AllocError>
-    ensures { IfOk result (λ found. MatchOption found ((user password : List ℕ) → IsLogin text.now user password → ⊥) (λ login. IsLogin text.now login.user login.password)) }
+    ensures { IfOk result (IsFound text.now) }
 {
     match STANDARD.decode(alloc, text) {
         Ok(message) => read_login(alloc, message.as_slice()),
