@@ -1,6 +1,6 @@
 -- A login is what its base64 decodes to.
 use Rattle.std.proofs.Common.{◌≡◌, ℕ, Bool, true, false, List, Option, Some, None, Result, Ok, Err, refl, sym, ap, ◌∙◌, subst}
-use Rattle.std.specs.Prelude.{◌↔◌}
+use Rattle.std.specs.Prelude.{◌↔◌, IfOk}
 use Rattle.base64.specs.Engines.{standard}
 use Rattle.base64.specs.GeneralPurpose.{IsBytes, IsStrict, encode_of, decode_of}
 use Rattle.base64.specs.declared.decode.DecodeError.{DecodeError}
@@ -12,10 +12,13 @@ use Rattle.saslplain.proofs.Messages.{login_said, login_read}
 pub strict : IsStrict standard
 strict = (refl, refl)
 
-abbrev Strict : List ℕ → Type 0
+abbrev pub Strict : List ℕ → Type 0
 Strict text = (b : List ℕ) → IsBytes b → (decode_of standard text ≡ Ok b) ↔ (text ≡ encode_of standard b)
 
-same_message : (a b : List ℕ) → Ok {E = DecodeError} a ≡ Ok b → a ≡ b
+abbrev decoded_as : List ℕ → Result (List ℕ) DecodeError
+decoded_as message = Ok message
+
+same_message : (a b : List ℕ) → decoded_as a ≡ decoded_as b → a ≡ b
 same_message a b e = cc
 
 pub found_login : (text message : List ℕ) (found : Option Login) → Strict text → decode_of standard text ≡ Ok message → IsBytes message → login_shown found ≡ login_in message → IsFound text found
@@ -36,3 +39,7 @@ no_login text d by e user password h =
     let decoded : decode_of standard text ≡ Ok h.message = (by h.message h.octets).1 h.encoded in
     let both = sym e ∙ decoded in
     cc (both)
+
+pub if_found : {E : Type 0} (text message : List ℕ) (r : Result (Option Login) E) → Strict text → decode_of standard text ≡ Ok message → IsBytes message → IfOk r (λ found. login_shown found ≡ login_in message) → IfOk r (IsFound text)
+if_found text message (Ok found) by e bytes h = found_login text message found by e bytes h
+if_found text message (Err e) by d bytes h = tt

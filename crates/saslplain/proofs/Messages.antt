@@ -60,6 +60,10 @@ cut_at a b h =
     ap (λ (n : ℕ). drop n (a ++ 0 ∷ b)) next ∙ ap (drop (length (a ++ 0 ∷ []))) (sym (append_assoc a (0 ∷ []) b)) ∙ drop_at (a ++ 0 ∷ []) b (length (a ++ 0 ∷ [])) refl in
     rw (place, more, take_at a (0 ∷ b) (length a) refl, behind) refl
 
+-- equal present pairs have equal parts
+some_pair : (p q : List ℕ × List ℕ) → Some p ≡ Some q → (p.0 ≡ q.0) × (p.1 ≡ q.1)
+some_pair p q same = let pairs : p ≡ q = cc in (ap (λ (r : List ℕ × List ℕ). r.0) pairs, ap (λ (r : List ℕ × List ℕ). r.1) pairs)
+
 record IsCut (text first rest : List ℕ) : Type 0 where
   without : NoNul first
   written : text ≡ first ++ 0 ∷ rest
@@ -67,12 +71,13 @@ record IsCut (text first rest : List ℕ) : Type 0 where
 is_cut : (t a b : List ℕ) → cut_in t ≡ Some (a, b) → IsCut t a b
 is_cut t a b e = go (nul_place t == length t) refl e
   where
-    go : (d : Bool) → (nul_place t == length t) ≡ d → cond d None (Some (take (nul_place t) t, drop (nul_place t + 1) t)) ≡ Some (a, b) → IsCut t a b
+    go : (d : Bool) → (nul_place t == length t) ≡ d → cond {A = Pair} d None (Some (take (nul_place t) t, drop (nul_place t + 1) t)) ≡ Some (a, b) → IsCut t a b
     go true d e = absurd cc
     go false d e =
         let lt : nul_place t < length t = omega (arith, place_small t, eqb-false (nul_place t) (length t) d) in
-        let first : take (nul_place t) t ≡ a = cc in
-        let rest : drop (nul_place t + 1) t ≡ b = cc in
+        let pair = some_pair (take (nul_place t) t, drop (nul_place t + 1) t) (a, b) e in
+        let first : take (nul_place t) t ≡ a = pair.0 in
+        let rest : drop (nul_place t + 1) t ≡ b = pair.1 in
         let same : suc (nul_place t) ≡ nul_place t + 1 = omega arith in
         record {
           without = subst NoNul first (none_before t);
@@ -127,15 +132,16 @@ read_checked message authzid rest user password cut e = go (cut_in rest) refl e
     go None d e = absurd cc
     go (Some (u, q)) d e = by_tests (length u == 0 || length q == 0 || nat_lt (nul_place q) (length q)) refl (not (length authzid == 0) && not (pointwise nat_eq authzid u)) refl e
       where
-        by_tests : (a : Bool) → (length u == 0 || length q == 0 || nat_lt (nul_place q) (length q)) ≡ a → (b : Bool) → (not (length authzid == 0) && not (pointwise nat_eq authzid u)) ≡ b → cond a None (cond b None (Some (u, q))) ≡ Some (user, password) → IsMessage message user password
+        by_tests : (a : Bool) → (length u == 0 || length q == 0 || nat_lt (nul_place q) (length q)) ≡ a → (b : Bool) → (not (length authzid == 0) && not (pointwise nat_eq authzid u)) ≡ b → cond {A = Pair} a None (cond {A = Pair} b None (Some (u, q))) ≡ Some (user, password) → IsMessage message user password
         by_tests true ea b eb e = absurd cc
         by_tests false ea true eb e = absurd cc
         by_tests false ea false eb e =
             let parts = or_parts (length u == 0 || length q == 0) (nat_lt (nul_place q) (length q)) ea in
             let empties = or_parts (length u == 0) (length q == 0) parts.0 in
             let second = is_cut rest u q d in
-            let user_is : u ≡ user = cc in
-            let password_is : q ≡ password = cc in
+            let pair = some_pair (u, q) (user, password) e in
+            let user_is : u ≡ user = pair.0 in
+            let password_is : q ≡ password = pair.1 in
             let same : (authzid ≡ []) ⊎ (authzid ≡ u) =
             elim (and_cases (not (length authzid == 0)) (not (pointwise nat_eq authzid u)) eb) [
               | inl n ↦ inl (nil_from_length authzid (eqb-true (length authzid) 0 (not-false (length authzid == 0) n)))
