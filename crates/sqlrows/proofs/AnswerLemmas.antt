@@ -53,8 +53,8 @@ module _ {X : Type 0} (key : X → ℤ) (p : X → Bool) where
       go : (b : Bool) → p x ≡ b → IsAtMostOne p xs → (cond b (x ∷ filter p xs) (filter p xs) ≡ []) ⊎ ((y : X) × Has (x ∷ xs) y × (p y ≡ true) × (cond b (x ∷ filter p xs) (filter p xs) ≡ y ∷ []))
       go true is more =
           let none = filter_none p xs (all_from _ xs (λ y there. false_from_ne_true _ (λ passes.
-              let same : key x ≡ key y = apart x y (inl refl) (inr there) is passes in
-              let above = all_has (λ z. key x <ℤ key z) xs y up.0 there in omega (arith, ints)))) in
+          let same : key x ≡ key y = apart x y (inl refl) (inr there) is passes in
+          let above = all_has (λ z. key x <ℤ key z) xs y up.0 there in omega (arith, ints)))) in
           inr (x, inl refl, is, ap (λ l. x ∷ l) none)
       go false is (inl none) = inl none
       go false is (inr one) = inr (one.0, inr one.1, one.2, one.3)
@@ -78,9 +78,9 @@ module _ (schema : Schema) (table : Table) (listed : Has schema.tables table) (i
       let kept = keeps_at Unique schema db table (stored x) (fits.rules Unique (λ e. cc)) listed (has_stored x hx) in
       let free : (guards index table && clashes index.order index.columns (db table.tree) (stored x)) ≡ false = not-true _ (test_has _ schema.indexes index kept indexed) in
       let agreed = agree_chain index.order index.columns places index.columns (stored y) key (stored x) (agrees (id_of y) (cells_of y) ky)
-          (agree_back index.order index.columns places (stored x) key (agrees (id_of x) (cells_of x) kx)) in
+      (agree_back index.order index.columns places (stored x) key (agrees (id_of x) (cells_of x) kx)) in
       let near : differ (rowid (stored y)) (rowid (stored x)) ≡ false = false_from_ne_true _ (λ apart.
-          both_ways _ free (and_from _ _ guarding (some_from _ (db table.tree) (stored y) (has_stored y hy) (and_from _ _ agreed apart)))) in
+      both_ways _ free (and_from _ _ guarding (some_from _ (db table.tree) (stored y) (has_stored y hy) (and_from _ _ agreed apart)))) in
       sym (differ_ids (id_of y) (id_of x) near)
 
   one_entry : IsAtMostOne (λ e. has_key key (cells_of e)) h.entries
@@ -146,7 +146,7 @@ module _ (db : Trees) (tree : ℕ) (terms project : List Term) (order : List (Te
   cells_in_order show shows rows a =
       let kept = outputs_are rows a in
       let are : map (λ e. output asked (slots params e)) (filter (λ e. p (cells_of e)) h.entries) ≡ map show (filter p cells) =
-          map_same _ (λ e. show (cells_of e)) (λ e. shows (id_of e) (cells_of e)) _ ∙ sym (map-map show cells_of _) ∙ ap (map show) (sym (filter-entries p h.entries)) ∙ sym (ap (λ l. map show (filter p l)) h.cells_are) in
+      map_same _ (λ e. show (cells_of e)) (λ e. shows (id_of e) (cells_of e)) _ ∙ sym (map-map show cells_of _) ∙ ap (map show) (sym (filter-entries p h.entries)) ∙ sym (ap (λ l. map show (filter p l)) h.cells_are) in
       (a.ordered, subst (λ k. IsPermutation k a.ordered) (kept ∙ are) a.same, a.sorted, a.shown)
 
 -- the same by cells, under a unique index over the key

@@ -164,7 +164,7 @@ module _ (schema : Schema) (no_works : (depth tree : ℕ) (olds news : List Row)
             let now = concluded task (mode_of old) done.0 tally new.now done.2 ∙ ap with_trees trees in
             let rows = asked project given.0 (given.1.answer Null) in
             let ids : ids_of given.0 ≡ map id_of found = ap ids_of rows ∙ map-map _ (λ (x : Entry). eval_all project (params ∷ stored x ∷ [])) found
-                ∙ map_same_on _ id_of found (λ x there. ap (λ r. id_in (rowid r)) (sets (id_of x) (cells_of x))) in
+            ∙ map_same_on _ id_of found (λ x there. ap (λ r. id_in (rowid r)) (sets (id_of x) (cells_of x))) in
             let news = given_rowids (without_all (db tree) (ids_of given.0)) (map (λ s. cast_row it (drop 1 s)) given.0) ∙ cast_found given.0 rows in
             after tables old.now new.now e written.0 (update_where (has_key key) f (tables tree)) h applies now
             (held_update (db tree) (tables tree) (has_key key) f (ids_of given.0) e.news (h.each it listed) ids news)
