@@ -1,0 +1,12 @@
+//! Text as octets: the small types and words that the crates of the workspace share.
+//!
+//! Nothing here knows of mail. A text is a list of octets, and contracts see it so.
+#![tactic(auto)]
+
+pub mod ascii;
+pub mod list;
+pub mod string;
+
+pub use ascii::{is_blank, is_letter, is_printable, lowered, trim_blanks};
+pub use list::Texts;
+pub use string::Octets;
