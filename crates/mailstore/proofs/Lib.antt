@@ -1,0 +1,2 @@
+pub mod SchemaFacts
+pub mod TextFacts
