@@ -1,2 +1,3 @@
 pub mod SchemaFacts
 pub mod TextFacts
+pub mod StatementLemmas

@@ -1,2 +1,4 @@
 pub mod Schema
 pub mod Statements
+pub mod Words
+pub mod Cells

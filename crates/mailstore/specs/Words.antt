@@ -1,0 +1,24 @@
+-- What a call leaves of a connection: after Ok, after a refusal, and where a crash comes.
+use Rattle.std.specs.Prelude.{◌≡◌, true, Result, OnOk, IsTrue}
+use Rattle.sqlite_trees.specs.Tree.{Trees}
+use Rattle.sqlite.specs.declared.error.Error.{Error}
+use Rattle.sqlite.specs.State.{State, HasCleanDisk, KeepsCommit, Shows}
+use Rattle.sqlrows.specs.Rows.{Tables, Holds}
+use Rattle.mailstore.specs.Schema.{mail_schema}
+
+-- inside a transaction, where the tables hold these, they then hold what the function makes of them, and the last commit stands
+abbrev pub Makes : {X : Type 0} → State → State → Result X Error → (Tables → Tables) → Type 0
+Makes old new result change =
+    HasCleanDisk new → IsTrue old.in_transaction
+    → KeepsCommit old new × OnOk result (((tables : Tables) → Holds mail_schema old.now tables → Holds mail_schema new.now (change tables)) × Shows old new new.now old.committed true)
+
+-- the connection is open, sees its last commit, and a crash leaves that alone
+pub record IsSettled (s : State) : Type 0 where
+  pub is_open : IsTrue s.is_open
+  pub same : s.now ≡ s.committed
+  pub alone : (db : Trees) → s.may_leave db → db ≡ s.committed.trees
+
+-- what the connection sees, and its last commit, are as they were; a fault of the disk may have shut it
+pub record StaysSame (old new : State) : Type 0 where
+  pub now_is : IsTrue new.is_open → new.now ≡ old.now
+  pub committed_is : IsTrue new.is_open → new.committed ≡ old.committed
