@@ -1,3 +1,4 @@
 pub mod SchemaFacts
 pub mod TextFacts
 pub mod StatementLemmas
+pub mod WriteLemmas

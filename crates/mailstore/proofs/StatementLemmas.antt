@@ -1,5 +1,6 @@
 -- What each statement makes of the tables.
 use Rattle.std.proofs.Common.{◌≡◌, ◌⊎◌, ℕ, ℤ, pos, Bool, true, false, codes, slice_get, List, [], ◌∷◌, Option, Some, None, Ok, Err, Result, OnOk, refl, sym, ap, inl, inr}
+use Rattle.std.specs.Borrow.{Bor}
 use Rattle.sqlite_value.specs.declared.value.Value.{Value}
 use Rattle.sqlite_value.specs.declared.value.Value.TheVariants.{Null, Int, Text, Blob}
 use Rattle.sqlite_value.specs.Keys.{first_key, plain}
@@ -16,6 +17,7 @@ use Rattle.sqlite_rules.specs.Cast.{cast, cast_all}
 use Rattle.sqlite_catalog.specs.Listing.{automatic}
 use Rattle.sqlite.specs.declared.error.Error.{Error}
 use Rattle.sqlite.specs.State.{State, HasCleanDisk, ExecutesInside, KeepsCommit, Shows}
+use Rattle.sqlite.specs.Values.{bound_value, or_null as bound_or_null}
 use Rattle.sqlite.proofs.InsideLemmas.{inside_keeps}
 use Rattle.sqlrows.specs.Forms.{needed, equals, over}
 use Rattle.sqlrows.specs.Rows.{Tables, Holds, has_key, added, removed, set_in}
@@ -25,7 +27,7 @@ use Rattle.sqlrows.proofs.StepLemmas.{on_insert, on_update, on_delete, insert_ho
 use Rattle.sqlrows.proofs.ColumnLemmas.{column_is_of, cast_integer}
 use Rattle.mailstore.specs.Schema.{mail_schema, meta, account, script, copy}
 use Rattle.mailstore.specs.Statements.{insert_version, insert_account, update_active, update_next_copy, insert_script, delete_script, insert_copy}
-use Rattle.mailstore.specs.Cells.{account_cells, script_cells, copy_cells, with_active, with_next_copy}
+use Rattle.mailstore.specs.Cells.{account_cells, script_cells, copy_cells, with_active, with_next_copy, or_null, contents}
 use Rattle.mailstore.proofs.SchemaFacts.{no_works}
 use Rattle.mailstore.proofs.TextFacts.{by_one, by_two, version_terms, account_terms, active_columns, next_copy_columns, three_terms, four_terms, insert_version_is, insert_version_plain, insert_account_is, insert_account_plain, update_active_is, update_active_plain, update_next_copy_is, update_next_copy_plain, insert_script_is, insert_script_plain, delete_script_is, delete_script_plain, insert_copy_is, insert_copy_plain}
 
@@ -118,3 +120,8 @@ next_copy_set old new name next (Ok count) ran = (kept _ _ old new (Ok count) ra
     let on = on_update mail_schema update_next_copy params old new tables h update_next_copy_plain count ran.0 1 account refl _ update_next_copy_is in
     update_holds mail_schema no_works account.name 2 account.primary account.references account.columns params old new tables h (inr (inl refl)) account_index (inr (inl refl)) refl (owner_key name) (0 ∷ [])
     (account_agrees name) by_one (λ n cells. refl) (with_next_copy next) (λ cells there. next_copy_fits old tables h cells there next) next_copy_columns (λ n cells. refl) 1 on.0 on.1, ran.1))
+
+-- how an option is bound
+pub active_bound : (o : Option (Bor (List ℕ))) → bound_value (bound_or_null (λ b. Blob b.now) o) ≡ or_null (contents o)
+active_bound None = refl
+active_bound (Some b) = refl

@@ -1,8 +1,14 @@
 -- The cells of the rows.
 use Rattle.std.specs.Prelude.{ℕ, ℤ, pos, List, [], ◌∷◌, Option, Some, None}
+use Rattle.std.specs.Borrow.{Bor}
 use Rattle.sqlite_value.specs.declared.value.Value.{Value}
 use Rattle.sqlite_value.specs.declared.value.Value.TheVariants.{Null, Int, Blob}
 use Rattle.sqlite_value.specs.Order.{Row, column}
+
+-- the octets behind the reference, if there is one
+abbrev pub contents : Option (Bor (List ℕ)) → Option (List ℕ)
+contents None = None
+contents (Some b) = Some b.now
 
 abbrev pub or_null : Option (List ℕ) → Value
 or_null None = Null

@@ -2,3 +2,4 @@ pub mod Schema
 pub mod Statements
 pub mod Words
 pub mod Cells
+pub mod Changes
