@@ -2,3 +2,4 @@ pub mod SchemaFacts
 pub mod TextFacts
 pub mod StatementLemmas
 pub mod WriteLemmas
+pub mod ShowLemmas

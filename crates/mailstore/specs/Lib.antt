@@ -3,3 +3,5 @@ pub mod Statements
 pub mod Words
 pub mod Cells
 pub mod Changes
+pub mod Account
+pub mod Shows
