@@ -3,3 +3,4 @@ pub mod TextFacts
 pub mod StatementLemmas
 pub mod WriteLemmas
 pub mod ShowLemmas
+pub mod AccountLemmas
