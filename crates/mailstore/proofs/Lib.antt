@@ -4,3 +4,4 @@ pub mod StatementLemmas
 pub mod WriteLemmas
 pub mod ShowLemmas
 pub mod AccountLemmas
+pub mod CreateLemmas

@@ -5,3 +5,4 @@ pub mod Cells
 pub mod Changes
 pub mod Account
 pub mod Shows
+pub mod Refusals

@@ -1,5 +1,7 @@
 -- What a call leaves of a connection: after Ok, after a refusal, and where a crash comes.
-use Rattle.std.specs.Prelude.{◌≡◌, true, Result, OnOk, IsTrue}
+use Rattle.std.specs.Prelude.{◌≡◌, ◌||◌, Bool, true, [], codes, is_some, Result, OnOk, IsTrue}
+use Rattle.sqlite_schema.specs.declared.schema.Schema.{Schema}
+use Rattle.sqlite_schema.specs.Names.{table_named}
 use Rattle.sqlite_trees.specs.Tree.{Trees}
 use Rattle.sqlite.specs.declared.error.Error.{Error}
 use Rattle.sqlite.specs.State.{State, HasCleanDisk, KeepsCommit, Shows}
@@ -22,3 +24,18 @@ pub record IsSettled (s : State) : Type 0 where
 pub record StaysSame (old new : State) : Type 0 where
   pub now_is : IsTrue new.is_open → new.now ≡ old.now
   pub committed_is : IsTrue new.is_open → new.committed ≡ old.committed
+
+-- no table has a row
+abbrev pub no_rows : Tables
+no_rows tree = []
+
+-- inside a transaction a table is made: where the empty schema was this one, it is then the next
+abbrev pub MakesTable : {X : Type 0} → State → State → Result X Error → Schema → Schema → Type 0
+MakesTable old new result schema next =
+    HasCleanDisk new → IsTrue old.in_transaction → KeepsCommit old new × OnOk result ((Holds schema old.now no_rows → Holds next new.now no_rows) × Shows old new new.now old.committed true)
+
+-- a table has one of our names, as the database compares them
+abbrev pub has_our_name : Schema → Bool
+has_our_name schema =
+    is_some (table_named schema (codes "meta")) || is_some (table_named schema (codes "account")) || is_some (table_named schema (codes "script")) || is_some (table_named schema (codes "copy"))
+    || is_some (table_named schema (codes "outgoing")) || is_some (table_named schema (codes "reply")) || is_some (table_named schema (codes "notice"))

@@ -2,4 +2,8 @@
 #![tactic(auto)]
 
 mod change;
+mod refusal;
 mod statement;
+mod table;
+
+pub use refusal::Refusal;
