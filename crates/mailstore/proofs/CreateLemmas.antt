@@ -1,5 +1,5 @@
 -- What a CREATE TABLE makes of a schema without rows.
-use Rattle.std.proofs.Common.{◌≡◌, ◌⊎◌, ℕ, true, false, List, [], ◌∷◌, ◌++◌, map, None, Ok, Err, Result, OnOk, refl, sym, ap, ◌∙◌, subst, inl, inr}
+use Rattle.std.proofs.Common.{◌≡◌, ◌⊎◌, ℕ, true, false, IsTrue, List, [], ◌∷◌, ◌++◌, map, None, Ok, Err, Result, OnOk, refl, sym, ap, ◌∙◌, subst, inl, inr}
 use Rattle.std.specs.List.{AllByRecursion}
 use Rattle.sqlite_value.specs.Order.{Row}
 use Rattle.sqlite_trees.specs.Tree.{Trees}
@@ -16,12 +16,18 @@ use Rattle.sqlite.specs.Effect.{Database}
 use Rattle.sqlite.specs.Does.{Tally, lacks_sequence}
 use Rattle.sqlite.specs.Listing.{understood}
 use Rattle.sqlite.specs.declared.error.Error.{Error}
-use Rattle.sqlite.specs.State.{State, Writes, Executes, ExecutesInside, KeepsCommit, Shows}
+use Rattle.sqlite.specs.State.{State, HasCleanDisk, Survives, Writes, Executes, ExecutesInside, KeepsCommit, Shows}
 use Rattle.sqlite.proofs.Callers.{IsPlain, command_of, statement_of, runs_as}
-use Rattle.sqlite.proofs.InsideLemmas.{inside_keeps}
+use Rattle.sqlite.proofs.InsideLemmas.{inside_keeps, keeps_then}
 use Rattle.sqlrows.specs.Rows.{Entry, IsHeld, Holds, cells_of, stored}
 use Rattle.sqlrows.proofs.StepLemmas.{went, same_value}
-use Rattle.mailstore.specs.Words.{no_rows}
+use Rattle.std.specs.FinMap.{get-empty}
+use Rattle.sqlrows.specs.Rows.{Tables, added}
+use Rattle.mailstore.specs.Schema.{no_schema, mail_schema}
+use Rattle.mailstore.specs.Words.{no_rows, Makes, MakesTable}
+use Rattle.mailstore.specs.Account.{bytes_cmp, no_accounts}
+use Rattle.mailstore.specs.Shows.{version_row, rows_of, IsAbsent, IsShownOrAbsent, ShowsAccounts, Presents}
+use Rattle.mailstore.proofs.WriteLemmas.{clean_before}
 
 no_entries : (rows : List Row) → IsHeld rows [] → rows ≡ []
 no_entries rows h = h.rows_are ∙ go h.entries h.cells_are
@@ -63,3 +69,41 @@ module _ (schema : Schema) (sql : List ℕ) (table : Table) (defined : table_def
       → KeepsCommit old new × OnOk r ((Holds schema old.now no_rows → Holds (created schema table) new.now no_rows) × Shows old new new.now old.committed true)
   table_made old new (Err e) ran = (inside_keeps old new 0 false sql [] (Err e) ran, tt)
   table_made old new (Ok count) ran = (inside_keeps old new 0 false sql [] (Ok count) ran, (creates old new count ran.0, ran.1))
+
+-- the tables without a user, and with the row of their version
+pub shows_nobody : ShowsAccounts (added 0 version_row no_rows) no_accounts
+shows_nobody = record { version = refl; users = λ user. subst (IsShownOrAbsent user (rows_of user (added 0 version_row no_rows))) (sym (get-empty bytes_cmp user)) (absent user) }
+  where
+    absent : (user : List ℕ) → IsAbsent (rows_of user (added 0 version_row no_rows))
+    absent user = record { accounts = refl; scripts = refl; copies = refl; queue = refl; replies = refl; notices = refl }
+
+-- an empty database holds no rows
+pub starts_empty : (db : Database) → db.schema ≡ no_schema → Holds no_schema db no_rows
+starts_empty db is = record { is = is; fits = record { rules = λ rule other. tt; indexed = tt }; each = λ t none. absurd none }
+
+-- one table after another
+pub then_makes : {X Y : Type 0} (a b c : State) (s t u : Schema) (r : Result X Error) (x : X) (q : Result Y Error) → r ≡ Ok x → Survives b c (λ _. ⊥) → MakesTable a b r s t → MakesTable b c q t u → MakesTable a c q s u
+then_makes {X} {Y} a b c s t u r x q ok survives one two clean inside = go q (two clean first.1.mode)
+  where
+    begun : KeepsCommit a b × OnOk r ((Holds s a.now no_rows → Holds t b.now no_rows) × Shows a b b.now a.committed true)
+    begun = one (clean_before b c (λ _. ⊥) survives clean) inside
+
+    first : (Holds s a.now no_rows → Holds t b.now no_rows) × Shows a b b.now a.committed true
+    first = subst (λ x. OnOk x ((Holds s a.now no_rows → Holds t b.now no_rows) × Shows a b b.now a.committed true)) ok begun.1
+
+    go : (p : Result Y Error) → KeepsCommit b c × OnOk p ((Holds t b.now no_rows → Holds u c.now no_rows) × Shows b c c.now b.committed true)
+        → KeepsCommit a c × OnOk p ((Holds s a.now no_rows → Holds u c.now no_rows) × Shows a c c.now a.committed true)
+    go (Err e) h = (keeps_then a b c begun.0 h.0, tt)
+    go (Ok y) h = (keeps_then a b c begun.0 h.0, (λ k. h.1.0 (first.0 k), record { was_open = first.1.was_open; is_open = h.1.1.is_open; now_is = refl; committed_is = h.1.1.committed_is ∙ first.1.committed_is; mode = h.1.1.mode }))
+
+-- all tables and the row of the version, and the commit
+pub all_made : {X Y Z : Type 0} (old two three new : State) (r : Result X Error) (x : X) (q : Result Y Error) (y : Y) (done : Result Z Error) (P Q : Type 0) (R : Trees → Type 0) → r ≡ Ok x → q ≡ Ok y → IsTrue old.in_transaction
+    → Survives two three (λ _. ⊥) → Survives three new R → MakesTable old two r no_schema mail_schema → Makes two three q (added 0 version_row)
+    → (HasCleanDisk new → OnOk done (IsTrue three.in_transaction × Shows three new three.now three.now false × P × Q)) → HasCleanDisk new → old.now.schema ≡ no_schema → OnOk done (Presents new.now no_accounts)
+all_made old two three new r x q y (Err e) P Q R rok qok inside s1 s2 tables version commit clean blank = tt
+all_made old two three new r x q y (Ok z) P Q R rok qok inside s1 s2 tables version commit clean blank =
+    let late = clean_before three new R s2 clean in
+    let early = clean_before two three (λ _. ⊥) s1 late in
+    let first = subst (λ o. OnOk o ((Holds no_schema old.now no_rows → Holds mail_schema two.now no_rows) × Shows old two two.now old.committed true)) rok (tables early inside).1 in
+    let second = subst (λ o. OnOk o (((all : Tables) → Holds mail_schema two.now all → Holds mail_schema three.now (added 0 version_row all)) × Shows two three three.now two.committed true)) qok (version late first.1.mode).1 in
+    (added 0 version_row no_rows, subst (λ d. Holds mail_schema d (added 0 version_row no_rows)) (sym (commit clean).1.now_is) (second.0 no_rows (first.0 (starts_empty old.now blank))), shows_nobody)

@@ -26,7 +26,7 @@ made_push : (changes : List Change) (change : Change) (tables : Tables) → made
 made_push [] change tables = refl
 made_push (c ∷ changes) change tables = made_push changes change (made_one c tables)
 
-clean_before : (mid new : State) (P : Trees → Type 0) → Survives mid new P → HasCleanDisk new → HasCleanDisk mid
+pub clean_before : (mid new : State) (P : Trees → Type 0) → Survives mid new P → HasCleanDisk new → HasCleanDisk mid
 clean_before mid new P s clean = let low = s.clean in omega arith
 
 pub one_more : (old mid new : State) (changes : List Change) (at : ℕ) (d : Change) (r : Result ℕ Error) (n : ℕ) → r ≡ Ok n → at < length changes → (HasCleanDisk mid → HasMade old mid (take at changes))

@@ -4,6 +4,8 @@
 mod change;
 mod refusal;
 mod statement;
+pub mod store;
 mod table;
 
 pub use refusal::Refusal;
+pub use store::Store;

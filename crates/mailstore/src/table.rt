@@ -119,3 +119,41 @@ fn add_version<S: Alter>(tx: &mut Transaction<'_, S>) -> Result<usize, Error>
         &[],
     )
 }
+
+fn make_first<S: Alter>(tx: &mut Transaction<'_, S>) -> Result<usize, Error>
+    ensures same_reference { tx.new.conn.ghost_name ≡ tx.old.conn.ghost_name }
+    ensures made { MakesTable (state S.Store tx.old.conn.now) (state S.Store tx.new.conn.now) result no_schema schema_4 }
+    ensures survives { Survives (state S.Store tx.old.conn.now) (state S.Store tx.new.conn.now) (λ _. ⊥) }
+{
+    make_meta(tx)?;
+    make_account(tx)?;
+    make_script(tx)?;
+    make_copy(tx)
+}
+
+fn make_others<S: Alter>(tx: &mut Transaction<'_, S>) -> Result<usize, Error>
+    ensures same_reference { tx.new.conn.ghost_name ≡ tx.old.conn.ghost_name }
+    ensures made { MakesTable (state S.Store tx.old.conn.now) (state S.Store tx.new.conn.now) result schema_4 mail_schema }
+    ensures survives { Survives (state S.Store tx.old.conn.now) (state S.Store tx.new.conn.now) (λ _. ⊥) }
+{
+    make_outgoing(tx)?;
+    make_reply(tx)?;
+    make_notice(tx)
+}
+
+/// Makes all tables and the row of their version, in one transaction.
+pub fn make_tables<S: Alter>(conn: &mut Connection<S>) -> Result<(), Error>
+    requires { conn.old.in_transaction ≡ false }
+    ensures ended { conn.new.in_transaction ≡ false }
+    ensures limit { conn.new.step_limit ≡ conn.old.step_limit }
+    ensures made { HasCleanDisk (state S.Store conn.new) → (state S.Store conn.old).now.schema ≡ no_schema → OnOk result (Presents (state S.Store conn.new).now no_accounts) }
+    ensures settled { HasCleanDisk (state S.Store conn.new) → OnOk result (IsSettled (state S.Store conn.new)) }
+    ensures same { HasCleanDisk (state S.Store conn.new) → OnErr result (StaysSame (state S.Store conn.old) (state S.Store conn.new)) }
+{
+    let _settled = conn.is_autocommit();
+    let mut tx = conn.transaction();
+    make_first(&mut tx)?;
+    make_others(&mut tx)?;
+    add_version(&mut tx)?;
+    tx.commit()
+}
