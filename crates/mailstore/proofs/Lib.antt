@@ -5,3 +5,4 @@ pub mod WriteLemmas
 pub mod ShowLemmas
 pub mod AccountLemmas
 pub mod CreateLemmas
+pub mod CallLemmas

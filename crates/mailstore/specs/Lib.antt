@@ -6,3 +6,4 @@ pub mod Changes
 pub mod Account
 pub mod Shows
 pub mod Refusals
+pub mod Calls

@@ -3,9 +3,12 @@
 
 mod change;
 mod refusal;
+mod report;
 mod statement;
 pub mod store;
 mod table;
+mod writes;
 
 pub use refusal::Refusal;
+pub use report::{Plan, Report};
 pub use store::Store;

@@ -18,8 +18,8 @@ use std::marker::Model;
 /// Each write is one transaction: after a refusal the store stays as it was. No transaction is open
 /// between two calls. Dropping it closes the connection.
 pub struct Store<S: Alter> {
-    conn: Connection<S>,
-    alloc: Global,
+    pub(crate) conn: Connection<S>,
+    pub(crate) alloc: Global,
 }
 
 impl<S: Alter> Model for Store<S> {
