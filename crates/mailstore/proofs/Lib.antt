@@ -6,3 +6,4 @@ pub mod ShowLemmas
 pub mod AccountLemmas
 pub mod CreateLemmas
 pub mod CallLemmas
+pub mod QueryLemmas

@@ -33,3 +33,7 @@ with_active active cells =
 abbrev pub with_next_copy : ℤ → Row → Row
 with_next_copy next cells =
     column cells 0 ∷ column cells 1 ∷ column cells 2 ∷ column cells 3 ∷ column cells 4 ∷ column cells 5 ∷ Int next ∷ column cells 7 ∷ column cells 8 ∷ []
+
+-- what the query for an account shows
+abbrev pub shown_account : Row → Row
+shown_account cells = column cells 1 ∷ column cells 2 ∷ column cells 3 ∷ column cells 4 ∷ column cells 5 ∷ []

@@ -4,7 +4,7 @@ use Rattle.sqlite_schema.specs.declared.schema.Schema.{Schema}
 use Rattle.sqlite_schema.specs.Names.{table_named}
 use Rattle.sqlite_trees.specs.Tree.{Trees}
 use Rattle.sqlite.specs.declared.error.Error.{Error}
-use Rattle.sqlite.specs.State.{State, HasCleanDisk, KeepsCommit, Shows}
+use Rattle.sqlite.specs.State.{State, HasCleanDisk, Survives, KeepsCommit, Shows}
 use Rattle.sqlrows.specs.Rows.{Tables, Holds}
 use Rattle.mailstore.specs.Schema.{mail_schema}
 
@@ -39,3 +39,11 @@ abbrev pub has_our_name : Schema → Bool
 has_our_name schema =
     is_some (table_named schema (codes "meta")) || is_some (table_named schema (codes "account")) || is_some (table_named schema (codes "script")) || is_some (table_named schema (codes "copy"))
     || is_some (table_named schema (codes "outgoing")) || is_some (table_named schema (codes "reply")) || is_some (table_named schema (codes "notice"))
+
+-- a query keeps what the connection sees, whatever it answers, and after Ok the connection is open
+abbrev pub ReadsOnly : {X E : Type 0} → State → State → Result X E → Type 0
+ReadsOnly old new result = HasCleanDisk new → (tables : Tables) → Holds mail_schema old.now tables → StaysSame old new × OnOk result (IsTrue new.is_open)
+
+-- a crash leaves what it left before
+abbrev pub IsQuiet : State → State → Type 0
+IsQuiet old new = (tables : Tables) → Holds mail_schema old.now tables → Survives old new (λ _. ⊥)

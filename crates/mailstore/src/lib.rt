@@ -2,6 +2,7 @@
 #![tactic(auto)]
 
 mod change;
+mod query;
 mod refusal;
 mod report;
 mod statement;

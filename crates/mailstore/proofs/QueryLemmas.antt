@@ -1,0 +1,60 @@
+-- What each query finds, and that it changes nothing.
+use Rattle.std.proofs.Common.{◌≡◌, ◌⊎◌, ℕ, ℤ, true, false, List, [], ◌∷◌, map, filter, Ok, Err, Result, Vec, IfOk, IfErr, OnOk, IsTrue, refl, sym, ap, ◌∙◌, subst, inl, inr}
+use Rattle.std.specs.declared.alloc.Global.{Global}
+use Rattle.sqlite_value.specs.Order.{Row, column}
+use Rattle.sqlite_sql.specs.Term.{col}
+use Rattle.sqlite.specs.Listing.{understood}
+use Rattle.sqlite.specs.declared.error.Error.{Error}
+use Rattle.sqlite.specs.State.{State, HasCleanDisk, Survives, CommitsShowing, Shown, FailsToQuery, IsUnchanged, IsRolledBack}
+use Rattle.sqlite.proofs.Callers.{IsPlain}
+use Rattle.sqlrows.specs.Rows.{Tables, Holds, has_key}
+use Rattle.sqlrows.proofs.AnswerLemmas.{cells_by_key}
+use Rattle.sqlrows.proofs.ReadLemmas.{quiet, shown_same, fails_same, answered}
+use Rattle.sqlrows.proofs.ListLemmas.{owner_key, pair_key}
+use Rattle.mailstore.specs.Schema.{mail_schema, account, script}
+use Rattle.mailstore.specs.Statements.{select_account, select_next_copy, select_script}
+use Rattle.mailstore.specs.Cells.{shown_account}
+use Rattle.mailstore.specs.Words.{StaysSame, ReadsOnly, IsQuiet}
+use Rattle.mailstore.specs.Shows.{rows_of}
+use Rattle.mailstore.proofs.TextFacts.{by_one, by_two, account_shown, select_account_is, select_account_plain, select_next_copy_is, select_next_copy_plain, select_script_is, select_script_plain}
+use Rattle.mailstore.proofs.StatementLemmas.{account_index, script_index, account_agrees, script_agrees}
+
+same_unchanged : (old new : State) → IsUnchanged old new → StaysSame old new
+same_unchanged old new h = record { now_is = λ _. h.0.now_is; committed_is = λ _. h.0.committed_is }
+
+-- outside a transaction the last commit is what was seen
+same_undone : (old new : State) → (IsTrue old.is_open → old.now ≡ old.committed) → IsRolledBack old new → StaysSame old new
+same_undone old new settled h = record { now_is = λ open_now. (h.undone open_now).0 ∙ sym (settled (h.was_open open_now)); committed_is = λ open_now. (h.undone open_now).1 }
+
+module _ (sql : List ℕ) (params : Row) (old new : State) (plain : IsPlain (understood mail_schema sql)) where
+  pub reads_only : (r : Result (Vec Row Global) Error) → (IsTrue old.is_open → old.now ≡ old.committed) → (HasCleanDisk new → IfOk r (λ rows. Shown sql params old new rows.items))
+      → (HasCleanDisk new → IfErr r (FailsToQuery sql params old new)) → ReadsOnly old new r
+  reads_only (Ok rows) settled ok err clean tables h = let same = shown_same mail_schema sql params old new h.is plain rows.items (ok clean) in (same_unchanged old new same, same.0.is_open)
+  reads_only (Err e) settled ok err clean tables h = (elim (fails_same mail_schema sql params old new h.is plain e (err clean)) [ inl same ↦ same_unchanged old new same | inr undone ↦ same_undone old new settled undone ], tt)
+
+  pub is_quiet : Survives old new (CommitsShowing sql params old) → IsQuiet old new
+  is_quiet survives tables h = quiet mail_schema sql params old new h.is plain survives
+
+module _ (old new : State) (rows : List Row) (tables : Tables) (h : Holds mail_schema old.now tables) where
+  pub account_found : (name : List ℕ) → Shown select_account (owner_key name) old new rows → rows ≡ map shown_account (rows_of name tables 2)
+  account_found name shown =
+      cells_by_key mail_schema account (inr (inl refl)) account_index (inr (inl refl)) refl (owner_key name) (0 ∷ []) (account_agrees name) old.now.trees h.fits (tables 2) (h.each account (inr (inl refl)))
+      by_one (owner_key name) (λ n cells. refl) account_shown shown_account (λ n cells. refl) [] rows
+      (answered mail_schema select_account (owner_key name) old new h.is select_account_plain.0 2 by_one account_shown [] _ select_account_is select_account_plain.1 rows shown)
+
+  pub next_copy_found : (name : List ℕ) → Shown select_next_copy (owner_key name) old new rows → rows ≡ map (λ c. column c 6 ∷ []) (rows_of name tables 2)
+  next_copy_found name shown =
+      cells_by_key mail_schema account (inr (inl refl)) account_index (inr (inl refl)) refl (owner_key name) (0 ∷ []) (account_agrees name) old.now.trees h.fits (tables 2) (h.each account (inr (inl refl)))
+      by_one (owner_key name) (λ n cells. refl) (col 1 7 ∷ []) (λ c. column c 6 ∷ []) (λ n cells. refl) [] rows
+      (answered mail_schema select_next_copy (owner_key name) old new h.is select_next_copy_plain.0 2 by_one (col 1 7 ∷ []) [] _ select_next_copy_is select_next_copy_plain.1 rows shown)
+
+  pub script_found : (owner name : List ℕ) → Shown select_script (pair_key owner name) old new rows → rows ≡ map (λ c. column c 2 ∷ []) (filter (has_key (pair_key owner name)) (tables 4))
+  script_found owner name shown =
+      cells_by_key mail_schema script (inr (inr (inl refl))) script_index (inr (inr (inl refl))) refl (pair_key owner name) (0 ∷ 1 ∷ []) (script_agrees owner name) old.now.trees h.fits (tables 4)
+      (h.each script (inr (inr (inl refl)))) by_two (pair_key owner name) (λ n cells. refl) (col 1 3 ∷ []) (λ c. column c 2 ∷ []) (λ n cells. refl) [] rows
+      (answered mail_schema select_script (pair_key owner name) old new h.is select_script_plain.0 4 by_two (col 1 3 ∷ []) [] _ select_script_is select_script_plain.1 rows shown)
+
+-- under a clause on Ok
+pub if_shown : (r : Result (Vec Row Global) Error) (P Q : List Row → Type 0) → ((rows : List Row) → P rows → Q rows) → IfOk r (λ rows. P rows.items) → IfOk r (λ rows. Q rows.items)
+if_shown (Err e) P Q f h = tt
+if_shown (Ok rows) P Q f h = f rows.items h

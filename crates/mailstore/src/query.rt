@@ -1,0 +1,65 @@
+//! The queries.
+ghost use Rattle.std.specs.Prelude.{◌≡◌, false, [], ◌∷◌, map, filter, IfOk, OnOk};
+ghost use Rattle.sqlite_value.specs.declared.value.Value.TheVariants.{Blob};
+ghost use Rattle.sqlite.specs.Held.{state};
+ghost use Rattle.sqlite.specs.State.{HasCleanDisk};
+ghost use Rattle.sqlite_value.specs.Order.{column};
+ghost use Rattle.sqlrows.specs.Rows.{Tables, Holds, has_key};
+ghost use Rattle.mailstore.specs.Schema.{mail_schema};
+ghost use Rattle.mailstore.specs.Cells.{shown_account};
+ghost use Rattle.mailstore.specs.Words.{ReadsOnly, IsQuiet};
+ghost use Rattle.mailstore.specs.Shows.{rows_of};
+
+use sqlite::{Alter, Connection, Error, Row, params};
+
+/// The address, salt, rounds, digest and active script of the account.
+pub fn find_account<S: Alter>(conn: &mut Connection<S>, name: &[u8]) -> Result<Vec<Row>, Error>
+    requires { conn.old.in_transaction ≡ false }
+    ensures ended { conn.new.in_transaction ≡ false }
+    ensures limit { conn.new.step_limit ≡ conn.old.step_limit }
+    ensures found { HasCleanDisk (state S.Store conn.new) → (tables : Tables) → Holds mail_schema (state S.Store conn.old).now tables → IfOk result (λ rows. rows.items ≡ map shown_account (rows_of name.now tables 2)) }
+    ensures same { ReadsOnly (state S.Store conn.old) (state S.Store conn.new) result }
+    ensures crash { IsQuiet (state S.Store conn.old) (state S.Store conn.new) }
+{
+    let _settled = conn.is_autocommit();
+    conn.query_all(
+        "SELECT address, salt, rounds, digest, active FROM account WHERE name = ?1",
+        params![name],
+    )
+}
+
+/// The number of the account's next copy.
+pub fn find_next_copy<S: Alter>(conn: &mut Connection<S>, name: &[u8]) -> Result<Vec<Row>, Error>
+    requires { conn.old.in_transaction ≡ false }
+    ensures ended { conn.new.in_transaction ≡ false }
+    ensures limit { conn.new.step_limit ≡ conn.old.step_limit }
+    ensures found { HasCleanDisk (state S.Store conn.new) → (tables : Tables) → Holds mail_schema (state S.Store conn.old).now tables → IfOk result (λ rows. rows.items ≡ map (λ c. column c 6 ∷ []) (rows_of name.now tables 2)) }
+    ensures same { ReadsOnly (state S.Store conn.old) (state S.Store conn.new) result }
+    ensures crash { IsQuiet (state S.Store conn.old) (state S.Store conn.new) }
+{
+    let _settled = conn.is_autocommit();
+    conn.query_all(
+        "SELECT next_copy FROM account WHERE name = ?1",
+        params![name],
+    )
+}
+
+/// The text of the script.
+pub fn find_script<S: Alter>(
+    conn: &mut Connection<S>,
+    owner: &[u8],
+    name: &[u8],
+) -> Result<Vec<Row>, Error>
+    requires { conn.old.in_transaction ≡ false }
+    ensures ended { conn.new.in_transaction ≡ false }
+    ensures limit { conn.new.step_limit ≡ conn.old.step_limit }
+    ensures found { HasCleanDisk (state S.Store conn.new) → (tables : Tables) → Holds mail_schema (state S.Store conn.old).now tables → IfOk result (λ rows. rows.items ≡ map (λ c. column c 2 ∷ []) (filter (has_key (Blob owner.now ∷ Blob name.now ∷ [])) (tables 4))) }
+    ensures same { ReadsOnly (state S.Store conn.old) (state S.Store conn.new) result }
+    ensures crash { IsQuiet (state S.Store conn.old) (state S.Store conn.new) }
+{
+    let _settled = conn.is_autocommit();
+    conn.query_all(
+        "SELECT text FROM script WHERE owner = ?1 AND name = ?2",
+        params![owner, name],
+    )
+}
