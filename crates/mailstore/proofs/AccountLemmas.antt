@@ -16,6 +16,7 @@ use Rattle.sqlrows.specs.Rows.{Tables, has_key, added, removed, set_in}
 use Rattle.sqlrows.proofs.ListLemmas.{owner_key, pair_key, owned_by, equal_itself}
 use Rattle.mailstore.specs.Cells.{account_cells, script_cells, copy_cells, with_active, with_next_copy, or_null}
 use Rattle.mailstore.specs.Account.{bytes_cmp, Password, Account, Scripts, Folders, new_account, keeps_script, activates, filed, filed_in, files_copies}
+use Rattle.mailstore.specs.Changes.{copied}
 use Rattle.mailstore.specs.Shows.{Copy, account_row, script_row, copy_row, queue_row, reply_row, notice_row, AreNumbered, AreApart, folders_from, IsShown, IsAbsent}
 
 pub bytes_antisymmetric : IsAntisymmetric bytes_cmp
@@ -191,11 +192,6 @@ module _ (user : List ℕ) (own : Tables) (a : Account) (s : IsShown user own a)
       folded : (cs : List Copy) (from : Folders) (c : Copy) → fold (λ folders copy. filed folders copy.folder copy.message) from (cs ++ c ∷ []) ≡ filed (fold (λ folders copy. filed folders copy.folder copy.message) from cs) c.folder c.message
       folded [] from c = refl
       folded (d ∷ cs) from c = folded cs (filed from d.folder d.message) c
-
--- one row after another, numbered from n on
-abbrev pub copied : List ℕ → List ℕ → ℕ → List (List ℕ) → Tables → Tables
-copied user message n [] own = own
-copied user message n (name ∷ names) own = copied user message (suc n) names (added 6 (copy_cells user name (pos n) message) own)
 
 pub copies_put : (user message : List ℕ) (names : List (List ℕ)) (n : ℕ) (own : Tables) (a : Account) (s : IsShown user own a) → AllByRecursion (λ m. m < n) (map (λ c. c.n) s.copies) → 1 ≤ n → n + length names ≤ s.next_copy
     → IsShown user (copied user message n names own) (files_copies names message a)

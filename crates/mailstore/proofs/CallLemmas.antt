@@ -11,11 +11,11 @@ use Rattle.mailstore.specs.declared.change.Change.TheVariants.{AddAccount, SetAc
 use Rattle.mailstore.specs.declared.refusal.Refusal.{Refusal}
 use Rattle.mailstore.specs.Schema.{mail_schema}
 use Rattle.mailstore.specs.Cells.{contents}
-use Rattle.mailstore.specs.Changes.{made, MayHave}
+use Rattle.mailstore.specs.Changes.{made, MayHave, AreOf}
 use Rattle.mailstore.specs.Account.{Account, Accounts, with_user, in_place, new_account, keeps_script, activates}
 use Rattle.mailstore.specs.Shows.{rows_of, IsShown, IsAbsent, IsShownOrAbsent, ShowsAccounts, Presents}
 use Rattle.mailstore.specs.Calls.{HasUser, IsFree, Turns, MayShow}
-use Rattle.mailstore.proofs.ShowLemmas.{AreOf, shows_after}
+use Rattle.mailstore.proofs.ShowLemmas.{shows_after}
 use Rattle.mailstore.proofs.AccountLemmas.{script_put, active_put, account_put}
 
 -- the changes turn tables that show accounts that fit into tables that show them changed
@@ -54,8 +54,3 @@ pub carries_account : (user address salt : Bor (List ℕ)) (rounds : ℕ) (diges
 carries_account user address salt rounds digest tables accounts shows free =
     let none = subst (IsShownOrAbsent user.now (rows_of user.now tables)) free (shows.users user.now) in
     shows_after tables accounts user.now (AddAccount user address salt rounds digest ∷ []) _ (refl, tt) shows (account_put user.now address.now salt.now rounds digest.now (rows_of user.now tables) none)
-
--- what holds on Ok holds where Ok was answered
-pub on_ok : {X E : Type 0} (r : Result X E) (x : X) → r ≡ Ok x → (P : Type 0) → OnOk r P → P
-on_ok (Err e) x is P h = absurd (let same = is in cc)
-on_ok (Ok y) x is P h = h

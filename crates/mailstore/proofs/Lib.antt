@@ -1,9 +1,12 @@
 pub mod SchemaFacts
 pub mod TextFacts
 pub mod StatementLemmas
+pub mod ResultLemmas
 pub mod WriteLemmas
 pub mod ShowLemmas
 pub mod AccountLemmas
 pub mod CreateLemmas
 pub mod CallLemmas
 pub mod QueryLemmas
+pub mod ReadLemmas
+pub mod DeliveryLemmas

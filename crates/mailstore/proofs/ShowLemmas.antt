@@ -14,7 +14,7 @@ use Rattle.sqlrows.proofs.ListLemmas.{owner_key, pair_key, owned_by, owners_apar
 use Rattle.mailstore.specs.declared.change.Change.{Change}
 use Rattle.mailstore.specs.declared.change.Change.TheVariants.{AddAccount, SetActive, SetNextCopy, AddScript, RemoveScript, AddCopy}
 use Rattle.mailstore.specs.Cells.{account_cells, script_cells, copy_cells, with_active, with_next_copy, or_null, contents}
-use Rattle.mailstore.specs.Changes.{made_one, made}
+use Rattle.mailstore.specs.Changes.{made_one, made, owner_of, AreOf}
 use Rattle.mailstore.specs.Account.{bytes_cmp, Account, Accounts}
 use Rattle.mailstore.specs.Shows.{rows_of, IsShown, IsShownOrAbsent, ShowsAccounts}
 
@@ -62,14 +62,6 @@ update_swapped p q f stays (r ∷ rows) = go (q r) refl (update_swapped p q f st
         other true s = simp t (ap (λ l. r ∷ l) more)
         other false s = more
 
-abbrev pub owner_of : Change → List ℕ
-owner_of (AddAccount name address salt rounds digest) = name.now
-owner_of (SetActive name active) = name.now
-owner_of (SetNextCopy name next) = name.now
-owner_of (AddScript owner name text) = owner.now
-owner_of (RemoveScript owner name) = owner.now
-owner_of (AddCopy owner folder n message) = owner.now
-
 begins_apart : (a b : List ℕ) → a ≢ b → (rest : Row) → has_key (owner_key a) (Blob b ∷ rest) ≡ false
 begins_apart a b differ rest = owners_apart a b differ (Blob b ∷ rest) (owned_by b rest)
 
@@ -103,10 +95,6 @@ version_one (SetNextCopy name next) tables = refl
 version_one (AddScript owner name text) tables = refl
 version_one (RemoveScript owner name) tables = refl
 version_one (AddCopy owner folder n message) tables = refl
-
--- all changes are one user's
-abbrev pub AreOf : List ℕ → List Change → Type 0
-AreOf user = AllByRecursion (λ d. owner_of d ≡ user)
 
 others_all : (user other : List ℕ) (ds : List Change) (tables : Tables) → AreOf user ds → other ≢ user → rows_of other (made tables ds) ≡ rows_of other tables
 others_all user other [] tables are differ = refl

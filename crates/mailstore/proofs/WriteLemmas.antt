@@ -22,7 +22,7 @@ pub record HasMade (old now : State) (changes : List Change) : Type 0 where
   pub kept : KeepsCommit old now
   pub holds : (tables : Tables) → Holds mail_schema old.now tables → Holds mail_schema now.now (made tables changes)
 
-made_push : (changes : List Change) (change : Change) (tables : Tables) → made tables (changes ++ change ∷ []) ≡ made_one change (made tables changes)
+pub made_push : (changes : List Change) (change : Change) (tables : Tables) → made tables (changes ++ change ∷ []) ≡ made_one change (made tables changes)
 made_push [] change tables = refl
 made_push (c ∷ changes) change tables = made_push changes change (made_one c tables)
 

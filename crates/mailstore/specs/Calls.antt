@@ -1,11 +1,12 @@
 -- What the calls of the store promise of accounts.
-use Rattle.std.specs.Prelude.{◌≡◌, List, ℕ, Result, OnOk, IsTrue, IsSome, None}
+use Rattle.std.specs.Prelude.{◌≡◌, List, ℕ, Result, OnOk, IsTrue, IsSome, None, Some}
 use Rattle.std.specs.FinMap.{get}
 use Rattle.sqlite_trees.specs.Tree.{Trees}
 use Rattle.sqlite.specs.Effect.{Database}
 use Rattle.sqlite.specs.State.{State, HasCleanDisk, Survives}
+use Rattle.mailstore.specs.declared.profile.Profile.{Profile}
 use Rattle.mailstore.specs.Words.{StaysSame}
-use Rattle.mailstore.specs.Account.{Accounts}
+use Rattle.mailstore.specs.Account.{Account, Accounts}
 use Rattle.mailstore.specs.Shows.{Presents}
 
 abbrev pub HasUser : List ℕ → Accounts → Type 0
@@ -22,10 +23,22 @@ Turns Fit change old new = (accounts : Accounts) → Presents old accounts → F
 abbrev pub MayShow : (Accounts → Type 0) → (Accounts → Accounts) → State → Trees → Type 0
 MayShow Fit change s trees = (accounts : Accounts) → Presents s.now accounts → Fit accounts → (after : Database) × Presents after (change accounts) × (trees ≡ after.trees)
 
--- a read keeps the tables, whatever it answers, and after Ok the connection is open
-abbrev pub KeepsTables : {X E : Type 0} → State → State → Result X E → Type 0
-KeepsTables old new result = HasCleanDisk new → (accounts : Accounts) → Presents old.now accounts → StaysSame old new × OnOk result (IsTrue new.is_open)
+-- a read keeps what the connection sees, whatever it answers
+abbrev pub KeepsTables : State → State → Type 0
+KeepsTables old new = HasCleanDisk new → (accounts : Accounts) → Presents old.now accounts → StaysSame old new
 
--- a crash leaves what it left before
+-- after Ok the connection is open
+abbrev pub IsOpenOnOk : {X E : Type 0} → State → State → Result X E → Type 0
+IsOpenOnOk old new result = HasCleanDisk new → (accounts : Accounts) → Presents old.now accounts → OnOk result (IsTrue new.is_open)
+
+-- a crash leaves what it left before, where the tables show accounts
 abbrev pub LosesNothing : State → State → Type 0
-LosesNothing old new = (accounts : Accounts) → Presents old.now accounts → Survives old new (λ _. ⊥)
+LosesNothing old new = Survives old new (λ _. (accounts : Accounts) → Presents old.now accounts → ⊥)
+
+-- the user has an account, of which this holds
+abbrev pub OfUser : Accounts → List ℕ → (Account → Type 0) → Type 0
+OfUser accounts user P = (a : Account) × (get accounts user ≡ Some a) × P a
+
+-- what the store answers of an account
+abbrev pub profile_of : Account → Profile
+profile_of a = record { address = a.address; salt = a.password.salt; rounds = a.password.rounds; digest = a.password.digest; active = a.active }

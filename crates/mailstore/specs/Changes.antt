@@ -1,5 +1,6 @@
 -- What row changes make of the tables.
-use Rattle.std.specs.Prelude.{◌≡◌, ℕ, List, [], ◌∷◌, fold}
+use Rattle.std.specs.Prelude.{◌≡◌, ℕ, suc, pos, List, [], ◌∷◌, fold}
+use Rattle.std.specs.List.{AllByRecursion}
 use Rattle.sqlite_value.specs.declared.value.Value.TheVariants.{Blob}
 use Rattle.sqlite_trees.specs.Tree.{Trees}
 use Rattle.sqlite.specs.Effect.{Database}
@@ -25,3 +26,26 @@ made = fold (λ tables change. made_one change tables)
 -- what a crash may leave of a transaction of these changes
 abbrev pub MayHave : List Change → State → Trees → Type 0
 MayHave changes s trees = (tables : Tables) → Holds mail_schema s.now tables → (after : Database) × Holds mail_schema after (made tables changes) × (trees ≡ after.trees)
+
+-- whose row it is
+abbrev pub owner_of : Change → List ℕ
+owner_of (AddAccount name address salt rounds digest) = name.now
+owner_of (SetActive name active) = name.now
+owner_of (SetNextCopy name next) = name.now
+owner_of (AddScript owner name text) = owner.now
+owner_of (RemoveScript owner name) = owner.now
+owner_of (AddCopy owner folder n message) = owner.now
+
+-- all changes are one user's
+abbrev pub AreOf : List ℕ → List Change → Type 0
+AreOf user = AllByRecursion (λ d. owner_of d ≡ user)
+
+-- one row after another, numbered from n on
+abbrev pub copied : List ℕ → List ℕ → ℕ → List (List ℕ) → Tables → Tables
+copied user message n [] own = own
+copied user message n (name ∷ names) own = copied user message (suc n) names (added 6 (copy_cells user name (pos n) message) own)
+
+-- the changes raise the counter of copies past these, and then file the message in each folder, numbered from n on
+pub record AreCopies (user message : List ℕ) (names : List (List ℕ)) (n last : ℕ) (changes : List Change) : Type 0 where
+  pub owned : AreOf user changes
+  pub makes : (own : Tables) → made own changes ≡ copied user message n names (set_in 2 (Blob user ∷ []) (with_next_copy (pos last)) own)

@@ -40,10 +40,14 @@ has_our_name schema =
     is_some (table_named schema (codes "meta")) || is_some (table_named schema (codes "account")) || is_some (table_named schema (codes "script")) || is_some (table_named schema (codes "copy"))
     || is_some (table_named schema (codes "outgoing")) || is_some (table_named schema (codes "reply")) || is_some (table_named schema (codes "notice"))
 
--- a query keeps what the connection sees, whatever it answers, and after Ok the connection is open
-abbrev pub ReadsOnly : {X E : Type 0} → State → State → Result X E → Type 0
-ReadsOnly old new result = HasCleanDisk new → (tables : Tables) → Holds mail_schema old.now tables → StaysSame old new × OnOk result (IsTrue new.is_open)
+-- a query keeps what the connection sees, whatever it answers
+abbrev pub ReadsOnly : State → State → Type 0
+ReadsOnly old new = HasCleanDisk new → (tables : Tables) → Holds mail_schema old.now tables → StaysSame old new
 
--- a crash leaves what it left before
+-- after Ok the connection is open
+abbrev pub IsLiveOnOk : {X E : Type 0} → State → State → Result X E → Type 0
+IsLiveOnOk old new result = HasCleanDisk new → (tables : Tables) → Holds mail_schema old.now tables → OnOk result (IsTrue new.is_open)
+
+-- a crash leaves what it left before, where the tables are ours
 abbrev pub IsQuiet : State → State → Type 0
-IsQuiet old new = (tables : Tables) → Holds mail_schema old.now tables → Survives old new (λ _. ⊥)
+IsQuiet old new = Survives old new (λ _. (tables : Tables) → Holds mail_schema old.now tables → ⊥)

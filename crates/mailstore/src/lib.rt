@@ -2,7 +2,11 @@
 #![tactic(auto)]
 
 mod change;
+mod decode;
+mod delivery;
+mod profile;
 mod query;
+mod reads;
 mod refusal;
 mod report;
 mod statement;
@@ -10,6 +14,7 @@ pub mod store;
 mod table;
 mod writes;
 
+pub use profile::Profile;
 pub use refusal::Refusal;
 pub use report::{Plan, Report};
 pub use store::Store;

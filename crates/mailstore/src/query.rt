@@ -7,7 +7,7 @@ ghost use Rattle.sqlite_value.specs.Order.{column};
 ghost use Rattle.sqlrows.specs.Rows.{Tables, Holds, has_key};
 ghost use Rattle.mailstore.specs.Schema.{mail_schema};
 ghost use Rattle.mailstore.specs.Cells.{shown_account};
-ghost use Rattle.mailstore.specs.Words.{ReadsOnly, IsQuiet};
+ghost use Rattle.mailstore.specs.Words.{ReadsOnly, IsLiveOnOk, IsQuiet};
 ghost use Rattle.mailstore.specs.Shows.{rows_of};
 
 use sqlite::{Alter, Connection, Error, Row, params};
@@ -18,7 +18,8 @@ pub fn find_account<S: Alter>(conn: &mut Connection<S>, name: &[u8]) -> Result<V
     ensures ended { conn.new.in_transaction ≡ false }
     ensures limit { conn.new.step_limit ≡ conn.old.step_limit }
     ensures found { HasCleanDisk (state S.Store conn.new) → (tables : Tables) → Holds mail_schema (state S.Store conn.old).now tables → IfOk result (λ rows. rows.items ≡ map shown_account (rows_of name.now tables 2)) }
-    ensures same { ReadsOnly (state S.Store conn.old) (state S.Store conn.new) result }
+    ensures same { ReadsOnly (state S.Store conn.old) (state S.Store conn.new) }
+    ensures live { IsLiveOnOk (state S.Store conn.old) (state S.Store conn.new) result }
     ensures crash { IsQuiet (state S.Store conn.old) (state S.Store conn.new) }
 {
     let _settled = conn.is_autocommit();
@@ -34,7 +35,8 @@ pub fn find_next_copy<S: Alter>(conn: &mut Connection<S>, name: &[u8]) -> Result
     ensures ended { conn.new.in_transaction ≡ false }
     ensures limit { conn.new.step_limit ≡ conn.old.step_limit }
     ensures found { HasCleanDisk (state S.Store conn.new) → (tables : Tables) → Holds mail_schema (state S.Store conn.old).now tables → IfOk result (λ rows. rows.items ≡ map (λ c. column c 6 ∷ []) (rows_of name.now tables 2)) }
-    ensures same { ReadsOnly (state S.Store conn.old) (state S.Store conn.new) result }
+    ensures same { ReadsOnly (state S.Store conn.old) (state S.Store conn.new) }
+    ensures live { IsLiveOnOk (state S.Store conn.old) (state S.Store conn.new) result }
     ensures crash { IsQuiet (state S.Store conn.old) (state S.Store conn.new) }
 {
     let _settled = conn.is_autocommit();
@@ -54,7 +56,8 @@ pub fn find_script<S: Alter>(
     ensures ended { conn.new.in_transaction ≡ false }
     ensures limit { conn.new.step_limit ≡ conn.old.step_limit }
     ensures found { HasCleanDisk (state S.Store conn.new) → (tables : Tables) → Holds mail_schema (state S.Store conn.old).now tables → IfOk result (λ rows. rows.items ≡ map (λ c. column c 2 ∷ []) (filter (has_key (Blob owner.now ∷ Blob name.now ∷ [])) (tables 4))) }
-    ensures same { ReadsOnly (state S.Store conn.old) (state S.Store conn.new) result }
+    ensures same { ReadsOnly (state S.Store conn.old) (state S.Store conn.new) }
+    ensures live { IsLiveOnOk (state S.Store conn.old) (state S.Store conn.new) result }
     ensures crash { IsQuiet (state S.Store conn.old) (state S.Store conn.new) }
 {
     let _settled = conn.is_autocommit();

@@ -1,6 +1,6 @@
 //! Why a call is refused.
 use sqlite::{Error, ErrorCode};
-use std::alloc::AllocError;
+use std::alloc::{AllocError, AllocFailed};
 use thiserror::Error as Derived;
 
 /// The refusals of the store and of the engine above it. `Memory` and `Store` may come at any call;
@@ -46,6 +46,17 @@ impl From<AllocError> for Refusal {
     ghost from_gives = { λ _ e. e ≡ Memory };
 
     fn from(_: AllocError) -> Refusal {
+        Refusal::Memory
+    }
+}
+
+impl<T: Drop> From<AllocFailed<T>> for Refusal {
+    ghost use Rattle.std.specs.Prelude.{◌≡◌};
+    ghost use Rattle.mailstore.specs.declared.refusal.Refusal.TheVariants.{Memory};
+
+    ghost from_gives = { λ _ e. e ≡ Memory };
+
+    fn from(_: AllocFailed<T>) -> Refusal {
         Refusal::Memory
     }
 }

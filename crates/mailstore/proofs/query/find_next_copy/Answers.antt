@@ -8,7 +8,7 @@ use Rattle.mailstore.specs.Statements.{select_next_copy}
 use Rattle.mailstore.specs.Cells.{shown_account}
 use Rattle.mailstore.specs.Shows.{rows_of}
 use Rattle.mailstore.proofs.TextFacts.{select_next_copy_plain}
-use Rattle.mailstore.proofs.QueryLemmas.{reads_only, is_quiet, if_shown, next_copy_found}
+use Rattle.mailstore.proofs.QueryLemmas.{reads_only, is_live, is_quiet, if_shown, next_copy_found}
 use Rattle.mailstore.proofs.query.find_next_copy.Goals as goal
 
 pub returns-clause-found : goal.returns-clause-found
@@ -28,3 +28,7 @@ returns-clause-same g c =
 pub returns-clause-crash : goal.returns-clause-crash
 returns-clause-crash g c =
     is_quiet select_next_copy (owner_key c.args.name.now) (state g.S.Store c.args.conn.now) (state g.S.Store c.query_all.new.self) select_next_copy_plain.0 (rw (c.params-to_sql.ensures) at c.query_all.ensures.survives)
+
+pub returns-clause-live : goal.returns-clause-live
+returns-clause-live g c =
+    is_live select_next_copy (owner_key c.args.name.now) (state g.S.Store c.args.conn.now) (state g.S.Store c.query_all.new.self) select_next_copy_plain.0 c.query_all.result (rw (c.params-to_sql.ensures) at c.query_all.ensures.ok)
