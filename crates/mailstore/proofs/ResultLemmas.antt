@@ -1,5 +1,5 @@
 -- What a clause on Ok or on a refusal says.
-use Rattle.std.proofs.Common.{◌≡◌, Ok, Err, Result, OnOk, IfOk}
+use Rattle.std.proofs.Common.{◌≡◌, Ok, Err, Result, OnOk, OnErr, IfOk}
 
 -- what holds on Ok holds where Ok was answered
 pub on_ok : {X E : Type 0} (r : Result X E) (x : X) → r ≡ Ok x → (P : Type 0) → OnOk r P → P
@@ -13,3 +13,7 @@ on_any (Ok x) P h = h
 pub if_ok : {X E : Type 0} (r : Result X E) (P Q : X → Type 0) → ((x : X) → P x → Q x) → IfOk r P → IfOk r Q
 if_ok (Err e) P Q f h = tt
 if_ok (Ok x) P Q f h = f x h
+
+pub on_err_any : {X E : Type 0} (r : Result X E) (P : Type 0) → P → OnErr r P
+on_err_any (Err e) P h = h
+on_err_any (Ok x) P h = tt

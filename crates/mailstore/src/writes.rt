@@ -1,5 +1,5 @@
 //! The writes: each is one transaction of row changes.
-ghost use Rattle.std.specs.Prelude.{◌≡◌, OnOk, OnErr, IfErr};
+ghost use Rattle.std.specs.Prelude.{◌≡◌, ◌⊎◌, OnOk, OnErr, IfErr};
 ghost use Rattle.std.specs.FinMap.{insert};
 ghost use Rattle.sqlite.specs.Held.{state};
 ghost use Rattle.sqlite.specs.State.{HasCleanDisk, Survives};
@@ -8,12 +8,15 @@ ghost use Rattle.mailstore.specs.Schema.{mail_schema};
 ghost use Rattle.mailstore.specs.Words.{IsSettled, StaysSame};
 ghost use Rattle.mailstore.specs.Changes.{made, MayHave};
 ghost use Rattle.mailstore.specs.Cells.{contents};
-ghost use Rattle.mailstore.specs.Account.{with_user, new_account, keeps_script, activates};
+ghost use Rattle.mailstore.specs.Account.{Accounts, with_user, new_account, keeps_script, activates, files_copies};
+ghost use Rattle.mailstore.specs.Shows.{Presents};
 ghost use Rattle.mailstore.specs.Calls.{HasUser, IsFree, Turns, MayShow};
 ghost use Rattle.mailstore.specs.Refusals.{IsPassing};
 
 use crate::change::{Change, make_all};
+use crate::delivery::copy_changes;
 use crate::refusal::Refusal;
+use crate::report::Plan;
 use crate::store::Store;
 use sqlite::Alter;
 
@@ -86,5 +89,25 @@ impl<S: Alter> Store<S> {
             name: user,
             active: name,
         }])
+    }
+
+    /// Writes the delivery: the message joins each folder of the plan, in turn.
+    pub fn commit_delivery(&mut self, user: &[u8], plan: &Plan<'_>) -> Result<(), Refusal>
+        ensures made { HasCleanDisk (state S.Store self.new) → OnOk result (Turns (HasUser user.now) (λ all. with_user all user.now (files_copies plan.now.copies plan.now.message.now)) (state S.Store self.old).now (state S.Store self.new).now) }
+        ensures settled { HasCleanDisk (state S.Store self.new) → OnOk result (IsSettled (state S.Store self.new)) }
+        ensures same { HasCleanDisk (state S.Store self.new) → (accounts : Accounts) → Presents (state S.Store self.old).now accounts → OnErr result (StaysSame (state S.Store self.old) (state S.Store self.new)) }
+        ensures crash { Survives (state S.Store self.old) (state S.Store self.new) (MayShow (HasUser user.now) (λ all. with_user all user.now (files_copies plan.now.copies plan.now.message.now)) (state S.Store self.old)) }
+        ensures no_user { HasCleanDisk (state S.Store self.new) → (accounts : Accounts) → Presents (state S.Store self.old).now accounts → IfErr result (λ e. e ≡ Refusal.NoUser → IsFree user.now accounts) }
+        ensures named { IfErr result (λ e. (e ≡ Refusal.NoUser) ⊎ IsPassing e) }
+    {
+        let next = self.next_copy(user)?;
+        let changes = copy_changes(
+            self.alloc,
+            user,
+            plan.copies.as_slice(),
+            plan.message,
+            next,
+        )?;
+        self.apply(&changes)
     }
 }
