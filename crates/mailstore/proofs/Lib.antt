@@ -10,3 +10,4 @@ pub mod CallLemmas
 pub mod QueryLemmas
 pub mod ReadLemmas
 pub mod DeliveryLemmas
+pub mod OrderLemmas
