@@ -8,6 +8,6 @@ pub mod AccountLemmas
 pub mod CreateLemmas
 pub mod CallLemmas
 pub mod QueryLemmas
-pub mod ReadLemmas
 pub mod DeliveryLemmas
 pub mod OrderLemmas
+pub mod ReadLemmas

@@ -34,7 +34,7 @@ use Rattle.mailstore.proofs.TextFacts.{by_one, by_two, select_names_is, select_n
 use Rattle.mailstore.proofs.AccountLemmas.{pair_is, bytes_antisymmetric}
 
 -- the rows with a key of two are among the owner's
-of_owner : (owner name : List ℕ) (tables : Tables) (tree : ℕ) → filter (has_key (pair_key owner name)) (tables tree) ≡ filter (has_key (pair_key owner name)) (rows_of owner tables tree)
+pub of_owner : (owner name : List ℕ) (tables : Tables) (tree : ℕ) → filter (has_key (pair_key owner name)) (tables tree) ≡ filter (has_key (pair_key owner name)) (rows_of owner tables tree)
 of_owner owner name tables tree = sym (filter-filter (has_key (pair_key owner name)) (has_key (owner_key owner)) (pair_owned owner name) (tables tree))
 
 abbrev by_number : Query

@@ -1,11 +1,14 @@
 -- What the calls of the store promise of accounts.
-use Rattle.std.specs.Prelude.{◌≡◌, List, ℕ, Result, OnOk, IsTrue, IsSome, None, Some}
+use Rattle.std.specs.Prelude.{◌≡◌, List, [], ◌∷◌, ℕ, pos, Result, OnOk, IsTrue, IsSome, None, Some}
 use Rattle.std.specs.FinMap.{get}
+use Rattle.sqlite_value.specs.declared.value.Value.TheVariants.{Int, Blob}
+use Rattle.sqlite_value.specs.Order.{Row}
 use Rattle.sqlite_trees.specs.Tree.{Trees}
 use Rattle.sqlite.specs.Effect.{Database}
 use Rattle.sqlite.specs.State.{State, HasCleanDisk, Survives}
 use Rattle.mailstore.specs.declared.profile.Profile.{Profile}
 use Rattle.mailstore.specs.Words.{StaysSame}
+use Rattle.mailstore.specs.Cells.{or_null}
 use Rattle.mailstore.specs.Account.{Account, Accounts}
 use Rattle.mailstore.specs.Shows.{Presents}
 
@@ -42,3 +45,7 @@ OfUser accounts user P = (a : Account) × (get accounts user ≡ Some a) × P a
 -- what the store answers of an account
 abbrev pub profile_of : Account → Profile
 profile_of a = record { address = a.address; salt = a.password.salt; rounds = a.password.rounds; digest = a.password.digest; active = a.active }
+
+-- what the query for an account shows
+abbrev pub profile_row : Account → Row
+profile_row a = Blob a.address ∷ Blob a.password.salt ∷ Int (pos a.password.rounds) ∷ Blob a.password.digest ∷ or_null a.active ∷ []

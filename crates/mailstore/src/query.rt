@@ -1,14 +1,16 @@
 //! The queries.
-ghost use Rattle.std.specs.Prelude.{◌≡◌, false, [], ◌∷◌, map, filter, IfOk, OnOk};
+ghost use Rattle.std.specs.Prelude.{◌≡◌, false, [], ◌∷◌, map, slice_get, option_map, IfOk, IfSome};
+ghost use Rattle.std.specs.FinMap.{get, keys};
 ghost use Rattle.sqlite_value.specs.declared.value.Value.TheVariants.{Blob};
 ghost use Rattle.sqlite.specs.Held.{state};
 ghost use Rattle.sqlite.specs.State.{HasCleanDisk};
 ghost use Rattle.sqlite_value.specs.Order.{column};
-ghost use Rattle.sqlrows.specs.Rows.{Tables, Holds, has_key};
+ghost use Rattle.sqlrows.specs.Rows.{Tables, Holds};
 ghost use Rattle.mailstore.specs.Schema.{mail_schema};
-ghost use Rattle.mailstore.specs.Cells.{shown_account};
+ghost use Rattle.mailstore.specs.Calls.{profile_row};
 ghost use Rattle.mailstore.specs.Words.{ReadsOnly, IsLiveOnOk, IsQuiet};
-ghost use Rattle.mailstore.specs.Shows.{rows_of};
+ghost use Rattle.mailstore.specs.Shows.{rows_of, Presents};
+ghost use Rattle.mailstore.specs.Account.{Accounts, messages_in};
 
 use sqlite::{Alter, Connection, Error, Row, params};
 
@@ -17,7 +19,7 @@ pub fn find_account<S: Alter>(conn: &mut Connection<S>, name: &[u8]) -> Result<V
     requires { conn.old.in_transaction ≡ false }
     ensures ended { conn.new.in_transaction ≡ false }
     ensures limit { conn.new.step_limit ≡ conn.old.step_limit }
-    ensures found { HasCleanDisk (state S.Store conn.new) → (tables : Tables) → Holds mail_schema (state S.Store conn.old).now tables → IfOk result (λ rows. rows.items ≡ map shown_account (rows_of name.now tables 2)) }
+    ensures found { HasCleanDisk (state S.Store conn.new) → (accounts : Accounts) → Presents (state S.Store conn.old).now accounts → IfOk result (λ rows. slice_get rows.items 0 ≡ option_map profile_row (get accounts name.now)) }
     ensures same { ReadsOnly (state S.Store conn.old) (state S.Store conn.new) }
     ensures live { IsLiveOnOk (state S.Store conn.old) (state S.Store conn.new) result }
     ensures crash { IsQuiet (state S.Store conn.old) (state S.Store conn.new) }
@@ -55,7 +57,7 @@ pub fn find_script<S: Alter>(
     requires { conn.old.in_transaction ≡ false }
     ensures ended { conn.new.in_transaction ≡ false }
     ensures limit { conn.new.step_limit ≡ conn.old.step_limit }
-    ensures found { HasCleanDisk (state S.Store conn.new) → (tables : Tables) → Holds mail_schema (state S.Store conn.old).now tables → IfOk result (λ rows. rows.items ≡ map (λ c. column c 2 ∷ []) (filter (has_key (Blob owner.now ∷ Blob name.now ∷ [])) (tables 4))) }
+    ensures found { HasCleanDisk (state S.Store conn.new) → (accounts : Accounts) → Presents (state S.Store conn.old).now accounts → IfOk result (λ rows. IfSome (get accounts owner.now) (λ a. slice_get rows.items 0 ≡ option_map (λ t. Blob t ∷ []) (get a.scripts name.now))) }
     ensures same { ReadsOnly (state S.Store conn.old) (state S.Store conn.new) }
     ensures live { IsLiveOnOk (state S.Store conn.old) (state S.Store conn.new) result }
     ensures crash { IsQuiet (state S.Store conn.old) (state S.Store conn.new) }
@@ -64,5 +66,43 @@ pub fn find_script<S: Alter>(
     conn.query_all(
         "SELECT text FROM script WHERE owner = ?1 AND name = ?2",
         params![owner, name],
+    )
+}
+
+/// The names of the scripts, in the order of their octets.
+pub fn find_names<S: Alter>(conn: &mut Connection<S>, owner: &[u8]) -> Result<Vec<Row>, Error>
+    requires { conn.old.in_transaction ≡ false }
+    ensures ended { conn.new.in_transaction ≡ false }
+    ensures limit { conn.new.step_limit ≡ conn.old.step_limit }
+    ensures found { HasCleanDisk (state S.Store conn.new) → (accounts : Accounts) → Presents (state S.Store conn.old).now accounts → IfOk result (λ rows. IfSome (get accounts owner.now) (λ a. rows.items ≡ map (λ n. Blob n ∷ []) (keys a.scripts))) }
+    ensures same { ReadsOnly (state S.Store conn.old) (state S.Store conn.new) }
+    ensures live { IsLiveOnOk (state S.Store conn.old) (state S.Store conn.new) result }
+    ensures crash { IsQuiet (state S.Store conn.old) (state S.Store conn.new) }
+{
+    let _settled = conn.is_autocommit();
+    conn.query_all(
+        "SELECT name FROM script WHERE owner = ?1 ORDER BY name",
+        params![owner],
+    )
+}
+
+/// The messages of the folder, in the order of their numbers.
+pub fn find_messages<S: Alter>(
+    conn: &mut Connection<S>,
+    owner: &[u8],
+    folder: &[u8],
+) -> Result<Vec<Row>, Error>
+    requires { conn.old.in_transaction ≡ false }
+    ensures ended { conn.new.in_transaction ≡ false }
+    ensures limit { conn.new.step_limit ≡ conn.old.step_limit }
+    ensures found { HasCleanDisk (state S.Store conn.new) → (accounts : Accounts) → Presents (state S.Store conn.old).now accounts → IfOk result (λ rows. IfSome (get accounts owner.now) (λ a. rows.items ≡ map (λ m. Blob m ∷ []) (messages_in a.folders folder.now))) }
+    ensures same { ReadsOnly (state S.Store conn.old) (state S.Store conn.new) }
+    ensures live { IsLiveOnOk (state S.Store conn.old) (state S.Store conn.new) result }
+    ensures crash { IsQuiet (state S.Store conn.old) (state S.Store conn.new) }
+{
+    let _settled = conn.is_autocommit();
+    conn.query_all(
+        "SELECT message FROM copy WHERE owner = ?1 AND folder = ?2 ORDER BY n",
+        params![owner, folder],
     )
 }

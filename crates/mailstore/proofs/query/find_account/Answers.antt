@@ -1,22 +1,23 @@
-use Rattle.std.proofs.Common.{◌≡◌, [], ◌∷◌, map, filter, rules, IsTrue}
-use Rattle.sqlite_value.specs.Order.{Row, column}
+use Rattle.std.proofs.Common.{◌≡◌, [], ◌∷◌, map, slice_get, option_map, IfSome, rules, IsTrue}
+use Rattle.std.specs.FinMap.{get, keys}
+use Rattle.sqlite_value.specs.declared.value.Value.TheVariants.{Blob}
 use Rattle.sqlite.specs.Held.{state}
 use Rattle.sqlite.specs.State.{Shown}
-use Rattle.sqlrows.specs.Rows.{has_key}
 use Rattle.sqlrows.proofs.ListLemmas.{owner_key, pair_key}
+use Rattle.mailstore.specs.Account.{messages_in}
 use Rattle.mailstore.specs.Statements.{select_account}
-use Rattle.mailstore.specs.Cells.{shown_account}
-use Rattle.mailstore.specs.Shows.{rows_of}
+use Rattle.mailstore.specs.Calls.{profile_row}
 use Rattle.mailstore.proofs.TextFacts.{select_account_plain}
-use Rattle.mailstore.proofs.QueryLemmas.{reads_only, is_live, is_quiet, if_shown, account_found}
+use Rattle.mailstore.proofs.QueryLemmas.{reads_only, is_live, is_quiet, if_shown}
+use Rattle.mailstore.proofs.ReadLemmas.{account_read}
 use Rattle.mailstore.proofs.query.find_account.Goals as goal
 
 pub returns-clause-found : goal.returns-clause-found
-returns-clause-found g c clean tables h =
+returns-clause-found g c clean accounts p =
     let old = state g.S.Store c.args.conn.now in
     let new = state g.S.Store c.query_all.new.self in
     let ok = rw (c.params-to_sql.ensures) at (c.query_all.ensures.ok clean) in
-    if_shown c.query_all.result (Shown select_account (owner_key c.args.name.now) old new) (λ rows. rows ≡ map shown_account (rows_of c.args.name.now tables 2)) (λ rows shown. account_found old new rows tables h c.args.name.now shown) ok
+    if_shown c.query_all.result (Shown select_account (owner_key c.args.name.now) old new) (λ rows. slice_get rows 0 ≡ option_map profile_row (get accounts c.args.name.now)) (λ rows shown. account_read old new rows accounts p c.args.name.now shown) ok
 
 pub returns-clause-same : goal.returns-clause-same
 returns-clause-same g c =

@@ -1,22 +1,23 @@
-use Rattle.std.proofs.Common.{◌≡◌, [], ◌∷◌, map, filter, rules, IsTrue}
-use Rattle.sqlite_value.specs.Order.{Row, column}
+use Rattle.std.proofs.Common.{◌≡◌, [], ◌∷◌, map, slice_get, option_map, IfSome, rules, IsTrue}
+use Rattle.std.specs.FinMap.{get, keys}
+use Rattle.sqlite_value.specs.declared.value.Value.TheVariants.{Blob}
 use Rattle.sqlite.specs.Held.{state}
 use Rattle.sqlite.specs.State.{Shown}
-use Rattle.sqlrows.specs.Rows.{has_key}
 use Rattle.sqlrows.proofs.ListLemmas.{owner_key, pair_key}
+use Rattle.mailstore.specs.Account.{messages_in}
 use Rattle.mailstore.specs.Statements.{select_script}
-use Rattle.mailstore.specs.Cells.{shown_account}
-use Rattle.mailstore.specs.Shows.{rows_of}
+use Rattle.mailstore.specs.Calls.{profile_row}
 use Rattle.mailstore.proofs.TextFacts.{select_script_plain}
-use Rattle.mailstore.proofs.QueryLemmas.{reads_only, is_live, is_quiet, if_shown, script_found}
+use Rattle.mailstore.proofs.QueryLemmas.{reads_only, is_live, is_quiet, if_shown}
+use Rattle.mailstore.proofs.ReadLemmas.{script_read}
 use Rattle.mailstore.proofs.query.find_script.Goals as goal
 
 pub returns-clause-found : goal.returns-clause-found
-returns-clause-found g c clean tables h =
+returns-clause-found g c clean accounts p =
     let old = state g.S.Store c.args.conn.now in
     let new = state g.S.Store c.query_all.new.self in
     let ok = rw (c.params-to_sql.ensures, c.params-to_sql-2.ensures) at (c.query_all.ensures.ok clean) in
-    if_shown c.query_all.result (Shown select_script (pair_key c.args.owner.now c.args.name.now) old new) (λ rows. rows ≡ map (λ cells. column cells 2 ∷ []) (filter (has_key (pair_key c.args.owner.now c.args.name.now)) (tables 4))) (λ rows shown. script_found old new rows tables h c.args.owner.now c.args.name.now shown) ok
+    if_shown c.query_all.result (Shown select_script (pair_key c.args.owner.now c.args.name.now) old new) (λ rows. IfSome (get accounts c.args.owner.now) (λ a. slice_get rows 0 ≡ option_map (λ t. Blob t ∷ []) (get a.scripts c.args.name.now))) (λ rows shown. script_read old new rows accounts p c.args.owner.now c.args.name.now shown) ok
 
 pub returns-clause-same : goal.returns-clause-same
 returns-clause-same g c =
