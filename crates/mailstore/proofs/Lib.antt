@@ -11,3 +11,4 @@ pub mod QueryLemmas
 pub mod DeliveryLemmas
 pub mod OrderLemmas
 pub mod ReadLemmas
+pub mod ChainLemmas

@@ -1,8 +1,8 @@
 -- What the calls of the store promise of accounts.
-use Rattle.std.specs.Prelude.{◌≡◌, List, [], ◌∷◌, ℕ, pos, Result, OnOk, IsTrue, IsSome, None, Some}
+use Rattle.std.specs.Prelude.{◌≡◌, List, [], ◌∷◌, ℕ, pos, Option, Result, OnOk, IsTrue, IsSome, None, Some}
 use Rattle.std.specs.FinMap.{get}
 use Rattle.sqlite_value.specs.declared.value.Value.TheVariants.{Int, Blob}
-use Rattle.sqlite_value.specs.Order.{Row}
+use Rattle.sqlite_value.specs.Order.{Row, column}
 use Rattle.sqlite_trees.specs.Tree.{Trees}
 use Rattle.sqlite.specs.Effect.{Database}
 use Rattle.sqlite.specs.State.{State, HasCleanDisk, Survives}
@@ -49,3 +49,10 @@ profile_of a = record { address = a.address; salt = a.password.salt; rounds = a.
 -- what the query for an account shows
 abbrev pub profile_row : Account → Row
 profile_row a = Blob a.address ∷ Blob a.password.salt ∷ Int (pos a.password.rounds) ∷ Blob a.password.digest ∷ or_null a.active ∷ []
+
+-- the profile is what the row says, and there is one where there is a row
+abbrev pub IsRead : Option Profile → Option Row → Type 0
+IsRead None None = Unit {0}
+IsRead None (Some row) = ⊥
+IsRead (Some p) None = ⊥
+IsRead (Some p) (Some row) = (column row 0 ≡ Blob p.address) × (column row 1 ≡ Blob p.salt) × (column row 2 ≡ Int (pos p.rounds)) × (column row 3 ≡ Blob p.digest) × (column row 4 ≡ or_null p.active)

@@ -1,20 +1,25 @@
 //! The reads. They change nothing, whatever they answer.
-ghost use Rattle.std.specs.Prelude.{◌≡◌, ◌⊎◌, [], pos, Some, option_map, slice_get, IfOk, IfErr};
-ghost use Rattle.sqlite_value.specs.declared.value.Value.TheVariants.{Int};
+ghost use Rattle.std.specs.Prelude.{◌≡◌, ◌⊎◌, [], ◌∷◌, pos, Some, map, option_map, slice_get, IfOk, IfErr};
+ghost use Rattle.std.specs.FinMap.{get, keys};
+ghost use Rattle.sqlite_value.specs.declared.value.Value.TheVariants.{Int, Blob};
 ghost use Rattle.sqlite_value.specs.Order.{column};
 ghost use Rattle.sqlite.specs.Held.{state};
 ghost use Rattle.sqlite.specs.State.{HasCleanDisk};
 ghost use Rattle.sqlrows.specs.Rows.{Tables, Holds};
 ghost use Rattle.mailstore.specs.Schema.{mail_schema};
 ghost use Rattle.mailstore.specs.Words.{ReadsOnly, IsLiveOnOk, IsQuiet};
-ghost use Rattle.mailstore.specs.Shows.{rows_of};
+ghost use Rattle.mailstore.specs.Shows.{rows_of, Presents};
+ghost use Rattle.mailstore.specs.Account.{Accounts, messages_in};
+ghost use Rattle.mailstore.specs.Calls.{IsFree, OfUser, profile_of, KeepsTables, IsOpenOnOk, LosesNothing};
 ghost use Rattle.mailstore.specs.Refusals.{IsPassing};
 
-use crate::decode::only_number;
-use crate::query::find_next_copy;
+use crate::decode::{first_profile, first_text, only_number, texts};
+use crate::profile::Profile;
+use crate::query::{find_account, find_messages, find_names, find_next_copy, find_script};
 use crate::refusal::Refusal;
 use crate::store::Store;
-use sqlite::Alter;
+use octets::{Octets, Texts};
+use sqlite::{Alter, Row};
 
 impl<S: Alter> Store<S> {
     /// The number of the user's next copy.
@@ -28,5 +33,92 @@ impl<S: Alter> Store<S> {
     {
         let rows = find_next_copy(&mut self.conn, user)?;
         only_number(&rows)
+    }
+
+    fn script_rows(&mut self, user: &[u8], name: &[u8]) -> Result<Vec<Row>, Refusal>
+        ensures found { HasCleanDisk (state S.Store self.new) → (accounts : Accounts) → Presents (state S.Store self.old).now accounts → IfOk result (λ rows. OfUser accounts user.now (λ a. slice_get rows.items 0 ≡ option_map (λ t. Blob t ∷ []) (get a.scripts name.now))) }
+        ensures absent { HasCleanDisk (state S.Store self.new) → (accounts : Accounts) → Presents (state S.Store self.old).now accounts → IfErr result (λ e. e ≡ Refusal.NoUser → IsFree user.now accounts) }
+        ensures same { ReadsOnly (state S.Store self.old) (state S.Store self.new) }
+        ensures live { IsLiveOnOk (state S.Store self.old) (state S.Store self.new) result }
+        ensures crash { IsQuiet (state S.Store self.old) (state S.Store self.new) }
+        ensures named { IfErr result (λ e. (e ≡ Refusal.NoUser) ⊎ IsPassing e) }
+    {
+        self.next_copy(user)?;
+        Ok(find_script(&mut self.conn, user, name)?)
+    }
+
+    /// What the store keeps of the account; none without an account.
+    pub fn account(&mut self, user: &[u8]) -> Result<Option<Profile>, Refusal>
+        ensures found { HasCleanDisk (state S.Store self.new) → (accounts : Accounts) → Presents (state S.Store self.old).now accounts → IfOk result (λ profile. profile ≡ option_map profile_of (get accounts user.now)) }
+        ensures same { KeepsTables (state S.Store self.old) (state S.Store self.new) }
+        ensures live { IsOpenOnOk (state S.Store self.old) (state S.Store self.new) result }
+        ensures crash { LosesNothing (state S.Store self.old) (state S.Store self.new) }
+        ensures named { IfErr result IsPassing }
+    {
+        let rows = find_account(&mut self.conn, user)?;
+        first_profile(&rows)
+    }
+
+    /// The text of the script; none where no script has the name.
+    pub fn script(&mut self, user: &[u8], name: &[u8]) -> Result<Option<Octets>, Refusal>
+        ensures found { HasCleanDisk (state S.Store self.new) → (accounts : Accounts) → Presents (state S.Store self.old).now accounts → IfOk result (λ text. OfUser accounts user.now (λ a. text ≡ get a.scripts name.now)) }
+        ensures absent { HasCleanDisk (state S.Store self.new) → (accounts : Accounts) → Presents (state S.Store self.old).now accounts → IfErr result (λ e. e ≡ Refusal.NoUser → IsFree user.now accounts) }
+        ensures same { KeepsTables (state S.Store self.old) (state S.Store self.new) }
+        ensures live { IsOpenOnOk (state S.Store self.old) (state S.Store self.new) result }
+        ensures crash { LosesNothing (state S.Store self.old) (state S.Store self.new) }
+        ensures named { IfErr result (λ e. (e ≡ Refusal.NoUser) ⊎ IsPassing e) }
+    {
+        let rows = self.script_rows(user, name)?;
+        first_text(&rows)
+    }
+
+    fn name_rows(&mut self, user: &[u8]) -> Result<Vec<Row>, Refusal>
+        ensures found { HasCleanDisk (state S.Store self.new) → (accounts : Accounts) → Presents (state S.Store self.old).now accounts → IfOk result (λ rows. OfUser accounts user.now (λ a. rows.items ≡ map (λ n. Blob n ∷ []) (keys a.scripts))) }
+        ensures absent { HasCleanDisk (state S.Store self.new) → (accounts : Accounts) → Presents (state S.Store self.old).now accounts → IfErr result (λ e. e ≡ Refusal.NoUser → IsFree user.now accounts) }
+        ensures same { ReadsOnly (state S.Store self.old) (state S.Store self.new) }
+        ensures live { IsLiveOnOk (state S.Store self.old) (state S.Store self.new) result }
+        ensures crash { IsQuiet (state S.Store self.old) (state S.Store self.new) }
+        ensures named { IfErr result (λ e. (e ≡ Refusal.NoUser) ⊎ IsPassing e) }
+    {
+        self.next_copy(user)?;
+        Ok(find_names(&mut self.conn, user)?)
+    }
+
+    fn message_rows(&mut self, user: &[u8], folder: &[u8]) -> Result<Vec<Row>, Refusal>
+        ensures found { HasCleanDisk (state S.Store self.new) → (accounts : Accounts) → Presents (state S.Store self.old).now accounts → IfOk result (λ rows. OfUser accounts user.now (λ a. rows.items ≡ map (λ m. Blob m ∷ []) (messages_in a.folders folder.now))) }
+        ensures absent { HasCleanDisk (state S.Store self.new) → (accounts : Accounts) → Presents (state S.Store self.old).now accounts → IfErr result (λ e. e ≡ Refusal.NoUser → IsFree user.now accounts) }
+        ensures same { ReadsOnly (state S.Store self.old) (state S.Store self.new) }
+        ensures live { IsLiveOnOk (state S.Store self.old) (state S.Store self.new) result }
+        ensures crash { IsQuiet (state S.Store self.old) (state S.Store self.new) }
+        ensures named { IfErr result (λ e. (e ≡ Refusal.NoUser) ⊎ IsPassing e) }
+    {
+        self.next_copy(user)?;
+        Ok(find_messages(&mut self.conn, user, folder)?)
+    }
+
+    /// The names of the user's scripts, in the order of their octets.
+    pub fn scripts(&mut self, user: &[u8]) -> Result<Texts, Refusal>
+        ensures found { HasCleanDisk (state S.Store self.new) → (accounts : Accounts) → Presents (state S.Store self.old).now accounts → IfOk result (λ names. OfUser accounts user.now (λ a. names ≡ keys a.scripts)) }
+        ensures absent { HasCleanDisk (state S.Store self.new) → (accounts : Accounts) → Presents (state S.Store self.old).now accounts → IfErr result (λ e. e ≡ Refusal.NoUser → IsFree user.now accounts) }
+        ensures same { KeepsTables (state S.Store self.old) (state S.Store self.new) }
+        ensures live { IsOpenOnOk (state S.Store self.old) (state S.Store self.new) result }
+        ensures crash { LosesNothing (state S.Store self.old) (state S.Store self.new) }
+        ensures named { IfErr result (λ e. (e ≡ Refusal.NoUser) ⊎ IsPassing e) }
+    {
+        let rows = self.name_rows(user)?;
+        texts(self.alloc, &rows)
+    }
+
+    /// The messages of the folder, in the order in which they came; none where it is absent.
+    pub fn folder(&mut self, user: &[u8], folder: &[u8]) -> Result<Texts, Refusal>
+        ensures found { HasCleanDisk (state S.Store self.new) → (accounts : Accounts) → Presents (state S.Store self.old).now accounts → IfOk result (λ messages. OfUser accounts user.now (λ a. messages ≡ messages_in a.folders folder.now)) }
+        ensures absent { HasCleanDisk (state S.Store self.new) → (accounts : Accounts) → Presents (state S.Store self.old).now accounts → IfErr result (λ e. e ≡ Refusal.NoUser → IsFree user.now accounts) }
+        ensures same { KeepsTables (state S.Store self.old) (state S.Store self.new) }
+        ensures live { IsOpenOnOk (state S.Store self.old) (state S.Store self.new) result }
+        ensures crash { LosesNothing (state S.Store self.old) (state S.Store self.new) }
+        ensures named { IfErr result (λ e. (e ≡ Refusal.NoUser) ⊎ IsPassing e) }
+    {
+        let rows = self.message_rows(user, folder)?;
+        texts(self.alloc, &rows)
     }
 }
