@@ -12,3 +12,4 @@ pub mod DeliveryLemmas
 pub mod OrderLemmas
 pub mod ReadLemmas
 pub mod ChainLemmas
+pub mod TallyLemmas

@@ -7,3 +7,4 @@ pub mod Account
 pub mod Shows
 pub mod Refusals
 pub mod Calls
+pub mod Tally

@@ -4,6 +4,7 @@
 mod change;
 mod decode;
 mod delivery;
+mod folders;
 mod profile;
 mod query;
 mod reads;
@@ -14,6 +15,7 @@ pub mod store;
 mod table;
 mod writes;
 
+pub use folders::{Folder, Folders};
 pub use profile::Profile;
 pub use refusal::Refusal;
 pub use report::{Plan, Report};
