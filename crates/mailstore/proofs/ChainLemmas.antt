@@ -13,6 +13,8 @@ use Rattle.mailstore.specs.Words.{ReadsOnly, IsLiveOnOk, IsQuiet}
 use Rattle.mailstore.specs.Account.{Account, Accounts}
 use Rattle.mailstore.specs.Shows.{rows_of, IsShownOrAbsent, ShowsAccounts, Presents}
 use Rattle.mailstore.specs.Calls.{OfUser, LosesNothing}
+use Rattle.mailstore.specs.declared.folders.Folder.{Folder}
+use Rattle.mailstore.specs.Tally.{tallied, AreFolders}
 use Rattle.mailstore.proofs.WriteLemmas.{clean_before}
 use Rattle.mailstore.proofs.QueryLemmas.{then_holds}
 
@@ -66,3 +68,10 @@ pub of_answer : {X E : Type 0} (r : Result X E) (accounts : Accounts) (user : Li
     → IfOk r (λ x. OfUser accounts user (Q x))
 of_answer (Err e) accounts user P Q f h = tt
 of_answer (Ok x) accounts user P Q f h = (h.0, h.1, f h.0 h.2)
+
+-- the folders that were counted from rows of names
+pub tally_of : {E : Type 0} (r : Result (List Folder) E) (rows : List Row) (a : Account) (names : List (List ℕ)) → rows ≡ map (λ n. Blob n ∷ []) names → AreFolders (tallied names) a
+    → IfOk r (λ all. (names : List (List ℕ)) → map (λ row. column row 0) rows ≡ map (λ n. Blob n) names → all ≡ tallied names) → IfOk r (λ all. AreFolders all a)
+tally_of (Err e) rows a names are folders h = tt
+tally_of (Ok all) rows a names are folders h =
+    subst (λ fs. AreFolders fs a) (sym (h names (ap (map (λ row. column row 0)) are ∙ map-map (λ (row : Row). column row 0) (λ (n : List ℕ). Blob n ∷ []) names))) folders

@@ -13,3 +13,4 @@ pub mod OrderLemmas
 pub mod ReadLemmas
 pub mod ChainLemmas
 pub mod TallyLemmas
+pub mod FolderLemmas

@@ -1,11 +1,13 @@
 //! From the rows of a query to what a call answers.
-ghost use Rattle.std.specs.Prelude.{◌≡◌, ◌⊎◌, [], pos, Some, option_map, map, slice_get, IfOk, IfErr};
+ghost use Rattle.mailstore.specs.Tally.{tallied};
+ghost use Rattle.std.specs.Prelude.{◌≡◌, ◌⊎◌, ℕ, List, [], pos, Some, option_map, map, slice_get, IfOk, IfErr};
 ghost use Rattle.sqlite_value.specs.declared.value.Value.TheVariants.{Int, Blob};
 ghost use Rattle.sqlite_value.specs.Order.{column};
 ghost use Rattle.mailstore.specs.Refusals.{IsPassing};
 ghost use Rattle.mailstore.specs.Cells.{or_null};
 ghost use Rattle.mailstore.specs.Calls.{IsRead};
 
+use crate::folders::Folders;
 use crate::profile::Profile;
 use crate::refusal::Refusal;
 use octets::{Octets, Texts};
@@ -96,6 +98,18 @@ pub fn texts(alloc: Global, rows: &[Row]) -> Result<Texts, Refusal>
     let mut all = Texts::new(alloc);
     for row in rows {
         all.push(text_at(row, 0)?)?;
+    }
+    Ok(all)
+}
+
+/// The folders whose names are in the rows, in order, each with how often it stands there.
+pub fn tally(alloc: Global, rows: &[Row]) -> Result<Folders, Refusal>
+    ensures ok { IfOk result (λ all. (names : List (List ℕ)) → map (λ r. column r 0) rows.now ≡ map (λ n. Blob n) names → all ≡ tallied names) }
+    ensures named { IfErr result IsPassing }
+{
+    let mut all = Folders::new(alloc);
+    for row in rows {
+        all.count(text_at(row, 0)?)?;
     }
     Ok(all)
 }

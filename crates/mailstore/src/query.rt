@@ -1,5 +1,5 @@
 //! The queries.
-ghost use Rattle.std.specs.Prelude.{◌≡◌, false, [], ◌∷◌, map, slice_get, option_map, IfOk, IfSome};
+ghost use Rattle.std.specs.Prelude.{◌≡◌, ℕ, List, false, [], ◌∷◌, map, slice_get, option_map, IfOk, IfSome};
 ghost use Rattle.std.specs.FinMap.{get, keys};
 ghost use Rattle.sqlite_value.specs.declared.value.Value.TheVariants.{Blob};
 ghost use Rattle.sqlite.specs.Held.{state};
@@ -11,6 +11,7 @@ ghost use Rattle.mailstore.specs.Calls.{profile_row};
 ghost use Rattle.mailstore.specs.Words.{ReadsOnly, IsLiveOnOk, IsQuiet};
 ghost use Rattle.mailstore.specs.Shows.{rows_of, Presents};
 ghost use Rattle.mailstore.specs.Account.{Accounts, messages_in};
+ghost use Rattle.mailstore.specs.Tally.{tallied, AreFolders};
 
 use sqlite::{Alter, Connection, Error, Row, params};
 
@@ -104,5 +105,22 @@ pub fn find_messages<S: Alter>(
     conn.query_all(
         "SELECT message FROM copy WHERE owner = ?1 AND folder = ?2 ORDER BY n",
         params![owner, folder],
+    )
+}
+
+/// The folder of each copy, in the order of their octets.
+pub fn find_folders<S: Alter>(conn: &mut Connection<S>, owner: &[u8]) -> Result<Vec<Row>, Error>
+    requires { conn.old.in_transaction ≡ false }
+    ensures ended { conn.new.in_transaction ≡ false }
+    ensures limit { conn.new.step_limit ≡ conn.old.step_limit }
+    ensures found { HasCleanDisk (state S.Store conn.new) → (accounts : Accounts) → Presents (state S.Store conn.old).now accounts → IfOk result (λ rows. IfSome (get accounts owner.now) (λ a. (names : List (List ℕ)) × (rows.items ≡ map (λ n. Blob n ∷ []) names) × AreFolders (tallied names) a)) }
+    ensures same { ReadsOnly (state S.Store conn.old) (state S.Store conn.new) }
+    ensures live { IsLiveOnOk (state S.Store conn.old) (state S.Store conn.new) result }
+    ensures crash { IsQuiet (state S.Store conn.old) (state S.Store conn.new) }
+{
+    let _settled = conn.is_autocommit();
+    conn.query_all(
+        "SELECT folder FROM copy WHERE owner = ?1 ORDER BY folder",
+        params![owner],
     )
 }

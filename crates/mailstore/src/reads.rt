@@ -1,5 +1,5 @@
 //! The reads. They change nothing, whatever they answer.
-ghost use Rattle.std.specs.Prelude.{◌≡◌, ◌⊎◌, [], ◌∷◌, pos, Some, map, option_map, slice_get, IfOk, IfErr};
+ghost use Rattle.std.specs.Prelude.{◌≡◌, ◌⊎◌, ℕ, List, [], ◌∷◌, pos, Some, map, option_map, slice_get, IfOk, IfErr};
 ghost use Rattle.std.specs.FinMap.{get, keys};
 ghost use Rattle.sqlite_value.specs.declared.value.Value.TheVariants.{Int, Blob};
 ghost use Rattle.sqlite_value.specs.Order.{column};
@@ -10,12 +10,14 @@ ghost use Rattle.mailstore.specs.Schema.{mail_schema};
 ghost use Rattle.mailstore.specs.Words.{ReadsOnly, IsLiveOnOk, IsQuiet};
 ghost use Rattle.mailstore.specs.Shows.{rows_of, Presents};
 ghost use Rattle.mailstore.specs.Account.{Accounts, messages_in};
+ghost use Rattle.mailstore.specs.Tally.{tallied, AreFolders};
 ghost use Rattle.mailstore.specs.Calls.{IsFree, OfUser, profile_of, KeepsTables, IsOpenOnOk, LosesNothing};
 ghost use Rattle.mailstore.specs.Refusals.{IsPassing};
 
-use crate::decode::{first_profile, first_text, only_number, texts};
+use crate::decode::{first_profile, first_text, only_number, tally, texts};
+use crate::folders::Folders;
 use crate::profile::Profile;
-use crate::query::{find_account, find_messages, find_names, find_next_copy, find_script};
+use crate::query::{find_account, find_folders, find_messages, find_names, find_next_copy, find_script};
 use crate::refusal::Refusal;
 use crate::store::Store;
 use octets::{Octets, Texts};
@@ -120,5 +122,31 @@ impl<S: Alter> Store<S> {
     {
         let rows = self.message_rows(user, folder)?;
         texts(self.alloc, &rows)
+    }
+
+    fn folder_rows(&mut self, user: &[u8]) -> Result<Vec<Row>, Refusal>
+        ensures found { HasCleanDisk (state S.Store self.new) → (accounts : Accounts) → Presents (state S.Store self.old).now accounts → IfOk result (λ rows. OfUser accounts user.now (λ a. (names : List (List ℕ)) × (rows.items ≡ map (λ n. Blob n ∷ []) names) × AreFolders (tallied names) a)) }
+        ensures absent { HasCleanDisk (state S.Store self.new) → (accounts : Accounts) → Presents (state S.Store self.old).now accounts → IfErr result (λ e. e ≡ Refusal.NoUser → IsFree user.now accounts) }
+        ensures same { ReadsOnly (state S.Store self.old) (state S.Store self.new) }
+        ensures live { IsLiveOnOk (state S.Store self.old) (state S.Store self.new) result }
+        ensures crash { IsQuiet (state S.Store self.old) (state S.Store self.new) }
+        ensures named { IfErr result (λ e. (e ≡ Refusal.NoUser) ⊎ IsPassing e) }
+    {
+        self.next_copy(user)?;
+        Ok(find_folders(&mut self.conn, user)?)
+    }
+
+    /// The user's folders in the order of the octets of their names, with how many messages they
+    /// have. No message is read.
+    pub fn folders(&mut self, user: &[u8]) -> Result<Folders, Refusal>
+        ensures found { HasCleanDisk (state S.Store self.new) → (accounts : Accounts) → Presents (state S.Store self.old).now accounts → IfOk result (λ folders. OfUser accounts user.now (AreFolders folders)) }
+        ensures absent { HasCleanDisk (state S.Store self.new) → (accounts : Accounts) → Presents (state S.Store self.old).now accounts → IfErr result (λ e. e ≡ Refusal.NoUser → IsFree user.now accounts) }
+        ensures same { KeepsTables (state S.Store self.old) (state S.Store self.new) }
+        ensures live { IsOpenOnOk (state S.Store self.old) (state S.Store self.new) result }
+        ensures crash { LosesNothing (state S.Store self.old) (state S.Store self.new) }
+        ensures named { IfErr result (λ e. (e ≡ Refusal.NoUser) ⊎ IsPassing e) }
+    {
+        let rows = self.folder_rows(user)?;
+        tally(self.alloc, &rows)
     }
 }
