@@ -1,23 +1,21 @@
 -- What row changes make of the account that one user's rows show.
-use Rattle.std.proofs.Common.{◌≡◌, ◌≢◌, ◌⊎◌, ℕ, suc, ℤ, pos, ◌+◌, ◌<◌, ◌≤◌, Bool, true, false, not, ◌&&◌, cond, List, [], ◌∷◌, ◌++◌, map, filter, fold, length, Option, Some, None, refl, sym, ap, ap₂, ◌∙◌, subst, inl, inr, arith, true≢false, is_eq}
+use Rattle.std.proofs.Common.{◌≡◌, ◌≢◌, ℕ, suc, pos, ◌+◌, ◌<◌, ◌≤◌, Bool, true, false, not, cond, List, [], ◌∷◌, ◌++◌, map, fold, length, Option, Some, refl, sym, ap, ◌∙◌, subst, arith, true≢false, is_eq}
 use Rattle.std.specs.List.{AllByRecursion}
-use Rattle.std.specs.FinMap.{FinMap, empty, get, insert, from_entries, find, IsAntisymmetric, same_map, get-insert, get-from_entries, slice_cmp-IsAntisymmetric, nat_cmp-IsAntisymmetric}
+use Rattle.std.specs.FinMap.{empty, get, insert, from_entries, find, IsAntisymmetric, same_map, get-insert, get-from_entries, slice_cmp-IsAntisymmetric, nat_cmp-IsAntisymmetric}
 use Rattle.std.proofs.lemmas.Cmp.{nat_list_cmp_total}
 use Rattle.std.proofs.lemmas.List.{map-append}
-use Rattle.sqlite_value.specs.declared.value.Value.{Value}
-use Rattle.sqlite_value.specs.declared.value.Value.TheVariants.{Null, Int, Blob}
-use Rattle.sqlite_value.specs.Order.{Row, column}
-use Rattle.sqlite_trees.specs.Tree.{IsAscending}
+use Rattle.sqlite_value.specs.declared.value.Value.TheVariants.{Blob}
+use Rattle.sqlite_value.specs.Order.{Row}
 use Rattle.sqlite_sql.specs.declared.ops.CompareOp.TheVariants.{Eq}
 use Rattle.sqlite_keyed.specs.Lists.{update_where, delete_where}
-use Rattle.sqlite_keyed.proofs.ListLemmas.{filter-map, filter_same, ascending-filter, ascending-append, all_weaker, all-append, all_of}
+use Rattle.sqlite_keyed.proofs.ListLemmas.{filter-map, filter_same, ascending-filter, ascending-append, all_weaker, all-append}
 use Rattle.sqlite_typed.proofs.TestLemmas.{at_blobs, last_term, same_bytes, bytes_eq_refl}
 use Rattle.sqlrows.specs.Rows.{Tables, has_key, added, removed, set_in}
-use Rattle.sqlrows.proofs.ListLemmas.{owner_key, pair_key, owned_by, equal_itself}
+use Rattle.sqlrows.proofs.ListLemmas.{owner_key, pair_key, equal_itself}
 use Rattle.mailstore.specs.Cells.{account_cells, script_cells, copy_cells, with_active, with_next_copy, or_null}
-use Rattle.mailstore.specs.Account.{bytes_cmp, Password, Account, Scripts, Folders, new_account, keeps_script, activates, filed, filed_in, files_copies}
+use Rattle.mailstore.specs.Account.{bytes_cmp, Account, Folders, new_account, keeps_script, activates, filed, files_copies}
 use Rattle.mailstore.specs.Changes.{copied}
-use Rattle.mailstore.specs.Shows.{Copy, account_row, script_row, copy_row, queue_row, reply_row, notice_row, AreNumbered, AreApart, folders_from, IsShown, IsAbsent}
+use Rattle.mailstore.specs.Shows.{Copy, script_row, copy_row, AreNumbered, IsShown, IsAbsent}
 
 pub bytes_antisymmetric : IsAntisymmetric bytes_cmp
 bytes_antisymmetric = slice_cmp-IsAntisymmetric nat_cmp-IsAntisymmetric
@@ -65,8 +63,8 @@ module _ (user : List ℕ) (own : Tables) (a : Account) (s : IsShown user own a)
   script_put name text =
       let left = delete_where (is_named name) s.scripts in
       let rows : delete_where (has_key (pair_key user name)) (own 4) ≡ map (script_row user) left =
-          ap (delete_where (has_key (pair_key user name))) s.script_rows ∙ filter-map (λ r. not (has_key (pair_key user name) r)) (script_row user) s.scripts
-          ∙ ap (map (script_row user)) (filter_same _ (λ e. not (is_named name e)) (λ e. ap not (pair_is user name e.0 (Blob e.1 ∷ []))) s.scripts) in
+      ap (delete_where (has_key (pair_key user name))) s.script_rows ∙ filter-map (λ r. not (has_key (pair_key user name) r)) (script_row user) s.scripts
+      ∙ ap (map (script_row user)) (filter_same _ (λ e. not (is_named name e)) (λ e. ap not (pair_is user name e.0 (Blob e.1 ∷ []))) s.scripts) in
       record {
         next_copy = s.next_copy;
         next_notice = s.next_notice;
@@ -122,34 +120,38 @@ module _ (user : List ℕ) (own : Tables) (a : Account) (s : IsShown user own a)
 
   -- the counter of copies goes up before they join
   pub counter_put : (next : ℕ) → s.next_copy ≤ next → (t : IsShown user (set_in 2 (owner_key user) (with_next_copy (pos next)) own) a) × (t.next_copy ≡ next) × (t.copies ≡ s.copies)
-  counter_put next up = (record {
-    next_copy = next;
-    next_notice = s.next_notice;
-    account_is = ap (update_where (has_key (owner_key user)) (with_next_copy (pos next))) s.account_is ∙ rw (equal_itself user) refl;
-    scripts = s.scripts;
-    script_rows = s.script_rows;
-    scripts_are = s.scripts_are;
-    scripts_apart = s.scripts_apart;
-    copies = s.copies;
-    copy_rows = s.copy_rows;
-    folders_are = s.folders_are;
-    copies_numbered = record {
-      rise = s.copies_numbered.rise;
-      from_one = s.copies_numbered.from_one;
-      below = all_weaker (λ n. n < s.next_copy) (λ n. n < next) (λ n h. omega arith) (map (λ c. c.n) s.copies) s.copies_numbered.below;
-      counter = let one = s.copies_numbered.counter in omega arith;
-    };
-    queue_rows = s.queue_rows;
-    queue_numbered = s.queue_numbered;
-    replies = s.replies;
-    reply_rows = s.reply_rows;
-    replies_are = s.replies_are;
-    replies_apart = s.replies_apart;
-    notices = s.notices;
-    notice_rows = s.notice_rows;
-    notices_are = s.notices_are;
-    notices_numbered = s.notices_numbered;
-  }, refl, refl)
+  counter_put next up = (
+    record {
+      next_copy = next;
+      next_notice = s.next_notice;
+      account_is = ap (update_where (has_key (owner_key user)) (with_next_copy (pos next))) s.account_is ∙ rw (equal_itself user) refl;
+      scripts = s.scripts;
+      script_rows = s.script_rows;
+      scripts_are = s.scripts_are;
+      scripts_apart = s.scripts_apart;
+      copies = s.copies;
+      copy_rows = s.copy_rows;
+      folders_are = s.folders_are;
+      copies_numbered = record {
+        rise = s.copies_numbered.rise;
+        from_one = s.copies_numbered.from_one;
+        below = all_weaker (λ n. n < s.next_copy) (λ n. n < next) (λ n h. omega arith) (map (λ c. c.n) s.copies) s.copies_numbered.below;
+        counter = let one = s.copies_numbered.counter in omega arith;
+      };
+      queue_rows = s.queue_rows;
+      queue_numbered = s.queue_numbered;
+      replies = s.replies;
+      reply_rows = s.reply_rows;
+      replies_are = s.replies_are;
+      replies_apart = s.replies_apart;
+      notices = s.notices;
+      notice_rows = s.notice_rows;
+      notices_are = s.notices_are;
+      notices_numbered = s.notices_numbered;
+    },
+    refl,
+    refl,
+  )
 
   abbrev numbers : List ℕ
   numbers = map (λ c. c.n) s.copies
@@ -159,35 +161,38 @@ module _ (user : List ℕ) (own : Tables) (a : Account) (s : IsShown user own a)
       → (t : IsShown user (added 6 (copy_cells user name (pos n) message) own) (record a { folders = filed a.folders name message })) × (t.next_copy ≡ s.next_copy) × (map (λ c. c.n) t.copies ≡ numbers ++ n ∷ [])
   copy_put name message n above one low =
       let c : Copy = record { folder = name; n = n; message = message } in
-      let joined : map (λ x. x.n) (s.copies ++ c ∷ []) ≡ numbers ++ n ∷ [] = map-append (λ x. x.n) s.copies (c ∷ []) in
-      (record {
-        next_copy = s.next_copy;
-        next_notice = s.next_notice;
-        account_is = s.account_is;
-        scripts = s.scripts;
-        script_rows = s.script_rows;
-        scripts_are = s.scripts_are;
-        scripts_apart = s.scripts_apart;
-        copies = s.copies ++ c ∷ [];
-        copy_rows = ap (λ l. l ++ copy_cells user name (pos n) message ∷ []) s.copy_rows ∙ sym (map-append (copy_row user) s.copies (c ∷ []));
-        folders_are = ap (λ m. filed m name message) s.folders_are ∙ sym (folded s.copies empty c);
-        copies_numbered = subst (λ l. AreNumbered l s.next_copy) (sym joined) (record {
-          rise = ascending-append (λ x y. x < y) numbers (n ∷ []) s.copies_numbered.rise (tt, tt) (all_weaker (λ m. m < n) (λ m. AllByRecursion (λ y. m < y) (n ∷ [])) (λ m h. (h, tt)) numbers above);
-          from_one = all-append _ numbers (n ∷ []) s.copies_numbered.from_one (one, tt);
-          below = all-append _ numbers (n ∷ []) s.copies_numbered.below (low, tt);
-          counter = s.copies_numbered.counter;
-        });
-        queue_rows = s.queue_rows;
-        queue_numbered = s.queue_numbered;
-        replies = s.replies;
-        reply_rows = s.reply_rows;
-        replies_are = s.replies_are;
-        replies_apart = s.replies_apart;
-        notices = s.notices;
-        notice_rows = s.notice_rows;
-        notices_are = s.notices_are;
-        notices_numbered = s.notices_numbered;
-      }, refl, joined)
+      let joined : map (λ x. x.n) (s.copies ++ c ∷ []) ≡ numbers ++ n ∷ [] = map-append (λ x. x.n) s.copies (c ∷ []) in (
+        record {
+          next_copy = s.next_copy;
+          next_notice = s.next_notice;
+          account_is = s.account_is;
+          scripts = s.scripts;
+          script_rows = s.script_rows;
+          scripts_are = s.scripts_are;
+          scripts_apart = s.scripts_apart;
+          copies = s.copies ++ c ∷ [];
+          copy_rows = ap (λ l. l ++ copy_cells user name (pos n) message ∷ []) s.copy_rows ∙ sym (map-append (copy_row user) s.copies (c ∷ []));
+          folders_are = ap (λ m. filed m name message) s.folders_are ∙ sym (folded s.copies empty c);
+          copies_numbered = subst (λ l. AreNumbered l s.next_copy) (sym joined) (record {
+            rise = ascending-append (λ x y. x < y) numbers (n ∷ []) s.copies_numbered.rise (tt, tt) (all_weaker (λ m. m < n) (λ m. AllByRecursion (λ y. m < y) (n ∷ [])) (λ m h. (h, tt)) numbers above);
+            from_one = all-append _ numbers (n ∷ []) s.copies_numbered.from_one (one, tt);
+            below = all-append _ numbers (n ∷ []) s.copies_numbered.below (low, tt);
+            counter = s.copies_numbered.counter;
+          });
+          queue_rows = s.queue_rows;
+          queue_numbered = s.queue_numbered;
+          replies = s.replies;
+          reply_rows = s.reply_rows;
+          replies_are = s.replies_are;
+          replies_apart = s.replies_apart;
+          notices = s.notices;
+          notice_rows = s.notice_rows;
+          notices_are = s.notices_are;
+          notices_numbered = s.notices_numbered;
+        },
+        refl,
+        joined,
+      )
     where
       folded : (cs : List Copy) (from : Folders) (c : Copy) → fold (λ folders copy. filed folders copy.folder copy.message) from (cs ++ c ∷ []) ≡ filed (fold (λ folders copy. filed folders copy.folder copy.message) from cs) c.folder c.message
       folded [] from c = refl

@@ -1,9 +1,9 @@
 -- From the rows that a write makes to the accounts that it leaves.
-use Rattle.std.proofs.Common.{◌≡◌, ℕ, List, [], ◌∷◌, Option, Some, None, Ok, Err, Result, OnOk, IsSome, refl, sym, ap, ◌∙◌, subst}
+use Rattle.std.proofs.Common.{◌≡◌, ℕ, List, [], ◌∷◌, Option, Some, None, Ok, Err, Result, OnOk, IsSome, refl, subst}
 use Rattle.std.specs.Borrow.{Bor}
 use Rattle.std.specs.FinMap.{get, insert}
 use Rattle.sqlite.specs.Effect.{Database}
-use Rattle.sqlite.specs.State.{State, HasCleanDisk, Survives}
+use Rattle.sqlite.specs.State.{State, Survives}
 use Rattle.sqlite.proofs.StateLemmas.{survives_weaker}
 use Rattle.sqlrows.specs.Rows.{Tables, Holds}
 use Rattle.mailstore.specs.declared.change.Change.{Change}
@@ -13,7 +13,7 @@ use Rattle.mailstore.specs.Schema.{mail_schema}
 use Rattle.mailstore.specs.Cells.{contents}
 use Rattle.mailstore.specs.Changes.{made, MayHave, AreOf}
 use Rattle.mailstore.specs.Account.{Account, Accounts, with_user, in_place, new_account, keeps_script, activates}
-use Rattle.mailstore.specs.Shows.{rows_of, IsShown, IsAbsent, IsShownOrAbsent, ShowsAccounts, Presents}
+use Rattle.mailstore.specs.Shows.{rows_of, IsShown, IsShownOrAbsent, ShowsAccounts}
 use Rattle.mailstore.specs.Calls.{HasUser, IsFree, Turns, MayShow}
 use Rattle.mailstore.proofs.ShowLemmas.{shows_after}
 use Rattle.mailstore.proofs.AccountLemmas.{script_put, active_put, account_put}

@@ -1,5 +1,5 @@
 -- The names of a user's copies in order, and the folders that they make.
-use Rattle.std.proofs.Common.{◌≡◌, ◌⊎◌, ℕ, pos, suc, ◌<◌, Bool, true, false, List, [], ◌∷◌, map, filter, length, get_or, Option, Some, None, IfSome, refl, sym, ap, ap₂, ◌∙◌, subst, inl, inr, arith, true≢false, is_gt, is_lt, Ordering, Less, Equal, Greater, All, IsPermutation, IsSorted}
+use Rattle.std.proofs.Common.{◌≡◌, ℕ, suc, ◌<◌, false, List, [], ◌∷◌, map, filter, length, get_or, Option, Some, None, IfSome, refl, sym, ap, ap₂, ◌∙◌, subst, inl, inr, arith, true≢false, is_gt, is_lt, Ordering, Less, Equal, Greater, IsPermutation, IsSorted}
 use Rattle.std.specs.List.{AllByRecursion}
 use Rattle.std.specs.FinMap.{get, entries}
 use Rattle.std.specs.Ordering.{ordering_reverse}
@@ -15,11 +15,11 @@ use Rattle.sqlite_trees.specs.Tree.{IsAscending}
 use Rattle.sqlite_sql.specs.Term.{col}
 use Rattle.sqlite_sql.specs.Query.{Query, Output, output_cmp}
 use Rattle.sqlite_sql.proofs.QueryLemmas.{output_cmp_total}
-use Rattle.sqlite_keyed.proofs.ListLemmas.{map-map, map_back, ascending_from_map, ascending_weaker, all_of, all-map}
+use Rattle.sqlite_keyed.proofs.ListLemmas.{map-map, map_back, ascending_from_map, ascending_weaker, all-map}
 use Rattle.sqlite_typed.proofs.TestLemmas.{last_key}
 use Rattle.sqlite.specs.State.{State, Shown}
 use Rattle.sqlrows.specs.Forms.{over}
-use Rattle.sqlrows.specs.Rows.{Tables, Holds, has_key}
+use Rattle.sqlrows.specs.Rows.{has_key}
 use Rattle.sqlrows.proofs.AnswerLemmas.{cells_in_order}
 use Rattle.sqlrows.proofs.ReadLemmas.{answered}
 use Rattle.sqlrows.proofs.ListLemmas.{owner_key}
@@ -75,15 +75,17 @@ module _ (old new : State) (rows : List Row) (accounts : Accounts) (p : Presents
           let listed = map (λ (c : Copy). c.folder) s.copies in
           let show = λ (cells : Row). let o : Output = (column cells 1 ∷ [], column cells 1 ∷ []) in o in
           let found = cells_in_order old.now.trees 6 by_one (col 1 2 ∷ []) ((col 1 2, ascending Binary) ∷ []) (owner_key user) (p.0 6) (p.1.each copy (inr (inr (inr (inl refl))))) mine (λ n cells. refl) show (λ n cells. refl) rows
-              (answered mail_schema select_folders (owner_key user) old new p.1.is select_folders_plain.0 6 by_one (col 1 2 ∷ []) _ _ select_folders_is select_folders_plain.1 rows shown) in
+          (answered mail_schema select_folders (owner_key user) old new p.1.is select_folders_plain.0 6 by_one (col 1 2 ∷ []) _ _ select_folders_is select_folders_plain.1 rows shown) in
           let outs : map show (filter mine (p.0 6)) ≡ map folder_output listed = ap (map show) s.copy_rows ∙ map-map show (copy_row user) s.copies ∙ sym (map-map folder_output (λ (c : Copy). c.folder) s.copies) in
           let same = subst (λ l. IsPermutation l found.0) outs found.1 in
           let image = All-permutation (λ o. o ≡ folder_output (folder_in o)) (map folder_output listed) found.0 same (All-from_recursion (λ o. o ≡ folder_output (folder_in o)) (map folder_output listed) (all-map _ folder_output (λ n. refl) listed)) in
           let names = map folder_in found.0 in
           let again = shown_again found.0 (recursion_from_All (λ o. o ≡ folder_output (folder_in o)) found.0 image) in
-          let permuted = subst (λ l. IsPermutation l names) (map_back folder_output folder_in (λ n. refl) listed) (IsPermutation-map folder_in _ _ same) in
-          (names, found.3 ∙ ap (map (λ (o : Output). o.1)) again ∙ map-map (λ (o : Output). o.1) folder_output names,
-          subst (λ m. map count_of (tallied names) ≡ map size_of (entries m)) (sym s.folders_are) (tally_is s.copies names permuted (names_in_order found.0 names again found.2)))
+          let permuted = subst (λ l. IsPermutation l names) (map_back folder_output folder_in (λ n. refl) listed) (IsPermutation-map folder_in _ _ same) in (
+            names,
+            found.3 ∙ ap (map (λ (o : Output). o.1)) again ∙ map-map (λ (o : Output). o.1) folder_output names,
+            subst (λ m. map count_of (tallied names) ≡ map size_of (entries m)) (sym s.folders_are) (tally_is s.copies names permuted (names_in_order found.0 names again found.2)),
+          )
 
       go : (o : Option Account) → IsShownOrAbsent user (rows_of user p.0) o → IfSome o (λ a. (names : List (List ℕ)) × (rows ≡ map (λ n. Blob n ∷ []) names) × AreFolders (tallied names) a)
       go None h = tt

@@ -1,7 +1,7 @@
 -- What the queries that are in order find.
-use Rattle.std.proofs.Common.{◌≡◌, ◌≢◌, ◌⊎◌, ℕ, ℤ, pos, ◌<◌, Bool, true, false, cond, T, ◌&&◌, List, [], ◌∷◌, ◌++◌, map, filter, fold, length, append-nil, append_assoc, Option, Some, None, unwrap_or, refl, sym, ap, ◌∙◌, subst, inl, inr, arith, true≢false, is_eq, is_lt, Ordering, Less, Equal, Greater, int_cmp, IsPermutation, IsSorted}
+use Rattle.std.proofs.Common.{◌≡◌, ◌≢◌, ℕ, pos, ◌<◌, Bool, true, false, cond, T, List, [], ◌∷◌, ◌++◌, map, filter, fold, length, append-nil, append_assoc, Some, None, unwrap_or, refl, sym, ap, ◌∙◌, subst, inl, inr, arith, true≢false, is_eq, is_lt, Ordering, Less, Equal, Greater, IsPermutation}
 use Rattle.std.specs.List.{AllByRecursion}
-use Rattle.std.specs.FinMap.{FinMap, empty, get, insert, entries, keys, from_entries, find, put, is_sorted, len-entries, len-empty, get-entries, get-from_entries, entries_sorted, entries-insert, get-insert, get-empty}
+use Rattle.std.specs.FinMap.{FinMap, empty, get, entries, keys, from_entries, find, put, is_sorted, len-entries, len-empty, get-entries, get-from_entries, entries_sorted, entries-insert, get-insert, get-empty}
 use Rattle.std.specs.FinMap.Entries.{by_order, below_all}
 use Rattle.std.proofs.lemmas.Bool.{and_parts}
 use Rattle.std.proofs.lemmas.Int.{ints}
@@ -16,7 +16,7 @@ use Rattle.sqlite_trees.specs.Tree.{IsAscending}
 use Rattle.sqlite_sql.specs.Term.{col}
 use Rattle.sqlite_sql.specs.Query.{Query, Output, output_cmp}
 use Rattle.sqlite_sql.proofs.QueryLemmas.{output_cmp_total}
-use Rattle.sqlite_keyed.proofs.ListLemmas.{map-map, filter-map, filter_same, filter-filter, ascending-map, ascending_from_map, ascending-filter, ascending_weaker, all_weaker}
+use Rattle.sqlite_keyed.proofs.ListLemmas.{map-map, filter-map, filter_same, filter-filter, ascending-map, ascending_from_map, ascending-filter, ascending_weaker}
 use Rattle.sqlite_keyed.proofs.KeyedLemmas.{Less-from_lt}
 use Rattle.sqlite_keyed.proofs.SortLemmas.{sorted_unique}
 use Rattle.sqlite_typed.proofs.TestLemmas.{last_key, same_bytes, bytes_eq_refl}
@@ -31,7 +31,7 @@ use Rattle.mailstore.specs.Statements.{select_names, select_folder}
 use Rattle.mailstore.specs.Account.{bytes_cmp, Folders, messages_in, filed}
 use Rattle.mailstore.specs.Shows.{Copy, rows_of, script_row, copy_row, AreApart, folders_from}
 use Rattle.mailstore.proofs.TextFacts.{by_one, by_two, select_names_is, select_names_plain, select_folder_is, select_folder_plain}
-use Rattle.mailstore.proofs.AccountLemmas.{pair_is, bytes_antisymmetric}
+use Rattle.mailstore.proofs.AccountLemmas.{pair_is}
 
 -- the rows with a key of two are among the owner's
 pub of_owner : (owner name : List ℕ) (tables : Tables) (tree : ℕ) → filter (has_key (pair_key owner name)) (tables tree) ≡ filter (has_key (pair_key owner name)) (rows_of owner tables tree)
@@ -60,12 +60,12 @@ module _ (old new : State) (rows : List Row) (tables : Tables) (h : Holds mail_s
       let few = filter (is_in folder) copies in
       let show = λ (cells : Row). let o : Output = (column cells 2 ∷ [], column cells 3 ∷ []) in o in
       let found = cells_in_order old.now.trees 6 by_two (col 1 4 ∷ []) ((col 1 3, ascending Binary) ∷ []) key (tables 6) (h.each copy (inr (inr (inr (inl refl))))) p (λ n cells. refl) show (λ n cells. refl) rows
-          (answered mail_schema select_folder key old new h.is select_folder_plain.0 6 by_two (col 1 4 ∷ []) _ _ select_folder_is select_folder_plain.1 rows shown) in
+      (answered mail_schema select_folder key old new h.is select_folder_plain.0 6 by_two (col 1 4 ∷ []) _ _ select_folder_is select_folder_plain.1 rows shown) in
       let cells : filter p (tables 6) ≡ map (copy_row owner) few =
-          of_owner owner folder tables 6 ∙ ap (filter p) are ∙ filter-map p (copy_row owner) copies ∙ ap (map (copy_row owner)) (filter_same _ (is_in folder) (λ c. pair_is owner folder c.folder (Int (pos c.n) ∷ Blob c.message ∷ [])) copies) in
+      of_owner owner folder tables 6 ∙ ap (filter p) are ∙ filter-map p (copy_row owner) copies ∙ ap (map (copy_row owner)) (filter_same _ (is_in folder) (λ c. pair_is owner folder c.folder (Int (pos c.n) ∷ Blob c.message ∷ [])) copies) in
       let outs : map show (filter p (tables 6)) ≡ map number_output few = ap (map show) cells ∙ map-map show (copy_row owner) few in
       let rising = ascending-map (λ x y. output_cmp by_number x y ≡ Less) number_output few
-          (ascending-filter (λ c d. output_cmp by_number (number_output c) (number_output d) ≡ Less) (is_in folder) copies (ascending_weaker _ (λ c d. output_cmp by_number (number_output c) (number_output d) ≡ Less) numbers_rise copies (ascending_from_map (λ m n. m < n) (λ (c : Copy). c.n) copies rise))) in
+      (ascending-filter (λ c d. output_cmp by_number (number_output c) (number_output d) ≡ Less) (is_in folder) copies (ascending_weaker _ (λ c d. output_cmp by_number (number_output c) (number_output d) ≡ Less) numbers_rise copies (ascending_from_map (λ m n. m < n) (λ (c : Copy). c.n) copies rise))) in
       let is = sorted_unique (output_cmp by_number) (output_cmp_total by_number) (map number_output few) found.0 rising (subst (λ l. IsPermutation l found.0) outs found.1) found.2 in
       found.3 ∙ ap (map (λ (o : Output). o.1)) is ∙ map-map (λ (o : Output). o.1) number_output few
 
@@ -164,7 +164,7 @@ module _ (old new : State) (rows : List Row) (tables : Tables) (h : Holds mail_s
       let m : FinMap bytes_cmp (List ℕ) = from_entries scripts in
       let show = λ (cells : Row). let o : Output = (column cells 1 ∷ [], column cells 1 ∷ []) in o in
       let found = cells_in_order old.now.trees 4 by_one (col 1 2 ∷ []) ((col 1 2, ascending Binary) ∷ []) (owner_key owner) (tables 4) (h.each script (inr (inr (inl refl)))) p (λ n cells. refl) show (λ n cells. refl) rows
-          (answered mail_schema select_names (owner_key owner) old new h.is select_names_plain.0 4 by_one (col 1 2 ∷ []) _ _ select_names_is select_names_plain.1 rows shown) in
+      (answered mail_schema select_names (owner_key owner) old new h.is select_names_plain.0 4 by_one (col 1 2 ∷ []) _ _ select_names_is select_names_plain.1 rows shown) in
       let outs : map show (filter p (tables 4)) ≡ map name_output scripts = ap (map show) are ∙ map-map show (script_row owner) scripts in
       let same = IsPermutation-trans _ _ _ (IsPermutation-map name_output _ _ (IsPermutation-sym _ _ (entries_permutation scripts apart))) (subst (λ l. IsPermutation l found.0) outs found.1) in
       let rising = ascending-map (λ x y. output_cmp by_name x y ≡ Less) name_output (entries m) (ascending_weaker _ (λ a b. output_cmp by_name (name_output a) (name_output b) ≡ Less) names_rise (entries m) (entries_rise m)) in

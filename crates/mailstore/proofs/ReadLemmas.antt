@@ -1,5 +1,5 @@
 -- From the rows that a query finds to what a read answers.
-use Rattle.std.proofs.Common.{◌≡◌, ℕ, pos, Bool, true, false, cond, List, [], ◌∷◌, map, filter, Option, Some, None, option_map, slice_get, Ok, Err, Result, IfOk, IfSome, is_eq, refl, sym, ap, ◌∙◌, subst}
+use Rattle.std.proofs.Common.{◌≡◌, ℕ, pos, Bool, true, false, cond, List, [], ◌∷◌, map, filter, Option, Some, None, option_map, slice_get, Ok, Err, Result, IfOk, IfSome, is_eq, refl, sym, ap, ◌∙◌}
 use Rattle.std.specs.FinMap.{get, keys, find, get-from_entries}
 use Rattle.std.proofs.lemmas.Cmp.{nat_list_cmp_total}
 use Rattle.sqlite_value.specs.declared.value.Value.TheVariants.{Int, Blob}
@@ -60,7 +60,7 @@ module _ (old new : State) (rows : List Row) (accounts : Accounts) (p : Presents
   pub script_read : (name : List ℕ) → Shown select_script (pair_key user name) old new rows → IfSome (get accounts user) (λ a. slice_get rows 0 ≡ option_map (λ t. Blob t ∷ []) (get a.scripts name))
   script_read name shown = at_user accounts user p.0 p.2 _ (λ a s.
       let mine = of_owner user name p.0 4 ∙ ap (filter (has_key (pair_key user name))) s.script_rows ∙ filter-map (has_key (pair_key user name)) (script_row user) s.scripts
-          ∙ ap (map (script_row user)) (filter_same _ (is_named name) (λ e. pair_is user name e.0 (Blob e.1 ∷ [])) s.scripts) in
+      ∙ ap (map (script_row user)) (filter_same _ (is_named name) (λ e. pair_is user name e.0 (Blob e.1 ∷ [])) s.scripts) in
       ap (λ l. slice_get l 0) (script_found old new rows p.0 p.1 user name shown ∙ ap (map (λ cells. column cells 2 ∷ [])) mine) ∙ first s.scripts
       ∙ ap (option_map (λ t. Blob t ∷ [])) (sym (ap (λ m. get m name) s.scripts_are ∙ get-from_entries nat_list_cmp_total s.scripts name)))
     where

@@ -1,5 +1,5 @@
 -- What is computed of the schema: the texts define its tables, and no foreign key acts.
-use Rattle.std.proofs.Common.{◌≡◌, ◌==◌, ℕ, Bool, true, false, cond, List, [], ◌∷◌, length, Ok, refl}
+use Rattle.std.proofs.Common.{◌≡◌, ◌==◌, ℕ, true, false, cond, List, [], length, Ok, refl}
 use Rattle.std.specs.List.{flat_map, filter_map}
 use Rattle.sqlite_value.specs.Order.{Row}
 use Rattle.sqlite_schema.specs.declared.schema.Keys.TheVariants.{Enforced}

@@ -1,7 +1,7 @@
 -- Folders counted from names in order are those of the account.
-use Rattle.std.proofs.Common.{◌≡◌, ◌≢◌, ℕ, suc, ◌+◌, Bool, true, false, cond, T, ◌&&◌, List, [], ◌∷◌, ◌++◌, map, filter, fold, length, zero, sum_by, length-append, IsPermutation, Option, Some, None, option_map, unwrap_or, refl, sym, ap, ◌∙◌, subst, arith, true≢false, is_eq, is_lt, is_gt, nat_eq, eqb-true, eq-eqb, Ordering, Less, Equal, Greater}
+use Rattle.std.proofs.Common.{◌≡◌, ℕ, suc, ◌+◌, Bool, true, false, cond, T, List, [], ◌∷◌, ◌++◌, map, fold, length, zero, sum_by, length-append, IsPermutation, Option, Some, None, option_map, unwrap_or, refl, sym, ap, ◌∙◌, subst, arith, true≢false, is_eq, is_lt, is_gt, nat_eq, eqb-true, eq-eqb, Ordering, Less, Equal, Greater}
 use Rattle.std.specs.List.{AllByRecursion}
-use Rattle.std.specs.FinMap.{FinMap, empty, get, insert, entries, find, is_sorted, from_sorted, entries_sorted, get-entries, get-insert, get-empty, get-from_sorted, entries-from_sorted, same_map}
+use Rattle.std.specs.FinMap.{empty, get, entries, find, is_sorted, from_sorted, get-entries, get-insert, get-empty, get-from_sorted, entries-from_sorted, same_map}
 use Rattle.std.specs.FinMap.Entries.{below_all}
 use Rattle.std.proofs.lemmas.Bool.{and_parts, and_from}
 use Rattle.std.proofs.lemmas.Cmp.{nat_list_cmp_total, nat_cmp_total, tied_itself}
@@ -12,7 +12,7 @@ use Rattle.mailstore.specs.Shows.{Copy, folders_from}
 use Rattle.mailstore.proofs.OrderLemmas.{entries_rise}
 use Rattle.sqlite_trees.specs.Tree.{IsAscending}
 use Rattle.sqlite_keyed.proofs.ListLemmas.{all_weaker, ascending-map}
-use Rattle.sqlite_typed.proofs.TestLemmas.{same_bytes, bytes_eq_refl}
+use Rattle.sqlite_typed.proofs.TestLemmas.{same_bytes}
 use Rattle.mailstore.specs.declared.folders.Folder.{Folder}
 use Rattle.mailstore.specs.Account.{bytes_cmp, Folders, messages_in, filed}
 use Rattle.mailstore.specs.Tally.{counted, tallied, count_of, size_of}

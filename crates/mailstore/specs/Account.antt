@@ -1,5 +1,5 @@
 -- What a store keeps of its users, without its tables.
-use Rattle.std.specs.Prelude.{◌≡◌, ◌++◌, ℕ, List, [], ◌∷◌, fold, Option, Some, None, unwrap_or}
+use Rattle.std.specs.Prelude.{◌++◌, ℕ, List, [], ◌∷◌, fold, Option, Some, None, unwrap_or}
 use Rattle.std.specs.declared.cmp.Ordering.{Ordering}
 use Rattle.std.specs.FinMap.{FinMap, empty, get, insert}
 use Rattle.std.specs.Ordering.{nat_cmp, on, then_cmp}

@@ -1,5 +1,5 @@
 -- The tables of version 1, as the texts of their CREATE statements define them.
-use Rattle.std.specs.Prelude.{ℕ, false, true, List, [], ◌∷◌, ◌++◌, codes, None}
+use Rattle.std.specs.Prelude.{false, List, [], ◌∷◌, ◌++◌, codes}
 use Rattle.sqlite_schema.specs.declared.schema.Action.TheVariants.{NoAction}
 use Rattle.sqlite_schema.specs.declared.schema.Kind.TheVariants.{Integer, Text, Blob}
 use Rattle.sqlite_schema.specs.declared.schema.Reference.{Reference}

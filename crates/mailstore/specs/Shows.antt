@@ -1,6 +1,6 @@
 -- Which accounts the tables show, row by row.
 use Rattle.std.specs.Prelude.{◌≡◌, ◌≢◌, ℕ, pos, ◌<◌, ◌≤◌, List, [], ◌∷◌, map, filter, fold, codes, Option, Some, None}
-use Rattle.std.specs.FinMap.{FinMap, empty, get, from_entries}
+use Rattle.std.specs.FinMap.{empty, get, from_entries}
 use Rattle.std.specs.List.{AllByRecursion}
 use Rattle.sqlite_value.specs.declared.value.Value.TheVariants.{Int, Text, Blob}
 use Rattle.sqlite_value.specs.Order.{Row}
@@ -9,7 +9,7 @@ use Rattle.sqlite.specs.Effect.{Database}
 use Rattle.sqlrows.specs.Rows.{Tables, Holds, has_key}
 use Rattle.mailstore.specs.Schema.{mail_schema}
 use Rattle.mailstore.specs.Cells.{or_null, script_cells, copy_cells}
-use Rattle.mailstore.specs.Account.{bytes_cmp, reply_cmp, Password, Queued, Noted, Account, Accounts, Folders, filed}
+use Rattle.mailstore.specs.Account.{Queued, Noted, Account, Accounts, Folders, filed}
 
 -- the rows of one user, in each table that has an owner and in the table of accounts
 abbrev pub rows_of : List ℕ → Tables → Tables

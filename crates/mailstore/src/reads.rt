@@ -17,7 +17,9 @@ ghost use Rattle.mailstore.specs.Refusals.{IsPassing};
 use crate::decode::{first_profile, first_text, only_number, tally, texts};
 use crate::folders::Folders;
 use crate::profile::Profile;
-use crate::query::{find_account, find_folders, find_messages, find_names, find_next_copy, find_script};
+use crate::query::{
+    find_account, find_folders, find_messages, find_names, find_next_copy, find_script,
+};
 use crate::refusal::Refusal;
 use crate::store::Store;
 use octets::{Octets, Texts};

@@ -114,10 +114,7 @@ fn add_version<S: Alter>(tx: &mut Transaction<'_, S>) -> Result<usize, Error>
     ensures made { Makes (state S.Store tx.old.conn.now) (state S.Store tx.new.conn.now) result (added 0 version_row) }
     ensures survives { Survives (state S.Store tx.old.conn.now) (state S.Store tx.new.conn.now) (λ _. ⊥) }
 {
-    tx.execute(
-        "INSERT INTO meta (item, value) VALUES ('version', 1)",
-        &[],
-    )
+    tx.execute("INSERT INTO meta (item, value) VALUES ('version', 1)", &[])
 }
 
 fn make_first<S: Alter>(tx: &mut Transaction<'_, S>) -> Result<usize, Error>

@@ -101,13 +101,7 @@ impl<S: Alter> Store<S> {
         ensures named { IfErr result (λ e. (e ≡ Refusal.NoUser) ⊎ IsPassing e) }
     {
         let next = self.next_copy(user)?;
-        let changes = copy_changes(
-            self.alloc,
-            user,
-            plan.copies.as_slice(),
-            plan.message,
-            next,
-        )?;
+        let changes = copy_changes(self.alloc, user, plan.copies.as_slice(), plan.message, next)?;
         self.apply(&changes)
     }
 }

@@ -1,6 +1,6 @@
 -- Which rows pass a test after a row joined, went or changed, and keys of blobs.
-use Rattle.std.proofs.Common.{◌≡◌, ◌≢◌, ℕ, Bool, true, false, not, ◌&&◌, cond, List, [], ◌∷◌, ◌++◌, map, filter, find, slice_get, option_map, Option, Some, None, refl, sym, ap, ap₂, ◌∙◌, subst, true≢false, append-nil, arith}
-use Rattle.std.proofs.lemmas.Bool.{and_parts, and_from, both_ways, false_from_ne_true}
+use Rattle.std.proofs.Common.{◌≡◌, ◌≢◌, ℕ, Bool, true, false, not, cond, List, [], ◌∷◌, ◌++◌, map, filter, find, slice_get, refl, sym, ap, ◌∙◌, true≢false, append-nil, arith}
+use Rattle.std.proofs.lemmas.Bool.{and_parts, and_from, false_from_ne_true}
 use Rattle.std.proofs.lemmas.List.Elements.{filter-append}
 use Rattle.sqlite_value.specs.declared.value.Value.{Value}
 use Rattle.sqlite_value.specs.declared.value.Value.TheVariants.{Null, Int, Real, Text, Blob}
@@ -11,8 +11,7 @@ use Rattle.sqlite_sql.specs.Ops.{binary}
 use Rattle.sqlite_sql.specs.declared.ops.CompareOp.TheVariants.{Eq}
 use Rattle.sqlite_schema.specs.Rules.{equal}
 use Rattle.sqlite_keyed.specs.Lists.{update_where, delete_where}
-use Rattle.sqlite_keyed.proofs.ListLemmas.{slice_get-filter, filter_all}
-use Rattle.sqlite_typed.specs.Tests.{bytes_cmp}
+use Rattle.sqlite_keyed.proofs.ListLemmas.{slice_get-filter}
 use Rattle.sqlite_typed.proofs.TestLemmas.{at_blobs, same_bytes, bytes_eq_refl}
 use Rattle.sqlrows.specs.Rows.{has_key}
 

@@ -1,4 +1,4 @@
-use Rattle.std.proofs.Common.{◌≡◌, ◌≤◌, true, rules, subst, arith, length, take, OnOk}
+use Rattle.std.proofs.Common.{◌≡◌, true, rules, subst, arith, OnOk}
 use Rattle.std.proofs.lemmas.List.{take_all}
 use Rattle.sqlite.specs.Held.{state}
 use Rattle.sqlite.specs.State.{HasCleanDisk, Survives}

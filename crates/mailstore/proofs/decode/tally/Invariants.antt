@@ -1,4 +1,4 @@
-use Rattle.std.proofs.Common.{◌≡◌, ℕ, List, map, take}
+use Rattle.std.proofs.Common.{◌≡◌, map, take}
 use Rattle.sqlite_value.specs.Order.{column, bytes}
 use Rattle.mailstore.specs.Tally.{tallied}
 use Rattle.mailstore.proofs.decode.tally.Given as goal

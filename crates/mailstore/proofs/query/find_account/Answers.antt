@@ -1,10 +1,8 @@
-use Rattle.std.proofs.Common.{◌≡◌, [], ◌∷◌, map, slice_get, option_map, IfSome, rules, IsTrue}
-use Rattle.std.specs.FinMap.{get, keys}
-use Rattle.sqlite_value.specs.declared.value.Value.TheVariants.{Blob}
+use Rattle.std.proofs.Common.{◌≡◌, slice_get, option_map, rules, IsTrue}
+use Rattle.std.specs.FinMap.{get}
 use Rattle.sqlite.specs.Held.{state}
 use Rattle.sqlite.specs.State.{Shown}
-use Rattle.sqlrows.proofs.ListLemmas.{owner_key, pair_key}
-use Rattle.mailstore.specs.Account.{messages_in}
+use Rattle.sqlrows.proofs.ListLemmas.{owner_key}
 use Rattle.mailstore.specs.Statements.{select_account}
 use Rattle.mailstore.specs.Calls.{profile_row}
 use Rattle.mailstore.proofs.TextFacts.{select_account_plain}

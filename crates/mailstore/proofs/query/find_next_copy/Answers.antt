@@ -1,11 +1,9 @@
-use Rattle.std.proofs.Common.{◌≡◌, [], ◌∷◌, map, filter, rules, IsTrue}
-use Rattle.sqlite_value.specs.Order.{Row, column}
+use Rattle.std.proofs.Common.{◌≡◌, [], ◌∷◌, map, rules, IsTrue}
+use Rattle.sqlite_value.specs.Order.{column}
 use Rattle.sqlite.specs.Held.{state}
 use Rattle.sqlite.specs.State.{Shown}
-use Rattle.sqlrows.specs.Rows.{has_key}
-use Rattle.sqlrows.proofs.ListLemmas.{owner_key, pair_key}
+use Rattle.sqlrows.proofs.ListLemmas.{owner_key}
 use Rattle.mailstore.specs.Statements.{select_next_copy}
-use Rattle.mailstore.specs.Cells.{shown_account}
 use Rattle.mailstore.specs.Shows.{rows_of}
 use Rattle.mailstore.proofs.TextFacts.{select_next_copy_plain}
 use Rattle.mailstore.proofs.QueryLemmas.{reads_only, is_live, is_quiet, if_shown, next_copy_found}

@@ -1,6 +1,5 @@
-use Rattle.std.proofs.Common.{◌≡◌, ◌∙◌, ◌++◌, ◌+◌, ◌∷◌, [], ap, sym, nat_eq, true, false, is_eq, rules}
+use Rattle.std.proofs.Common.{◌≡◌, ◌∙◌, ◌++◌, ◌+◌, ◌∷◌, [], ap, sym, nat_eq, true, false, rules}
 use Rattle.std.specs.Cmp.Lexicographic.{pointwise}
-use Rattle.mailstore.specs.Account.{bytes_cmp}
 use Rattle.mailstore.specs.Tally.{counted}
 use Rattle.mailstore.proofs.TallyLemmas.{counted_last_same, counted_last_other, tested_same, tested_other}
 use Rattle.mailstore.proofs.folders.Folders.count.Goals as goal

@@ -1,7 +1,6 @@
 use Rattle.std.proofs.Common.{◌+◌, length, sym, subst}
 use Rattle.sqlite.specs.Held.{state}
 use Rattle.mailstore.specs.Changes.{AreCopies}
-use Rattle.mailstore.specs.Account.{Accounts, with_user, files_copies}
 use Rattle.mailstore.specs.Calls.{HasUser}
 use Rattle.mailstore.proofs.ResultLemmas.{on_err_any}
 use Rattle.mailstore.proofs.DeliveryLemmas.{delivered, delivery_crash, refused_same, quiet_may}

@@ -1,9 +1,7 @@
-use Rattle.std.proofs.Common.{◌≡◌, ◌∙◌, ℕ, List, [], ◌∷◌, map, ap, slice_get, option_map}
-use Rattle.std.specs.FinMap.{get, keys}
+use Rattle.std.proofs.Common.{◌≡◌, ◌∙◌, ℕ, List, [], ◌∷◌, map}
 use Rattle.sqlite_value.specs.declared.value.Value.TheVariants.{Blob}
 use Rattle.sqlite.specs.Held.{state}
 use Rattle.mailstore.specs.Tally.{tallied, AreFolders}
-use Rattle.mailstore.specs.Account.{messages_in}
 use Rattle.mailstore.proofs.ResultLemmas.{on_any}
 use Rattle.mailstore.proofs.ChainLemmas.{loses_nothing, of_answer, tally_of}
 use Rattle.mailstore.proofs.store.Store.folders.Goals as goal

@@ -1,8 +1,7 @@
-use Rattle.std.proofs.Common.{◌≡◌, [], ◌∷◌, map, slice_get, option_map, rules}
-use Rattle.std.specs.FinMap.{get, keys}
+use Rattle.std.proofs.Common.{◌≡◌, [], ◌∷◌, map, rules}
+use Rattle.std.specs.FinMap.{keys}
 use Rattle.sqlite_value.specs.declared.value.Value.TheVariants.{Blob}
 use Rattle.sqlite.specs.Held.{state}
-use Rattle.mailstore.specs.Account.{messages_in}
 use Rattle.mailstore.proofs.ResultLemmas.{on_ok}
 use Rattle.mailstore.proofs.QueryLemmas.{same_then, quiet_then, live_then}
 use Rattle.mailstore.proofs.ChainLemmas.{found_then}

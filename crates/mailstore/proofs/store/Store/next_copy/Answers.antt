@@ -1,5 +1,4 @@
 use Rattle.std.proofs.Common.{◌≡◌, ◌∙◌, rules}
-use Rattle.sqlite.specs.Held.{state}
 use Rattle.mailstore.specs.Shows.{rows_of}
 use Rattle.mailstore.proofs.ResultLemmas.{on_any}
 use Rattle.mailstore.proofs.ReadLemmas.{number_is}

@@ -1,10 +1,8 @@
 use Rattle.std.proofs.Common.{[], ◌∷◌}
-use Rattle.std.specs.FinMap.{insert}
 use Rattle.sqlite.specs.Held.{state}
-use Rattle.mailstore.specs.declared.change.Change.TheVariants.{AddAccount, SetActive, AddScript, RemoveScript}
-use Rattle.mailstore.specs.Cells.{contents}
-use Rattle.mailstore.specs.Account.{with_user, new_account, keeps_script, activates}
-use Rattle.mailstore.specs.Calls.{HasUser, IsFree}
+use Rattle.mailstore.specs.declared.change.Change.TheVariants.{AddScript, RemoveScript}
+use Rattle.mailstore.specs.Account.{with_user, keeps_script}
+use Rattle.mailstore.specs.Calls.{HasUser}
 use Rattle.mailstore.proofs.CallLemmas.{applied, crashed, carries_script}
 use Rattle.mailstore.proofs.store.Store.put_script.Goals as goal
 

@@ -1,10 +1,9 @@
-use Rattle.std.proofs.Common.{◌≡◌, ◌∙◌, [], ◌∷◌, map, ap, slice_get, option_map}
-use Rattle.std.specs.FinMap.{get, keys}
+use Rattle.std.proofs.Common.{◌≡◌, ◌∙◌, [], ◌∷◌, map}
+use Rattle.std.specs.FinMap.{keys}
 use Rattle.sqlite_value.specs.declared.value.Value.TheVariants.{Blob}
 use Rattle.sqlite.specs.Held.{state}
-use Rattle.mailstore.specs.Account.{messages_in}
 use Rattle.mailstore.proofs.ResultLemmas.{on_any}
-use Rattle.mailstore.proofs.ChainLemmas.{loses_nothing, of_answer, text_is, texts_are}
+use Rattle.mailstore.proofs.ChainLemmas.{loses_nothing, of_answer, texts_are}
 use Rattle.mailstore.proofs.store.Store.scripts.Goals as goal
 
 pub returns-in_err-rows-clause-same : goal.returns-in_err-rows-clause-same
