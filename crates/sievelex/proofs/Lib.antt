@@ -10,4 +10,5 @@ pub mod Numbered
 pub mod Opening
 pub mod Prefixes
 pub mod Scanned
+pub mod Spaces
 pub mod Strings

@@ -55,7 +55,7 @@ mark_found octets b more mark e h =
     let P : List ℕ → Type 0 = λ x. IsFound x f in
     subst P (sym e) (best_found (b ∷ more) f (mark_best b more mark h) tt (no_text mark more))
 
-none_opened : (b : ℕ) (k : Kind) (v : Value) → is_name_start b ≡ false → is_digit b ≡ false → (b ≡ 58 → ⊥) → (b ≡ 34 → ⊥) → ((m : Kind) → class_of b ≡ Mark m → ⊥) → Opens b k v → ⊥
+pub none_opened : (b : ℕ) (k : Kind) (v : Value) → is_name_start b ≡ false → is_digit b ≡ false → (b ≡ 58 → ⊥) → (b ≡ 34 → ⊥) → ((m : Kind) → class_of b ≡ Mark m → ⊥) → Opens b k v → ⊥
 none_opened b k v no_name no_digit no_tag no_string no_mark o = elim o [
   | Named name s c ke ve ↦ (cc)
   | Numbered n d c ke ve ↦ (cc)

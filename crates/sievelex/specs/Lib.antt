@@ -5,5 +5,7 @@ pub mod Finding
 pub mod Front
 pub mod Inside
 pub mod Shape
+pub mod Skip
+pub mod Space
 pub mod Spelling
 pub mod Text

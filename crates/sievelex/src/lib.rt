@@ -7,6 +7,7 @@ mod front;
 mod number;
 mod quoted;
 mod scanner;
+mod space;
 #[cfg(test)]
 mod tests;
 mod text;

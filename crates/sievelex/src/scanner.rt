@@ -7,9 +7,9 @@ ghost use Rattle.sievelex.specs.Spelling.{IsNext, SpellsFrom, Spells};
 ghost use Rattle.sievelex.specs.Text.{line_ends};
 ghost use Rattle.sievelex.specs.declared.token.Token.{Token};
 
-use crate::class::is_white;
-use crate::fault::ScriptError;
+use crate::fault::{FaultKind, ScriptError, ScriptFault};
 use crate::front::read_front;
+use crate::space::space_len;
 use crate::text::{line_feeds, text_fault};
 use crate::token::Token;
 use std::alloc::Global;
@@ -61,7 +61,17 @@ fn next(alloc: Global, text: &[u8], at: usize, line: u64) -> Result<Option<Token
     ensures lines { IfFaultLine result (λ n. (1 ≤ n) × (n ≤ 1 + line_ends text.now)) }
 {
     let (_, ahead) = text.split_at(at);
-    let white = white_len(ahead);
+    let white = match space_len(ahead) {
+        Ok(white) => white,
+        Err(opened) => {
+            let (before, _) = ahead.split_at(opened);
+            let line = line + line_feeds(before);
+            return Err(ScriptError::Fault(ScriptFault {
+                line,
+                kind: FaultKind::OpenComment,
+            }));
+        }
+    };
     let (gap, octets) = ahead.split_at(white);
     if octets.is_empty() {
         return Ok(None);
@@ -76,11 +86,4 @@ fn next(alloc: Global, text: &[u8], at: usize, line: u64) -> Result<Option<Token
         end: start + front.len,
         line,
     }))
-}
-
-/// How many octets of white space stand at the front.
-fn white_len(octets: &[u8]) -> usize
-    ensures { result ≡ prefix_len is_white octets.now }
-{
-    octets.iter().take_while(|octet| is_white(**octet)).count()
 }

@@ -38,9 +38,22 @@ fn told(alloc: Global, text: &[u8]) -> Result<String, Fail> {
 
 #[test]
 fn tells_tokens_with_places_and_lines(rt: HostRuntime) -> Result<(), Fail> {
-    let table: [(&[u8], &str); 16] = [
+    let table: [(&[u8], &str); 20] = [
         (b"", ""),
         (b" \t\r\n\n", ""),
+        (b"# a", ""),
+        (
+            b"/* a */ # b\r\nkeep;",
+            "Identifier <keep> 13-17 line 2; Semicolon 17-18 line 2; ",
+        ),
+        (
+            b"a/**/b/***/c/*/ * \n*/d#*/",
+            "Identifier <a> 0-1 line 1; Identifier <b> 5-6 line 1; Identifier <c> 11-12 line 1; Identifier <d> 21-22 line 2; ",
+        ),
+        (
+            b"1/* # */2#\n#\n3",
+            "Number 1 0-1 line 1; Number 2 8-9 line 1; Number 3 13-14 line 3; ",
+        ),
         (
             b"keep;",
             "Identifier <keep> 0-4 line 1; Semicolon 4-5 line 1; ",
@@ -94,7 +107,7 @@ fn tells_tokens_with_places_and_lines(rt: HostRuntime) -> Result<(), Fail> {
 
 #[test]
 fn tells_faults_with_their_lines(rt: HostRuntime) -> Result<(), Fail> {
-    let table: [(&[u8], &str); 24] = [
+    let table: [(&[u8], &str); 30] = [
         (b"\xff", "line 1: not UTF-8"),
         (b"keep;\n\xc3", "line 2: not UTF-8"),
         (b"\"\xed\xa0\x80\"", "line 1: not UTF-8"),
@@ -102,8 +115,14 @@ fn tells_faults_with_their_lines(rt: HostRuntime) -> Result<(), Fail> {
         (b"\"\x00\"", "line 1: bad octet"),
         (b"keep;\r", "line 1: bad octet"),
         (b"\"a\rb\"", "line 1: bad octet"),
-        (b"\n\n#", "line 3: bad octet"),
+        (b"\n\n*", "line 3: bad octet"),
         (b"/", "line 1: bad octet"),
+        (b"/ * a */", "line 1: bad octet"),
+        (b"*/", "line 1: bad octet"),
+        (b"/* a", "line 1: comment is not closed"),
+        (b"keep;\n# a\n/*\n*", "line 3: comment is not closed"),
+        (b"/*/", "line 1: comment is not closed"),
+        (b"/* a */*/", "line 1: bad octet"),
         (b":", "line 1: bad octet"),
         (b": a", "line 1: bad octet"),
         (b":1", "line 1: bad octet"),
@@ -132,7 +151,8 @@ fn tells_faults_with_their_lines(rt: HostRuntime) -> Result<(), Fail> {
 #[test]
 fn answers_each_single_octet(rt: HostRuntime) -> Result<(), Fail> {
     for octet in 0..=255u8 {
-        let begins = octet.is_ascii_alphanumeric() || b"_;{}[](), \t\n".as_slice().contains(&octet);
+        let begins = octet.is_ascii_alphanumeric()
+            || b"_;{}[](), \t\n#".as_slice().contains(&octet);
         assert_eq!(rt; tokens(rt.alloc(), &[octet]).is_ok(), begins, "{octet}");
     }
     Ok(())
