@@ -15,7 +15,7 @@ use Rattle.sievelex.specs.Space.{space_of, IsGap, IsTail}
 use Rattle.sievelex.specs.Skip.{begins_space, space_from}
 use Rattle.sievelex.proofs.Prefixes.{take_none, front_of}
 use Rattle.sievelex.proofs.Opening.{Opens, IsOpened, shape_opened, front_opened}
-use Rattle.sievelex.proofs.Opening.Opens.{Named, Numbered, Tagged, Quoted, Marked}
+use Rattle.sievelex.proofs.Opening.Opens.{Named, Worded, Numbered, Tagged, Quoted, Marked}
 use Rattle.sievelex.proofs.Marks.{none_opened}
 use Rattle.sievelex.proofs.Spaces.{IsSpaced, spaces_again, last_again, spaced}
 
@@ -38,6 +38,7 @@ opens_white b k v h o =
     let white : class_of b ≡ OfWhite = class_white b h in
     elim o [
       | Named name s c ke ve ↦ (cc)
+      | Worded value s c ke ve ↦ (cc)
       | Numbered n d c ke ve ↦ (cc)
       | Tagged name e c ke ve ↦ (cc)
       | Quoted value e c ke ve ↦ (cc)

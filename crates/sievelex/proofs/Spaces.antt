@@ -198,7 +198,7 @@ record IsLined (s rest : List ℕ) : Type 0 where
   spelled : s ≡ body ++ (10 ∷ after)
   more : space_from Between after ≡ Some rest
 
-in_line_more : (b : ℕ) (s : List ℕ) → is_line_feed b ≡ false → IsInLine s → IsInLine (b ∷ s)
+pub in_line_more : (b : ℕ) (s : List ℕ) → is_line_feed b ≡ false → IsInLine s → IsInLine (b ∷ s)
 in_line_more b s e h = rw (e, h) refl
 
 line_is : (s rest : List ℕ) → space_from Comment s ≡ Some rest → IsLined s rest ⊎ (IsInLine s × (rest ≡ []))

@@ -4,6 +4,7 @@
 mod class;
 mod fault;
 mod front;
+mod multiline;
 mod number;
 mod quoted;
 mod scanner;

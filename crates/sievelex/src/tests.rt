@@ -38,9 +38,22 @@ fn told(alloc: Global, text: &[u8]) -> Result<String, Fail> {
 
 #[test]
 fn tells_tokens_with_places_and_lines(rt: HostRuntime) -> Result<(), Fail> {
-    let table: [(&[u8], &str); 20] = [
+    let table: [(&[u8], &str); 24] = [
         (b"", ""),
         (b" \t\r\n\n", ""),
+        (
+            b"text:\r\n.foo\r\n..foo\r\n\r\n.",
+            "Text <.foo\r\n.foo\r\n\r\n> 0-23 line 1; ",
+        ),
+        (
+            b"TEXT: \t# a\n.\n;",
+            "Text <> 0-13 line 1; Semicolon 13-14 line 3; ",
+        ),
+        (b"text:\n.", "Text <> 0-7 line 1; "),
+        (
+            b"1text:\na\n..\n.b\n.\r\nx",
+            "Number 1 0-1 line 1; Text <a\r\n.\r\n.b\r\n> 1-18 line 1; Identifier <x> 18-19 line 6; ",
+        ),
         (b"# a", ""),
         (
             b"/* a */ # b\r\nkeep;",
@@ -107,7 +120,7 @@ fn tells_tokens_with_places_and_lines(rt: HostRuntime) -> Result<(), Fail> {
 
 #[test]
 fn tells_faults_with_their_lines(rt: HostRuntime) -> Result<(), Fail> {
-    let table: [(&[u8], &str); 30] = [
+    let table: [(&[u8], &str); 33] = [
         (b"\xff", "line 1: not UTF-8"),
         (b"keep;\n\xc3", "line 2: not UTF-8"),
         (b"\"\xed\xa0\x80\"", "line 1: not UTF-8"),
@@ -137,7 +150,10 @@ fn tells_faults_with_their_lines(rt: HostRuntime) -> Result<(), Fail> {
             b"99999999999999999999999999999999999999999999999999999999999999K",
             "line 1: number too large",
         ),
-        (b"text:\r\n.\r\n", "line 1: unexpected token"),
+        (b"text: x", "line 1: unexpected token"),
+        (b"keep;\ntext:\n.x", "line 2: string is not closed"),
+        (b"text:\n.\r", "line 2: bad octet"),
+        (b"text: # a", "line 1: string is not closed"),
         (b"TexT:", "line 1: unexpected token"),
         (b":text:", "line 1: bad octet"),
         (b"mytext:", "line 1: bad octet"),
