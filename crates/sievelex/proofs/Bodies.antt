@@ -1,11 +1,10 @@
 -- The body of a string of several lines, read from the left.
-use Rattle.std.proofs.Common.{◌≡◌, ◌≢◌, ◌⊎◌, ℕ, ◌+◌, ◌-◌, ◌<◌, ◌≤◌, suc, zero, Bool, true, false, cond, not, ◌==◌, ◌||◌, ◌&&◌, Option, Some, None, List, [], ◌∷◌, ◌++◌, length, take, drop, get_or, refl, ap, sym, ◌∙◌, subst, inl, inr, arith, append_assoc, append-nil, length-append}
+use Rattle.std.proofs.Common.{◌≡◌, ◌⊎◌, ℕ, ◌+◌, ◌<◌, ◌≤◌, suc, zero, Bool, true, false, not, ◌==◌, ◌||◌, Option, Some, None, List, [], ◌∷◌, ◌++◌, length, drop, get_or, refl, ap, sym, ◌∙◌, subst, inl, inr, arith, append_assoc, length-append}
 use Rattle.std.specs.List.{list_all, flat_map}
 use Rattle.std.proofs.lemmas.List.{drop_more}
 use Rattle.std.proofs.lemmas.Bool.{eqb-true, eqb-false, not-true}
-use Rattle.std.proofs.lemmas.Bool.Decides.{nat_tests}
 use Rattle.octets.specs.Ascii.{is_blank}
-use Rattle.octets.proofs.Lists.{fork, some_pair}
+use Rattle.octets.proofs.Lists.{some_pair}
 use Rattle.sievelex.specs.declared.multiline.Stage.{Stage}
 use Rattle.sievelex.specs.declared.multiline.Stage.TheVariants.{Opening, Comment, OpeningReturn, Start, Dot, DotReturn, Inside, Return, Done, Broken}
 use Rattle.sievelex.specs.Inside.{onto}

@@ -1,5 +1,5 @@
 -- White space between tokens.
-use Rattle.std.proofs.Common.{◌≡◌, ℕ, ◌<◌, ◌≤◌, suc, zero, Bool, true, false, ◌==◌, Some, List, [], ◌∷◌, ◌++◌, length, take, drop, refl, ap, sym, ◌∙◌, subst, inl, inr, arith}
+use Rattle.std.proofs.Common.{◌≡◌, ℕ, ◌<◌, suc, zero, true, false, ◌==◌, Some, List, [], ◌∷◌, ◌++◌, length, take, drop, refl, ap, sym, ◌∙◌, subst, inl, inr, arith}
 use Rattle.std.specs.List.{flat_map}
 use Rattle.std.proofs.lemmas.List.{append-nil, append_cancel_right, take-append-drop}
 use Rattle.std.proofs.lemmas.Bool.{false_from_ne_true, ne_eqb}
@@ -7,7 +7,7 @@ use Rattle.std.proofs.lemmas.Bool.Decides.{nat_tests}
 use Rattle.octets.specs.Ascii.{is_digit}
 use Rattle.sievelex.specs.declared.token.Kind.{Kind}
 use Rattle.sievelex.specs.declared.token.Value.{Value}
-use Rattle.sievelex.specs.declared.class.Class.TheVariants.{White as OfWhite, Mark}
+use Rattle.sievelex.specs.declared.class.Class.TheVariants.{White as OfWhite}
 use Rattle.sievelex.specs.declared.space.Place.TheVariants.{Between}
 use Rattle.sievelex.specs.Class.{is_name_start, is_white, class_of}
 use Rattle.sievelex.specs.Shape.{IsShape}

@@ -14,9 +14,7 @@ use Rattle.sievelex.proofs.Worded.{word_is, word_opens, multi_word}
 use Rattle.sievelex.proofs.Prefixes.{at_most, all_prefix, prefix_all, one_more}
 use Rattle.sievelex.proofs.Opening.{Opens, front_opened, shape_at, class_start}
 use Rattle.sievelex.proofs.Opening.Opens.{Named, Worded, Numbered, Tagged, Quoted, Marked}
-use Rattle.sievelex.specs.declared.front.Front.{Front}
 use Rattle.sievelex.specs.Spelling.{OpensText}
-use Rattle.sievelex.specs.Front.{IsFront}
 use Rattle.sievelex.proofs.Best.{IsBest, IsFound, best_found, found_at}
 
 start_octet : (b : ℕ) → is_name_start b ≡ true → is_name_octet b ≡ true

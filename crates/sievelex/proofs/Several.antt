@@ -1,9 +1,9 @@
 -- Strings of several lines.
-use Rattle.std.proofs.Common.{◌≡◌, ◌⊎◌, ℕ, ◌+◌, ◌-◌, ◌<◌, ◌≤◌, suc, zero, true, false, Option, Some, None, List, [], ◌∷◌, ◌++◌, length, take, drop, get_or, refl, ap, sym, ◌∙◌, subst, inl, inr, arith, append_assoc, length-drop, take-append-drop}
+use Rattle.std.proofs.Common.{◌≡◌, ◌⊎◌, ℕ, ◌+◌, ◌<◌, ◌≤◌, suc, true, Option, Some, None, List, [], ◌∷◌, ◌++◌, length, take, drop, get_or, refl, ap, sym, ◌∙◌, subst, inl, inr, arith, append_assoc, length-drop, take-append-drop}
 use Rattle.std.specs.Prelude.{codes, slice_get}
 use Rattle.std.specs.Char.{to_ascii_lowercase}
 use Rattle.std.specs.List.{flat_map, prefix_len}
-use Rattle.std.proofs.lemmas.List.{length-map, map-append, append_cancel_right, drop-drop, length-take-le}
+use Rattle.std.proofs.lemmas.List.{length-map, map-append, append_cancel_right, drop-drop}
 use Rattle.std.proofs.lemmas.Bool.{cases_lt}
 use Rattle.octets.specs.Ascii.{lowered}
 use Rattle.octets.proofs.Lists.{some_is, some_pair}
@@ -12,16 +12,15 @@ use Rattle.sievelex.specs.declared.token.Kind.{Kind}
 use Rattle.sievelex.specs.declared.token.Kind.TheVariants.{Identifier, Text}
 use Rattle.sievelex.specs.declared.token.Value.{Value}
 use Rattle.sievelex.specs.declared.token.Value.TheVariants.{Chars}
-use Rattle.sievelex.specs.declared.multiline.Stage.TheVariants.{Opening, Start}
+use Rattle.sievelex.specs.declared.multiline.Stage.TheVariants.{Opening}
 use Rattle.sievelex.specs.Class.{is_name_octet, is_name_start}
 use Rattle.sievelex.specs.Body.{body_from}
-use Rattle.sievelex.specs.Lines.{IsMultiline, IsFinal, line_end, line_spelling}
-use Rattle.sievelex.specs.Shape.{IsShape, IsName}
+use Rattle.sievelex.specs.Lines.{IsFinal, line_end, line_spelling}
 use Rattle.sievelex.specs.Spelling.{OpensText}
 use Rattle.sievelex.specs.Front.{IsFront}
 use Rattle.sievelex.proofs.Prefixes.{take_sum}
 use Rattle.sievelex.proofs.Bodies.{IsOpening, opening_is, IsBody, body_is}
-use Rattle.sievelex.proofs.Worded.{IsWord, word_is, word_len, word_opens, multi_word, multi_again}
+use Rattle.sievelex.proofs.Worded.{IsWord, word_is, word_len, word_opens, multi_again}
 use Rattle.sievelex.proofs.Named.{IsNamed, named_is, name_bound, longest_name}
 use Rattle.sievelex.proofs.Named.IsNamed.{AName, Several}
 use Rattle.sievelex.proofs.Best.{IsBest, IsFound, best_found}

@@ -1,6 +1,6 @@
 -- The word that begins a string of several lines.
-use Rattle.std.proofs.Common.{◌≡◌, ℕ, ◌+◌, ◌<◌, ◌≤◌, suc, zero, true, false, Some, None, List, [], ◌∷◌, ◌++◌, length, take, drop, get_or, refl, ap, sym, ◌∙◌, subst, arith, append_assoc}
-use Rattle.std.specs.Prelude.{codes, slice_get}
+use Rattle.std.proofs.Common.{◌≡◌, ℕ, suc, zero, true, Some, List, [], ◌∷◌, ◌++◌, length, take, drop, get_or, refl, ap, sym, ◌∙◌, subst, arith, append_assoc}
+use Rattle.std.specs.Prelude.{codes}
 use Rattle.std.specs.Char.{to_ascii_lowercase}
 use Rattle.std.specs.List.{flat_map, prefix_len}
 use Rattle.std.proofs.lemmas.List.{length-map, take_at, drop_at}
@@ -8,7 +8,7 @@ use Rattle.std.proofs.lemmas.Bool.Decides.{nat_tests}
 use Rattle.octets.specs.Ascii.{lowered}
 use Rattle.sievelex.specs.declared.token.Kind.TheVariants.{Identifier}
 use Rattle.sievelex.specs.declared.token.Value.TheVariants.{Chars}
-use Rattle.sievelex.specs.declared.multiline.Stage.TheVariants.{Opening, Start}
+use Rattle.sievelex.specs.declared.multiline.Stage.TheVariants.{Opening}
 use Rattle.sievelex.specs.Class.{is_name_octet, is_name_start}
 use Rattle.sievelex.specs.Body.{body_from}
 use Rattle.sievelex.specs.Lines.{IsMultiline, line_end, line_spelling}

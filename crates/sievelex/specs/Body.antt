@@ -1,5 +1,5 @@
 -- The body of a string of several lines, read from the left.
-use Rattle.std.specs.Prelude.{ℕ, ◌==◌, ◌||◌, cond, Option, Some, None, List, [], ◌∷◌}
+use Rattle.std.specs.Prelude.{ℕ, ◌==◌, cond, Option, Some, None, List, [], ◌∷◌}
 use Rattle.octets.specs.Ascii.{is_blank}
 use Rattle.sievelex.specs.declared.multiline.Stage.{Stage}
 use Rattle.sievelex.specs.declared.multiline.Stage.TheVariants.{Opening, Comment, OpeningReturn, Start, Dot, DotReturn, Inside, Return, Done, Broken}

@@ -1,5 +1,5 @@
 -- White space between tokens (RFC 5228, 2.3 and 8.1).
-use Rattle.std.specs.Prelude.{◌≡◌, ◌≢◌, ℕ, Bool, ◌==◌, not, List, [], ◌∷◌, ◌++◌, slice_index, IsTrue}
+use Rattle.std.specs.Prelude.{◌≡◌, ◌≢◌, ℕ, not, List, [], ◌∷◌, ◌++◌, slice_index, IsTrue}
 use Rattle.std.specs.List.{list_all, flat_map}
 use Rattle.sievelex.specs.Class.{is_white}
 use Rattle.sievelex.specs.Text.{is_line_feed}

@@ -1,13 +1,11 @@
 -- The tokens of a text (RFC 5228, 8.1).
-use Rattle.std.specs.Prelude.{◌≡◌, ℕ, ◌+◌, ◌-◌, ◌<◌, ◌≤◌, ◌^◌, List, [], ◌∷◌, length, take, drop, slice_get, Some, codes, IsTrue}
-use Rattle.std.specs.List.{flat_map}
+use Rattle.std.specs.Prelude.{◌≡◌, ℕ, ◌+◌, ◌-◌, ◌<◌, ◌≤◌, ◌^◌, List, [], ◌∷◌, length, take, drop, slice_get, Some, codes}
 use Rattle.octets.specs.Ascii.{lowered}
 use Rattle.sievelex.specs.declared.token.Kind.{Kind}
 use Rattle.sievelex.specs.declared.token.Kind.TheVariants.{Identifier}
 use Rattle.sievelex.specs.declared.token.Value.{Value}
 use Rattle.sievelex.specs.declared.token.Value.TheVariants.{Amount, Chars}
 use Rattle.sievelex.specs.declared.token.Token.{Token}
-use Rattle.sievelex.specs.Class.{is_white}
 use Rattle.sievelex.specs.Shape.{IsShape}
 use Rattle.sievelex.specs.Space.{IsGap, IsTail}
 use Rattle.sievelex.specs.Text.{IsText, line_ends}
