@@ -1,8 +1,8 @@
 //! The token at the front of a text.
-ghost use Rattle.std.specs.Prelude.{◌≡◌, ◌+◌, ◌-◌, ◌<◌, ◌≤◌, ◌^◌, ◌∷◌, [], ◌↔◌, IsTrue, slice_index, take, codes};
+ghost use Rattle.std.specs.Prelude.{◌≡◌, ◌∷◌, ◌↔◌, IsTrue, slice_index, take, codes};
 ghost use Rattle.sievelex.specs.Spelling.{OpensText};
 ghost use Rattle.std.specs.List.{prefix_len};
-ghost use Rattle.sievelex.specs.Class.{is_name_start, is_name_octet, class_of};
+ghost use Rattle.sievelex.specs.Class.{is_name_start, is_name_octet};
 ghost use Rattle.sievelex.specs.Finding.{Finds, IfFaultLine};
 ghost use Rattle.sievelex.specs.Front.{IsFront};
 ghost use Rattle.octets.specs.Ascii.{is_digit, lowered};

@@ -1,7 +1,5 @@
 //! The tokens of a text.
 ghost use Rattle.std.specs.Prelude.{◌≡◌, ◌+◌, ◌≤◌, List, [], Some, length, take, IfOk, MatchOption};
-ghost use Rattle.std.specs.List.{prefix_len};
-ghost use Rattle.sievelex.specs.Class.{is_white};
 ghost use Rattle.sievelex.specs.Finding.{IfFault, IfFaultLine};
 ghost use Rattle.sievelex.specs.Spelling.{IsNext, SpellsFrom, Spells};
 ghost use Rattle.sievelex.specs.Text.{line_ends};
@@ -16,9 +14,10 @@ use std::alloc::Global;
 
 /// The tokens of a script, in order (RFC 5228, 8.1), each with its place and line.
 ///
-/// A fault is answered exactly where the text is no list of tokens; it names the line where the token begins
-/// that is none. One pass from the front to the end, in time linear in the text's length; the texts of names
-/// and strings are copied, and nothing else is kept.
+/// Unless memory runs out, a fault is answered exactly where the text is no list of tokens; it names the line of
+/// the octet at which the token or the comment begins that is none. After a look at the whole text for UTF-8,
+/// NUL and lone CRs one pass goes from the front to the end, in time linear in the text's length. Of the text the
+/// names and the values of strings are copied, each once.
 pub fn tokens(alloc: Global, text: &[u8]) -> Result<Vec<Token>, ScriptError>
     ensures found { IfOk result (λ ts. Spells text.now ts.items) }
     ensures only { IfOk result (λ ts. (us : List Token) → Spells text.now us → us ≡ ts.items) }
