@@ -1,0 +1,149 @@
+ghost use Rattle.std.specs.Prelude.{◌≡◌};
+
+use std::alloc::{AllocError, AllocFailed};
+use std::fmt;
+use thiserror::Error;
+
+/// Why a text is no valid script.
+#[derive(Clone, Copy, PartialEq, Eq)]
+pub enum FaultKind {
+    /// The text is not UTF-8.
+    NotUtf8 = 1,
+    /// An octet that may not stand where it does: NUL, a CR that no LF follows, one that begins no token.
+    BadByte = 2,
+    /// A string without its end.
+    OpenString = 3,
+    /// A `/* */` comment without its end.
+    OpenComment = 4,
+    /// A number above 2^63 - 1, its multiplier counted.
+    NumberTooLarge = 5,
+    /// A token that may not stand where it does.
+    Unexpected = 6,
+    /// An identifier that is no command's name.
+    UnknownCommand = 7,
+    /// An identifier that is no test's name.
+    UnknownTest = 8,
+    /// A tag that the command or test does not have.
+    UnknownTag = 9,
+    /// A tag, or one of a group of tags that exclude each other, for the second time.
+    DoubleTag = 10,
+    /// Fewer arguments than the command or test has.
+    MissingArgument = 11,
+    /// More arguments than the command or test has.
+    ExtraArgument = 12,
+    /// An argument of another form or value than is wanted.
+    WrongArgument = 13,
+    /// A command, test, tag or comparator whose capability is not required.
+    NotRequired = 14,
+    /// A capability in `require` that is not known.
+    UnknownCapability = 15,
+    /// A `require` after another command.
+    LateRequire = 16,
+    /// An `elsif` or `else` that stands directly after no `if` or `elsif`.
+    StrayElse = 17,
+    /// More levels of blocks, test lists or `not` than are taken.
+    TooDeep = 18,
+    /// A mailbox name that is not taken.
+    BadMailbox = 19,
+    /// An outbound address that is not taken.
+    BadAddress = 20,
+    /// A reason with `:mime` that is no MIME entity of the form wanted.
+    BadMime = 21,
+    /// A line of a vacation reason with more than 998 octets.
+    LongReasonLine = 22,
+}
+
+impl FaultKind {
+    ghost use Rattle.sievelex.specs.Faults.{number_of, text_of};
+
+    /// The kind's number, from 1 to 22.
+    pub fn number(self) -> u8
+        ensures { result ≡ number_of self }
+    {
+        self as u8
+    }
+
+    /// The kind in words for the script's author.
+    pub fn text(self) -> &'static str
+        ensures { result.now ≡ text_of self }
+    {
+        match self {
+            FaultKind::NotUtf8 => "not UTF-8",
+            FaultKind::BadByte => "bad octet",
+            FaultKind::OpenString => "string is not closed",
+            FaultKind::OpenComment => "comment is not closed",
+            FaultKind::NumberTooLarge => "number too large",
+            FaultKind::Unexpected => "unexpected token",
+            FaultKind::UnknownCommand => "unknown command",
+            FaultKind::UnknownTest => "unknown test",
+            FaultKind::UnknownTag => "unknown tag",
+            FaultKind::DoubleTag => "tag given twice",
+            FaultKind::MissingArgument => "missing argument",
+            FaultKind::ExtraArgument => "too many arguments",
+            FaultKind::WrongArgument => "wrong argument",
+            FaultKind::NotRequired => "extension not required",
+            FaultKind::UnknownCapability => "unknown capability",
+            FaultKind::LateRequire => "require after another command",
+            FaultKind::StrayElse => "elsif or else without if",
+            FaultKind::TooDeep => "nested too deep",
+            FaultKind::BadMailbox => "bad mailbox name",
+            FaultKind::BadAddress => "bad address",
+            FaultKind::BadMime => "bad MIME reason",
+            FaultKind::LongReasonLine => "reason line too long",
+        }
+    }
+}
+
+/// The text of the kind.
+impl fmt::Display for FaultKind {
+    fn fmt<W: fmt::Write>(&self, f: &mut fmt::Formatter<W>) -> fmt::Result {
+        f.write_str(self.text())
+    }
+}
+
+impl fmt::Debug for FaultKind {
+    fn fmt<W: fmt::Write>(&self, f: &mut fmt::Formatter<W>) -> fmt::Result {
+        f.write_str(self.text())
+    }
+}
+
+/// Why and where a text is no valid script. It is shown as `line 3: unknown test`.
+#[derive(Clone, Copy, Debug, PartialEq, Eq, Error)]
+#[error("line {line}: {kind}")]
+pub struct ScriptFault {
+    /// The line of the fault, counted from 1: a line ends at its LF.
+    pub line: u64,
+    /// What is wrong there.
+    pub kind: FaultKind,
+}
+
+/// Why there is no answer for a script: no memory, or a fault of the script.
+#[derive(Debug, Drop, PartialEq, Eq, Error)]
+pub enum ScriptError {
+    /// Memory that was asked for was refused.
+    #[error("out of memory")]
+    Memory,
+    /// The text is no valid script.
+    #[error("{0}")]
+    Fault(ScriptFault),
+}
+
+impl From<AllocError> for ScriptError {
+    ghost use Rattle.sievelex.specs.declared.fault.ScriptError.TheVariants.{Memory};
+
+    ghost from_gives = { λ _ e. e ≡ Memory };
+
+    fn from(_refused: AllocError) -> ScriptError {
+        ScriptError::Memory
+    }
+}
+
+impl<T: Drop> From<AllocFailed<T>> for ScriptError {
+    ghost use Rattle.sievelex.specs.declared.fault.ScriptError.TheVariants.{Memory};
+
+    ghost from_gives = { λ _ e. e ≡ Memory };
+
+    fn from(_refused: AllocFailed<T>) -> ScriptError {
+        ScriptError::Memory
+    }
+}

@@ -1,0 +1,55 @@
+-- The tree that the Rust values of a script stand for.
+use Rattle.std.specs.Prelude.{List, [], ◌∷◌, map}
+use Rattle.sievesyntax.specs.declared.tree.Test.{Test}
+use Rattle.sievesyntax.specs.declared.tree.Test.TheVariants.{True, False, Check}
+use Rattle.sievesyntax.specs.declared.tree.Branch.{Branch, fold-Branch}
+use Rattle.sievesyntax.specs.declared.tree.Command.{Command, fold-Command}
+use Rattle.sievesyntax.specs.declared.tree.Command.TheOpen.{Command-F, Branch-F}
+use Rattle.sievesyntax.specs.declared.script.Script.{Script}
+use Rattle.sievesyntax.specs.Tree.{TestTree, yes, no, looks, CommandTree, require, choose, stop, act, Branches, no_branches, branch, Commands, no_commands, command}
+
+-- the tree of a test
+abbrev pub test_view : Test → TestTree
+test_view True = yes
+test_view False = no
+test_view (Check check) = looks check
+
+-- commands in a row
+abbrev pub commands_of : List CommandTree → Commands
+commands_of [] = no_commands
+commands_of (first ∷ more) = command first (commands_of more)
+
+-- branches in a row
+abbrev pub branches_of : List (TestTree × Commands) → Branches
+branches_of [] = no_branches
+branches_of (first ∷ more) = branch first.0 first.1 (branches_of more)
+
+-- one level, with each command inside already seen as its tree
+abbrev pub command_step : Command-F CommandTree (TestTree × Commands) → CommandTree
+command_step (Command-F.Require names) = require names
+command_step (Command-F.If branches) = choose (branches_of branches.items)
+command_step Command-F.Stop = stop
+command_step (Command-F.Act action) = act action
+
+abbrev pub branch_step : Branch-F CommandTree (TestTree × Commands) → TestTree × Commands
+branch_step one = (test_view one.test, commands_of one.block.items)
+
+-- the tree of a command
+abbrev pub command_view : Command → CommandTree
+command_view = fold-Command CommandTree (TestTree × Commands) command_step branch_step
+
+-- the test and the block of a branch
+abbrev pub branch_view : Branch → TestTree × Commands
+branch_view = fold-Branch CommandTree (TestTree × Commands) command_step branch_step
+
+-- the tree of commands in a row
+abbrev pub commands_view : List Command → Commands
+commands_view row = commands_of (map command_view row)
+
+-- the tree of branches in a row
+abbrev pub branches_view : List Branch → Branches
+branches_view row = branches_of (map branch_view row)
+
+-- the tree that a checked script holds
+abbrev pub script_tree : Script → Commands
+script_tree script = commands_view script.commands.items
