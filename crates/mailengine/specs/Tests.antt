@@ -1,0 +1,30 @@
+-- What the tests of a script see of a message and its envelope (RFC 5228, 5).
+use Rattle.std.specs.Prelude.{ℕ, Bool, ◌+◌, ◌&&◌, ◌==◌, not, cond, nat_lt, List, [], ◌∷◌}
+use Rattle.sievesyntax.specs.declared.tree.Check.{Check}
+use Rattle.sievesyntax.specs.declared.tree.Check.TheVariants.{Size}
+use Rattle.sievesyntax.specs.declared.tree.Bound.{Bound}
+use Rattle.sievesyntax.specs.declared.tree.Bound.TheVariants.{Over, Under}
+use Rattle.mailengine.specs.declared.mail.Mail.{Mail}
+use Rattle.mailengine.specs.declared.mail.Envelope.{Envelope}
+
+-- how many octets, each LF without CR right before it counted twice, behind this octet
+abbrev pub size_after : ℕ → List ℕ → ℕ
+size_after before [] = 0
+size_after before (octet ∷ rest) = cond (octet == 10 && not (before == 13)) 2 1 + size_after octet rest
+
+-- the octets of a message, and one more for each LF without CR right before it
+abbrev pub size_of : List ℕ → ℕ
+size_of message = size_after 0 message
+
+-- a message with its envelope, as the tests see it; no test looks at the envelope yet
+abbrev pub mail_of : List ℕ → Envelope → Mail
+mail_of message envelope = record { size = size_of message }
+
+-- a size over or under a limit; one that is the limit is neither
+abbrev pub is_beyond : Bound → ℕ → ℕ → Bool
+is_beyond Over size limit = nat_lt limit size
+is_beyond Under size limit = nat_lt size limit
+
+-- whether a test that looks at the message holds of it (RFC 5228, 5.9)
+abbrev pub truth_at : Mail → Check → Bool
+truth_at mail (Size size) = is_beyond size.bound mail.size size.limit
