@@ -1,5 +1,5 @@
 -- Lemmas on the words of specs/Ascii.
-use Rattle.std.proofs.Common.{◌≡◌, ℕ, Bool, true, false, cond, List, [], ◌∷◌, ◌++◌, refl, ap, sym, ◌∙◌}
+use Rattle.std.proofs.Common.{◌≡◌, ℕ, true, false, List, [], ◌∷◌, ◌++◌, refl, ap, ◌∙◌}
 use Rattle.octets.specs.Ascii.{is_blank, before, trim_back}
 
 -- a text that doesn't end the other one keeps its first octet

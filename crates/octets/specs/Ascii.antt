@@ -1,5 +1,5 @@
 -- Words on octets and on texts of ASCII.
-use Rattle.std.specs.Prelude.{ℕ, Bool, true, false, ◌==◌, ◌||◌, ◌&&◌, cond, nat_le, List, [], ◌∷◌, map}
+use Rattle.std.specs.Prelude.{ℕ, Bool, ◌==◌, ◌||◌, ◌&&◌, cond, nat_le, List, [], ◌∷◌, map}
 use Rattle.std.specs.Char.{is_ascii_alphabetic, to_ascii_lowercase, is_ascii_digit}
 
 -- SP or TAB

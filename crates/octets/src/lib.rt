@@ -4,9 +4,14 @@
 #![tactic(auto)]
 
 pub mod ascii;
+pub mod decimal;
 pub mod list;
 pub mod string;
 
 pub use ascii::{is_blank, is_letter, is_printable, lowered, trim_blanks};
+pub use decimal::{parse_decimal, write_decimal};
 pub use list::Texts;
 pub use string::Octets;
+
+#[cfg(test)]
+mod tests;

@@ -31,10 +31,10 @@ impl Texts {
     }
 
     /// The same texts, without a copy.
-    pub fn from_vec(items: Vec<Octets>) -> Texts
-        ensures { result ≡ items.items }
+    pub fn from_vec(texts: Vec<Octets>) -> Texts
+        ensures { result ≡ texts.items }
     {
-        Texts { items }
+        Texts { items: texts }
     }
 
     pub fn as_slice(&self) -> &[Octets]

@@ -34,10 +34,10 @@ impl Octets {
     }
 
     /// The same octets, without a copy.
-    pub fn from_vec(items: Vec<u8>) -> Octets
-        ensures { result ≡ items.items }
+    pub fn from_vec(octets: Vec<u8>) -> Octets
+        ensures { result ≡ octets.items }
     {
-        Octets { items }
+        Octets { items: octets }
     }
 
     /// A copy of the octets of a slice.

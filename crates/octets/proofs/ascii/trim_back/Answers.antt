@@ -1,4 +1,4 @@
-use Rattle.std.proofs.Common.{◌≡◌, ◌∙◌, sym, ap}
+use Rattle.std.proofs.Common.{◌∙◌, sym, ap}
 use Rattle.octets.specs.Ascii as ascii
 use Rattle.octets.proofs.AsciiLemmas.{trim_back-blank, trim_back-other}
 use Rattle.octets.proofs.ascii.trim_back.Goals as goal
