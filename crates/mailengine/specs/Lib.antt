@@ -1,2 +1,3 @@
-pub mod Tests
+pub mod Means
 pub mod Runs
+pub mod Tests

@@ -16,5 +16,5 @@ flow_of step.Going so_far = Going so_far
 flow_of step.Stopped so_far = Stopped so_far
 
 -- what a script comes to
-abbrev pub deeds_view : Outcome → OutcomeTree
-deeds_view (Done filed) = DoneTree (record { filed = filed })
+abbrev pub outcome_view : Outcome → OutcomeTree
+outcome_view (Done filed) = DoneTree (record { filed = filed })

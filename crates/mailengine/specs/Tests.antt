@@ -4,6 +4,8 @@ use Rattle.sievesyntax.specs.declared.tree.Check.{Check}
 use Rattle.sievesyntax.specs.declared.tree.Check.TheVariants.{Size}
 use Rattle.sievesyntax.specs.declared.tree.Bound.{Bound}
 use Rattle.sievesyntax.specs.declared.tree.Bound.TheVariants.{Over, Under}
+use Rattle.sievesyntax.specs.Tree.{Commands}
+use Rattle.sievesyntax.specs.Meaning.{Outcome, outcome}
 use Rattle.mailengine.specs.declared.mail.Mail.{Mail}
 use Rattle.mailengine.specs.declared.mail.Envelope.{Envelope}
 
@@ -28,3 +30,7 @@ is_beyond Under size limit = nat_lt size limit
 -- whether a test that looks at the message holds of it (RFC 5228, 5.9)
 abbrev pub truth_at : Mail → Check → Bool
 truth_at mail (Size size) = is_beyond size.bound mail.size size.limit
+
+-- what a script comes to on a message
+abbrev pub outcome_at : Mail → Commands → Outcome
+outcome_at mail tree = outcome (truth_at mail) tree

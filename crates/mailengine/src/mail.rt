@@ -1,5 +1,6 @@
 //! A message with its envelope, as the tests of a script see it.
 ghost use Rattle.std.specs.Prelude.{◌≡◌};
+ghost use Rattle.mailengine.specs.Tests as tests;
 
 use octets::Octets;
 use sievesyntax::{Bound, Check};
@@ -46,7 +47,9 @@ impl Mail {
 }
 
 /// The octets of a message, and one more for each LF without CR right before it.
-fn size_of(message: &[u8]) -> u64 {
+fn size_of(message: &[u8]) -> u64
+    ensures { result ≡ tests.size_of message.now }
+{
     let mut before = 0;
     let mut bare = 0u64;
     for octet in message {

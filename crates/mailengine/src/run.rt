@@ -1,9 +1,9 @@
 //! Runs the commands of a script, one after the other (RFC 5228, 2.10 and 3).
 ghost use Rattle.std.specs.Prelude.{◌≡◌, IfOk, OnOk};
 ghost use Rattle.sievesyntax.specs.View.{command_view, commands_view, branches_view, test_view};
-ghost use Rattle.sievesyntax.specs.Meaning.{does, does_all, chooses, holds, outcome as outcome_of};
-ghost use Rattle.mailengine.specs.Tests.{truth_at};
-ghost use Rattle.mailengine.specs.Runs.{flow_of, so_far_of, deeds_view};
+ghost use Rattle.sievesyntax.specs.Meaning.{does, does_all, chooses, holds};
+ghost use Rattle.mailengine.specs.Tests.{outcome_at, truth_at};
+ghost use Rattle.mailengine.specs.Runs.{flow_of, so_far_of, outcome_view};
 
 use crate::mail::Mail;
 use crate::outcome::Outcome;
@@ -22,7 +22,7 @@ pub enum Step {
 
 /// Runs the commands of a script, and then the implicit keep where nothing cancelled it.
 pub fn outcome(alloc: Global, commands: &[Command], mail: Mail) -> Result<Outcome, AllocError>
-    ensures { IfOk result (λ done. deeds_view done ≡ outcome_of (truth_at mail) (commands_view commands.now)) }
+    ensures { IfOk result (λ done. outcome_view done ≡ outcome_at mail (commands_view commands.now)) }
 {
     let mut so_far = SoFar::new(alloc);
     run_all(alloc, commands, mail, &mut so_far)?;

@@ -22,7 +22,7 @@ pub struct SoFar {
 }
 
 impl SoFar {
-    ghost use Rattle.mailengine.specs.Runs.{so_far_of, deeds_view};
+    ghost use Rattle.mailengine.specs.Runs.{so_far_of, outcome_view};
 
     /// Nothing. Takes no memory.
     pub fn new(alloc: Global) -> SoFar
@@ -49,7 +49,7 @@ impl SoFar {
 
     /// The outcome of a run that is over: the implicit keep comes last.
     pub fn end(mut self, alloc: Global) -> Result<Outcome, AllocError>
-        ensures { IfOk result (λ done. deeds_view done ≡ Done (deeds_of (so_far_of self))) }
+        ensures { IfOk result (λ done. outcome_view done ≡ Done (deeds_of (so_far_of self))) }
     {
         if !self.cancelled {
             self.file_into(alloc, INBOX)?;

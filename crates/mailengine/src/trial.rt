@@ -1,0 +1,37 @@
+//! One script tried on one message.
+ghost use Rattle.std.specs.Prelude.{◌≡◌, ◌≤◌, ◌+◌, ◌==◌, IfOk, count_by};
+ghost use Rattle.sievelex.specs.Finding.{IfFault, IfFaultLine};
+ghost use Rattle.sievesyntax.specs.Tree.{Commands};
+ghost use Rattle.mailengine.specs.Means.{Means};
+ghost use Rattle.mailengine.specs.Tests.{outcome_at, mail_of};
+ghost use Rattle.mailengine.specs.Runs.{outcome_view};
+
+use crate::mail::{Envelope, Mail};
+use crate::outcome::Outcome;
+use crate::run;
+use crate::standin::check;
+use sievelex::ScriptError;
+use std::alloc::Global;
+
+/// What a script does with a message (RFC 5228, 2.10), or why it is no valid script.
+///
+/// Nothing is filed: the outcome says what would be. Script, envelope and message have no limit on their size.
+/// Takes one pass over the script and one over the message, whose octets aren't copied, and memory in proportion
+/// to the script alone.
+pub fn attempt(
+    alloc: Global,
+    script: &[u8],
+    envelope: &Envelope,
+    message: &[u8],
+) -> Result<Outcome, ScriptError>
+    ensures valid { IfOk result (λ done. (tree : Commands) × Means script.now tree) }
+    ensures done { IfOk result (λ done. (tree : Commands) → Means script.now tree →
+        outcome_view done ≡ outcome_at (mail_of message.now envelope.now) tree) }
+    ensures fault { IfFault result ((tree : Commands) → Means script.now tree → ⊥) }
+    ensures line { IfFaultLine result (λ line.
+        (1 ≤ line) × (line ≤ 1 + count_by (λ octet. octet == 10) script.now)) }
+{
+    let checked = check(alloc, script)?;
+    let mail = Mail::read(message, envelope);
+    Ok(run::outcome(alloc, checked.commands(), mail)?)
+}
