@@ -2,6 +2,7 @@
 #![tactic(auto)]
 
 mod fault;
+mod framing;
 mod stream;
 
 fn main(rt: HostRuntime) -> std::process::ExitCode {
