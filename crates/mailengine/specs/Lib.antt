@@ -1,3 +1,5 @@
 pub mod Means
 pub mod Runs
 pub mod Tests
+pub use Rattle.sievesyntax.specs.Meaning
+pub use Rattle.sievesyntax.specs.Tree

@@ -1,6 +1,7 @@
 //! Reading all of an input, and writing a text, with what is left where that fails.
-ghost use Rattle.std.specs.Prelude.{◌≡◌, ◌+◌, ◌<◌, ◌≤◌, take, drop, length, vec_len, unwrap_or, IfOk, OnOk, OnErr};
+ghost use Rattle.std.specs.Prelude.{◌≡◌, ◌+◌, ◌<◌, ◌≤◌, take, drop, length, vec_len, unwrap_or, IfOk, IfErr, OnOk, OnErr};
 ghost use Rattle.std.specs.Io.KnownBytes.{Appends, Consumes, IsAtEnd, Keeps};
+ghost use Rattle.sieved.specs.Faults.{IsFailure};
 ghost use Rattle.sieved.specs.Streams.{ReadsAll, AppendsFront};
 
 use crate::fault::Fault;
@@ -16,7 +17,8 @@ const PIECE: usize = 262_144;
 
 /// Reads to the end, in place and in large pieces, and copies nothing but where the vector grows.
 pub fn read_all<R: Read>(alloc: Global, input: &mut R) -> Result<Vec<u8>, Fault>
-    ensures { IfOk result (λ octets. ReadsAll (R.remaining input.old) octets.items) }
+    ensures ok { IfOk result (λ octets. ReadsAll (R.remaining input.old) octets.items) }
+    ensures err { IfErr result IsFailure }
 {
     let mut octets = Vec::new(alloc);
     let mut filled = 0;
@@ -54,6 +56,7 @@ fn read_at<R: Read>(input: &mut R, room: &mut [u8], at: usize) -> Result<Option<
     ensures read { IfOk result (λ more. Consumes (R.remaining input.old) (R.remaining input.new)
         (take (unwrap_or more 0) (drop at room.new))) }
     ensures end { result ≡ Ok None → IsAtEnd (R.remaining input.new) }
+    ensures fault { IfErr result (λ fault. fault ≡ Fault.Stream) }
 {
     match input.read(&mut room[at..]) {
         Ok(0) => Ok(None),
@@ -66,7 +69,9 @@ fn read_at<R: Read>(input: &mut R, room: &mut [u8], at: usize) -> Result<Option<
 }
 
 /// Refuses each failure but that a signal came before the call, which is then made again.
-fn allow_retry(error: &io::Error) -> Result<(), Fault> {
+fn allow_retry(error: &io::Error) -> Result<(), Fault>
+    ensures { IfErr result (λ fault. fault ≡ Fault.Stream) }
+{
     if error.kind() == ErrorKind::Interrupted {
         Ok(())
     } else {
@@ -78,6 +83,7 @@ fn allow_retry(error: &io::Error) -> Result<(), Fault> {
 pub fn write_all<W: Write>(output: &mut W, text: &[u8]) -> Result<(), Fault>
     ensures ok { OnOk result (Appends (W.contents output.old) (W.contents output.new) text.now) }
     ensures err { OnErr result (AppendsFront (W.contents output.old) (W.contents output.new) text.now) }
+    ensures fault { IfErr result (λ fault. fault ≡ Fault.Stream) }
 {
     let mut rest = text;
     for _ in 0..u64::MAX {
@@ -95,6 +101,7 @@ fn write_some<W: Write>(output: &mut W, text: &[u8]) -> Result<usize, Fault>
     ensures bound { IfOk result (λ n. n ≤ length text.now) }
     ensures ok { IfOk result (λ n. Appends (W.contents output.old) (W.contents output.new) (take n text.now)) }
     ensures err { OnErr result (Keeps (W.contents output.old) (W.contents output.new)) }
+    ensures fault { IfErr result (λ fault. fault ≡ Fault.Stream) }
 {
     match output.write(text) {
         Ok(0) => Err(Fault::Stream),
@@ -107,7 +114,8 @@ fn write_some<W: Write>(output: &mut W, text: &[u8]) -> Result<usize, Fault>
 }
 
 fn flushed<W: Write>(output: &mut W) -> Result<(), Fault>
-    ensures { Keeps (W.contents output.old) (W.contents output.new) }
+    ensures kept { Keeps (W.contents output.old) (W.contents output.new) }
+    ensures fault { IfErr result (λ fault. fault ≡ Fault.Stream) }
 {
     match output.flush() {
         Ok(()) => Ok(()),
