@@ -1,3 +1,4 @@
+pub mod Mailboxes
 pub mod Means
 pub mod Runs
 pub mod Tests

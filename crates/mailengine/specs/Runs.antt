@@ -1,5 +1,6 @@
 -- What the values of a run stand for.
 use Rattle.sievesyntax.specs.Meaning.{SoFar as SoFarTree, Flow, Going, Stopped, Outcome as OutcomeTree, Done as DoneTree}
+use Rattle.mailengine.specs.Mailboxes.{each_once}
 use Rattle.mailengine.specs.declared.so_far.SoFar.{SoFar}
 use Rattle.mailengine.specs.declared.run.Step.{Step}
 use Rattle.mailengine.specs.declared.run.Step.TheVariants as step
@@ -8,7 +9,7 @@ use Rattle.mailengine.specs.declared.outcome.Outcome.TheVariants.{Done}
 
 -- what is done so far
 abbrev pub so_far_of : SoFar → SoFarTree
-so_far_of so_far = record { filed = so_far.filed; cancelled = so_far.cancelled }
+so_far_of so_far = record { filed = each_once so_far.named; cancelled = so_far.cancelled }
 
 -- how a run stands
 abbrev pub flow_of : Step → SoFarTree → Flow

@@ -1,13 +1,13 @@
 //! What a run has done so far.
-ghost use Rattle.std.specs.Prelude.{◌≡◌, IfOk, OnOk, nat_eq};
-ghost use Rattle.std.specs.List.{list_any};
-ghost use Rattle.std.specs.Cmp.Lexicographic.{pointwise};
+ghost use Rattle.std.specs.Prelude.{◌≡◌, [], ◌∷◌, ◌++◌, IfOk, OnOk};
+ghost use Rattle.mailengine.specs.Mailboxes.{each_once as each_once_of};
 ghost use Rattle.sievesyntax.specs.Meaning.{acted, at_first, filed_into, mailbox_named as mailbox_of, with_mailbox, inbox, Done, deeds_of};
 
 use crate::outcome::Outcome;
 use octets::{Octets, Texts};
 use sievesyntax::Action;
 use std::alloc::{AllocError, Global};
+use std::collections::BTreeSet;
 
 /// The mailbox of `keep` and of the implicit keep.
 const INBOX: &[u8] = b"INBOX";
@@ -15,8 +15,8 @@ const INBOX: &[u8] = b"INBOX";
 /// What a run has done so far.
 #[derive(Drop)]
 pub struct SoFar {
-    /// The mailboxes that the message goes into, each once, in the order of the first command that says so.
-    pub filed: Texts,
+    /// The mailboxes that the message goes into, in the order of the commands that say so.
+    pub named: Texts,
     /// Whether the implicit keep is cancelled.
     pub cancelled: bool,
 }
@@ -29,7 +29,7 @@ impl SoFar {
         ensures { so_far_of result ≡ at_first }
     {
         SoFar {
-            filed: Texts::new(alloc),
+            named: Texts::new(alloc),
             cancelled: false,
         }
     }
@@ -54,25 +54,31 @@ impl SoFar {
         if !self.cancelled {
             self.file_into(alloc, INBOX)?;
         }
-        Ok(Outcome::Done { filed: self.filed })
+        Ok(Outcome::Done {
+            filed: each_once(alloc, self.named.as_slice())?,
+        })
     }
 
-    /// One mailbox more, unless it is there.
     fn file_into(&mut self, alloc: Global, mailbox: &[u8]) -> Result<(), AllocError>
-        ensures filed { OnOk result (self.new.filed ≡ with_mailbox self.old.filed mailbox.now) }
+        ensures named { OnOk result (self.new.named ≡ self.old.named ++ mailbox.now ∷ []) }
         ensures kept { self.new.cancelled ≡ self.old.cancelled }
     {
-        if !is_among(mailbox, self.filed.as_slice()) {
-            self.filed.push(Octets::copy(alloc, mailbox)?)?;
-        }
-        Ok(())
+        self.named.push(Octets::copy(alloc, mailbox)?)
     }
 }
 
-fn is_among(mailbox: &[u8], filed: &[Octets]) -> bool
-    ensures { result ≡ list_any (λ there. pointwise nat_eq there mailbox.now) filed.now }
+/// Each of these mailboxes once, in the order of the first places. For n of them n log n comparisons.
+fn each_once(alloc: Global, named: &[Octets]) -> Result<Texts, AllocError>
+    ensures { IfOk result (λ filed. filed ≡ each_once_of named.now) }
 {
-    filed.iter().any(|there| there.as_slice() == mailbox)
+    let mut known = BTreeSet::new(alloc);
+    let mut filed = Texts::new(alloc);
+    for mailbox in named {
+        if known.insert(mailbox.copied(alloc)?)? {
+            filed.push(mailbox.copied(alloc)?)?;
+        }
+    }
+    Ok(filed)
 }
 
 /// The mailbox that a name means: `INBOX` in any ASCII case is `INBOX`, others are taken as they are.

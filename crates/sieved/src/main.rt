@@ -6,6 +6,8 @@ mod fault;
 mod framing;
 mod report;
 mod stream;
+#[cfg(test)]
+mod tests;
 mod trial;
 
 use fault::Fault;
