@@ -1,0 +1,149 @@
+-- Lemmas on logical lines, and on what is left of a text after one.
+use Rattle.std.proofs.Common.{◌≡◌, ℕ, ◌+◌, ◌-◌, ◌<◌, Bool, true, false, cond, ◌==◌, ◌&&◌, None, Some, List, [], ◌∷◌, ◌++◌, length, take, drop, refl, sym, ap, ◌∙◌, arith}
+use Rattle.std.proofs.lemmas.List.{append_assoc, append-nil, take_at, drop_at, length-append}
+use Rattle.std.proofs.lemmas.List.Folds.{list_all-append, concat-append}
+use Rattle.std.specs.List.{concat, list_all}
+use Rattle.octets.specs.Ascii.{is_blank}
+use Rattle.mailhead.specs.Lines.{lines_of, begins_blank, goes_on, logical_lines, is_empty_line, header_lines, body_lines}
+use Rattle.mailhead.specs.Cuts.{CutsLine, CutsLogicalLine, after_empty}
+use Rattle.mailhead.proofs.LineLemmas.{begins_blank-append, goes_on-lines_of}
+
+-- some lines of a text were read: the first, and others that begin with a blank
+pub record IsFolded (text after : List ℕ) : Type 0 where
+  pub first : List ℕ
+  pub others : List (List ℕ)
+  pub lines : lines_of text ≡ first ∷ (others ++ lines_of after)
+  pub spelled : text ≡ concat (first ∷ others) ++ after
+  pub present : 0 < length first
+  pub folded : list_all begins_blank others ≡ true
+
+-- one line was read
+pub folded_one : (text line after : List ℕ) → CutsLine text line after → IsFolded text after
+folded_one text line after cut = record {
+  first = line;
+  others = [];
+  lines = cut.first;
+  spelled = cut.spelled ∙ ap (λ t. t ++ after) (sym (append-nil line));
+  present = cut.present;
+  folded = refl;
+}
+
+pub and_true : (a b : Bool) → a ≡ true → b ≡ true → (a && b) ≡ true
+and_true a b x y = rw (x, y) refl
+
+-- one line more was read
+pub folded_more : (text after line rest : List ℕ) → IsFolded text after → begins_blank after ≡ true → CutsLine after line rest → IsFolded text rest
+folded_more text after line rest so_far blank cut = record {
+  first = so_far.first;
+  others = so_far.others ++ line ∷ [];
+  lines =
+      so_far.lines ∙ ap (λ t. so_far.first ∷ (so_far.others ++ t)) cut.first
+      ∙ ap (λ t. so_far.first ∷ t) (sym (append_assoc so_far.others (line ∷ []) (lines_of rest)));
+  spelled =
+      let all = concat-append so_far.others (line ∷ []) in
+      let last = append-nil line in
+      let left = append_assoc so_far.first (concat so_far.others) line in
+      let right = append_assoc (so_far.first ++ concat so_far.others) line rest in
+      let was = so_far.spelled in
+      let now = cut.spelled in
+      was ∙ (ap (λ t. (so_far.first ++ concat so_far.others) ++ t) now ∙ (sym right ∙ ap (λ t. t ++ rest) (left ∙ ap (λ t. so_far.first ++ t) (sym (all ∙ ap (λ t. concat so_far.others ++ t) last)))));
+  present = so_far.present;
+  folded =
+      let begins : begins_blank line ≡ true = sym (begins_blank-append line rest cut.present) ∙ (ap begins_blank (sym cut.spelled) ∙ blank) in
+      list_all-append begins_blank so_far.others (line ∷ []) ∙ and_true _ _ so_far.folded (and_true _ _ begins refl);
+}
+
+-- the lines that were read are the logical line
+pub folded_all : (text after : List ℕ) → IsFolded text after → begins_blank after ≡ false → CutsLogicalLine text (take (length text - length after) text) (drop (length text - length after) text)
+folded_all text after so_far ended =
+    let line = concat (so_far.first ∷ so_far.others) in
+    let size : length text ≡ length line + length after = ap length so_far.spelled ∙ length-append line after in
+    let cut : length line ≡ length text - length after = omega arith in
+    let front : take (length text - length after) text ≡ line = ap (take (length text - length after)) so_far.spelled ∙ take_at line after _ cut in
+    let back : drop (length text - length after) text ≡ after = ap (drop (length text - length after)) so_far.spelled ∙ drop_at line after _ cut in
+    record {
+      first = so_far.first;
+      others = so_far.others;
+      lines = so_far.lines ∙ ap (λ t. so_far.first ∷ (so_far.others ++ lines_of t)) (sym back);
+      spelled = so_far.spelled ∙ (ap (λ t. t ++ after) (sym front) ∙ ap (λ t. take (length text - length after) text ++ t) (sym back));
+      parts = front;
+      present = so_far.present;
+      folded = so_far.folded;
+      ended = ap begins_blank back ∙ ended;
+    }
+
+pub and_left : (a b : Bool) → (a && b) ≡ true → a ≡ true
+and_left true b both = refl
+and_left false b both = both
+
+pub and_right : (a b : Bool) → (a && b) ≡ true → b ≡ true
+and_right true b both = both
+and_right false b both = absurd (cc both)
+
+blank_not_feed : (octet : ℕ) → is_blank octet ≡ true → (octet == 10) ≡ false
+blank_not_feed octet blank = grind (arith)
+
+blank_not_return : (octet : ℕ) → is_blank octet ≡ true → (octet == 13) ≡ false
+blank_not_return octet blank = grind (arith)
+
+-- a line that begins with a blank isn't empty
+pub blank_not_empty : (line : List ℕ) → begins_blank line ≡ true → is_empty_line line ≡ false
+blank_not_empty [] blank = refl
+blank_not_empty (octet ∷ []) blank = blank_not_feed octet blank
+blank_not_empty (octet ∷ (next ∷ [])) blank = rw (blank_not_return octet blank) refl
+blank_not_empty (octet ∷ (next ∷ (third ∷ more))) blank = refl
+
+-- lines that begin with a blank are header lines
+pub header_lines-folded : (others more : List (List ℕ)) → list_all begins_blank others ≡ true → header_lines (others ++ more) ≡ others ++ header_lines more
+header_lines-folded [] more all = refl
+header_lines-folded (line ∷ others) more all =
+    let kept : is_empty_line line ≡ false = blank_not_empty line (and_left _ _ all) in
+    let later = header_lines-folded others more (and_right _ _ all) in
+    rw (kept, later) refl
+
+-- the body lies behind lines that begin with a blank
+pub body_lines-folded : (others more : List (List ℕ)) → list_all begins_blank others ≡ true → body_lines (others ++ more) ≡ body_lines more
+body_lines-folded [] more all = refl
+body_lines-folded (line ∷ others) more all =
+    let kept : is_empty_line line ≡ false = blank_not_empty line (and_left _ _ all) in
+    rw kept (body_lines-folded others more (and_right _ _ all))
+
+-- a line and those that begin with a blank are one logical line
+pub logical_lines-folded : (first : List ℕ) (others more : List (List ℕ)) → list_all begins_blank others ≡ true → goes_on more ≡ false → logical_lines (first ∷ (others ++ more)) ≡ concat (first ∷ others) ∷ logical_lines more
+logical_lines-folded first [] more all ended = rw (ended, append-nil first) refl
+logical_lines-folded first (line ∷ others) more all ended =
+    let blank : begins_blank line ≡ true = and_left _ _ all in
+    let later = logical_lines-folded line others more (and_right _ _ all) ended in
+    rw (blank, later) refl
+
+goes_on-cond : (test : Bool) (line : List ℕ) (lines : List (List ℕ)) → begins_blank line ≡ false → goes_on (cond test [] (line ∷ lines)) ≡ false
+goes_on-cond true line lines not_blank = refl
+goes_on-cond false line lines not_blank = not_blank
+
+-- where no line goes on, no header line does
+pub goes_on-header_lines : (lines : List (List ℕ)) → goes_on lines ≡ false → goes_on (header_lines lines) ≡ false
+goes_on-header_lines [] not_blank = refl
+goes_on-header_lines (line ∷ more) not_blank = goes_on-cond (is_empty_line line) line (header_lines more) not_blank
+
+not_empty_first : (line : List ℕ) (more : List (List ℕ)) (lines : List (List ℕ)) → lines ≡ line ∷ more → after_empty lines ≡ None → is_empty_line line ≡ false
+not_empty_first line more lines same none = no_empty (is_empty_line line) (concat more) (ap after_empty (sym same) ∙ none) where
+  no_empty : (test : Bool) (text : List ℕ) → cond test (Some text) None ≡ None → test ≡ false
+  no_empty true text h = absurd (cc h)
+  no_empty false text h = refl
+
+-- a logical line is the first one of what is left of the header
+pub header_step : (text line after : List ℕ) → CutsLogicalLine text line after → after_empty (lines_of text) ≡ None
+    → logical_lines (header_lines (lines_of text)) ≡ line ∷ logical_lines (header_lines (lines_of after))
+header_step text line after cut none =
+    let kept = not_empty_first cut.first (cut.others ++ lines_of after) (lines_of text) cut.lines none in
+    let folded = header_lines-folded cut.others (lines_of after) cut.folded in
+    let ended = goes_on-header_lines (lines_of after) (goes_on-lines_of after ∙ cut.ended) in
+    let logical = logical_lines-folded cut.first cut.others (header_lines (lines_of after)) cut.folded ended in
+    let header : header_lines (lines_of text) ≡ cut.first ∷ (cut.others ++ header_lines (lines_of after)) = rw (cut.lines, kept, folded) refl in
+    ap logical_lines header ∙ (logical ∙ ap (λ t. t ∷ logical_lines (header_lines (lines_of after))) (sym cut.parts))
+
+-- the body lies behind it
+pub body_step : (text line after : List ℕ) → CutsLogicalLine text line after → after_empty (lines_of text) ≡ None → body_lines (lines_of text) ≡ body_lines (lines_of after)
+body_step text line after cut none =
+    let kept = not_empty_first cut.first (cut.others ++ lines_of after) (lines_of text) cut.lines none in
+    rw (cut.lines, kept) (body_lines-folded cut.others (lines_of after) cut.folded)

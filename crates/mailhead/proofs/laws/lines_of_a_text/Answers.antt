@@ -1,0 +1,8 @@
+use Rattle.mailhead.proofs.CutLemmas.{lines_found, lines_only}
+use Rattle.mailhead.proofs.laws.lines_of_a_text.Goals as goal
+
+pub returns-clause-found : goal.returns-clause-found
+returns-clause-found c = lines_found
+
+pub returns-clause-only : goal.returns-clause-only
+returns-clause-only c = lines_only

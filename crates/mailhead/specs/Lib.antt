@@ -1,0 +1,6 @@
+pub mod Lines
+pub mod Cuts
+pub mod Fields
+pub mod Heads
+pub mod Reads
+pub mod Sizes

@@ -1,0 +1,84 @@
+-- Lines and logical lines (RFC 5322, sections 2.1 and 2.2.3).
+use Rattle.std.specs.Prelude.{◌≡◌, ◌≢◌, ◌⊎◌, ℕ, ◌-◌, ◌==◌, Bool, true, false, cond, ◌&&◌, not, List, [], ◌∷◌, ◌++◌, length, take, slice_index}
+use Rattle.std.specs.List.{list_all}
+use Rattle.octets.specs.Ascii.{is_blank}
+
+-- line feed
+abbrev pub is_feed : ℕ → Bool
+is_feed octet = octet == 10
+
+-- any other octet
+abbrev pub is_other : ℕ → Bool
+is_other octet = not (is_feed octet)
+
+-- a text that ends at its only LF
+pub record IsEnded (line : List ℕ) : Type 0 where
+  pub text : List ℕ
+  pub spelled : line ≡ text ++ 10 ∷ []
+  pub others : list_all is_other text ≡ true
+
+-- a text that has octets and no LF
+pub record IsOpen (line : List ℕ) : Type 0 where
+  pub present : line ≢ []
+  pub others : list_all is_other line ≡ true
+
+-- the texts whose concatenation it is, each ending at its only LF, the last perhaps without one
+abbrev pub AreLines : List (List ℕ) → List ℕ → Type 0
+AreLines [] text = text ≡ []
+AreLines (line ∷ more) text =
+    (rest : List ℕ) × ((text ≡ line ++ rest) × ((IsEnded line ⊎ (IsOpen line × (rest ≡ []))) × AreLines more rest))
+
+-- an octet at the front of the first of these lines
+abbrev pub at_front : ℕ → List (List ℕ) → List (List ℕ)
+at_front octet [] = (octet ∷ []) ∷ []
+at_front octet (line ∷ more) = (octet ∷ line) ∷ more
+
+-- the lines of a text: the one list that is in AreLines with it
+abbrev pub lines_of : List ℕ → List (List ℕ)
+lines_of [] = []
+lines_of (octet ∷ rest) = cond (is_feed octet) ((octet ∷ []) ∷ lines_of rest) (at_front octet (lines_of rest))
+
+-- whether a text begins with a blank
+abbrev pub begins_blank : List ℕ → Bool
+begins_blank [] = false
+begins_blank (octet ∷ rest) = is_blank octet
+
+-- whether the first of these lines begins with a blank
+abbrev pub goes_on : List (List ℕ) → Bool
+goes_on [] = false
+goes_on (line ∷ more) = begins_blank line
+
+-- a line's octets before those of the first of these texts
+abbrev pub onto_first : List ℕ → List (List ℕ) → List (List ℕ)
+onto_first line [] = line ∷ []
+onto_first line (next ∷ more) = (line ++ next) ∷ more
+
+-- each line with the lines after it that begin with a blank, as one text
+abbrev pub logical_lines : List (List ℕ) → List (List ℕ)
+logical_lines [] = []
+logical_lines (line ∷ more) = cond (goes_on more) (onto_first line (logical_lines more)) (line ∷ logical_lines more)
+
+-- LF or CRLF alone
+abbrev pub is_empty_line : List ℕ → Bool
+is_empty_line [] = false
+is_empty_line (octet ∷ []) = octet == 10
+is_empty_line (octet ∷ next ∷ []) = octet == 13 && next == 10
+is_empty_line (octet ∷ next ∷ third ∷ more) = false
+
+-- the lines before the first empty one
+abbrev pub header_lines : List (List ℕ) → List (List ℕ)
+header_lines [] = []
+header_lines (line ∷ more) = cond (is_empty_line line) [] (line ∷ header_lines more)
+
+-- the lines after the first empty one
+abbrev pub body_lines : List (List ℕ) → List (List ℕ)
+body_lines [] = []
+body_lines (line ∷ more) = cond (is_empty_line line) more (body_lines more)
+
+-- how many octets a line's end has: CRLF, LF, or none
+abbrev pub end_len : List ℕ → ℕ
+end_len line = cond (is_feed (slice_index line (length line - 1))) (cond (slice_index line (length line - 2) == 13) 2 1) 0
+
+-- a line without its line end
+abbrev pub without_end : List ℕ → List ℕ
+without_end line = take (length line - end_len line) line

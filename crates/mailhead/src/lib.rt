@@ -1,0 +1,18 @@
+//! The head of an internet message: its header fields, its body and its size (RFC 5322, section 2.2).
+//!
+//! A message is any list of octets. Nothing is refused: what is no field is passed over.
+#![tactic(auto)]
+
+mod header;
+pub mod laws;
+mod line;
+mod message;
+mod size;
+mod unfolding;
+
+pub use header::Field;
+pub use message::Head;
+pub use unfolding::unfolded;
+
+#[cfg(test)]
+mod tests;
