@@ -1,5 +1,6 @@
 -- What the tests of a script see of a message and its envelope (RFC 5228, 5).
-use Rattle.std.specs.Prelude.{ℕ, Bool, ◌+◌, ◌&&◌, ◌==◌, not, cond, nat_lt, List, [], ◌∷◌}
+use Rattle.std.specs.Prelude.{ℕ, Bool, nat_lt, List}
+use Rattle.mailhead.specs.Heads.{size_of}
 use Rattle.sievesyntax.specs.declared.tree.Check.{Check}
 use Rattle.sievesyntax.specs.declared.tree.Check.TheVariants.{Size}
 use Rattle.sievesyntax.specs.declared.tree.Bound.{Bound}
@@ -8,15 +9,6 @@ use Rattle.sievesyntax.specs.Tree.{Commands}
 use Rattle.sievesyntax.specs.Meaning.{Outcome, outcome}
 use Rattle.mailengine.specs.declared.mail.Mail.{Mail}
 use Rattle.mailengine.specs.declared.mail.Envelope.{Envelope}
-
--- how many octets, each LF without CR right before it counted twice, behind this octet
-abbrev pub size_after : ℕ → List ℕ → ℕ
-size_after before [] = 0
-size_after before (octet ∷ rest) = cond (octet == 10 && not (before == 13)) 2 1 + size_after octet rest
-
--- the octets of a message, and one more for each LF without CR right before it
-abbrev pub size_of : List ℕ → ℕ
-size_of message = size_after 0 message
 
 -- a message with its envelope, as the tests see it; no test looks at the envelope yet
 abbrev pub mail_of : List ℕ → Envelope → Mail

@@ -1,7 +1,7 @@
 //! A message with its envelope, as the tests of a script see it.
 ghost use Rattle.std.specs.Prelude.{◌≡◌};
-ghost use Rattle.mailengine.specs.Tests as tests;
 
+use mailhead::message_size;
 use octets::Octets;
 use sievesyntax::{Bound, Check};
 
@@ -29,7 +29,7 @@ impl Mail {
         ensures { result ≡ mail_of message.now _envelope.now }
     {
         Mail {
-            size: size_of(message),
+            size: message_size(message),
         }
     }
 
@@ -44,17 +44,4 @@ impl Mail {
             },
         }
     }
-}
-
-/// The octets of a message, and one more for each LF without CR right before it.
-fn size_of(message: &[u8]) -> u64
-    ensures { result ≡ tests.size_of message.now }
-{
-    let mut before = 0;
-    let mut bare = 0u64;
-    for octet in message {
-        bare += u64::from(*octet == b'\n' && before != b'\r');
-        before = *octet;
-    }
-    message.len() as u64 + bare
 }
