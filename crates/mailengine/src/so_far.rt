@@ -1,5 +1,8 @@
 //! What a run has done so far.
-ghost use Rattle.std.specs.Prelude.{◌≡◌, [], ◌∷◌, ◌++◌, IfOk, OnOk};
+ghost use Rattle.std.specs.Prelude.{◌≡◌, true, not, [], ◌∷◌, ◌++◌, IfOk, OnOk};
+ghost use Rattle.std.specs.BTreeSet.{contains, Updates};
+ghost use Rattle.std.specs.Cmp.Lexicographic.{slice_cmp};
+ghost use Rattle.std.specs.Ordering.{nat_cmp};
 ghost use Rattle.mailengine.specs.Mailboxes.{each_once as each_once_of};
 ghost use Rattle.sievesyntax.specs.Meaning.{acted, at_first, filed_into, mailbox_named as mailbox_of, with_mailbox, inbox, Done, deeds_of};
 
@@ -74,11 +77,23 @@ fn each_once(alloc: Global, named: &[Octets]) -> Result<Texts, AllocError>
     let mut known = BTreeSet::new(alloc);
     let mut filed = Texts::new(alloc);
     for mailbox in named {
-        if known.insert(mailbox.copied(alloc)?)? {
+        if is_first(alloc, &mut known, mailbox)? {
             filed.push(mailbox.copied(alloc)?)?;
         }
     }
     Ok(filed)
+}
+
+/// Whether a mailbox is named for the first time; it is known from then on.
+fn is_first(
+    alloc: Global,
+    known: &mut BTreeSet<Octets>,
+    mailbox: &Octets,
+) -> Result<bool, AllocError>
+    ensures first { IfOk result (λ first. first ≡ not (contains (slice_cmp nat_cmp) known.old mailbox.now)) }
+    ensures known { OnOk result (Updates (slice_cmp nat_cmp) known.old known.new mailbox.now true) }
+{
+    Ok(known.insert(mailbox.copied(alloc)?)?)
 }
 
 /// The mailbox that a name means: `INBOX` in any ASCII case is `INBOX`, others are taken as they are.
