@@ -1,1 +1,12 @@
+pub mod Best
+pub mod Digits
 pub mod FaultLemmas
+pub mod Gaps
+pub mod Marks
+pub mod Named
+pub mod Next
+pub mod Numbered
+pub mod Opening
+pub mod Prefixes
+pub mod Scanned
+pub mod Strings

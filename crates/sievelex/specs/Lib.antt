@@ -1,2 +1,9 @@
+pub mod Class
+pub mod Digits
 pub mod Faults
 pub mod Finding
+pub mod Front
+pub mod Inside
+pub mod Shape
+pub mod Spelling
+pub mod Text

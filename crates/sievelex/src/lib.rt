@@ -1,8 +1,17 @@
 //! The tokens of a Sieve script (RFC 5228, 8.1).
 #![tactic(auto)]
 
+mod class;
 mod fault;
+mod front;
+mod number;
+mod quoted;
+mod scanner;
+#[cfg(test)]
+mod tests;
+mod text;
 mod token;
 
 pub use fault::{FaultKind, ScriptError, ScriptFault};
+pub use scanner::tokens;
 pub use token::{Kind, Token, Value};

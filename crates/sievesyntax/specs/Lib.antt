@@ -1,3 +1,13 @@
+pub mod Arguments
+pub mod Chains
+pub mod Lexemes
+pub mod Parsing
+pub mod Reading
+pub mod Rows
+pub mod Settings
 pub mod Tree
+pub mod Valid
 pub mod View
+pub mod Lines
 pub mod Meaning
+pub mod Means

@@ -1,0 +1,138 @@
+-- Identifiers and tags.
+use Rattle.std.proofs.Common.{◌≡◌, ◌⊎◌, ℕ, ◌+◌, ◌<◌, ◌≤◌, suc, zero, Bool, true, false, ◌||◌, List, [], ◌∷◌, length, take, drop, get_or, refl, ap, sym, ◌∙◌, subst, inl, inr, arith}
+use Rattle.std.specs.List.{list_all, prefix_len}
+use Rattle.std.proofs.lemmas.List.Sums.{prefix_len-le-length}
+use Rattle.sievelex.specs.declared.token.Kind.{Kind}
+use Rattle.sievelex.specs.declared.token.Kind.TheVariants.{Identifier, Tag}
+use Rattle.sievelex.specs.declared.token.Value.{Value}
+use Rattle.sievelex.specs.declared.token.Value.TheVariants.{Chars}
+use Rattle.sievelex.specs.declared.class.Class.TheVariants.{Letter}
+use Rattle.sievelex.specs.Class.{is_name_start, is_name_octet, class_of}
+use Rattle.sievelex.specs.Shape.{IsShape, IsName}
+use Rattle.sievelex.proofs.Prefixes.{at_most, all_prefix, prefix_all, one_more}
+use Rattle.sievelex.proofs.Opening.{Opens, front_opened, shape_at, digit_no_start, class_start}
+use Rattle.sievelex.proofs.Opening.Opens.{Named, Numbered, Tagged, Quoted, Marked}
+use Rattle.sievelex.specs.declared.front.Front.{Front}
+use Rattle.sievelex.specs.Spelling.{OpensText}
+use Rattle.sievelex.specs.Front.{IsFront}
+use Rattle.sievelex.proofs.Best.{IsBest, IsFound, best_found, best_open, found_at}
+
+start_octet : (b : ℕ) → is_name_start b ≡ true → is_name_octet b ≡ true
+start_octet b h = rw h refl
+
+-- the octets of a name all go on with it
+name_octets : (name : List ℕ) → IsName name → list_all is_name_octet name ≡ true
+name_octets [] h = absurd h
+name_octets (b ∷ more) h = rw (start_octet b h.0) h.1
+
+-- as long as it goes on it is a name
+longest_name : (octets : List ℕ) → is_name_start (get_or octets 0 0) ≡ true → IsName (take (prefix_len is_name_octet octets) octets)
+longest_name [] h = absurd (cc)
+longest_name (b ∷ more) h =
+    let here : is_name_octet b ≡ true = start_octet b h in
+    rw (here, one_more (prefix_len is_name_octet more)) (h, prefix_all is_name_octet more)
+
+-- a name at the front is no longer
+name_bound : (octets : List ℕ) (m : ℕ) → m ≤ length octets → IsName (take m octets) → m ≤ prefix_len is_name_octet octets
+name_bound octets m within h = all_prefix is_name_octet octets m within (name_octets _ h)
+
+-- where a letter stands first, only an identifier does
+only_named : (b : ℕ) (k : Kind) (v : Value) → is_name_start b ≡ true → Opens b k v → (name : List ℕ) × ((k ≡ Identifier) × (v ≡ Chars name))
+only_named b k v h o =
+    let letter : class_of b ≡ Letter = class_start b h in
+    elim o [
+      | Named name s c ke ve ↦ (name, (ke, ve))
+      | Numbered n d c ke ve ↦ absurd (cc)
+      | Tagged name e c ke ve ↦ absurd (cc)
+      | Quoted value e c ke ve ↦ absurd (cc)
+      | Marked c ve ↦ absurd (cc)
+    ]
+
+identifier_bound : (octets : List ℕ) (k : Kind) (v : Value) (m : ℕ) → m ≤ length octets → (name : List ℕ) × ((k ≡ Identifier) × (v ≡ Chars name)) → IsShape k v (take m octets) (drop m octets)
+    → (m < prefix_len is_name_octet octets) ⊎ ((m ≡ prefix_len is_name_octet octets) × ((k ≡ Identifier) × (v ≡ Chars (take (prefix_len is_name_octet octets) octets))))
+identifier_bound octets k v m within kind s =
+    let shape : IsShape Identifier (Chars kind.0) (take m octets) (drop m octets) = shape_at _ _ _ _ _ _ kind.1.0 kind.1.1 s in
+    let name : IsName (take m octets) = subst IsName (sym shape.0) shape.1 in
+    at_most _ _ _ (name_bound octets m within name) (λ e. (kind.1.0, kind.1.1 ∙ ap Chars (sym shape.0 ∙ ap (λ i. take i octets) e)))
+
+-- the longest spelling where a letter stands first
+pub identifier_best : (octets : List ℕ) → is_name_start (get_or octets 0 0) ≡ true → IsBest octets Identifier (Chars (take (prefix_len is_name_octet octets) octets)) (prefix_len is_name_octet octets)
+identifier_best [] h = absurd (cc)
+identifier_best (b ∷ more) h = record {
+  within = prefix_len-le-length is_name_octet (b ∷ more);
+  shape = (refl, longest_name (b ∷ more) h);
+  best = λ k v m within s. identifier_bound (b ∷ more) k v m within (only_named b k v h (front_opened b more k v m _ s).1) s;
+}
+
+-- where a colon stands first, only a tag does
+only_tagged : (k : Kind) (v : Value) → Opens 58 k v → (name : List ℕ) × ((k ≡ Tag) × (v ≡ Chars name))
+only_tagged k v o = elim o [
+  | Named name s c ke ve ↦ absurd (cc)
+  | Numbered n d c ke ve ↦ absurd (cc)
+  | Tagged name e c ke ve ↦ (name, (ke, ve))
+  | Quoted value e c ke ve ↦ absurd (cc)
+  | Marked c ve ↦ absurd (cc)
+]
+
+-- a tag at the front has a name behind its colon
+tag_name : (more : List ℕ) (k : Kind) (v : Value) (m : ℕ) (rest : List ℕ) → IsShape k v (take (suc m) (58 ∷ more)) rest → (k ≡ Tag) × ((v ≡ Chars (take m more)) × IsName (take m more))
+tag_name more k v m rest s =
+    let kind : (name : List ℕ) × ((k ≡ Tag) × (v ≡ Chars name)) = only_tagged k v (front_opened 58 more k v (suc m) rest s).1 in
+    let shape : IsShape Tag (Chars kind.0) (58 ∷ take m more) rest = shape_at _ _ _ _ _ _ kind.1.0 kind.1.1 s in
+    let same : kind.0 ≡ take m more = cc (shape.0) in
+    (kind.1.0, (kind.1.1 ∙ ap Chars same, subst IsName same shape.1))
+
+tag_bound : (more : List ℕ) (k : Kind) (v : Value) (m : ℕ) → m ≤ length (58 ∷ more) → IsShape k v (take m (58 ∷ more)) (drop m (58 ∷ more))
+    → (m < 1 + prefix_len is_name_octet more) ⊎ ((m ≡ 1 + prefix_len is_name_octet more) × ((k ≡ Tag) × (v ≡ Chars (take (prefix_len is_name_octet more) more))))
+tag_bound more k v zero within s = absurd (let p : 0 < 0 = (front_opened 58 more k v zero _ s).0 in omega arith)
+tag_bound more k v (suc m) within s =
+    let tag : (k ≡ Tag) × ((v ≡ Chars (take m more)) × IsName (take m more)) = tag_name more k v m _ s in
+    let bound : m ≤ prefix_len is_name_octet more = name_bound more m (omega arith) tag.1.1 in
+    at_most _ _ _ (omega arith) (λ e. let same : m ≡ prefix_len is_name_octet more = omega arith in (tag.0, tag.1.0 ∙ ap (λ i. Chars (take i more)) same))
+
+-- the longest spelling where a colon and a letter stand first
+pub tag_best : (more : List ℕ) → is_name_start (get_or more 0 0) ≡ true → IsBest (58 ∷ more) Tag (Chars (take (prefix_len is_name_octet more) more)) (1 + prefix_len is_name_octet more)
+tag_best more h = record {
+  within = omega (arith, prefix_len-le-length is_name_octet more);
+  shape = rw (one_more (prefix_len is_name_octet more)) (refl, longest_name more h);
+  best = λ k v m within s. tag_bound more k v m within s;
+}
+
+no_name : (more : List ℕ) (m : ℕ) → is_name_start (get_or more 0 0) ≡ false → IsName (take m more) → ⊥
+no_name more zero h n = n
+no_name [] (suc m) h n = n
+no_name (b ∷ more) (suc m) h n = cc (n.0)
+
+-- a colon without a name behind it is no token
+pub tag_none : (more : List ℕ) → is_name_start (get_or more 0 0) ≡ false → (k : Kind) (v : Value) (m : ℕ) (rest : List ℕ) → IsShape k v (take m (58 ∷ more)) rest → ⊥
+tag_none more h k v zero rest s = let p : 0 < 0 = (front_opened 58 more k v zero _ s).0 in omega arith
+tag_none more h k v (suc m) rest s = no_name more m h (tag_name more k v m rest s).1.1
+
+-- what the reader of identifiers finds
+pub identifier_found : (octets name rest chars : List ℕ) (n : ℕ) → is_name_start (get_or octets 0 0) ≡ true → n ≡ prefix_len is_name_octet octets → name ≡ take n octets → rest ≡ drop n octets → length name ≡ n
+    → chars ≡ name → (OpensText Identifier (Chars name) rest → ⊥) → IsFound octets (record { kind = Identifier; value = Chars chars; len = length name })
+identifier_found octets name rest chars n h ne fe re le ce bare =
+    let names : Chars (take (prefix_len is_name_octet octets) octets) ≡ Chars chars = ap (λ i. Chars (take i octets)) (sym ne) ∙ ap Chars (sym fe ∙ sym ce) in
+    let P : ℕ → Type 0 = λ i. OpensText Identifier (Chars (take i octets)) (drop i octets) in
+    let Q : List ℕ → Type 0 = λ x. OpensText Identifier (Chars x) (drop n octets) in
+    let R : List ℕ → Type 0 = λ x. OpensText Identifier (Chars name) x in
+    found_at octets Identifier _ _ _ _ names (sym ne ∙ sym le)
+    (best_found octets (record { kind = Identifier; value = Chars (take (prefix_len is_name_octet octets) octets); len = prefix_len is_name_octet octets }) (identifier_best octets h) tt
+    (λ t. bare (subst R (sym re) (subst Q (sym fe) (subst P (sym ne) t)))))
+
+-- and where a text of several lines is meant
+pub identifier_none : (octets name rest : List ℕ) (n : ℕ) → is_name_start (get_or octets 0 0) ≡ true → n ≡ prefix_len is_name_octet octets → name ≡ take n octets → rest ≡ drop n octets
+    → OpensText Identifier (Chars name) rest → (g : Front) → IsFront octets g → ⊥
+identifier_none octets name rest n h ne fe re t =
+    let P : ℕ → Type 0 = λ i. OpensText Identifier (Chars (take i octets)) (drop i octets) in
+    let Q : List ℕ → Type 0 = λ x. OpensText Identifier (Chars x) (drop n octets) in
+    let R : List ℕ → Type 0 = λ x. OpensText Identifier (Chars name) x in
+    best_open octets Identifier _ _ (identifier_best octets h) (subst P ne (subst Q fe (subst R re t)))
+
+-- what the reader of tags finds
+pub tag_found : (more name chars : List ℕ) (n : ℕ) → is_name_start (get_or more 0 0) ≡ true → n ≡ prefix_len is_name_octet more → name ≡ take n more → length name ≡ n
+    → chars ≡ name → IsFound (58 ∷ more) (record { kind = Tag; value = Chars chars; len = 1 + length name })
+tag_found more name chars n h ne fe le ce =
+    let names : Chars (take (prefix_len is_name_octet more) more) ≡ Chars chars = ap (λ i. Chars (take i more)) (sym ne) ∙ ap Chars (sym fe ∙ sym ce) in
+    found_at (58 ∷ more) Tag _ _ _ _ names (ap (λ i. 1 + i) (sym ne ∙ sym le))
+    (best_found (58 ∷ more) (record { kind = Tag; value = Chars (take (prefix_len is_name_octet more) more); len = 1 + prefix_len is_name_octet more }) (tag_best more h) tt (λ t. t))

@@ -1,0 +1,71 @@
+-- Which token an octet begins.
+use Rattle.std.proofs.Common.{◌≡◌, ℕ, ◌<◌, suc, zero, Bool, true, false, cond, ◌==◌, ◌||◌, List, [], ◌∷◌, ◌++◌, take, Some, refl, ap, sym, ◌∙◌, subst, arith}
+use Rattle.std.specs.List.{list_all, flat_map}
+use Rattle.std.proofs.lemmas.Bool.Decides.{nat_tests}
+use Rattle.octets.specs.Ascii.{is_digit}
+use Rattle.sievelex.specs.declared.token.Kind.{Kind}
+use Rattle.sievelex.specs.declared.token.Kind.TheVariants.{Identifier, Tag, Number, Text}
+use Rattle.sievelex.specs.declared.token.Value.{Value}
+use Rattle.sievelex.specs.declared.token.Value.TheVariants.{Nothing, Amount, Chars}
+use Rattle.sievelex.specs.declared.class.Class.{Class}
+use Rattle.sievelex.specs.declared.class.Class.TheVariants.{Letter, Digit, Colon, Quote, Mark}
+use Rattle.sievelex.specs.Class.{is_name_start, class_of}
+use Rattle.sievelex.specs.Shape.{IsShape, IsName, IsNumber, spelling_of}
+use Rattle.sievelex.proofs.Prefixes.{both}
+
+-- no digit begins a name
+pub digit_no_start : (b : ℕ) → is_digit b ≡ true → is_name_start b ≡ false
+digit_no_start b h = grind (arith, nat_tests)
+
+pub class_start : (b : ℕ) → is_name_start b ≡ true → class_of b ≡ Letter
+class_start b h = rw h refl
+
+pub class_digit : (b : ℕ) → is_digit b ≡ true → class_of b ≡ Digit
+class_digit b h = let no : is_name_start b ≡ false = digit_no_start b h in rw (no, h) refl
+
+-- what stands where this octet begins a token
+pub data Opens (b : ℕ) (k : Kind) (v : Value) : Type 0 where
+  Named : (name : List ℕ) → is_name_start b ≡ true → class_of b ≡ Letter → k ≡ Identifier → v ≡ Chars name → Opens b k v
+  Numbered : (n : ℕ) → is_digit b ≡ true → class_of b ≡ Digit → k ≡ Number → v ≡ Amount n → Opens b k v
+  Tagged : (name : List ℕ) → b ≡ 58 → class_of b ≡ Colon → k ≡ Tag → v ≡ Chars name → Opens b k v
+  Quoted : (value : List ℕ) → b ≡ 34 → class_of b ≡ Quote → k ≡ Text → v ≡ Chars value → Opens b k v
+  Marked : class_of b ≡ Mark k → v ≡ Nothing → Opens b k v
+
+-- a spelling is not empty, and its first octet tells what it is
+pub record IsOpened (k : Kind) (v : Value) (s : List ℕ) : Type 0 where
+  pub first : ℕ
+  pub more : List ℕ
+  pub spelled : s ≡ first ∷ more
+  pub opens : Opens first k v
+
+number_opened : (s : List ℕ) (n : ℕ) (digits letter : List ℕ) → s ≡ digits ++ letter → (digits ≡ [] → ⊥) → list_all is_digit digits ≡ true → IsOpened Number (Amount n) s
+number_opened s n [] letter e some all = absurd (some refl)
+number_opened s n (b ∷ digits) letter e some all =
+    let parts : (is_digit b ≡ true) × (list_all is_digit digits ≡ true) = both _ _ all in
+    record { first = b; more = digits ++ letter; spelled = e; opens = Numbered n parts.0 (class_digit b parts.0) refl refl }
+
+pub shape_opened : (k : Kind) (v : Value) (s rest : List ℕ) → IsShape k v s rest → IsOpened k v s
+shape_opened k Nothing s rest h = record { first = h.0; more = []; spelled = h.1.1; opens = Marked h.1.0 refl }
+shape_opened Identifier (Chars []) s rest h = absurd h.1
+shape_opened Identifier (Chars (b ∷ name)) s rest h = record { first = b; more = name; spelled = h.0; opens = Named (b ∷ name) h.1.0 (class_start b h.1.0) refl refl }
+shape_opened Tag (Chars name) s rest h = record { first = 58; more = name; spelled = h.0; opens = Tagged name refl refl refl refl }
+shape_opened Text (Chars value) s rest h = record { first = 34; more = flat_map spelling_of h.pieces ++ 34 ∷ []; spelled = h.spelled; opens = Quoted value refl refl refl refl }
+shape_opened Number (Amount n) s rest h = number_opened s n h.digits h.letter h.spelled h.present h.decimal
+shape_opened _ _ s rest h = absurd h
+
+-- the same of a front of a text
+pub front_opened : (b : ℕ) (more : List ℕ) (k : Kind) (v : Value) (m : ℕ) (rest : List ℕ) → IsShape k v (take m (b ∷ more)) rest → (0 < m) × Opens b k v
+front_opened b more k v zero rest h = let o : IsOpened k v [] = shape_opened k v _ rest h in absurd (let e : [] ≡ o.first ∷ o.more = o.spelled in cc)
+front_opened b more k v (suc m) rest h =
+    let o : IsOpened k v (b ∷ take m more) = shape_opened k v _ rest h in
+    let e : b ∷ take m more ≡ o.first ∷ o.more = o.spelled in
+    let same : o.first ≡ b = cc in
+    let P : ℕ → Type 0 = λ x. Opens x k v in
+    (omega arith, subst P same o.opens)
+
+-- a shape whose kind and value are known
+pub shape_at : (k k' : Kind) (v v' : Value) (s rest : List ℕ) → k ≡ k' → v ≡ v' → IsShape k v s rest → IsShape k' v' s rest
+shape_at k k' v v' s rest ke ve h =
+    let P : Kind → Type 0 = λ x. IsShape x v' s rest in
+    let Q : Value → Type 0 = λ x. IsShape k x s rest in
+    subst P ke (subst Q ve h)

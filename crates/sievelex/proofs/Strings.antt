@@ -1,0 +1,170 @@
+-- Quoted strings, read from the left.
+use Rattle.std.proofs.Common.{◌≡◌, ◌⊎◌, ℕ, ◌+◌, ◌-◌, ◌<◌, ◌≤◌, suc, zero, Bool, true, false, cond, ◌==◌, ◌||◌, Option, Some, None, List, [], ◌∷◌, ◌++◌, length, take, drop, refl, ap, sym, ◌∙◌, subst, inl, inr, arith, append_assoc, length-append, length-drop, take-append-drop}
+use Rattle.std.specs.List.{flat_map}
+use Rattle.std.proofs.lemmas.List.{append_cancel_right}
+use Rattle.std.proofs.lemmas.Bool.{eqb-true}
+use Rattle.octets.proofs.Lists.{fork, some_pair}
+use Rattle.sievelex.specs.declared.quoted.Mode.{Mode}
+use Rattle.sievelex.specs.declared.quoted.Mode.TheVariants.{Inside, Escape, Return}
+use Rattle.sievelex.specs.declared.token.Kind.{Kind}
+use Rattle.sievelex.specs.declared.token.Kind.TheVariants.{Text}
+use Rattle.sievelex.specs.declared.token.Value.{Value}
+use Rattle.sievelex.specs.declared.token.Value.TheVariants.{Chars}
+use Rattle.sievelex.specs.declared.front.Front.{Front}
+use Rattle.sievelex.specs.Inside.{onto, string_from}
+use Rattle.sievelex.specs.Front.{IsFront}
+use Rattle.sievelex.specs.Shape.{Piece, IsPiece, ArePieces, spelling_of, value_of, IsQuoted, IsShape}
+use Rattle.sievelex.specs.Shape.Piece.{Plain, Escaped, LineEnd, BareLineEnd}
+use Rattle.sievelex.proofs.Prefixes.{one_more, front_of}
+use Rattle.sievelex.proofs.Opening.{Opens, front_opened, shape_at}
+use Rattle.sievelex.proofs.Opening.Opens.{Named, Numbered, Tagged, Quoted, Marked}
+use Rattle.sievelex.proofs.Best.{IsBest, IsFound, best_found}
+
+-- what is spelled so is read so, whatever follows
+pub string_again : (ps : List Piece) (rest : List ℕ) → ArePieces ps → string_from Inside (flat_map spelling_of ps ++ (34 ∷ rest)) ≡ Some (flat_map value_of ps, rest)
+string_again [] rest h = refl
+string_again (Plain b ∷ ps) rest h = let p : IsPiece (Plain b) = h.0 in rw (p.0, p.1, p.2, p.3) (ap (onto (b ∷ [])) (string_again ps rest h.1))
+string_again (Escaped b ∷ ps) rest h = let p : IsPiece (Escaped b) = h.0 in rw (p.0, p.1, p.2) (ap (onto (b ∷ [])) (string_again ps rest h.1))
+string_again (LineEnd ∷ ps) rest h = ap (onto (13 ∷ (10 ∷ []))) (string_again ps rest h.1)
+string_again (BareLineEnd ∷ ps) rest h = ap (onto (13 ∷ (10 ∷ []))) (string_again ps rest h.1)
+
+-- what stands before the octets of which a mode tells
+abbrev begun : Mode → List ℕ
+begun Inside = []
+begun Escape = 92 ∷ []
+begun Return = 13 ∷ []
+
+-- these octets are pieces, a quotation mark and a rest
+record IsRead (s value rest : List ℕ) : Type 0 where
+  pieces : List Piece
+  each : ArePieces pieces
+  spelled : s ≡ flat_map spelling_of pieces ++ (34 ∷ rest)
+  valued : value ≡ flat_map value_of pieces
+
+-- a piece more before what was read
+more_read : (p : Piece) (s value rest : List ℕ) → IsPiece p → IsRead s value rest → IsRead (spelling_of p ++ s) (value_of p ++ value) rest
+more_read p s value rest good r = record {
+  pieces = p ∷ r.pieces;
+  each = (good, r.each);
+  spelled = ap (λ x. spelling_of p ++ x) r.spelled ∙ sym (append_assoc (spelling_of p) (flat_map spelling_of r.pieces) (34 ∷ rest));
+  valued = ap (λ x. value_of p ++ x) r.valued;
+}
+
+-- what was put before a value
+onto_some : (front value rest : List ℕ) (o : Option (List ℕ × List ℕ)) → onto front o ≡ Some (value, rest) → (v : List ℕ) × ((o ≡ Some (v, rest)) × (value ≡ front ++ v))
+onto_some front value rest None h = absurd (cc)
+onto_some front value rest (Some r) h =
+    let parts : (front ++ r.0 ≡ value) × (r.1 ≡ rest) = some_pair (front ++ r.0, r.1) (value, rest) h in
+    (r.0, (ap (λ x. Some (r.0, x)) parts.1, sym parts.0))
+
+read_at : (s t value v rest : List ℕ) → s ≡ t → value ≡ v → IsRead t v rest → IsRead s value rest
+read_at s t value v rest se ve r = record { pieces = r.pieces; each = r.each; spelled = se ∙ r.spelled; valued = ve ∙ r.valued }
+
+none_of : (a b : Bool) → (a || b) ≡ false → (a ≡ false) × (b ≡ false)
+none_of true b h = absurd (cc)
+none_of false b h = (refl, h)
+
+-- the closing quotation mark
+closing : (b : ℕ) (s value rest : List ℕ) → b ≡ 34 → ◌≡◌ {A = Option (List ℕ × List ℕ)} (Some ([], s)) (Some (value, rest)) → IsRead (b ∷ s) value rest
+closing b s value rest e h =
+    let parts : ([] ≡ value) × (s ≡ rest) = some_pair ([], s) (value, rest) h in
+    record { pieces = []; each = tt; spelled = (λ i. e i ∷ parts.1 i); valued = sym parts.0 }
+
+-- what is read so is spelled so
+string_is : (mode : Mode) (s value rest : List ℕ) → string_from mode s ≡ Some (value, rest) → IsRead (begun mode ++ s) value rest
+string_is mode [] value rest h = absurd (cc)
+string_is Inside (b ∷ s) value rest h = elim (fork (b == 34) _ _ _ h) [
+  | inl q ↦ closing b s value rest (eqb-true b 34 q.0) q.1
+  | inr q ↦ elim (fork (b == 92) _ _ _ q.1) [
+    | inl r ↦ read_at _ _ _ _ _ (ap (λ x. x ∷ s) (eqb-true b 92 r.0)) refl (string_is Escape s value rest r.1)
+    | inr r ↦ elim (fork (b == 13) _ _ _ r.1) [
+      | inl t ↦ read_at _ _ _ _ _ (ap (λ x. x ∷ s) (eqb-true b 13 t.0)) refl (string_is Return s value rest t.1)
+      | inr t ↦ elim (fork (b == 10) _ _ _ t.1) [
+        | inl u ↦ (let v : (w : List ℕ) × ((string_from Inside s ≡ Some (w, rest)) × (value ≡ (13 ∷ (10 ∷ [])) ++ w)) = onto_some (13 ∷ (10 ∷ [])) value rest (string_from Inside s) u.1 in
+            read_at _ _ _ _ _ (ap (λ x. x ∷ s) (eqb-true b 10 u.0)) v.1.1 (more_read BareLineEnd s v.0 rest tt (string_is Inside s v.0 rest v.1.0)))
+        | inr u ↦ (let v : (w : List ℕ) × ((string_from Inside s ≡ Some (w, rest)) × (value ≡ (b ∷ []) ++ w)) = onto_some (b ∷ []) value rest (string_from Inside s) u.1 in
+            read_at _ _ _ _ _ refl v.1.1 (more_read (Plain b) s v.0 rest (q.0, r.0, t.0, u.0) (string_is Inside s v.0 rest v.1.0)))
+      ]
+    ]
+  ]
+]
+string_is Escape (b ∷ s) value rest h = elim (fork (b == 0 || (b == 13 || b == 10)) _ _ _ h) [
+  | inl q ↦ absurd (let e : None ≡ Some (value, rest) = q.1 in cc)
+  | inr q ↦ (let v : (w : List ℕ) × ((string_from Inside s ≡ Some (w, rest)) × (value ≡ (b ∷ []) ++ w)) = onto_some (b ∷ []) value rest (string_from Inside s) q.1 in
+      let no : ((b == 0) ≡ false) × ((b == 13 || b == 10) ≡ false) = none_of _ _ q.0 in
+      let nor : ((b == 13) ≡ false) × ((b == 10) ≡ false) = none_of _ _ no.1 in
+      read_at _ _ _ _ _ refl v.1.1 (more_read (Escaped b) s v.0 rest (no.0, nor.0, nor.1) (string_is Inside s v.0 rest v.1.0)))
+]
+string_is Return (b ∷ s) value rest h = elim (fork (b == 10) _ _ _ h) [
+  | inl q ↦ (let v : (w : List ℕ) × ((string_from Inside s ≡ Some (w, rest)) × (value ≡ (13 ∷ (10 ∷ [])) ++ w)) = onto_some (13 ∷ (10 ∷ [])) value rest (string_from Inside s) q.1 in
+      read_at _ _ _ _ _ (ap (λ x. 13 ∷ (x ∷ s)) (eqb-true b 10 q.0)) v.1.1 (more_read LineEnd s v.0 rest tt (string_is Inside s v.0 rest v.1.0)))
+  | inr q ↦ absurd (let e : None ≡ Some (value, rest) = q.1 in cc)
+]
+
+-- where a quotation mark stands first, only a string does
+only_quoted : (k : Kind) (v : Value) → Opens 34 k v → (value : List ℕ) × ((k ≡ Text) × (v ≡ Chars value))
+only_quoted k v o = elim o [
+  | Named name s c ke ve ↦ absurd (cc)
+  | Numbered n d c ke ve ↦ absurd (cc)
+  | Tagged name e c ke ve ↦ absurd (cc)
+  | Quoted value e c ke ve ↦ (value, (ke, ve))
+  | Marked c ve ↦ absurd (cc)
+]
+
+-- a string at the front is read from the left
+record IsStringAt (more : List ℕ) (k : Kind) (v : Value) (m : ℕ) : Type 0 where
+  kind : k ≡ Text
+  value : List ℕ
+  chars : v ≡ Chars value
+  read : string_from Inside more ≡ Some (value, drop m more)
+
+string_at : (more : List ℕ) (k : Kind) (v : Value) (m : ℕ) (rest : List ℕ) → IsShape k v (take (suc m) (34 ∷ more)) rest → IsStringAt more k v m
+string_at more k v m rest s =
+    let kind : (value : List ℕ) × ((k ≡ Text) × (v ≡ Chars value)) = only_quoted k v (front_opened 34 more k v (suc m) rest s).1 in
+    let shape : IsQuoted (34 ∷ take m more) kind.0 = shape_at _ _ _ _ _ _ kind.1.0 kind.1.1 s in
+    let spelled : 34 ∷ take m more ≡ 34 ∷ (flat_map spelling_of shape.pieces ++ 34 ∷ []) = shape.spelled in
+    let front : take m more ≡ flat_map spelling_of shape.pieces ++ 34 ∷ [] = cc in
+    let whole : more ≡ flat_map spelling_of shape.pieces ++ (34 ∷ drop m more) = front_of more _ m front ∙ append_assoc (flat_map spelling_of shape.pieces) (34 ∷ []) (drop m more) in
+    record {
+      kind = kind.1.0;
+      value = kind.0;
+      chars = kind.1.1;
+      read = ap (string_from Inside) whole ∙ string_again shape.pieces (drop m more) shape.each ∙ ap (λ x. Some (x, drop m more)) (sym shape.valued);
+    }
+
+same_rest : (xs : List ℕ) (m n : ℕ) → m ≤ length xs → n ≤ length xs → drop m xs ≡ drop n xs → m ≡ n
+same_rest xs m n mw nw e = omega (arith, simp length-drop at (ap length e))
+
+string_bound : (more value : List ℕ) (n : ℕ) → n ≤ length more → string_from Inside more ≡ Some (value, drop n more) → (k : Kind) (v : Value) (m : ℕ) → m ≤ length (34 ∷ more) → IsShape k v (take m (34 ∷ more)) (drop m (34 ∷ more))
+    → (m < 1 + n) ⊎ ((m ≡ 1 + n) × ((k ≡ Text) × (v ≡ Chars value)))
+string_bound more value n w h k v zero within s = absurd (let p : 0 < 0 = (front_opened 34 more k v zero _ s).0 in omega arith)
+string_bound more value n w h k v (suc m) within s =
+    let t : IsStringAt more k v m = string_at more k v m _ s in
+    let same : (t.value ≡ value) × (drop m more ≡ drop n more) = some_pair (t.value, drop m more) (value, drop n more) (sym t.read ∙ h) in
+    let e : m ≡ n = same_rest more m n (omega arith) w same.1 in
+    inr (omega arith, (t.kind, t.chars ∙ ap Chars same.0))
+
+-- the longest spelling where a quotation mark stands first
+pub string_best : (more value : List ℕ) (n : ℕ) → n ≤ length more → string_from Inside more ≡ Some (value, drop n more) → IsBest (34 ∷ more) Text (Chars value) (1 + n)
+string_best more value n w h =
+    let r : IsRead more value (drop n more) = string_is Inside more value (drop n more) h in
+    let whole : take n more ++ drop n more ≡ (flat_map spelling_of r.pieces ++ 34 ∷ []) ++ drop n more =
+    take-append-drop n more ∙ r.spelled ∙ sym (append_assoc (flat_map spelling_of r.pieces) (34 ∷ []) (drop n more)) in
+    let front : take n more ≡ flat_map spelling_of r.pieces ++ 34 ∷ [] = append_cancel_right _ _ (drop n more) whole in
+    record {
+      within = omega arith;
+      shape = rw (one_more n) (record { pieces = r.pieces; each = r.each; spelled = ap (λ x. 34 ∷ x) front; valued = r.valued });
+      best = string_bound more value n w h;
+    }
+
+-- a string without its end is no token
+pub string_none : (more : List ℕ) → string_from Inside more ≡ None → (k : Kind) (v : Value) (m : ℕ) (rest : List ℕ) → IsShape k v (take m (34 ∷ more)) rest → ⊥
+string_none more h k v zero rest s = let p : 0 < 0 = (front_opened 34 more k v zero _ s).0 in omega arith
+string_none more h k v (suc m) rest s = let t : IsStringAt more k v m = string_at more k v m rest s in let e : None ≡ Some (t.value, drop m more) = sym h ∙ t.read in cc
+
+-- what the reader of strings finds
+pub string_found : (more value : List ℕ) (n : ℕ) → n ≤ length more → string_from Inside more ≡ Some (value, drop n more) → IsFound (34 ∷ more) (record { kind = Text; value = Chars value; len = 1 + n })
+string_found more value n w h = best_found (34 ∷ more) (record { kind = Text; value = Chars value; len = 1 + n }) (string_best more value n w h) tt (λ t. t)
+
+pub no_string : (more : List ℕ) → string_from Inside more ≡ None → (g : Front) → IsFront (34 ∷ more) g → ⊥
+no_string more h g t = string_none more h g.kind g.value g.len _ t.shape

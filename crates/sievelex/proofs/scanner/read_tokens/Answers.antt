@@ -1,0 +1,21 @@
+use Rattle.std.proofs.Common.{◌≡◌, Some, sym, ◌∙◌}
+use Rattle.sievelex.specs.declared.token.Token.{Token}
+use Rattle.sievelex.specs.Spelling.{IsNext}
+use Rattle.sievelex.proofs.Next.{next_further, lines_behind, tail_no_next}
+use Rattle.sievelex.proofs.Scanned.{front_more, front_ends, front_only}
+use Rattle.sievelex.proofs.scanner.read_tokens.Goals as goal
+
+pub loop-tokens-preserved : goal.loop-tokens-preserved
+loop-tokens-preserved c =
+    let here : IsNext c.args.text.now c.loop-tokens.at c.in-Some.token = rw c.in-Some.is at c.in_ok-token.ensures.found in
+    record {
+      inside = (next_further _ _ c.in-Some.token here).1;
+      on_line = lines_behind _ _ _ c.loop-tokens.at _ c.in-Some.token here c.split_at.ensures.back c.split_at-in-Some.ensures.front c.line_feeds.ensures;
+      front = rw c.in_ok-push.ensures.items (front_more _ c.loop-tokens.at c.in-Some.token _ c.loop-tokens.invariant.front here (λ u h. sym c.in-Some.is ∙ c.in_ok-token.ensures.only u h));
+    }
+
+pub returns-clause-found : goal.returns-clause-found
+returns-clause-found c = front_ends _ c.loop-tokens.at _ c.loop-tokens.invariant.front (rw c.in_default.is at c.in_ok-token.ensures.found)
+
+pub returns-clause-only : goal.returns-clause-only
+returns-clause-only c = front_only _ c.loop-tokens.at _ c.loop-tokens.invariant.front (λ u h. c.in_default.not-Some u (c.in_ok-token.ensures.only u h))

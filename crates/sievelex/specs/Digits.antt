@@ -1,0 +1,8 @@
+-- The parts of a number, from the left.
+use Rattle.std.specs.Prelude.{ℕ, cond, is_some, List, [], ◌∷◌}
+use Rattle.sievelex.specs.Shape.{factor_of}
+
+-- how many octets of the multiplier stand at the front: one or none
+abbrev pub letter_len : List ℕ → ℕ
+letter_len [] = 0
+letter_len (b ∷ _) = cond (is_some (factor_of (b ∷ []))) 1 0

@@ -1,0 +1,8 @@
+-- What the readers of single tokens answer.
+use Rattle.std.specs.Prelude.{◌≡◌, ℕ, ◌+◌, ◌*◌, ◌<◌, Bool, true, false, ◌==◌, ◌||◌, cond, Option, Some, None, is_some, List, [], ◌∷◌, ◌++◌}
+use Rattle.sievelex.specs.declared.front.Front.{Front}
+use Rattle.sievelex.specs.Spelling.{IsToken}
+
+-- this token stands at the front
+abbrev pub IsFront : List ℕ → Front → Type 0
+IsFront octets f = IsToken octets f.kind f.value f.len

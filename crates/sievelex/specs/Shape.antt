@@ -1,0 +1,84 @@
+-- The spellings of tokens (RFC 5228, 8.1).
+use Rattle.std.specs.Prelude.{◌≡◌, ◌≢◌, ℕ, ◌+◌, ◌*◌, ◌^◌, Bool, true, false, ◌==◌, ◌||◌, cond, Option, Some, None, List, [], ◌∷◌, ◌++◌, IsTrue, IsFalse, map}
+use Rattle.std.specs.List.{list_all, flat_map}
+use Rattle.octets.specs.Ascii.{is_digit}
+use Rattle.octets.specs.Decimal.{number_of}
+use Rattle.sievelex.specs.declared.token.Kind.{Kind}
+use Rattle.sievelex.specs.declared.token.Kind.TheVariants.{Identifier, Tag, Number, Text}
+use Rattle.sievelex.specs.declared.token.Value.{Value}
+use Rattle.sievelex.specs.declared.token.Value.TheVariants.{Nothing, Amount, Chars}
+use Rattle.sievelex.specs.declared.class.Class.TheVariants.{Mark}
+use Rattle.sievelex.specs.Class.{is_name_start, is_name_octet, class_of}
+
+-- a letter or `_`, then letters, digits and `_`
+abbrev pub IsName : List ℕ → Type 0
+IsName [] = ⊥
+IsName (b ∷ more) = IsTrue (is_name_start b) × IsTrue (list_all is_name_octet more)
+
+-- what the letter behind a number multiplies it by, if one stands there: K, M or G, of either case
+abbrev pub factor_of : List ℕ → Option ℕ
+factor_of [] = Some 1
+factor_of (b ∷ []) =
+    cond (b == 75 || b == 107) (Some 1024)
+    (cond (b == 77 || b == 109) (Some 1048576)
+    (cond (b == 71 || b == 103) (Some 1073741824) None))
+factor_of _ = None
+
+-- digits and perhaps a multiplier, and the number that they stand for
+pub record IsNumber (s : List ℕ) (n : ℕ) : Type 0 where
+  pub digits : List ℕ
+  pub letter : List ℕ
+  pub factor : ℕ
+  pub spelled : s ≡ digits ++ letter
+  pub present : digits ≢ []
+  pub decimal : IsTrue (list_all is_digit digits)
+  pub scaled : factor_of letter ≡ Some factor
+  pub valued : n ≡ number_of digits * factor
+
+-- a piece of a quoted string: an octet, one behind a backslash, CRLF, or a bare LF, which is read as CRLF
+pub data Piece : Type 0 where
+  Plain : ℕ → Piece
+  Escaped : ℕ → Piece
+  LineEnd : Piece
+  BareLineEnd : Piece
+
+-- `"`, `\`, CR and LF are no plain octets; a backslash stands before any octet but NUL, CR and LF
+abbrev pub IsPiece : Piece → Type 0
+IsPiece (Plain b) = IsFalse (b == 34) × IsFalse (b == 92) × IsFalse (b == 13) × IsFalse (b == 10)
+IsPiece (Escaped b) = IsFalse (b == 0) × IsFalse (b == 13) × IsFalse (b == 10)
+IsPiece LineEnd = Unit {0}
+IsPiece BareLineEnd = Unit {0}
+
+abbrev pub ArePieces : List Piece → Type 0
+ArePieces [] = Unit {0}
+ArePieces (p ∷ ps) = IsPiece p × ArePieces ps
+
+-- how a piece is written
+abbrev pub spelling_of : Piece → List ℕ
+spelling_of (Plain b) = b ∷ []
+spelling_of (Escaped b) = 92 ∷ (b ∷ [])
+spelling_of LineEnd = 13 ∷ (10 ∷ [])
+spelling_of BareLineEnd = 10 ∷ []
+
+-- what it stands for
+abbrev pub value_of : Piece → List ℕ
+value_of (Plain b) = b ∷ []
+value_of (Escaped b) = b ∷ []
+value_of LineEnd = 13 ∷ (10 ∷ [])
+value_of BareLineEnd = 13 ∷ (10 ∷ [])
+
+-- a quoted string and what it stands for (RFC 5228, 2.4.2)
+pub record IsQuoted (s value : List ℕ) : Type 0 where
+  pub pieces : List Piece
+  pub each : ArePieces pieces
+  pub spelled : s ≡ 34 ∷ (flat_map spelling_of pieces ++ 34 ∷ [])
+  pub valued : value ≡ flat_map value_of pieces
+
+-- s spells a token of this kind and value before the rest of the text
+abbrev pub IsShape : Kind → Value → List ℕ → List ℕ → Type 0
+IsShape kind Nothing s rest = (b : ℕ) × ((class_of b ≡ Mark kind) × (s ≡ b ∷ []))
+IsShape Identifier (Chars name) s rest = (s ≡ name) × IsName name
+IsShape Tag (Chars name) s rest = (s ≡ 58 ∷ name) × IsName name
+IsShape Text (Chars value) s rest = IsQuoted s value
+IsShape Number (Amount n) s rest = IsNumber s n
+IsShape _ _ s rest = ⊥

@@ -1,0 +1,70 @@
+-- The tokens of a text (RFC 5228, 8.1).
+use Rattle.std.specs.Prelude.{◌≡◌, ℕ, ◌+◌, ◌-◌, ◌<◌, ◌≤◌, ◌^◌, List, [], ◌∷◌, length, take, drop, slice_get, Some, codes, IsTrue}
+use Rattle.std.specs.List.{flat_map}
+use Rattle.octets.specs.Ascii.{lowered}
+use Rattle.sievelex.specs.declared.token.Kind.{Kind}
+use Rattle.sievelex.specs.declared.token.Kind.TheVariants.{Identifier}
+use Rattle.sievelex.specs.declared.token.Value.{Value}
+use Rattle.sievelex.specs.declared.token.Value.TheVariants.{Amount, Chars}
+use Rattle.sievelex.specs.declared.token.Token.{Token}
+use Rattle.sievelex.specs.Class.{is_white}
+use Rattle.sievelex.specs.Shape.{IsShape}
+use Rattle.sievelex.specs.Text.{IsText, line_ends}
+
+-- a piece of white space: a blank or an octet of a line end
+pub data Space : Type 0 where
+  White : ℕ → Space
+
+abbrev pub AreSpaces : List Space → Type 0
+AreSpaces [] = Unit {0}
+AreSpaces (White b ∷ more) = IsTrue (is_white b) × AreSpaces more
+
+-- how a piece of white space is written
+abbrev pub space_of : Space → List ℕ
+space_of (White b) = b ∷ []
+
+-- the white space before a token
+pub record IsGap (s : List ℕ) : Type 0 where
+  pub pieces : List Space
+  pub each : AreSpaces pieces
+  pub spelled : s ≡ flat_map space_of pieces
+
+-- the white space behind the last token, up to the end of the text
+abbrev pub IsTail : List ℕ → Type 0
+IsTail s = IsGap s
+
+-- the value of a number is at most 2^63 - 1
+abbrev pub IsInRange : Value → Type 0
+IsInRange (Amount n) = n < 2 ^ 63
+IsInRange _ = Unit {0}
+
+-- the identifier `text`, of any case, with a colon right behind it, which begins a text of several lines
+abbrev pub OpensText : Kind → Value → List ℕ → Type 0
+OpensText Identifier (Chars name) rest = (lowered name ≡ codes "text") × (slice_get rest 0 ≡ Some 58)
+OpensText _ _ rest = ⊥
+
+-- the first n octets are a token of this kind and value: they spell it, and no longer front spells any
+pub record IsToken (octets : List ℕ) (kind : Kind) (value : Value) (n : ℕ) : Type 0 where
+  pub within : n ≤ length octets
+  pub shape : IsShape kind value (take n octets) (drop n octets)
+  pub longest : (k : Kind) (v : Value) (m : ℕ) → n < m → m ≤ length octets → IsShape k v (take m octets) (drop m octets) → ⊥
+  pub in_range : IsInRange value
+  pub bare : OpensText kind value (drop n octets) → ⊥
+
+-- behind white space that begins at a place of the text, this token comes next
+pub record IsNext (text : List ℕ) (from : ℕ) (t : Token) : Type 0 where
+  pub ahead : from ≤ t.start
+  pub gap : IsGap (take (t.start - from) (drop from text))
+  pub forward : t.start ≤ t.end
+  pub token : IsToken (drop t.start text) t.kind t.value (t.end - t.start)
+  pub line : t.line ≡ 1 + line_ends (take t.start text)
+
+-- from this place on the text is these tokens with white space between and around them
+abbrev pub SpellsFrom : List ℕ → ℕ → List Token → Type 0
+SpellsFrom text from [] = IsTail (drop from text)
+SpellsFrom text from (t ∷ ts) = IsNext text from t × SpellsFrom text t.end ts
+
+-- the text is these tokens
+pub record Spells (text : List ℕ) (tokens : List Token) : Type 0 where
+  pub written : IsText text
+  pub spelled : SpellsFrom text 0 tokens

@@ -1,0 +1,159 @@
+//! The token at the front of a text.
+ghost use Rattle.std.specs.Prelude.{◌≡◌, ◌+◌, ◌-◌, ◌<◌, ◌≤◌, ◌^◌, ◌∷◌, [], ◌↔◌, IsTrue, slice_index};
+ghost use Rattle.sievelex.specs.Spelling.{OpensText};
+ghost use Rattle.std.specs.List.{prefix_len};
+ghost use Rattle.sievelex.specs.Class.{is_name_start, is_name_octet, class_of};
+ghost use Rattle.sievelex.specs.Finding.{Finds, IfFaultLine};
+ghost use Rattle.sievelex.specs.Front.{IsFront};
+ghost use Rattle.octets.specs.Ascii.{is_digit};
+
+use crate::class::{Class, class_of, is_name_octet, is_name_start};
+use crate::fault::{FaultKind, ScriptError, ScriptFault};
+use crate::number::{amount, digit_count, multiplier};
+use crate::quoted::read_quoted;
+use crate::token::{Kind, Value};
+use octets::Octets;
+use std::alloc::Global;
+
+/// A token at the front of a text, and how many octets spell it.
+#[derive(Drop)]
+pub(crate) struct Front {
+    pub(crate) kind: Kind,
+    pub(crate) value: Value,
+    pub(crate) len: usize,
+}
+
+/// The token that begins with the text's first octet. Looks at its octets alone, and at those that make
+/// it no token.
+pub(crate) fn read_front(alloc: Global, octets: &[u8], line: u64) -> Result<Front, ScriptError>
+    ensures found { Finds (IsFront octets.now) result }
+    ensures lines { IfFaultLine result (λ n. n ≡ line) }
+{
+    let bad = ScriptError::Fault(ScriptFault {
+        line,
+        kind: FaultKind::BadByte,
+    });
+    let Some((first, rest)) = octets.split_first() else {
+        return Err(bad);
+    };
+    if is_name_start(*first) {
+        return read_identifier(alloc, octets, line);
+    }
+    if first.is_ascii_digit() {
+        return read_number(octets, line);
+    }
+    if *first == b':' {
+        return read_tag(alloc, rest, line);
+    }
+    if *first == b'"' {
+        return read_string(alloc, rest, line);
+    }
+    match class_of(*first) {
+        Class::Mark(kind) => Ok(Front {
+            kind,
+            value: Value::Nothing,
+            len: 1,
+        }),
+        _ => Err(bad),
+    }
+}
+
+/// The identifier that begins with the text's first octet.
+fn read_identifier(alloc: Global, octets: &[u8], line: u64) -> Result<Front, ScriptError>
+    requires { IsTrue (is_name_start (slice_index octets.now 0)) }
+    ensures found { Finds (IsFront octets.now) result }
+    ensures lines { IfFaultLine result (λ n. n ≡ line) }
+{
+    let (name, rest) = octets.split_at(name_len(octets));
+    if opens_text(name, rest) {
+        return Err(ScriptError::Fault(ScriptFault {
+            line,
+            kind: FaultKind::Unexpected,
+        }));
+    }
+    Ok(Front {
+        kind: Kind::Identifier,
+        value: Value::Chars(Octets::copy(alloc, name)?),
+        len: name.len(),
+    })
+}
+
+/// The name `text`, of any case, with a colon right behind it: it begins a string of several lines.
+fn opens_text(name: &[u8], rest: &[u8]) -> bool
+    ensures { IsTrue result ↔ OpensText Kind.Identifier (Value.Chars name.now) rest.now }
+{
+    rest.first() == Some(&b':') && name.eq_ignore_ascii_case(b"text")
+}
+
+/// The tag behind whose colon this text stands.
+fn read_tag(alloc: Global, octets: &[u8], line: u64) -> Result<Front, ScriptError>
+    ensures found { Finds (IsFront (58 ∷ octets.now)) result }
+    ensures lines { IfFaultLine result (λ n. n ≡ line) }
+{
+    if !begins_name(octets) {
+        return Err(ScriptError::Fault(ScriptFault {
+            line,
+            kind: FaultKind::BadByte,
+        }));
+    }
+    let (name, _) = octets.split_at(name_len(octets));
+    Ok(Front {
+        kind: Kind::Tag,
+        value: Value::Chars(Octets::copy(alloc, name)?),
+        len: 1 + name.len(),
+    })
+}
+
+/// The number that begins with the text's first octet.
+fn read_number(octets: &[u8], line: u64) -> Result<Front, ScriptError>
+    requires { IsTrue (is_digit (slice_index octets.now 0)) }
+    ensures found { Finds (IsFront octets.now) result }
+    ensures lines { IfFaultLine result (λ n. n ≡ line) }
+{
+    let (digits, rest) = octets.split_at(digit_count(octets));
+    let (factor, letters) = multiplier(rest);
+    match amount(digits, factor) {
+        Some(amount) => Ok(Front {
+            kind: Kind::Number,
+            value: Value::Amount(amount),
+            len: digits.len() + letters,
+        }),
+        None => Err(ScriptError::Fault(ScriptFault {
+            line,
+            kind: FaultKind::NumberTooLarge,
+        })),
+    }
+}
+
+/// The quoted string behind whose opening quotation mark this text stands.
+fn read_string(alloc: Global, octets: &[u8], line: u64) -> Result<Front, ScriptError>
+    ensures found { Finds (IsFront (34 ∷ octets.now)) result }
+    ensures lines { IfFaultLine result (λ n. n ≡ line) }
+{
+    let (value, len) = read_quoted(alloc, octets, line)?;
+    Ok(Front {
+        kind: Kind::Text,
+        value: Value::Chars(value),
+        len: 1 + len,
+    })
+}
+
+/// Whether a letter or `_` stands at the front.
+fn begins_name(octets: &[u8]) -> bool
+    ensures { result ≡ is_name_start (slice_index octets.now 0) }
+{
+    match octets.first() {
+        Some(first) => is_name_start(*first),
+        None => false,
+    }
+}
+
+/// How many octets at the front go on with a name.
+fn name_len(octets: &[u8]) -> usize
+    ensures { result ≡ prefix_len is_name_octet octets.now }
+{
+    octets
+        .iter()
+        .take_while(|octet| is_name_octet(**octet))
+        .count()
+}

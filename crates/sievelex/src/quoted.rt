@@ -1,0 +1,69 @@
+//! The inside of quoted strings.
+ghost use Rattle.std.specs.Prelude.{◌≡◌, ◌≤◌, length, drop, IfOk, Some, None};
+ghost use Rattle.sievelex.specs.Finding.{IfFault, IfFaultLine};
+ghost use Rattle.sievelex.specs.Inside.{string_from};
+ghost use Rattle.sievelex.specs.declared.quoted.Mode.TheVariants.{Inside};
+
+use crate::fault::{FaultKind, ScriptError, ScriptFault};
+use octets::Octets;
+use std::alloc::Global;
+
+/// Where in a quoted string an octet stands.
+#[derive(Clone, Copy)]
+pub(crate) enum Mode {
+    /// Behind whole pieces.
+    Inside,
+    /// Behind a backslash.
+    Escape,
+    /// Behind a CR.
+    Return,
+}
+
+/// What the string behind whose opening quotation mark this text stands stands for, each line end as CRLF,
+/// and how many octets there are up to its closing quotation mark and with it.
+pub(crate) fn read_quoted(
+    alloc: Global,
+    octets: &[u8],
+    line: u64,
+) -> Result<(Octets, usize), ScriptError>
+    ensures within { IfOk result (λ r. r.1 ≤ length octets.now) }
+    ensures found { IfOk result (λ r. string_from Inside octets.now ≡ Some (r.0, drop r.1 octets.now)) }
+    ensures fault { IfFault result (string_from Inside octets.now ≡ None) }
+    ensures lines { IfFaultLine result (λ n. n ≡ line) }
+{
+    let bad = ScriptError::Fault(ScriptFault {
+        line,
+        kind: FaultKind::BadByte,
+    });
+    let mut value = Octets::new(alloc);
+    let mut mode = Mode::Inside;
+    for (i, octet) in octets.iter().enumerate() {
+        match mode {
+            Mode::Inside => match *octet {
+                b'"' => return Ok((value, i + 1)),
+                b'\\' => mode = Mode::Escape,
+                b'\r' => mode = Mode::Return,
+                b'\n' => value.extend_from_slice(b"\r\n")?,
+                plain => value.push(plain)?,
+            },
+            Mode::Escape => match *octet {
+                0 | b'\r' | b'\n' => return Err(bad),
+                escaped => {
+                    value.push(escaped)?;
+                    mode = Mode::Inside;
+                }
+            },
+            Mode::Return => match *octet {
+                b'\n' => {
+                    value.extend_from_slice(b"\r\n")?;
+                    mode = Mode::Inside;
+                }
+                _ => return Err(bad),
+            },
+        }
+    }
+    Err(ScriptError::Fault(ScriptFault {
+        line,
+        kind: FaultKind::OpenString,
+    }))
+}

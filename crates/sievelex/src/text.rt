@@ -1,0 +1,44 @@
+//! Which texts may be scripts at all, and lines.
+ghost use Rattle.std.specs.Prelude.{◌≡◌, ◌+◌, ◌<◌, ◌≤◌, length, take, MatchOption, IfSome};
+ghost use Rattle.sievelex.specs.Text.{IsText, HasGoodOctets, line_ends};
+
+use crate::fault::{FaultKind, ScriptFault};
+use std::str;
+
+/// Why the text can be no script, whatever its tokens: it is not UTF-8, or has a NUL or a lone CR.
+pub(crate) fn text_fault(text: &[u8]) -> Option<ScriptFault>
+    ensures fault { MatchOption result (IsText text.now) (λ _. IsText text.now → ⊥) }
+    ensures lines { IfSome result (λ f. (1 ≤ f.line) × (f.line ≤ 1 + line_ends text.now)) }
+{
+    let (place, kind) = match str::from_utf8(text) {
+        Err(broken) => (broken.valid_up_to(), FaultKind::NotUtf8),
+        Ok(_) => (bad_octet(text)?, FaultKind::BadByte),
+    };
+    let (before, _) = text.split_at(place);
+    Some(ScriptFault {
+        line: 1 + line_feeds(before),
+        kind,
+    })
+}
+
+/// The place of the first NUL or lone CR.
+fn bad_octet(text: &[u8]) -> Option<usize>
+    ensures { MatchOption result (HasGoodOctets text.now) (λ place. (place < length text.now) × (HasGoodOctets text.now → ⊥)) }
+{
+    for (i, octet) in text.iter().enumerate() {
+        if *octet == 0 {
+            return Some(i);
+        }
+        if *octet == b'\r' && text.get(i + 1) != Some(&b'\n') {
+            return Some(i);
+        }
+    }
+    None
+}
+
+/// How many lines end in the octets.
+pub(crate) fn line_feeds(octets: &[u8]) -> u64
+    ensures { result ≡ line_ends octets.now }
+{
+    octets.iter().filter(|octet| **octet == b'\n').count() as u64
+}

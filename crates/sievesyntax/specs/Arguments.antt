@@ -1,0 +1,38 @@
+-- Arguments, by the grammar alone (RFC 5228, 8.2).
+use Rattle.std.specs.Prelude.{◌≡◌, ℕ, List, [], ◌∷◌}
+use Rattle.sievelex.specs.declared.token.Kind.TheVariants as K
+use Rattle.sievesyntax.specs.declared.argument.Argument.{Argument}
+use Rattle.sievesyntax.specs.declared.argument.Argument.TheVariants as A
+use Rattle.sievesyntax.specs.Chains.{Chain}
+use Rattle.sievesyntax.specs.Lexemes.{Lexeme, word, tag, number, text, mark}
+
+-- a string after the first of a list
+abbrev pub IsOther : List ℕ → List Lexeme → List Lexeme → Type 0
+IsOther string from to = from ≡ mark K.Comma ∷ (text string ∷ to)
+
+-- the strings of a list in brackets, behind the open bracket: one or more
+abbrev pub AreStrings : List (List ℕ) → List Lexeme → List Lexeme → Type 0
+AreStrings [] from to = ⊥
+AreStrings (first ∷ more) from to = (rest : List Lexeme) × ((from ≡ text first ∷ rest) × Chain IsOther more rest (mark K.CloseBracket ∷ to))
+
+-- an argument stands at the front: argument = string-list / number / tag
+abbrev pub IsArgument : Argument → List Lexeme → List Lexeme → Type 0
+IsArgument (A.Tag t) from to = from ≡ tag t ∷ to
+IsArgument (A.Number n) from to = from ≡ number n ∷ to
+IsArgument (A.Text string) from to = from ≡ text string ∷ to
+IsArgument (A.Strings strings) from to = (rest : List Lexeme) × ((from ≡ mark K.OpenBracket ∷ rest) × AreStrings strings rest to)
+
+-- no argument begins here
+abbrev pub IsEnd : List Lexeme → Type 0
+IsEnd [] = Unit {0}
+IsEnd (word _ ∷ _) = Unit {0}
+IsEnd (tag _ ∷ _) = ⊥
+IsEnd (number _ ∷ _) = ⊥
+IsEnd (text _ ∷ _) = ⊥
+IsEnd (mark K.OpenBracket ∷ _) = ⊥
+IsEnd (mark _ ∷ _) = Unit {0}
+
+-- all the arguments at the front
+pub record AreArguments (args : List Argument) (from to : List Lexeme) : Type 0 where
+  pub spelled : Chain IsArgument args from to
+  pub all : IsEnd to

@@ -1,0 +1,71 @@
+-- What the grammar sees of a token: keywords in place of names.
+use Rattle.std.specs.Prelude.{ℕ, Bool, cond, nat_eq, List, map, codes}
+use Rattle.std.specs.Cmp.Lexicographic.{pointwise}
+use Rattle.octets.specs.Ascii.{lowered}
+use Rattle.sievelex.specs.declared.token.Kind.{Kind}
+use Rattle.sievelex.specs.declared.token.Kind.TheVariants as K
+use Rattle.sievelex.specs.declared.token.Value.{Value}
+use Rattle.sievelex.specs.declared.token.Value.TheVariants as V
+use Rattle.sievelex.specs.declared.token.Token.{Token}
+use Rattle.sievesyntax.specs.declared.lexeme.Word.{Word}
+use Rattle.sievesyntax.specs.declared.lexeme.Word.TheVariants as W
+use Rattle.sievesyntax.specs.declared.lexeme.Tag.{Tag}
+use Rattle.sievesyntax.specs.declared.lexeme.Tag.TheVariants as T
+use Rattle.sievesyntax.specs.declared.lexeme.Seen.{Seen}
+use Rattle.sievesyntax.specs.declared.lexeme.Seen.TheVariants as S
+
+-- names are compared without ASCII case (RFC 5228, 2.1)
+abbrev pub same_name : List ℕ → List ℕ → Bool
+same_name name keyword = pointwise nat_eq (lowered name) (lowered keyword)
+
+-- the command or test of this name
+abbrev pub word_of : List ℕ → Word
+word_of name =
+    cond (same_name name (codes "require")) W.Require
+    (cond (same_name name (codes "if")) W.If
+    (cond (same_name name (codes "stop")) W.Stop
+    (cond (same_name name (codes "keep")) W.Keep
+    (cond (same_name name (codes "discard")) W.Discard
+    (cond (same_name name (codes "fileinto")) W.FileInto
+    (cond (same_name name (codes "true")) W.True
+    (cond (same_name name (codes "false")) W.False
+    (cond (same_name name (codes "size")) W.Size
+    W.Other))))))))
+
+-- the tag of this name
+abbrev pub tag_of : List ℕ → Tag
+tag_of name =
+    cond (same_name name (codes "over")) T.Over
+    (cond (same_name name (codes "under")) T.Under
+    T.Other)
+
+-- a word of the grammar (RFC 5228, 8.2); a mark is known by its kind
+pub data Lexeme : Type 0 where
+  word : Word → Lexeme
+  tag : Tag → Lexeme
+  number : ℕ → Lexeme
+  text : List ℕ → Lexeme
+  mark : Kind → Lexeme
+
+abbrev pub lexeme : Value → Kind → Lexeme
+lexeme (V.Chars name) K.Identifier = word (word_of name)
+lexeme (V.Chars name) K.Tag = tag (tag_of name)
+lexeme (V.Chars value) K.Text = text value
+lexeme (V.Amount n) K.Number = number n
+lexeme _ kind = mark kind
+
+-- what the grammar sees of a token: not its place, nor the case of its name
+abbrev pub lexeme_of : Token → Lexeme
+lexeme_of token = lexeme token.value token.kind
+
+-- the same of tokens in a row
+abbrev pub lexemes : List Token → List Lexeme
+lexemes tokens = map lexeme_of tokens
+
+-- what a look at a token tells
+abbrev pub lexeme_seen : Seen → Lexeme
+lexeme_seen (S.Word w) = word w
+lexeme_seen (S.Tag t) = tag t
+lexeme_seen (S.Number n) = number n
+lexeme_seen (S.Text value) = text value.now
+lexeme_seen (S.Mark kind) = mark kind

@@ -1,0 +1,100 @@
+-- The grammar of tests and commands (RFC 5228, 8.2).
+use Rattle.std.specs.Prelude.{◌≡◌, ◌≤◌, ◌+◌, ℕ, List, [], ◌∷◌, ◌++◌, All}
+use Rattle.sievelex.specs.declared.token.Kind.TheVariants as K
+use Rattle.sievesyntax.specs.declared.lexeme.Word.{Word}
+use Rattle.sievesyntax.specs.declared.lexeme.Word.TheVariants as W
+use Rattle.sievesyntax.specs.declared.argument.Argument.{Argument}
+use Rattle.sievesyntax.specs.declared.granted.Granted.{Granted}
+use Rattle.sievesyntax.specs.Lexemes.{Lexeme, word, mark}
+use Rattle.sievesyntax.specs.Arguments.{AreArguments}
+use Rattle.sievesyntax.specs.Chains.{Chain}
+use Rattle.sievesyntax.specs.Rows.{IsPlainTest, IsPlainCommand}
+use Rattle.sievesyntax.specs.Tree.{TestTree, CommandTree, require, choose, stop, act, Branches, no_branches, branch, Commands, no_commands, command, depth, depth_of}
+use Rattle.sievesyntax.specs.Valid.{IsCapability, MayStand, MayAllStand}
+
+-- an identifier stands at the front, and this is so of it and of what is behind it
+abbrev pub Headed : (Word → List Lexeme → Type 0) → List Lexeme → Type 0
+Headed P from = (name : Word) × ((behind : List Lexeme) × ((from ≡ word name ∷ behind) × P name behind))
+
+-- this stands at the front, in braces
+abbrev pub Braced : (List Lexeme → List Lexeme → Type 0) → List Lexeme → List Lexeme → Type 0
+Braced P from to = (inside : List Lexeme) × ((from ≡ mark K.OpenBrace ∷ inside) × P inside (mark K.CloseBrace ∷ to))
+
+-- test = identifier arguments, behind its identifier
+abbrev pub IsTest : TestTree → Word → List Lexeme → List Lexeme → Type 0
+IsTest test name behind to = (args : List Argument) × (AreArguments args behind to × IsPlainTest name args test)
+
+-- a test at the front
+abbrev pub ReadsTest : TestTree → List Lexeme → List Lexeme → Type 0
+ReadsTest test from to = Headed (λ name behind. IsTest test name behind to) from
+
+-- command = identifier arguments ";", behind its identifier
+abbrev pub IsStatement : CommandTree → Word → List Lexeme → List Lexeme → Type 0
+IsStatement tree name behind to = (args : List Argument) × (AreArguments args behind (mark K.Semicolon ∷ to) × IsPlainCommand name args tree)
+
+-- command = identifier arguments (";" / block), behind its identifier; block = "{" commands "}"
+abbrev mutual
+  pub IsCommand : CommandTree → Word → List Lexeme → List Lexeme → Type 0
+  IsCommand (require names) name behind to = IsStatement (require names) name behind to
+  IsCommand (choose branches) name behind to = IsChoice branches name behind to
+  IsCommand stop name behind to = IsStatement stop name behind to
+  IsCommand (act action) name behind to = IsStatement (act action) name behind to
+
+  -- `if` with one test and a block (RFC 5228, 3.1)
+  pub IsChoice : Branches → Word → List Lexeme → List Lexeme → Type 0
+  IsChoice no_branches name behind to = ⊥
+  IsChoice (branch test block more) name behind to =
+      (name ≡ W.If) × ((more ≡ no_branches) × ((start : List Lexeme) × (ReadsTest test behind start × Braced (AreCommands block) start to)))
+
+  -- commands = *command
+  pub AreCommands : Commands → List Lexeme → List Lexeme → Type 0
+  AreCommands no_commands from to = from ≡ to
+  AreCommands (command first more) from to = (middle : List Lexeme) × (Headed (λ name behind. IsCommand first name behind middle) from × AreCommands more middle to)
+
+-- a command at the front
+abbrev pub ReadsCommand : CommandTree → List Lexeme → List Lexeme → Type 0
+ReadsCommand tree from to = Headed (λ name behind. IsCommand tree name behind to) from
+
+-- a command at the front that may stand there: blocks within it go no deeper than this
+abbrev pub TakesCommand : Granted → ℕ → CommandTree → List Lexeme → List Lexeme → Type 0
+TakesCommand granted room tree from to = ReadsCommand tree from to × (MayStand granted tree × (depth_of tree ≤ room))
+
+-- the same behind its identifier
+abbrev pub TakesBehind : Granted → ℕ → Word → CommandTree → List Lexeme → List Lexeme → Type 0
+TakesBehind granted room name tree behind to = IsCommand tree name behind to × (MayStand granted tree × (depth_of tree ≤ room))
+
+-- a block at the front that may stand there
+abbrev pub TakesBlock : Granted → ℕ → Commands → List Lexeme → List Lexeme → Type 0
+TakesBlock granted room block from to = Braced (AreCommands block) from to × (MayAllStand granted block × (depth block + 1 ≤ room))
+
+-- commands end here: at the close of a block or at the end
+abbrev pub IsStop : List Lexeme → Type 0
+IsStop [] = Unit {0}
+IsStop (mark K.CloseBrace ∷ _) = Unit {0}
+IsStop (_ ∷ _) = ⊥
+
+-- commands that may stand there, up to a stop
+abbrev pub TakesAll : Granted → ℕ → List CommandTree → List Lexeme → List Lexeme → Type 0
+TakesAll granted room trees from to = Chain (TakesCommand granted room) trees from to × IsStop to
+
+-- a `require` at the front, of known capabilities
+abbrev pub TakesRequire : List (List ℕ) → List Lexeme → List Lexeme → Type 0
+TakesRequire names from to = ReadsCommand (require names) from to × All IsCapability names
+
+-- no `require` stands first
+abbrev pub IsPastRequires : List Lexeme → Type 0
+IsPastRequires (word W.Require ∷ _) = ⊥
+IsPastRequires _ = Unit {0}
+
+-- the names of several `require`, in turn
+abbrev pub all_names : List (List (List ℕ)) → List (List ℕ)
+all_names [] = []
+all_names (names ∷ more) = names ++ all_names more
+
+-- requires at the front, up to another command or the end
+abbrev pub TakesRequires : List (List (List ℕ)) → List Lexeme → List Lexeme → Type 0
+TakesRequires each from to = Chain TakesRequire each from to × IsPastRequires to
+
+-- the commands of a whole script
+abbrev pub Reads : Commands → List Lexeme → Type 0
+Reads commands from = AreCommands commands from []

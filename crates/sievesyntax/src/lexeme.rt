@@ -1,0 +1,105 @@
+//! What the grammar sees of a token: keywords in place of names.
+ghost use Rattle.std.specs.Prelude.{◌≡◌};
+ghost use Rattle.sievesyntax.specs.Lexemes.{same_name, word_of, tag_of, lexeme_of, lexeme_seen};
+
+use octets::Octets;
+use sievelex::{Kind, Token, Value};
+
+/// The name of a command or of a test.
+#[derive(Clone, Copy)]
+pub enum Word {
+    Require,
+    If,
+    Stop,
+    Keep,
+    Discard,
+    FileInto,
+    True,
+    False,
+    Size,
+    /// Any other identifier.
+    Other,
+}
+
+/// A tag.
+#[derive(Clone, Copy)]
+pub enum Tag {
+    Over,
+    Under,
+    /// A tag of no command and no test.
+    Other,
+}
+
+/// What the grammar sees of a token, over the token's own text.
+#[derive(Clone, Copy)]
+pub enum Seen<'a> {
+    Word(Word),
+    Tag(Tag),
+    Number(u64),
+    Text(&'a Octets),
+    Mark(Kind),
+}
+
+/// What the grammar sees of this token. Time by the length of a name, no memory.
+pub fn look(token: &Token) -> Seen<'_>
+    ensures { lexeme_seen result ≡ lexeme_of token.now }
+{
+    match &token.value {
+        Value::Chars(chars) => match token.kind {
+            Kind::Identifier => Seen::Word(word_named(chars.as_slice())),
+            Kind::Tag => Seen::Tag(tag_named(chars.as_slice())),
+            Kind::Text => Seen::Text(chars),
+            kind => Seen::Mark(kind),
+        },
+        Value::Amount(number) => match token.kind {
+            Kind::Number => Seen::Number(*number),
+            kind => Seen::Mark(kind),
+        },
+        Value::Nothing => Seen::Mark(token.kind),
+    }
+}
+
+/// Names are compared without ASCII case (RFC 5228, 2.1).
+fn is_name(name: &[u8], keyword: &[u8]) -> bool
+    ensures { result ≡ same_name name.now keyword.now }
+{
+    name.eq_ignore_ascii_case(keyword)
+}
+
+fn word_named(name: &[u8]) -> Word
+    ensures { result ≡ word_of name.now }
+{
+    if is_name(name, b"require") {
+        Word::Require
+    } else if is_name(name, b"if") {
+        Word::If
+    } else if is_name(name, b"stop") {
+        Word::Stop
+    } else if is_name(name, b"keep") {
+        Word::Keep
+    } else if is_name(name, b"discard") {
+        Word::Discard
+    } else if is_name(name, b"fileinto") {
+        Word::FileInto
+    } else if is_name(name, b"true") {
+        Word::True
+    } else if is_name(name, b"false") {
+        Word::False
+    } else if is_name(name, b"size") {
+        Word::Size
+    } else {
+        Word::Other
+    }
+}
+
+fn tag_named(name: &[u8]) -> Tag
+    ensures { result ≡ tag_of name.now }
+{
+    if is_name(name, b"over") {
+        Tag::Over
+    } else if is_name(name, b"under") {
+        Tag::Under
+    } else {
+        Tag::Other
+    }
+}

@@ -1,0 +1,144 @@
+//! Tests, commands and blocks, by recursive descent: one pass, and no deeper than blocks may stand.
+ghost use Rattle.std.specs.Prelude.{◌≡◌, ◌↔◌, ◌++◌, ◌∷◌, ℕ, List, IfOk, IsTrue, map};
+ghost use Rattle.sievesyntax.specs.declared.lexeme.Word.{Word};
+ghost use Rattle.sievesyntax.specs.declared.lexeme.Word.TheVariants as W;
+ghost use Rattle.sievesyntax.specs.Lexemes.{Lexeme, word};
+ghost use Rattle.sievesyntax.specs.Parsing.{IfFault, Parses};
+ghost use Rattle.sievesyntax.specs.Tree.{CommandTree};
+ghost use Rattle.sievesyntax.specs.View.{test_view, command_view, commands_view};
+ghost use Rattle.sievesyntax.specs.Reading.{ReadsTest, TakesCommand, TakesBehind, TakesBlock, TakesAll, IsStop};
+
+use crate::argument::read_arguments;
+use crate::granted::Granted;
+use crate::lexeme::{Seen, Word};
+use crate::reader::Reader;
+use crate::refusal::ReadError;
+use crate::row::{plain_command, plain_test};
+use crate::tree::{Branch, Command, Test};
+use sievelex::{FaultKind, Kind};
+use std::alloc::Global;
+
+/// Commands behind those read so far, up to the close of a block or the end.
+#[cycle(parse)]
+pub fn read_commands(
+    alloc: Global,
+    reader: &mut Reader<'_>,
+    granted: Granted,
+    room: usize,
+    commands: Vec<Command>,
+) -> Result<Vec<Command>, ReadError>
+    ensures found { IfOk result (λ all. (more : List CommandTree) × ((map command_view all.items ≡ map command_view commands.items ++ more) × TakesAll granted room more reader.old reader.new)) }
+    ensures only { IfOk result (λ all. (more : List CommandTree) (to : List Lexeme) → TakesAll granted room more reader.old to → (map command_view all.items ≡ map command_view commands.items ++ more) × (to ≡ reader.new)) }
+    ensures fault { IfFault result ((more : List CommandTree) (to : List Lexeme) → TakesAll granted room more reader.old to → ⊥) }
+{
+    let mut commands = commands;
+    'commands: while !is_stop(reader) {
+        commands.push(read_command(alloc, reader, granted, room)?)?;
+    }
+    Ok(commands)
+}
+
+/// A command that may stand here. Its blocks go no deeper than `room`.
+#[cycle(parse)]
+fn read_command(
+    alloc: Global,
+    reader: &mut Reader<'_>,
+    granted: Granted,
+    room: usize,
+) -> Result<Command, ReadError>
+    ensures { Parses command_view (TakesCommand granted room) reader.old reader.new result }
+{
+    let name = read_word(reader)?;
+    match name {
+        Word::If => read_if(alloc, reader, granted, room),
+        _ => read_statement(alloc, reader, granted, room, name),
+    }
+}
+
+/// `if`, behind its name: a test and a block.
+#[cycle(parse)]
+fn read_if(
+    alloc: Global,
+    reader: &mut Reader<'_>,
+    granted: Granted,
+    room: usize,
+) -> Result<Command, ReadError>
+    ensures { Parses command_view (TakesBehind granted room W.If) reader.old reader.new result }
+{
+    let test = read_test(alloc, reader)?;
+    let block = read_block(alloc, reader, granted, room)?;
+    let mut branches = Vec::new(alloc);
+    branches.push(Branch { test, block })?;
+    Ok(Command::If(branches))
+}
+
+/// A block that may stand here.
+#[cycle(parse)]
+fn read_block(
+    alloc: Global,
+    reader: &mut Reader<'_>,
+    granted: Granted,
+    room: usize,
+) -> Result<Vec<Command>, ReadError>
+    ensures { Parses (λ v. commands_view v.items) (TakesBlock granted room) reader.old reader.new result }
+{
+    reader.read_mark(Kind::OpenBrace)?;
+    if room == 0 {
+        return Err(ReadError::Fault(FaultKind::TooDeep));
+    }
+    let block = read_commands(alloc, reader, granted, room - 1, Vec::new(alloc))?;
+    reader.read_mark(Kind::CloseBrace)?;
+    Ok(block)
+}
+
+/// A command without a block, behind its name.
+fn read_statement(
+    alloc: Global,
+    reader: &mut Reader<'_>,
+    granted: Granted,
+    room: usize,
+    name: Word,
+) -> Result<Command, ReadError>
+    requires { name ≡ W.If → ⊥ }
+    ensures { Parses command_view (TakesBehind granted room name) reader.old reader.new result }
+{
+    let args = read_arguments(alloc, reader)?;
+    let command = plain_command(alloc, name, args.as_slice(), granted)?;
+    reader.read_mark(Kind::Semicolon)?;
+    Ok(command)
+}
+
+/// A test.
+fn read_test(alloc: Global, reader: &mut Reader<'_>) -> Result<Test, ReadError>
+    ensures { Parses test_view ReadsTest reader.old reader.new result }
+{
+    let name = read_word(reader)?;
+    let args = read_arguments(alloc, reader)?;
+    plain_test(alloc, name, args.as_slice())
+}
+
+/// An identifier.
+fn read_word(reader: &mut Reader<'_>) -> Result<Word, ReadError>
+    ensures found { IfOk result (λ name. reader.old ≡ word name ∷ reader.new) }
+    ensures fault { IfFault result ((name : Word) (to : List Lexeme) → reader.old ≡ word name ∷ to → ⊥) }
+{
+    let Some((seen, after)) = reader.split_first() else {
+        return Err(ReadError::Fault(FaultKind::Unexpected));
+    };
+    *reader = after;
+    match seen {
+        Seen::Word(name) => Ok(name),
+        _ => Err(ReadError::Fault(FaultKind::Unexpected)),
+    }
+}
+
+/// Whether commands end here.
+fn is_stop(reader: &Reader<'_>) -> bool
+    ensures { IsTrue result ↔ IsStop reader.now }
+{
+    match reader.split_first() {
+        None => true,
+        Some((Seen::Mark(Kind::CloseBrace), _)) => true,
+        Some(_) => false,
+    }
+}

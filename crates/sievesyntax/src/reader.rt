@@ -1,0 +1,77 @@
+//! The tokens that are still to be read.
+ghost use Rattle.std.specs.Prelude.{◌≡◌, List, [], ◌∷◌, length, MatchOption, OnOk};
+ghost use Rattle.sievesyntax.specs.Lexemes.{Lexeme, mark, lexemes, lexeme_seen};
+ghost use Rattle.sievesyntax.specs.Parsing.{IfFault};
+
+use crate::lexeme::{Seen, look};
+use crate::refusal::ReadError;
+use sievelex::{FaultKind, Kind, Token};
+use std::marker::Model;
+
+/// The tokens that are still to be read. Contracts see the lexemes.
+#[derive(Drop)]
+pub struct Reader<'a> {
+    rest: &'a [Token],
+}
+
+impl<'a> Model for Reader<'a> {
+    ghost use Rattle.std.specs.Prelude.{List};
+    ghost use Rattle.sievesyntax.specs.Lexemes.{Lexeme, lexemes};
+
+    ghost Value = { List Lexeme };
+
+    ghost view = { λ r. lexemes r.rest.now };
+}
+
+impl<'a> Reader<'a> {
+    /// Before the first of these tokens.
+    pub fn new(tokens: &'a [Token]) -> Reader<'a>
+        ensures { result ≡ lexemes tokens.now }
+    {
+        Reader { rest: tokens }
+    }
+
+    /// How many tokens are left.
+    pub fn left(&self) -> usize
+        ensures { result ≡ length self.now }
+    {
+        self.rest.len()
+    }
+
+    /// The next lexeme, and what follows it; none at the end.
+    pub fn split_first(&self) -> Option<(Seen<'a>, Reader<'a>)>
+        ensures { MatchOption result (self.now ≡ []) (λ found. self.now ≡ lexeme_seen found.0 ∷ found.1) }
+    {
+        let (first, rest) = self.rest.split_first()?;
+        Some((look(first), Reader { rest }))
+    }
+
+    /// Reads this mark.
+    pub fn read_mark(&mut self, wanted: Kind) -> Result<(), ReadError>
+        ensures found { OnOk result (self.old ≡ mark wanted ∷ self.new) }
+        ensures fault { IfFault result ((to : List Lexeme) → self.old ≡ mark wanted ∷ to → ⊥) }
+    {
+        let Some((seen, after)) = self.split_first() else {
+            return Err(ReadError::Fault(FaultKind::Unexpected));
+        };
+        *self = after;
+        match seen {
+            Seen::Mark(kind) if kind == wanted => Ok(()),
+            _ => Err(ReadError::Fault(FaultKind::Unexpected)),
+        }
+    }
+
+    /// Nothing is left.
+    pub fn read_end(&mut self) -> Result<(), ReadError>
+        ensures found { OnOk result (self.old ≡ []) }
+        ensures fault { IfFault result (self.old ≡ [] → ⊥) }
+    {
+        match self.split_first() {
+            None => Ok(()),
+            Some((_, after)) => {
+                *self = after;
+                Err(ReadError::Fault(FaultKind::Unexpected))
+            }
+        }
+    }
+}
