@@ -5,7 +5,6 @@ mod mail;
 mod outcome;
 mod run;
 mod so_far;
-mod standin;
 mod trial;
 
 pub use mail::Envelope;

@@ -1,16 +1,17 @@
 //! One script tried on one message.
-ghost use Rattle.std.specs.Prelude.{◌≡◌, ◌≤◌, ◌+◌, ◌==◌, IfOk, count_by};
+ghost use Rattle.std.specs.Prelude.{◌≡◌, ◌≤◌, ◌+◌, IfOk};
 ghost use Rattle.sievelex.specs.Finding.{IfFault, IfFaultLine};
+ghost use Rattle.sievelex.specs.Text.{line_ends};
 ghost use Rattle.sievesyntax.specs.Tree.{Commands};
-ghost use Rattle.mailengine.specs.Means.{Means};
+ghost use Rattle.sievesyntax.specs.Means.{Means};
 ghost use Rattle.mailengine.specs.Tests.{outcome_at, mail_of};
 ghost use Rattle.mailengine.specs.Runs.{outcome_view};
 
 use crate::mail::{Envelope, Mail};
 use crate::outcome::Outcome;
 use crate::run;
-use crate::standin::check;
 use sievelex::ScriptError;
+use sievesyntax::check;
 use std::alloc::Global;
 
 /// What a script does with a message (RFC 5228, 2.10), or why it is no valid script.
@@ -29,7 +30,7 @@ pub fn attempt(
         outcome_view done ≡ outcome_at (mail_of message.now envelope.now) tree) }
     ensures fault { IfFault result ((tree : Commands) → Means script.now tree → ⊥) }
     ensures line { IfFaultLine result (λ line.
-        (1 ≤ line) × (line ≤ 1 + count_by (λ octet. octet == 10) script.now)) }
+        (1 ≤ line) × (line ≤ 1 + line_ends script.now)) }
 {
     let checked = check(alloc, script)?;
     let mail = Mail::read(message, envelope);

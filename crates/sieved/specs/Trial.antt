@@ -1,7 +1,8 @@
 -- What a run on an input leaves on the output.
-use Rattle.std.specs.Prelude.{◌≡◌, ℕ, ◌+◌, ◌≤◌, ◌==◌, ◌⊎◌, List, [], ◌∷◌, Option, Some, None, Result, Ok, Err, count_by}
+use Rattle.std.specs.Prelude.{◌≡◌, ℕ, ◌+◌, ◌≤◌, ◌⊎◌, List, [], ◌∷◌, Option, Some, None, Result, Ok, Err}
 use Rattle.std.specs.Io.KnownBytes.{Appends, Keeps}
 use Rattle.sievelex.specs.declared.fault.FaultKind.{FaultKind}
+use Rattle.sievelex.specs.Text.{line_ends}
 use Rattle.mailengine.specs.Tree.{Commands}
 use Rattle.mailengine.specs.Means.{Means}
 use Rattle.mailengine.specs.declared.mail.Envelope.{Envelope}
@@ -37,7 +38,7 @@ pub record Refuses (input text : List ℕ) : Type 0 where
   pub line : ℕ
   pub kind : FaultKind
   pub counted : 1 ≤ line
-  pub within : line ≤ 1 + count_by (λ octet. octet == 10) script
+  pub within : line ≤ 1 + line_ends script
   pub told : text ≡ fault_line line kind
 
 -- the input is no script and message

@@ -15,10 +15,11 @@ loop-mailbox-preserved c =
     let told = c.in_ok-is_first.ensures in
     let more : c.if-branch.filed ≡ with_mailbox before name =
     elim c.if-branch.branch [
-    then-branch+in_ok-copied+in_ok-push w ↦
-    w.filed-is ∙ w.in_ok-push.ensures.ok ∙ ap (λ n. before ++ n ∷ []) w.in_ok-copied.ensures
-    ∙ files_new c.loop-mailbox.known before name knows (sym w.if-branch.true ∙ told.first)
-    | else-branch w ↦ w.filed-is ∙ files_known c.loop-mailbox.known before name knows (sym w.if-branch.false ∙ told.first) ] in
+      | then-branch+in_ok-copied+in_ok-push w ↦
+          w.filed-is ∙ w.in_ok-push.ensures.ok ∙ ap (λ n. before ++ n ∷ []) w.in_ok-copied.ensures
+          ∙ files_new c.loop-mailbox.known before name knows (sym w.if-branch.true ∙ told.first)
+      | else-branch w ↦ w.filed-is ∙ files_known c.loop-mailbox.known before name knows (sym w.if-branch.false ∙ told.first)
+    ] in
     let all : with_mailbox before name ≡ each_once (take (i + 1) c.args.named.now) =
     ap (λ l. with_mailbox l name) so_far ∙ ap (with_mailbox (each_once (take i c.args.named.now))) c.mailbox-item.is
     ∙ sym (fold_more with_mailbox [] c.args.named.now i name c.loop-mailbox-test.true) in
