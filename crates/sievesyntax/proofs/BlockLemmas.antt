@@ -5,12 +5,12 @@ use Rattle.sievesyntax.specs.declared.lexeme.Word.{Word}
 use Rattle.sievesyntax.specs.declared.lexeme.Word.TheVariants as W
 use Rattle.sievesyntax.specs.declared.argument.Argument.{Argument}
 use Rattle.sievesyntax.specs.declared.granted.Granted.{Granted}
-use Rattle.sievesyntax.specs.Lexemes.{Lexeme, word, mark}
-use Rattle.sievesyntax.specs.Arguments.{AreArguments, IsArgument}
+use Rattle.sievesyntax.specs.Lexemes.{Lexeme, mark}
+use Rattle.sievesyntax.specs.Arguments.{IsArgument}
 use Rattle.sievesyntax.specs.Chains.{Chain}
 use Rattle.sievesyntax.specs.Tree.{TestTree, CommandTree, require, choose, stop, act, Branches, no_branches, branch, Commands, no_commands, command, depth, depth_of, branches_depth}
 use Rattle.sievesyntax.specs.View.{commands_of}
-use Rattle.sievesyntax.specs.Valid.{MayStand, MayAllStand, MayBranch}
+use Rattle.sievesyntax.specs.Valid.{MayAllStand}
 use Rattle.sievesyntax.specs.Reading.{IsStatement, IsCommand, IsChoice, AreCommands, ReadsTest, ReadsCommand, TakesCommand, TakesBehind, TakesBlock, TakesAll, IsStop}
 use Rattle.sievesyntax.proofs.Chains.{IsSoFar, chain_ends, chain_fails}
 use Rattle.sievesyntax.proofs.ArgumentLemmas.{argument_longer}

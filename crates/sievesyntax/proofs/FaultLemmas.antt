@@ -1,9 +1,7 @@
 -- How faults go through.
-use Rattle.std.proofs.Common.{◌≡◌, Result, Ok, Err}
-use Rattle.std.specs.Result.{IsErrAnd}
 use Rattle.sievesyntax.specs.declared.refusal.ReadError.{ReadError}
 use Rattle.sievesyntax.specs.declared.refusal.ReadError.TheVariants.{Memory, Fault}
-use Rattle.sievesyntax.specs.Parsing.{OnFault, IfFault}
+use Rattle.sievesyntax.specs.Parsing.{OnFault}
 
 -- what follows from what holds at a fault holds there too
 pub fault_on : (e : ReadError) (P Q : Type 0) → (P → Q) → OnFault e P → OnFault e Q

@@ -1,5 +1,5 @@
 -- The line of a fault lies within the text.
-use Rattle.std.proofs.Common.{◌≡◌, ℕ, zero, suc, ◌+◌, ◌<◌, ◌≤◌, List, [], ◌∷◌, length, get_or, take, Result, Ok, Err, sym, ap, ◌∙◌, subst, arith, inl, inr}
+use Rattle.std.proofs.Common.{◌≡◌, ℕ, zero, suc, ◌+◌, ◌<◌, ◌≤◌, List, [], ◌∷◌, length, get_or, take, Result, Ok, Err, subst, arith, inl, inr}
 use Rattle.sievelex.specs.declared.fault.ScriptError.{ScriptError}
 use Rattle.sievelex.specs.declared.fault.ScriptError.TheVariants.{Memory, Fault}
 use Rattle.sievelex.specs.declared.token.Token.{Token}

@@ -1,5 +1,5 @@
 -- Lemmas on the requires at the front, and on whole scripts.
-use Rattle.std.proofs.Common.{◌≡◌, ◌||◌, ℕ, Bool, true, false, ◌≤◌, ◌<◌, ◌+◌, List, [], ◌∷◌, ◌++◌, append_assoc, length, map, codes, nat_eq, refl, sym, ap, ◌∙◌, subst, arith, max, suc}
+use Rattle.std.proofs.Common.{◌≡◌, ◌||◌, ℕ, Bool, ◌≤◌, ◌<◌, ◌+◌, List, [], ◌∷◌, ◌++◌, append_assoc, length, map, codes, nat_eq, refl, sym, ap, ◌∙◌, subst, arith}
 use Rattle.std.specs.List.{list_any, All}
 use Rattle.std.proofs.Common.{length-append}
 use Rattle.std.proofs.Math.ListN.{get_or-append}
@@ -18,10 +18,10 @@ use Rattle.sievesyntax.specs.Lexemes.{Lexeme, word, mark}
 use Rattle.sievesyntax.specs.Arguments.{AreArguments}
 use Rattle.sievesyntax.specs.Chains.{Chain}
 use Rattle.sievesyntax.specs.Rows.{IsRequire, IsPlainCommand}
-use Rattle.sievesyntax.specs.Tree.{CommandTree, require, choose, stop, act, Branches, no_branches, branch, Commands, no_commands, command, depth, depth_of}
+use Rattle.sievesyntax.specs.Tree.{CommandTree, require, choose, stop, act, no_branches, branch, Commands, no_commands, command, depth}
 use Rattle.sievesyntax.specs.View.{commands_of}
 use Rattle.sievesyntax.specs.Valid.{IsCapability, MayStand, MayAllStand, required, behind_requires, granted_by, IsValid}
-use Rattle.sievesyntax.specs.Reading.{IsStatement, IsCommand, AreCommands, ReadsCommand, TakesCommand, TakesAll, TakesRequire, TakesRequires, IsPastRequires, all_names, Reads}
+use Rattle.sievesyntax.specs.Reading.{IsStatement, IsCommand, AreCommands, ReadsCommand, TakesAll, TakesRequire, TakesRequires, IsPastRequires, all_names, Reads}
 
 -- the arguments of a `require`
 module _ (behind : List Lexeme) (args : List Argument) (next : List Lexeme) (only : (other : List Argument) (to : List Lexeme) → AreArguments other behind to → (other ≡ args) × (to ≡ next)) where

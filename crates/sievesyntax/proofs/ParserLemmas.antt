@@ -1,15 +1,15 @@
 -- Lemmas on tests, commands and blocks.
-use Rattle.std.proofs.Common.{◌≡◌, ℕ, ◌≤◌, ◌+◌, List, [], ◌∷◌, refl, sym, ap, ◌∙◌, subst, arith, max, suc}
+use Rattle.std.proofs.Common.{◌≡◌, ℕ, ◌≤◌, List, ◌∷◌, sym, ◌∙◌, subst, arith}
 use Rattle.sievelex.specs.declared.token.Kind.TheVariants as K
 use Rattle.sievesyntax.specs.declared.lexeme.Word.{Word}
 use Rattle.sievesyntax.specs.declared.lexeme.Word.TheVariants as W
 use Rattle.sievesyntax.specs.declared.argument.Argument.{Argument}
 use Rattle.sievesyntax.specs.declared.granted.Granted.{Granted}
-use Rattle.sievesyntax.specs.Lexemes.{Lexeme, word, mark}
+use Rattle.sievesyntax.specs.Lexemes.{Lexeme, mark}
 use Rattle.sievesyntax.specs.Arguments.{AreArguments}
 use Rattle.sievesyntax.specs.Rows.{IsPlainCommand}
-use Rattle.sievesyntax.specs.Tree.{TestTree, CommandTree, require, choose, stop, act, Branches, no_branches, branch, Commands, no_commands, command, depth, depth_of}
-use Rattle.sievesyntax.specs.Valid.{MayStand, MayAllStand}
+use Rattle.sievesyntax.specs.Tree.{CommandTree, require, choose, stop, act, Branches, no_branches, branch, depth_of}
+use Rattle.sievesyntax.specs.Valid.{MayStand}
 use Rattle.sievesyntax.specs.Reading.{IsStatement, IsCommand, TakesBehind}
 
 -- an `if` is no statement

@@ -3,7 +3,6 @@ use Rattle.std.proofs.Common.{◌≡◌, ◌⊎◌, ℕ, List, [], ◌∷◌, �
 use Rattle.std.proofs.Common.{drop, get_or}
 use Rattle.std.proofs.Math.Seq.{drop-cons}
 use Rattle.octets.proofs.Lists.{some_pair}
-use Rattle.sievesyntax.specs.declared.lexeme.Tag.{Tag}
 use Rattle.sievesyntax.specs.declared.lexeme.Tag.TheVariants as T
 use Rattle.sievesyntax.specs.declared.tree.Bound.TheVariants as B
 use Rattle.sievesyntax.specs.declared.argument.Argument.{Argument}

@@ -1,5 +1,5 @@
 -- Tagged arguments: each tag with its value, in any order, and then the positional arguments (RFC 5228, 2.6.2).
-use Rattle.std.specs.Prelude.{◌≡◌, ◌⊎◌, ℕ, List, [], ◌∷◌, map}
+use Rattle.std.specs.Prelude.{◌≡◌, ◌⊎◌, List, [], ◌∷◌, map}
 use Rattle.sievesyntax.specs.declared.lexeme.Tag.{Tag}
 use Rattle.sievesyntax.specs.declared.lexeme.Tag.TheVariants as T
 use Rattle.sievesyntax.specs.declared.tree.Bound.{Bound}

@@ -1,11 +1,11 @@
 -- What a tree may be besides what the grammar asks.
-use Rattle.std.specs.Prelude.{◌≡◌, ◌≢◌, ◌≤◌, ℕ, true, List, [], ◌∷◌, ◌++◌, codes, length, All, nat_eq}
+use Rattle.std.specs.Prelude.{◌≡◌, ◌≢◌, ◌≤◌, ℕ, true, List, [], ◌++◌, codes, length, All, nat_eq}
 use Rattle.std.specs.List.{list_any}
 use Rattle.std.specs.Cmp.Lexicographic.{pointwise}
 use Rattle.sievesyntax.specs.declared.tree.Action.{Action}
 use Rattle.sievesyntax.specs.declared.tree.Action.TheVariants.{Keep, Discard, FileInto}
 use Rattle.sievesyntax.specs.declared.granted.Granted.{Granted}
-use Rattle.sievesyntax.specs.Tree.{TestTree, yes, no, looks, CommandTree, require, choose, stop, act, Branches, no_branches, branch, Commands, no_commands, command, depth, depth_of}
+use Rattle.sievesyntax.specs.Tree.{CommandTree, require, choose, stop, act, Branches, no_branches, branch, Commands, no_commands, command, depth}
 
 -- the name of a mailbox: 1 to 255 octets, none below 32 and none 127
 pub record IsMailbox (name : List ℕ) : Type 0 where

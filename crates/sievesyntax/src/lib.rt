@@ -16,3 +16,6 @@ mod tree;
 pub use script::{Script, check};
 pub use sievelex::{FaultKind, ScriptError, ScriptFault};
 pub use tree::{Action, Bound, Branch, Check, Command, Size, Test};
+
+#[cfg(test)]
+mod tests;

@@ -1,4 +1,4 @@
-use Rattle.std.proofs.Common.{◌≡◌, sym, ap, ◌∙◌, append_assoc, ◌∷◌, [], ◌++◌, List, ℕ, Ok, Bool, true, false}
+use Rattle.std.proofs.Common.{sym, ap, ◌∙◌, append_assoc, ◌∷◌, [], ◌++◌, Ok}
 use Rattle.std.proofs.lemmas.Result.{err_from_is_err_and}
 use Rattle.sievesyntax.proofs.FaultLemmas.{fault_on, faults_on}
 use Rattle.sievesyntax.proofs.ArgumentLemmas.{others_stop, others_lack, others_grow, others_end}

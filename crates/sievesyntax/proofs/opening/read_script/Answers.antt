@@ -1,6 +1,5 @@
-use Rattle.std.proofs.Common.{◌≡◌, ap, sym, ◌∙◌, subst, ◌++◌, [], List}
+use Rattle.std.proofs.Common.{ap, ◌∙◌, ◌++◌}
 use Rattle.std.proofs.lemmas.Result.{err_from_is_err_and}
-use Rattle.sievesyntax.specs.Reading.{TakesAll}
 use Rattle.sievesyntax.proofs.FaultLemmas.{fault_on}
 use Rattle.sievesyntax.proofs.OpeningLemmas.{script_no_requires, script_no_commands, script_no_end, script_only, script_found}
 use Rattle.sievesyntax.proofs.opening.read_script.Goals as goal

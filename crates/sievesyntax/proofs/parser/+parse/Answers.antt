@@ -1,10 +1,9 @@
-use Rattle.std.proofs.Common.{◌≡◌, ap, sym, ◌∙◌, subst, ◌++◌, ◌∷◌, ◌+◌, [], map, List, append_assoc, arith, rules, ◌-◌}
+use Rattle.std.proofs.Common.{◌≡◌, ap, sym, ◌∙◌, ◌++◌, ◌∷◌, [], map, append_assoc, arith, rules, ◌-◌}
 use Rattle.std.proofs.lemmas.List.{map-append}
 use Rattle.std.proofs.lemmas.Result.{err_from_is_err_and}
-use Rattle.sievesyntax.specs.Tree.{CommandTree}
 use Rattle.sievesyntax.specs.View.{command_view}
-use Rattle.sievesyntax.specs.Reading.{TakesCommand, TakesAll, IsStop}
-use Rattle.sievesyntax.proofs.Chains.{chain_more, chain_ends, chain_fails}
+use Rattle.sievesyntax.specs.Reading.{TakesCommand, IsStop}
+use Rattle.sievesyntax.proofs.Chains.{chain_more}
 use Rattle.sievesyntax.proofs.FaultLemmas.{fault_on}
 use Rattle.sievesyntax.proofs.ViewLemmas.{view-one}
 use Rattle.sievesyntax.proofs.BlockLemmas.{commands_stop, commands_end, reads_longer, block_no_inside, block_no_close, block_found, if_no_test, if_no_block, if_found}

@@ -1,7 +1,6 @@
-use Rattle.std.proofs.Common.{◌≡◌, ap, sym, subst, ◌∷◌, [], ◌++◌, List, ◌∙◌}
 use Rattle.std.proofs.lemmas.Result.{err_from_is_err_and}
 use Rattle.sievesyntax.proofs.FaultLemmas.{faults_on}
-use Rattle.sievesyntax.proofs.SettingLemmas.{IsTaken, taken_more, taken_ends, taken_fails}
+use Rattle.sievesyntax.proofs.SettingLemmas.{taken_more, taken_ends, taken_fails}
 use Rattle.sievesyntax.proofs.setting.arranged.Goals as goal
 
 pub returns-in_err-setting-clause-fault : goal.returns-in_err-setting-clause-fault
