@@ -17,8 +17,12 @@ use std::alloc::Global;
 /// What a script does with a message (RFC 5228, 2.10), or why it is no valid script.
 ///
 /// Nothing is filed: the outcome says what would be. Script, envelope and message have no limit on their size.
-/// Takes one pass over the script and one over the message, whose octets aren't copied, and memory in proportion
-/// to the script alone.
+/// Time is linear in the script and the message, but that n mailboxes take n log n comparisons. Memory is in
+/// proportion to the script alone; the message is looked at once and not copied.
+///
+/// # Errors
+///
+/// [`ScriptError::Fault`] where the text is no valid script, and [`ScriptError::Memory`] where memory was refused.
 pub fn attempt(
     alloc: Global,
     script: &[u8],

@@ -1,13 +1,14 @@
 //! Whole runs, over readers and writers in memory.
 use crate::fault::Fault;
 use crate::trial::{refuse, try_run};
+use mailengine::{Envelope, Outcome, attempt};
 use octets::{Octets, write_decimal};
 use std::alloc::{AllocError, Global};
 use std::io;
 use std::io::{ErrorKind, Read, Write};
 use std::test::Fail;
 
-/// A message of 24 octets, its size counted.
+/// A message whose size is 24: 21 octets, and three LFs without CR.
 const MAIL: &[u8] = b"Subject: hello\n\nbody\n";
 
 /// Files into two mailboxes: `file a`, `file b`: 14 octets.
@@ -157,6 +158,21 @@ fn prints_what_a_script_does_with_a_message(rt: HostRuntime) -> Result<(), Fail>
         assert_eq!(rt; left.status, status, "{script:?}");
         assert!(rt; left.faults.is_empty(), "{script:?}");
     }
+    Ok(())
+}
+
+#[test]
+fn tries_a_script_on_a_message_with_its_envelope(rt: HostRuntime) -> Result<(), Fail> {
+    let alloc = rt.alloc();
+    let envelope = Envelope {
+        from: Octets::copy(alloc, b"bob@example.net")?,
+        to: Octets::copy(alloc, b"alice@example.org")?,
+    };
+    let script = b"require \"fileinto\"; fileinto \"lists\"; if size :under 25 { keep; }";
+    let Outcome::Done { filed } = attempt(alloc, script, &envelope, MAIL)?;
+    assert_eq!(rt; filed.len(), 2);
+    assert_eq!(rt; filed.as_slice()[0].as_slice(), b"lists".as_slice());
+    assert_eq!(rt; filed.as_slice()[1].as_slice(), b"INBOX".as_slice());
     Ok(())
 }
 
