@@ -37,7 +37,8 @@ fn run_all(
     mail: Mail,
     so_far: &mut SoFar,
 ) -> Result<Step, AllocError>
-    ensures { IfOk result (λ step. flow_of step (so_far_of so_far.new) ≡ does_all (truth_at mail) (commands_view commands.now) (so_far_of so_far.old)) }
+    ensures { IfOk result (λ step. flow_of step (so_far_of so_far.new)
+        ≡ does_all (truth_at mail) (commands_view commands.now) (so_far_of so_far.old)) }
 {
     for command in commands {
         if let Step::Stopped = run_one(alloc, command, mail, so_far)? {
@@ -54,7 +55,8 @@ fn run_one(
     mail: Mail,
     so_far: &mut SoFar,
 ) -> Result<Step, AllocError>
-    ensures { IfOk result (λ step. flow_of step (so_far_of so_far.new) ≡ does (truth_at mail) (command_view command.now) (so_far_of so_far.old)) }
+    ensures { IfOk result (λ step. flow_of step (so_far_of so_far.new)
+        ≡ does (truth_at mail) (command_view command.now) (so_far_of so_far.old)) }
 {
     match command {
         Command::Require(_) => Ok(Step::Going),
@@ -75,7 +77,8 @@ fn run_first(
     mail: Mail,
     so_far: &mut SoFar,
 ) -> Result<Step, AllocError>
-    ensures { IfOk result (λ step. flow_of step (so_far_of so_far.new) ≡ chooses (truth_at mail) (branches_view branches.now) (so_far_of so_far.old)) }
+    ensures { IfOk result (λ step. flow_of step (so_far_of so_far.new)
+        ≡ chooses (truth_at mail) (branches_view branches.now) (so_far_of so_far.old)) }
 {
     for branch in branches {
         if holds(&branch.test, mail) {
