@@ -78,7 +78,8 @@ fn finds_the_first_item_at_its_last_octet_wherever_the_stream_is_cut(rt: HostRun
             Reach::Command(used) | Reach::Bad(used) => used,
             Reach::TooBig | Reach::Need => stream.len(),
         };
-        for cut in 0..=stream.len() {
+        assert_eq!(rt; extent(stream, pending), reach, "in {stream:?}");
+        for cut in 0..stream.len() {
             let expected = if cut < used { Reach::Need } else { reach };
             assert_eq!(rt;
                 extent(&stream[..cut], pending),
