@@ -2,18 +2,17 @@
 use Rattle.std.specs.Prelude.{◌≡◌, ◌==◌, ℕ, ◌≤◌, List, [], ◌∷◌, length, drop, if◌then◌else◌}
 use Rattle.globmatch.specs.declared.pattern.Item.{Item}
 use Rattle.globmatch.specs.declared.pattern.Item.TheVariants.{Star, One, Exact}
-use Rattle.globmatch.specs.declared.pattern.TheConstants.{ANY_RUN, ANY_OCTET, QUOTE}
 
--- what an octet spells that no backslash stands before
+-- what an octet spells that no backslash stands before: `*` is 42, `?` is 63
 abbrev pub unquoted_item : ℕ → Item
-unquoted_item octet = if octet == ANY_RUN then Star else if octet == ANY_OCTET then One else Exact octet
+unquoted_item octet = if octet == 42 then Star else if octet == 63 then One else Exact octet
 
--- the items that a pattern spells: a backslash makes the next octet stand for itself, and a last lone one stands for itself
+-- the items that a pattern spells: a backslash, 92, makes the next octet stand for itself, and a last lone one stands for itself
 unfoldable pub items : List ℕ → List Item
 items [] = []
 items (octet ∷ []) = unquoted_item octet ∷ []
 items (octet ∷ next ∷ rest) =
-    if octet == QUOTE then Exact next ∷ items rest
+    if octet == 92 then Exact next ∷ items rest
     else unquoted_item octet ∷ items (next ∷ rest)
 
 -- the items match the whole text: a star any run of octets, One any octet, Exact an octet of the same image
