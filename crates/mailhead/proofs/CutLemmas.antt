@@ -45,14 +45,14 @@ pub lines_found : (text : List ℕ) → AreLines (lines_of text) text
 lines_found [] = refl
 lines_found (octet ∷ rest) = found_cut (is_feed octet) octet rest (lines_of rest) refl (lines_found rest)
 
-cut_ended : (text rest : List ℕ) → list_all is_other text ≡ true → lines_of ((text ++ 10 ∷ []) ++ rest) ≡ (text ++ 10 ∷ []) ∷ lines_of rest
+pub cut_ended : (text rest : List ℕ) → list_all is_other text ≡ true → lines_of ((text ++ 10 ∷ []) ++ rest) ≡ (text ++ 10 ∷ []) ∷ lines_of rest
 cut_ended [] rest others = refl
 cut_ended (octet ∷ text) rest others =
     let not_feed : is_feed octet ≡ false = feed_from octet (and_left _ _ others) in
     let later = cut_ended text rest (and_right _ _ others) in
     rw (not_feed, later) refl
 
-cut_open : (line : List ℕ) → line ≢ [] → list_all is_other line ≡ true → lines_of line ≡ line ∷ []
+pub cut_open : (line : List ℕ) → line ≢ [] → list_all is_other line ≡ true → lines_of line ≡ line ∷ []
 cut_open [] present others = absurd (present refl)
 cut_open (octet ∷ []) present others = let not_feed : is_feed octet ≡ false = feed_from octet (and_left _ _ others) in rw not_feed refl
 cut_open (octet ∷ (next ∷ rest)) present others =

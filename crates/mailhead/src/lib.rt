@@ -12,6 +12,7 @@ mod unfolding;
 
 pub use header::Field;
 pub use message::Head;
+pub use size::count as message_size;
 pub use unfolding::unfolded;
 
 #[cfg(test)]

@@ -1,7 +1,7 @@
 -- Examples of the definitions: a right one and a near miss each.
-use Rattle.std.proofs.Common.{◌≡◌, ℕ, [], ◌∷◌, get_or, refl, ap, arith, lit<, lit≤}
+use Rattle.std.proofs.Common.{◌≡◌, ℕ, [], ◌∷◌, ◌++◌, get_or, refl, ap, arith, lit<, lit≤}
 use Rattle.std.specs.Prelude.{codes}
-use Rattle.sievelex.specs.declared.token.Kind.TheVariants.{Identifier, Number}
+use Rattle.sievelex.specs.declared.token.Kind.TheVariants.{Identifier, Number, Text}
 use Rattle.sievelex.specs.declared.token.Value.TheVariants.{Amount, Chars}
 use Rattle.sievelex.specs.declared.front.Front.{Front}
 use Rattle.sievelex.specs.Shape.{IsQuoted}
@@ -10,7 +10,10 @@ use Rattle.sievelex.specs.Text.{IsText}
 use Rattle.sievelex.specs.Front.{IsFront}
 use Rattle.sievelex.specs.Spelling.{IsToken}
 use Rattle.sievelex.proofs.Best.{IsFound, best_only}
-use Rattle.sievelex.proofs.Named.{identifier_best, identifier_found, identifier_none}
+use Rattle.sievelex.proofs.Named.{identifier_best, identifier_found}
+use Rattle.sievelex.proofs.Several.{several_found, several_none}
+use Rattle.sievelex.specs.Space.{IsGap, IsTail}
+use Rattle.sievelex.specs.Space.Space.{White, Bracketed}
 use Rattle.sievelex.proofs.Numbered.{number_found, number_none}
 use Rattle.sievelex.proofs.Strings.{string_none}
 
@@ -20,7 +23,7 @@ keep_found = identifier_found (codes "keep;") (codes "keep") (codes ";") (codes 
 
 kee_none : IsToken (codes "keep;") Identifier (Chars (codes "kee")) 3 → ⊥
 kee_none t =
-    let same : (3 ≡ 4) × ((Identifier ≡ Identifier) × (Chars (codes "kee") ≡ Chars (codes "keep"))) = best_only (codes "keep;") Identifier (Chars (codes "keep")) 4 (identifier_best (codes "keep;") refl) Identifier (Chars (codes "kee")) 3 t in
+    let same : (3 ≡ 4) × ((Identifier ≡ Identifier) × (Chars (codes "kee") ≡ Chars (codes "keep"))) = best_only (codes "keep;") Identifier (Chars (codes "keep")) 4 (identifier_best (codes "keep;") refl (λ t. let e : 107 ≡ 116 = ap (λ s. get_or s 0 0) t.0 in omega arith)) Identifier (Chars (codes "kee")) 3 t in
     cc (same.0)
 
 -- `text` is an identifier before a blank, and nothing before a colon
@@ -28,7 +31,27 @@ text_found : IsFound (codes "text :x") (record { kind = Identifier; value = Char
 text_found = identifier_found (codes "text :x") (codes "text") (codes " :x") (codes "text") 4 refl refl refl refl refl refl (λ t. cc (t.1))
 
 text_none : (g : Front) → IsFront (codes "TexT:") g → ⊥
-text_none = identifier_none (codes "TexT:") (codes "TexT") (codes ":") 4 refl refl refl refl (refl, refl)
+text_none = several_none (codes "TexT:") [] refl refl refl
+
+-- `text:` LF `..a` LF `.` stands for `.a` CRLF; before a dot and more it is open
+several : IsFound (codes "text:" ++ (10 ∷ (46 ∷ (46 ∷ (97 ∷ (10 ∷ (46 ∷ []))))))) (record { kind = Text; value = Chars (46 ∷ (97 ∷ (13 ∷ (10 ∷ [])))); len = 11 })
+several = several_found (codes "text:" ++ (10 ∷ (46 ∷ (46 ∷ (97 ∷ (10 ∷ (46 ∷ []))))))) (10 ∷ (46 ∷ (46 ∷ (97 ∷ (10 ∷ (46 ∷ [])))))) (46 ∷ (97 ∷ (13 ∷ (10 ∷ [])))) 6 refl refl (lit≤ tt) refl
+
+several_open : (g : Front) → IsFront (codes "text:" ++ (10 ∷ (46 ∷ (120 ∷ [])))) g → ⊥
+several_open = several_none (codes "text:" ++ (10 ∷ (46 ∷ (120 ∷ [])))) (10 ∷ (46 ∷ (120 ∷ []))) refl refl refl
+
+differ : (a b : ℕ) → a ≡ 42 → b ≡ 47 → a ≡ b → ⊥
+differ a b p q e = omega arith
+
+none : (a b : ℕ) → a ≡ 0 → b ≡ 47 → a ≡ b → ⊥
+none a b p q e = omega arith
+
+-- `/***/ ` is white space before a token; `#` and more is white space at the end of the text alone
+gap : IsGap (codes "/***/ ")
+gap = record { pieces = Bracketed (codes "*") ∷ (White 32 ∷ []); each = ((λ _ e. differ 42 47 refl refl e, (λ _ e. none 0 47 refl refl e, tt)), (refl, tt)); spelled = refl }
+
+tail : IsTail (codes " #a")
+tail = record { pieces = White 32 ∷ []; last = codes "#a"; each = (refl, tt); comment = (refl, refl); spelled = refl }
 
 -- the greatest number with a multiplier, and the first one that is too large
 number_taken : IsFound (codes "8589934591G;") (record { kind = Number; value = Amount 9223372035781033984; len = 11 })

@@ -1,40 +1,23 @@
 -- White space between tokens.
-use Rattle.std.proofs.Common.{◌≡◌, ℕ, ◌+◌, ◌<◌, ◌≤◌, suc, zero, true, false, List, [], ◌∷◌, ◌++◌, length, take, drop, refl, ap, sym, ◌∙◌, arith}
-use Rattle.std.specs.List.{list_all, flat_map, prefix_len}
-use Rattle.std.proofs.lemmas.List.{length-take-le, append-nil, take-append-drop}
-use Rattle.std.proofs.lemmas.Bool.{false_from_ne_true}
+use Rattle.std.proofs.Common.{◌≡◌, ℕ, ◌<◌, suc, zero, true, false, ◌==◌, Some, List, [], ◌∷◌, ◌++◌, length, take, drop, refl, ap, sym, ◌∙◌, subst, inl, inr, arith}
+use Rattle.std.specs.List.{flat_map}
+use Rattle.std.proofs.lemmas.List.{append-nil, append_cancel_right, take-append-drop}
+use Rattle.std.proofs.lemmas.Bool.{false_from_ne_true, ne_eqb}
 use Rattle.std.proofs.lemmas.Bool.Decides.{nat_tests}
 use Rattle.octets.specs.Ascii.{is_digit}
 use Rattle.sievelex.specs.declared.token.Kind.{Kind}
 use Rattle.sievelex.specs.declared.token.Value.{Value}
 use Rattle.sievelex.specs.declared.class.Class.TheVariants.{White as OfWhite}
+use Rattle.sievelex.specs.declared.space.Place.TheVariants.{Between}
 use Rattle.sievelex.specs.Class.{is_name_start, is_white, class_of}
 use Rattle.sievelex.specs.Shape.{IsShape}
-use Rattle.sievelex.specs.Spelling.{Space, AreSpaces, space_of, IsGap}
-use Rattle.sievelex.specs.Spelling.Space.{White}
-use Rattle.sievelex.proofs.Prefixes.{both, prefix_all, prefix_len-passed, take_none}
+use Rattle.sievelex.specs.Space.{space_of, IsGap, IsTail}
+use Rattle.sievelex.specs.Skip.{begins_space, space_from}
+use Rattle.sievelex.proofs.Prefixes.{take_none, front_of}
 use Rattle.sievelex.proofs.Opening.{Opens, IsOpened, shape_opened, front_opened}
-use Rattle.sievelex.proofs.Opening.Opens.{Named, Numbered, Tagged, Quoted, Marked}
-
--- octets that are all white are a gap
-white_spaces : (s : List ℕ) → list_all is_white s ≡ true → IsGap s
-white_spaces [] h = record { pieces = []; each = tt; spelled = refl }
-white_spaces (b ∷ s) h =
-    let parts : (is_white b ≡ true) × (list_all is_white s ≡ true) = both _ _ h in
-    let g : IsGap s = white_spaces s parts.1 in
-    record { pieces = White b ∷ g.pieces; each = (parts.0, g.each); spelled = ap (λ x. b ∷ x) g.spelled }
-
-spaces_white : (pieces : List Space) → AreSpaces pieces → list_all is_white (flat_map space_of pieces) ≡ true
-spaces_white [] h = refl
-spaces_white (White b ∷ more) h = rw (h.0, spaces_white more h.1) refl
-
--- and all octets of a gap are white
-gap_white : (s : List ℕ) → IsGap s → list_all is_white s ≡ true
-gap_white s g = ap (list_all is_white) g.spelled ∙ spaces_white g.pieces g.each
-
--- as long as white octets follow it is a gap
-pub gap_is : (octets : List ℕ) → IsGap (take (prefix_len is_white octets) octets)
-gap_is octets = white_spaces _ (prefix_all is_white octets)
+use Rattle.sievelex.proofs.Opening.Opens.{Named, Worded, Numbered, Tagged, Quoted, Marked}
+use Rattle.sievelex.proofs.Marks.{none_opened}
+use Rattle.sievelex.proofs.Spaces.{IsSpaced, spaces_again, last_again, spaced}
 
 -- no white octet begins a name or a number
 white_no_start : (b : ℕ) → is_white b ≡ true → is_name_start b ≡ false
@@ -55,37 +38,74 @@ opens_white b k v h o =
     let white : class_of b ≡ OfWhite = class_white b h in
     elim o [
       | Named name s c ke ve ↦ (cc)
+      | Worded value s c ke ve ↦ (cc)
       | Numbered n d c ke ve ↦ (cc)
       | Tagged name e c ke ve ↦ (cc)
       | Quoted value e c ke ve ↦ (cc)
       | Marked c ve ↦ (cc)
     ]
 
--- behind white octets another octet ends the gap
-gap_ends : (front : List ℕ) (b : ℕ) (rest : List ℕ) → list_all is_white front ≡ true → is_white b ≡ false → prefix_len is_white (front ++ (b ∷ rest)) ≡ length front
-gap_ends front b rest all other =
-    let none : prefix_len is_white (b ∷ rest) ≡ 0 = rw other refl in
-    prefix_len-passed is_white front (b ∷ rest) all ∙ (rw none (omega arith))
+none_at : (b c : ℕ) (k : Kind) (v : Value) → (Opens c k v → ⊥) → Opens b k v → b ≡ c → ⊥
+none_at b c k v none o e = let P : ℕ → Type 0 = λ x. Opens x k v in none (subst P e o)
+
+-- no token begins with a number sign or a slash
+opens_hash : (k : Kind) (v : Value) → Opens 35 k v → ⊥
+opens_hash k v o = none_opened 35 k v refl refl (λ e. omega arith) (λ e. omega arith) (λ m e. cc) o
+
+opens_slash : (k : Kind) (v : Value) → Opens 47 k v → ⊥
+opens_slash k v o = none_opened 47 k v refl refl (λ e. omega arith) (λ e. omega arith) (λ m e. cc) o
+
+-- where a token begins no white space does
+opens_no_space : (b : ℕ) (more : List ℕ) (k : Kind) (v : Value) → Opens b k v → begins_space (b ∷ more) ≡ false
+opens_no_space b more k v o =
+    let unwhite : is_white b ≡ false = false_from_ne_true _ (λ h. opens_white b k v h o) in
+    let unhashed : (b == 35) ≡ false = ne_eqb b 35 (none_at b 35 k v (opens_hash k v) o) in
+    let unslashed : (b == 47) ≡ false = ne_eqb b 47 (none_at b 47 k v (opens_slash k v) o) in
+    rw (unwhite, unhashed, unslashed) refl
+
+token_ends : (b : ℕ) (more : List ℕ) (k : Kind) (v : Value) → Opens b k v → space_from Between (b ∷ more) ≡ Some (b ∷ more)
+token_ends b more k v o = rw (opens_no_space b more k v o) refl
 
 -- a spelling at the front of a text tells its first octet
 opened_text : (octets : List ℕ) (k : Kind) (v : Value) (n : ℕ) (rest : List ℕ) → IsShape k v (take n octets) rest → (b : ℕ) × ((more : List ℕ) × ((octets ≡ b ∷ more) × Opens b k v))
 opened_text [] k v n rest s = let o : IsOpened k v (take n []) = shape_opened k v _ rest s in let e : [] ≡ o.first ∷ o.more = sym (take_none n) ∙ o.spelled in absurd (cc)
 opened_text (b ∷ more) k v n rest s = (b, (more, (refl, (front_opened b more k v n rest s).1)))
 
--- a gap before a token is as long as white octets follow
-pub gap_only : (octets : List ℕ) (u : ℕ) (k : Kind) (v : Value) (n : ℕ) (rest : List ℕ) → u ≤ length octets → IsGap (take u octets) → IsShape k v (take n (drop u octets)) rest → u ≡ prefix_len is_white octets
-gap_only octets u k v n rest within g s =
+-- behind a gap before a token the token is what follows the white space
+pub gap_only : (octets : List ℕ) (u : ℕ) (k : Kind) (v : Value) (n : ℕ) (rest : List ℕ) → IsGap (take u octets) → IsShape k v (take n (drop u octets)) rest → space_from Between octets ≡ Some (drop u octets)
+gap_only octets u k v n rest g s =
     let o : (b : ℕ) × ((more : List ℕ) × ((drop u octets ≡ b ∷ more) × Opens b k v)) = opened_text (drop u octets) k v n rest s in
-    let other : is_white o.0 ≡ false = false_from_ne_true _ (λ h. opens_white o.0 k v h o.1.1.1) in
-    let parts : octets ≡ take u octets ++ (o.0 ∷ o.1.0) = sym (take-append-drop u octets) ∙ ap (λ x. take u octets ++ x) o.1.1.0 in
-    let ends : prefix_len is_white (take u octets ++ (o.0 ∷ o.1.0)) ≡ length (take u octets) = gap_ends (take u octets) o.0 o.1.0 (gap_white _ g) other in
-    sym (ap (prefix_len is_white) parts ∙ ends ∙ length-take-le u octets within)
+    let whole : octets ≡ flat_map space_of g.pieces ++ drop u octets = front_of octets _ u g.spelled in
+    let ends : space_from Between (drop u octets) ≡ Some (drop u octets) =
+    ap (space_from Between) o.1.1.0 ∙ token_ends o.0 o.1.0 k v o.1.1.1 ∙ ap (λ x. Some x) (sym o.1.1.0) in
+    ap (space_from Between) whole ∙ spaces_again g.pieces (drop u octets) g.each ∙ ends
 
--- the white space behind the last token is all that is left
-pub tail_all : (octets : List ℕ) → IsGap octets → prefix_len is_white octets ≡ length octets
-tail_all octets g =
-    let e : prefix_len is_white (octets ++ []) ≡ length octets + 0 = prefix_len-passed is_white octets [] (gap_white octets g) in
-    ap (prefix_len is_white) (sym (append-nil octets)) ∙ e ∙ (omega arith)
+-- behind the white space behind the last token nothing is left
+pub tail_all : (octets : List ℕ) → IsTail octets → space_from Between octets ≡ Some []
+tail_all octets g = ap (space_from Between) g.spelled ∙ spaces_again g.pieces g.last g.each ∙ last_again g.last g.comment
+
+-- what is read as white space before something is a gap
+pub gap_is : (octets : List ℕ) (w : ℕ) → space_from Between octets ≡ Some (drop w octets) → (length (drop w octets) ≡ 0 → ⊥) → IsGap (take w octets)
+gap_is octets w h some =
+    let s : IsSpaced octets (drop w octets) = spaced (length octets) octets (drop w octets) (omega arith) h in
+    elim s.alone [
+      | inl none ↦ (let whole : take w octets ++ drop w octets ≡ flat_map space_of s.pieces ++ drop w octets =
+          take-append-drop w octets ∙ s.spelled ∙ ap (λ x. flat_map space_of s.pieces ++ (x ++ drop w octets)) none in
+          record { pieces = s.pieces; each = s.each; spelled = append_cancel_right _ _ (drop w octets) whole })
+      | inr none ↦ absurd (some (ap length none))
+    ]
+
+-- and before nothing it is a tail
+pub tail_is : (octets rest : List ℕ) → space_from Between octets ≡ Some rest → rest ≡ [] → IsTail octets
+tail_is octets rest h none =
+    let s : IsSpaced octets rest = spaced (length octets) octets rest (omega arith) h in
+    record {
+      pieces = s.pieces;
+      last = s.last;
+      each = s.each;
+      comment = s.comment;
+      spelled = s.spelled ∙ ap (λ x. flat_map space_of s.pieces ++ (s.last ++ x)) none ∙ ap (λ x. flat_map space_of s.pieces ++ x) (append-nil s.last);
+    }
 
 -- and no token stands behind it
 pub empty_none : (octets : List ℕ) (k : Kind) (v : Value) (n : ℕ) (rest : List ℕ) → length octets ≡ 0 → IsShape k v (take n octets) rest → ⊥

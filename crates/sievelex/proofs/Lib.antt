@@ -1,4 +1,5 @@
 pub mod Best
+pub mod Bodies
 pub mod Digits
 mod Examples
 pub mod FaultLemmas
@@ -10,4 +11,7 @@ pub mod Numbered
 pub mod Opening
 pub mod Prefixes
 pub mod Scanned
+pub mod Several
+pub mod Spaces
 pub mod Strings
+pub mod Worded

@@ -12,13 +12,14 @@ use Rattle.sievelex.specs.Shape.{IsShape}
 use Rattle.sievelex.specs.Front.{IsFront}
 use Rattle.sievelex.specs.Spelling.{OpensText}
 use Rattle.sievelex.proofs.Opening.{Opens, front_opened, shape_at}
-use Rattle.sievelex.proofs.Opening.Opens.{Named, Numbered, Tagged, Quoted, Marked}
+use Rattle.sievelex.proofs.Opening.Opens.{Named, Worded, Numbered, Tagged, Quoted, Marked}
 use Rattle.sievelex.proofs.Best.{IsBest, IsFound, best_found}
 
 -- where a mark stands first, only this mark does
 only_marked : (b : ℕ) (mark k : Kind) (v : Value) → class_of b ≡ Mark mark → Opens b k v → (k ≡ mark) × (v ≡ Nothing)
 only_marked b mark k v h o = elim o [
   | Named name s c ke ve ↦ absurd (cc)
+  | Worded value s c ke ve ↦ absurd (cc)
   | Numbered n d c ke ve ↦ absurd (cc)
   | Tagged name e c ke ve ↦ absurd (cc)
   | Quoted value e c ke ve ↦ absurd (cc)
@@ -55,9 +56,10 @@ mark_found octets b more mark e h =
     let P : List ℕ → Type 0 = λ x. IsFound x f in
     subst P (sym e) (best_found (b ∷ more) f (mark_best b more mark h) tt (no_text mark more))
 
-none_opened : (b : ℕ) (k : Kind) (v : Value) → is_name_start b ≡ false → is_digit b ≡ false → (b ≡ 58 → ⊥) → (b ≡ 34 → ⊥) → ((m : Kind) → class_of b ≡ Mark m → ⊥) → Opens b k v → ⊥
+pub none_opened : (b : ℕ) (k : Kind) (v : Value) → is_name_start b ≡ false → is_digit b ≡ false → (b ≡ 58 → ⊥) → (b ≡ 34 → ⊥) → ((m : Kind) → class_of b ≡ Mark m → ⊥) → Opens b k v → ⊥
 none_opened b k v no_name no_digit no_tag no_string no_mark o = elim o [
   | Named name s c ke ve ↦ (cc)
+  | Worded value s c ke ve ↦ (cc)
   | Numbered n d c ke ve ↦ (cc)
   | Tagged name e c ke ve ↦ no_tag e
   | Quoted value e c ke ve ↦ no_string e

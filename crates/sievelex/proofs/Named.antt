@@ -1,21 +1,21 @@
 -- Identifiers and tags.
-use Rattle.std.proofs.Common.{◌≡◌, ◌⊎◌, ℕ, ◌+◌, ◌<◌, ◌≤◌, suc, zero, true, false, List, [], ◌∷◌, length, take, drop, get_or, refl, ap, sym, ◌∙◌, subst, arith}
-use Rattle.std.specs.List.{list_all, prefix_len}
+use Rattle.std.proofs.Common.{◌≡◌, ◌⊎◌, ℕ, ◌+◌, ◌<◌, ◌≤◌, suc, zero, true, false, List, [], ◌∷◌, ◌++◌, length, take, drop, get_or, refl, ap, sym, ◌∙◌, subst, inl, inr, arith}
+use Rattle.std.specs.List.{list_all, flat_map, prefix_len}
 use Rattle.std.proofs.lemmas.List.Sums.{prefix_len-le-length}
 use Rattle.sievelex.specs.declared.token.Kind.{Kind}
-use Rattle.sievelex.specs.declared.token.Kind.TheVariants.{Identifier, Tag}
+use Rattle.sievelex.specs.declared.token.Kind.TheVariants.{Identifier, Tag, Text}
 use Rattle.sievelex.specs.declared.token.Value.{Value}
 use Rattle.sievelex.specs.declared.token.Value.TheVariants.{Chars}
 use Rattle.sievelex.specs.declared.class.Class.TheVariants.{Letter}
 use Rattle.sievelex.specs.Class.{is_name_start, is_name_octet, class_of}
-use Rattle.sievelex.specs.Shape.{IsShape, IsName}
+use Rattle.sievelex.specs.Shape.{IsShape, IsName, IsQuoted, spelling_of}
+use Rattle.sievelex.specs.Lines.{IsMultiline}
+use Rattle.sievelex.proofs.Worded.{word_is, word_opens, multi_word}
 use Rattle.sievelex.proofs.Prefixes.{at_most, all_prefix, prefix_all, one_more}
 use Rattle.sievelex.proofs.Opening.{Opens, front_opened, shape_at, class_start}
-use Rattle.sievelex.proofs.Opening.Opens.{Named, Numbered, Tagged, Quoted, Marked}
-use Rattle.sievelex.specs.declared.front.Front.{Front}
+use Rattle.sievelex.proofs.Opening.Opens.{Named, Worded, Numbered, Tagged, Quoted, Marked}
 use Rattle.sievelex.specs.Spelling.{OpensText}
-use Rattle.sievelex.specs.Front.{IsFront}
-use Rattle.sievelex.proofs.Best.{IsBest, IsFound, best_found, best_open, found_at}
+use Rattle.sievelex.proofs.Best.{IsBest, IsFound, best_found, found_at}
 
 start_octet : (b : ℕ) → is_name_start b ≡ true → is_name_octet b ≡ true
 start_octet b h = rw h refl
@@ -26,48 +26,74 @@ name_octets [] h = absurd h
 name_octets (b ∷ more) h = rw (start_octet b h.0) h.1
 
 -- as long as it goes on it is a name
-longest_name : (octets : List ℕ) → is_name_start (get_or octets 0 0) ≡ true → IsName (take (prefix_len is_name_octet octets) octets)
+pub longest_name : (octets : List ℕ) → is_name_start (get_or octets 0 0) ≡ true → IsName (take (prefix_len is_name_octet octets) octets)
 longest_name [] h = absurd (cc)
 longest_name (b ∷ more) h =
     let here : is_name_octet b ≡ true = start_octet b h in
     rw (here, one_more (prefix_len is_name_octet more)) (h, prefix_all is_name_octet more)
 
 -- a name at the front is no longer
-name_bound : (octets : List ℕ) (m : ℕ) → m ≤ length octets → IsName (take m octets) → m ≤ prefix_len is_name_octet octets
+pub name_bound : (octets : List ℕ) (m : ℕ) → m ≤ length octets → IsName (take m octets) → m ≤ prefix_len is_name_octet octets
 name_bound octets m within h = all_prefix is_name_octet octets m within (name_octets _ h)
 
--- where a letter stands first, only an identifier does
-only_named : (b : ℕ) (k : Kind) (v : Value) → is_name_start b ≡ true → Opens b k v → (name : List ℕ) × ((k ≡ Identifier) × (v ≡ Chars name))
+-- where a letter stands first, only an identifier does, or a string of several lines
+only_named : (b : ℕ) (k : Kind) (v : Value) → is_name_start b ≡ true → Opens b k v → ((name : List ℕ) × ((k ≡ Identifier) × (v ≡ Chars name))) ⊎ ((value : List ℕ) × ((k ≡ Text) × (v ≡ Chars value)))
 only_named b k v h o =
     let letter : class_of b ≡ Letter = class_start b h in
     elim o [
-      | Named name s c ke ve ↦ (name, (ke, ve))
+      | Named name s c ke ve ↦ inl (name, (ke, ve))
+      | Worded value s c ke ve ↦ inr (value, (ke, ve))
       | Numbered n d c ke ve ↦ absurd (cc)
       | Tagged name e c ke ve ↦ absurd (cc)
       | Quoted value e c ke ve ↦ absurd (cc)
       | Marked c ve ↦ absurd (cc)
     ]
 
-identifier_bound : (octets : List ℕ) (k : Kind) (v : Value) (m : ℕ) → m ≤ length octets → (name : List ℕ) × ((k ≡ Identifier) × (v ≡ Chars name)) → IsShape k v (take m octets) (drop m octets)
+-- no quoted string begins with a letter
+unquoted : (b : ℕ) (more value : List ℕ) (m : ℕ) → is_name_start b ≡ true → IsQuoted (take m (b ∷ more)) value → ⊥
+unquoted b more value zero h q = let e : [] ≡ 34 ∷ (flat_map spelling_of q.pieces ++ 34 ∷ []) = q.spelled in cc
+unquoted b more value (suc m) h q =
+    let e : b ∷ take m more ≡ 34 ∷ (flat_map spelling_of q.pieces ++ 34 ∷ []) = q.spelled in
+    let same : b ≡ 34 = ap (λ x. get_or x 0 0) e in
+    let P : ℕ → Type 0 = λ x. is_name_start x ≡ true in
+    let z : is_name_start 34 ≡ true = subst P same h in
+    cc
+
+-- what a spelling is where a letter stands first
+pub data IsNamed (octets : List ℕ) (k : Kind) (v : Value) (m : ℕ) : Type 0 where
+  AName : k ≡ Identifier → v ≡ Chars (take m octets) → IsName (take m octets) → IsNamed octets k v m
+  Several : (value : List ℕ) → k ≡ Text → v ≡ Chars value → IsMultiline (take m octets) value (drop m octets) → IsNamed octets k v m
+
+pub named_is : (octets : List ℕ) (k : Kind) (v : Value) (m : ℕ) → is_name_start (get_or octets 0 0) ≡ true → IsShape k v (take m octets) (drop m octets) → IsNamed octets k v m
+named_is [] k v m h s = absurd (cc)
+named_is (b ∷ more) k v m h s = elim (only_named b k v h (front_opened b more k v m _ s).1) [
+  | inl n ↦ (let shape : IsShape Identifier (Chars n.0) (take m (b ∷ more)) (drop m (b ∷ more)) = shape_at _ _ _ _ _ _ n.1.0 n.1.1 s in
+      AName n.1.0 (n.1.1 ∙ ap Chars (sym shape.0)) (subst IsName (sym shape.0) shape.1))
+  | inr n ↦ (let shape : IsShape Text (Chars n.0) (take m (b ∷ more)) (drop m (b ∷ more)) = shape_at _ _ _ _ _ _ n.1.0 n.1.1 s in
+      elim shape [ inl q ↦ absurd (unquoted b more n.0 m h q) | inr t ↦ Several n.0 n.1.0 n.1.1 t ])
+]
+
+identifier_bound : (octets : List ℕ) (k : Kind) (v : Value) (m : ℕ) → m ≤ length octets → (OpensText Identifier (Chars (take (prefix_len is_name_octet octets) octets)) (drop (prefix_len is_name_octet octets) octets) → ⊥) → IsNamed octets k v m
     → (m < prefix_len is_name_octet octets) ⊎ ((m ≡ prefix_len is_name_octet octets) × ((k ≡ Identifier) × (v ≡ Chars (take (prefix_len is_name_octet octets) octets))))
-identifier_bound octets k v m within kind s =
-    let shape : IsShape Identifier (Chars kind.0) (take m octets) (drop m octets) = shape_at _ _ _ _ _ _ kind.1.0 kind.1.1 s in
-    let name : IsName (take m octets) = subst IsName (sym shape.0) shape.1 in
-    at_most _ _ _ (name_bound octets m within name) (λ e. (kind.1.0, kind.1.1 ∙ ap Chars (sym shape.0 ∙ ap (λ i. take i octets) e)))
+identifier_bound octets k v m within bare s = elim s [
+  | AName ke ve name ↦ at_most _ _ _ (name_bound octets m within name) (λ e. (ke, ve ∙ ap (λ i. Chars (take i octets)) e))
+  | Several value ke ve t ↦ absurd (bare (word_opens octets (word_is octets (multi_word octets value m t))))
+]
 
 -- the longest spelling where a letter stands first
-pub identifier_best : (octets : List ℕ) → is_name_start (get_or octets 0 0) ≡ true → IsBest octets Identifier (Chars (take (prefix_len is_name_octet octets) octets)) (prefix_len is_name_octet octets)
-identifier_best [] h = absurd (cc)
-identifier_best (b ∷ more) h = record {
-  within = prefix_len-le-length is_name_octet (b ∷ more);
-  shape = (refl, longest_name (b ∷ more) h);
-  best = λ k v m within s. identifier_bound (b ∷ more) k v m within (only_named b k v h (front_opened b more k v m _ s).1) s;
+pub identifier_best : (octets : List ℕ) → is_name_start (get_or octets 0 0) ≡ true → (OpensText Identifier (Chars (take (prefix_len is_name_octet octets) octets)) (drop (prefix_len is_name_octet octets) octets) → ⊥)
+    → IsBest octets Identifier (Chars (take (prefix_len is_name_octet octets) octets)) (prefix_len is_name_octet octets)
+identifier_best octets h bare = record {
+  within = prefix_len-le-length is_name_octet octets;
+  shape = (refl, longest_name octets h);
+  best = λ k v m within s. identifier_bound octets k v m within bare (named_is octets k v m h s);
 }
 
 -- where a colon stands first, only a tag does
 only_tagged : (k : Kind) (v : Value) → Opens 58 k v → (name : List ℕ) × ((k ≡ Tag) × (v ≡ Chars name))
 only_tagged k v o = elim o [
   | Named name s c ke ve ↦ absurd (cc)
+  | Worded value s c ke ve ↦ absurd (cc)
   | Numbered n d c ke ve ↦ absurd (cc)
   | Tagged name e c ke ve ↦ (name, (ke, ve))
   | Quoted value e c ke ve ↦ absurd (cc)
@@ -111,23 +137,14 @@ tag_none more h k v (suc m) rest s = no_name more m h (tag_name more k v m rest 
 -- what the reader of identifiers finds
 pub identifier_found : (octets name rest chars : List ℕ) (n : ℕ) → is_name_start (get_or octets 0 0) ≡ true → n ≡ prefix_len is_name_octet octets → name ≡ take n octets → rest ≡ drop n octets → length name ≡ n
     → chars ≡ name → (OpensText Identifier (Chars name) rest → ⊥) → IsFound octets (record { kind = Identifier; value = Chars chars; len = length name })
-identifier_found octets name rest chars n h ne fe re le ce bare =
+identifier_found octets name rest chars n h ne fe re le ce unopened =
     let names : Chars (take (prefix_len is_name_octet octets) octets) ≡ Chars chars = ap (λ i. Chars (take i octets)) (sym ne) ∙ ap Chars (sym fe ∙ sym ce) in
     let P : ℕ → Type 0 = λ i. OpensText Identifier (Chars (take i octets)) (drop i octets) in
     let Q : List ℕ → Type 0 = λ x. OpensText Identifier (Chars x) (drop n octets) in
     let R : List ℕ → Type 0 = λ x. OpensText Identifier (Chars name) x in
+    let bare : OpensText Identifier (Chars (take (prefix_len is_name_octet octets) octets)) (drop (prefix_len is_name_octet octets) octets) → ⊥ = λ t. unopened (subst R (sym re) (subst Q (sym fe) (subst P (sym ne) t))) in
     found_at octets Identifier _ _ _ _ names (sym ne ∙ sym le)
-    (best_found octets (record { kind = Identifier; value = Chars (take (prefix_len is_name_octet octets) octets); len = prefix_len is_name_octet octets }) (identifier_best octets h) tt
-    (λ t. bare (subst R (sym re) (subst Q (sym fe) (subst P (sym ne) t)))))
-
--- and where a text of several lines is meant
-pub identifier_none : (octets name rest : List ℕ) (n : ℕ) → is_name_start (get_or octets 0 0) ≡ true → n ≡ prefix_len is_name_octet octets → name ≡ take n octets → rest ≡ drop n octets
-    → OpensText Identifier (Chars name) rest → (g : Front) → IsFront octets g → ⊥
-identifier_none octets name rest n h ne fe re t =
-    let P : ℕ → Type 0 = λ i. OpensText Identifier (Chars (take i octets)) (drop i octets) in
-    let Q : List ℕ → Type 0 = λ x. OpensText Identifier (Chars x) (drop n octets) in
-    let R : List ℕ → Type 0 = λ x. OpensText Identifier (Chars name) x in
-    best_open octets Identifier _ _ (identifier_best octets h) (subst P ne (subst Q fe (subst R re t)))
+    (best_found octets (record { kind = Identifier; value = Chars (take (prefix_len is_name_octet octets) octets); len = prefix_len is_name_octet octets }) (identifier_best octets h bare) tt bare)
 
 -- what the reader of tags finds
 pub tag_found : (more name chars : List ℕ) (n : ℕ) → is_name_start (get_or more 0 0) ≡ true → n ≡ prefix_len is_name_octet more → name ≡ take n more → length name ≡ n

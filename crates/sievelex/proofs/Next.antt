@@ -1,18 +1,20 @@
 -- The token that comes next.
-use Rattle.std.proofs.Common.{◌≡◌, ℕ, ◌+◌, ◌-◌, ◌<◌, ◌≤◌, cond, inl, inr, List, [], ◌∷◌, Some, length, take, drop, ap, sym, ◌∙◌, subst, arith}
+use Rattle.std.proofs.Common.{◌≡◌, ℕ, ◌+◌, ◌-◌, ◌<◌, ◌≤◌, cond, inl, inr, List, [], ◌∷◌, Some, None, length, take, drop, ap, sym, ◌∙◌, subst, arith}
 use Rattle.std.proofs.lemmas.Bool.{cases_lt}
-use Rattle.std.specs.List.{prefix_len}
-use Rattle.std.proofs.lemmas.List.{length-drop, drop-drop, take_all}
+use Rattle.std.proofs.lemmas.List.{length-drop, drop-drop, nil_from_length}
 use Rattle.std.proofs.lemmas.List.Sums.{sum_by-append, sum_by-take-le}
+use Rattle.octets.proofs.Lists.{some_is}
+use Rattle.sievelex.specs.declared.space.Place.TheVariants.{Between}
 use Rattle.sievelex.specs.declared.token.Token.{Token}
 use Rattle.sievelex.specs.declared.front.Front.{Front}
-use Rattle.sievelex.specs.Class.{is_white}
 use Rattle.sievelex.specs.Text.{line_ends, is_line_feed}
 use Rattle.sievelex.specs.Front.{IsFront}
-use Rattle.sievelex.specs.Spelling.{IsGap, IsTail, IsToken, IsNext, SpellsFrom}
+use Rattle.sievelex.specs.Space.{IsTail}
+use Rattle.sievelex.specs.Skip.{space_from}
+use Rattle.sievelex.specs.Spelling.{IsToken, IsNext, SpellsFrom}
 use Rattle.sievelex.specs.Shape.{IsShape}
 use Rattle.sievelex.proofs.Prefixes.{take_sum}
-use Rattle.sievelex.proofs.Gaps.{gap_is, gap_only, tail_all, empty_none, shape_some}
+use Rattle.sievelex.proofs.Gaps.{gap_is, gap_only, tail_is, tail_all, empty_none, shape_some}
 
 -- the lines up to the end of a gap
 pub lines_on : (text : List ℕ) (m n : ℕ) → line_ends (take (m + n) text) ≡ line_ends (take m text) + line_ends (take n (drop m text))
@@ -20,14 +22,20 @@ lines_on text m n = ap line_ends (take_sum m n text) ∙ sum_by-append _ (take m
 
 -- white space stands from one place on up to another, and these octets follow
 pub record IsAhead (text : List ℕ) (at start : ℕ) (octets : List ℕ) : Type 0 where
-  pub start_is : start ≡ at + prefix_len is_white (drop at text)
+  pub order : at ≤ start
+  pub inside : start ≤ length text
   pub octets_are : octets ≡ drop start text
+  pub skipped : space_from Between (drop at text) ≡ Some octets
 
-pub ahead_is : (text ahead octets : List ℕ) (at w : ℕ) → ahead ≡ drop at text → w ≡ prefix_len is_white ahead → octets ≡ drop w ahead → IsAhead text at (at + w) octets
-ahead_is text ahead octets at w ae we oe = record {
-  start_is = ap (λ i. at + i) (we ∙ ap (prefix_len is_white) ae);
-  octets_are = oe ∙ ap (drop w) ae ∙ drop-drop w at text;
-}
+pub ahead_is : (text ahead octets : List ℕ) (at w : ℕ) → at ≤ length text → ahead ≡ drop at text → (w ≤ length ahead) × (space_from Between ahead ≡ Some (drop w ahead)) → octets ≡ drop w ahead → IsAhead text at (at + w) octets
+ahead_is text ahead octets at w inside ae we oe =
+    let within : w ≤ length ahead = we.0 in
+    record {
+      order = omega arith;
+      inside = omega (arith, ap length ae, length-drop at text);
+      octets_are = oe ∙ ap (drop w) ae ∙ drop-drop w at text;
+      skipped = ap (space_from Between) (sym ae) ∙ we.1 ∙ ap (λ x. Some x) (sym oe);
+    }
 
 -- the line behind the gap
 pub line_is : (text ahead gap : List ℕ) (at w line feeds : ℕ) → ahead ≡ drop at text → gap ≡ take w ahead → line ≡ 1 + line_ends (take at text) → feeds ≡ line_ends gap → line + feeds ≡ 1 + line_ends (take (at + w) text)
@@ -47,15 +55,20 @@ next_inside text at t h = elim (cases_lt t.start (length text)) [
 ]
 
 -- behind the white space
-next_start : (text : List ℕ) (at : ℕ) (t : Token) → IsNext text at t → t.start ≡ at + prefix_len is_white (drop at text)
+next_start : (text : List ℕ) (at : ℕ) (t : Token) → IsNext text at t → space_from Between (drop at text) ≡ Some (drop t.start text)
 next_start text at t h =
-    let inside : t.start < length text = next_inside text at t h in
     let ahead : at ≤ t.start = h.ahead in
     let n : ℕ = t.end - t.start in
     let same : drop t.start text ≡ drop (t.start - at) (drop at text) = ap (λ i. drop i text) (omega arith) ∙ sym (drop-drop (t.start - at) at text) in
     let P : List ℕ → Type 0 = λ x. IsShape t.kind t.value (take n x) (drop n x) in
-    let e : t.start - at ≡ prefix_len is_white (drop at text) = gap_only (drop at text) (t.start - at) t.kind t.value n _ (omega (arith, length-drop at text)) h.gap (subst P same h.token.shape) in
-    omega arith
+    gap_only (drop at text) (t.start - at) t.kind t.value n _ h.gap (subst P same h.token.shape) ∙ ap (λ x. Some x) (sym same)
+
+same_start : (text octets : List ℕ) (at start : ℕ) (t : Token) → IsAhead text at start octets → IsNext text at t → t.start ≡ start
+same_start text octets at start t a h =
+    let inside : t.start < length text = next_inside text at t h in
+    let within : start ≤ length text = a.inside in
+    let e : drop t.start text ≡ drop start text = some_is _ _ (sym (next_start text at t h) ∙ a.skipped) ∙ a.octets_are in
+    omega (arith, ap length e, length-drop start text, length-drop t.start text)
 
 -- and it is not empty
 pub next_further : (text : List ℕ) (at : ℕ) (t : Token) → IsNext text at t → (at < t.end) × (t.end ≤ length text)
@@ -66,16 +79,16 @@ next_further text at t h =
     let inside : t.start < length text = next_inside text at t h in
     (omega arith, omega (arith, length-drop t.start text))
 
-pub next_found : (text octets : List ℕ) (at start line : ℕ) (f : Front) → IsAhead text at start octets → line ≡ 1 + line_ends (take start text) → IsFront octets f
+pub next_found : (text octets : List ℕ) (at start line : ℕ) (f : Front) → IsAhead text at start octets → (length octets ≡ 0 → ⊥) → line ≡ 1 + line_ends (take start text) → IsFront octets f
     → IsNext text at (record { kind = f.kind; value = f.value; start = start; end = start + f.len; line = line })
-next_found text octets at start line f a le h =
-    let se : start ≡ at + prefix_len is_white (drop at text) = a.start_is in
-    let G : ℕ → Type 0 = λ i. IsGap (take i (drop at text)) in
+next_found text octets at start line f a some le h =
+    let order : at ≤ start = a.order in
+    let same : octets ≡ drop (start - at) (drop at text) = a.octets_are ∙ ap (λ i. drop i text) (omega arith) ∙ sym (drop-drop (start - at) at text) in
     let T : List ℕ → Type 0 = λ x. IsToken x f.kind f.value f.len in
     let N : ℕ → Type 0 = λ i. IsToken (drop start text) f.kind f.value i in
     record {
-      ahead = omega arith;
-      gap = subst G (omega arith) (gap_is (drop at text));
+      ahead = order;
+      gap = gap_is (drop at text) (start - at) (a.skipped ∙ ap (λ x. Some x) same) (λ e. some (ap length same ∙ e));
       forward = omega arith;
       token = subst N (omega arith) (subst T a.octets_are h);
       line = le;
@@ -84,8 +97,7 @@ next_found text octets at start line f a le h =
 pub next_only : (text octets : List ℕ) (at start line : ℕ) (f : Front) → IsAhead text at start octets → line ≡ 1 + line_ends (take start text) → ((g : Front) → IsFront octets g → g ≡ f)
     → (t : Token) → IsNext text at t → Some (record { kind = f.kind; value = f.value; start = start; end = start + f.len; line = line }) ≡ Some t
 next_only text octets at start line f a le only t h =
-    let te : t.start ≡ at + prefix_len is_white (drop at text) = next_start text at t h in
-    let same : t.start ≡ start = te ∙ sym a.start_is in
+    let same : t.start ≡ start = same_start text octets at start t a h in
     let octets_are : drop t.start text ≡ octets = ap (λ i. drop i text) same ∙ sym a.octets_are in
     let g : Front = record { kind = t.kind; value = t.value; len = t.end - t.start } in
     let T : List ℕ → Type 0 = λ x. IsFront x g in
@@ -98,29 +110,28 @@ next_only text octets at start line f a le only t h =
 
 -- only white space is left
 pub next_empty : (text octets : List ℕ) (at start : ℕ) → IsAhead text at start octets → length octets ≡ 0 → IsTail (drop at text)
-next_empty text octets at start a e =
-    let se : start ≡ at + prefix_len is_white (drop at text) = a.start_is in
-    let all : length (drop at text) ≤ prefix_len is_white (drop at text) = omega (arith, ap length a.octets_are, length-drop start text, length-drop at text) in
-    subst IsGap (take_all _ (drop at text) all) (gap_is (drop at text))
+next_empty text octets at start a e = tail_is (drop at text) octets a.skipped (nil_from_length octets e)
 
 -- behind white space up to the end of the text no token comes
 pub tail_no_next : (text : List ℕ) (at : ℕ) (t : Token) → IsTail (drop at text) → IsNext text at t → ⊥
 tail_no_next text at t g h =
-    let te : t.start ≡ at + prefix_len is_white (drop at text) = next_start text at t h in
     let inside : t.start < length text = next_inside text at t h in
-    omega (arith, tail_all (drop at text) g, length-drop at text)
+    let e : drop t.start text ≡ [] = some_is _ _ (sym (next_start text at t h) ∙ tail_all (drop at text) g) in
+    omega (arith, ap length e, length-drop t.start text)
 
 -- where no token stands behind the white space there are none
 pub next_none : (text octets : List ℕ) (at start : ℕ) → IsAhead text at start octets → (length octets ≡ 0 → ⊥) → ((g : Front) → IsFront octets g → ⊥) → (ts : List Token) → SpellsFrom text at ts → ⊥
-next_none text octets at start a some no_front [] g =
-    let se : start ≡ at + prefix_len is_white (drop at text) = a.start_is in
-    some (omega (arith, ap length a.octets_are, length-drop start text, length-drop at text, tail_all (drop at text) g))
-next_none text octets at start a some no_front (t ∷ ts) h =
-    let te : t.start ≡ at + prefix_len is_white (drop at text) = next_start text at t h.0 in
-    let same : drop t.start text ≡ octets = ap (λ i. drop i text) (te ∙ sym a.start_is) ∙ sym a.octets_are in
+next_none text octets at start a some without [] g = some (ap length (some_is octets [] (sym a.skipped ∙ tail_all (drop at text) g)))
+next_none text octets at start a some without (t ∷ ts) h =
+    let same : drop t.start text ≡ octets = ap (λ i. drop i text) (same_start text octets at start t a h.0) ∙ sym a.octets_are in
     let g : Front = record { kind = t.kind; value = t.value; len = t.end - t.start } in
     let T : List ℕ → Type 0 = λ x. IsFront x g in
-    no_front g (subst T same h.0.token)
+    without g (subst T same h.0.token)
+
+-- where a comment is not closed there are none
+pub open_none : (text ahead : List ℕ) (at : ℕ) → ahead ≡ drop at text → space_from Between ahead ≡ None → (ts : List Token) → SpellsFrom text at ts → ⊥
+open_none text ahead at ae h [] g = let e : None ≡ Some [] = sym h ∙ ap (space_from Between) ae ∙ tail_all (drop at text) g in cc
+open_none text ahead at ae h (t ∷ ts) g = let e : None ≡ Some (drop t.start text) = sym h ∙ ap (space_from Between) ae ∙ next_start text at t g.0 in cc
 
 -- the line behind a token
 pub lines_behind : (text rest spelled : List ℕ) (at feeds : ℕ) (t : Token) → IsNext text at t → rest ≡ drop t.start text → spelled ≡ take (t.end - t.start) rest → feeds ≡ line_ends spelled → t.line + feeds ≡ 1 + line_ends (take t.end text)

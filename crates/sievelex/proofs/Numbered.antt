@@ -19,7 +19,7 @@ use Rattle.sievelex.specs.Digits.{letter_len}
 use Rattle.sievelex.specs.Front.{IsFront}
 use Rattle.sievelex.proofs.Prefixes.{one_more, at_most, all_prefix, prefix_all, prefix_len-passed, front_of, take_sum}
 use Rattle.sievelex.proofs.Opening.{Opens, front_opened, shape_at, class_digit}
-use Rattle.sievelex.proofs.Opening.Opens.{Named, Numbered, Tagged, Quoted, Marked}
+use Rattle.sievelex.proofs.Opening.Opens.{Named, Worded, Numbered, Tagged, Quoted, Marked}
 use Rattle.sievelex.proofs.Best.{IsBest, IsFound, best_found, best_too_large, found_at}
 
 -- no multiplier is a digit
@@ -32,6 +32,7 @@ only_numbered b k v h o =
     let digit : class_of b ≡ Digit = class_digit b h in
     elim o [
       | Named name s c ke ve ↦ absurd (cc)
+      | Worded value s c ke ve ↦ absurd (cc)
       | Numbered n d c ke ve ↦ (n, (ke, ve))
       | Tagged name e c ke ve ↦ absurd (cc)
       | Quoted value e c ke ve ↦ absurd (cc)

@@ -1,15 +1,17 @@
 -- Which token an octet begins.
-use Rattle.std.proofs.Common.{◌≡◌, ℕ, ◌<◌, suc, zero, true, false, List, [], ◌∷◌, ◌++◌, take, refl, subst, arith}
+use Rattle.std.proofs.Common.{◌≡◌, ℕ, ◌<◌, ◌≤◌, suc, zero, true, false, List, [], ◌∷◌, ◌++◌, length, take, get_or, refl, ap, sym, inl, inr, subst, arith}
 use Rattle.std.specs.List.{list_all, flat_map}
+use Rattle.std.specs.Prelude.{codes}
+use Rattle.std.specs.Char.{to_ascii_lowercase}
 use Rattle.std.proofs.lemmas.Bool.Decides.{nat_tests}
-use Rattle.octets.specs.Ascii.{is_digit}
+use Rattle.octets.specs.Ascii.{is_digit, lowered}
 use Rattle.sievelex.specs.declared.token.Kind.{Kind}
 use Rattle.sievelex.specs.declared.token.Kind.TheVariants.{Identifier, Tag, Number, Text}
 use Rattle.sievelex.specs.declared.token.Value.{Value}
 use Rattle.sievelex.specs.declared.token.Value.TheVariants.{Nothing, Amount, Chars}
 use Rattle.sievelex.specs.declared.class.Class.TheVariants.{Letter, Digit, Colon, Quote, Mark}
 use Rattle.sievelex.specs.Class.{is_name_start, class_of}
-use Rattle.sievelex.specs.Shape.{IsShape, spelling_of}
+use Rattle.sievelex.specs.Shape.{IsShape, IsQuoted, spelling_of}
 use Rattle.sievelex.proofs.Prefixes.{both}
 
 -- no digit begins a name
@@ -27,6 +29,7 @@ pub data Opens (b : ℕ) (k : Kind) (v : Value) : Type 0 where
   Named : (name : List ℕ) → is_name_start b ≡ true → class_of b ≡ Letter → k ≡ Identifier → v ≡ Chars name → Opens b k v
   Numbered : (n : ℕ) → is_digit b ≡ true → class_of b ≡ Digit → k ≡ Number → v ≡ Amount n → Opens b k v
   Tagged : (name : List ℕ) → b ≡ 58 → class_of b ≡ Colon → k ≡ Tag → v ≡ Chars name → Opens b k v
+  Worded : (value : List ℕ) → is_name_start b ≡ true → class_of b ≡ Letter → k ≡ Text → v ≡ Chars value → Opens b k v
   Quoted : (value : List ℕ) → b ≡ 34 → class_of b ≡ Quote → k ≡ Text → v ≡ Chars value → Opens b k v
   Marked : class_of b ≡ Mark k → v ≡ Nothing → Opens b k v
 
@@ -43,12 +46,44 @@ number_opened s n (b ∷ digits) letter e some all =
     let parts : (is_digit b ≡ true) × (list_all is_digit digits ≡ true) = both _ _ all in
     record { first = b; more = digits ++ letter; spelled = e; opens = Numbered n parts.0 (class_digit b parts.0) refl refl }
 
+-- a letter of either case
+pub letter_start : (b n : ℕ) → to_ascii_lowercase b ≡ n → 97 ≤ n → n < 123 → is_name_start b ≡ true
+letter_start b n h low high = grind (arith, nat_tests)
+
+-- `t` or `T`
+word_start : (b : ℕ) → to_ascii_lowercase b ≡ 116 → is_name_start b ≡ true
+word_start b h = letter_start b 116 h (omega arith) (omega arith)
+
+word_opened : (value s word tail : List ℕ) → lowered word ≡ codes "text:" → s ≡ word ++ tail → IsOpened Text (Chars value) s
+word_opened value s [] tail h e = absurd (let z : zero ≡ suc (suc (suc (suc (suc zero)))) = ap length h in omega arith)
+word_opened value s (b ∷ word) tail h e =
+    let start : is_name_start b ≡ true = word_start b (ap (λ x. get_or x 0 0) h) in
+    record { first = b; more = word ++ tail; spelled = e; opens = Worded value start (class_start b start) refl refl }
+
+quote_no_word : (word tail s : List ℕ) → lowered word ≡ codes "text:" → 34 ∷ s ≡ word ++ tail → ⊥
+quote_no_word [] tail s h e = let z : zero ≡ suc (suc (suc (suc (suc zero)))) = ap length h in omega arith
+quote_no_word (b ∷ word) tail s h e =
+    let first : 34 ≡ b = ap (λ x. get_or x 0 0) e in
+    let start : is_name_start b ≡ true = word_start b (ap (λ x. get_or x 0 0) h) in
+    let P : ℕ → Type 0 = λ x. is_name_start x ≡ true in
+    let z : is_name_start 34 ≡ true = subst P (sym first) start in
+    cc
+
+-- where a quotation mark stands first a string is a quoted one
+pub quoted_shape : (value s rest : List ℕ) → IsShape Text (Chars value) (34 ∷ s) rest → IsQuoted (34 ∷ s) value
+quoted_shape value s rest (inl q) = q
+quoted_shape value s rest (inr m) =
+    absurd (quote_no_word m.word _ s m.named m.spelled)
+
 pub shape_opened : (k : Kind) (v : Value) (s rest : List ℕ) → IsShape k v s rest → IsOpened k v s
 shape_opened k Nothing s rest h = record { first = h.0; more = []; spelled = h.1.1; opens = Marked h.1.0 refl }
 shape_opened Identifier (Chars []) s rest h = absurd h.1
 shape_opened Identifier (Chars (b ∷ name)) s rest h = record { first = b; more = name; spelled = h.0; opens = Named (b ∷ name) h.1.0 (class_start b h.1.0) refl refl }
 shape_opened Tag (Chars name) s rest h = record { first = 58; more = name; spelled = h.0; opens = Tagged name refl refl refl refl }
-shape_opened Text (Chars value) s rest h = record { first = 34; more = flat_map spelling_of h.pieces ++ 34 ∷ []; spelled = h.spelled; opens = Quoted value refl refl refl refl }
+shape_opened Text (Chars value) s rest h = elim h [
+  | inl q ↦ record { first = 34; more = flat_map spelling_of q.pieces ++ 34 ∷ []; spelled = q.spelled; opens = Quoted value refl refl refl refl }
+  | inr m ↦ word_opened value s m.word _ m.named m.spelled
+]
 shape_opened Number (Amount n) s rest h = number_opened s n h.digits h.letter h.spelled h.present h.decimal
 shape_opened _ _ s rest h = absurd h
 

@@ -1,7 +1,8 @@
 -- The tokens read so far.
 use Rattle.std.proofs.Common.{◌≡◌, ℕ, List, [], ◌∷◌, ◌++◌, Some, drop, sym, ◌∙◌, ap, subst, append_assoc, append-nil}
 use Rattle.sievelex.specs.declared.token.Token.{Token}
-use Rattle.sievelex.specs.Spelling.{IsTail, IsNext, SpellsFrom}
+use Rattle.sievelex.specs.Spelling.{IsNext, SpellsFrom}
+use Rattle.sievelex.specs.Space.{IsTail}
 use Rattle.octets.proofs.Lists.{some_is}
 use Rattle.sievelex.proofs.Next.{tail_no_next}
 

@@ -16,8 +16,8 @@ use Rattle.sievelex.specs.Front.{IsFront}
 use Rattle.sievelex.specs.Shape.{Piece, IsPiece, ArePieces, spelling_of, value_of, IsQuoted, IsShape}
 use Rattle.sievelex.specs.Shape.Piece.{Plain, Escaped, LineEnd, BareLineEnd}
 use Rattle.sievelex.proofs.Prefixes.{one_more, front_of}
-use Rattle.sievelex.proofs.Opening.{Opens, front_opened, shape_at}
-use Rattle.sievelex.proofs.Opening.Opens.{Named, Numbered, Tagged, Quoted, Marked}
+use Rattle.sievelex.proofs.Opening.{Opens, front_opened, shape_at, quoted_shape}
+use Rattle.sievelex.proofs.Opening.Opens.{Named, Worded, Numbered, Tagged, Quoted, Marked}
 use Rattle.sievelex.proofs.Best.{IsBest, IsFound, best_found}
 
 -- what is spelled so is read so, whatever follows
@@ -105,6 +105,7 @@ string_is Return (b ∷ s) value rest h = elim (fork (b == 10) _ _ _ h) [
 only_quoted : (k : Kind) (v : Value) → Opens 34 k v → (value : List ℕ) × ((k ≡ Text) × (v ≡ Chars value))
 only_quoted k v o = elim o [
   | Named name s c ke ve ↦ absurd (cc)
+  | Worded value s c ke ve ↦ absurd (cc)
   | Numbered n d c ke ve ↦ absurd (cc)
   | Tagged name e c ke ve ↦ absurd (cc)
   | Quoted value e c ke ve ↦ (value, (ke, ve))
@@ -121,7 +122,7 @@ record IsStringAt (more : List ℕ) (k : Kind) (v : Value) (m : ℕ) : Type 0 wh
 string_at : (more : List ℕ) (k : Kind) (v : Value) (m : ℕ) (rest : List ℕ) → IsShape k v (take (suc m) (34 ∷ more)) rest → IsStringAt more k v m
 string_at more k v m rest s =
     let kind : (value : List ℕ) × ((k ≡ Text) × (v ≡ Chars value)) = only_quoted k v (front_opened 34 more k v (suc m) rest s).1 in
-    let shape : IsQuoted (34 ∷ take m more) kind.0 = shape_at _ _ _ _ _ _ kind.1.0 kind.1.1 s in
+    let shape : IsQuoted (34 ∷ take m more) kind.0 = quoted_shape kind.0 (take m more) rest (shape_at _ _ _ _ _ _ kind.1.0 kind.1.1 s) in
     let spelled : 34 ∷ take m more ≡ 34 ∷ (flat_map spelling_of shape.pieces ++ 34 ∷ []) = shape.spelled in
     let front : take m more ≡ flat_map spelling_of shape.pieces ++ 34 ∷ [] = cc in
     let whole : more ≡ flat_map spelling_of shape.pieces ++ (34 ∷ drop m more) = front_of more _ m front ∙ append_assoc (flat_map spelling_of shape.pieces) (34 ∷ []) (drop m more) in
@@ -153,7 +154,7 @@ string_best more value n w h =
     let front : take n more ≡ flat_map spelling_of r.pieces ++ 34 ∷ [] = append_cancel_right _ _ (drop n more) whole in
     record {
       within = omega arith;
-      shape = rw (one_more n) (record { pieces = r.pieces; each = r.each; spelled = ap (λ x. 34 ∷ x) front; valued = r.valued });
+      shape = rw (one_more n) (inl (record { pieces = r.pieces; each = r.each; spelled = ap (λ x. 34 ∷ x) front; valued = r.valued }));
       best = string_bound more value n w h;
     }
 

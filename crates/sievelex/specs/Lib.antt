@@ -1,9 +1,13 @@
+pub mod Body
 pub mod Class
 pub mod Digits
 pub mod Faults
 pub mod Finding
 pub mod Front
 pub mod Inside
+pub mod Lines
 pub mod Shape
+pub mod Skip
+pub mod Space
 pub mod Spelling
 pub mod Text

@@ -1,5 +1,5 @@
 -- The spellings of tokens (RFC 5228, 8.1).
-use Rattle.std.specs.Prelude.{◌≡◌, ◌≢◌, ℕ, ◌*◌, ◌==◌, ◌||◌, cond, Option, Some, None, List, [], ◌∷◌, ◌++◌, IsTrue, IsFalse}
+use Rattle.std.specs.Prelude.{◌≡◌, ◌≢◌, ◌⊎◌, ℕ, ◌*◌, ◌==◌, ◌||◌, cond, Option, Some, None, List, [], ◌∷◌, ◌++◌, IsTrue, IsFalse}
 use Rattle.std.specs.List.{list_all, flat_map}
 use Rattle.octets.specs.Ascii.{is_digit}
 use Rattle.octets.specs.Decimal.{number_of}
@@ -8,6 +8,7 @@ use Rattle.sievelex.specs.declared.token.Kind.TheVariants.{Identifier, Tag, Numb
 use Rattle.sievelex.specs.declared.token.Value.{Value}
 use Rattle.sievelex.specs.declared.token.Value.TheVariants.{Nothing, Amount, Chars}
 use Rattle.sievelex.specs.declared.class.Class.TheVariants.{Mark}
+use Rattle.sievelex.specs.Lines.{IsMultiline}
 use Rattle.sievelex.specs.Class.{is_name_start, is_name_octet, class_of}
 
 -- a letter or `_`, then letters, digits and `_`
@@ -79,6 +80,6 @@ abbrev pub IsShape : Kind → Value → List ℕ → List ℕ → Type 0
 IsShape kind Nothing s rest = (b : ℕ) × ((class_of b ≡ Mark kind) × (s ≡ b ∷ []))
 IsShape Identifier (Chars name) s rest = (s ≡ name) × IsName name
 IsShape Tag (Chars name) s rest = (s ≡ 58 ∷ name) × IsName name
-IsShape Text (Chars value) s rest = IsQuoted s value
+IsShape Text (Chars value) s rest = IsQuoted s value ⊎ IsMultiline s value rest
 IsShape Number (Amount n) s rest = IsNumber s n
 IsShape _ _ s rest = ⊥

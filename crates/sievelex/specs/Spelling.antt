@@ -1,37 +1,14 @@
 -- The tokens of a text (RFC 5228, 8.1).
-use Rattle.std.specs.Prelude.{◌≡◌, ℕ, ◌+◌, ◌-◌, ◌<◌, ◌≤◌, ◌^◌, List, [], ◌∷◌, length, take, drop, slice_get, Some, codes, IsTrue}
-use Rattle.std.specs.List.{flat_map}
+use Rattle.std.specs.Prelude.{◌≡◌, ℕ, ◌+◌, ◌-◌, ◌<◌, ◌≤◌, ◌^◌, List, [], ◌∷◌, length, take, drop, slice_get, Some, codes}
 use Rattle.octets.specs.Ascii.{lowered}
 use Rattle.sievelex.specs.declared.token.Kind.{Kind}
 use Rattle.sievelex.specs.declared.token.Kind.TheVariants.{Identifier}
 use Rattle.sievelex.specs.declared.token.Value.{Value}
 use Rattle.sievelex.specs.declared.token.Value.TheVariants.{Amount, Chars}
 use Rattle.sievelex.specs.declared.token.Token.{Token}
-use Rattle.sievelex.specs.Class.{is_white}
 use Rattle.sievelex.specs.Shape.{IsShape}
+use Rattle.sievelex.specs.Space.{IsGap, IsTail}
 use Rattle.sievelex.specs.Text.{IsText, line_ends}
-
--- a piece of white space: a blank or an octet of a line end
-pub data Space : Type 0 where
-  White : ℕ → Space
-
-abbrev pub AreSpaces : List Space → Type 0
-AreSpaces [] = Unit {0}
-AreSpaces (White b ∷ more) = IsTrue (is_white b) × AreSpaces more
-
--- how a piece of white space is written
-abbrev pub space_of : Space → List ℕ
-space_of (White b) = b ∷ []
-
--- the white space before a token
-pub record IsGap (s : List ℕ) : Type 0 where
-  pub pieces : List Space
-  pub each : AreSpaces pieces
-  pub spelled : s ≡ flat_map space_of pieces
-
--- the white space behind the last token, up to the end of the text
-abbrev pub IsTail : List ℕ → Type 0
-IsTail s = IsGap s
 
 -- the value of a number is at most 2^63 - 1
 abbrev pub IsInRange : Value → Type 0

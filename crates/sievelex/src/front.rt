@@ -1,14 +1,15 @@
 //! The token at the front of a text.
-ghost use Rattle.std.specs.Prelude.{◌≡◌, ◌+◌, ◌-◌, ◌<◌, ◌≤◌, ◌^◌, ◌∷◌, [], ◌↔◌, IsTrue, slice_index};
+ghost use Rattle.std.specs.Prelude.{◌≡◌, ◌∷◌, ◌↔◌, IsTrue, slice_index, take, codes};
 ghost use Rattle.sievelex.specs.Spelling.{OpensText};
 ghost use Rattle.std.specs.List.{prefix_len};
-ghost use Rattle.sievelex.specs.Class.{is_name_start, is_name_octet, class_of};
+ghost use Rattle.sievelex.specs.Class.{is_name_start, is_name_octet};
 ghost use Rattle.sievelex.specs.Finding.{Finds, IfFaultLine};
 ghost use Rattle.sievelex.specs.Front.{IsFront};
-ghost use Rattle.octets.specs.Ascii.{is_digit};
+ghost use Rattle.octets.specs.Ascii.{is_digit, lowered};
 
 use crate::class::{Class, class_of, is_name_octet, is_name_start};
 use crate::fault::{FaultKind, ScriptError, ScriptFault};
+use crate::multiline::read_body;
 use crate::number::{amount, digit_count, multiplier};
 use crate::quoted::read_quoted;
 use crate::token::{Kind, Value};
@@ -66,15 +67,27 @@ fn read_identifier(alloc: Global, octets: &[u8], line: u64) -> Result<Front, Scr
 {
     let (name, rest) = octets.split_at(name_len(octets));
     if opens_text(name, rest) {
-        return Err(ScriptError::Fault(ScriptFault {
-            line,
-            kind: FaultKind::Unexpected,
-        }));
+        return read_several(alloc, octets, line);
     }
     Ok(Front {
         kind: Kind::Identifier,
         value: Value::Chars(Octets::copy(alloc, name)?),
         len: name.len(),
+    })
+}
+
+/// The string of several lines that begins with the text's first octets, `text:`.
+fn read_several(alloc: Global, octets: &[u8], line: u64) -> Result<Front, ScriptError>
+    requires { lowered (take 5 octets.now) ≡ codes "text:" }
+    ensures found { Finds (IsFront octets.now) result }
+    ensures lines { IfFaultLine result (λ n. n ≡ line) }
+{
+    let (_, body) = octets.split_at(5);
+    let (value, len) = read_body(alloc, body, line)?;
+    Ok(Front {
+        kind: Kind::Text,
+        value: Value::Chars(value),
+        len: 5 + len,
     })
 }
 

@@ -4,9 +4,11 @@
 mod class;
 mod fault;
 mod front;
+mod multiline;
 mod number;
 mod quoted;
 mod scanner;
+mod space;
 #[cfg(test)]
 mod tests;
 mod text;

@@ -1,24 +1,23 @@
 //! The tokens of a text.
 ghost use Rattle.std.specs.Prelude.{◌≡◌, ◌+◌, ◌≤◌, List, [], Some, length, take, IfOk, MatchOption};
-ghost use Rattle.std.specs.List.{prefix_len};
-ghost use Rattle.sievelex.specs.Class.{is_white};
 ghost use Rattle.sievelex.specs.Finding.{IfFault, IfFaultLine};
 ghost use Rattle.sievelex.specs.Spelling.{IsNext, SpellsFrom, Spells};
 ghost use Rattle.sievelex.specs.Text.{line_ends};
 ghost use Rattle.sievelex.specs.declared.token.Token.{Token};
 
-use crate::class::is_white;
-use crate::fault::ScriptError;
+use crate::fault::{FaultKind, ScriptError, ScriptFault};
 use crate::front::read_front;
+use crate::space::space_len;
 use crate::text::{line_feeds, text_fault};
 use crate::token::Token;
 use std::alloc::Global;
 
 /// The tokens of a script, in order (RFC 5228, 8.1), each with its place and line.
 ///
-/// A fault is answered exactly where the text is no list of tokens; it names the line where the token begins
-/// that is none. One pass from the front to the end, in time linear in the text's length; the texts of names
-/// and strings are copied, and nothing else is kept.
+/// Unless memory runs out, a fault is answered exactly where the text is no list of tokens; it names the line of
+/// the octet at which the token or the comment begins that is none. After a look at the whole text for UTF-8,
+/// NUL and lone CRs one pass goes from the front to the end, in time linear in the text's length. Of the text the
+/// names and the values of strings are copied, each once.
 pub fn tokens(alloc: Global, text: &[u8]) -> Result<Vec<Token>, ScriptError>
     ensures found { IfOk result (λ ts. Spells text.now ts.items) }
     ensures only { IfOk result (λ ts. (us : List Token) → Spells text.now us → us ≡ ts.items) }
@@ -61,7 +60,17 @@ fn next(alloc: Global, text: &[u8], at: usize, line: u64) -> Result<Option<Token
     ensures lines { IfFaultLine result (λ n. (1 ≤ n) × (n ≤ 1 + line_ends text.now)) }
 {
     let (_, ahead) = text.split_at(at);
-    let white = white_len(ahead);
+    let white = match space_len(ahead) {
+        Ok(white) => white,
+        Err(opened) => {
+            let (before, _) = ahead.split_at(opened);
+            let line = line + line_feeds(before);
+            return Err(ScriptError::Fault(ScriptFault {
+                line,
+                kind: FaultKind::OpenComment,
+            }));
+        }
+    };
     let (gap, octets) = ahead.split_at(white);
     if octets.is_empty() {
         return Ok(None);
@@ -76,11 +85,4 @@ fn next(alloc: Global, text: &[u8], at: usize, line: u64) -> Result<Option<Token
         end: start + front.len,
         line,
     }))
-}
-
-/// How many octets of white space stand at the front.
-fn white_len(octets: &[u8]) -> usize
-    ensures { result ≡ prefix_len is_white octets.now }
-{
-    octets.iter().take_while(|octet| is_white(**octet)).count()
 }

@@ -38,9 +38,35 @@ fn told(alloc: Global, text: &[u8]) -> Result<String, Fail> {
 
 #[test]
 fn tells_tokens_with_places_and_lines(rt: HostRuntime) -> Result<(), Fail> {
-    let table: [(&[u8], &str); 16] = [
+    let table: [(&[u8], &str); 24] = [
         (b"", ""),
         (b" \t\r\n\n", ""),
+        (
+            b"text:\r\n.foo\r\n..foo\r\n\r\n.",
+            "Text <.foo\r\n.foo\r\n\r\n> 0-23 line 1; ",
+        ),
+        (
+            b"TEXT: \t# a\n.\n;",
+            "Text <> 0-13 line 1; Semicolon 13-14 line 3; ",
+        ),
+        (b"text:\n.", "Text <> 0-7 line 1; "),
+        (
+            b"1text:\na\n..\n.b\n.\r\nx",
+            "Number 1 0-1 line 1; Text <a\r\n.\r\n.b\r\n> 1-18 line 1; Identifier <x> 18-19 line 6; ",
+        ),
+        (b"# a", ""),
+        (
+            b"/* a */ # b\r\nkeep;",
+            "Identifier <keep> 13-17 line 2; Semicolon 17-18 line 2; ",
+        ),
+        (
+            b"a/**/b/***/c/*/ * \n*/d#*/",
+            "Identifier <a> 0-1 line 1; Identifier <b> 5-6 line 1; Identifier <c> 11-12 line 1; Identifier <d> 21-22 line 2; ",
+        ),
+        (
+            b"1/* # */2#\n#\n3",
+            "Number 1 0-1 line 1; Number 2 8-9 line 1; Number 3 13-14 line 3; ",
+        ),
         (
             b"keep;",
             "Identifier <keep> 0-4 line 1; Semicolon 4-5 line 1; ",
@@ -94,7 +120,7 @@ fn tells_tokens_with_places_and_lines(rt: HostRuntime) -> Result<(), Fail> {
 
 #[test]
 fn tells_faults_with_their_lines(rt: HostRuntime) -> Result<(), Fail> {
-    let table: [(&[u8], &str); 24] = [
+    let table: [(&[u8], &str); 33] = [
         (b"\xff", "line 1: not UTF-8"),
         (b"keep;\n\xc3", "line 2: not UTF-8"),
         (b"\"\xed\xa0\x80\"", "line 1: not UTF-8"),
@@ -102,8 +128,14 @@ fn tells_faults_with_their_lines(rt: HostRuntime) -> Result<(), Fail> {
         (b"\"\x00\"", "line 1: bad octet"),
         (b"keep;\r", "line 1: bad octet"),
         (b"\"a\rb\"", "line 1: bad octet"),
-        (b"\n\n#", "line 3: bad octet"),
+        (b"\n\n*", "line 3: bad octet"),
         (b"/", "line 1: bad octet"),
+        (b"/ * a */", "line 1: bad octet"),
+        (b"*/", "line 1: bad octet"),
+        (b"/* a", "line 1: comment is not closed"),
+        (b"keep;\n# a\n/*\n*", "line 3: comment is not closed"),
+        (b"/*/", "line 1: comment is not closed"),
+        (b"/* a */*/", "line 1: bad octet"),
         (b":", "line 1: bad octet"),
         (b": a", "line 1: bad octet"),
         (b":1", "line 1: bad octet"),
@@ -118,7 +150,10 @@ fn tells_faults_with_their_lines(rt: HostRuntime) -> Result<(), Fail> {
             b"99999999999999999999999999999999999999999999999999999999999999K",
             "line 1: number too large",
         ),
-        (b"text:\r\n.\r\n", "line 1: unexpected token"),
+        (b"text: x", "line 1: unexpected token"),
+        (b"keep;\ntext:\n.x", "line 2: string is not closed"),
+        (b"text:\n.\r", "line 2: bad octet"),
+        (b"text: # a", "line 1: string is not closed"),
         (b"TexT:", "line 1: unexpected token"),
         (b":text:", "line 1: bad octet"),
         (b"mytext:", "line 1: bad octet"),
@@ -132,7 +167,8 @@ fn tells_faults_with_their_lines(rt: HostRuntime) -> Result<(), Fail> {
 #[test]
 fn answers_each_single_octet(rt: HostRuntime) -> Result<(), Fail> {
     for octet in 0..=255u8 {
-        let begins = octet.is_ascii_alphanumeric() || b"_;{}[](), \t\n".as_slice().contains(&octet);
+        let begins = octet.is_ascii_alphanumeric()
+            || b"_;{}[](), \t\n#".as_slice().contains(&octet);
         assert_eq!(rt; tokens(rt.alloc(), &[octet]).is_ok(), begins, "{octet}");
     }
     Ok(())

@@ -46,6 +46,8 @@ module _ (behind : List Lexeme) (args : List Argument) (next : List Lexeme) (onl
 require_word : (name : Word) (args : List Argument) (names : List (List ℕ)) → IsPlainCommand name args (require names) → name ≡ W.Require
 require_word W.Require args names is = refl
 require_word W.If args names is = absurd is
+require_word W.Elsif args names is = absurd is
+require_word W.Else args names is = absurd is
 require_word W.Stop args names is = let e = is.1 in cc
 require_word W.Keep args names is = let e = is.1 in cc
 require_word W.Discard args names is = let e = is.1 in cc
@@ -188,6 +190,8 @@ module _ (granted : Granted) where
       other (choose (branch test block more)) name behind may' is = subst (λ w. IsPastRequires (word w ∷ behind)) (sym is.0) tt
       other stop W.Require behind may' is = let e = is.1.1.1.1 in let no : ⊥ = cc in no
       other stop W.If behind may' is = tt
+      other stop W.Elsif behind may' is = tt
+      other stop W.Else behind may' is = tt
       other stop W.Stop behind may' is = tt
       other stop W.Keep behind may' is = tt
       other stop W.Discard behind may' is = tt
@@ -198,6 +202,8 @@ module _ (granted : Granted) where
       other stop W.Other behind may' is = tt
       other (act action) W.Require behind may' is = let e = is.1.1.1.1 in let no : ⊥ = cc in no
       other (act action) W.If behind may' is = tt
+      other (act action) W.Elsif behind may' is = tt
+      other (act action) W.Else behind may' is = tt
       other (act action) W.Stop behind may' is = tt
       other (act action) W.Keep behind may' is = tt
       other (act action) W.Discard behind may' is = tt

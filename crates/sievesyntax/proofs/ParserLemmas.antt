@@ -16,6 +16,8 @@ use Rattle.sievesyntax.specs.Reading.{IsStatement, IsCommand, TakesBehind}
 not_choose : (name : Word) (args : List Argument) (branches : Branches) → IsPlainCommand name args (choose branches) → ⊥
 not_choose W.Require args branches is = let e = is.1.1 in cc
 not_choose W.If args branches is = is
+not_choose W.Elsif args branches is = is
+not_choose W.Else args branches is = is
 not_choose W.Stop args branches is = let e = is.1 in cc
 not_choose W.Keep args branches is = let e = is.1 in cc
 not_choose W.Discard args branches is = let e = is.1 in cc

@@ -1,11 +1,13 @@
 -- The view, case by case.
-use Rattle.std.proofs.Common.{◌≡◌, ◌∙◌, ap, ℕ, List, [], ◌∷◌, rules, Vec, Global}
+use Rattle.std.proofs.Common.{◌≡◌, ◌∙◌, ap, ℕ, List, [], ◌∷◌, ◌++◌, map, rules, Vec, Global}
+use Rattle.std.proofs.lemmas.List.{map-append}
 use Rattle.sievesyntax.specs.declared.tree.Action.{Action}
 use Rattle.sievesyntax.specs.declared.tree.Test.{Test}
+use Rattle.sievesyntax.specs.declared.tree.Test.TheVariants.{True}
 use Rattle.sievesyntax.specs.declared.tree.Branch.{Branch, roll-Branch}
 use Rattle.sievesyntax.specs.declared.tree.Command.{Command, Require, If, Stop, Act, the_lemmas}
-use Rattle.sievesyntax.specs.Tree.{require, choose, stop, act, branch, no_branches}
-use Rattle.sievesyntax.specs.View.{test_view, command_view, commands_view, branches_view}
+use Rattle.sievesyntax.specs.Tree.{require, choose, stop, act, yes}
+use Rattle.sievesyntax.specs.View.{test_view, branch_view, command_view, commands_view, branches_view}
 
 pub view-Require : (names : List (List ℕ)) → command_view (Require names) ≡ require names
 view-Require names = search (rules, the_lemmas)
@@ -19,9 +21,13 @@ view-Stop = search (rules, the_lemmas)
 pub view-Act : (action : Action) → command_view (Act action) ≡ act action
 view-Act action = search (rules, the_lemmas)
 
-view-Branch : (test : Test) (block : Vec Command Global) → branches_view (roll-Branch (record { test = test; block = block }) ∷ []) ≡ branch (test_view test) (commands_view block.items) no_branches
+pub view-Branch : (test : Test) (block : Vec Command Global) → branch_view (roll-Branch (record { test = test; block = block })) ≡ (test_view test, commands_view block.items)
 view-Branch test block = search (rules, the_lemmas)
 
--- the view of an `if` with one branch
-pub view-one : (branches : Vec Branch Global) (test : Test) (block : Vec Command Global) → branches.items ≡ roll-Branch (record { test = test; block = block }) ∷ [] → command_view (If branches) ≡ choose (branch (test_view test) (commands_view block.items) no_branches)
-view-one branches test block same = view-If branches ∙ ap (λ bs. choose (branches_view bs)) same ∙ ap choose (view-Branch test block)
+-- one branch more
+pub push-branch : (old new : List Branch) (one : Branch) → new ≡ old ++ one ∷ [] → map branch_view new ≡ map branch_view old ++ branch_view one ∷ []
+push-branch old new one same = ap (map branch_view) same ∙ map-append branch_view old (one ∷ [])
+
+-- an `else` more
+pub push-else : (old new : List Branch) (block : Vec Command Global) → new ≡ old ++ roll-Branch (record { test = True; block = block }) ∷ [] → map branch_view new ≡ map branch_view old ++ (yes, commands_view block.items) ∷ []
+push-else old new block same = push-branch old new (roll-Branch (record { test = True; block = block })) same ∙ ap (λ b. map branch_view old ++ b ∷ []) (view-Branch True block)

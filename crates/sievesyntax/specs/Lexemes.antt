@@ -23,6 +23,8 @@ abbrev pub word_of : List ℕ → Word
 word_of name =
     cond (same_name name (codes "require")) W.Require
     (cond (same_name name (codes "if")) W.If
+    (cond (same_name name (codes "elsif")) W.Elsif
+    (cond (same_name name (codes "else")) W.Else
     (cond (same_name name (codes "stop")) W.Stop
     (cond (same_name name (codes "keep")) W.Keep
     (cond (same_name name (codes "discard")) W.Discard
@@ -30,7 +32,7 @@ word_of name =
     (cond (same_name name (codes "true")) W.True
     (cond (same_name name (codes "false")) W.False
     (cond (same_name name (codes "size")) W.Size
-    W.Other))))))))
+    W.Other))))))))))
 
 -- the tag of this name
 abbrev pub tag_of : List ℕ → Tag

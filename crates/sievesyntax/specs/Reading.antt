@@ -1,5 +1,5 @@
 -- The grammar of tests and commands (RFC 5228, 8.2).
-use Rattle.std.specs.Prelude.{◌≡◌, ◌≤◌, ◌+◌, ℕ, List, [], ◌∷◌, ◌++◌, All}
+use Rattle.std.specs.Prelude.{◌≡◌, ◌⊎◌, ◌≤◌, ◌+◌, ℕ, List, [], ◌∷◌, ◌++◌, All}
 use Rattle.sievelex.specs.declared.token.Kind.TheVariants as K
 use Rattle.sievesyntax.specs.declared.lexeme.Word.{Word}
 use Rattle.sievesyntax.specs.declared.lexeme.Word.TheVariants as W
@@ -9,7 +9,7 @@ use Rattle.sievesyntax.specs.Lexemes.{Lexeme, word, mark}
 use Rattle.sievesyntax.specs.Arguments.{AreArguments}
 use Rattle.sievesyntax.specs.Chains.{Chain}
 use Rattle.sievesyntax.specs.Rows.{IsPlainTest, IsPlainCommand}
-use Rattle.sievesyntax.specs.Tree.{TestTree, CommandTree, require, choose, stop, act, Branches, no_branches, branch, Commands, no_commands, command, depth, depth_of}
+use Rattle.sievesyntax.specs.Tree.{TestTree, yes, CommandTree, require, choose, stop, act, Branches, no_branches, branch, Commands, no_commands, command, depth, depth_of}
 use Rattle.sievesyntax.specs.Valid.{IsCapability, MayStand, MayAllStand}
 
 -- an identifier stands at the front, and this is so of it and of what is behind it
@@ -20,6 +20,12 @@ Headed P from = (name : Word) × ((behind : List Lexeme) × ((from ≡ word name
 abbrev pub Braced : (List Lexeme → List Lexeme → Type 0) → List Lexeme → List Lexeme → Type 0
 Braced P from to = (inside : List Lexeme) × ((from ≡ mark K.OpenBrace ∷ inside) × P inside (mark K.CloseBrace ∷ to))
 
+-- neither `elsif` nor `else` stands first
+abbrev pub IsPastBranches : List Lexeme → Type 0
+IsPastBranches (word W.Elsif ∷ _) = ⊥
+IsPastBranches (word W.Else ∷ _) = ⊥
+IsPastBranches _ = Unit {0}
+
 -- test = identifier arguments, behind its identifier
 abbrev pub IsTest : TestTree → Word → List Lexeme → List Lexeme → Type 0
 IsTest test name behind to = (args : List Argument) × (AreArguments args behind to × IsPlainTest name args test)
@@ -27,6 +33,10 @@ IsTest test name behind to = (args : List Argument) × (AreArguments args behind
 -- a test at the front
 abbrev pub ReadsTest : TestTree → List Lexeme → List Lexeme → Type 0
 ReadsTest test from to = Headed (λ name behind. IsTest test name behind to) from
+
+-- a test and a block stand at the front
+abbrev pub Tested : TestTree → (List Lexeme → List Lexeme → Type 0) → List Lexeme → List Lexeme → Type 0
+Tested test block from to = (start : List Lexeme) × (ReadsTest test from start × Braced block start to)
 
 -- command = identifier arguments ";", behind its identifier
 abbrev pub IsStatement : CommandTree → Word → List Lexeme → List Lexeme → Type 0
@@ -40,11 +50,19 @@ abbrev mutual
   IsCommand stop name behind to = IsStatement stop name behind to
   IsCommand (act action) name behind to = IsStatement (act action) name behind to
 
-  -- `if` with one test and a block (RFC 5228, 3.1)
+  -- `if` with a test and a block, and the branches behind it (RFC 5228, 3.1)
   pub IsChoice : Branches → Word → List Lexeme → List Lexeme → Type 0
   IsChoice no_branches name behind to = ⊥
   IsChoice (branch test block more) name behind to =
-      (name ≡ W.If) × ((more ≡ no_branches) × ((start : List Lexeme) × (ReadsTest test behind start × Braced (AreCommands block) start to)))
+      (name ≡ W.If) × ((next : List Lexeme) × (Tested test (AreCommands block) behind next × AreBranches more next to))
+
+  -- each `elsif` with a test and a block, and at the end an `else` with a block, whose branch has the test
+  -- `true`: all that stand there
+  pub AreBranches : Branches → List Lexeme → List Lexeme → Type 0
+  AreBranches no_branches from to = (from ≡ to) × IsPastBranches to
+  AreBranches (branch test block more) from to =
+      ((behind : List Lexeme) × ((from ≡ word W.Elsif ∷ behind) × ((next : List Lexeme) × (Tested test (AreCommands block) behind next × AreBranches more next to))))
+      ⊎ ((behind : List Lexeme) × ((from ≡ word W.Else ∷ behind) × (Braced (AreCommands block) behind to × ((test ≡ yes) × (more ≡ no_branches)))))
 
   -- commands = *command
   pub AreCommands : Commands → List Lexeme → List Lexeme → Type 0
@@ -66,6 +84,29 @@ TakesBehind granted room name tree behind to = IsCommand tree name behind to × 
 -- a block at the front that may stand there
 abbrev pub TakesBlock : Granted → ℕ → Commands → List Lexeme → List Lexeme → Type 0
 TakesBlock granted room block from to = Braced (AreCommands block) from to × (MayAllStand granted block × (depth block + 1 ≤ room))
+
+-- a test and a block at the front that may stand there
+abbrev pub TakesBranch : Granted → ℕ → TestTree × Commands → List Lexeme → List Lexeme → Type 0
+TakesBranch granted room one from to = (start : List Lexeme) × (ReadsTest one.0 from start × TakesBlock granted room one.1 start to)
+
+-- an `elsif` at the front that may stand there
+abbrev pub TakesElsif : Granted → ℕ → TestTree × Commands → List Lexeme → List Lexeme → Type 0
+TakesElsif granted room one from to = (behind : List Lexeme) × ((from ≡ word W.Elsif ∷ behind) × TakesBranch granted room one behind to)
+
+-- no `elsif` stands first
+abbrev pub IsPastElsif : List Lexeme → Type 0
+IsPastElsif (word W.Elsif ∷ _) = ⊥
+IsPastElsif _ = Unit {0}
+
+-- each `elsif` at the front that may stand there
+abbrev pub TakesElsifs : Granted → ℕ → List (TestTree × Commands) → List Lexeme → List Lexeme → Type 0
+TakesElsifs granted room each from to = Chain (TakesElsif granted room) each from to × IsPastElsif to
+
+-- an `else` at the front that may stand there, or none
+abbrev pub TakesElse : Granted → ℕ → List (TestTree × Commands) → List Lexeme → List Lexeme → Type 0
+TakesElse granted room [] from to = (from ≡ to) × IsPastBranches from
+TakesElse granted room (one ∷ []) from to = (behind : List Lexeme) × ((from ≡ word W.Else ∷ behind) × ((one.0 ≡ yes) × TakesBlock granted room one.1 behind to))
+TakesElse granted room (_ ∷ (_ ∷ _)) from to = ⊥
 
 -- commands end here: at the close of a block or at the end
 abbrev pub IsStop : List Lexeme → Type 0

@@ -10,6 +10,8 @@ use sievelex::{Kind, Token, Value};
 pub enum Word {
     Require,
     If,
+    Elsif,
+    Else,
     Stop,
     Keep,
     Discard,
@@ -73,6 +75,10 @@ fn word_named(name: &[u8]) -> Word
         Word::Require
     } else if is_name(name, b"if") {
         Word::If
+    } else if is_name(name, b"elsif") {
+        Word::Elsif
+    } else if is_name(name, b"else") {
+        Word::Else
     } else if is_name(name, b"stop") {
         Word::Stop
     } else if is_name(name, b"keep") {

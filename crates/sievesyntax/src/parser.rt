@@ -1,12 +1,12 @@
 //! Tests, commands and blocks, by recursive descent: one pass, and no deeper than blocks may stand.
-ghost use Rattle.std.specs.Prelude.{◌≡◌, ◌↔◌, ◌++◌, ◌∷◌, ℕ, List, IfOk, IsTrue, map};
+ghost use Rattle.std.specs.Prelude.{◌≡◌, ◌↔◌, ◌++◌, ◌∷◌, ℕ, List, IfOk, IsTrue, MatchBool, map};
 ghost use Rattle.sievesyntax.specs.declared.lexeme.Word.{Word};
 ghost use Rattle.sievesyntax.specs.declared.lexeme.Word.TheVariants as W;
 ghost use Rattle.sievesyntax.specs.Lexemes.{Lexeme, word};
 ghost use Rattle.sievesyntax.specs.Parsing.{IfFault, Parses};
-ghost use Rattle.sievesyntax.specs.Tree.{CommandTree};
-ghost use Rattle.sievesyntax.specs.View.{test_view, command_view, commands_view};
-ghost use Rattle.sievesyntax.specs.Reading.{ReadsTest, TakesCommand, TakesBehind, TakesBlock, TakesAll, IsStop};
+ghost use Rattle.sievesyntax.specs.Tree.{TestTree, CommandTree, Commands};
+ghost use Rattle.sievesyntax.specs.View.{test_view, branch_view, command_view, commands_view};
+ghost use Rattle.sievesyntax.specs.Reading.{ReadsTest, TakesCommand, TakesBehind, TakesBlock, TakesBranch, TakesElsifs, TakesElse, IsPastElsif, IsPastBranches, TakesAll, IsStop};
 
 use crate::argument::read_arguments;
 use crate::granted::Granted;
@@ -55,7 +55,7 @@ fn read_command(
     }
 }
 
-/// `if`, behind its name: a test and a block.
+/// `if`, behind its name: a test and a block, each `elsif`, and an `else`.
 #[cycle(parse)]
 fn read_if(
     alloc: Global,
@@ -65,11 +65,71 @@ fn read_if(
 ) -> Result<Command, ReadError>
     ensures { Parses command_view (TakesBehind granted room W.If) reader.old reader.new result }
 {
+    let mut branches = Vec::new(alloc);
+    branches.push(read_branch(alloc, reader, granted, room)?)?;
+    let branches = read_elsifs(alloc, reader, granted, room, branches)?;
+    let branches = read_else(alloc, reader, granted, room, branches)?;
+    Ok(Command::If(branches))
+}
+
+/// A test and a block.
+#[cycle(parse)]
+fn read_branch(
+    alloc: Global,
+    reader: &mut Reader<'_>,
+    granted: Granted,
+    room: usize,
+) -> Result<Branch, ReadError>
+    ensures { Parses branch_view (TakesBranch granted room) reader.old reader.new result }
+{
     let test = read_test(alloc, reader)?;
     let block = read_block(alloc, reader, granted, room)?;
-    let mut branches = Vec::new(alloc);
-    branches.push(Branch { test, block })?;
-    Ok(Command::If(branches))
+    Ok(Branch { test, block })
+}
+
+/// Each `elsif` behind the branches read so far.
+#[cycle(parse)]
+fn read_elsifs(
+    alloc: Global,
+    reader: &mut Reader<'_>,
+    granted: Granted,
+    room: usize,
+    branches: Vec<Branch>,
+) -> Result<Vec<Branch>, ReadError>
+    ensures found { IfOk result (λ all. (each : List (TestTree × Commands)) × ((map branch_view all.items ≡ map branch_view branches.items ++ each) × TakesElsifs granted room each reader.old reader.new)) }
+    ensures only { IfOk result (λ all. (each : List (TestTree × Commands)) (to : List Lexeme) → TakesElsifs granted room each reader.old to → (map branch_view all.items ≡ map branch_view branches.items ++ each) × (to ≡ reader.new)) }
+    ensures fault { IfFault result ((each : List (TestTree × Commands)) (to : List Lexeme) → TakesElsifs granted room each reader.old to → ⊥) }
+{
+    let mut branches = branches;
+    'elsifs: while take_elsif(reader) {
+        branches.push(read_branch(alloc, reader, granted, room)?)?;
+    }
+    Ok(branches)
+}
+
+/// The `else` behind the branches read so far, if one stands there.
+#[cycle(parse)]
+fn read_else(
+    alloc: Global,
+    reader: &mut Reader<'_>,
+    granted: Granted,
+    room: usize,
+    branches: Vec<Branch>,
+) -> Result<Vec<Branch>, ReadError>
+    requires { IsPastElsif reader.old }
+    ensures found { IfOk result (λ all. (last : List (TestTree × Commands)) × ((map branch_view all.items ≡ map branch_view branches.items ++ last) × TakesElse granted room last reader.old reader.new)) }
+    ensures only { IfOk result (λ all. (last : List (TestTree × Commands)) (to : List Lexeme) → TakesElse granted room last reader.old to → (map branch_view all.items ≡ map branch_view branches.items ++ last) × (to ≡ reader.new)) }
+    ensures fault { IfFault result ((last : List (TestTree × Commands)) (to : List Lexeme) → TakesElse granted room last reader.old to → ⊥) }
+{
+    let mut branches = branches;
+    if take_else(reader) {
+        let block = read_block(alloc, reader, granted, room)?;
+        branches.push(Branch {
+            test: Test::True,
+            block,
+        })?;
+    }
+    Ok(branches)
 }
 
 /// A block that may stand here.
@@ -140,5 +200,31 @@ fn is_stop(reader: &Reader<'_>) -> bool
         None => true,
         Some((Seen::Mark(Kind::CloseBrace), _)) => true,
         Some(_) => false,
+    }
+}
+
+/// Passes the word `elsif`, if it stands first.
+fn take_elsif(reader: &mut Reader<'_>) -> bool
+    ensures { MatchBool result (reader.old ≡ word W.Elsif ∷ reader.new) (IsPastElsif reader.old × (reader.new ≡ reader.old)) }
+{
+    match reader.split_first() {
+        Some((Seen::Word(Word::Elsif), after)) => {
+            *reader = after;
+            true
+        }
+        _ => false,
+    }
+}
+
+/// Passes the word `else`, if it stands first.
+fn take_else(reader: &mut Reader<'_>) -> bool
+    ensures { MatchBool result (reader.old ≡ word W.Else ∷ reader.new) ((IsPastElsif reader.old → IsPastBranches reader.old) × (reader.new ≡ reader.old)) }
+{
+    match reader.split_first() {
+        Some((Seen::Word(Word::Else), after)) => {
+            *reader = after;
+            true
+        }
+        _ => false,
     }
 }

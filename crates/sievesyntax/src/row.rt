@@ -73,6 +73,8 @@ pub fn plain_command(
             Ok(Command::Act(Action::FileInto(mailbox)))
         }
         Word::Require => Err(ReadError::Fault(FaultKind::LateRequire)),
+        Word::Elsif => Err(ReadError::Fault(FaultKind::StrayElse)),
+        Word::Else => Err(ReadError::Fault(FaultKind::StrayElse)),
         _ => Err(ReadError::Fault(FaultKind::UnknownCommand)),
     }
 }

@@ -47,7 +47,16 @@ fn names_the_first_fault_and_its_line(rt: HostRuntime) -> Result<(), Fail> {
             FaultKind::NumberTooLarge,
         ),
         ("keep;\nvacation \"x\";", 2, FaultKind::UnknownCommand),
-        ("elsif true { keep; }", 1, FaultKind::UnknownCommand),
+        ("elsif true { keep; }", 1, FaultKind::StrayElse),
+        ("else { keep; }", 1, FaultKind::StrayElse),
+        ("if true { }\nelse { } else { }", 2, FaultKind::StrayElse),
+        (
+            "if true { } else { }\nelsif true { }",
+            2,
+            FaultKind::StrayElse,
+        ),
+        ("if true { } keep; elsif true { }", 1, FaultKind::StrayElse),
+        ("if true { } else true { }", 1, FaultKind::Unexpected),
         ("if header \"a\" \"b\" { keep; }", 1, FaultKind::UnknownTest),
         ("if size :is 5 { keep; }", 1, FaultKind::UnknownTag),
         ("if size :over :under 5 { keep; }", 1, FaultKind::DoubleTag),
@@ -101,6 +110,7 @@ fn takes_what_the_language_allows(rt: HostRuntime) -> Result<(), Fail> {
         "require \"fileinto\"; require [\"fileinto\", \"fileinto\"]; fileinto \"inbox\"; keep; discard;",
         "if size :over 2147483647 {stop;}",
         "if false { stop; } discard;",
+        "if true { } ELSIF false { keep; } elsif true { stop; } Else { discard; } if true { } else { }",
         "if TRUE { if Size :UNDER 1K { } }",
         "require \"fileinto\";if size:over 10{fileinto\"big\";}",
     ];
@@ -201,5 +211,25 @@ fn keeps_to_its_limits(rt: HostRuntime) -> Result<(), Fail> {
         )?;
         assert_eq!(rt; fault_of(alloc, text.as_slice())?, wanted);
     }
+    Ok(())
+}
+
+#[test]
+fn keeps_each_branch_in_order(rt: HostRuntime) -> Result<(), Fail> {
+    let text = b"if size :under 1 { keep; } elsif false { } else { stop; discard; }";
+    let script = check(rt.alloc(), text)?;
+    let Some(Command::If(branches)) = script.commands().first() else {
+        return Err("no if")?;
+    };
+    assert_eq!(rt; branches.len(), 3);
+    let first = branches.first().ok_or("no first branch")?;
+    assert!(rt; matches!(&first.test, Test::Check(Check::Size(_))));
+    assert_eq!(rt; first.block.len(), 1);
+    let second = branches.get(1).ok_or("no second branch")?;
+    assert!(rt; matches!(&second.test, Test::False));
+    assert_eq!(rt; second.block.len(), 0);
+    let last = branches.last().ok_or("no last branch")?;
+    assert!(rt; matches!(&last.test, Test::True));
+    assert_eq!(rt; last.block.len(), 2);
     Ok(())
 }

@@ -1,0 +1,10 @@
+use Rattle.std.proofs.Common.{arith}
+use Rattle.std.proofs.lemmas.Grind.{common_steps}
+use Rattle.addrparts.proofs.Spells.{spelling-law}
+use Rattle.addrparts.proofs.address.spell.Goals as goal
+
+pub returns-clause-spelled : goal.returns-clause-spelled
+returns-clause-spelled c = grind (arith, common_steps)
+
+pub returns-clause-again : goal.returns-clause-again
+returns-clause-again c = spelling-law c.args.address.now _ (returns-clause-spelled c)

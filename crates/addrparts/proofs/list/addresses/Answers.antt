@@ -1,0 +1,19 @@
+use Rattle.std.proofs.Common.{sym, ◌∙◌, subst, rules}
+use Rattle.addrparts.specs.Parts.{AreAddresses}
+use Rattle.addrparts.specs.Reading.{addrs}
+use Rattle.addrparts.proofs.Lists.{addrs-are, addrs-only}
+use Rattle.addrparts.proofs.Spells.{addresses-domain}
+use Rattle.addrparts.proofs.list.addresses.Goals as goal
+
+pub returns-clause-read : goal.returns-clause-read
+unfolding addrs
+returns-clause-read c = search rules
+
+pub returns-clause-found : goal.returns-clause-found
+returns-clause-found c = subst (AreAddresses c.args.value.now) (sym (returns-clause-read c)) (addrs-are c.args.value.now)
+
+pub returns-clause-only : goal.returns-clause-only
+returns-clause-only c = λ others are. addrs-only c.args.value.now others are ∙ sym (returns-clause-read c)
+
+pub returns-clause-domains : goal.returns-clause-domains
+returns-clause-domains c = addresses-domain c.args.value.now c.give.new.found.items (returns-clause-found c)

@@ -1,0 +1,5 @@
+pub mod Pieces
+pub mod Parts
+pub mod Outbound
+pub mod Spelling
+pub mod Reading

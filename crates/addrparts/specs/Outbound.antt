@@ -1,0 +1,72 @@
+-- The address that a script or a command names.
+use Rattle.std.specs.Prelude.{◌≡◌, ℕ, ◌==◌, ◌&&◌, ◌⊎◌, not, nat_le, Bool, true, false, length, List, [], ◌∷◌, ◌++◌}
+use Rattle.std.specs.List.{list_all, flat_map}
+use Rattle.octets.specs.Ascii.{trimmed}
+use Rattle.addrparts.specs.declared.scanner.Kind.{Kind}
+use Rattle.addrparts.specs.declared.scanner.Kind.TheVariants as K
+use Rattle.addrparts.specs.declared.address.Addr.{Addr}
+use Rattle.addrparts.specs.Pieces.{Piece, Cut, unquoted}
+use Rattle.addrparts.specs.Parts.{tokens, Each, IsSpec}
+
+-- the octet is no control character
+abbrev pub is_shown : ℕ → Bool
+is_shown octet = nat_le 32 octet && not (octet == 127)
+
+-- at most 512 octets, none of them a control character
+abbrev pub is_fit : List ℕ → Bool
+is_fit text = nat_le (length text) 512 && list_all is_shown text
+
+-- the piece is no comment
+abbrev pub is_no_comment : Kind → Bool
+is_no_comment K.Comment = false
+is_no_comment _ = true
+
+-- the piece may stand in a display
+abbrev pub is_phrase : Kind → Bool
+is_phrase K.Blank = true
+is_phrase K.Atom = true
+is_phrase K.Quoted = true
+is_phrase K.Dot = true
+is_phrase _ = false
+
+-- a word is the first but for blanks
+abbrev pub BeginsWithWord : List Piece → Type 0
+BeginsWithWord [] = ⊥
+BeginsWithWord (piece ∷ more) = WordFirst piece.kind (BeginsWithWord more)
+  where
+    WordFirst : Kind → Type 0 → Type 0
+    WordFirst K.Atom _ = Unit {0}
+    WordFirst K.Quoted _ = Unit {0}
+    WordFirst K.Blank others = others
+    WordFirst _ _ = ⊥
+
+-- words, with dots behind the first, and an addr-spec in angle brackets (RFC 5322, 3.2.5 and 4.1: obs-phrase)
+pub record IsPhrased (pieces : List Piece) (display : List ℕ) (address : Addr) : Type 0 where
+  pub phrase : List Piece
+  pub less : Piece
+  pub others : List Piece
+  pub cut : pieces ≡ phrase ++ less ∷ others
+  pub opens : less.kind ≡ K.Less
+  pub words : Each is_phrase phrase
+  pub begins : BeginsWithWord phrase
+  pub inside : List Piece
+  pub greater : Piece
+  pub rest : tokens others ≡ inside ++ greater ∷ []
+  pub closes : greater.kind ≡ K.Greater
+  pub spec : IsSpec inside address
+  pub shown : display ≡ unquoted (trimmed (flat_map (λ piece. piece.text) phrase))
+
+-- an addr-spec without display
+pub record IsBare (pieces : List Piece) (display : List ℕ) (address : Addr) : Type 0 where
+  pub spec : IsSpec (tokens pieces) address
+  pub shown : display ≡ []
+
+-- the text names this address with this display: it is short, has no control characters and no comment, and is an addr-spec
+-- alone or words and an addr-spec in angle brackets. The display is the text before the bracket without blanks at its ends,
+-- quotation marks taken off and quoted pairs replaced.
+pub record IsOutbound (text : List ℕ) (display : List ℕ) (address : Addr) : Type 0 where
+  pub fit : is_fit text ≡ true
+  pub pieces : List Piece
+  pub cut : Cut text pieces
+  pub no_comment : Each is_no_comment pieces
+  pub shape : IsBare pieces display address ⊎ IsPhrased pieces display address

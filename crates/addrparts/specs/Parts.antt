@@ -1,0 +1,156 @@
+-- The parts of a list of addresses, and which address each gives (RFC 5322, 3.4 and 4.4).
+use Rattle.std.specs.Prelude.{◌≡◌, ◌≢◌, ℕ, ◌&&◌, ◌⊎◌, not, Bool, true, false, Option, Some, None, option_to_list, filter, List, [], ◌∷◌, ◌++◌}
+use Rattle.addrparts.specs.declared.scanner.Kind.{Kind}
+use Rattle.addrparts.specs.declared.scanner.Kind.TheVariants as K
+use Rattle.addrparts.specs.declared.address.Addr.{Addr}
+use Rattle.addrparts.specs.Pieces.{Piece, Cut, unquoted}
+
+-- the piece is no blank and no comment
+abbrev pub is_token : Kind → Bool
+is_token K.Blank = false
+is_token K.Comment = false
+is_token _ = true
+
+-- the pieces without blanks and comments
+abbrev pub tokens : List Piece → List Piece
+tokens pieces = filter (λ piece. is_token piece.kind) pieces
+
+-- a comma, a colon or a semicolon
+abbrev pub is_separator : Kind → Bool
+is_separator K.Comma = true
+is_separator K.Colon = true
+is_separator K.Semicolon = true
+is_separator _ = false
+
+-- whether an angle bracket is open behind a token, where it was or wasn't before
+abbrev pub is_open : Bool → Kind → Bool
+is_open inside K.Less = true
+is_open inside K.Greater = false
+is_open inside _ = inside
+
+-- whether an angle bracket is open behind these tokens
+abbrev pub is_open_after : Bool → List Piece → Bool
+is_open_after inside [] = inside
+is_open_after inside (token ∷ more) = is_open_after (is_open inside token.kind) more
+
+-- no separator stands outside angle brackets
+abbrev pub IsUncut : Bool → List Piece → Type 0
+IsUncut inside [] = Unit {0}
+IsUncut inside (token ∷ more) = ((is_separator token.kind && not inside) ≡ false) × IsUncut (is_open inside token.kind) more
+
+-- a part: its tokens, and the kind of the separator behind it
+pub record Part : Type 0 where
+  pub tokens : List Piece
+  pub ending : Option Kind
+
+-- the tokens are these parts, with a separator behind each but the last
+abbrev pub AreParts : List Piece → List Part → Type 0
+AreParts all [] = ⊥
+AreParts all (part ∷ []) = (all ≡ part.tokens) × (IsUncut false part.tokens × (part.ending ≡ None))
+AreParts all (part ∷ (next ∷ more)) =
+    (mark : Piece) × (behind : List Piece) × (all ≡ part.tokens ++ mark ∷ behind)
+    × (IsUncut false part.tokens) × (is_open_after false part.tokens ≡ false)
+    × (is_separator mark.kind ≡ true) × (part.ending ≡ Some mark.kind)
+    × AreParts behind (next ∷ more)
+
+-- a word is an atom or a quoted string, and has a value (RFC 5322, 3.2.5)
+abbrev pub IsWord : Kind → List ℕ → List ℕ → Type 0
+IsWord K.Atom text value = value ≡ text
+IsWord K.Quoted text value = value ≡ unquoted text
+IsWord _ text value = ⊥
+
+-- an atom is its own value
+abbrev pub IsAtom : Kind → List ℕ → List ℕ → Type 0
+IsAtom K.Atom text value = value ≡ text
+IsAtom _ text value = ⊥
+
+-- one or more of these with dots between, and their values with the dots
+abbrev pub Dotted : (Kind → List ℕ → List ℕ → Type 0) → List Piece → List ℕ → Type 0
+Dotted IsItem [] value = ⊥
+Dotted IsItem (item ∷ []) value = IsItem item.kind item.text value
+Dotted IsItem (item ∷ (dot ∷ more)) value =
+    (first : List ℕ) × (others : List ℕ) × (IsItem item.kind item.text first) × (dot.kind ≡ K.Dot)
+    × (Dotted IsItem more others) × (value ≡ first ++ 46 ∷ others)
+
+-- one domain literal, whose value is as it is written
+pub record IsLiteral (tokens : List Piece) (value : List ℕ) : Type 0 where
+  pub literal : Piece
+  pub alone : tokens ≡ literal ∷ []
+  pub kind : literal.kind ≡ K.Literal
+  pub text : value ≡ literal.text
+
+-- words with dots between, `@`, and atoms with dots between or a domain literal (RFC 5322, 3.4.1 and 4.4)
+pub record IsSpec (tokens : List Piece) (address : Addr) : Type 0 where
+  pub local : List Piece
+  pub at : Piece
+  pub domain : List Piece
+  pub cut : tokens ≡ local ++ at ∷ domain
+  pub mark : at.kind ≡ K.At
+  pub words : Dotted IsWord local address.local
+  pub host : Dotted IsAtom domain address.domain ⊎ IsLiteral domain address.domain
+
+-- the token is no angle bracket
+abbrev pub is_plain : Kind → Bool
+is_plain K.Less = false
+is_plain K.Greater = false
+is_plain _ = true
+
+-- the token may stand in a route
+abbrev pub is_route : Kind → Bool
+is_route K.Colon = false
+is_route K.Greater = false
+is_route _ = true
+
+-- each token passes
+abbrev pub Each : (Kind → Bool) → List Piece → Type 0
+Each test [] = Unit {0}
+Each test (token ∷ more) = (test token.kind ≡ true) × Each test more
+
+-- a route, which begins with `@` and goes up to the first colon, and an addr-spec (RFC 5322, 4.4: obs-route)
+pub record IsRouted (tokens : List Piece) (address : Addr) : Type 0 where
+  pub at : Piece
+  pub route : List Piece
+  pub colon : Piece
+  pub others : List Piece
+  pub cut : tokens ≡ at ∷ (route ++ colon ∷ others)
+  pub begins : at.kind ≡ K.At
+  pub up_to : Each is_route route
+  pub first : colon.kind ≡ K.Colon
+  pub spec : IsSpec others address
+
+-- any tokens but angle brackets, and an addr-spec in angle brackets, perhaps with a route (RFC 5322, 3.4: name-addr)
+pub record IsNamed (tokens : List Piece) (address : Addr) : Type 0 where
+  pub display : List Piece
+  pub less : Piece
+  pub inside : List Piece
+  pub greater : Piece
+  pub cut : tokens ≡ display ++ less ∷ (inside ++ greater ∷ [])
+  pub plain : Each is_plain display
+  pub opens : less.kind ≡ K.Less
+  pub spec : IsSpec inside address ⊎ IsRouted inside address
+  pub closes : greater.kind ≡ K.Greater
+
+-- the part gives this address; one before a colon gives none, since it names a group
+pub record Gives (part : Part) (address : Addr) : Type 0 where
+  pub no_name : part.ending ≢ Some K.Colon
+  pub shape : IsSpec part.tokens address ⊎ IsNamed part.tokens address
+
+-- the part gives this address, or none
+abbrev pub Answers : Part → Option Addr → Type 0
+Answers part (Some address) = Gives part address
+Answers part None = (address : Addr) → Gives part address → ⊥
+
+-- the addresses that the parts give, in order
+abbrev pub Collects : List Part → List Addr → Type 0
+Collects [] addresses = addresses ≡ []
+Collects (part ∷ more) addresses =
+    (answer : Option Addr) × (others : List Addr) × (Answers part answer) × (Collects more others)
+    × (addresses ≡ option_to_list answer ++ others)
+
+-- the addresses of a value
+pub record AreAddresses (value : List ℕ) (addresses : List Addr) : Type 0 where
+  pub pieces : List Piece
+  pub cut : Cut value pieces
+  pub parts : List Part
+  pub split : AreParts (tokens pieces) parts
+  pub given : Collects parts addresses

@@ -1,0 +1,95 @@
+//! One address, and how it is written.
+ghost use Rattle.std.specs.Prelude.{◌≡◌, ◌↔◌, [], ◌++◌, IsTrue, IfOk, OnOk};
+ghost use Rattle.addrparts.specs.Spelling as spec;
+ghost use Rattle.addrparts.specs.Outbound as outbound;
+
+use crate::scanner;
+use octets::Octets;
+use std::alloc::{AllocError, Global};
+
+/// A mail address (RFC 5322, 3.4.1).
+///
+/// The local part has the values of its words with the dots between them: no quotation marks, and no backslashes that
+/// quote. The domain has its atoms with the dots between them, or a domain literal as it was written.
+#[derive(Debug, Drop, PartialEq, Eq)]
+pub struct Addr {
+    pub local: Octets,
+    pub domain: Octets,
+}
+
+impl Addr {
+    /// The local part, `@` and the domain, with nothing quoted.
+    pub fn all(&self, alloc: Global) -> Result<Octets, AllocError>
+        ensures { IfOk result (λ text. text ≡ spec.all_of self.now) }
+    {
+        let local = self.local.as_slice();
+        let domain = self.domain.as_slice();
+        let mut text = Octets::new(alloc);
+        text.reserve(local.len() + 1 + domain.len())?;
+        text.extend_from_slice(local)?;
+        text.push(b'@')?;
+        text.extend_from_slice(domain)?;
+        Ok(text)
+    }
+}
+
+/// Atoms with dots between (RFC 5322, 3.2.3: dot-atom-text).
+fn is_dot_atom(text: &[u8]) -> bool
+    ensures { result ≡ spec.is_dot_atom text.now }
+{
+    let mut due = true;
+    for octet in text {
+        if *octet == b'.' {
+            if due {
+                return false;
+            }
+            due = true;
+        } else if scanner::is_atom(*octet) {
+            due = false;
+        } else {
+            return false;
+        }
+    }
+    !due
+}
+
+/// Appends the text between quotation marks, with a backslash before each quotation mark and backslash.
+fn quote(out: &mut Octets, text: &[u8]) -> Result<(), AllocError>
+    ensures { OnOk result (out.new ≡ out.old ++ spec.quoted text.now) }
+{
+    out.push(b'"')?;
+    escape(out, text)?;
+    out.push(b'"')
+}
+
+fn escape(out: &mut Octets, text: &[u8]) -> Result<(), AllocError>
+    ensures { OnOk result (out.new ≡ out.old ++ spec.escaped text.now) }
+{
+    for octet in text {
+        if *octet == b'"' || *octet == b'\\' {
+            out.push(b'\\')?;
+        }
+        out.push(*octet)?;
+    }
+    Ok(())
+}
+
+/// The address as a header or a command has it: the local part as it is if it is atoms with dots between, else as a quoted string.
+///
+/// `sieve_address` gives the address back, with an empty display, exactly where the domain is one and what is written fits its
+/// limits.
+pub fn spell(alloc: Global, address: &Addr) -> Result<Octets, AllocError>
+    ensures spelled { IfOk result (λ text. text ≡ spec.spelling address.now) }
+    ensures again { IfOk result (λ text. outbound.IsOutbound text [] address.now
+        ↔ (spec.IsDomain address.now.domain × IsTrue (outbound.is_fit text))) }
+{
+    let mut text = Octets::new(alloc);
+    if is_dot_atom(address.local.as_slice()) {
+        text.extend_from_slice(address.local.as_slice())?;
+    } else {
+        quote(&mut text, address.local.as_slice())?;
+    }
+    text.push(b'@')?;
+    text.extend_from_slice(address.domain.as_slice())?;
+    Ok(text)
+}

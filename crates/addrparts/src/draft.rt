@@ -1,0 +1,263 @@
+//! The address that a part of a list gives, as far as its tokens have been read.
+ghost use Rattle.std.specs.Prelude.{◌≡◌, [], ◌++◌, IfOk, OnOk};
+ghost use Rattle.addrparts.specs.Pieces as spec;
+ghost use Rattle.addrparts.specs.Reading as reading;
+
+use crate::address::Addr;
+use crate::scanner::{Kind, Token};
+use octets::Octets;
+use std::alloc::{AllocError, Global};
+use std::mem;
+
+/// Where in its part the next token stands.
+#[derive(Clone, Copy)]
+pub enum Place {
+    /// Before any angle bracket: in a display, or in an address without brackets.
+    Front,
+    /// Right behind an opening bracket, where a route may begin.
+    Open,
+    /// In a route.
+    Route,
+    /// In brackets, behind the route if there is one.
+    Inside,
+    /// Behind a closing bracket, where nothing more may stand.
+    Behind,
+}
+
+/// How much of an addr-spec has been read.
+#[derive(Clone, Copy)]
+pub enum Stage {
+    Start,
+    /// Behind a word of the local part.
+    Word,
+    /// Behind a dot of the local part.
+    Dot,
+    /// Behind the `@`.
+    At,
+    /// Behind an atom of the domain.
+    Name,
+    /// Behind a dot of the domain.
+    NameDot,
+    /// Behind a domain literal.
+    Literal,
+    /// What was read begins no addr-spec.
+    Wrong,
+}
+
+/// A part of a list, as far as it has been read.
+#[derive(Drop)]
+pub struct Draft {
+    pub place: Place,
+    pub stage: Stage,
+    pub local: Octets,
+    pub domain: Octets,
+}
+
+fn stage_after(stage: Stage, kind: Kind) -> Stage
+    ensures { result ≡ reading.stage_after stage kind }
+{
+    match stage {
+        Stage::Start | Stage::Dot => match kind {
+            Kind::Atom | Kind::Quoted => Stage::Word,
+            _ => Stage::Wrong,
+        },
+        Stage::Word => match kind {
+            Kind::Dot => Stage::Dot,
+            Kind::At => Stage::At,
+            _ => Stage::Wrong,
+        },
+        Stage::At => match kind {
+            Kind::Atom => Stage::Name,
+            Kind::Literal => Stage::Literal,
+            _ => Stage::Wrong,
+        },
+        Stage::Name => match kind {
+            Kind::Dot => Stage::NameDot,
+            _ => Stage::Wrong,
+        },
+        Stage::NameDot => match kind {
+            Kind::Atom => Stage::Name,
+            _ => Stage::Wrong,
+        },
+        Stage::Literal | Stage::Wrong => Stage::Wrong,
+    }
+}
+
+/// Appends the text without its quotation marks, and with each quoted pair replaced by its octet. Reads the text once.
+pub fn unquote(out: &mut Octets, text: &[u8]) -> Result<(), AllocError>
+    ensures { OnOk result (out.new ≡ out.old ++ spec.unquoted text.now) }
+{
+    let mut escaped = false;
+    for octet in text {
+        if !escaped && *octet == b'\\' {
+            escaped = true;
+        } else if escaped || *octet != b'"' {
+            out.push(*octet)?;
+            escaped = false;
+        }
+    }
+    Ok(())
+}
+
+/// Appends what a word, a dot or a domain literal stands for.
+fn append(out: &mut Octets, token: Token<'_>) -> Result<(), AllocError>
+    ensures { OnOk result (out.new ≡ out.old ++ reading.value_of token.entry.kind token.entry.text.now) }
+{
+    match token.kind {
+        Kind::Quoted => unquote(out, token.text),
+        Kind::Dot => out.push(b'.'),
+        _ => out.extend_from_slice(token.text),
+    }
+}
+
+/// No octets, with the room that there was.
+fn clear(alloc: Global, text: &mut Octets)
+    ensures { text.new ≡ [] }
+{
+    let mut items = mem::replace(text, Octets::new(alloc)).into_vec();
+    items.clear();
+    *text = Octets::from_vec(items);
+}
+
+impl Draft {
+    ghost use Rattle.addrparts.specs.declared.draft.Place.TheVariants as P;
+    ghost use Rattle.addrparts.specs.declared.draft.Stage.TheVariants as S;
+
+    /// Nothing read. Takes no memory.
+    pub fn new(alloc: Global, place: Place) -> Draft
+        ensures { result ≡ reading.start_at place }
+    {
+        Draft {
+            place,
+            stage: Stage::Start,
+            local: Octets::new(alloc),
+            domain: Octets::new(alloc),
+        }
+    }
+
+    /// No angle bracket is open.
+    pub fn is_outside(&self) -> bool
+        ensures { result ≡ reading.is_outside self.now.place }
+    {
+        match self.place {
+            Place::Front | Place::Behind => true,
+            _ => false,
+        }
+    }
+
+    /// Begins anew behind an opening bracket.
+    fn open(&mut self, alloc: Global)
+        ensures { self.new ≡ reading.start_at P.Open }
+    {
+        self.place = Place::Open;
+        self.stage = Stage::Start;
+        clear(alloc, &mut self.local);
+        clear(alloc, &mut self.domain);
+    }
+
+    /// Reads a token of an addr-spec.
+    fn read(&mut self, token: Token<'_>) -> Result<(), AllocError>
+        ensures { OnOk result (self.new ≡ reading.read self.old token.entry.kind token.entry.text.now) }
+    {
+        self.stage = stage_after(self.stage, token.kind);
+        match self.stage {
+            Stage::Word | Stage::Dot => append(&mut self.local, token),
+            Stage::Name | Stage::NameDot | Stage::Literal => append(&mut self.domain, token),
+            _ => Ok(()),
+        }
+    }
+
+    /// Reads a token at its place.
+    fn take_at(&mut self, alloc: Global, token: Token<'_>) -> Result<(), AllocError>
+        ensures { OnOk result (self.new ≡ reading.take_at self.old.place self.old token.entry.kind token.entry.text.now) }
+    {
+        match self.place {
+            Place::Front => match token.kind {
+                Kind::Less => self.open(alloc),
+                Kind::Greater => self.spoil(Place::Behind),
+                _ => self.read(token)?,
+            },
+            Place::Open => match token.kind {
+                Kind::At => self.place = Place::Route,
+                Kind::Greater => self.place = Place::Behind,
+                _ => {
+                    self.place = Place::Inside;
+                    self.read(token)?;
+                }
+            },
+            Place::Route => match token.kind {
+                Kind::Colon => self.place = Place::Inside,
+                Kind::Greater => self.place = Place::Behind,
+                _ => {}
+            },
+            Place::Inside => match token.kind {
+                Kind::Greater => self.place = Place::Behind,
+                _ => self.read(token)?,
+            },
+            Place::Behind => match token.kind {
+                Kind::Less => self.spoil(Place::Inside),
+                _ => self.spoil(Place::Behind),
+            },
+        }
+        Ok(())
+    }
+
+    /// No address can come of this part any more.
+    fn spoil(&mut self, place: Place)
+        ensures { self.new ≡ record self.old { place = place; stage = S.Wrong } }
+    {
+        self.place = place;
+        self.stage = Stage::Wrong;
+    }
+
+    /// Reads a token that doesn't end the part. A blank or a comment changes nothing.
+    pub fn take(&mut self, alloc: Global, token: Token<'_>) -> Result<(), AllocError>
+        ensures { OnOk result (self.new ≡ reading.taken self.old token.entry.kind token.entry.text.now) }
+    {
+        match token.kind {
+            Kind::Blank | Kind::Comment => Ok(()),
+            _ => self.take_at(alloc, token),
+        }
+    }
+
+    /// An addr-spec has been read to its end.
+    fn is_whole(&self) -> bool
+        ensures { result ≡ reading.is_whole self.now }
+    {
+        match self.stage {
+            Stage::Name | Stage::Literal => self.is_outside(),
+            _ => false,
+        }
+    }
+
+    /// The address that the part gives, if it ends here.
+    fn address(&self, alloc: Global) -> Result<Option<Addr>, AllocError>
+        ensures { IfOk result (λ found. found ≡ reading.outcome self.now) }
+    {
+        if !self.is_whole() {
+            return Ok(None);
+        }
+        Ok(Some(Addr {
+            local: self.local.copied(alloc)?,
+            domain: self.domain.copied(alloc)?,
+        }))
+    }
+
+    /// Begins the next part.
+    pub fn restart(&mut self, alloc: Global)
+        ensures { self.new ≡ reading.start }
+    {
+        self.open(alloc);
+        self.place = Place::Front;
+    }
+
+    /// The address that the part gives, if it ends here. The next part begins.
+    pub fn finish(&mut self, alloc: Global) -> Result<Option<Addr>, AllocError>
+        ensures found { IfOk result (λ found. found ≡ reading.outcome self.old) }
+        ensures anew { OnOk result (self.new ≡ reading.start) }
+    {
+        let found = self.address(alloc)?;
+        self.restart(alloc);
+        Ok(found)
+    }
+}

@@ -1,0 +1,18 @@
+//! Mail addresses: the addresses of a header value, the address that a script or a command names, and its spelling.
+//!
+//! The rules are those of RFC 5322, 3.2 and 3.4, with its obsolete forms (4.4) as far as they are useful: blanks and
+//! comments may stand between any two tokens, a route before an address is passed over, and a part of a list that is
+//! no address gives none and doesn't touch its neighbours. Nothing here recurses, and each octet is looked at once.
+#![tactic(auto)]
+
+pub mod address;
+mod draft;
+pub mod list;
+pub mod outbound;
+mod scanner;
+#[cfg(test)]
+mod tests;
+
+pub use address::{Addr, spell};
+pub use list::addresses;
+pub use outbound::sieve_address;

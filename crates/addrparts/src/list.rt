@@ -1,0 +1,75 @@
+//! The addresses of a list.
+ghost use Rattle.std.specs.Prelude.{◌≡◌, ◌++◌, List, IfOk, OnOk, All, option_to_list};
+ghost use Rattle.addrparts.specs.declared.address.Addr.{Addr};
+ghost use Rattle.addrparts.specs.Parts as spec;
+ghost use Rattle.addrparts.specs.Reading as reading;
+ghost use Rattle.addrparts.specs.Spelling.{IsDomain};
+
+use crate::address::Addr;
+use crate::draft::{Draft, Place};
+use crate::scanner::{Kind, next_token};
+use std::alloc::{AllocError, Global};
+
+fn is_separator(kind: Kind) -> bool
+    ensures { result ≡ spec.is_separator kind }
+{
+    match kind {
+        Kind::Comma | Kind::Colon | Kind::Semicolon => true,
+        _ => false,
+    }
+}
+
+fn give(found: &mut Vec<Addr>, address: Option<Addr>) -> Result<(), AllocError>
+    ensures { OnOk result (found.new.items ≡ found.old.items ++ option_to_list address) }
+{
+    if let Some(address) = address {
+        if let Err(_) = found.push(address) {
+            return Err(AllocError);
+        }
+    }
+    Ok(())
+}
+
+/// Ends the part at this mark; before a colon it gives none.
+fn end_part(
+    alloc: Global,
+    draft: &mut Draft,
+    mark: Kind,
+    found: &mut Vec<Addr>,
+) -> Result<(), AllocError>
+    ensures given { OnOk result (found.new.items ≡ found.old.items ++ option_to_list (reading.given draft.old mark)) }
+    ensures anew { OnOk result (draft.new ≡ reading.start) }
+{
+    if let Kind::Colon = mark {
+        draft.restart(alloc);
+        return Ok(());
+    }
+    let address = draft.finish(alloc)?;
+    give(found, address)
+}
+
+/// The addresses of a header value, in order (RFC 5322, 3.4). The value is unfolded, and isn't decoded.
+///
+/// A part that is no address gives none. Any octets may stand in the value. One pass, linear in the value's length; memory
+/// for the addresses alone.
+pub fn addresses(alloc: Global, value: &[u8]) -> Result<Vec<Addr>, AllocError>
+    ensures found { IfOk result (λ found. spec.AreAddresses value.now found.items) }
+    ensures only { IfOk result (λ found. (others : List Addr) → spec.AreAddresses value.now others → others ≡ found.items) }
+    ensures read { IfOk result (λ found. found.items ≡ reading.addrs value.now) }
+    ensures domains { IfOk result (λ found. All (λ address. IsDomain address.domain) found.items) }
+{
+    let mut found = Vec::new(alloc);
+    let mut draft = Draft::new(alloc, Place::Front);
+    let mut rest = value;
+    while let Some((token, after)) = next_token(rest) {
+        if is_separator(token.kind) && draft.is_outside() {
+            end_part(alloc, &mut draft, token.kind, &mut found)?;
+        } else {
+            draft.take(alloc, token)?;
+        }
+        rest = after;
+    }
+    let last = draft.finish(alloc)?;
+    give(&mut found, last)?;
+    Ok(found)
+}

@@ -1,0 +1,109 @@
+//! The address that a script or a command names.
+ghost use Rattle.std.specs.Prelude.{◌≡◌, ℕ, ◌≤◌, false, List, length, IfOk, IfSome, MatchOption, Some, None};
+ghost use Rattle.addrparts.specs.declared.address.Addr.{Addr};
+ghost use Rattle.std.specs.List.{list_all};
+ghost use Rattle.addrparts.specs.Outbound as spec;
+ghost use Rattle.addrparts.specs.Reading as reading;
+ghost use Rattle.addrparts.specs.Spelling.{IsDomain};
+
+use crate::address::Addr;
+use crate::draft::{Draft, Place, unquote};
+use crate::scanner::{Kind, next_token};
+use octets::{Octets, trim_blanks};
+use std::alloc::{AllocError, Global};
+
+/// The octets that an address which is sent to may have at most, with its display.
+pub const MAX_LEN: usize = 512;
+
+/// No control character.
+fn is_shown(octet: u8) -> bool
+    ensures { result ≡ spec.is_shown octet }
+{
+    32 <= octet && octet != 127
+}
+
+fn all_shown(text: &[u8]) -> bool
+    ensures { result ≡ list_all spec.is_shown text.now }
+{
+    text.iter().all(|octet| is_shown(*octet))
+}
+
+/// Short enough, and without control characters.
+fn is_fit(text: &[u8]) -> bool
+    ensures { result ≡ spec.is_fit text.now }
+{
+    text.len() <= MAX_LEN && all_shown(text)
+}
+
+/// The place of the `<` behind a display, which is one or more words with dots behind the first, and what follows it.
+fn opening(text: &[u8]) -> Option<(usize, &[u8])>
+    ensures is { let opens = reading.opening false 0 (reading.pieces text.now) in
+        MatchOption result (opens ≡ None) (λ r. opens ≡ Some (r.0, reading.pieces r.1.now)) }
+    ensures within { IfSome result (λ r. r.0 ≤ length text.now) }
+{
+    let mut seen = false;
+    let mut at = 0;
+    let mut rest = text;
+    while let Some((token, after)) = next_token(rest) {
+        match token.kind {
+            Kind::Blank => {}
+            Kind::Atom | Kind::Quoted => seen = true,
+            Kind::Dot if seen => {}
+            Kind::Less if seen => return Some((at, after)),
+            _ => return None,
+        }
+        at += token.text.len();
+        rest = after;
+    }
+    None
+}
+
+/// The addr-spec that the text is, or that stands before a `>` at its end.
+fn sole(alloc: Global, place: Place, text: &[u8]) -> Result<Option<Addr>, AllocError>
+    ensures { IfOk result (λ found. found ≡ reading.sole (reading.start_at place) (reading.pieces text.now)) }
+{
+    let mut draft = Draft::new(alloc, place);
+    let mut rest = text;
+    while let Some((token, after)) = next_token(rest) {
+        match token.kind {
+            Kind::Comment | Kind::Less => return Ok(None),
+            _ => draft.take(alloc, token)?,
+        }
+        rest = after;
+    }
+    draft.finish(alloc)
+}
+
+/// The display and the address of a text that is fit.
+fn read_fit(alloc: Global, text: &[u8]) -> Result<Option<(Octets, Addr)>, AllocError>
+    ensures { IfOk result (λ found. found ≡ reading.outbound_fit text.now) }
+{
+    let mut display = Octets::new(alloc);
+    let found = match opening(text) {
+        None => sole(alloc, Place::Front, text)?,
+        Some((at, behind)) => {
+            let (before, _) = text.split_at(at);
+            unquote(&mut display, trim_blanks(before))?;
+            sole(alloc, Place::Inside, behind)?
+        }
+    };
+    Ok(found.map(|address| (display, address)))
+}
+
+/// The display and the address of a text that is an addr-spec, or words and an addr-spec in angle brackets (RFC 5228, 2.4.2.3).
+/// The display is empty where there are no words, and has no quotation marks.
+///
+/// None for any other text: one with a comment, a route, a control character, more than 512 octets, or more than one
+/// address. Linear in the text's length.
+pub fn sieve_address(alloc: Global, text: &[u8]) -> Result<Option<(Octets, Addr)>, AllocError>
+    ensures found { IfOk result (λ found. IfSome found (λ r. spec.IsOutbound text.now r.0 r.1)) }
+    ensures only { IfOk result (λ found. (display : List ℕ) (address : Addr) →
+        spec.IsOutbound text.now display address → found ≡ Some (display, address)) }
+    ensures read { IfOk result (λ found. found ≡ reading.outbound text.now) }
+    ensures domain { IfOk result (λ found. IfSome found (λ r. IsDomain r.1.domain)) }
+{
+    if !is_fit(text) {
+        return Ok(None);
+    }
+    read_fit(alloc, text)
+}

@@ -1,0 +1,158 @@
+//! The pieces of a value, from the front.
+ghost use Rattle.std.specs.Prelude.{◌≡◌, ℕ, false, ◌+◌, ◌<◌, ◌≤◌, [], length, MatchOption, IfSome};
+ghost use Rattle.std.specs.List.{prefix_len};
+ghost use Rattle.addrparts.specs.Pieces as spec;
+ghost use Rattle.addrparts.specs.Reading as reading;
+
+/// What a piece of a value is.
+#[derive(Clone, Copy)]
+pub enum Kind {
+    /// Octets of no other kind, as many as stand together.
+    Atom,
+    /// A quoted string with its quotation marks.
+    Quoted,
+    /// A domain literal with its brackets.
+    Literal,
+    /// A comment with its parentheses, and with those in it.
+    Comment,
+    /// SP or TAB.
+    Blank,
+    /// `<`
+    Less,
+    /// `>`
+    Greater,
+    /// `@`
+    At,
+    /// `,`
+    Comma,
+    /// `:`
+    Colon,
+    /// `;`
+    Semicolon,
+    /// `.`
+    Dot,
+    /// An octet that has no place, or a quoted string, a comment or a literal that isn't closed.
+    Bad,
+}
+
+/// A piece of a value as it is written.
+#[derive(Clone, Copy)]
+pub struct Token<'a> {
+    pub kind: Kind,
+    pub text: &'a [u8],
+}
+
+/// The kind of piece that begins with this octet.
+fn kind_of(octet: u8) -> Kind
+    ensures { result ≡ spec.kind_of octet }
+{
+    match octet {
+        b'"' => Kind::Quoted,
+        b'(' => Kind::Comment,
+        b'[' => Kind::Literal,
+        b'<' => Kind::Less,
+        b'>' => Kind::Greater,
+        b'@' => Kind::At,
+        b',' => Kind::Comma,
+        b':' => Kind::Colon,
+        b';' => Kind::Semicolon,
+        b'.' => Kind::Dot,
+        b' ' | b'\t' => Kind::Blank,
+        b')' | b']' | b'\\' | 127 => Kind::Bad,
+        0..=32 => Kind::Bad,
+        _ => Kind::Atom,
+    }
+}
+
+pub fn is_atom(octet: u8) -> bool
+    ensures { result ≡ spec.is_atom octet }
+{
+    match kind_of(octet) {
+        Kind::Atom => true,
+        _ => false,
+    }
+}
+
+/// How many octets it takes to come past the closing octet; a backslash takes the next octet with it.
+fn enclosed_len(inside: &[u8], close: u8) -> Option<usize>
+    ensures { result ≡ reading.len_before inside.now (reading.behind close false inside.now) }
+{
+    let mut escaped = false;
+    for (i, octet) in inside.iter().enumerate() {
+        if escaped {
+            escaped = false;
+        } else if *octet == close {
+            return Some(i + 1);
+        } else if *octet == b'\\' {
+            escaped = true;
+        }
+    }
+    None
+}
+
+/// How many octets it takes to come past the end of the comment whose inside this is.
+fn comment_len(inside: &[u8]) -> Option<usize>
+    ensures { result ≡ reading.len_before inside.now (reading.behind_comment 0 false inside.now) }
+{
+    let mut depth: usize = 0;
+    let mut escaped = false;
+    for (i, octet) in inside.iter().enumerate() {
+        if escaped {
+            escaped = false;
+        } else if *octet == b'\\' {
+            escaped = true;
+        } else if *octet == b'(' {
+            depth += 1;
+        } else if *octet == b')' {
+            if depth == 0 {
+                return Some(i + 1);
+            }
+            depth -= 1;
+        }
+    }
+    None
+}
+
+fn atom_len(text: &[u8]) -> usize
+    ensures is { result ≡ prefix_len spec.is_atom text.now }
+    ensures within { result ≤ length text.now }
+{
+    text.iter().take_while(|octet| is_atom(**octet)).count()
+}
+
+/// A piece that is closed after so many octets more, or is bad up to the end.
+fn closed(kind: Kind, others: &[u8], len: Option<usize>) -> (Kind, usize)
+    requires { IfSome len (λ n. n ≤ length others.now) }
+    ensures { result ≡ reading.closed kind others.now len }
+{
+    match len {
+        Some(len) => (kind, 1 + len),
+        None => (Kind::Bad, 1 + others.len()),
+    }
+}
+
+/// The kind of the piece that begins with this octet, and how many octets it has.
+fn first_piece(first: u8, others: &[u8]) -> (Kind, usize)
+    ensures is { result ≡ reading.front first others.now }
+    ensures some { 0 < result.1 }
+    ensures within { result.1 ≤ 1 + length others.now }
+{
+    let kind = kind_of(first);
+    match kind {
+        Kind::Atom => (kind, 1 + atom_len(others)),
+        Kind::Quoted => closed(kind, others, enclosed_len(others, b'"')),
+        Kind::Literal => closed(kind, others, enclosed_len(others, b']')),
+        Kind::Comment => closed(kind, others, comment_len(others)),
+        _ => (kind, 1),
+    }
+}
+
+/// The first piece of a text, and what follows it.
+pub fn next_token(text: &[u8]) -> Option<(Token<'_>, &[u8])>
+    ensures { MatchOption result (reading.pieces text.now ≡ []) (λ r. reading.IsNext text.now r.0.kind r.0.text.now r.1.now) }
+{
+    let (first, others) = text.split_first()?;
+    let (kind, len) = first_piece(*first, others);
+    let (text, rest) = text.split_at(len);
+    Some((Token { kind, text }, rest))
+}

@@ -1,0 +1,4 @@
+pub mod Cuts
+pub mod Examples
+pub mod Orders
+pub mod Standing

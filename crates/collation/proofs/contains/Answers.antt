@@ -1,0 +1,9 @@
+use Rattle.std.proofs.Common.{sym, subst, ◌↔◌, IsTrue, Bool}
+use Rattle.collation.specs.Comparators.{ContainsBy}
+use Rattle.collation.proofs.Standing.{ContainsBy-found}
+use Rattle.collation.proofs.contains.Goals as goal
+
+pub returns : goal.returns
+returns g c =
+    subst (λ (b : Bool). IsTrue b ↔ ContainsBy g.C.Comparator.image_of c.args.key.now c.args.value.now) (sym c.is_some.ensures)
+    (ContainsBy-found g.C.Comparator.image_of c.args.key.now c.args.value.now c.find.result c.find.ensures)

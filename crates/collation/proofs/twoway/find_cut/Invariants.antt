@@ -1,0 +1,18 @@
+use Rattle.std.proofs.Common.{◌-◌, ◌≡◌, ℕ, ◌+◌, ◌<◌, ◌≤◌, length}
+use Rattle.memchr.specs.Find.{Nowhere}
+use Rattle.collation.specs.Search.{image_at, image_in, StandsAt}
+use Rattle.collation.proofs.twoway.find_cut.Given as goal
+
+abbrev pub invariant-loop-pos : goal.invariant-loop-pos
+invariant-loop-pos g l = record {
+  low : l.from ≤ l.pos;
+  high : l.pos ≤ length l.value;
+  before : Nowhere (StandsAt g.C.Comparator.image_of (g.K.Key.octet_at l.key) (g.K.Key.size l.key) l.value) l.from l.pos;
+  spot : g.K.Key.is_spot l.key l.known;
+  short : l.known.index < g.K.Key.size l.key;
+  same : (k : ℕ) → k < l.known.index
+      → image_at g.C.Comparator.image_of (g.K.Key.octet_at l.key) k ≡ image_in g.C.Comparator.image_of l.value (l.pos + k);
+}
+
+abbrev pub decreases-loop-pos : goal.decreases-loop-pos
+decreases-loop-pos g l = length l.value - l.pos

@@ -1,0 +1,2 @@
+pub mod Comparators
+pub mod Search

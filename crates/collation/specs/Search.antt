@@ -1,0 +1,43 @@
+-- What the search for a key by Two-Way keeps of the key, and where the key stands in a value.
+use Rattle.std.specs.Prelude.{◌≡◌, ◌≢◌, ℕ, ◌+◌, ◌<◌, ◌≤◌, List, Option, length, slice_index}
+use Rattle.memchr.specs.Critical.{IsCritical, NoPeriodBelow}
+use Rattle.memchr.specs.Find.{IsFirst}
+use Rattle.memchr.specs.TwoWay.{OccursIn}
+use Rattle.collation.specs.declared.twoway.Order.{Order}
+use Rattle.collation.specs.declared.twoway.Order.TheVariants.{Rising, Falling}
+use Rattle.collation.specs.declared.twoway.Cut.{Cut}
+
+-- the image of the octet of an index
+abbrev pub image_at : (ℕ → ℕ) → (ℕ → ℕ) → ℕ → ℕ
+image_at image octet_at k = image (octet_at k)
+
+-- the image of the octet at a place of a text
+abbrev pub image_in : (ℕ → ℕ) → List ℕ → ℕ → ℕ
+image_in image text k = image (slice_index text k)
+
+-- none of a number of octets from a place on has an image
+abbrev pub LacksFrom : (ℕ → ℕ) → List ℕ → ℕ → ℕ → ℕ → Type 0
+LacksFrom image text from count wanted = (k : ℕ) → k < count → image_in image text (from + k) ≢ wanted
+
+-- the images of the key's octets, of which there are m, stand in those of the value from a place on
+abbrev pub StandsAt : (ℕ → ℕ) → (ℕ → ℕ) → ℕ → List ℕ → ℕ → Type 0
+StandsAt image octet_at m value place = OccursIn (image_at image octet_at) m (image_in image value) (length value) place
+
+-- r is the first place from `from` on where the key's images stand, or there is none
+abbrev pub FindsKey : (ℕ → ℕ) → (ℕ → ℕ) → ℕ → List ℕ → ℕ → Option ℕ → Type 0
+FindsKey image octet_at m value from r = IsFirst (StandsAt image octet_at m value) from (length value + 1) r
+
+-- which of two octets comes before the other in an order
+unfoldable pub Precedes : Order → ℕ → ℕ → Type 0
+Precedes Rising a b = a < b
+Precedes Falling a b = b < a
+
+-- a key of m octets is cut at a critical place, has no period below the shift, and what is kept repeats after the shift
+pub record IsCut (x : ℕ → ℕ) (m : ℕ) (cut : Cut) : Type 0 where
+  pub below : cut.critical.index < m
+  pub critical : IsCritical x m cut.critical.index
+  pub moves : 0 < cut.shift
+  pub room : cut.shift + cut.keep.index ≤ m
+  pub short : NoPeriodBelow x m cut.shift
+  pub after : (k : ℕ) → k < cut.keep.index → cut.critical.index ≤ k + cut.shift
+  pub repeats : (k : ℕ) → k < cut.keep.index → x k ≡ x (k + cut.shift)

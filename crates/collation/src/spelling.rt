@@ -1,0 +1,84 @@
+//! What a search looks for: octets that are read one after the other from the front, as a text spells them.
+ghost use Rattle.std.specs.Prelude.{◌≡◌, ℕ, ◌+◌, ◌<◌, length, slice_index};
+ghost use Rattle.collation.specs.declared.spelling.Spot.{Spot};
+
+/// One octet of a key, and where the key's text spells it.
+#[derive(Clone, Copy, Debug)]
+pub struct Spot {
+    /// Which octet of the key, from 0.
+    pub index: usize,
+    /// Where it is spelled: a place of the key's text, from 0.
+    pub place: usize,
+}
+
+/// A list of octets that is read from the front, or from a spot that was reached before.
+pub trait Key {
+    // How many octets there are.
+    ghost size: { Self → ℕ };
+
+    // The octet of an index.
+    ghost octet_at: { Self → ℕ → ℕ };
+
+    // The octet of the spot's index is spelled at the spot's place.
+    ghost is_spot: { Self → Spot → Type 0 };
+
+    /// How many octets there are.
+    fn len(&self) -> usize
+        ensures { result ≡ size self.now };
+
+    /// Where the first octet is spelled.
+    fn first(&self) -> Spot
+        ensures index { result.index ≡ 0 }
+        ensures spot { is_spot self.now result };
+
+    /// The octet of a spot.
+    fn octet(&self, spot: Spot) -> u8
+        requires below { spot.index < size self.now }
+        requires spot { is_spot self.now spot }
+        ensures { result ≡ octet_at self.now spot.index };
+
+    /// Where the next octet is spelled; after the last one, the end.
+    fn next(&self, spot: Spot) -> Spot
+        requires below { spot.index < size self.now }
+        requires spot { is_spot self.now spot }
+        ensures index { result.index ≡ spot.index + 1 }
+        ensures spot { is_spot self.now result };
+}
+
+/// A key that is spelled as it is, octet by octet.
+#[derive(Clone, Copy, Debug)]
+pub struct Plain<'a> {
+    /// The octets.
+    pub octets: &'a [u8],
+}
+
+impl Key for Plain<'_> {
+    ghost size = { λ key. length key.octets.now };
+
+    ghost octet_at = { λ key k. slice_index key.octets.now k };
+
+    ghost is_spot = { λ key spot. spot.place ≡ spot.index };
+
+    #[inline(always)]
+    fn len(&self) -> usize {
+        self.octets.len()
+    }
+
+    #[inline(always)]
+    fn first(&self) -> Spot {
+        Spot { index: 0, place: 0 }
+    }
+
+    #[inline(always)]
+    fn octet(&self, spot: Spot) -> u8 {
+        self.octets[spot.place]
+    }
+
+    #[inline(always)]
+    fn next(&self, spot: Spot) -> Spot {
+        Spot {
+            index: spot.index + 1,
+            place: spot.place + 1,
+        }
+    }
+}

@@ -1,0 +1,331 @@
+//! The search for a key by the Two-Way algorithm of Crochemore and Perrin (1991), over images in place of octets.
+//!
+//! The key is cut in two at a critical place. At each place of the value the right half is compared first, from the
+//! cut on; a mismatch there moves the search past it. Then the left half is compared; a mismatch there moves the
+//! search by the key's period, and what the period says to match already is not compared again. No table is kept.
+ghost use Rattle.std.specs.Prelude.{◌≡◌, ◌≢◌, ◌↔◌, ℕ, ◌+◌, ◌-◌, ◌<◌, ◌≤◌, length, IsTrue};
+ghost use Rattle.std.specs.Ordering.{MatchOrdering};
+ghost use Rattle.memchr.specs.Critical.{IsSuffixAt, IsCutPlace};
+ghost use Rattle.memchr.specs.Find.{Nowhere};
+ghost use Rattle.collation.specs.Search.{image_at, image_in, LacksFrom, StandsAt, FindsKey, Precedes, IsCut};
+
+use crate::Comparator;
+use crate::spelling::{Key, Spot};
+use std::cmp::Ordering;
+
+/// An order of octets.
+#[derive(Clone, Copy)]
+enum Order {
+    Rising,
+    Falling,
+}
+
+impl Order {
+    // `Less` where `a` comes before `b`.
+    #[inline(always)]
+    fn compare(self, a: u8, b: u8) -> Ordering
+        ensures { MatchOrdering result (Precedes self a b) (a ≡ b) (Precedes self b a) }
+    {
+        match self {
+            Order::Rising => a.cmp(&b),
+            Order::Falling => b.cmp(&a),
+        }
+    }
+}
+
+// The greatest suffix of a key by an order of octets, and the least period of that suffix.
+#[derive(Clone, Copy)]
+struct Suffix {
+    start: Spot,
+    period: usize,
+}
+
+// Where a key is cut, how far a mismatch left of the cut moves the search, and how much of the key is known to match
+// at the place moved to.
+#[derive(Clone, Copy)]
+struct Cut {
+    critical: Spot,
+    shift: usize,
+    keep: Spot,
+}
+
+// The greatest suffix: each later suffix is a candidate, compared with the best so far by what follows their starts.
+fn greatest_suffix<C: Comparator, K: Key>(key: &K, order: Order) -> Suffix
+    requires { 0 < K.size key.now }
+    ensures suffix { IsSuffixAt (Precedes order) (image_at C.image_of (K.octet_at key.now)) (K.size key.now)
+        result.start.index result.period }
+    ensures spot { K.is_spot key.now result.start }
+{
+    let m = key.len();
+    let mut best = key.first();
+    let mut period = 1;
+    let mut candidate = key.next(best);
+    let (mut current, mut other) = (best, candidate);
+    while other.index < m {
+        let a = C::image(key.octet(current));
+        let b = C::image(key.octet(other));
+        match order.compare(a, b) {
+            Ordering::Less => {
+                best = candidate;
+                period = 1;
+                candidate = key.next(candidate);
+                current = best;
+                other = candidate;
+            }
+            Ordering::Greater => {
+                candidate = key.next(other);
+                period = candidate.index - best.index;
+                current = best;
+                other = candidate;
+            }
+            Ordering::Equal => {
+                current = key.next(current);
+                other = key.next(other);
+                if other.index - candidate.index == period {
+                    candidate = other;
+                    current = best;
+                }
+            }
+        }
+    }
+    Suffix {
+        start: best,
+        period,
+    }
+}
+
+// The spot of an index.
+fn spot_of<K: Key>(key: &K, index: usize) -> Spot
+    requires { index ≤ K.size key.now }
+    ensures index { result.index ≡ index }
+    ensures spot { K.is_spot key.now result }
+{
+    let mut spot = key.first();
+    while spot.index < index {
+        spot = key.next(spot);
+    }
+    spot
+}
+
+// Whether the octets before the cut repeat those from `back` on.
+fn repeats_before<C: Comparator, K: Key>(key: &K, critical: usize, back: Spot) -> bool
+    requires fits { critical + back.index ≤ K.size key.now }
+    requires spot { K.is_spot key.now back }
+    ensures { IsTrue result ↔ ((k : ℕ) → k < critical → image_at C.image_of (K.octet_at key.now) k
+        ≡ image_at C.image_of (K.octet_at key.now) (k + back.index)) }
+{
+    let mut front = key.first();
+    let mut later = back;
+    while front.index < critical {
+        if C::image(key.octet(front)) != C::image(key.octet(later)) {
+            return false;
+        }
+        front = key.next(front);
+        later = key.next(later);
+    }
+    true
+}
+
+// Where to cut a key: at the later of its greatest suffixes by the two orders.
+fn made_cut<C: Comparator, K: Key>(key: &K) -> Cut
+    requires { 0 < K.size key.now }
+    ensures cut { IsCut (image_at C.image_of (K.octet_at key.now)) (K.size key.now) result }
+    ensures critical { K.is_spot key.now result.critical }
+    ensures keep { K.is_spot key.now result.keep }
+{
+    let least = greatest_suffix::<C, K>(key, Order::Falling);
+    let most = greatest_suffix::<C, K>(key, Order::Rising);
+    if least.start.index > most.start.index {
+        cut_at::<C, K>(key, least)
+    } else {
+        cut_at::<C, K>(key, most)
+    }
+}
+
+// How far a mismatch left of the cut moves the search.
+fn cut_at<C: Comparator, K: Key>(key: &K, suffix: Suffix) -> Cut
+    requires place { IsCutPlace (image_at C.image_of (K.octet_at key.now)) (K.size key.now)
+        suffix.start.index suffix.period }
+    requires spot { K.is_spot key.now suffix.start }
+    ensures cut { IsCut (image_at C.image_of (K.octet_at key.now)) (K.size key.now) result }
+    ensures critical { K.is_spot key.now result.critical }
+    ensures keep { K.is_spot key.now result.keep }
+{
+    let critical = suffix.start;
+    let rest = key.len() - critical.index;
+    let long = Cut {
+        critical,
+        shift: critical.index.max(rest),
+        keep: key.first(),
+    };
+    if critical.index >= rest {
+        return long;
+    }
+    let back = spot_of(key, suffix.period);
+    if !repeats_before::<C, K>(key, critical.index, back) {
+        return long;
+    }
+    Cut {
+        critical,
+        shift: suffix.period,
+        keep: spot_of(key, key.len() - suffix.period),
+    }
+}
+
+// How far, from `from` and up to `end`, the key stands at place `pos` of the value.
+#[inline(always)]
+fn matched_to<C: Comparator, K: Key>(
+    key: &K,
+    value: &[u8],
+    pos: usize,
+    from: Spot,
+    end: usize,
+) -> Spot
+    requires within { end ≤ K.size key.now }
+    requires fits { pos + K.size key.now ≤ length value.now }
+    requires spot { K.is_spot key.now from }
+    ensures low { from.index ≤ result.index }
+    ensures same { (k : ℕ) → from.index ≤ k → k < result.index
+        → image_at C.image_of (K.octet_at key.now) k ≡ image_in C.image_of value.now (pos + k) }
+    ensures differs { result.index < end
+        → image_at C.image_of (K.octet_at key.now) result.index ≢ image_in C.image_of value.now (pos + result.index) }
+{
+    let mut spot = from;
+    while spot.index < end && C::image(key.octet(spot)) == C::image(value[pos + spot.index]) {
+        spot = key.next(spot);
+    }
+    spot
+}
+
+// How many octets are tried at a time for the first one after the cut: a run has no early end, so it becomes vector
+// code.
+const RUN: usize = 16;
+
+// Whether none of the `RUN` octets from place `from` on has the image `wanted`.
+#[inline(always)]
+fn run_lacks<C: Comparator>(value: &[u8], from: usize, wanted: u8) -> bool
+    requires { from + RUN ≤ length value.now }
+    ensures { IsTrue result ↔ LacksFrom C.image_of value.now from RUN wanted }
+{
+    let mut lacks = true;
+    for k in 0..RUN {
+        lacks &= C::image(value[from + k]) != wanted;
+    }
+    lacks
+}
+
+// Goes past each run before `end` that holds no octet with the image `wanted`.
+#[inline(always)]
+fn past_runs<C: Comparator>(value: &[u8], from: usize, end: usize, wanted: u8) -> usize
+    requires ordered { from ≤ end }
+    requires within { end ≤ length value.now }
+    ensures low { from ≤ result }
+    ensures high { result ≤ end }
+    ensures passed { (k : ℕ) → from ≤ k → k < result → image_in C.image_of value.now k ≢ wanted }
+{
+    let mut place = from;
+    while RUN <= end - place && run_lacks::<C>(value, place, wanted) {
+        place += RUN;
+    }
+    place
+}
+
+// The first place from `from` on, and before `end`, whose octet has the image `wanted`, or else `end`.
+#[inline(always)]
+fn next_place<C: Comparator>(value: &[u8], from: usize, end: usize, wanted: u8) -> usize
+    requires ordered { from ≤ end }
+    requires within { end ≤ length value.now }
+    ensures low { from ≤ result }
+    ensures high { result ≤ end }
+    ensures passed { (k : ℕ) → from ≤ k → k < result → image_in C.image_of value.now k ≢ wanted }
+{
+    let mut place = past_runs::<C>(value, from, end, wanted);
+    while place < end && C::image(value[place]) != wanted {
+        place += 1;
+    }
+    place
+}
+
+// The next place from `pos` on where a key of `m` octets may stand, as far as it fits: one where the first octet after
+// the cut stands. Where some of the key is known to match at `pos`, it is `pos`.
+#[inline(always)]
+fn next_candidate<C: Comparator, K: Key>(
+    key: &K,
+    critical: Spot,
+    value: &[u8],
+    pos: usize,
+    known: usize,
+) -> usize
+    requires below { critical.index < K.size key.now }
+    requires spot { K.is_spot key.now critical }
+    requires fits { pos + K.size key.now ≤ length value.now }
+    ensures low { pos ≤ result }
+    ensures high { result + K.size key.now ≤ length value.now + 1 }
+    ensures kept { 0 < known → result ≡ pos }
+    ensures passed { Nowhere (StandsAt C.image_of (K.octet_at key.now) (K.size key.now) value.now) pos result }
+{
+    let wanted = C::image(key.octet(critical));
+    if 0 < known || C::image(value[pos + critical.index]) == wanted {
+        return pos;
+    }
+    let end = value.len() - key.len() + critical.index + 1;
+    next_place::<C>(value, pos + critical.index, end, wanted) - critical.index
+}
+
+// The search with a key that is cut.
+fn find_cut<C: Comparator, K: Key>(key: &K, cut: Cut, value: &[u8], from: usize) -> Option<usize>
+    requires cut { IsCut (image_at C.image_of (K.octet_at key.now)) (K.size key.now) cut }
+    requires critical { K.is_spot key.now cut.critical }
+    requires keep { K.is_spot key.now cut.keep }
+    requires start { from ≤ length value.now }
+    ensures { FindsKey C.image_of (K.octet_at key.now) (K.size key.now) value.now from result }
+{
+    let m = key.len();
+    let mut pos = from;
+    let mut known = key.first();
+    while m <= value.len() - pos {
+        pos = next_candidate::<C, K>(key, cut.critical, value, pos, known.index);
+        if value.len() - pos < m {
+            return None;
+        }
+        let start = if known.index > cut.critical.index {
+            known
+        } else {
+            cut.critical
+        };
+        let right = matched_to::<C, K>(key, value, pos, start, m);
+        if right.index < m {
+            pos += right.index - cut.critical.index + 1;
+            known = key.first();
+            continue;
+        }
+        let left = matched_to::<C, K>(key, value, pos, known, cut.critical.index);
+        if left.index >= cut.critical.index {
+            return Some(pos);
+        }
+        pos += cut.shift;
+        known = cut.keep;
+    }
+    None
+}
+
+/// The first place of `value`, from `from` on, where the images of `key` stand.
+///
+/// It takes no memory, and time linear in the lengths of key and value together, whatever they hold: after a few passes
+/// over the key, Two-Way compares each octet of the value at most twice, from `from` to the end of the match, and looks
+/// ahead by at most one run of octets more than it moves on. It is Two-Way of Crochemore and Perrin (Two-way
+/// string-matching, 1991).
+pub fn find<C: Comparator, K: Key>(key: &K, value: &[u8], from: usize) -> Option<usize>
+    requires { from ≤ length value.now }
+    ensures { FindsKey C.image_of (K.octet_at key.now) (K.size key.now) value.now from result }
+{
+    let m = key.len();
+    if m == 0 {
+        return Some(from);
+    }
+    if value.len() - from < m {
+        return None;
+    }
+    let cut = made_cut::<C, K>(key);
+    find_cut::<C, K>(key, cut, value, from)
+}

@@ -1,0 +1,10 @@
+pub mod RunLemmas
+pub mod TestLemmas
+pub mod PartLemmas
+pub mod PieceLemmas
+pub mod QuotedLemmas
+pub mod AlphabetLemmas
+pub mod ReadBackLemmas
+pub mod RunLaws
+pub mod PieceLaws
+pub mod QuotedLaws

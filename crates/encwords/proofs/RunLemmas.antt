@@ -1,0 +1,199 @@
+-- Lemmas on the runs of a text, and on what they give.
+use Rattle.std.proofs.Common.{◌≡◌, ◌≢◌, ℕ, zero, suc, ◌+◌, ◌<◌, ◌≤◌, Bool, true, false, cond, ◌==◌, ◌&&◌, not, Option, None, Some, List, [], ◌∷◌, ◌++◌, length, take, drop, refl, sym, ap, ◌∙◌, arith}
+use Rattle.std.proofs.lemmas.List.{append-nil, append_assoc, take-append-drop, length-drop}
+use Rattle.std.specs.List.{list_all, prefix_len}
+use Rattle.std.specs.Option.{unwrap_or, is_some, option_map}
+use Rattle.std.proofs.lemmas.Bool.{true≢false}
+use Rattle.std.proofs.Math.Numerals.{one-add}
+use Rattle.octets.specs.Ascii.{is_blank}
+use Rattle.mailhead.specs.Lines.{begins_blank}
+use Rattle.mailhead.proofs.FoldLemmas.{and_left, and_right}
+use Rattle.mailhead.proofs.FormLemmas.{list_all-prefix, begins}
+use Rattle.encwords.specs.Runs.{is_dark, begins_dark, before_runs, runs_of}
+use Rattle.encwords.specs.Words.{word_of, is_word}
+use Rattle.encwords.specs.Values.{given_by, given_from, word_first}
+
+-- the first run begins as the text does
+pub record StartsRuns (octet : ℕ) (runs : List (List ℕ)) : Type 0 where
+  pub run : List ℕ
+  pub more : List (List ℕ)
+  pub is : runs ≡ (octet ∷ run) ∷ more
+
+start_cond : (test : Bool) (octet : ℕ) (run : List ℕ) (more : List (List ℕ)) → StartsRuns octet (cond test ((octet ∷ run) ∷ more) ((octet ∷ []) ∷ run ∷ more))
+start_cond true octet run more = record { run = run; more = more; is = refl }
+start_cond false octet run more = record { run = []; more = run ∷ more; is = refl }
+
+start_before : (octet : ℕ) (runs : List (List ℕ)) → StartsRuns octet (before_runs octet runs)
+start_before octet [] = record { run = []; more = []; is = refl }
+start_before octet (run ∷ more) = start_cond (cond (is_blank octet) (begins_blank run) (begins_dark run)) octet run more
+
+dark_from : (octet : ℕ) → is_dark octet ≡ true → is_blank octet ≡ false
+dark_from octet dark = not_true (is_blank octet) dark where
+  not_true : (test : Bool) → not test ≡ true → test ≡ false
+  not_true true h = absurd (cc h)
+  not_true false h = refl
+
+blank_from : (octet : ℕ) → is_dark octet ≡ false → is_blank octet ≡ true
+blank_from octet blank = not_false (is_blank octet) blank where
+  not_false : (test : Bool) → not test ≡ false → test ≡ true
+  not_false true h = refl
+  not_false false h = absurd (cc h)
+
+apart_dark : (octet : ℕ) (after : List ℕ) → is_dark octet ≡ true → begins_dark after ≡ false → before_runs octet (runs_of after) ≡ (octet ∷ []) ∷ runs_of after
+apart_dark octet [] dark ends = refl
+apart_dark octet (next ∷ rest) dark ends =
+    let start = start_before next (runs_of rest) in
+    let blank = dark_from octet dark in
+    rw (start.is, blank, ends) refl
+
+-- a run of other octets is the first run
+pub runs_dark : (run after : List ℕ) → run ≢ [] → list_all is_dark run ≡ true → begins_dark after ≡ false → runs_of (run ++ after) ≡ run ∷ runs_of after
+runs_dark [] after present all ends = absurd (present refl)
+runs_dark (octet ∷ []) after present all ends = apart_dark octet after (and_left _ _ all) ends
+runs_dark (octet ∷ (next ∷ run)) after present all ends =
+    let later = runs_dark (next ∷ run) after (λ none. absurd (cc none)) (and_right _ _ all) ends in
+    let blank = dark_from octet (and_left _ _ all) in
+    let dark : is_dark next ≡ true = and_left _ _ (and_right (is_dark octet) (list_all is_dark (next ∷ run)) all) in
+    rw (later, blank, dark) refl
+
+apart_blank : (octet : ℕ) (after : List ℕ) → is_blank octet ≡ true → begins_blank after ≡ false → before_runs octet (runs_of after) ≡ (octet ∷ []) ∷ runs_of after
+apart_blank octet [] blank ends = refl
+apart_blank octet (next ∷ rest) blank ends =
+    let start = start_before next (runs_of rest) in
+    rw (start.is, blank, ends) refl
+
+-- a run of blanks is the first run
+pub runs_blank : (run after : List ℕ) → run ≢ [] → list_all is_blank run ≡ true → begins_blank after ≡ false → runs_of (run ++ after) ≡ run ∷ runs_of after
+runs_blank [] after present all ends = absurd (present refl)
+runs_blank (octet ∷ []) after present all ends = apart_blank octet after (and_left _ _ all) ends
+runs_blank (octet ∷ (next ∷ run)) after present all ends =
+    let later = runs_blank (next ∷ run) after (λ none. absurd (cc none)) (and_right _ _ all) ends in
+    let blank : is_blank octet ≡ true = and_left _ _ all in
+    let other : is_blank next ≡ true = and_left _ _ (and_right (is_blank octet) (list_all is_blank (next ∷ run)) all) in
+    rw (later, blank, other) refl
+
+dark_not_blank : (run : List ℕ) → list_all is_dark run ≡ true → begins_blank run ≡ false
+dark_not_blank [] all = refl
+dark_not_blank (octet ∷ run) all = dark_from octet (and_left _ _ all)
+
+blank_begins : (run : List ℕ) → run ≢ [] → list_all is_blank run ≡ true → begins_blank run ≡ true
+blank_begins [] present all = absurd (present refl)
+blank_begins (octet ∷ run) present all = and_left _ _ all
+
+begins-append : (run after : List ℕ) → run ≢ [] → begins_blank (run ++ after) ≡ begins_blank run
+begins-append [] after present = absurd (present refl)
+begins-append (octet ∷ run) after present = refl
+
+-- what a run of other octets gives, and what follows it
+given_dark : (behind : Bool) (run after : List ℕ) → run ≢ [] → list_all is_dark run ≡ true → begins_dark after ≡ false
+    → given_from behind (runs_of (run ++ after)) ≡ unwrap_or (word_of run) run ++ given_from (is_word run) (runs_of after)
+given_dark behind run after present all ends =
+    let runs = runs_dark run after present all ends in
+    let dark = dark_not_blank run all in
+    rw (runs, dark) refl
+
+choice_nil : (test : Bool) → cond test [] (let none : List ℕ = [] in none) ≡ []
+choice_nil true = refl
+choice_nil false = refl
+
+-- the blanks of a front and the other octets behind them give this
+pub given_front : (behind : Bool) (blanks run after : List ℕ) → list_all is_blank blanks ≡ true → list_all is_dark run ≡ true → begins_dark after ≡ false → (run ≡ [] → after ≡ [])
+    → given_from behind (runs_of (blanks ++ (run ++ after))) ≡ cond (behind && is_word run) [] blanks ++ (unwrap_or (word_of run) run ++ given_from (is_word run) (runs_of after))
+given_front behind [] [] after blank dark ends last = let none = last refl in rw (none, choice_nil (behind && is_word [])) refl
+given_front behind [] (octet ∷ run) after blank dark ends last =
+    let rest = given_dark behind (octet ∷ run) after (λ none. absurd (cc none)) dark ends in
+    rest ∙ ap (λ t. t ++ (unwrap_or (word_of (octet ∷ run)) (octet ∷ run) ++ given_from (is_word (octet ∷ run)) (runs_of after))) (sym (choice_nil (behind && is_word (octet ∷ run))))
+given_front behind (blank ∷ blanks) [] after all dark ends last =
+    let none = last refl in
+    let runs = runs_blank (blank ∷ blanks) [] (λ empty. absurd (cc empty)) all refl in
+    let first : is_blank blank ≡ true = and_left _ _ all in
+    rw (none, runs, first) refl
+given_front behind (blank ∷ blanks) (octet ∷ run) after all dark ends last =
+    let other : is_blank octet ≡ false = dark_from octet (and_left _ _ dark) in
+    let runs = runs_blank (blank ∷ blanks) ((octet ∷ run) ++ after) (λ empty. absurd (cc empty)) all other in
+    let more = runs_dark (octet ∷ run) after (λ empty. absurd (cc empty)) dark ends in
+    let first : is_blank blank ≡ true = and_left _ _ all in
+    rw (runs, more, first, other) refl
+
+stops : (p : ℕ → Bool) (text : List ℕ) → begins p (drop (prefix_len p text) text) ≡ false
+stops p [] = refl
+stops p (octet ∷ rest) = stop (p octet) octet rest (prefix_len p rest) refl (stops p rest) where
+  stop : (test : Bool) (octet : ℕ) (rest : List ℕ) (n : ℕ) → p octet ≡ test → begins p (drop n rest) ≡ false → begins p (drop (cond test (1 + n) 0) (octet ∷ rest)) ≡ false
+  stop true octet rest n is later = rw one-add later
+  stop false octet rest n is later = is
+
+begins_dark-is : (text : List ℕ) → begins_dark text ≡ begins is_dark text
+begins_dark-is [] = refl
+begins_dark-is (octet ∷ rest) = refl
+
+-- where no octet but a blank begins what follows the blanks, nothing follows
+nothing_left : (behind : List ℕ) → begins is_blank behind ≡ false → take (prefix_len is_dark behind) behind ≡ [] → drop (prefix_len is_dark behind) behind ≡ []
+nothing_left [] begins none = refl
+nothing_left (octet ∷ rest) begins none = let dark : is_dark octet ≡ true = ap not begins in absurd (present (rw (dark, one-add) at none)) where
+  present : {run : List ℕ} → octet ∷ run ≡ [] → ⊥
+  present same = cc same
+
+-- the blanks at the front of a text and the other octets behind them give this
+pub given_step : (behind : Bool) (text blanks rest run after : List ℕ) → blanks ≡ take (prefix_len is_blank text) text → rest ≡ drop (prefix_len is_blank text) text
+    → run ≡ take (prefix_len is_dark rest) rest → after ≡ drop (prefix_len is_dark rest) rest
+    → given_from behind (runs_of text) ≡ cond (behind && is_word run) [] blanks ++ (unwrap_or (word_of run) run ++ given_from (is_word run) (runs_of after))
+given_step behind text blanks rest run after b r d a =
+    let blank : list_all is_blank blanks ≡ true = ap (list_all is_blank) b ∙ list_all-prefix is_blank text in
+    let dark : list_all is_dark run ≡ true = ap (list_all is_dark) d ∙ list_all-prefix is_dark rest in
+    let ends : begins_dark after ≡ false = begins_dark-is after ∙ (ap (begins is_dark) a ∙ stops is_dark rest) in
+    let left : begins is_blank rest ≡ false = ap (begins is_blank) r ∙ stops is_blank text in
+    let last = λ (none : run ≡ []). a ∙ nothing_left rest left (sym d ∙ none) in
+    let behind_blanks : rest ≡ run ++ after = sym (take-append-drop (prefix_len is_dark rest) rest) ∙ (ap (λ t. t ++ drop (prefix_len is_dark rest) rest) (sym d) ∙ ap (λ t. run ++ t) (sym a)) in
+    let whole : text ≡ blanks ++ (run ++ after) = sym (take-append-drop (prefix_len is_blank text) text) ∙ (ap (λ t. t ++ drop (prefix_len is_blank text) text) (sym b) ∙ ap (λ t. blanks ++ t) (sym r ∙ behind_blanks)) in
+    ap (λ t. given_from behind (runs_of t)) whole ∙ given_front behind blanks run after blank dark ends last
+
+-- one front more was read
+pub read_front : (value text with_blanks with_run rest blanks behind run after kept shown : List ℕ) (behind_word before now : Bool) (word : Option (List ℕ))
+    → text ++ given_from behind_word (runs_of rest) ≡ value
+    → blanks ≡ take (prefix_len is_blank rest) rest → behind ≡ drop (prefix_len is_blank rest) rest
+    → run ≡ take (prefix_len is_dark behind) behind → after ≡ drop (prefix_len is_dark behind) behind
+    → word ≡ word_of run → before ≡ is_some word → now ≡ is_some word
+    → kept ≡ cond (behind_word && before) [] blanks → shown ≡ unwrap_or word run → with_blanks ≡ text ++ kept → with_run ≡ with_blanks ++ shown
+    → with_run ++ given_from now (runs_of after) ≡ value
+read_front value text with_blanks with_run rest blanks behind run after kept shown behind_word before now word so_far b r d a w f n k s first second =
+    let step = given_step behind_word rest blanks behind run after b r d a in
+    let more = given_from (is_word run) (runs_of after) in
+    let known : is_some word ≡ is_word run = ap is_some w in
+    let keeps : kept ≡ cond (behind_word && is_word run) [] blanks = k ∙ ap (λ t. cond (behind_word && t) [] blanks) (f ∙ known) in
+    let shows : shown ≡ unwrap_or (word_of run) run = s ∙ ap (λ t. unwrap_or t run) w in
+    ap (λ t. with_run ++ given_from t (runs_of after)) (n ∙ known)
+    ∙ (ap (λ t. t ++ more) (second ∙ ap (λ t. t ++ shown) first)
+    ∙ (append_assoc (text ++ kept) shown more
+    ∙ (append_assoc text kept (shown ++ more)
+    ∙ (ap (λ t. text ++ (t ++ (shown ++ more))) keeps
+    ∙ (ap (λ t. text ++ (cond (behind_word && is_word run) [] blanks ++ (t ++ more))) shows
+    ∙ (ap (λ t. text ++ t) (sym step) ∙ so_far))))))
+
+-- a mapped value is there where the value is
+pub is_some-map : {X Y : Type 0} (f : X → Y) (found : Option X) → is_some found ≡ is_some (option_map f found)
+is_some-map f None = refl
+is_some-map f (Some x) = refl
+
+-- a text that isn't empty
+pub filled : (text : List ℕ) (test : Bool) → test ≡ (length text == 0) → test ≡ false → 0 < length text
+filled [] test is fails = absurd (true≢false (sym is ∙ fails))
+filled (octet ∷ rest) test is fails = omega arith
+
+shorter_drop : (text : List ℕ) → 0 < length text → length (drop (prefix_len is_dark (drop (prefix_len is_blank text) text)) (drop (prefix_len is_blank text) text)) < length text
+shorter_drop [] present = absurd (omega arith)
+shorter_drop (octet ∷ rest) present = way (is_blank octet) (prefix_len is_blank rest) refl where
+  way : (test : Bool) (n : ℕ) → is_blank octet ≡ test
+      → length (drop (prefix_len is_dark (drop (cond test (1 + n) 0) (octet ∷ rest))) (drop (cond test (1 + n) 0) (octet ∷ rest))) < length (octet ∷ rest)
+  way true n is =
+      let behind = drop n rest in
+      let a = length-drop n rest in
+      let b = length-drop (prefix_len is_dark behind) behind in
+      rw one-add (omega (arith, a, b))
+  way false n is =
+      let dark : is_dark octet ≡ true = ap not is in
+      let a = length-drop (prefix_len is_dark rest) rest in
+      rw (dark, one-add) (omega (arith, a))
+
+-- what follows a front is shorter
+pub shorter : (text behind after : List ℕ) → behind ≡ drop (prefix_len is_blank text) text → after ≡ drop (prefix_len is_dark behind) behind → 0 < length text → length after < length text
+shorter text behind after b a present = rw (a, b) (shorter_drop text present)

@@ -1,0 +1,8 @@
+use Rattle.encwords.proofs.RunLaws.{runs_found, runs_only}
+use Rattle.encwords.proofs.laws.runs_of_a_value.Goals as goal
+
+pub returns-clause-found : goal.returns-clause-found
+returns-clause-found c = runs_found
+
+pub returns-clause-only : goal.returns-clause-only
+returns-clause-only c = runs_only

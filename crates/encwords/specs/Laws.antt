@@ -1,0 +1,16 @@
+-- What is written in a header field says the text again.
+use Rattle.std.specs.Prelude.{◌≡◌, ℕ, List, codes}
+use Rattle.base64.specs.GeneralPurpose.{engine_symbols, engine_padding}
+use Rattle.base64.specs.declared.engine.general_purpose.GeneralPurpose.{GeneralPurpose}
+use Rattle.mailhead.specs.Heads.{unfold_of}
+use Rattle.encwords.specs.Values.{text_of}
+use Rattle.encwords.specs.Headers.{IsHeaderText}
+
+-- the alphabet of RFC 4648, section 4, and its padding `=`
+pub record HasStandardAlphabet (engine : GeneralPurpose) : Type 0 where
+  pub symbols : engine_symbols engine ≡ codes "ABCDEFGHIJKLMNOPQRSTUVWXYZabcdefghijklmnopqrstuvwxyz0123456789+/"
+  pub padding : engine_padding engine ≡ 61
+
+-- the value of a header field with this text, unfolded and decoded, is the text
+abbrev pub IsReadBack : List ℕ → List ℕ → Type 0
+IsReadBack text value = IsHeaderText text value → text_of (unfold_of value) ≡ text

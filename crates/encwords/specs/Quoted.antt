@@ -1,0 +1,84 @@
+-- The Q encoding (RFC 2047, section 4.2).
+use Rattle.std.specs.Prelude.{◌≡◌, ◌≢◌, ℕ, ◌+◌, ◌*◌, ◌-◌, ◌<◌, ◌==◌, nat_le, Bool, true, false, cond, ◌&&◌, Option, None, Some, List, [], ◌∷◌, ◌++◌, option_map, option_and_then}
+use Rattle.encwords.specs.declared.quoted.Mode.{Mode}
+use Rattle.encwords.specs.declared.quoted.Mode.TheVariants.{InText, BehindMark, BehindDigit}
+
+-- the value of a hexadecimal digit, of either case
+abbrev pub digit_of : ℕ → Option ℕ
+digit_of octet =
+    cond (nat_le 48 octet && nat_le octet 57) (Some (octet - 48))
+    (cond (nat_le 65 octet && nat_le octet 70) (Some (octet - 55))
+    (cond (nat_le 97 octet && nat_le octet 102) (Some (octet - 87)) None))
+
+-- a piece of Q: an octet as it is, `_`, or `=` and two digits
+pub data Piece : Type 0 where
+  Plain : ℕ → Piece
+  Space : Piece
+  Escaped : ℕ → ℕ → Piece
+
+-- how a piece is written
+abbrev pub spelling : Piece → List ℕ
+spelling (Plain octet) = octet ∷ []
+spelling Space = 95 ∷ []
+spelling (Escaped high low) = 61 ∷ high ∷ low ∷ []
+
+-- the octet of two digits
+abbrev pub octet_of : Option ℕ → Option ℕ → Option ℕ
+octet_of None low = None
+octet_of (Some high) low = option_map (λ l. high * 16 + l) low
+
+-- the octet that a piece stands for, if it is one
+abbrev pub value_of : Piece → Option ℕ
+value_of (Plain octet) = cond (octet == 61) None (cond (octet == 95) None (Some octet))
+value_of Space = Some 32
+value_of (Escaped high low) = octet_of (digit_of high) (digit_of low)
+
+-- how pieces are written
+abbrev pub spellings : List Piece → List ℕ
+spellings [] = []
+spellings (piece ∷ more) = spelling piece ++ spellings more
+
+-- the octets that pieces stand for
+abbrev pub AreValues : List Piece → List ℕ → Type 0
+AreValues [] octets = octets ≡ []
+AreValues (piece ∷ more) octets =
+    (first : ℕ) × ((rest : List ℕ) × ((octets ≡ first ∷ rest) × ((value_of piece ≡ Some first) × AreValues more rest)))
+
+-- a text in Q and its octets
+pub record IsQuoted (text octets : List ℕ) : Type 0 where
+  pub pieces : List Piece
+  pub spelled : text ≡ spellings pieces
+  pub valued : AreValues pieces octets
+
+-- what follows gives more octets
+abbrev pub with_octet : ℕ → Option (List ℕ) → Option (List ℕ)
+with_octet octet more = option_map (λ octets. octet ∷ octets) more
+
+-- the octets of a text in Q from here on: in the text, behind `=`, or behind its first digit
+abbrev pub quoted_from : Mode → List ℕ → Option (List ℕ)
+quoted_from InText [] = Some []
+quoted_from BehindMark [] = None
+quoted_from (BehindDigit high) [] = None
+quoted_from InText (octet ∷ rest) = cond (octet == 61) (quoted_from BehindMark rest) (with_octet (cond (octet == 95) 32 octet) (quoted_from InText rest))
+quoted_from BehindMark (octet ∷ rest) = option_and_then (λ high. quoted_from (BehindDigit high) rest) (digit_of octet)
+quoted_from (BehindDigit high) (octet ∷ rest) = option_and_then (λ low. with_octet (high * 16 + low) (quoted_from InText rest)) (digit_of octet)
+
+-- the digit behind `=` is one of sixteen
+abbrev pub IsMode : Mode → Type 0
+IsMode InText = Unit {0}
+IsMode BehindMark = Unit {0}
+IsMode (BehindDigit high) = high < 16
+
+-- an octet that was read before those to come, or none
+abbrev pub with_read : Option ℕ → Option (List ℕ) → Option (List ℕ)
+with_read None more = more
+with_read (Some octet) more = with_octet octet more
+
+-- the octets of what follows one step, where it was made
+abbrev pub behind_step : Option (Mode × Option ℕ) → List ℕ → Option (List ℕ)
+behind_step None rest = None
+behind_step (Some step) rest = with_read step.1 (quoted_from step.0 rest)
+
+-- the octets of a text in Q: the one list that is in IsQuoted with it
+abbrev pub quoted_of : List ℕ → Option (List ℕ)
+quoted_of text = quoted_from InText text

@@ -1,0 +1,36 @@
+-- Runs of blanks and runs of other octets.
+use Rattle.std.specs.Prelude.{◌≡◌, ◌≢◌, ◌⊎◌, ℕ, Bool, true, false, cond, not, List, [], ◌∷◌, ◌++◌}
+use Rattle.std.specs.List.{list_all}
+use Rattle.octets.specs.Ascii.{is_blank}
+use Rattle.mailhead.specs.Lines.{begins_blank}
+
+-- neither SP nor TAB
+abbrev pub is_dark : ℕ → Bool
+is_dark octet = not (is_blank octet)
+
+-- whether a text begins with an octet other than a blank
+abbrev pub begins_dark : List ℕ → Bool
+begins_dark [] = false
+begins_dark (octet ∷ rest) = is_dark octet
+
+-- octets of one kind, with none of that kind behind them
+abbrev pub IsRun : List ℕ → List ℕ → Type 0
+IsRun run rest =
+    ((list_all is_blank run ≡ true) × (begins_blank rest ≡ false))
+    ⊎ ((list_all is_dark run ≡ true) × (begins_dark rest ≡ false))
+
+-- the blank runs and other runs whose concatenation it is
+abbrev pub AreRuns : List (List ℕ) → List ℕ → Type 0
+AreRuns [] text = text ≡ []
+AreRuns (run ∷ more) text = (rest : List ℕ) × ((text ≡ run ++ rest) × ((run ≢ []) × (IsRun run rest × AreRuns more rest)))
+
+-- an octet before runs: part of the first one where that is of its kind
+abbrev pub before_runs : ℕ → List (List ℕ) → List (List ℕ)
+before_runs octet [] = (octet ∷ []) ∷ []
+before_runs octet (run ∷ more) =
+    cond (cond (is_blank octet) (begins_blank run) (begins_dark run)) ((octet ∷ run) ∷ more) ((octet ∷ []) ∷ run ∷ more)
+
+-- the runs of a text: the one list that is in AreRuns with it
+abbrev pub runs_of : List ℕ → List (List ℕ)
+runs_of [] = []
+runs_of (octet ∷ rest) = before_runs octet (runs_of rest)

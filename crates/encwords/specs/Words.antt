@@ -1,0 +1,48 @@
+-- Encoded words (RFC 2047, section 2).
+use Rattle.std.specs.Prelude.{ℕ, ◌==◌, nat_le, Bool, cond, not, ◌&&◌, Option, None, Some, List, [], ◌∷◌, length, codes, bytes_eq, option_and_then, is_some}
+use Rattle.std.specs.List.{list_all}
+use Rattle.std.specs.Str.{str_eq_ignore_ascii_case}
+use Rattle.base64.specs.Engines.{standard}
+use Rattle.base64.specs.GeneralPurpose.{decoded_of}
+use Rattle.mailhead.specs.Lines.{at_front}
+use Rattle.encwords.specs.Charsets.{charset_of, converted}
+use Rattle.encwords.specs.Quoted.{quoted_of}
+
+-- the texts before, between and behind the question marks of a text
+abbrev pub parts_of : List ℕ → List (List ℕ)
+parts_of [] = [] ∷ []
+parts_of (octet ∷ rest) = cond (octet == 63) ([] ∷ parts_of rest) (at_front octet (parts_of rest))
+
+-- 33 to 126
+abbrev pub is_visible : ℕ → Bool
+is_visible octet = nat_le 33 octet && nat_le octet 126
+
+-- one or more octets 33 to 126
+abbrev pub is_encoded_text : List ℕ → Bool
+is_encoded_text text = not (length text == 0) && list_all is_visible text
+
+-- the octets that a text stands for in this encoding: B or Q, without ASCII case
+abbrev pub octets_of : List ℕ → List ℕ → Option (List ℕ)
+octets_of encoding text =
+    cond (str_eq_ignore_ascii_case encoding (codes "b")) (decoded_of standard text)
+    (cond (str_eq_ignore_ascii_case encoding (codes "q")) (quoted_of text) None)
+
+-- what a charset, an encoding and a text stand for, as UTF-8
+abbrev pub meaning_of : List ℕ → List ℕ → List ℕ → Option (List ℕ)
+meaning_of charset encoding text =
+    cond (is_encoded_text text)
+    (option_and_then (λ set. option_and_then (converted set) (octets_of encoding text)) (charset_of charset)) None
+
+-- what the parts of a run stand for, where they are `=`, a charset, an encoding, a text and `=`
+abbrev pub meaning_in : List (List ℕ) → Option (List ℕ)
+meaning_in (front ∷ charset ∷ encoding ∷ text ∷ back ∷ []) =
+    cond (bytes_eq front (codes "=") && bytes_eq back (codes "=")) (meaning_of charset encoding text) None
+meaning_in _ = None
+
+-- the text of a run that is a recognised word
+abbrev pub word_of : List ℕ → Option (List ℕ)
+word_of run = meaning_in (parts_of run)
+
+-- whether a run is a recognised word
+abbrev pub is_word : List ℕ → Bool
+is_word run = is_some (word_of run)

@@ -1,0 +1,50 @@
+//! The text of a header value.
+ghost use Rattle.std.specs.Prelude.{◌≡◌, ◌&&◌, [], if◌then◌else◌, IfOk, option_map, unwrap_or};
+ghost use Rattle.encwords.specs.Values.{text_of};
+
+use crate::run::{blank_run, dark_run};
+use crate::word::word_text;
+use std::alloc::{AllocError, Global};
+
+/// The text of a header value, with each encoded word that is recognised in place of its text
+/// (RFC 2047). What isn't recognised stays as written.
+///
+/// Time is linear in the value.
+pub fn decoded(alloc: Global, value: &[u8]) -> Result<Vec<u8>, AllocError>
+    ensures { IfOk result (λ text. text.items ≡ text_of value.now) }
+{
+    let mut text = Vec::with_capacity(alloc, value.len())?;
+    let mut rest = value;
+    let mut behind_word = false;
+    while !rest.is_empty() {
+        let (blanks, behind) = blank_run(rest);
+        let (run, after) = dark_run(behind);
+        let word = word_text(alloc, run)?;
+        text.extend_from_slice(kept_blanks(behind_word, word.is_some(), blanks))?;
+        text.extend_from_slice(shown(&word, run))?;
+        behind_word = word.is_some();
+        rest = after;
+    }
+    Ok(text)
+}
+
+/// The blanks of a run, but nothing between two recognised words.
+fn kept_blanks(behind_word: bool, before_word: bool, blanks: &[u8]) -> &[u8]
+    ensures { result.now ≡ (if behind_word && before_word then [] else blanks.now) }
+{
+    if behind_word && before_word {
+        blanks.split_at(0).0
+    } else {
+        blanks
+    }
+}
+
+/// The text of a run that is a word, and else the run.
+fn shown<'a>(word: &'a Option<Vec<u8>>, run: &'a [u8]) -> &'a [u8]
+    ensures { result.now ≡ unwrap_or (option_map (λ v. v.items) word.now) run.now }
+{
+    match word {
+        Some(text) => text.as_slice(),
+        None => run,
+    }
+}

@@ -1,0 +1,78 @@
+//! How a text is written in a header field.
+ghost use Rattle.std.specs.Prelude.{◌≡◌, ◌<◌, ◌++◌, length, IfOk, OnOk, string_bytes};
+ghost use Rattle.std.specs.List.{list_all};
+ghost use Rattle.octets.specs.Ascii as ascii;
+ghost use Rattle.encwords.specs.Headers.{CutsPiece, IsHeaderText, IsWorded, between, word_for, has_mark, is_plain};
+
+use base64::engine::general_purpose::STANDARD;
+use memchr::memmem;
+use octets::is_printable;
+use std::alloc::{AllocError, Global};
+
+/// How many octets a plain text has at most.
+const PLAIN_LEN: usize = 200;
+
+/// How many octets of text a word holds at most, so that the word has at most 72 octets.
+const WORD_LEN: usize = 45;
+
+/// A text as it is written in a header field: itself, where it has at most 200 octets, all 32 to
+/// 126, and no `=?` in it; else encoded words on lines of their own (RFC 2047).
+pub fn header_text(alloc: Global, text: &str) -> Result<Vec<u8>, AllocError>
+    ensures { IfOk result (λ value. IsHeaderText text.now value.items) }
+{
+    if is_plain(text.as_bytes()) {
+        Vec::from_slice(alloc, text.as_bytes())
+    } else {
+        words(alloc, text)
+    }
+}
+
+fn is_plain(text: &[u8]) -> bool
+    ensures { result ≡ is_plain text.now }
+{
+    text.len() <= PLAIN_LEN && (are_printable(text) && !has_mark(text))
+}
+
+fn are_printable(text: &[u8]) -> bool
+    ensures { result ≡ list_all ascii.is_printable text.now }
+{
+    text.iter().all(|octet| is_printable(*octet))
+}
+
+fn has_mark(text: &[u8]) -> bool
+    ensures { result ≡ has_mark text.now }
+{
+    memmem::find(text, b"=?").is_some()
+}
+
+fn words(alloc: Global, text: &str) -> Result<Vec<u8>, AllocError>
+    ensures { IfOk result (λ value. IsWorded text.now value.items) }
+{
+    let mut value = String::with_capacity(alloc, text.len())?;
+    let mut rest = text;
+    while !rest.is_empty() {
+        let (piece, after) = next_piece(rest);
+        push_word(&mut value, piece)?;
+        rest = after;
+    }
+    Ok(value.into_bytes())
+}
+
+/// The text of the next word, and what follows.
+fn next_piece(text: &str) -> (&str, &str)
+    requires { 0 < length text.now }
+    ensures { CutsPiece text.now result.0.now result.1.now }
+{
+    text.split_at(text.floor_char_boundary(WORD_LEN))
+}
+
+/// Appends a word, on a line of its own behind other words.
+fn push_word(value: &mut String, piece: &str) -> Result<(), AllocError>
+    ensures { OnOk result (string_bytes value.new
+        ≡ string_bytes value.old ++ (between (string_bytes value.old) ++ word_for piece.now)) }
+{
+    value.push_str(if value.is_empty() { "" } else { "\r\n " })?;
+    value.push_str("=?UTF-8?B?")?;
+    STANDARD.encode_string(piece.as_bytes(), value)?;
+    value.push_str("?=")
+}

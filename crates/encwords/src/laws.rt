@@ -1,0 +1,32 @@
+//! Laws of the definitions, each the contract of a function that does nothing.
+ghost use Rattle.std.specs.Prelude.{◌≡◌, ◌↔◌, ℕ, List, IsUtf8, Some};
+ghost use Rattle.base64.specs.Engines.{standard};
+ghost use Rattle.base64.specs.GeneralPurpose.{IsBytes};
+ghost use Rattle.encwords.specs.Headers.{ArePieces};
+ghost use Rattle.encwords.specs.Quoted.{IsQuoted, quoted_of};
+ghost use Rattle.encwords.specs.Runs.{AreRuns, runs_of};
+ghost use Rattle.encwords.specs.Laws.{HasStandardAlphabet, IsReadBack};
+
+/// A value has one list of runs.
+pub fn runs_of_a_value()
+    ensures found { (text : List ℕ) → AreRuns (runs_of text) text }
+    ensures only { (text : List ℕ) (runs : List (List ℕ)) → AreRuns runs text → runs ≡ runs_of text }
+{}
+
+/// A text in Q stands for the octets of its pieces, and for nothing where it has no pieces.
+pub fn octets_in_q()
+    ensures { (text octets : List ℕ) → (quoted_of text ≡ Some octets) ↔ IsQuoted text octets }
+{}
+
+/// A text has one list of pieces at most, so that what is written is the same at each call.
+pub fn pieces_of_a_text()
+    ensures { (text : List ℕ) (pieces others : List (List ℕ)) → ArePieces pieces text
+        → ArePieces others text → pieces ≡ others }
+{}
+
+/// A text that was written in a header field is read back from it, unfolded and decoded. It rests on
+/// the alphabet of base64's `STANDARD`.
+pub fn text_read_back()
+    ensures alphabet { HasStandardAlphabet standard }
+    ensures back { (text value : List ℕ) → IsBytes text → IsUtf8 text → IsReadBack text value }
+{}

@@ -1,0 +1,4 @@
+pub mod Cursors
+pub mod Examples
+pub mod Patterns
+pub mod Steps

@@ -1,0 +1,62 @@
+use Rattle.std.proofs.Common.{◌≡◌, ℕ, ◌+◌, ◌∷◌, List, drop, get_or, sym, ◌∙◌, arith, below_more}
+use Rattle.std.proofs.lemmas.Bool.{false≢true}
+use Rattle.globmatch.specs.Glob.{items}
+use Rattle.globmatch.specs.declared.pattern.Item.{Item}
+use Rattle.globmatch.specs.declared.pattern.Item.TheVariants.{Star}
+use Rattle.globmatch.proofs.Cursors.{item_at, left_after}
+use Rattle.globmatch.proofs.Patterns.{inside_pattern}
+use Rattle.globmatch.proofs.Steps.{segment_len-within, Takes-one, Takes-exact, Exact-takes, Star-takes}
+use Rattle.globmatch.proofs.parts.Segment.stands_at.Goals as goal
+use Rattle.globmatch.proofs.parts.Segment.stands_at.Goals.{in-One, in-Exact+else-image}
+
+pub read_item-item-requires : goal.read_item-item-requires
+read_item-item-requires g c =
+    let self = c.args.self.now in
+    let is : List Item = items (drop self.from self.pattern.now) in
+    inside_pattern self.pattern.now c.loop-j.place is c.loop-j.j c.loop-j.invariant.cursor
+    (omega (arith, c.requires.segment.counted, segment_len-within is, c.loop-j-test.true))
+
+pub returns-in-Star : goal.returns-in-Star
+returns-in-Star g c =
+    let self = c.args.self.now in
+    let is : List Item = items (drop self.from self.pattern.now) in
+    let left : drop c.loop-j.j is ≡ c.read_item-item.result.0 ∷ items (drop c.read_item-item.result.1 self.pattern.now) =
+    sym c.loop-j.invariant.cursor ∙ c.read_item-item.ensures.item in
+    let here = item_at Star is c.loop-j.j _ _ left in (
+      λ no. absurd (false≢true no),
+      λ stands. absurd (Star-takes g.C.Comparator.image_of (get_or is c.loop-j.j Star) (get_or c.args.value.now (c.args.at + c.loop-j.j) 0) (here ∙ c.in-Star.is)
+          (stands.takes c.loop-j.j c.loop-j-test.true)),
+    )
+
+pub returns-then-image : goal.returns-then-image
+returns-then-image g c =
+    let self = c.args.self.now in
+    let is : List Item = items (drop self.from self.pattern.now) in
+    let left : drop c.loop-j.j is ≡ c.read_item-item.result.0 ∷ items (drop c.read_item-item.result.1 self.pattern.now) =
+    sym c.loop-j.invariant.cursor ∙ c.read_item-item.ensures.item in
+    let here = item_at Star is c.loop-j.j _ _ left in (
+      λ no. absurd (false≢true no),
+      λ stands. absurd (c.if-image.true (c.image.ensures
+          ∙ Exact-takes g.C.Comparator.image_of (get_or is c.loop-j.j Star) c.in-Exact.octet (get_or c.args.value.now (c.args.at + c.loop-j.j) 0) (here ∙ c.in-Exact.is)
+          (stands.takes c.loop-j.j c.loop-j-test.true)
+          ∙ sym c.image-in-Exact.ensures)),
+    )
+
+pub loop-j-preserved : goal.loop-j-preserved
+loop-j-preserved g c =
+    let f : ℕ → ℕ = g.C.Comparator.image_of in
+    let self = c.args.self.now in
+    let is : List Item = items (drop self.from self.pattern.now) in
+    let j : ℕ = c.loop-j.j in
+    let x : ℕ = get_or c.args.value.now (c.args.at + j) 0 in
+    let left : drop j is ≡ c.read_item-item.result.0 ∷ items (drop c.read_item-item.result.1 self.pattern.now) =
+    sym c.loop-j.invariant.cursor ∙ c.read_item-item.ensures.item in
+    let here = item_at Star is j _ _ left in
+    record {
+      cursor = sym (left_after Star is j _ _ left);
+      same = below_more _ _ c.loop-j.invariant.same (elim c.match-item.branch [
+        | in-One w ↦ Takes-one f (get_or is j Star) x (here ∙ w.in-One.is)
+        | in-Exact+else-image w ↦ Takes-exact f (get_or is j Star) w.in-Exact.octet x (here ∙ w.in-Exact.is)
+            (sym w.image.ensures ∙ w.if-image.false ∙ w.image-in-Exact.ensures)
+      ]);
+    }

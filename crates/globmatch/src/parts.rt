@@ -1,0 +1,149 @@
+//! Segments: the items of a pattern from one star to the next.
+ghost use Rattle.std.specs.Prelude.{◌≡◌, ◌↔◌, ℕ, ◌+◌, ◌<◌, ◌≤◌, length, drop, slice_index_or, IsTrue};
+ghost use Rattle.memchr.specs.Find.{IsFirst};
+ghost use Rattle.collation.specs.declared.spelling.Spot.{Spot};
+ghost use Rattle.globmatch.specs.declared.pattern.Item.TheVariants.{Star};
+ghost use Rattle.globmatch.specs.Glob.{items};
+ghost use Rattle.globmatch.specs.Segments.{octet_of, StandAt};
+
+use crate::pattern::{Item, read_item};
+use collation::{Comparator, Key, Spot, find};
+
+/// The items of a pattern up to a star or the pattern's end.
+#[derive(Clone, Copy)]
+pub(crate) struct Segment<'p> {
+    pub(crate) pattern: &'p [u8],
+    // Where the items begin.
+    pub(crate) from: usize,
+    // The place of the star after them, or the pattern's length.
+    pub(crate) end: usize,
+    // How many items there are.
+    pub(crate) count: usize,
+    // Each item is one octet, and none is a `?`.
+    pub(crate) literal: bool,
+}
+
+impl<'p> Segment<'p> {
+    ghost use Rattle.globmatch.specs.Reading.{IsSegment};
+
+    // The segment that begins at a place of the pattern.
+    pub(crate) fn read(pattern: &'p [u8], from: usize) -> Segment<'p>
+        requires { from ≤ length pattern.now }
+        ensures pattern { result.pattern.now ≡ pattern.now }
+        ensures from { result.from ≡ from }
+        ensures segment { IsSegment result }
+    {
+        let (mut end, mut count, mut literal) = (from, 0, true);
+        while end < pattern.len() {
+            let (item, next) = read_item(pattern, end);
+            match item {
+                Item::Star => break,
+                Item::One => literal = false,
+                Item::Exact(_) => {}
+            }
+            end = next;
+            count += 1;
+        }
+        Segment {
+            pattern,
+            from,
+            end,
+            count,
+            literal,
+        }
+    }
+
+    // Whether the items stand in the value from place `at` on.
+    pub(crate) fn stands_at<C: Comparator>(&self, value: &[u8], at: usize) -> bool
+        requires segment { IsSegment self.now }
+        requires within { at ≤ length value.now }
+        ensures { IsTrue result ↔ StandAt C.image_of (items (drop self.now.from self.now.pattern.now))
+            self.now.count value.now at }
+    {
+        if value.len() - at < self.count {
+            return false;
+        }
+        let mut place = self.from;
+        for j in 0..self.count {
+            let (item, next) = read_item(self.pattern, place);
+            match item {
+                Item::Star => return false,
+                Item::One => {}
+                Item::Exact(octet) => {
+                    if C::image(octet) != C::image(value[at + j]) {
+                        return false;
+                    }
+                }
+            }
+            place = next;
+        }
+        true
+    }
+
+    // The first place of the value, from `from` on, where the items stand.
+    pub(crate) fn find<C: Comparator>(&self, value: &[u8], from: usize) -> Option<usize>
+        requires segment { IsSegment self.now }
+        requires within { from ≤ length value.now }
+        ensures { IsFirst (StandAt C.image_of (items (drop self.now.from self.now.pattern.now)) self.now.count value.now)
+            from (length value.now + 1) result }
+    {
+        if self.literal {
+            let key = Literal {
+                pattern: self.pattern,
+                from: self.from,
+                count: self.count,
+            };
+            return find::<C, Literal>(&key, value, from);
+        }
+        for at in from..value.len() + 1 {
+            if self.stands_at::<C>(value, at) {
+                return Some(at);
+            }
+        }
+        None
+    }
+}
+
+/// The octets of a segment's items, as the pattern spells them: a backslash before an octet is no octet of the key.
+#[derive(Clone, Copy)]
+pub(crate) struct Literal<'p> {
+    pattern: &'p [u8],
+    from: usize,
+    count: usize,
+    ghost within: { count ≤ length (items (drop from pattern.now)) },
+}
+
+impl Key for Literal<'_> {
+    ghost size = { λ key. key.count };
+
+    ghost octet_at = { λ key k. octet_of (slice_index_or (items (drop key.from key.pattern.now)) k Star) };
+
+    ghost is_spot = { λ key spot. items (drop spot.place key.pattern.now) ≡ drop spot.index (items (drop key.from key.pattern.now)) };
+
+    #[inline(always)]
+    fn len(&self) -> usize {
+        self.count
+    }
+
+    #[inline(always)]
+    fn first(&self) -> Spot {
+        Spot {
+            index: 0,
+            place: self.from,
+        }
+    }
+
+    #[inline(always)]
+    fn octet(&self, spot: Spot) -> u8 {
+        read_item(self.pattern, spot.place).0.octet()
+    }
+
+    #[inline(always)]
+    fn next(&self, spot: Spot) -> Spot {
+        let (_, place) = read_item(self.pattern, spot.place);
+        Spot {
+            index: spot.index + 1,
+            place,
+        }
+    }
+}

@@ -1,0 +1,69 @@
+//! How a pattern spells its items.
+ghost use Rattle.std.specs.Prelude.{◌≡◌, ◌+◌, ◌<◌, ◌≤◌, ◌∷◌, length, drop};
+ghost use Rattle.globmatch.specs.Glob.{unquoted_item, items};
+
+/// The octet that spells a star.
+pub(crate) const ANY_RUN: u8 = b'*';
+
+/// The octet that spells one octet of any value.
+pub(crate) const ANY_OCTET: u8 = b'?';
+
+/// The octet that makes the next one stand for itself.
+pub(crate) const QUOTE: u8 = b'\\';
+
+/// An item of a pattern.
+#[derive(Clone, Copy, Debug)]
+pub enum Item {
+    /// `*`: any run of octets, the empty one too.
+    Star,
+    /// `?`: one octet of any value.
+    One,
+    /// One octet with the image of this one.
+    Exact(u8),
+}
+
+impl Item {
+    ghost use Rattle.globmatch.specs.Segments.{octet_of};
+
+    // The octet that an item is written with.
+    #[inline(always)]
+    pub(crate) fn octet(self) -> u8
+        ensures { result ≡ octet_of self }
+    {
+        match self {
+            Item::Star => ANY_RUN,
+            Item::One => ANY_OCTET,
+            Item::Exact(octet) => octet,
+        }
+    }
+}
+
+// The item that an octet spells by itself.
+#[inline(always)]
+fn unquoted(octet: u8) -> Item
+    ensures { result ≡ unquoted_item octet }
+{
+    if octet == ANY_RUN {
+        return Item::Star;
+    }
+    if octet == ANY_OCTET {
+        return Item::One;
+    }
+    Item::Exact(octet)
+}
+
+// The item at a place of a pattern, and the place after it.
+#[inline(always)]
+pub(crate) fn read_item(pattern: &[u8], place: usize) -> (Item, usize)
+    requires { place < length pattern.now }
+    ensures later { place < result.1 }
+    ensures within { result.1 ≤ length pattern.now }
+    ensures item { items (drop place pattern.now) ≡ result.0 ∷ items (drop result.1 pattern.now) }
+    ensures star { result.0 ≡ Item.Star → result.1 ≡ place + 1 }
+{
+    let octet = pattern[place];
+    if octet == QUOTE && place + 1 < pattern.len() {
+        return (Item::Exact(pattern[place + 1]), place + 2);
+    }
+    (unquoted(octet), place + 1)
+}

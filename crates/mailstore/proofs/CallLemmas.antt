@@ -1,0 +1,56 @@
+-- From the rows that a write makes to the accounts that it leaves.
+use Rattle.std.proofs.Common.{◌≡◌, ℕ, List, [], ◌∷◌, Option, Some, None, Ok, Err, Result, OnOk, IsSome, refl, subst}
+use Rattle.std.specs.Borrow.{Bor}
+use Rattle.std.specs.FinMap.{get, insert}
+use Rattle.sqlite.specs.Effect.{Database}
+use Rattle.sqlite.specs.State.{State, Survives}
+use Rattle.sqlite.proofs.StateLemmas.{survives_weaker}
+use Rattle.sqlrows.specs.Rows.{Tables, Holds}
+use Rattle.mailstore.specs.declared.change.Change.{Change}
+use Rattle.mailstore.specs.declared.change.Change.TheVariants.{AddAccount, SetActive, AddScript, RemoveScript}
+use Rattle.mailstore.specs.declared.refusal.Refusal.{Refusal}
+use Rattle.mailstore.specs.Schema.{mail_schema}
+use Rattle.mailstore.specs.Cells.{contents}
+use Rattle.mailstore.specs.Changes.{made, MayHave, AreOf}
+use Rattle.mailstore.specs.Account.{Account, Accounts, with_user, in_place, new_account, keeps_script, activates}
+use Rattle.mailstore.specs.Shows.{rows_of, IsShown, IsShownOrAbsent, ShowsAccounts}
+use Rattle.mailstore.specs.Calls.{HasUser, IsFree, Turns, MayShow}
+use Rattle.mailstore.proofs.ShowLemmas.{shows_after}
+use Rattle.mailstore.proofs.AccountLemmas.{script_put, active_put, account_put}
+
+-- the changes turn tables that show accounts that fit into tables that show them changed
+abbrev pub Carries : List Change → (Accounts → Type 0) → (Accounts → Accounts) → Type 0
+Carries ds Fit change = (tables : Tables) (accounts : Accounts) → ShowsAccounts tables accounts → Fit accounts → ShowsAccounts (made tables ds) (change accounts)
+
+pub applied : {X : Type 0} (r : Result X Refusal) (old new : Database) (ds : List Change) (Fit : Accounts → Type 0) (change : Accounts → Accounts) → Carries ds Fit change
+    → ((tables : Tables) → Holds mail_schema old tables → OnOk r (Holds mail_schema new (made tables ds))) → OnOk r (Turns Fit change old new)
+applied (Err e) old new ds Fit change carries holds = tt
+applied (Ok x) old new ds Fit change carries holds = λ accounts p fit. (made p.0 ds, holds p.0 p.1, carries p.0 accounts p.2 fit)
+
+pub crashed : (old new : State) (ds : List Change) (Fit : Accounts → Type 0) (change : Accounts → Accounts) → Carries ds Fit change → Survives old new (MayHave ds old) → Survives old new (MayShow Fit change old)
+crashed old new ds Fit change carries =
+    survives_weaker old new (MayHave ds old) (MayShow Fit change old) (λ clean trees may accounts p fit. let left = may p.0 p.1 in (left.0, (made p.0 ds, left.1, carries p.0 accounts p.2 fit), left.2))
+
+-- the user's account changed, where its own rows are those of the changed account
+pub carries_user : (user : List ℕ) (ds : List Change) (change : Account → Account) → AreOf user ds → ((own : Tables) (a : Account) → IsShown user own a → IsShown user (made own ds) (change a))
+    → Carries ds (HasUser user) (λ all. with_user all user change)
+carries_user user ds change are own tables accounts shows has = go (get accounts user) refl has
+  where
+    go : (o : Option Account) → get accounts user ≡ o → IsSome o → ShowsAccounts (made tables ds) (in_place accounts user change (get accounts user))
+    go None is some = absurd (let e = some in cc)
+    go (Some a) is some =
+        let here = subst (IsShownOrAbsent user (rows_of user tables)) is (shows.users user) in
+        rw is (shows_after tables accounts user ds (change a) are shows (own (rows_of user tables) a here))
+
+pub carries_script : (user name text : Bor (List ℕ)) → Carries (RemoveScript user name ∷ AddScript user name text ∷ []) (HasUser user.now) (λ all. with_user all user.now (keeps_script name.now text.now))
+carries_script user name text =
+    carries_user user.now (RemoveScript user name ∷ AddScript user name text ∷ []) (keeps_script name.now text.now) (refl, (refl, tt)) (λ own a s. script_put user.now own a s name.now text.now)
+
+pub carries_active : (user : Bor (List ℕ)) (active : Option (Bor (List ℕ))) → Carries (SetActive user active ∷ []) (HasUser user.now) (λ all. with_user all user.now (activates (contents active)))
+carries_active user active = carries_user user.now (SetActive user active ∷ []) (activates (contents active)) (refl, tt) (λ own a s. active_put user.now own a s (contents active))
+
+pub carries_account : (user address salt : Bor (List ℕ)) (rounds : ℕ) (digest : Bor (List ℕ))
+    → Carries (AddAccount user address salt rounds digest ∷ []) (IsFree user.now) (λ all. insert all user.now (new_account address.now (record { salt = salt.now; rounds = rounds; digest = digest.now })))
+carries_account user address salt rounds digest tables accounts shows free =
+    let none = subst (IsShownOrAbsent user.now (rows_of user.now tables)) free (shows.users user.now) in
+    shows_after tables accounts user.now (AddAccount user address salt rounds digest ∷ []) _ (refl, tt) shows (account_put user.now address.now salt.now rounds digest.now (rows_of user.now tables) none)

@@ -1,0 +1,92 @@
+-- The names of a user's copies in order, and the folders that they make.
+use Rattle.std.proofs.Common.{◌≡◌, ℕ, suc, ◌<◌, false, List, [], ◌∷◌, map, filter, length, get_or, Option, Some, None, IfSome, refl, sym, ap, ap₂, ◌∙◌, subst, inl, inr, arith, true≢false, is_gt, is_lt, Ordering, Less, Equal, Greater, IsPermutation, IsSorted}
+use Rattle.std.specs.List.{AllByRecursion}
+use Rattle.std.specs.FinMap.{get, entries}
+use Rattle.std.specs.Ordering.{ordering_reverse}
+use Rattle.std.proofs.lemmas.Cmp.{nat_list_cmp_total}
+use Rattle.std.proofs.lemmas.List.Elements.{recursion_from_All, All-from_recursion}
+use Rattle.std.proofs.lemmas.List.Sorted.{sorted_far, ranks_by, All-permutation, IsPermutation-map}
+use Rattle.sqlite_value.specs.declared.value.Value.TheVariants.{Blob}
+use Rattle.sqlite_value.specs.declared.keys.Collation.TheVariants.{Binary}
+use Rattle.sqlite_value.specs.Keys.{ascending}
+use Rattle.sqlite_value.specs.Order.{Row, column, bytes}
+use Rattle.sqlite_value.proofs.OrderLemmas.{value_cmp-Blob}
+use Rattle.sqlite_trees.specs.Tree.{IsAscending}
+use Rattle.sqlite_sql.specs.Term.{col}
+use Rattle.sqlite_sql.specs.Query.{Query, Output, output_cmp}
+use Rattle.sqlite_sql.proofs.QueryLemmas.{output_cmp_total}
+use Rattle.sqlite_keyed.proofs.ListLemmas.{map-map, map_back, ascending_from_map, ascending_weaker, all-map}
+use Rattle.sqlite_typed.proofs.TestLemmas.{last_key}
+use Rattle.sqlite.specs.State.{State, Shown}
+use Rattle.sqlrows.specs.Forms.{over}
+use Rattle.sqlrows.specs.Rows.{has_key}
+use Rattle.sqlrows.proofs.AnswerLemmas.{cells_in_order}
+use Rattle.sqlrows.proofs.ReadLemmas.{answered}
+use Rattle.sqlrows.proofs.ListLemmas.{owner_key}
+use Rattle.mailstore.specs.Schema.{mail_schema, copy}
+use Rattle.mailstore.specs.Statements.{select_folders}
+use Rattle.mailstore.specs.Account.{bytes_cmp, Account, Accounts}
+use Rattle.mailstore.specs.Shows.{Copy, rows_of, copy_row, IsShown, IsShownOrAbsent, Presents}
+use Rattle.mailstore.specs.Tally.{tallied, count_of, size_of, AreFolders}
+use Rattle.mailstore.proofs.TextFacts.{by_one, select_folders_is, select_folders_plain}
+use Rattle.mailstore.proofs.TallyLemmas.{InOrder, tally_is}
+
+each_at : {X : Type 0} (P : X → Type 0) (ys : List X) → ((j : ℕ) (d : X) → j < length ys → P (get_or ys j d)) → AllByRecursion P ys
+each_at P [] h = tt
+each_at P (y ∷ ys) h = (h 0 y (omega arith), each_at P ys (λ j d low. h (suc j) d (omega arith)))
+
+ascending_at : {X : Type 0} (R : X → X → Type 0) (xs : List X) → ((i j : ℕ) (d : X) → i < j → j < length xs → R (get_or xs i d) (get_or xs j d)) → IsAscending R xs
+ascending_at R [] h = tt
+ascending_at R (x ∷ xs) h = (each_at (R x) xs (λ j d low. h 0 (suc j) d (omega arith) (omega arith)), ascending_at R xs (λ i j d p q. h (suc i) (suc j) d (omega arith) (omega arith)))
+
+abbrev by_folder : Query
+by_folder = (over 6 by_one (col 1 2 ∷ []) ((col 1 2, ascending Binary) ∷ [])).body
+
+abbrev folder_output : List ℕ → Output
+folder_output n = (Blob n ∷ [], Blob n ∷ [])
+
+abbrev folder_in : Output → List ℕ
+folder_in o = bytes (column o.0 0)
+
+not_above : (o : Ordering) → is_lt o ≡ false → is_gt (ordering_reverse o) ≡ false
+not_above Less h = absurd (true≢false h)
+not_above Equal h = refl
+not_above Greater h = refl
+
+names_in_order : (ordered : List Output) (names : List (List ℕ)) → ordered ≡ map folder_output names → IsSorted (output_cmp by_folder) ordered → InOrder names
+names_in_order ordered names are sorted =
+    let far = ascending_at (λ x y. is_lt (output_cmp by_folder y x) ≡ false) ordered (λ i j d p q. sorted_far (λ x y. is_lt (output_cmp by_folder x y)) (ranks_by (output_cmp_total by_folder) (λ x. x)) ordered sorted i j d (omega arith) q) in
+    ascending_weaker _ (λ a b. is_gt (bytes_cmp a b) ≡ false) (λ a b h.
+    ap is_gt (nat_list_cmp_total.antisymm a b) ∙ not_above (bytes_cmp b a) (sym (ap is_lt (last_key (value_cmp-Blob b a))) ∙ h)) names
+    (ascending_from_map (λ x y. is_lt (output_cmp by_folder y x) ≡ false) folder_output names (subst (IsAscending (λ x y. is_lt (output_cmp by_folder y x) ≡ false)) are far))
+
+-- what stands in the image of a function is that function of something
+shown_again : (outs : List Output) → AllByRecursion (λ o. o ≡ folder_output (folder_in o)) outs → outs ≡ map folder_output (map folder_in outs)
+shown_again [] h = refl
+shown_again (o ∷ outs) h = ap₂ ◌∷◌ h.0 (shown_again outs h.1)
+
+module _ (old new : State) (rows : List Row) (accounts : Accounts) (p : Presents old.now accounts) (user : List ℕ) where
+  pub folders_read : Shown select_folders (owner_key user) old new rows → IfSome (get accounts user) (λ a. (names : List (List ℕ)) × (rows ≡ map (λ n. Blob n ∷ []) names) × AreFolders (tallied names) a)
+  folders_read shown = go (get accounts user) (p.2.users user)
+    where
+      at : (a : Account) → IsShown user (rows_of user p.0) a → (names : List (List ℕ)) × (rows ≡ map (λ n. Blob n ∷ []) names) × AreFolders (tallied names) a
+      at a s =
+          let mine = has_key (owner_key user) in
+          let listed = map (λ (c : Copy). c.folder) s.copies in
+          let show = λ (cells : Row). let o : Output = (column cells 1 ∷ [], column cells 1 ∷ []) in o in
+          let found = cells_in_order old.now.trees 6 by_one (col 1 2 ∷ []) ((col 1 2, ascending Binary) ∷ []) (owner_key user) (p.0 6) (p.1.each copy (inr (inr (inr (inl refl))))) mine (λ n cells. refl) show (λ n cells. refl) rows
+          (answered mail_schema select_folders (owner_key user) old new p.1.is select_folders_plain.0 6 by_one (col 1 2 ∷ []) _ _ select_folders_is select_folders_plain.1 rows shown) in
+          let outs : map show (filter mine (p.0 6)) ≡ map folder_output listed = ap (map show) s.copy_rows ∙ map-map show (copy_row user) s.copies ∙ sym (map-map folder_output (λ (c : Copy). c.folder) s.copies) in
+          let same = subst (λ l. IsPermutation l found.0) outs found.1 in
+          let image = All-permutation (λ o. o ≡ folder_output (folder_in o)) (map folder_output listed) found.0 same (All-from_recursion (λ o. o ≡ folder_output (folder_in o)) (map folder_output listed) (all-map _ folder_output (λ n. refl) listed)) in
+          let names = map folder_in found.0 in
+          let again = shown_again found.0 (recursion_from_All (λ o. o ≡ folder_output (folder_in o)) found.0 image) in
+          let permuted = subst (λ l. IsPermutation l names) (map_back folder_output folder_in (λ n. refl) listed) (IsPermutation-map folder_in _ _ same) in (
+            names,
+            found.3 ∙ ap (map (λ (o : Output). o.1)) again ∙ map-map (λ (o : Output). o.1) folder_output names,
+            subst (λ m. map count_of (tallied names) ≡ map size_of (entries m)) (sym s.folders_are) (tally_is s.copies names permuted (names_in_order found.0 names again found.2)),
+          )
+
+      go : (o : Option Account) → IsShownOrAbsent user (rows_of user p.0) o → IfSome o (λ a. (names : List (List ℕ)) × (rows ≡ map (λ n. Blob n ∷ []) names) × AreFolders (tallied names) a)
+      go None h = tt
+      go (Some a) h = at a h

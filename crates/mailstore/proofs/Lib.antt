@@ -1,0 +1,16 @@
+pub mod SchemaFacts
+pub mod TextFacts
+pub mod StatementLemmas
+pub mod ResultLemmas
+pub mod WriteLemmas
+pub mod ShowLemmas
+pub mod AccountLemmas
+pub mod CreateLemmas
+pub mod CallLemmas
+pub mod QueryLemmas
+pub mod DeliveryLemmas
+pub mod OrderLemmas
+pub mod ReadLemmas
+pub mod ChainLemmas
+pub mod TallyLemmas
+pub mod FolderLemmas

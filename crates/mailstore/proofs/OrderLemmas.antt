@@ -1,0 +1,172 @@
+-- What the queries that are in order find.
+use Rattle.std.proofs.Common.{◌≡◌, ◌≢◌, ℕ, pos, ◌<◌, Bool, true, false, cond, T, List, [], ◌∷◌, ◌++◌, map, filter, fold, length, append-nil, append_assoc, Some, None, unwrap_or, refl, sym, ap, ◌∙◌, subst, inl, inr, arith, true≢false, is_eq, is_lt, Ordering, Less, Equal, Greater, IsPermutation}
+use Rattle.std.specs.List.{AllByRecursion}
+use Rattle.std.specs.FinMap.{FinMap, empty, get, entries, keys, from_entries, find, put, is_sorted, len-entries, len-empty, get-entries, get-from_entries, entries_sorted, entries-insert, get-insert, get-empty}
+use Rattle.std.specs.FinMap.Entries.{by_order, below_all}
+use Rattle.std.proofs.lemmas.Bool.{and_parts}
+use Rattle.std.proofs.lemmas.Int.{ints}
+use Rattle.std.proofs.lemmas.Cmp.{nat_list_cmp_total}
+use Rattle.std.proofs.lemmas.List.Sorted.{IsPermutation-refl, IsPermutation-map, IsPermutation-trans, IsPermutation-sym, IsPermutation-cons, IsPermutation-middle}
+use Rattle.sqlite_value.specs.declared.value.Value.TheVariants.{Int, Blob}
+use Rattle.sqlite_value.specs.declared.keys.Collation.TheVariants.{Binary}
+use Rattle.sqlite_value.specs.Keys.{ascending}
+use Rattle.sqlite_value.specs.Order.{Row, column}
+use Rattle.sqlite_value.proofs.OrderLemmas.{value_cmp-Int, value_cmp-Blob}
+use Rattle.sqlite_trees.specs.Tree.{IsAscending}
+use Rattle.sqlite_sql.specs.Term.{col}
+use Rattle.sqlite_sql.specs.Query.{Query, Output, output_cmp}
+use Rattle.sqlite_sql.proofs.QueryLemmas.{output_cmp_total}
+use Rattle.sqlite_keyed.proofs.ListLemmas.{map-map, filter-map, filter_same, filter-filter, ascending-map, ascending_from_map, ascending-filter, ascending_weaker}
+use Rattle.sqlite_keyed.proofs.KeyedLemmas.{Less-from_lt}
+use Rattle.sqlite_keyed.proofs.SortLemmas.{sorted_unique}
+use Rattle.sqlite_typed.proofs.TestLemmas.{last_key, same_bytes, bytes_eq_refl}
+use Rattle.sqlite.specs.State.{State, Shown}
+use Rattle.sqlrows.specs.Forms.{over}
+use Rattle.sqlrows.specs.Rows.{Tables, Holds, has_key}
+use Rattle.sqlrows.proofs.AnswerLemmas.{cells_in_order}
+use Rattle.sqlrows.proofs.ReadLemmas.{answered}
+use Rattle.sqlrows.proofs.ListLemmas.{owner_key, pair_key, pair_owned}
+use Rattle.mailstore.specs.Schema.{mail_schema, script, copy}
+use Rattle.mailstore.specs.Statements.{select_names, select_folder}
+use Rattle.mailstore.specs.Account.{bytes_cmp, Folders, messages_in, filed}
+use Rattle.mailstore.specs.Shows.{Copy, rows_of, script_row, copy_row, AreApart, folders_from}
+use Rattle.mailstore.proofs.TextFacts.{by_one, by_two, select_names_is, select_names_plain, select_folder_is, select_folder_plain}
+use Rattle.mailstore.proofs.AccountLemmas.{pair_is}
+
+-- the rows with a key of two are among the owner's
+pub of_owner : (owner name : List ℕ) (tables : Tables) (tree : ℕ) → filter (has_key (pair_key owner name)) (tables tree) ≡ filter (has_key (pair_key owner name)) (rows_of owner tables tree)
+of_owner owner name tables tree = sym (filter-filter (has_key (pair_key owner name)) (has_key (owner_key owner)) (pair_owned owner name) (tables tree))
+
+abbrev by_number : Query
+by_number = (over 6 by_two (col 1 4 ∷ []) ((col 1 3, ascending Binary) ∷ [])).body
+
+number_output : Copy → Output
+number_output c = (Int (pos c.n) ∷ [], Blob c.message ∷ [])
+
+numbers_rise : (c d : Copy) → c.n < d.n → output_cmp by_number (number_output c) (number_output d) ≡ Less
+unfolding number_output
+numbers_rise c d low = last_key (value_cmp-Int (pos c.n) (pos d.n) ∙ Less-from_lt (pos c.n) (pos d.n) (omega (arith, ints)))
+
+abbrev pub is_in : List ℕ → Copy → Bool
+is_in folder c = is_eq (bytes_cmp c.folder folder)
+
+module _ (old new : State) (rows : List Row) (tables : Tables) (h : Holds mail_schema old.now tables) where
+  pub folder_found : (owner folder : List ℕ) (copies : List Copy) → rows_of owner tables 6 ≡ map (copy_row owner) copies → IsAscending (λ m n. m < n) (map (λ c. c.n) copies)
+      → Shown select_folder (pair_key owner folder) old new rows → rows ≡ map (λ c. Blob c.message ∷ []) (filter (is_in folder) copies)
+  unfolding number_output
+  folder_found owner folder copies are rise shown =
+      let key = pair_key owner folder in
+      let p = has_key key in
+      let few = filter (is_in folder) copies in
+      let show = λ (cells : Row). let o : Output = (column cells 2 ∷ [], column cells 3 ∷ []) in o in
+      let found = cells_in_order old.now.trees 6 by_two (col 1 4 ∷ []) ((col 1 3, ascending Binary) ∷ []) key (tables 6) (h.each copy (inr (inr (inr (inl refl))))) p (λ n cells. refl) show (λ n cells. refl) rows
+      (answered mail_schema select_folder key old new h.is select_folder_plain.0 6 by_two (col 1 4 ∷ []) _ _ select_folder_is select_folder_plain.1 rows shown) in
+      let cells : filter p (tables 6) ≡ map (copy_row owner) few =
+      of_owner owner folder tables 6 ∙ ap (filter p) are ∙ filter-map p (copy_row owner) copies ∙ ap (map (copy_row owner)) (filter_same _ (is_in folder) (λ c. pair_is owner folder c.folder (Int (pos c.n) ∷ Blob c.message ∷ [])) copies) in
+      let outs : map show (filter p (tables 6)) ≡ map number_output few = ap (map show) cells ∙ map-map show (copy_row owner) few in
+      let rising = ascending-map (λ x y. output_cmp by_number x y ≡ Less) number_output few
+      (ascending-filter (λ c d. output_cmp by_number (number_output c) (number_output d) ≡ Less) (is_in folder) copies (ascending_weaker _ (λ c d. output_cmp by_number (number_output c) (number_output d) ≡ Less) numbers_rise copies (ascending_from_map (λ m n. m < n) (λ (c : Copy). c.n) copies rise))) in
+      let is = sorted_unique (output_cmp by_number) (output_cmp_total by_number) (map number_output few) found.0 rising (subst (λ l. IsPermutation l found.0) outs found.1) found.2 in
+      found.3 ∙ ap (map (λ (o : Output). o.1)) is ∙ map-map (λ (o : Output). o.1) number_output few
+
+-- the messages of a folder are those of its copies, in turn
+folder_joined : (q : List ℕ) (m : Folders) (c : Copy) → messages_in (filed m c.folder c.message) q ≡ messages_in m q ++ cond (is_in q c) (c.message ∷ []) []
+folder_joined q m c = ap (λ o. unwrap_or o []) (get-insert nat_list_cmp_total m c.folder (messages_in m c.folder ++ c.message ∷ []) q) ∙ go (is_eq (bytes_cmp q c.folder)) (is_in q c) refl refl
+  where
+    go : (a b : Bool) → is_eq (bytes_cmp q c.folder) ≡ a → is_in q c ≡ b → unwrap_or (cond a (Some (messages_in m c.folder ++ c.message ∷ [])) (get m q)) [] ≡ messages_in m q ++ cond b (c.message ∷ []) []
+    go true true s t = ap (λ k. messages_in m k ++ c.message ∷ []) (sym (same_bytes q c.folder s))
+    go true false s t = absurd (true≢false (sym (ap (λ k. is_eq (bytes_cmp c.folder k)) (same_bytes q c.folder s) ∙ bytes_eq_refl c.folder) ∙ t))
+    go false true s t = absurd (true≢false (sym (ap (λ k. is_eq (bytes_cmp q k)) (same_bytes c.folder q t) ∙ bytes_eq_refl q) ∙ s))
+    go false false s t = sym (append-nil (messages_in m q))
+
+folders_joined : (q : List ℕ) (copies : List Copy) (m : Folders) → messages_in (fold (λ folders c. filed folders c.folder c.message) m copies) q ≡ messages_in m q ++ map (λ c. c.message) (filter (is_in q) copies)
+folders_joined q [] m = sym (append-nil (messages_in m q))
+folders_joined q (c ∷ copies) m =
+    folders_joined q copies (filed m c.folder c.message) ∙ ap (λ l. l ++ map (λ x. x.message) (filter (is_in q) copies)) (folder_joined q m c)
+    ∙ elim (is_in q c) as (λ b. (messages_in m q ++ cond b (c.message ∷ []) []) ++ map (λ x. x.message) (filter (is_in q) copies) ≡ messages_in m q ++ map (λ x. x.message) (cond b (c ∷ filter (is_in q) copies) (filter (is_in q) copies))) [
+      | true ↦ append_assoc (messages_in m q) (c.message ∷ []) (map (λ x. x.message) (filter (is_in q) copies))
+      | false ↦ ap (λ l. l ++ map (λ x. x.message) (filter (is_in q) copies)) (append-nil (messages_in m q))
+    ]
+
+pub messages_are : (copies : List Copy) (folder : List ℕ) → messages_in (folders_from copies) folder ≡ map (λ c. c.message) (filter (is_in folder) copies)
+messages_are copies folder = folders_joined folder copies empty ∙ ap (λ o. unwrap_or o [] ++ map (λ c. c.message) (filter (is_in folder) copies)) (get-empty bytes_cmp folder)
+
+-- ---- the entries of a map in order
+
+put_permutation : {X : Type 0} (k : List ℕ) (v : X) (es : List (List ℕ × X)) → find bytes_cmp k es ≡ None → IsPermutation ((k, v) ∷ es) (put bytes_cmp k v es)
+put_permutation k v [] none = IsPermutation-refl _
+put_permutation {X} k v (e ∷ es) none = go (bytes_cmp k e.0) none (put_permutation k v es)
+  where
+    go : (o : Ordering) → cond (is_eq o) (Some e.1) (find bytes_cmp k es) ≡ None → (find bytes_cmp k es ≡ None → IsPermutation ((k, v) ∷ es) (put bytes_cmp k v es))
+        → IsPermutation ((k, v) ∷ e ∷ es) (by_order o ((k, v) ∷ e ∷ es) ((e.0, v) ∷ es) (e ∷ put bytes_cmp k v es))
+    go Less h more = IsPermutation-refl _
+    go Equal h more = absurd (let same = h in cc)
+    go Greater h more = IsPermutation-trans _ _ _ (IsPermutation-sym _ _ (IsPermutation-middle (e ∷ []) (k, v) es)) (IsPermutation-cons e _ _ (more h))
+
+none_apart : {X : Type 0} (k : List ℕ) (es : List (List ℕ × X)) → AllByRecursion (λ e. k ≢ e.0) es → find bytes_cmp k es ≡ None
+none_apart k [] apart = refl
+none_apart {X} k (e ∷ es) apart = go (is_eq (bytes_cmp k e.0)) refl (none_apart k es apart.1)
+  where
+    go : (b : Bool) → is_eq (bytes_cmp k e.0) ≡ b → find bytes_cmp k es ≡ None → cond b (Some e.1) (find bytes_cmp k es) ≡ None
+    go true same more = absurd (apart.0 (same_bytes k e.0 same))
+    go false other more = more
+
+no_length : {X : Type 0} (es : List X) → length es ≡ 0 → es ≡ []
+no_length [] e = refl
+no_length (x ∷ es) e = absurd (omega arith)
+
+entries_permutation : {X : Type 0} (es : List (List ℕ × X)) → AreApart es → IsPermutation es (entries (from_entries {R = bytes_cmp} es))
+entries_permutation {X} [] apart = subst (IsPermutation []) (sym (no_length _ (sym (len-entries (empty {X = X} {R = bytes_cmp})) ∙ len-empty bytes_cmp X))) (IsPermutation-refl [])
+entries_permutation {X} (e ∷ es) apart =
+    let m : FinMap bytes_cmp X = from_entries es in
+    let free : find bytes_cmp e.0 (entries m) ≡ None = sym (get-entries m e.0) ∙ get-from_entries nat_list_cmp_total es e.0 ∙ none_apart e.0 es apart.0 in
+    subst (IsPermutation (e ∷ es)) (sym (entries-insert nat_list_cmp_total m e.0 e.1))
+    (IsPermutation-trans _ _ _ (IsPermutation-cons e es (entries m) (entries_permutation es apart.1)) (put_permutation e.0 e.1 (entries m) free))
+
+from_T : (b : Bool) → T b → b ≡ true
+from_T true h = refl
+from_T false h = absurd h
+
+is_less : (o : Ordering) → is_lt o ≡ true → o ≡ Less
+is_less Less h = refl
+is_less Equal h = absurd (true≢false (sym h))
+is_less Greater h = absurd (true≢false (sym h))
+
+below : {X : Type 0} (k : List ℕ) (es : List (List ℕ × X)) → below_all bytes_cmp k es ≡ true → AllByRecursion (λ e. bytes_cmp k e.0 ≡ Less) es
+below k [] h = tt
+below k (e ∷ es) h = let parts = and_parts (is_lt (bytes_cmp k e.0)) (below_all bytes_cmp k es) h in (is_less _ parts.0, below k es parts.1)
+
+rises : {X : Type 0} (es : List (List ℕ × X)) → is_sorted bytes_cmp es ≡ true → IsAscending (λ a b. bytes_cmp a.0 b.0 ≡ Less) es
+rises [] h = tt
+rises (e ∷ es) h = let parts = and_parts (below_all bytes_cmp e.0 es) (is_sorted bytes_cmp es) h in (below e.0 es parts.0, rises es parts.1)
+
+pub entries_rise : {X : Type 0} (m : FinMap bytes_cmp X) → IsAscending (λ a b. bytes_cmp a.0 b.0 ≡ Less) (entries m)
+entries_rise m = rises (entries m) (from_T _ (entries_sorted m))
+
+-- ---- names in order
+
+abbrev by_name : Query
+by_name = (over 4 by_one (col 1 2 ∷ []) ((col 1 2, ascending Binary) ∷ [])).body
+
+name_output : {X : Type 0} → List ℕ × X → Output
+name_output e = (Blob e.0 ∷ [], Blob e.0 ∷ [])
+
+names_rise : {X : Type 0} (a b : List ℕ × X) → bytes_cmp a.0 b.0 ≡ Less → output_cmp by_name (name_output a) (name_output b) ≡ Less
+unfolding name_output
+names_rise a b low = last_key (value_cmp-Blob a.0 b.0 ∙ low)
+
+module _ (old new : State) (rows : List Row) (tables : Tables) (h : Holds mail_schema old.now tables) where
+  pub names_found : (owner : List ℕ) (scripts : List (List ℕ × List ℕ)) → rows_of owner tables 4 ≡ map (script_row owner) scripts → AreApart scripts → Shown select_names (owner_key owner) old new rows
+      → rows ≡ map (λ n. Blob n ∷ []) (keys (from_entries {R = bytes_cmp} scripts))
+  unfolding name_output
+  names_found owner scripts are apart shown =
+      let p = has_key (owner_key owner) in
+      let m : FinMap bytes_cmp (List ℕ) = from_entries scripts in
+      let show = λ (cells : Row). let o : Output = (column cells 1 ∷ [], column cells 1 ∷ []) in o in
+      let found = cells_in_order old.now.trees 4 by_one (col 1 2 ∷ []) ((col 1 2, ascending Binary) ∷ []) (owner_key owner) (tables 4) (h.each script (inr (inr (inl refl)))) p (λ n cells. refl) show (λ n cells. refl) rows
+      (answered mail_schema select_names (owner_key owner) old new h.is select_names_plain.0 4 by_one (col 1 2 ∷ []) _ _ select_names_is select_names_plain.1 rows shown) in
+      let outs : map show (filter p (tables 4)) ≡ map name_output scripts = ap (map show) are ∙ map-map show (script_row owner) scripts in
+      let same = IsPermutation-trans _ _ _ (IsPermutation-map name_output _ _ (IsPermutation-sym _ _ (entries_permutation scripts apart))) (subst (λ l. IsPermutation l found.0) outs found.1) in
+      let rising = ascending-map (λ x y. output_cmp by_name x y ≡ Less) name_output (entries m) (ascending_weaker _ (λ a b. output_cmp by_name (name_output a) (name_output b) ≡ Less) names_rise (entries m) (entries_rise m)) in
+      let is = sorted_unique (output_cmp by_name) (output_cmp_total by_name) (map name_output (entries m)) found.0 rising same found.2 in
+      found.3 ∙ ap (map (λ (o : Output). o.1)) is ∙ map-map (λ (o : Output). o.1) name_output (entries m) ∙ sym (map-map (λ (n : List ℕ). Blob n ∷ []) (λ (e : List ℕ × List ℕ). e.0) (entries m))

@@ -1,0 +1,19 @@
+-- What a clause on Ok or on a refusal says.
+use Rattle.std.proofs.Common.{◌≡◌, Ok, Err, Result, OnOk, OnErr, IfOk}
+
+-- what holds on Ok holds where Ok was answered
+pub on_ok : {X E : Type 0} (r : Result X E) (x : X) → r ≡ Ok x → (P : Type 0) → OnOk r P → P
+on_ok (Err e) x is P h = absurd (let same = is in cc)
+on_ok (Ok y) x is P h = h
+
+pub on_any : {X E : Type 0} (r : Result X E) (P : Type 0) → P → OnOk r P
+on_any (Err e) P h = tt
+on_any (Ok x) P h = h
+
+pub if_ok : {X E : Type 0} (r : Result X E) (P Q : X → Type 0) → ((x : X) → P x → Q x) → IfOk r P → IfOk r Q
+if_ok (Err e) P Q f h = tt
+if_ok (Ok x) P Q f h = f x h
+
+pub on_err_any : {X E : Type 0} (r : Result X E) (P : Type 0) → P → OnErr r P
+on_err_any (Err e) P h = h
+on_err_any (Ok x) P h = tt

@@ -1,0 +1,79 @@
+-- What is computed of the schema: the texts define its tables, and no foreign key acts.
+use Rattle.std.proofs.Common.{◌≡◌, ◌==◌, ℕ, true, false, cond, List, [], length, Ok, refl}
+use Rattle.std.specs.List.{flat_map, filter_map}
+use Rattle.sqlite_value.specs.Order.{Row}
+use Rattle.sqlite_schema.specs.declared.schema.Keys.TheVariants.{Enforced}
+use Rattle.sqlite_schema.specs.declared.command.Command.TheVariants.{CreateTable}
+use Rattle.sqlite_schema.specs.Rules.{parent_key}
+use Rattle.sqlite_rules.specs.Action.{works, work_by, pairs, deed_of}
+use Rattle.sqlite_resolve.specs.Compile.{table_defined_by}
+use Rattle.sqlite_catalog.specs.Change.{created}
+use Rattle.sqlite_tied.specs.Compute.{everything}
+use Rattle.sqlite.specs.Listing.{understood}
+use Rattle.sqlite.proofs.Callers.{IsPlain, command_of, statement_of}
+use Rattle.mailstore.specs.Schema.{meta, account, script, copy, outgoing, reply, notice, no_schema, mail_schema, schema_1, schema_2, schema_3, schema_4, schema_5, schema_6}
+use Rattle.mailstore.specs.Statements.{create_meta, create_account, create_script, create_copy, create_outgoing, create_reply, create_notice}
+
+pub no_works : (depth tree : ℕ) (olds news : List Row) → works mail_schema Enforced depth tree olds news ≡ []
+no_works depth tree olds news =
+    elim (length news == 0) as (λ b. flat_map (λ child. filter_map (λ ref. work_by depth tree (pairs olds news) child ref (deed_of Enforced b (cond b ref.on_delete ref.on_update)) (parent_key mail_schema.tables ref)) child.references) mail_schema.tables ≡ [])
+    [ true ↦ refl | false ↦ refl ]
+
+pub schemas_are : created schema_6 (record notice { tree = 0 }) ≡ mail_schema
+schemas_are = refl
+
+pub meta_defined : table_defined_by create_meta ≡ Ok (record meta { tree = 0 })
+unfolding understood everything
+meta_defined = refl
+
+pub account_defined : table_defined_by create_account ≡ Ok (record account { tree = 0 })
+unfolding understood everything
+account_defined = refl
+
+pub script_defined : table_defined_by create_script ≡ Ok (record script { tree = 0 })
+unfolding understood everything
+script_defined = refl
+
+pub copy_defined : table_defined_by create_copy ≡ Ok (record copy { tree = 0 })
+unfolding understood everything
+copy_defined = refl
+
+pub outgoing_defined : table_defined_by create_outgoing ≡ Ok (record outgoing { tree = 0 })
+unfolding understood everything
+outgoing_defined = refl
+
+pub reply_defined : table_defined_by create_reply ≡ Ok (record reply { tree = 0 })
+unfolding understood everything
+reply_defined = refl
+
+pub notice_defined : table_defined_by create_notice ≡ Ok (record notice { tree = 0 })
+unfolding understood everything
+notice_defined = refl
+
+pub meta_creates : (command_of (understood no_schema create_meta) ≡ CreateTable) × (statement_of create_meta (understood no_schema create_meta) ≡ create_meta) × IsPlain (understood no_schema create_meta)
+unfolding understood everything
+meta_creates = (refl, refl, (refl, refl))
+
+pub account_creates : (command_of (understood schema_1 create_account) ≡ CreateTable) × (statement_of create_account (understood schema_1 create_account) ≡ create_account) × IsPlain (understood schema_1 create_account)
+unfolding understood everything
+account_creates = (refl, refl, (refl, refl))
+
+pub script_creates : (command_of (understood schema_2 create_script) ≡ CreateTable) × (statement_of create_script (understood schema_2 create_script) ≡ create_script) × IsPlain (understood schema_2 create_script)
+unfolding understood everything
+script_creates = (refl, refl, (refl, refl))
+
+pub copy_creates : (command_of (understood schema_3 create_copy) ≡ CreateTable) × (statement_of create_copy (understood schema_3 create_copy) ≡ create_copy) × IsPlain (understood schema_3 create_copy)
+unfolding understood everything
+copy_creates = (refl, refl, (refl, refl))
+
+pub outgoing_creates : (command_of (understood schema_4 create_outgoing) ≡ CreateTable) × (statement_of create_outgoing (understood schema_4 create_outgoing) ≡ create_outgoing) × IsPlain (understood schema_4 create_outgoing)
+unfolding understood everything
+outgoing_creates = (refl, refl, (refl, refl))
+
+pub reply_creates : (command_of (understood schema_5 create_reply) ≡ CreateTable) × (statement_of create_reply (understood schema_5 create_reply) ≡ create_reply) × IsPlain (understood schema_5 create_reply)
+unfolding understood everything
+reply_creates = (refl, refl, (refl, refl))
+
+pub notice_creates : (command_of (understood schema_6 create_notice) ≡ CreateTable) × (statement_of create_notice (understood schema_6 create_notice) ≡ create_notice) × IsPlain (understood schema_6 create_notice)
+unfolding understood everything
+notice_creates = (refl, refl, (refl, refl))

@@ -1,0 +1,126 @@
+-- The rows of one user, and those of others, after row changes.
+use Rattle.std.proofs.Common.{◌≡◌, ◌≢◌, ◌==◌, ℕ, Bool, true, false, not, cond, List, [], ◌∷◌, filter, drop, Some, refl, sym, ap, ◌∙◌, subst, inl, inr, eq-eqb, ne_eqb, true≢false, is_eq}
+use Rattle.std.specs.FinMap.{get, insert, get-insert}
+use Rattle.std.proofs.lemmas.Cmp.{nat_list_cmp_total}
+use Rattle.sqlite_typed.proofs.TestLemmas.{same_bytes, bytes_eq_refl}
+use Rattle.std.proofs.lemmas.Bool.{cases_eq}
+use Rattle.sqlite_value.specs.declared.value.Value.TheVariants.{Blob}
+use Rattle.sqlite_value.specs.Order.{Row}
+use Rattle.sqlite_trees.specs.Tree.{with_tree}
+use Rattle.sqlite_keyed.specs.Lists.{update_where, delete_where}
+use Rattle.sqlrows.specs.Rows.{Tables, has_key}
+use Rattle.sqlrows.proofs.ListLemmas.{owner_key, pair_key, owned_by, owners_apart, pair_apart, filter_pushed, filter_beside, filter_kept, filter_unset}
+use Rattle.mailstore.specs.declared.change.Change.{Change}
+use Rattle.mailstore.specs.declared.change.Change.TheVariants.{AddAccount, SetActive, SetNextCopy, AddScript, RemoveScript, AddCopy}
+use Rattle.mailstore.specs.Cells.{account_cells, script_cells, copy_cells, with_active, with_next_copy, or_null, contents}
+use Rattle.mailstore.specs.Changes.{made_one, made, owner_of, AreOf}
+use Rattle.mailstore.specs.Account.{bytes_cmp, Account, Accounts}
+use Rattle.mailstore.specs.Shows.{rows_of, IsShown, IsShownOrAbsent, ShowsAccounts}
+
+-- the filter of a user, after one tree got other rows
+filter_tree : (p : Row → Bool) (tables : Tables) (tree : ℕ) (rows : List Row) (t : ℕ) → filter p (with_tree tables tree rows t) ≡ with_tree (λ s. filter p (tables s)) tree (filter p rows) t
+filter_tree p tables tree rows t = elim (t == tree) as (λ b. filter p (cond b rows (tables t)) ≡ cond b (filter p rows) (filter p (tables t))) [ true ↦ refl | false ↦ refl ]
+
+module _ (user : List ℕ) (tables : Tables) (tree : ℕ) where
+  abbrev mine : Row → Bool
+  mine = has_key (owner_key user)
+
+  same_trees : (rows : List Row) → filter mine rows ≡ filter mine (tables tree) → rows_of user (with_tree tables tree rows) ≡ rows_of user tables
+  same_trees rows same = λ i t. at t i
+    where
+      at : (t : ℕ) → filter mine (with_tree tables tree rows t) ≡ filter mine (tables t)
+      at t = filter_tree mine tables tree rows t ∙ elim (cases_eq t tree) [
+        | inl here ↦ rw (eq-eqb t tree here) (same ∙ ap (λ s. filter mine (tables s)) (sym here))
+        | inr there ↦ rw (ne_eqb t tree there) refl
+      ]
+
+  own_trees : (rows own : List Row) → filter mine rows ≡ own → rows_of user (with_tree tables tree rows) ≡ with_tree (rows_of user tables) tree own
+  own_trees rows own is = λ i t. (filter_tree mine tables tree rows t ∙ ap (λ l. with_tree (rows_of user tables) tree l t) is) i
+
+-- filters change places
+filter_swapped : (p q : Row → Bool) (rows : List Row) → filter p (delete_where q rows) ≡ delete_where q (filter p rows)
+filter_swapped p q [] = refl
+filter_swapped p q (r ∷ rows) = go (p r) (q r) refl refl (filter_swapped p q rows)
+  where
+    go : (a b : Bool) → p r ≡ a → q r ≡ b → filter p (delete_where q rows) ≡ delete_where q (filter p rows)
+        → filter p (cond (not b) (r ∷ delete_where q rows) (delete_where q rows)) ≡ delete_where q (cond a (r ∷ filter p rows) (filter p rows))
+    go true true s t more = simp t more
+    go true false s t more = simp (s, t) (ap (λ l. r ∷ l) more)
+    go false true s t more = more
+    go false false s t more = simp s more
+
+update_swapped : (p q : Row → Bool) (f : Row → Row) → ((r : Row) → q r ≡ true → (p r ≡ true) × (p (f r) ≡ true)) → (rows : List Row) → filter p (update_where q f rows) ≡ update_where q f (filter p rows)
+update_swapped p q f stays [] = refl
+update_swapped p q f stays (r ∷ rows) = go (q r) refl (update_swapped p q f stays rows)
+  where
+    go : (b : Bool) → q r ≡ b → filter p (update_where q f rows) ≡ update_where q f (filter p rows) → filter p (cond b (f r) r ∷ update_where q f rows) ≡ update_where q f (filter p (r ∷ rows))
+    go true t more = simp ((stays r t).0, (stays r t).1, t) (ap (λ l. f r ∷ l) more)
+    go false t more = other (p r) refl
+      where
+        other : (a : Bool) → p r ≡ a → cond a (r ∷ filter p (update_where q f rows)) (filter p (update_where q f rows)) ≡ update_where q f (cond a (r ∷ filter p rows) (filter p rows))
+        other true s = simp t (ap (λ l. r ∷ l) more)
+        other false s = more
+
+begins_apart : (a b : List ℕ) → a ≢ b → (rest : Row) → has_key (owner_key a) (Blob b ∷ rest) ≡ false
+begins_apart a b differ rest = owners_apart a b differ (Blob b ∷ rest) (owned_by b rest)
+
+-- a change leaves the rows of other users
+others_one : (d : Change) (user : List ℕ) (tables : Tables) → user ≢ owner_of d → rows_of user (made_one d tables) ≡ rows_of user tables
+others_one (AddAccount name address salt rounds digest) user tables differ = same_trees user tables 2 _ (filter_beside (has_key (owner_key user)) (tables 2) _ (begins_apart user name.now differ (drop 1 (account_cells name.now address.now salt.now rounds digest.now))))
+others_one (SetActive name active) user tables differ =
+    same_trees user tables 2 _ (filter_unset (has_key (owner_key user)) (has_key (owner_key name.now)) (owners_apart user name.now differ) (with_active (or_null (contents active))) (owners_apart user name.now differ) (tables 2))
+others_one (SetNextCopy name next) user tables differ =
+    same_trees user tables 2 _ (filter_unset (has_key (owner_key user)) (has_key (owner_key name.now)) (owners_apart user name.now differ) (with_next_copy next) (owners_apart user name.now differ) (tables 2))
+others_one (AddScript owner name text) user tables differ = same_trees user tables 4 _ (filter_beside (has_key (owner_key user)) (tables 4) _ (begins_apart user owner.now differ (drop 1 (script_cells owner.now name.now text.now))))
+others_one (RemoveScript owner name) user tables differ =
+    same_trees user tables 4 _ (filter_kept (has_key (owner_key user)) (has_key (pair_key owner.now name.now)) (pair_apart user name.now owner.now differ) (tables 4))
+others_one (AddCopy owner folder n message) user tables differ = same_trees user tables 6 _ (filter_beside (has_key (owner_key user)) (tables 6) _ (begins_apart user owner.now differ (drop 1 (copy_cells owner.now folder.now n message.now))))
+
+-- and is made in those of its owner
+own_one : (d : Change) (tables : Tables) → rows_of (owner_of d) (made_one d tables) ≡ made_one d (rows_of (owner_of d) tables)
+own_one (AddAccount name address salt rounds digest) tables = own_trees name.now tables 2 _ _ (filter_pushed (has_key (owner_key name.now)) (tables 2) _ (owned_by name.now (drop 1 (account_cells name.now address.now salt.now rounds digest.now))))
+own_one (SetActive name active) tables =
+    own_trees name.now tables 2 _ _ (update_swapped (has_key (owner_key name.now)) (has_key (owner_key name.now)) (with_active (or_null (contents active))) (λ r h. (h, h)) (tables 2))
+own_one (SetNextCopy name next) tables =
+    own_trees name.now tables 2 _ _ (update_swapped (has_key (owner_key name.now)) (has_key (owner_key name.now)) (with_next_copy next) (λ r h. (h, h)) (tables 2))
+own_one (AddScript owner name text) tables = own_trees owner.now tables 4 _ _ (filter_pushed (has_key (owner_key owner.now)) (tables 4) _ (owned_by owner.now (drop 1 (script_cells owner.now name.now text.now))))
+own_one (RemoveScript owner name) tables = own_trees owner.now tables 4 _ _ (filter_swapped (has_key (owner_key owner.now)) (has_key (pair_key owner.now name.now)) (tables 4))
+own_one (AddCopy owner folder n message) tables = own_trees owner.now tables 6 _ _ (filter_pushed (has_key (owner_key owner.now)) (tables 6) _ (owned_by owner.now (drop 1 (copy_cells owner.now folder.now n message.now))))
+
+version_one : (d : Change) (tables : Tables) → made_one d tables 0 ≡ tables 0
+version_one (AddAccount name address salt rounds digest) tables = refl
+version_one (SetActive name active) tables = refl
+version_one (SetNextCopy name next) tables = refl
+version_one (AddScript owner name text) tables = refl
+version_one (RemoveScript owner name) tables = refl
+version_one (AddCopy owner folder n message) tables = refl
+
+others_all : (user other : List ℕ) (ds : List Change) (tables : Tables) → AreOf user ds → other ≢ user → rows_of other (made tables ds) ≡ rows_of other tables
+others_all user other [] tables are differ = refl
+others_all user other (d ∷ ds) tables are differ = others_all user other ds (made_one d tables) are.1 differ ∙ others_one d other tables (λ same. differ (same ∙ are.0))
+
+own_all : (user : List ℕ) (ds : List Change) (tables : Tables) → AreOf user ds → rows_of user (made tables ds) ≡ made (rows_of user tables) ds
+own_all user [] tables are = refl
+own_all user (d ∷ ds) tables are =
+    own_all user ds (made_one d tables) are.1
+    ∙ ap (λ own. made own ds) (subst (λ u. rows_of u (made_one d tables) ≡ made_one d (rows_of u tables)) are.0 (own_one d tables))
+
+version_all : (ds : List Change) (tables : Tables) → made tables ds 0 ≡ tables 0
+version_all [] tables = refl
+version_all (d ∷ ds) tables = version_all ds (made_one d tables) ∙ version_one d tables
+
+-- where one user's rows show another account, the tables show the accounts with that one in place
+pub shows_after : (tables : Tables) (accounts : Accounts) (user : List ℕ) (ds : List Change) (next : Account) → AreOf user ds → ShowsAccounts tables accounts → IsShown user (made (rows_of user tables) ds) next
+    → ShowsAccounts (made tables ds) (insert accounts user next)
+shows_after tables accounts user ds next are shows here = record { version = version_all ds tables ∙ shows.version; users = each }
+  where
+    at : (other : List ℕ) (b : Bool) → is_eq (bytes_cmp other user) ≡ b → IsShownOrAbsent other (rows_of other (made tables ds)) (cond b (Some next) (get accounts other))
+    at other true same =
+        let is = same_bytes other user same in
+        rw is (subst (λ own. IsShown user own next) (sym (own_all user ds tables are)) here)
+    at other false apart =
+        let differ : other ≢ user = λ same. true≢false (sym (ap (λ u. is_eq (bytes_cmp u user)) same ∙ bytes_eq_refl user) ∙ apart) in
+        subst (λ own. IsShownOrAbsent other own (get accounts other)) (sym (others_all user other ds tables are differ)) (shows.users other)
+
+    each : (other : List ℕ) → IsShownOrAbsent other (rows_of other (made tables ds)) (get (insert accounts user next) other)
+    each other = subst (IsShownOrAbsent other (rows_of other (made tables ds))) (sym (get-insert nat_list_cmp_total accounts user next other)) (at other (is_eq (bytes_cmp other user)) refl)

@@ -1,0 +1,145 @@
+-- What each text is understood as, under the schema.
+use Rattle.std.proofs.Common.{◌≡◌, pos, false, List, [], ◌∷◌, codes, refl}
+use Rattle.sqlite_value.specs.declared.value.Value.TheVariants.{Null, Int, Text}
+use Rattle.sqlite_value.specs.declared.keys.Collation.TheVariants.{Binary}
+use Rattle.sqlite_value.specs.Keys.{ascending}
+use Rattle.sqlite_sql.specs.Term.{Term, lit, col}
+use Rattle.sqlite_schema.specs.declared.command.Source.TheVariants.{Values}
+use Rattle.sqlite_schema.specs.declared.command.Command.TheVariants.{Insert, Update, Delete, Select}
+use Rattle.sqlite_tied.specs.Compute.{everything}
+use Rattle.sqlite.specs.Listing.{understood, reads_listing}
+use Rattle.sqlite.proofs.Callers.{IsPlain, command_of}
+use Rattle.sqlrows.specs.Forms.{equals, over}
+use Rattle.mailstore.specs.Schema.{mail_schema}
+use Rattle.mailstore.specs.Statements.{insert_version, insert_account, update_active, update_next_copy, insert_script, delete_script, insert_copy, select_account, select_next_copy, select_names, select_script, select_folders, select_folder}
+
+abbrev pub by_one : List Term
+by_one = equals 1 0 ∷ []
+
+abbrev pub by_two : List Term
+by_two = equals 1 0 ∷ equals 2 1 ∷ []
+
+abbrev pub version_terms : List Term
+version_terms = lit (Text (codes "version")) ∷ lit (Int (pos 1)) ∷ []
+
+pub insert_version_is : command_of (understood mail_schema insert_version) ≡ Insert 0 (Values (lit Null ∷ version_terms) 3)
+unfolding understood everything
+insert_version_is = refl
+
+pub insert_version_plain : IsPlain (understood mail_schema insert_version)
+unfolding understood everything
+insert_version_plain = (refl, refl)
+
+abbrev pub account_terms : List Term
+account_terms = col 0 0 ∷ col 0 1 ∷ col 0 2 ∷ col 0 3 ∷ col 0 4 ∷ lit Null ∷ lit (Int (pos 1)) ∷ lit (Int (pos 1)) ∷ lit (Int (pos 1)) ∷ []
+
+pub insert_account_is : command_of (understood mail_schema insert_account) ≡ Insert 1 (Values (lit Null ∷ account_terms) 10)
+unfolding understood everything
+insert_account_is = refl
+
+pub insert_account_plain : IsPlain (understood mail_schema insert_account)
+unfolding understood everything
+insert_account_plain = (refl, refl)
+
+abbrev pub active_columns : List Term
+active_columns = col 1 0 ∷ col 1 0 ∷ col 1 1 ∷ col 1 2 ∷ col 1 3 ∷ col 1 4 ∷ col 1 5 ∷ col 0 1 ∷ col 1 7 ∷ col 1 8 ∷ col 1 9 ∷ []
+
+pub update_active_is : command_of (understood mail_schema update_active) ≡ Update 1 (over 2 by_one active_columns [])
+unfolding understood everything
+update_active_is = refl
+
+pub update_active_plain : IsPlain (understood mail_schema update_active)
+unfolding understood everything
+update_active_plain = (refl, refl)
+
+abbrev pub next_copy_columns : List Term
+next_copy_columns = col 1 0 ∷ col 1 0 ∷ col 1 1 ∷ col 1 2 ∷ col 1 3 ∷ col 1 4 ∷ col 1 5 ∷ col 1 6 ∷ col 0 1 ∷ col 1 8 ∷ col 1 9 ∷ []
+
+pub update_next_copy_is : command_of (understood mail_schema update_next_copy) ≡ Update 1 (over 2 by_one next_copy_columns [])
+unfolding understood everything
+update_next_copy_is = refl
+
+pub update_next_copy_plain : IsPlain (understood mail_schema update_next_copy)
+unfolding understood everything
+update_next_copy_plain = (refl, refl)
+
+abbrev pub three_terms : List Term
+three_terms = col 0 0 ∷ col 0 1 ∷ col 0 2 ∷ []
+
+pub insert_script_is : command_of (understood mail_schema insert_script) ≡ Insert 2 (Values (lit Null ∷ three_terms) 4)
+unfolding understood everything
+insert_script_is = refl
+
+pub insert_script_plain : IsPlain (understood mail_schema insert_script)
+unfolding understood everything
+insert_script_plain = (refl, refl)
+
+pub delete_script_is : command_of (understood mail_schema delete_script) ≡ Delete 2 (over 4 by_two (col 1 0 ∷ []) [])
+unfolding understood everything
+delete_script_is = refl
+
+pub delete_script_plain : IsPlain (understood mail_schema delete_script)
+unfolding understood everything
+delete_script_plain = (refl, refl)
+
+abbrev pub four_terms : List Term
+four_terms = col 0 0 ∷ col 0 1 ∷ col 0 2 ∷ col 0 3 ∷ []
+
+pub insert_copy_is : command_of (understood mail_schema insert_copy) ≡ Insert 3 (Values (lit Null ∷ four_terms) 5)
+unfolding understood everything
+insert_copy_is = refl
+
+pub insert_copy_plain : IsPlain (understood mail_schema insert_copy)
+unfolding understood everything
+insert_copy_plain = (refl, refl)
+
+abbrev pub account_shown : List Term
+account_shown = col 1 2 ∷ col 1 3 ∷ col 1 4 ∷ col 1 5 ∷ col 1 6 ∷ []
+
+pub select_account_is : command_of (understood mail_schema select_account) ≡ Select (over 2 by_one account_shown []) (codes "address" ∷ codes "salt" ∷ codes "rounds" ∷ codes "digest" ∷ codes "active" ∷ [])
+unfolding understood everything
+select_account_is = refl
+
+pub select_account_plain : IsPlain (understood mail_schema select_account) × (reads_listing mail_schema select_account ≡ false)
+unfolding understood everything
+select_account_plain = ((refl, refl), refl)
+
+pub select_next_copy_is : command_of (understood mail_schema select_next_copy) ≡ Select (over 2 by_one (col 1 7 ∷ []) []) (codes "next_copy" ∷ [])
+unfolding understood everything
+select_next_copy_is = refl
+
+pub select_next_copy_plain : IsPlain (understood mail_schema select_next_copy) × (reads_listing mail_schema select_next_copy ≡ false)
+unfolding understood everything
+select_next_copy_plain = ((refl, refl), refl)
+
+pub select_names_is : command_of (understood mail_schema select_names) ≡ Select (over 4 by_one (col 1 2 ∷ []) ((col 1 2, ascending Binary) ∷ [])) (codes "name" ∷ [])
+unfolding understood everything
+select_names_is = refl
+
+pub select_names_plain : IsPlain (understood mail_schema select_names) × (reads_listing mail_schema select_names ≡ false)
+unfolding understood everything
+select_names_plain = ((refl, refl), refl)
+
+pub select_script_is : command_of (understood mail_schema select_script) ≡ Select (over 4 by_two (col 1 3 ∷ []) []) (codes "text" ∷ [])
+unfolding understood everything
+select_script_is = refl
+
+pub select_script_plain : IsPlain (understood mail_schema select_script) × (reads_listing mail_schema select_script ≡ false)
+unfolding understood everything
+select_script_plain = ((refl, refl), refl)
+
+pub select_folders_is : command_of (understood mail_schema select_folders) ≡ Select (over 6 by_one (col 1 2 ∷ []) ((col 1 2, ascending Binary) ∷ [])) (codes "folder" ∷ [])
+unfolding understood everything
+select_folders_is = refl
+
+pub select_folders_plain : IsPlain (understood mail_schema select_folders) × (reads_listing mail_schema select_folders ≡ false)
+unfolding understood everything
+select_folders_plain = ((refl, refl), refl)
+
+pub select_folder_is : command_of (understood mail_schema select_folder) ≡ Select (over 6 by_two (col 1 4 ∷ []) ((col 1 3, ascending Binary) ∷ [])) (codes "message" ∷ [])
+unfolding understood everything
+select_folder_is = refl
+
+pub select_folder_plain : IsPlain (understood mail_schema select_folder) × (reads_listing mail_schema select_folder ≡ false)
+unfolding understood everything
+select_folder_plain = ((refl, refl), refl)

@@ -1,0 +1,55 @@
+-- Changes one after another in a transaction, and its end.
+use Rattle.std.proofs.Common.{◌≡◌, ℕ, ◌+◌, ◌<◌, true, false, List, [], ◌∷◌, ◌++◌, take, length, get_or, Ok, Err, Result, OnOk, IsTrue, refl, sym, ap, subst, ◌∙◌, arith}
+use Rattle.std.proofs.lemmas.List.{take_more}
+use Rattle.sqlite_trees.specs.Tree.{Trees}
+use Rattle.sqlite_trees.specs.declared.store.Store.{Ghosts}
+use Rattle.sqlite.specs.Held.{Held, state}
+use Rattle.sqlite.specs.declared.error.Error.{Error}
+use Rattle.sqlite.specs.State.{State, HasCleanDisk, KeepsCommit, Survives, Shows}
+use Rattle.sqlite.proofs.InsideLemmas.{keeps_then}
+use Rattle.sqlite.proofs.StateLemmas.{survives_then}
+use Rattle.sqlite.proofs.Callers.{survives_begin}
+use Rattle.sqlrows.specs.Rows.{Tables, Holds}
+use Rattle.mailstore.specs.declared.change.Change.{Change}
+use Rattle.mailstore.specs.Schema.{mail_schema}
+use Rattle.mailstore.specs.Words.{Makes}
+use Rattle.mailstore.specs.Changes.{made_one, made, MayHave}
+
+-- what a loop over the changes keeps
+pub record HasMade (old now : State) (changes : List Change) : Type 0 where
+  pub inside : IsTrue now.in_transaction
+  pub kept : KeepsCommit old now
+  pub holds : (tables : Tables) → Holds mail_schema old.now tables → Holds mail_schema now.now (made tables changes)
+
+pub made_push : (changes : List Change) (change : Change) (tables : Tables) → made tables (changes ++ change ∷ []) ≡ made_one change (made tables changes)
+made_push [] change tables = refl
+made_push (c ∷ changes) change tables = made_push changes change (made_one c tables)
+
+pub clean_before : (mid new : State) (P : Trees → Type 0) → Survives mid new P → HasCleanDisk new → HasCleanDisk mid
+clean_before mid new P s clean = let low = s.clean in omega arith
+
+pub one_more : (old mid new : State) (changes : List Change) (at : ℕ) (d : Change) (r : Result ℕ Error) (n : ℕ) → r ≡ Ok n → at < length changes → (HasCleanDisk mid → HasMade old mid (take at changes))
+    → Survives mid new (λ _. ⊥) → Makes mid new r (made_one (get_or changes at d)) → HasCleanDisk new → HasMade old new (take (at + 1) changes)
+one_more old mid new changes at d r n ok within was survives makes clean =
+    let before = was (clean_before mid new _ survives clean) in
+    let done = makes clean before.inside in
+    let went = subst (λ x. OnOk x (((tables : Tables) → Holds mail_schema mid.now tables → Holds mail_schema new.now (made_one (get_or changes at d) tables)) × Shows mid new new.now mid.committed true)) ok done.1 in
+    record {
+      inside = went.1.mode;
+      kept = keeps_then old mid new before.kept done.0;
+      holds = λ tables h. subst (Holds mail_schema new.now) (sym (ap (made tables) (take_more changes at d within) ∙ made_push (take at changes) (get_or changes at d) tables)) (went.0 (made tables (take at changes)) (before.holds tables h));
+    }
+
+pub if_committed : {X : Type 0} (r : Result X Error) (old mid new : State) (changes : List Change) (P Q : Type 0) (R : Trees → Type 0) → (HasCleanDisk mid → HasMade old mid changes) → Survives mid new R
+    → (HasCleanDisk new → OnOk r (IsTrue mid.in_transaction × Shows mid new mid.now mid.now false × P × Q)) → HasCleanDisk new → (tables : Tables) → Holds mail_schema old.now tables
+    → OnOk r (Holds mail_schema new.now (made tables changes))
+if_committed (Err e) old mid new changes P Q R was survives done clean tables h = tt
+if_committed (Ok x) old mid new changes P Q R was survives done clean tables h =
+    subst (λ d. Holds mail_schema d (made tables changes)) (sym (done clean).1.now_is) ((was (clean_before mid new R survives clean)).holds tables h)
+
+-- what a crash leaves of the transaction and its commit
+pub commits_all : {S : Type 0} (g : Ghosts S) (old : Held S) (last end : State) (changes : List Change) → Survives (state g (record old { in_transaction = true })) last (λ _. ⊥)
+    → Survives last end (λ db. db ≡ last.now.trees) → (HasCleanDisk last → HasMade (state g (record old { in_transaction = true })) last changes) → Survives (state g old) end (MayHave changes (state g old))
+commits_all g old last end changes inside commit was =
+    survives_then (state g old) last end _ _ _ (λ _ db none. absurd none)
+    (λ clean db is tables h. (last.now, (was (clean_before last end _ commit clean)).holds tables h, is)) (survives_begin g old last _ inside) commit

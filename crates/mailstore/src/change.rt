@@ -1,0 +1,91 @@
+//! One row change, and a list of them in one transaction.
+ghost use Rattle.std.specs.Prelude.{◌≡◌, false, OnOk, OnErr};
+ghost use Rattle.sqlite.specs.Held.{state};
+ghost use Rattle.sqlite.specs.State.{HasCleanDisk, Survives};
+ghost use Rattle.sqlrows.specs.Rows.{Tables, Holds};
+ghost use Rattle.mailstore.specs.Schema.{mail_schema};
+ghost use Rattle.mailstore.specs.Words.{Makes, IsSettled, StaysSame};
+ghost use Rattle.mailstore.specs.Changes.{made_one, made, MayHave};
+
+use crate::statement::{
+    add_account, add_copy, add_script, remove_script, set_active, set_next_copy,
+};
+use sqlite::{Alter, Connection, Error, Transaction};
+
+/// A change of one row by its key. Names, texts and messages are borrowed.
+#[derive(Drop)]
+pub enum Change<'a> {
+    AddAccount {
+        name: &'a [u8],
+        address: &'a [u8],
+        salt: &'a [u8],
+        rounds: u32,
+        digest: &'a [u8],
+    },
+    SetActive {
+        name: &'a [u8],
+        active: Option<&'a [u8]>,
+    },
+    SetNextCopy {
+        name: &'a [u8],
+        next: i64,
+    },
+    AddScript {
+        owner: &'a [u8],
+        name: &'a [u8],
+        text: &'a [u8],
+    },
+    RemoveScript {
+        owner: &'a [u8],
+        name: &'a [u8],
+    },
+    AddCopy {
+        owner: &'a [u8],
+        folder: &'a [u8],
+        n: i64,
+        message: &'a [u8],
+    },
+}
+
+fn make<S: Alter>(tx: &mut Transaction<'_, S>, change: &Change<'_>) -> Result<usize, Error>
+    ensures same_reference { tx.new.conn.ghost_name ≡ tx.old.conn.ghost_name }
+    ensures made { Makes (state S.Store tx.old.conn.now) (state S.Store tx.new.conn.now) result (made_one change.now) }
+    ensures survives { Survives (state S.Store tx.old.conn.now) (state S.Store tx.new.conn.now) (λ _. ⊥) }
+{
+    match change {
+        Change::AddAccount {
+            name,
+            address,
+            salt,
+            rounds,
+            digest,
+        } => add_account(tx, name, address, salt, *rounds, digest),
+        Change::SetActive { name, active } => set_active(tx, name, *active),
+        Change::SetNextCopy { name, next } => set_next_copy(tx, name, next),
+        Change::AddScript { owner, name, text } => add_script(tx, owner, name, text),
+        Change::RemoveScript { owner, name } => remove_script(tx, owner, name),
+        Change::AddCopy {
+            owner,
+            folder,
+            n,
+            message,
+        } => add_copy(tx, owner, folder, n, message),
+    }
+}
+
+/// Makes the changes in turn, in one transaction: all of them, or none.
+pub fn make_all<S: Alter>(conn: &mut Connection<S>, changes: &[Change<'_>]) -> Result<(), Error>
+    requires { conn.old.in_transaction ≡ false }
+    ensures ended { conn.new.in_transaction ≡ false }
+    ensures made { HasCleanDisk (state S.Store conn.new) → (tables : Tables) → Holds mail_schema (state S.Store conn.old).now tables → OnOk result (Holds mail_schema (state S.Store conn.new).now (made tables changes.now)) }
+    ensures settled { HasCleanDisk (state S.Store conn.new) → OnOk result (IsSettled (state S.Store conn.new)) }
+    ensures same { HasCleanDisk (state S.Store conn.new) → OnErr result (StaysSame (state S.Store conn.old) (state S.Store conn.new)) }
+    ensures crash { Survives (state S.Store conn.old) (state S.Store conn.new) (MayHave changes.now (state S.Store conn.old)) }
+{
+    let _settled = conn.is_autocommit();
+    let mut tx = conn.transaction();
+    for change in changes {
+        make(&mut tx, change)?;
+    }
+    tx.commit()
+}

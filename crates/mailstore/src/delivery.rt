@@ -1,0 +1,52 @@
+//! The row changes of a delivery.
+ghost use Rattle.std.specs.Prelude.{◌≡◌, ◌+◌, ◌<◌, ◌^◌, pos, length, IfOk, IfErr};
+ghost use Rattle.mailstore.specs.Changes.{AreCopies};
+ghost use Rattle.mailstore.specs.Refusals.{IsPassing};
+
+use crate::change::Change;
+use crate::refusal::Refusal;
+use octets::Octets;
+use std::alloc::Global;
+
+/// The number as the database keeps it; past 2^63 - 1 it is refused.
+fn number(n: u64) -> Result<i64, Refusal>
+    ensures same { IfOk result (λ i. i ≡ pos n) }
+    ensures fits { IfOk result (λ _. n < 2 ^ 63) }
+    ensures named { IfErr result IsPassing }
+{
+    match i64::try_from(n) {
+        Ok(i) => Ok(i),
+        Err(_) => Err(Refusal::Store),
+    }
+}
+
+/// The counter goes up first, and then a copy joins each folder in turn, numbered from `next` on.
+pub fn copy_changes<'a>(
+    alloc: Global,
+    user: &'a [u8],
+    folders: &'a [Octets],
+    message: &'a [u8],
+    next: u64,
+) -> Result<Vec<Change<'a>>, Refusal>
+    ensures copies { IfOk result (λ changes. AreCopies user.now message.now folders.now next (next + length folders.now) changes.items) }
+    ensures named { IfErr result IsPassing }
+{
+    let Some(last) = next.checked_add(folders.len() as u64) else {
+        return Err(Refusal::Store);
+    };
+    let mut changes = Vec::new(alloc);
+    changes.reserve_exact(folders.len().saturating_add(1))?;
+    changes.push(Change::SetNextCopy {
+        name: user,
+        next: number(last)?,
+    })?;
+    for (i, folder) in folders.iter().enumerate() {
+        changes.push(Change::AddCopy {
+            owner: user,
+            folder: folder.as_slice(),
+            n: number(next + i as u64)?,
+            message,
+        })?;
+    }
+    Ok(changes)
+}

@@ -1,0 +1,22 @@
+//! The tables of accounts, scripts and messages in an SQL database.
+#![tactic(auto)]
+
+mod change;
+mod decode;
+mod delivery;
+mod folders;
+mod profile;
+mod query;
+mod reads;
+mod refusal;
+mod report;
+mod statement;
+pub mod store;
+mod table;
+mod writes;
+
+pub use folders::{Folder, Folders};
+pub use profile::Profile;
+pub use refusal::Refusal;
+pub use report::{Plan, Report};
+pub use store::Store;

@@ -1,0 +1,126 @@
+//! The queries.
+ghost use Rattle.std.specs.Prelude.{◌≡◌, ℕ, List, false, [], ◌∷◌, map, slice_get, option_map, IfOk, IfSome};
+ghost use Rattle.std.specs.FinMap.{get, keys};
+ghost use Rattle.sqlite_value.specs.declared.value.Value.TheVariants.{Blob};
+ghost use Rattle.sqlite.specs.Held.{state};
+ghost use Rattle.sqlite.specs.State.{HasCleanDisk};
+ghost use Rattle.sqlite_value.specs.Order.{column};
+ghost use Rattle.sqlrows.specs.Rows.{Tables, Holds};
+ghost use Rattle.mailstore.specs.Schema.{mail_schema};
+ghost use Rattle.mailstore.specs.Calls.{profile_row};
+ghost use Rattle.mailstore.specs.Words.{ReadsOnly, IsLiveOnOk, IsQuiet};
+ghost use Rattle.mailstore.specs.Shows.{rows_of, Presents};
+ghost use Rattle.mailstore.specs.Account.{Accounts, messages_in};
+ghost use Rattle.mailstore.specs.Tally.{tallied, AreFolders};
+
+use sqlite::{Alter, Connection, Error, Row, params};
+
+/// The address, salt, rounds, digest and active script of the account.
+pub fn find_account<S: Alter>(conn: &mut Connection<S>, name: &[u8]) -> Result<Vec<Row>, Error>
+    requires { conn.old.in_transaction ≡ false }
+    ensures ended { conn.new.in_transaction ≡ false }
+    ensures limit { conn.new.step_limit ≡ conn.old.step_limit }
+    ensures found { HasCleanDisk (state S.Store conn.new) → (accounts : Accounts) → Presents (state S.Store conn.old).now accounts → IfOk result (λ rows. slice_get rows.items 0 ≡ option_map profile_row (get accounts name.now)) }
+    ensures same { ReadsOnly (state S.Store conn.old) (state S.Store conn.new) }
+    ensures live { IsLiveOnOk (state S.Store conn.old) (state S.Store conn.new) result }
+    ensures crash { IsQuiet (state S.Store conn.old) (state S.Store conn.new) }
+{
+    let _settled = conn.is_autocommit();
+    conn.query_all(
+        "SELECT address, salt, rounds, digest, active FROM account WHERE name = ?1",
+        params![name],
+    )
+}
+
+/// The number of the account's next copy.
+pub fn find_next_copy<S: Alter>(conn: &mut Connection<S>, name: &[u8]) -> Result<Vec<Row>, Error>
+    requires { conn.old.in_transaction ≡ false }
+    ensures ended { conn.new.in_transaction ≡ false }
+    ensures limit { conn.new.step_limit ≡ conn.old.step_limit }
+    ensures found { HasCleanDisk (state S.Store conn.new) → (tables : Tables) → Holds mail_schema (state S.Store conn.old).now tables → IfOk result (λ rows. rows.items ≡ map (λ c. column c 6 ∷ []) (rows_of name.now tables 2)) }
+    ensures same { ReadsOnly (state S.Store conn.old) (state S.Store conn.new) }
+    ensures live { IsLiveOnOk (state S.Store conn.old) (state S.Store conn.new) result }
+    ensures crash { IsQuiet (state S.Store conn.old) (state S.Store conn.new) }
+{
+    let _settled = conn.is_autocommit();
+    conn.query_all(
+        "SELECT next_copy FROM account WHERE name = ?1",
+        params![name],
+    )
+}
+
+/// The text of the script.
+pub fn find_script<S: Alter>(
+    conn: &mut Connection<S>,
+    owner: &[u8],
+    name: &[u8],
+) -> Result<Vec<Row>, Error>
+    requires { conn.old.in_transaction ≡ false }
+    ensures ended { conn.new.in_transaction ≡ false }
+    ensures limit { conn.new.step_limit ≡ conn.old.step_limit }
+    ensures found { HasCleanDisk (state S.Store conn.new) → (accounts : Accounts) → Presents (state S.Store conn.old).now accounts → IfOk result (λ rows. IfSome (get accounts owner.now) (λ a. slice_get rows.items 0 ≡ option_map (λ t. Blob t ∷ []) (get a.scripts name.now))) }
+    ensures same { ReadsOnly (state S.Store conn.old) (state S.Store conn.new) }
+    ensures live { IsLiveOnOk (state S.Store conn.old) (state S.Store conn.new) result }
+    ensures crash { IsQuiet (state S.Store conn.old) (state S.Store conn.new) }
+{
+    let _settled = conn.is_autocommit();
+    conn.query_all(
+        "SELECT text FROM script WHERE owner = ?1 AND name = ?2",
+        params![owner, name],
+    )
+}
+
+/// The names of the scripts, in the order of their octets.
+pub fn find_names<S: Alter>(conn: &mut Connection<S>, owner: &[u8]) -> Result<Vec<Row>, Error>
+    requires { conn.old.in_transaction ≡ false }
+    ensures ended { conn.new.in_transaction ≡ false }
+    ensures limit { conn.new.step_limit ≡ conn.old.step_limit }
+    ensures found { HasCleanDisk (state S.Store conn.new) → (accounts : Accounts) → Presents (state S.Store conn.old).now accounts → IfOk result (λ rows. IfSome (get accounts owner.now) (λ a. rows.items ≡ map (λ n. Blob n ∷ []) (keys a.scripts))) }
+    ensures same { ReadsOnly (state S.Store conn.old) (state S.Store conn.new) }
+    ensures live { IsLiveOnOk (state S.Store conn.old) (state S.Store conn.new) result }
+    ensures crash { IsQuiet (state S.Store conn.old) (state S.Store conn.new) }
+{
+    let _settled = conn.is_autocommit();
+    conn.query_all(
+        "SELECT name FROM script WHERE owner = ?1 ORDER BY name",
+        params![owner],
+    )
+}
+
+/// The messages of the folder, in the order of their numbers.
+pub fn find_messages<S: Alter>(
+    conn: &mut Connection<S>,
+    owner: &[u8],
+    folder: &[u8],
+) -> Result<Vec<Row>, Error>
+    requires { conn.old.in_transaction ≡ false }
+    ensures ended { conn.new.in_transaction ≡ false }
+    ensures limit { conn.new.step_limit ≡ conn.old.step_limit }
+    ensures found { HasCleanDisk (state S.Store conn.new) → (accounts : Accounts) → Presents (state S.Store conn.old).now accounts → IfOk result (λ rows. IfSome (get accounts owner.now) (λ a. rows.items ≡ map (λ m. Blob m ∷ []) (messages_in a.folders folder.now))) }
+    ensures same { ReadsOnly (state S.Store conn.old) (state S.Store conn.new) }
+    ensures live { IsLiveOnOk (state S.Store conn.old) (state S.Store conn.new) result }
+    ensures crash { IsQuiet (state S.Store conn.old) (state S.Store conn.new) }
+{
+    let _settled = conn.is_autocommit();
+    conn.query_all(
+        "SELECT message FROM copy WHERE owner = ?1 AND folder = ?2 ORDER BY n",
+        params![owner, folder],
+    )
+}
+
+/// The folder of each copy, in the order of their octets.
+pub fn find_folders<S: Alter>(conn: &mut Connection<S>, owner: &[u8]) -> Result<Vec<Row>, Error>
+    requires { conn.old.in_transaction ≡ false }
+    ensures ended { conn.new.in_transaction ≡ false }
+    ensures limit { conn.new.step_limit ≡ conn.old.step_limit }
+    ensures found { HasCleanDisk (state S.Store conn.new) → (accounts : Accounts) → Presents (state S.Store conn.old).now accounts → IfOk result (λ rows. IfSome (get accounts owner.now) (λ a. (names : List (List ℕ)) × (rows.items ≡ map (λ n. Blob n ∷ []) names) × AreFolders (tallied names) a)) }
+    ensures same { ReadsOnly (state S.Store conn.old) (state S.Store conn.new) }
+    ensures live { IsLiveOnOk (state S.Store conn.old) (state S.Store conn.new) result }
+    ensures crash { IsQuiet (state S.Store conn.old) (state S.Store conn.new) }
+{
+    let _settled = conn.is_autocommit();
+    conn.query_all(
+        "SELECT folder FROM copy WHERE owner = ?1 ORDER BY folder",
+        params![owner],
+    )
+}

@@ -1,0 +1,75 @@
+//! Why a call is refused.
+use sqlite::{Error, ErrorCode};
+use std::alloc::{AllocError, AllocFailed};
+use thiserror::Error as Derived;
+
+/// The refusals of the store and of the engine above it. `Memory` and `Store` may come at any call;
+/// each other one has its cause in the arguments or in what the store holds.
+#[derive(Clone, Copy, Debug, PartialEq, Eq, Derived)]
+pub enum Refusal {
+    /// Memory ran out.
+    #[error("out of memory")]
+    Memory,
+    /// The disk failed or is full, a number would not fit, or a statement was refused.
+    #[error("store failed")]
+    Store,
+    /// The tables or their version are not those of this store.
+    #[error("not a sieved database")]
+    NotOurs,
+    /// No account has the name.
+    #[error("no such user")]
+    NoUser,
+    /// The message has more than 33,554,432 octets.
+    #[error("message too large")]
+    TooLarge,
+    /// An envelope address has more than 1,024 octets, or CR, LF or NUL.
+    #[error("bad envelope address")]
+    BadEnvelope,
+    /// The moment is past the year 9999.
+    #[error("bad moment")]
+    BadMoment,
+    /// An account has the name.
+    #[error("user exists")]
+    UserExists,
+    /// The name, address or password is not allowed.
+    #[error("bad user")]
+    BadUser,
+    /// No row of the queue has the number.
+    #[error("no such row")]
+    NoRow,
+}
+
+impl From<AllocError> for Refusal {
+    ghost use Rattle.std.specs.Prelude.{◌≡◌};
+    ghost use Rattle.mailstore.specs.declared.refusal.Refusal.TheVariants.{Memory};
+
+    ghost from_gives = { λ _ e. e ≡ Memory };
+
+    fn from(_: AllocError) -> Refusal {
+        Refusal::Memory
+    }
+}
+
+impl<T: Drop> From<AllocFailed<T>> for Refusal {
+    ghost use Rattle.std.specs.Prelude.{◌≡◌};
+    ghost use Rattle.mailstore.specs.declared.refusal.Refusal.TheVariants.{Memory};
+
+    ghost from_gives = { λ _ e. e ≡ Memory };
+
+    fn from(_: AllocFailed<T>) -> Refusal {
+        Refusal::Memory
+    }
+}
+
+impl From<Error> for Refusal {
+    ghost use Rattle.mailstore.specs.Refusals.{IsPassing};
+
+    ghost from_gives = { λ _ e. IsPassing e };
+
+    fn from(error: Error) -> Refusal {
+        match error {
+            Error::SqliteFailure(ErrorCode::OutOfMemory) => Refusal::Memory,
+            _ => Refusal::Store,
+        }
+    }
+}

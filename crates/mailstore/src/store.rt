@@ -1,0 +1,83 @@
+//! The store of accounts.
+ghost use Rattle.std.specs.Prelude.{◌≡◌, ◌⊎◌, false, IsTrue, IfOk, IfErr, OnOk};
+ghost use Rattle.sqlite.specs.Held.{state};
+ghost use Rattle.sqlite.specs.State.{HasCleanDisk};
+ghost use Rattle.mailstore.specs.Words.{IsSettled, StaysSame, has_our_name};
+ghost use Rattle.mailstore.specs.Account.{no_accounts};
+ghost use Rattle.mailstore.specs.Shows.{Presents};
+ghost use Rattle.mailstore.specs.Refusals.{IsPassing};
+
+use crate::refusal::Refusal;
+use crate::table::{is_blank, is_taken, make_tables};
+use sqlite::{Alter, Connection};
+use std::alloc::Global;
+use std::marker::Model;
+
+/// Accounts with their scripts, messages, queue, replies and notices, in an SQL database.
+///
+/// Each write is one transaction: after a refusal the store stays as it was. No transaction is open
+/// between two calls. Dropping it closes the connection.
+pub struct Store<S: Alter> {
+    pub(crate) conn: Connection<S>,
+    pub(crate) alloc: Global,
+}
+
+impl<S: Alter> Model for Store<S> {
+    ghost use Rattle.std.specs.Prelude.{◌≡◌, false, None};
+    ghost use Rattle.sqlite.specs.Held.{Held, held_code};
+
+    ghost Value = { Held S };
+
+    ghost coded = { held_code S.code };
+
+    ghost view = { λ s. s.conn };
+
+    ghost invariant = { λ s. (s.conn.in_transaction ≡ false) × (s.conn.step_limit ≡ None) };
+}
+
+impl<S: Alter + Drop> Drop for Store<S> {
+    fn drop(self) {
+        let Store { conn: _, alloc: _ } = self;
+    }
+}
+
+impl<S: Alter> Store<S> {
+    /// Makes the tables in an empty database.
+    ///
+    /// A database where a table has one of our names is `NotOurs`, any other that is not empty is
+    /// `Store`. The connection comes back beside a refusal, with its tables as they are.
+    pub fn create(
+        alloc: Global,
+        mut conn: Connection<S>,
+    ) -> Result<Store<S>, (Refusal, Connection<S>)>
+        ensures made { IfOk result (λ store. HasCleanDisk (state S.Store store) → Presents (state S.Store store).now no_accounts) }
+        ensures settled { IfOk result (λ store. HasCleanDisk (state S.Store store) → IsSettled (state S.Store store)) }
+        ensures taken { conn.in_transaction ≡ false → IsTrue (has_our_name conn.schema) → IfErr result (λ e. e.0 ≡ Refusal.NotOurs) × OnOk result ⊥ }
+        ensures not_ours { IfErr result (λ e. e.0 ≡ Refusal.NotOurs → IsTrue (has_our_name conn.schema)) }
+        ensures named { IfErr result (λ e. (e.0 ≡ Refusal.NotOurs) ⊎ IsPassing e.0) }
+        ensures same_if_refused { IfErr result (λ e. HasCleanDisk (state S.Store e.1) → StaysSame (state S.Store conn) (state S.Store e.1)) }
+    {
+        if !conn.is_autocommit() {
+            return Err((Refusal::Store, conn));
+        }
+        if is_taken(conn.schema()) {
+            return Err((Refusal::NotOurs, conn));
+        }
+        if !is_blank(conn.schema()) {
+            return Err((Refusal::Store, conn));
+        }
+        conn.set_step_limit(None);
+        match make_tables(&mut conn) {
+            Ok(()) => Ok(Store { conn, alloc }),
+            Err(error) => Err((Refusal::from(error), conn)),
+        }
+    }
+
+    /// The connection, with its tables as they are.
+    pub fn release(self) -> Connection<S>
+        ensures { result ≡ self }
+    {
+        let Store { conn, alloc: _ } = self;
+        conn
+    }
+}

@@ -1,0 +1,15 @@
+pub mod Left
+pub mod Into
+pub mod Runs
+pub mod Names
+pub mod Law
+pub mod Outside
+pub mod Heads
+pub mod Scans
+pub mod Verbs
+pub mod Rooms
+pub mod Turning
+pub mod Parsing
+pub mod Unique
+pub mod Quoting
+pub mod Examples

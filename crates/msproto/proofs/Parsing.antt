@@ -1,0 +1,160 @@
+-- What a text spells is read from it.
+use Rattle.std.proofs.Common.{◌≡◌, ℕ, zero, suc, ◌+◌, ◌-◌, ◌<◌, ◌≤◌, ◌^◌, ◌⊎◌, inl, inr, Bool, true, false, not, ◌||◌, ◌&&◌, ◌==◌, cond, List, [], ◌∷◌, ◌++◌, length, take, drop, Option, Some, None, refl, sym, ap, ◌∙◌, subst, arith, append_assoc}
+use Rattle.std.specs.Prelude.{map, fold, nat_lt, nat_le}
+use Rattle.std.specs.Char.{to_ascii_uppercase, is_ascii_digit}
+use Rattle.std.proofs.lemmas.Bool.{cases_Bool, eqb-true, eqb-false, ne_eqb, eq-eqb, lt-ltb, le-leb, and_parts, and_from, or_parts, or_from, not-true, not_from_false, false_from_ne_true, both_ways}
+use Rattle.std.proofs.lemmas.List.{take_at, drop_at, length-append}
+use Rattle.octets.specs.Decimal.{with_digit}
+use Rattle.msproto.specs.declared.commands.Command.{Command}
+use Rattle.msproto.specs.declared.commands.Command.TheVariants.{Capability, Noop, Logout, Authenticate, Unauthenticate, HaveSpace, PutScript, CheckScript, ListScripts, SetActive, GetScript, DeleteScript, RenameScript, Response}
+use Rattle.msproto.specs.Arguments.{Argument, inside, AreDigits, IsNumeral, IsString, IsQuoted, IsLiteral, AreArguments}
+use Rattle.msproto.specs.Commands.{Form, Named, Alone, form_of, IsFormed, IsSpelling}
+use Rattle.msproto.specs.Machine.{Slots, rows, slots_in, verbs, verb_in, same_word}
+use Rattle.msproto.specs.Values.{Read, with_octet, quoted_in, number_in, octets_in, literal_in, string_in, size_in, text_in, name_length, verb_command, command_in}
+use Rattle.msproto.proofs.Runs.{fold_grows, digit_range}
+use Rattle.msproto.proofs.Names.{Rows, lacks, rows_lack, slots_step, filled, IsFilled}
+
+-- ---- strings
+
+quoted_back : (v rest : List ℕ) → quoted_in false (inside v ++ 34 ∷ rest) ≡ Some (v, rest)
+quoted_back [] rest = refl
+quoted_back (x ∷ v) rest = go (x == 34 || x == 92) refl (quoted_back v rest)
+  where
+    go : (b : Bool) → (x == 34 || x == 92) ≡ b → quoted_in false (inside v ++ 34 ∷ rest) ≡ Some (v, rest) → quoted_in false (inside (x ∷ v) ++ 34 ∷ rest) ≡ Some (x ∷ v, rest)
+    go true e ih = rw e (ap (with_octet x) ih)
+    go false e ih =
+        let parts = or_parts (x == 34) (x == 92) e in
+        rw (e, parts.0, parts.1) (ap (with_octet x) ih)
+
+number_back : (ds : List ℕ) (n y : ℕ) (u : List ℕ) → AreDigits ds → fold with_digit n ds < 2 ^ 32 → is_ascii_digit y ≡ false → number_in n (ds ++ y ∷ u) ≡ (fold with_digit n ds, y ∷ u)
+number_back [] n y u are lt stop = rw stop refl
+number_back (d ∷ ds) n y u are lt stop =
+    let below : nat_lt (with_digit n d) (2 ^ 32) ≡ true = lt-ltb _ _ (omega (arith, fold_grows ds (with_digit n d))) in
+    rw (are.0, below) (number_back ds (with_digit n d) y u are.1 lt stop)
+
+numeral_back : (n : ℕ) (ds : List ℕ) (y : ℕ) (u : List ℕ) → IsNumeral n ds → n < 2 ^ 32 → is_ascii_digit y ≡ false → number_in 0 (ds ++ y ∷ u) ≡ (n, y ∷ u)
+numeral_back n [] y u h lt stop = absurd h
+numeral_back n (d ∷ ds) y u h lt stop =
+    number_back (d ∷ ds) 0 y u h.0 (omega (arith, h.2, lt)) stop ∙ ap (λ (m : ℕ). (m, y ∷ u)) h.2
+
+octets_back : (v rest : List ℕ) → octets_in (length v) (v ++ rest) ≡ Some (v, rest)
+octets_back v rest =
+    let fits : nat_le (length v) (length (v ++ rest)) ≡ true = le-leb _ _ (omega (arith, length-append v rest)) in
+    rw (fits, take_at v rest (length v) refl, drop_at v rest (length v) refl) refl
+
+pub string_back : (v first rest : List ℕ) → IsString v first → string_in (first ++ rest) ≡ Some (v, rest)
+string_back v first rest (inl q) =
+    ap (λ (t : List ℕ). string_in (t ++ rest)) q.written
+    ∙ ap (quoted_in false) (append_assoc (inside v) (34 ∷ []) rest)
+    ∙ quoted_back v rest
+string_back v first rest (inr l) =
+    ap (λ (t : List ℕ). string_in (t ++ rest)) l.written
+    ∙ ap (λ (t : List ℕ). literal_in (number_in 0 t)) (append_assoc l.digits (43 ∷ 125 ∷ 13 ∷ 10 ∷ v) rest)
+    ∙ ap literal_in (numeral_back (length v) l.digits 43 (125 ∷ 13 ∷ 10 ∷ (v ++ rest)) l.numeral l.short refl)
+    ∙ octets_back v rest
+
+text_back : (v first rest t : List ℕ) → IsString v first → t ≡ 32 ∷ (first ++ rest) → text_in t ≡ Some (v, rest)
+text_back v first rest t s e = ap text_in e ∙ string_back v first rest s
+
+-- ---- arguments
+
+-- what stands behind a command's name gives the command
+abbrev IsRead : Form → Command → List ℕ → Type 0
+IsRead (Named word arguments) command rest = AreArguments arguments rest → verb_command (verb_in verbs word) rest ≡ Some command
+IsRead (Alone value) command rest = Unit {0}
+
+read_back : (c : Command) (rest : List ℕ) → IsRead (form_of c) c rest
+read_back Capability rest = λ h. refl
+read_back (Noop None) rest = λ h. rw h refl
+read_back (Noop (Some tag)) rest = λ h. let e = text_back tag h.0 h.1 rest h.2 h.4 in rw e refl
+read_back Logout rest = λ h. refl
+read_back (Authenticate mechanism None) rest = λ h. let e = text_back mechanism h.0 h.1 rest h.2 h.4 in rw (e, h.3) refl
+read_back (Authenticate mechanism (Some response)) rest = λ h.
+    let e = text_back mechanism h.0 h.1 rest h.2 h.4 in
+    let d = text_back response h.3.0 h.3.1 h.1 h.3.2 h.3.4 in
+    rw (e, d) refl
+read_back Unauthenticate rest = λ h. refl
+read_back (HaveSpace name size) rest = λ h.
+    let e = text_back name h.0 h.1 rest h.2 h.4 in
+    let d : number_in 0 (h.3.0 ++ 13 ∷ 10 ∷ []) ≡ (size, 13 ∷ 10 ∷ []) = numeral_back size h.3.0 13 (10 ∷ []) h.3.2.0 h.3.2.1 refl in
+    let at : h.1 ≡ 32 ∷ (h.3.0 ++ 13 ∷ 10 ∷ []) = h.3.4 ∙ ap (λ (u : List ℕ). 32 ∷ (h.3.0 ++ u)) h.3.3 in
+    rw e (ap (λ (t : List ℕ). Some (HaveSpace name (size_in t))) at ∙ ap (λ (p : ℕ × List ℕ). Some (HaveSpace name p.0)) d)
+read_back (PutScript name script) rest = λ h.
+    let e = text_back name h.0 h.1 rest h.2 h.4 in
+    let d = text_back script h.3.0 h.3.1 h.1 h.3.2 h.3.4 in
+    rw (e, d) refl
+read_back (CheckScript script) rest = λ h. let e = text_back script h.0 h.1 rest h.2 h.4 in rw e refl
+read_back ListScripts rest = λ h. refl
+read_back (SetActive name) rest = λ h. let e = text_back name h.0 h.1 rest h.2 h.4 in rw e refl
+read_back (GetScript name) rest = λ h. let e = text_back name h.0 h.1 rest h.2 h.4 in rw e refl
+read_back (DeleteScript name) rest = λ h. let e = text_back name h.0 h.1 rest h.2 h.4 in rw e refl
+read_back (RenameScript old new) rest = λ h.
+    let e = text_back old h.0 h.1 rest h.2 h.4 in
+    let d = text_back new h.3.0 h.3.1 h.1 h.3.2 h.3.4 in
+    rw (e, d) refl
+read_back (Response text) rest = tt
+
+-- ---- names
+
+word_lacks : (rs : Rows) (x : ℕ) (w : List ℕ) (s : Slots) → rows_lack x rs ≡ true → slots_in rs w ≡ Some s → lacks x w ≡ true
+word_lacks [] x w s lack e = absurd cc
+word_lacks (row ∷ rs) x w s lack e =
+    let parts = and_parts (lacks x row.0) (rows_lack x rs) lack in
+    elim (slots_step (slots_in rs w) row.0 w s row.1 e) [
+      | inl h ↦ subst (λ (u : List ℕ). lacks x u ≡ true) h.0 parts.0
+      | inr h ↦ word_lacks rs x w s parts.1 h
+    ]
+
+named_lacks_space : (w : List ℕ) (s : Slots) → slots_in rows w ≡ Some s → lacks 32 w ≡ true
+unfolding rows
+named_lacks_space w s e = word_lacks rows 32 w s refl e
+
+named_lacks_return : (w : List ℕ) (s : Slots) → slots_in rows w ≡ Some s → lacks 13 w ≡ true
+unfolding rows
+named_lacks_return w s e = word_lacks rows 13 w s refl e
+
+-- an octet that has no case is no letter's
+other_case : (x y : ℕ) → to_ascii_uppercase x ≡ x → not (x == to_ascii_uppercase y) ≡ true → (y == x) ≡ false
+other_case x y same e =
+    ne_eqb y x (λ i. both_ways (x == to_ascii_uppercase y) (not-true (x == to_ascii_uppercase y) e) (eq-eqb x (to_ascii_uppercase y) (sym same ∙ ap to_ascii_uppercase (sym i))))
+
+name_back : (name rest : List ℕ) → lacks 32 (map to_ascii_uppercase name) ≡ true → lacks 13 (map to_ascii_uppercase name) ≡ true → name_length rest ≡ 0 → name_length (name ++ rest) ≡ length name
+name_back [] rest a b e = e
+name_back (x ∷ name) rest a b e =
+    let pa = and_parts (not (32 == to_ascii_uppercase x)) (lacks 32 (map to_ascii_uppercase name)) a in
+    let pb = and_parts (not (13 == to_ascii_uppercase x)) (lacks 13 (map to_ascii_uppercase name)) b in
+    let plain : (x == 32 || x == 13) ≡ false = or_from (x == 32) (x == 13) (other_case 32 x refl pa.0) (other_case 13 x refl pb.0) in
+    rw plain (ap suc (name_back name rest pa.1 pb.1 e))
+
+arguments_end : (arguments : List Argument) (rest : List ℕ) → AreArguments arguments rest → name_length rest ≡ 0
+arguments_end [] rest h = rw h refl
+arguments_end (a ∷ more) rest h = rw h.4 refl
+
+-- ---- commands
+
+formed_back : (pending : Bool) (form : Form) (c : Command) (text : List ℕ) → form ≡ form_of c → IsFilled form → ((rest : List ℕ) → IsRead form c rest) → IsFormed pending form text → command_in pending text ≡ Some c
+formed_back false (Named word arguments) c text e f back h =
+    let named : slots_in rows (map to_ascii_uppercase h.name) ≡ Some f.0 = ap (slots_in rows) h.named ∙ f.1 in
+    let stop : name_length (h.name ++ h.rest) ≡ length h.name =
+    name_back h.name h.rest (named_lacks_space (map to_ascii_uppercase h.name) f.0 named) (named_lacks_return (map to_ascii_uppercase h.name) f.0 named) (arguments_end arguments h.rest h.filled) in
+    ap (command_in false) h.written
+    ∙ ap (λ (n : ℕ). verb_command (verb_in verbs (map to_ascii_uppercase (take n (h.name ++ h.rest)))) (drop n (h.name ++ h.rest))) stop
+    ∙ ap (λ (t : List ℕ). verb_command (verb_in verbs (map to_ascii_uppercase t)) (drop (length h.name) (h.name ++ h.rest))) (take_at h.name h.rest (length h.name) refl)
+    ∙ ap (λ (t : List ℕ). verb_command (verb_in verbs (map to_ascii_uppercase h.name)) t) (drop_at h.name h.rest (length h.name) refl)
+    ∙ ap (λ (t : List ℕ). verb_command (verb_in verbs t) h.rest) h.named
+    ∙ back h.rest h.filled
+formed_back false (Alone value) c text e f back h = absurd h
+formed_back true (Named word arguments) c text e f back h = absurd h
+formed_back true (Alone value) (Response v) text e f back h =
+    let same : value ≡ v = cc in
+    let read = ap string_in h.written ∙ string_back value h.first (13 ∷ 10 ∷ []) h.string in
+    rw read (ap (λ (u : List ℕ). Some (Response u)) same)
+formed_back true (Alone value) (Noop None) text e f back h = absurd cc
+formed_back true (Alone value) (Noop (Some tag)) text e f back h = absurd cc
+formed_back true (Alone value) (Authenticate mechanism None) text e f back h = absurd cc
+formed_back true (Alone value) (Authenticate mechanism (Some response)) text e f back h = absurd cc
+formed_back true (Alone value) _ text e f back h = absurd cc
+
+-- the command of a spelling is read from it
+pub spelling_back : (pending : Bool) (c : Command) (text : List ℕ) → IsSpelling pending c text → command_in pending text ≡ Some c
+spelling_back pending c text h = formed_back pending (form_of c) c text refl (filled c) (read_back c) h

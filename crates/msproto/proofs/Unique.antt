@@ -1,0 +1,112 @@
+-- Each stream has one first item.
+use Rattle.std.proofs.Common.{◌≡◌, ℕ, ◌+◌, ◌<◌, ◌≤◌, ◌⊎◌, inl, inr, Bool, List, [], ◌∷◌, ◌++◌, length, take, Option, Some, None, Result, Ok, Err, refl, sym, ap, ◌∙◌, subst, arith, append_assoc}
+use Rattle.std.specs.Prelude.{IfOk}
+use Rattle.std.proofs.lemmas.Bool.{cases_order}
+use Rattle.std.proofs.lemmas.List.{take-append-le}
+use Rattle.msproto.specs.declared.commands.Command.{Command}
+use Rattle.msproto.specs.declared.items.Item.{Item}
+use Rattle.msproto.specs.declared.items.Item.TheVariants as item
+use Rattle.msproto.specs.declared.items.Reach.{Reach}
+use Rattle.msproto.specs.declared.items.Reach.TheVariants as reach
+use Rattle.msproto.specs.Commands.{IsSpelling, IsCommand}
+use Rattle.msproto.specs.Items.{IsBadLine, IsTooBig, IsItem, NoItem, Reaches, Gives}
+use Rattle.msproto.specs.Scanning.{reach_of}
+use Rattle.msproto.specs.Values.{command_in, item_with, item_at, item_of}
+use Rattle.msproto.proofs.Scans.{reaches, stays}
+use Rattle.msproto.proofs.Parsing.{spelling_back}
+
+command_no_line : (pending : Bool) (text : List ℕ) → IsCommand pending text → IsBadLine pending text → ⊥
+command_no_line pending text c l =
+    l.fails (l.tail, subst (λ (t : List ℕ). IsCommand pending t) (l.written ∙ sym (append_assoc l.front (l.octet ∷ []) l.tail)) c)
+
+-- two shortest fronts are one
+least : (pending : Bool) (stream : List ℕ) (m n : ℕ) → NoItem pending m stream → IsItem pending (take m stream) → NoItem pending n stream → IsItem pending (take n stream) → m ≡ n
+least pending stream m n a i b j =
+    elim (cases_order m n) [
+      | inl same ↦ same
+      | inr (inl below) ↦ absurd (b m below i)
+      | inr (inr above) ↦ absurd (a n above j)
+    ]
+
+none_at_all : (pending : Bool) (stream : List ℕ) (n : ℕ) → NoItem pending (length stream + 1) stream → n ≤ length stream → IsItem pending (take n stream) → ⊥
+none_at_all pending stream n none le i = none n (omega arith) i
+
+pub one_reach : (pending : Bool) (a b : Reach) (stream : List ℕ) → Reaches pending a stream → Reaches pending b stream → a ≡ b
+one_reach pending reach.Need reach.Need stream g h = refl
+one_reach pending reach.Need (reach.Command n) stream g h = absurd (none_at_all pending stream n g h.0 (inl h.2))
+one_reach pending reach.Need (reach.Bad n) stream g h = absurd (none_at_all pending stream n g h.0 (inr (inl h.2)))
+one_reach pending reach.Need reach.TooBig stream g h = absurd (none_at_all pending stream h.0 g h.1 (inr (inr h.3)))
+one_reach pending (reach.Command m) reach.Need stream g h = absurd (none_at_all pending stream m h g.0 (inl g.2))
+one_reach pending (reach.Command m) (reach.Command n) stream g h = ap (λ (k : ℕ). reach.Command k) (least pending stream m n g.1 (inl g.2) h.1 (inl h.2))
+one_reach pending (reach.Command m) (reach.Bad n) stream g h =
+    let same = least pending stream m n g.1 (inl g.2) h.1 (inr (inl h.2)) in
+    absurd (command_no_line pending (take n stream) (subst (λ (k : ℕ). IsCommand pending (take k stream)) same g.2) h.2)
+one_reach pending (reach.Command m) reach.TooBig stream g h =
+    let same = least pending stream m h.0 g.1 (inl g.2) h.2 (inr (inr h.3)) in
+    absurd (g.3 (subst (λ (k : ℕ). IsTooBig pending (take k stream)) (sym same) h.3))
+one_reach pending (reach.Bad m) reach.Need stream g h = absurd (none_at_all pending stream m h g.0 (inr (inl g.2)))
+one_reach pending (reach.Bad m) (reach.Command n) stream g h =
+    let same = least pending stream m n g.1 (inr (inl g.2)) h.1 (inl h.2) in
+    absurd (command_no_line pending (take n stream) h.2 (subst (λ (k : ℕ). IsBadLine pending (take k stream)) same g.2))
+one_reach pending (reach.Bad m) (reach.Bad n) stream g h = ap (λ (k : ℕ). reach.Bad k) (least pending stream m n g.1 (inr (inl g.2)) h.1 (inr (inl h.2)))
+one_reach pending (reach.Bad m) reach.TooBig stream g h =
+    let same = least pending stream m h.0 g.1 (inr (inl g.2)) h.2 (inr (inr h.3)) in
+    absurd (g.3 (subst (λ (k : ℕ). IsTooBig pending (take k stream)) (sym same) h.3))
+one_reach pending reach.TooBig reach.Need stream g h = absurd (none_at_all pending stream g.0 h g.1 (inr (inr g.3)))
+one_reach pending reach.TooBig (reach.Command n) stream g h =
+    let same = least pending stream g.0 n g.2 (inr (inr g.3)) h.1 (inl h.2) in
+    absurd (h.3 (subst (λ (k : ℕ). IsTooBig pending (take k stream)) same g.3))
+one_reach pending reach.TooBig (reach.Bad n) stream g h =
+    let same = least pending stream g.0 n g.2 (inr (inr g.3)) h.1 (inr (inl h.2)) in
+    absurd (h.3 (subst (λ (k : ℕ). IsTooBig pending (take k stream)) same g.3))
+one_reach pending reach.TooBig reach.TooBig stream g h = refl
+
+-- the function is the relation's only answer
+pub reach_is : (pending : Bool) (r : Reach) (stream : List ℕ) → Reaches pending r stream → r ≡ reach_of pending stream
+reach_is pending r stream h = one_reach pending r (reach_of pending stream) stream h (reaches pending stream)
+
+-- ---- with the command's value
+
+-- a command that is read from a spelling is the one that it spells
+pub read_spells : (pending : Bool) (text : List ℕ) (c : Command) → IsCommand pending text → command_in pending text ≡ Some c → IsSpelling pending c text
+read_spells pending text c h e =
+    let same : h.0 ≡ c = (let both : Some h.0 ≡ Some c = sym (spelling_back pending h.0 text h.1) ∙ e in cc) in
+    subst (λ (d : Command). IsSpelling pending d text) same h.1
+
+pub some_read : (pending : Bool) (text : List ℕ) → IsCommand pending text → command_in pending text ≡ None → ⊥
+some_read pending text h e = let both : None ≡ Some h.0 = sym e ∙ spelling_back pending h.0 text h.1 in cc
+
+with_gives : (pending : Bool) (stream : List ℕ) (n : ℕ) (o : Option Command) → command_in pending (take n stream) ≡ o → Reaches pending (reach.Command n) stream → Gives pending (item_with o n) stream
+with_gives pending stream n None e h = absurd (some_read pending (take n stream) h.2 e)
+with_gives pending stream n (Some c) e h = (h, read_spells pending (take n stream) c h.2 e)
+
+pub at_gives : (pending : Bool) (stream : List ℕ) (r : Reach) → Reaches pending r stream → Gives pending (item_at pending stream r) stream
+at_gives pending stream reach.Need h = h
+at_gives pending stream (reach.Command n) h = with_gives pending stream n (command_in pending (take n stream)) refl h
+at_gives pending stream (reach.Bad n) h = h
+at_gives pending stream reach.TooBig h = h
+
+pub gives : (pending : Bool) (stream : List ℕ) → Gives pending (item_of pending stream) stream
+gives pending stream = at_gives pending stream (reach_of pending stream) (reaches pending stream)
+
+gives_at : (pending : Bool) (i : Item) (stream : List ℕ) → Gives pending i stream → i ≡ item_of pending stream
+gives_at pending item.Need stream h = ap (item_at pending stream) (reach_is pending reach.Need stream h)
+gives_at pending (item.Command c n) stream h =
+    ap (λ (o : Option Command). item_with o n) (sym (spelling_back pending c (take n stream) h.1)) ∙ ap (item_at pending stream) (reach_is pending (reach.Command n) stream h.0)
+gives_at pending (item.Bad n) stream h = ap (item_at pending stream) (reach_is pending (reach.Bad n) stream h)
+gives_at pending item.TooBig stream h = ap (item_at pending stream) (reach_is pending reach.TooBig stream h)
+
+pub one_item : (pending : Bool) (a b : Item) (stream : List ℕ) → Gives pending a stream → Gives pending b stream → a ≡ b
+one_item pending a b stream g h = gives_at pending a stream g ∙ sym (gives_at pending b stream h)
+
+pub item_stays_on : (pending : Bool) (i : Item) (stream more : List ℕ) → (i ≡ item.Need → ⊥) → Gives pending i stream → Gives pending i (stream ++ more)
+item_stays_on pending item.Need stream more some h = absurd (some refl)
+item_stays_on pending (item.Command c n) stream more some h =
+    let same : take n (stream ++ more) ≡ take n stream = take-append-le n stream more h.0.0 in
+    (stays pending (reach.Command n) stream more (λ i. cc) h.0, rw same h.1)
+item_stays_on pending (item.Bad n) stream more some h = stays pending (reach.Bad n) stream more (λ i. cc) h
+item_stays_on pending item.TooBig stream more some h = stays pending reach.TooBig stream more (λ i. cc) h
+
+pub if_gives : {E : Type 0} (pending : Bool) (stream : List ℕ) (r : Result Item E) → IfOk r (λ i. i ≡ item_of pending stream) → IfOk r (λ i. Gives pending i stream)
+if_gives pending stream (Ok i) h = subst (λ (j : Item). Gives pending j stream) (sym h) (gives pending stream)
+if_gives pending stream (Err e) h = tt

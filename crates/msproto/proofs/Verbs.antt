@@ -1,0 +1,138 @@
+-- The verbs, as the code looks for them.
+use Rattle.std.proofs.Common.{◌≡◌, ℕ, zero, suc, ◌+◌, ◌<◌, ◌≤◌, ◌⊎◌, inl, inr, Bool, true, false, ◌||◌, ◌&&◌, ◌==◌, cond, List, [], ◌∷◌, ◌++◌, length, take, drop, get_or, Option, Some, None, refl, sym, ap, ◌∙◌, subst, arith}
+use Rattle.std.specs.Prelude.{map, min, is_none}
+use Rattle.std.specs.Char.{to_ascii_uppercase}
+use Rattle.std.specs.Option.{option_map}
+use Rattle.std.proofs.lemmas.Bool.{ne_eqb, or_left, or_right, and_parts, cases_order}
+use Rattle.std.proofs.lemmas.List.{take_all, take_at, take_min, length_push, length-take}
+use Rattle.msproto.specs.declared.verb.Verb.{Verb}
+use Rattle.msproto.specs.declared.verb.Verb.TheVariants as verb
+use Rattle.msproto.specs.Machine.{Slots, word_of, slots_of, verbs, rows_of, rows, begins, begins_row, same_word, verb_in, slots_in, State, Word, Dead, leave, leave_named, step}
+use Rattle.msproto.proofs.Names.{begins_split, same_is}
+
+pub same_word_end : (wanted unread : List ℕ) → length unread ≡ 0 → (length wanted == 0) ≡ same_word wanted (map to_ascii_uppercase unread)
+same_word_end [] [] e = refl
+same_word_end (y ∷ w) [] e = ne_eqb (length (y ∷ w)) 0 (λ i. absurd (omega (arith, i)))
+same_word_end wanted (x ∷ u) e = absurd (omega (arith, e))
+
+pub rows_are : rows ≡ rows_of verbs
+unfolding rows
+rows_are = refl
+
+-- ---- each verb is there by its name
+
+own_name : (v : Verb) → verb_in verbs (word_of v) ≡ Some v
+own_name verb.Authenticate = refl
+own_name verb.Capability = refl
+own_name verb.CheckScript = refl
+own_name verb.DeleteScript = refl
+own_name verb.GetScript = refl
+own_name verb.HaveSpace = refl
+own_name verb.ListScripts = refl
+own_name verb.Logout = refl
+own_name verb.Noop = refl
+own_name verb.PutScript = refl
+own_name verb.RenameScript = refl
+own_name verb.SetActive = refl
+own_name verb.Unauthenticate = refl
+
+pub slots_verb : (vs : List Verb) (w : List ℕ) → slots_in (rows_of vs) w ≡ option_map slots_of (verb_in vs w)
+slots_verb [] w = refl
+slots_verb (v ∷ vs) w = go (same_word (word_of v) w) (slots_verb vs w)
+  where
+    go : (b : Bool) → slots_in (rows_of vs) w ≡ option_map slots_of (verb_in vs w) → cond b (Some (slots_of v)) (slots_in (rows_of vs) w) ≡ option_map slots_of (cond b (Some v) (verb_in vs w))
+    go true more = refl
+    go false more = more
+
+own_slots : (v : Verb) → slots_in rows (word_of v) ≡ Some (slots_of v)
+own_slots v = rw rows_are (slots_verb verbs (word_of v) ∙ ap (λ (o : Option Verb). option_map slots_of o) (own_name v))
+
+begins_found : (vs : List Verb) (w p : List ℕ) (v : Verb) → verb_in vs w ≡ Some v → begins p (word_of v) ≡ true → begins_row (rows_of vs) p ≡ true
+begins_found [] w p v e b = absurd cc
+begins_found (u ∷ vs) w p v e b = go (same_word (word_of u) w) e (λ f. begins_found vs w p v f b)
+  where
+    go : (t : Bool) → cond t (Some u) (verb_in vs w) ≡ Some v → (verb_in vs w ≡ Some v → begins_row (rows_of vs) p ≡ true) → (begins p (word_of u) || begins_row (rows_of vs) p) ≡ true
+    go true e f = let same : v ≡ u = cc in or_left (begins p (word_of u)) (begins_row (rows_of vs) p) (subst (λ (x : Verb). begins p (word_of x) ≡ true) same b)
+    go false e f = or_right (begins p (word_of u)) (begins_row (rows_of vs) p) (f e)
+
+begins_verb : (v : Verb) (p : List ℕ) → begins p (word_of v) ≡ true → begins_row rows p ≡ true
+begins_verb v p e = rw rows_are (begins_found verbs (word_of v) p v (own_name v) e)
+
+-- ---- no name is the front of another
+
+abbrev none_below : List ℕ → ℕ → Bool
+none_below w zero = true
+none_below w (suc n) = is_none (slots_in rows (take n w)) && none_below w n
+
+none_is : {A : Type 0} (o : Option A) → is_none o ≡ true → o ≡ None
+none_is None e = refl
+none_is (Some x) e = absurd cc
+
+none_at : (w : List ℕ) (m n : ℕ) → none_below w m ≡ true → n < m → slots_in rows (take n w) ≡ None
+none_at w zero n e lt = absurd (omega (arith, lt))
+none_at w (suc m) n e lt =
+    let parts = and_parts (is_none (slots_in rows (take m w))) (none_below w m) e in
+    elim (cases_order n m) [
+      | inl same ↦ rw same (none_is (slots_in rows (take m w)) parts.0)
+      | inr (inl below) ↦ none_at w m n parts.1 below
+      | inr (inr above) ↦ absurd (omega (arith, lt, above))
+    ]
+
+fronts_name_none : (v : Verb) → none_below (word_of v) (length (word_of v)) ≡ true
+unfolding rows
+fronts_name_none verb.Authenticate = refl
+fronts_name_none verb.Capability = refl
+fronts_name_none verb.CheckScript = refl
+fronts_name_none verb.DeleteScript = refl
+fronts_name_none verb.GetScript = refl
+fronts_name_none verb.HaveSpace = refl
+fronts_name_none verb.ListScripts = refl
+fronts_name_none verb.Logout = refl
+fronts_name_none verb.Noop = refl
+fronts_name_none verb.PutScript = refl
+fronts_name_none verb.RenameScript = refl
+fronts_name_none verb.SetActive = refl
+fronts_name_none verb.Unauthenticate = refl
+
+-- ---- a state in a name
+
+-- a letter more
+pub word_more : (v : Verb) (letters : List ℕ) (x : ℕ) → begins (letters ++ to_ascii_uppercase x ∷ []) (word_of v) ≡ true → Word (take (length letters + 1) (word_of v)) ≡ step (Word letters) x
+word_more v letters x e =
+    let p = letters ++ to_ascii_uppercase x ∷ [] in
+    let on : begins_row rows p ≡ true = begins_verb v p e in
+    let split = begins_split p (word_of v) e in
+    let front : take (length letters + 1) (word_of v) ≡ p = rw split.1 (take_at p split.0 (length letters + 1) (length_push letters (to_ascii_uppercase x))) in
+    rw (front, on) refl
+
+-- the whole name is read
+pub word_end : (v : Verb) (x : ℕ) → begins_row rows (word_of v ++ to_ascii_uppercase x ∷ []) ≡ false → leave (slots_of v) x ≡ step (Word (word_of v)) x
+word_end v x e = rw (e, own_slots v) refl
+
+-- a front of a name is no name
+pub word_dies : (v : Verb) (n x : ℕ) → n < length (word_of v) → begins_row rows (take n (word_of v) ++ to_ascii_uppercase x ∷ []) ≡ false → Dead ≡ step (Word (take n (word_of v))) x
+word_dies v n x lt e = rw (e, none_at (word_of v) (length (word_of v)) n (fronts_name_none v) lt) refl
+
+-- ---- as the code goes about it, with the letters cut at the name's length
+
+front_is : (count n : ℕ) (w : List ℕ) → n ≡ min count (length w) → take n w ≡ take count w
+front_is count n w e = rw e (take_min count w)
+
+pub in_word_more : (v u : Verb) (count n : ℕ) (w : List ℕ) (x : ℕ) → w ≡ word_of v → n ≡ min count (length w) → begins (take n w ++ to_ascii_uppercase x ∷ []) (word_of u) ≡ true → Word (take (length (take n w) + 1) (word_of u)) ≡ step (Word (take count (word_of v))) x
+in_word_more v u count n w x at cut e =
+    let front : take n w ≡ take count (word_of v) = front_is count n w cut ∙ ap (λ (l : List ℕ). take count l) at in
+    word_more u (take n w) x e ∙ ap (λ (l : List ℕ). step (Word l) x) front
+
+pub in_word_end : (v : Verb) (count n : ℕ) (w : List ℕ) (x : ℕ) → w ≡ word_of v → n ≡ min count (length w) → length (take n w) ≡ length w → begins_row rows (take n w ++ to_ascii_uppercase x ∷ []) ≡ false → leave (slots_of v) x ≡ step (Word (take count (word_of v))) x
+in_word_end v count n w x at cut full e =
+    let front : take n w ≡ take count (word_of v) = front_is count n w cut ∙ ap (λ (l : List ℕ). take count l) at in
+    let long : length w ≤ n = omega (arith, full, length-take n w) in
+    let all : take n w ≡ word_of v = take_all n w long ∙ at in
+    word_end v x (subst (λ (l : List ℕ). begins_row rows (l ++ to_ascii_uppercase x ∷ []) ≡ false) all e) ∙ ap (λ (l : List ℕ). step (Word l) x) (sym all ∙ front)
+
+pub in_word_dies : (v : Verb) (count n : ℕ) (w : List ℕ) (x : ℕ) → w ≡ word_of v → n ≡ min count (length w) → (length (take n w) ≡ length w → ⊥) → begins_row rows (take n w ++ to_ascii_uppercase x ∷ []) ≡ false → Dead ≡ step (Word (take count (word_of v))) x
+in_word_dies v count n w x at cut short e =
+    let front : take n w ≡ take count (word_of v) = front_is count n w cut ∙ ap (λ (l : List ℕ). take count l) at in
+    let below : n < length w = omega (arith, short, length-take n w) in
+    let same : take n w ≡ take n (word_of v) = ap (λ (l : List ℕ). take n l) at in
+    word_dies v n x (subst (λ (l : List ℕ). n < length l) at below) (subst (λ (l : List ℕ). begins_row rows (l ++ to_ascii_uppercase x ∷ []) ≡ false) same e) ∙ ap (λ (l : List ℕ). step (Word l) x) (sym same ∙ front)

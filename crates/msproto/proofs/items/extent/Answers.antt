@@ -1,0 +1,29 @@
+use Rattle.std.proofs.Common.{◌≡◌, ℕ, ◌-◌, ◌≤◌, List, [], length, take, drop, sym, ap, ◌∙◌, subst, arith}
+use Rattle.std.specs.Prelude.{fold}
+use Rattle.std.proofs.lemmas.List.{take_rest, nil_from_length}
+use Rattle.msproto.specs.declared.items.Reach.{Reach}
+use Rattle.msproto.specs.declared.items.Reach.TheVariants.{Need}
+use Rattle.msproto.specs.Items.{Reaches}
+use Rattle.msproto.specs.Scanning.{turned, found, scanned, reach_of}
+use Rattle.msproto.proofs.Scans.{reaches}
+use Rattle.msproto.proofs.Turning.{settled, passes_on}
+use Rattle.msproto.proofs.items.extent.Goals as goal
+
+pub loop-scan-preserved-then-inside-gt0 : goal.loop-scan-preserved-then-inside-gt0
+loop-scan-preserved-then-inside-gt0 c =
+    ap (fold turned c.pass.new.self) (take_rest c.loop-scan.rest.now c.min-inside.result)
+    ∙ passes_on c.loop-scan.scan c.pass.new.self c.loop-scan.rest.now c.min-inside.result (omega arith) c.pass.ensures
+    ∙ c.loop-scan.invariant
+
+pub returns-in_default-split_first-clause-item : goal.returns-in_default-split_first-clause-item
+returns-in_default-split_first-clause-item c =
+    let empty = nil_from_length c.loop-scan.rest.now c.in_default-split_first.ensures.cases in
+    let at : reach_of c.args.pending c.args.buffer.now ≡ Need =
+    ap found (sym c.loop-scan.invariant) ∙ ap (λ (t : List ℕ). found (fold turned c.loop-scan.scan t)) empty ∙ sym c.reach.ensures ∙ c.in-Need.is in
+    subst (λ (r : Reach). Reaches c.args.pending r c.args.buffer.now) at (reaches c.args.pending c.args.buffer.now)
+
+pub returns : goal.returns
+returns c =
+    let value : c.reach-2.result ≡ reach_of c.args.pending c.args.buffer.now =
+    c.reach-2.ensures ∙ settled c.loop-scan.scan c.loop-scan.rest.now (λ n. c.in_default.not-Need (c.reach.ensures ∙ n)) ∙ ap found c.loop-scan.invariant in
+    record { value = value; item = subst (λ (r : Reach). Reaches c.args.pending r c.args.buffer.now) (sym value) (reaches c.args.pending c.args.buffer.now) }

@@ -1,0 +1,9 @@
+use Rattle.std.proofs.Common.{◌≡◌, [], ◌∷◌, ◌++◌, length}
+use Rattle.msproto.specs.Machine.{begins}
+use Rattle.msproto.proofs.verb.goes_on.Given as goal
+
+abbrev pub invariant-loop-next : goal.invariant-loop-next
+invariant-loop-next l = begins (l.unread ++ l.letter ∷ []) l.wanted ≡ begins (l.letters ++ l.letter ∷ []) l.word
+
+abbrev pub decreases-loop-next : goal.decreases-loop-next
+decreases-loop-next l = length l.unread

@@ -1,0 +1,263 @@
+-- The lines of ManageSieve read octet by octet: a state for each octet, and no search.
+use Rattle.std.specs.Prelude.{◌≡◌, refl, ℕ, zero, suc, ◌+◌, ◌-◌, ◌^◌, Bool, true, false, ◌&&◌, ◌||◌, cond, ◌==◌, nat_lt, List, [], ◌∷◌, ◌++◌, Option, Some, None, codes}
+use Rattle.std.specs.Char.{to_ascii_uppercase, is_ascii_digit}
+use Rattle.msproto.specs.declared.verb.Verb.{Verb}
+use Rattle.msproto.specs.declared.verb.Verb.TheVariants as verb
+use Rattle.std.proofs.Common.{ap}
+use Rattle.std.specs.Coded.{Coded, code_by, coded_ℕ}
+use Rattle.octets.specs.Decimal.{with_digit}
+use Rattle.msproto.specs.Arguments.{is_quotable}
+
+-- ---- what may still stand on a line
+
+pub data Slots : Type 0 where
+  LineEnd : Slots
+  MaybeText : Slots
+  ThenText : Slots → Slots
+  ThenNumber : Slots
+
+-- slots as a number, which a type that shows them is stored by
+abbrev pub slots_number : Slots → ℕ
+slots_number LineEnd = zero
+slots_number MaybeText = suc zero
+slots_number ThenNumber = suc (suc zero)
+slots_number (ThenText more) = suc (suc (suc (slots_number more)))
+
+abbrev pub number_slots : ℕ → Slots
+number_slots zero = LineEnd
+number_slots (suc zero) = MaybeText
+number_slots (suc (suc zero)) = ThenNumber
+number_slots (suc (suc (suc n))) = ThenText (number_slots n)
+
+pub slots_back : (slots : Slots) → number_slots (slots_number slots) ≡ slots
+slots_back LineEnd = refl
+slots_back MaybeText = refl
+slots_back ThenNumber = refl
+slots_back (ThenText more) = ap ThenText (slots_back more)
+
+abbrev pub slots_code : Coded Slots
+slots_code = code_by ℕ coded_ℕ slots_number number_slots slots_back
+
+-- the names of the commands
+abbrev pub word_of : Verb → List ℕ
+word_of verb.Authenticate = codes "AUTHENTICATE"
+word_of verb.Capability = codes "CAPABILITY"
+word_of verb.CheckScript = codes "CHECKSCRIPT"
+word_of verb.DeleteScript = codes "DELETESCRIPT"
+word_of verb.GetScript = codes "GETSCRIPT"
+word_of verb.HaveSpace = codes "HAVESPACE"
+word_of verb.ListScripts = codes "LISTSCRIPTS"
+word_of verb.Logout = codes "LOGOUT"
+word_of verb.Noop = codes "NOOP"
+word_of verb.PutScript = codes "PUTSCRIPT"
+word_of verb.RenameScript = codes "RENAMESCRIPT"
+word_of verb.SetActive = codes "SETACTIVE"
+word_of verb.Unauthenticate = codes "UNAUTHENTICATE"
+
+-- what may stand behind each
+abbrev pub slots_of : Verb → Slots
+slots_of verb.Authenticate = ThenText MaybeText
+slots_of verb.Capability = LineEnd
+slots_of verb.CheckScript = ThenText LineEnd
+slots_of verb.DeleteScript = ThenText LineEnd
+slots_of verb.GetScript = ThenText LineEnd
+slots_of verb.HaveSpace = ThenText ThenNumber
+slots_of verb.ListScripts = LineEnd
+slots_of verb.Logout = LineEnd
+slots_of verb.Noop = MaybeText
+slots_of verb.PutScript = ThenText (ThenText LineEnd)
+slots_of verb.RenameScript = ThenText (ThenText LineEnd)
+slots_of verb.SetActive = ThenText LineEnd
+slots_of verb.Unauthenticate = LineEnd
+
+-- all of them
+abbrev pub verbs : List Verb
+verbs = verb.Authenticate ∷ verb.Capability ∷ verb.CheckScript ∷ verb.DeleteScript ∷ verb.GetScript ∷ verb.HaveSpace ∷ verb.ListScripts
+    ∷ verb.Logout ∷ verb.Noop ∷ verb.PutScript ∷ verb.RenameScript ∷ verb.SetActive ∷ verb.Unauthenticate ∷ []
+
+-- names, and what may stand behind each
+abbrev pub rows_of : List Verb → List (List ℕ × Slots)
+rows_of [] = []
+rows_of (verb ∷ more) = (word_of verb, slots_of verb) ∷ rows_of more
+
+unfoldable pub rows : List (List ℕ × Slots)
+rows = rows_of verbs
+
+-- whether the word begins with the letters
+abbrev pub begins : List ℕ → List ℕ → Bool
+begins [] word = true
+begins (letter ∷ letters) [] = false
+begins (letter ∷ letters) (other ∷ word) = letter == other && begins letters word
+
+-- whether some row's name begins with the letters
+abbrev pub begins_row : List (List ℕ × Slots) → List ℕ → Bool
+begins_row [] letters = false
+begins_row (row ∷ more) letters = begins letters row.0 || begins_row more letters
+
+-- whether the two words are one
+abbrev pub same_word : List ℕ → List ℕ → Bool
+same_word [] [] = true
+same_word [] (other ∷ word) = false
+same_word (letter ∷ letters) [] = false
+same_word (letter ∷ letters) (other ∷ word) = letter == other && same_word letters word
+
+-- what may stand behind the name
+abbrev pub slots_in : List (List ℕ × Slots) → List ℕ → Option Slots
+slots_in [] word = None
+slots_in (row ∷ more) word = cond (same_word row.0 word) (Some row.1) (slots_in more word)
+
+-- the verb of this name
+abbrev pub verb_in : List Verb → List ℕ → Option Verb
+verb_in [] word = None
+verb_in (verb ∷ more) word = cond (same_word (word_of verb) word) (Some verb) (verb_in more word)
+
+-- ---- states
+
+pub data State : Type 0 where
+  -- in a name, these letters of it read, in upper case
+  Word : List ℕ → State
+  -- behind a name or an argument
+  Between : Slots → State
+  -- where a string begins
+  Opening : Slots → State
+  -- between quotation marks, where so many octets more may come
+  Quoted : ℕ → Slots → State
+  -- behind a backslash
+  Escaped : ℕ → Slots → State
+  -- behind the brace of a literal
+  Brace : Slots → State
+  -- in its number, behind the plus, behind the closing brace, behind the CR
+  Count : ℕ → Slots → State
+  Plus : ℕ → Slots → State
+  Closed : ℕ → Slots → State
+  Return : ℕ → Slots → State
+  -- inside a literal, of which one octet and so many more are to come
+  Body : ℕ → Slots → State
+  -- where a number begins, and in a number
+  Number : State
+  Digits : ℕ → State
+  -- behind the line's CR, behind its LF, and where no command goes on
+  LineFeed : State
+  Whole : State
+  Dead : State
+
+-- behind a space
+abbrev pub after_space : Slots → State
+after_space LineEnd = Dead
+after_space MaybeText = Opening LineEnd
+after_space (ThenText more) = Opening more
+after_space ThenNumber = Number
+
+-- behind a CR that ends a line
+abbrev pub after_return : Slots → State
+after_return LineEnd = LineFeed
+after_return MaybeText = LineFeed
+after_return (ThenText more) = Dead
+after_return ThenNumber = Dead
+
+-- behind a name or an argument and one octet
+abbrev pub leave : Slots → ℕ → State
+leave slots octet = cond (octet == 32) (after_space slots) (cond (octet == 13) (after_return slots) Dead)
+
+-- behind a name, if it is one
+abbrev pub leave_named : Option Slots → ℕ → State
+leave_named None octet = Dead
+leave_named (Some slots) octet = leave slots octet
+
+-- a number and one digit more, if no extra zero is in front and it stays below 2^32
+abbrev pub longer : (ℕ → State) → ℕ → ℕ → State
+longer to number octet =
+    cond (number == 0) Dead (cond (nat_lt (with_digit number octet) (2 ^ 32)) (to (with_digit number octet)) Dead)
+
+-- where so many octets of a literal are to come
+abbrev pub literal_left : ℕ → Slots → State
+literal_left left slots = cond (left == 0) (Between slots) (Body (left - 1) slots)
+
+-- the state behind one octet more
+abbrev pub step : State → ℕ → State
+step (Word letters) octet =
+    cond (begins_row rows (letters ++ to_ascii_uppercase octet ∷ [])) (Word (letters ++ to_ascii_uppercase octet ∷ []))
+    (leave_named (slots_in rows letters) octet)
+step (Between slots) octet = leave slots octet
+step (Opening slots) octet = cond (octet == 34) (Quoted 1024 slots) (cond (octet == 123) (Brace slots) Dead)
+step (Quoted left slots) octet =
+    cond (octet == 34) (Between slots)
+    (cond (octet == 92) (cond (nat_lt 1 left) (Escaped (left - 2) slots) Dead)
+    (cond (is_quotable octet && nat_lt 0 left) (Quoted (left - 1) slots) Dead))
+step (Escaped left slots) octet = cond (octet == 34 || octet == 92) (Quoted left slots) Dead
+step (Brace slots) octet = cond (is_ascii_digit octet) (Count (with_digit 0 octet) slots) Dead
+step (Count number slots) octet =
+    cond (octet == 43) (Plus number slots)
+    (cond (is_ascii_digit octet) (longer (λ n. Count n slots) number octet) Dead)
+step (Plus number slots) octet = cond (octet == 125) (Closed number slots) Dead
+step (Closed number slots) octet = cond (octet == 13) (Return number slots) Dead
+step (Return number slots) octet = cond (octet == 10) (literal_left number slots) Dead
+step (Body left slots) octet = literal_left left slots
+step Number octet = cond (is_ascii_digit octet) (Digits (with_digit 0 octet)) Dead
+step (Digits number) octet =
+    cond (octet == 13) LineFeed (cond (is_ascii_digit octet) (longer (λ n. Digits n) number octet) Dead)
+step LineFeed octet = cond (octet == 10) Whole Dead
+step Whole octet = Dead
+step Dead octet = Dead
+
+-- the state behind a text
+abbrev pub run : State → List ℕ → State
+run state [] = state
+run state (octet ∷ rest) = run (step state octet) rest
+
+-- the state before the first octet of a line; while a challenge is pending the line is one string
+abbrev pub start : Bool → State
+start false = Word []
+start true = Opening LineEnd
+
+-- ---- what a state says
+
+-- the next octet stands inside a literal
+abbrev pub in_literal : State → Bool
+in_literal (Body left slots) = true
+in_literal _ = false
+
+-- a command ends here
+abbrev pub is_whole : State → Bool
+is_whole Whole = true
+is_whole _ = false
+
+-- no command goes on from here
+abbrev pub is_dead : State → Bool
+is_dead Dead = true
+is_dead _ = false
+
+-- an LF here begins a literal that is too large
+abbrev pub is_large : State → Bool
+is_large (Return number slots) = nat_lt 1048576 number
+is_large _ = false
+
+-- how many octets outside literals the next octet is
+abbrev pub weight : State → ℕ
+weight state = cond (in_literal state) 0 1
+
+-- ---- how many octets of literals may still come, where no literal is too large
+
+abbrev pub slots_room : Slots → ℕ
+slots_room LineEnd = 0
+slots_room MaybeText = 1048576
+slots_room (ThenText more) = 1048576 + slots_room more
+slots_room ThenNumber = 0
+
+abbrev pub room : State → ℕ
+room (Word letters) = 2097152
+room (Between slots) = slots_room slots
+room (Opening slots) = 1048576 + slots_room slots
+room (Quoted left slots) = slots_room slots
+room (Escaped left slots) = slots_room slots
+room (Brace slots) = 1048576 + slots_room slots
+room (Count number slots) = 1048576 + slots_room slots
+room (Plus number slots) = 1048576 + slots_room slots
+room (Closed number slots) = 1048576 + slots_room slots
+room (Return number slots) = 1048576 + slots_room slots
+room (Body left slots) = left + 1 + slots_room slots
+room Number = 0
+room (Digits number) = 0
+room LineFeed = 0
+room Whole = 0
+room Dead = 0

@@ -1,0 +1,41 @@
+-- The first item of a stream as a function of the stream, for those who compute with it.
+use Rattle.std.specs.Prelude.{ℕ, ◌+◌, Bool, ◌||◌, ◌&&◌, ◌==◌, cond, nat_lt, List, fold}
+use Rattle.msproto.specs.Machine.{State, start, step, weight, is_large, is_whole, is_dead, Body}
+use Rattle.msproto.specs.declared.items.Reach.{Reach}
+use Rattle.msproto.specs.declared.items.Reach.TheVariants.{Need, Command, Bad, TooBig}
+
+-- what is known of the octets so far: the state behind them, how many of them stand outside literals and how many there are; or what came first
+pub data Scanned : Type 0 where
+  Open : State → ℕ → ℕ → Scanned
+  Found : Reach → Scanned
+
+-- the same behind one octet more
+abbrev pub turned : Scanned → ℕ → Scanned
+turned (Open state outside used) octet =
+    cond (nat_lt 8192 (outside + weight state) || (is_large state && octet == 10)) (Found TooBig)
+    (cond (is_whole (step state octet)) (Found (Command (used + 1)))
+    (cond (is_dead (step state octet) && octet == 10) (Found (Bad (used + 1)))
+    (Open (step state octet) (outside + weight state) (used + 1))))
+turned (Found reach) octet = Found reach
+
+-- before the first octet
+abbrev pub fresh : Bool → Scanned
+fresh pending = Open (start pending) 0 0
+
+-- behind a text
+abbrev pub scanned : Bool → List ℕ → Scanned
+scanned pending text = fold turned (fresh pending) text
+
+-- what was found
+abbrev pub found : Scanned → Reach
+found (Open state outside used) = Need
+found (Found reach) = reach
+
+-- what comes first in the stream
+abbrev pub reach_of : Bool → List ℕ → Reach
+reach_of pending stream = found (scanned pending stream)
+
+-- how many octets of a literal come next
+abbrev pub literal_rest : Scanned → ℕ
+literal_rest (Open (Body left slots) outside used) = left + 1
+literal_rest _ = 0

@@ -1,0 +1,82 @@
+-- What the states of the code stand for.
+use Rattle.std.specs.Prelude.{List, None, Option, Some, [], cond, false, nat_lt, take, true, ℕ, ◌&&◌, ◌++◌, ◌==◌, ◌^◌, ◌||◌, ◌∷◌, ◌≡◌}
+use Rattle.std.specs.Char.{is_ascii_digit}
+use Rattle.octets.specs.Decimal.{with_digit}
+use Rattle.msproto.specs.declared.verb.Verb.{Verb}
+use Rattle.msproto.specs.declared.verb.Slots.{Slots}
+use Rattle.msproto.specs.declared.verb.Slots.TheVariants as slots
+use Rattle.msproto.specs.declared.state.State.{State}
+use Rattle.msproto.specs.declared.state.State.TheVariants as state
+use Rattle.msproto.specs.Machine as machine
+use Rattle.msproto.specs.declared.items.Reach.{Reach}
+use Rattle.msproto.specs.declared.items.Reach.TheVariants as reach
+use Rattle.msproto.specs.Scanning.{Scanned, Open, Found}
+
+-- what may still stand on a line
+abbrev pub slots_shown : Slots → machine.Slots
+slots_shown slots.LineEnd = machine.LineEnd
+slots_shown slots.MaybeText = machine.MaybeText
+slots_shown slots.Text = machine.ThenText machine.LineEnd
+slots_shown slots.TextMaybeText = machine.ThenText machine.MaybeText
+slots_shown slots.TwoTexts = machine.ThenText (machine.ThenText machine.LineEnd)
+slots_shown slots.TextNumber = machine.ThenText machine.ThenNumber
+slots_shown slots.Number = machine.ThenNumber
+
+-- the state: letters of a name are kept as a verb that begins with them and how many they are
+abbrev pub shown : State → machine.State
+shown (state.Word verb count) = machine.Word (take count (machine.word_of verb))
+shown (state.Between slots) = machine.Between (slots_shown slots)
+shown (state.Opening slots) = machine.Opening (slots_shown slots)
+shown (state.Quoted left slots) = machine.Quoted left (slots_shown slots)
+shown (state.Escaped left slots) = machine.Escaped left (slots_shown slots)
+shown (state.Brace slots) = machine.Brace (slots_shown slots)
+shown (state.Count number slots) = machine.Count number (slots_shown slots)
+shown (state.Plus number slots) = machine.Plus number (slots_shown slots)
+shown (state.Closed number slots) = machine.Closed number (slots_shown slots)
+shown (state.Return number slots) = machine.Return number (slots_shown slots)
+shown (state.Body left slots) = machine.Body left (slots_shown slots)
+shown state.Number = machine.Number
+shown (state.Digits number) = machine.Digits number
+shown state.LineFeed = machine.LineFeed
+shown state.Whole = machine.Whole
+shown state.Dead = machine.Dead
+
+-- ---- parts of a step
+
+-- one octet that must be this one
+abbrev pub only : ℕ → ℕ → machine.State → machine.State
+only octet wanted next = cond (octet == wanted) next machine.Dead
+
+-- a number's first digit
+abbrev pub first_digit : ℕ → Option ℕ
+first_digit octet = cond (is_ascii_digit octet) (Some (with_digit 0 octet)) None
+
+-- a number with a digit more, if no extra zero is in front of it and it stays below 2^32
+abbrev pub next_digit : ℕ → ℕ → Option ℕ
+next_digit number octet =
+    cond (is_ascii_digit octet)
+    (cond (number == 0) None (cond (nat_lt (with_digit number octet) (2 ^ 32)) (Some (with_digit number octet)) None))
+    None
+
+-- ---- a scan
+
+-- what a scan keeps: where it stands, or what it found
+abbrev pub scan_shown : State → ℕ → ℕ → Reach → Scanned
+scan_shown state outside used reach.Need = Open (shown state) outside used
+scan_shown state outside used (reach.Command length) = Found (reach.Command length)
+scan_shown state outside used (reach.Bad length) = Found (reach.Bad length)
+scan_shown state outside used reach.TooBig = Found reach.TooBig
+
+-- what an octet ends, if anything
+abbrev pub ending : machine.State → ℕ → ℕ → ℕ → Reach
+ending state outside used octet =
+    cond (nat_lt 8192 outside || (machine.is_large state && octet == 10)) reach.TooBig
+    (cond (machine.is_whole (machine.step state octet)) (reach.Command used)
+    (cond (machine.is_dead (machine.step state octet) && octet == 10) (reach.Bad used) reach.Need))
+
+-- ---- verbs
+
+-- a verb of these rows whose name begins with the letters and this one, or none where none does
+abbrev pub IsFurther : List (List ℕ × machine.Slots) → List ℕ → ℕ → Option Verb → Type 0
+IsFurther rows letters letter None = machine.begins_row rows (letters ++ letter ∷ []) ≡ false
+IsFurther rows letters letter (Some verb) = machine.begins (letters ++ letter ∷ []) (machine.word_of verb) ≡ true

@@ -1,0 +1,49 @@
+//! The commands of ManageSieve.
+use octets::Octets;
+
+/// A command with its strings and number, as a client sends it (RFC 5804, section 2).
+///
+/// A string is of any octets, also a script's name: nothing of its sense is looked at here.
+#[derive(Drop)]
+pub enum Command {
+    /// Asks what the server can do (section 2.4).
+    Capability,
+    /// Does nothing; the string comes back with the answer (section 2.13).
+    Noop(Option<Octets>),
+    /// Ends the session (section 2.3).
+    Logout,
+    /// Logs in by a SASL mechanism, perhaps with the client's first words (section 2.1).
+    Authenticate {
+        mechanism: Octets,
+        response: Option<Octets>,
+    },
+    /// Leaves the login (section 2.14).
+    Unauthenticate,
+    /// Asks whether a script of so many octets would be taken (section 2.5).
+    HaveSpace {
+        name: Octets,
+        size: u32,
+    },
+    /// Stores a script (section 2.6).
+    PutScript {
+        name: Octets,
+        script: Octets,
+    },
+    /// Checks a script and stores nothing (section 2.12).
+    CheckScript(Octets),
+    /// Lists the scripts (section 2.7).
+    ListScripts,
+    /// Makes a script the active one; the empty name makes none active (section 2.8).
+    SetActive(Octets),
+    /// Asks for a script's text (section 2.9).
+    GetScript(Octets),
+    /// Deletes a script (section 2.10).
+    DeleteScript(Octets),
+    /// Gives a script another name (section 2.11.1).
+    RenameScript {
+        old: Octets,
+        new: Octets,
+    },
+    /// The string alone that answers a challenge, while one is pending (section 2.1).
+    Response(Octets),
+}

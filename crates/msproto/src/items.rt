@@ -1,0 +1,112 @@
+//! What comes first in a stream of octets.
+ghost use Rattle.std.specs.Prelude.{◌≡◌, ◌≢◌, ◌↔◌, ◌++◌, ℕ, Bool, true, List, IfOk};
+ghost use Rattle.msproto.specs.declared.items.Item.{Item as ItemValue};
+ghost use Rattle.msproto.specs.declared.items.Item.TheVariants.{Need};
+ghost use Rattle.msproto.specs.Items.{IsInLiteral, Reaches, Gives};
+ghost use Rattle.msproto.specs.Machine.{run, start, in_literal};
+ghost use Rattle.msproto.specs.Scanning.{reach_of};
+ghost use Rattle.msproto.specs.Values.{item_of};
+
+use crate::commands::Command;
+use crate::reading;
+use crate::scanner::Scan;
+use std::alloc::{AllocError, Global};
+
+/// What comes first in the unread octets of a client, with the command's value.
+#[derive(Drop)]
+pub enum Item {
+    /// No whole item yet.
+    Need,
+    /// A command, and how many octets it takes with its CRLF.
+    Command(Command, usize),
+    /// A line that is no command, and how many octets it takes with its LF.
+    Bad(usize),
+    /// More than is read: a literal of over 1,048,576 octets, or over 8,192 octets outside literals.
+    TooBig,
+}
+
+/// What comes first in the unread octets of a client, without the command's value.
+#[derive(Clone, Copy, Debug, PartialEq, Eq)]
+pub enum Reach {
+    /// No whole item yet.
+    Need,
+    /// A command, and how many octets it takes with its CRLF.
+    Command(usize),
+    /// A line that is no command, and how many octets it takes with its LF.
+    Bad(usize),
+    /// More than is read: a literal of over 1,048,576 octets, or over 8,192 octets outside literals.
+    TooBig,
+}
+
+/// What comes first, without the value of a command. While a challenge is pending the item is one string.
+///
+/// Looks at each octet of the item outside literals once, and passes over those inside; it takes no memory.
+pub fn extent(buffer: &[u8], pending: bool) -> Reach
+    ensures value { result ≡ reach_of pending buffer.now }
+    ensures item { Reaches pending result buffer.now }
+{
+    let mut scan = Scan::new(pending);
+    let mut rest = buffer;
+    while let Reach::Need = scan.reach() {
+        let inside = scan.literal_left().min(rest.len());
+        if inside > 0 {
+            scan.pass(inside);
+            rest = &rest[inside..];
+            continue;
+        }
+        let Some((octet, more)) = rest.split_first() else {
+            return Reach::Need;
+        };
+        scan.turn(*octet);
+        rest = more;
+    }
+    scan.reach()
+}
+
+/// What comes first, with the value of a command. While a challenge is pending the item is one string.
+///
+/// Reads the item's octets as `extent` does, and a command's once more for its value; takes memory for its strings
+/// alone, and lack of it is the only error.
+pub fn first(alloc: Global, buffer: &[u8], pending: bool) -> Result<Item, AllocError>
+    ensures value { IfOk result (λ item. item ≡ item_of pending buffer.now) }
+    ensures item { IfOk result (λ item. Gives pending item buffer.now) }
+{
+    read_first(alloc, buffer, pending)
+}
+
+fn read_first(alloc: Global, buffer: &[u8], pending: bool) -> Result<Item, AllocError>
+    ensures { IfOk result (λ item. item ≡ item_of pending buffer.now) }
+{
+    Ok(match extent(buffer, pending) {
+        Reach::Need => Item::Need,
+        Reach::Command(used) => match reading::command(alloc, &buffer[..used], pending)? {
+            Some(command) => Item::Command(command, used),
+            None => unreachable!(),
+        },
+        Reach::Bad(used) => Item::Bad(used),
+        Reach::TooBig => Item::TooBig,
+    })
+}
+
+/// What comes first is one: no stream has two first items.
+pub fn one_item()
+    ensures { (pending : Bool) (one other : ItemValue) (stream : List ℕ) →
+        Gives pending one stream → Gives pending other stream → one ≡ other }
+{}
+
+/// An item stays the same whatever octets follow, so it doesn't matter how a stream is cut into pieces.
+pub fn item_stays()
+    ensures { (pending : Bool) (item : ItemValue) (stream more : List ℕ) →
+        item ≢ Need → Gives pending item stream → Gives pending item (stream ++ more) }
+{}
+
+/// The function of the first item gives what the relation says.
+pub fn item_is()
+    ensures { (pending : Bool) (stream : List ℕ) → Gives pending (item_of pending stream) stream }
+{}
+
+/// The octet behind a text stands inside a literal exactly where the machine has octets of one to come.
+pub fn literal_octets()
+    ensures { (pending : Bool) (text : List ℕ) →
+        IsInLiteral pending text ↔ (in_literal (run (start pending) text) ≡ true) }
+{}

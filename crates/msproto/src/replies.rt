@@ -1,0 +1,96 @@
+//! What the server answers.
+ghost use Rattle.std.specs.Prelude.{◌≡◌, [], ◌∷◌, ◌++◌, OnOk, OnErr};
+
+use octets::Octets;
+use std::alloc::{AllocError, Global};
+use std::marker::Model;
+
+/// An answer: the lines before the last one, and the last one's parts (RFC 5804, section 1.3).
+///
+/// With the word `Nothing` there is no last line, and code and text aren't written.
+#[derive(Drop)]
+pub struct Reply {
+    pub lines: Lines,
+    pub word: Word,
+    pub code: Option<Code>,
+    pub text: Option<Octets>,
+}
+
+/// The first word of an answer's last line (RFC 5804, sections 1.2 and 1.3).
+#[derive(Clone, Copy)]
+pub enum Word {
+    Ok,
+    No,
+    Bye,
+    /// No last line.
+    Nothing,
+}
+
+/// A line before the last one.
+#[derive(Drop)]
+pub enum Line {
+    /// What the server can do, and its value (section 1.7).
+    Capability { name: Octets, value: Option<Octets> },
+    /// A script's name, and whether it is the active one (section 2.7).
+    Script { name: Octets, active: bool },
+    /// A script's text, always as a literal (section 2.9).
+    Text(Octets),
+    /// The empty string of a challenge (section 2.1).
+    Empty,
+}
+
+/// What a last line says for programs (section 1.3).
+#[derive(Drop)]
+pub enum Code {
+    /// The string that `NOOP` came with.
+    Tag(Octets),
+    MaxSize,
+    MaxScripts,
+    NonExistent,
+    Active,
+    AlreadyExists,
+    TryLater,
+}
+
+/// The lines before the last one. Contracts see their list.
+#[derive(Drop)]
+pub struct Lines {
+    items: Vec<Line>,
+}
+
+impl Model for Lines {
+    ghost use Rattle.std.specs.Prelude.{List};
+    ghost use Rattle.msproto.specs.declared.replies.Line.{Line};
+
+    ghost Value = { List Line };
+
+    ghost view = { λ lines. lines.items.items };
+}
+
+impl Lines {
+    /// No lines. Takes no memory.
+    pub fn new(alloc: Global) -> Lines
+        ensures { result ≡ [] }
+    {
+        Lines {
+            items: Vec::new(alloc),
+        }
+    }
+
+    pub fn as_slice(&self) -> &[Line]
+        ensures { result.now ≡ self.now }
+    {
+        self.items.as_slice()
+    }
+
+    /// Appends one line; without memory the lines stay, and the one is dropped.
+    pub fn push(&mut self, line: Line) -> Result<(), AllocError>
+        ensures ok { OnOk result (self.new ≡ self.old ++ line ∷ []) }
+        ensures err { OnErr result (self.new ≡ self.old) }
+    {
+        match self.items.push(line) {
+            Ok(()) => Ok(()),
+            Err(_) => Err(AllocError),
+        }
+    }
+}

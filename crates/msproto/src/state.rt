@@ -1,0 +1,232 @@
+//! Where a line stands behind each of its octets: a state, and no search.
+ghost use Rattle.std.specs.Prelude.{◌≡◌, ℕ, take};
+ghost use Rattle.msproto.specs.Machine as m;
+ghost use Rattle.msproto.specs.Shown as s;
+
+use crate::verb::{Slots, Verb};
+
+/// The longest quoted string, in octets between its marks (RFC 5804, section 4).
+const LONGEST_QUOTED: u32 = 1024;
+
+/// Where a line stands. Numbers are octets, or the number that was read so far.
+#[derive(Clone, Copy)]
+pub enum State {
+    /// In a name: a verb that begins with the letters so far, and how many they are.
+    Word(Verb, usize),
+    /// Behind a name or an argument.
+    Between(Slots),
+    /// Where a string begins.
+    Opening(Slots),
+    /// Between quotation marks, where so many octets more may stand.
+    Quoted(u32, Slots),
+    /// Behind a backslash.
+    Escaped(u32, Slots),
+    /// Behind a literal's brace, in its number, behind its plus, its closing brace and its CR.
+    Brace(Slots),
+    Count(u32, Slots),
+    Plus(u32, Slots),
+    Closed(u32, Slots),
+    Return(u32, Slots),
+    /// Inside a literal, of which one octet and so many more are to come.
+    Body(u32, Slots),
+    /// Where a number begins, and in it.
+    Number,
+    Digits(u32),
+    /// Behind the line's CR.
+    LineFeed,
+    /// Behind a whole command.
+    Whole,
+    /// Where no command goes on.
+    Dead,
+}
+
+impl State {
+    /// The state before a line's first octet; while a challenge is pending the line is one string.
+    pub fn start(pending: bool) -> State
+        ensures { s.shown result ≡ m.start pending }
+    {
+        if pending {
+            State::Opening(Slots::LineEnd)
+        } else {
+            State::Word(Verb::Noop, 0)
+        }
+    }
+
+    /// The state behind one octet more.
+    pub fn step(self, octet: u8) -> State
+        ensures { s.shown result ≡ m.step (s.shown self) octet }
+    {
+        match self {
+            State::Word(verb, count) => in_word(verb, count, octet),
+            State::Between(slots) => leave(slots, octet),
+            State::Opening(slots) => open(slots, octet),
+            State::Quoted(left, slots) => in_quotes(left, slots, octet),
+            State::Escaped(left, slots) => escaped(left, slots, octet),
+            State::Brace(slots) => in_brace(slots, octet),
+            State::Count(number, slots) => in_count(number, slots, octet),
+            State::Plus(number, slots) => expect(octet, b'}', State::Closed(number, slots)),
+            State::Closed(number, slots) => expect(octet, b'\r', State::Return(number, slots)),
+            State::Return(number, slots) => expect(octet, b'\n', literal(number, slots)),
+            State::Body(left, slots) => literal(left, slots),
+            State::Number => at_number(octet),
+            State::Digits(number) => in_number(number, octet),
+            State::LineFeed => expect(octet, b'\n', State::Whole),
+            State::Whole | State::Dead => State::Dead,
+        }
+    }
+}
+
+// One octet that must be this one.
+fn expect(octet: u8, wanted: u8, next: State) -> State
+    ensures { s.shown result ≡ s.only octet wanted (s.shown next) }
+{
+    if octet == wanted { next } else { State::Dead }
+}
+
+fn in_word(verb: Verb, count: usize, octet: u8) -> State
+    ensures { s.shown result ≡ m.step (m.Word (take count (m.word_of verb))) octet }
+{
+    let word = verb.word();
+    let letters = &word[..count.min(word.len())];
+    match verb.further(letters, octet.to_ascii_uppercase()) {
+        Some(next) => State::Word(next, letters.len() + 1),
+        None => {
+            if letters.len() == word.len() {
+                leave(verb.slots(), octet)
+            } else {
+                State::Dead
+            }
+        }
+    }
+}
+
+fn leave(slots: Slots, octet: u8) -> State
+    ensures { s.shown result ≡ m.leave (s.slots_shown slots) octet }
+{
+    match octet {
+        b' ' => match slots {
+            Slots::LineEnd => State::Dead,
+            Slots::MaybeText | Slots::Text => State::Opening(Slots::LineEnd),
+            Slots::TextMaybeText => State::Opening(Slots::MaybeText),
+            Slots::TwoTexts => State::Opening(Slots::Text),
+            Slots::TextNumber => State::Opening(Slots::Number),
+            Slots::Number => State::Number,
+        },
+        b'\r' => match slots {
+            Slots::LineEnd | Slots::MaybeText => State::LineFeed,
+            _ => State::Dead,
+        },
+        _ => State::Dead,
+    }
+}
+
+fn open(slots: Slots, octet: u8) -> State
+    ensures { s.shown result ≡ m.step (m.Opening (s.slots_shown slots)) octet }
+{
+    match octet {
+        b'"' => State::Quoted(LONGEST_QUOTED, slots),
+        b'{' => State::Brace(slots),
+        _ => State::Dead,
+    }
+}
+
+fn in_quotes(left: u32, slots: Slots, octet: u8) -> State
+    ensures { s.shown result ≡ m.step (m.Quoted left (s.slots_shown slots)) octet }
+{
+    match octet {
+        b'"' => State::Between(slots),
+        // The octet behind it counts too.
+        b'\\' if left > 1 => State::Escaped(left - 2, slots),
+        b'\\' | b'\0' | b'\n' | b'\r' => State::Dead,
+        _ if left > 0 => State::Quoted(left - 1, slots),
+        _ => State::Dead,
+    }
+}
+
+fn escaped(left: u32, slots: Slots, octet: u8) -> State
+    ensures { s.shown result ≡ m.step (m.Escaped left (s.slots_shown slots)) octet }
+{
+    match octet {
+        b'"' | b'\\' => State::Quoted(left, slots),
+        _ => State::Dead,
+    }
+}
+
+fn in_brace(slots: Slots, octet: u8) -> State
+    ensures { s.shown result ≡ m.step (m.Brace (s.slots_shown slots)) octet }
+{
+    match first_digit(octet) {
+        Some(number) => State::Count(number, slots),
+        None => State::Dead,
+    }
+}
+
+fn in_count(number: u32, slots: Slots, octet: u8) -> State
+    ensures { s.shown result ≡ m.step (m.Count number (s.slots_shown slots)) octet }
+{
+    if octet == b'+' {
+        return State::Plus(number, slots);
+    }
+    match next_digit(number, octet) {
+        Some(longer) => State::Count(longer, slots),
+        None => State::Dead,
+    }
+}
+
+fn at_number(octet: u8) -> State
+    ensures { s.shown result ≡ m.step m.Number octet }
+{
+    match first_digit(octet) {
+        Some(number) => State::Digits(number),
+        None => State::Dead,
+    }
+}
+
+fn in_number(number: u32, octet: u8) -> State
+    ensures { s.shown result ≡ m.step (m.Digits number) octet }
+{
+    if octet == b'\r' {
+        return State::LineFeed;
+    }
+    match next_digit(number, octet) {
+        Some(longer) => State::Digits(longer),
+        None => State::Dead,
+    }
+}
+
+// Where so many octets of a literal are to come.
+fn literal(left: u32, slots: Slots) -> State
+    ensures { s.shown result ≡ m.literal_left left (s.slots_shown slots) }
+{
+    if left == 0 {
+        State::Between(slots)
+    } else {
+        State::Body(left - 1, slots)
+    }
+}
+
+// A number's first digit.
+fn first_digit(octet: u8) -> Option<u32>
+    ensures { result ≡ s.first_digit octet }
+{
+    if octet.is_ascii_digit() {
+        Some((octet - b'0') as u32)
+    } else {
+        None
+    }
+}
+
+// A number with a digit more, if no extra zero is in front of it and it stays below 2^32.
+fn next_digit(number: u32, octet: u8) -> Option<u32>
+    ensures { result ≡ s.next_digit number octet }
+{
+    if number == 0 || !octet.is_ascii_digit() {
+        return None;
+    }
+    let longer = number as u64 * 10 + (octet - b'0') as u64;
+    if longer < 1 << 32 {
+        Some(longer as u32)
+    } else {
+        None
+    }
+}

@@ -1,0 +1,183 @@
+//! The names of the commands, and what may stand behind each.
+ghost use Rattle.std.specs.Prelude.{◌≡◌, ◌∷◌, ◌++◌, [], map, true, false, MatchOption};
+ghost use Rattle.std.specs.Char.{to_ascii_uppercase};
+ghost use Rattle.msproto.specs.Machine.{word_of, slots_of, verbs, verb_in, rows, rows_of, begins, begins_row, same_word};
+ghost use Rattle.msproto.specs.Shown.{slots_shown, IsFurther};
+
+/// The name of a command (RFC 5804, section 2).
+#[derive(Clone, Copy)]
+pub enum Verb {
+    Authenticate,
+    Capability,
+    CheckScript,
+    DeleteScript,
+    GetScript,
+    HaveSpace,
+    ListScripts,
+    Logout,
+    Noop,
+    PutScript,
+    RenameScript,
+    SetActive,
+    Unauthenticate,
+}
+
+/// What may still stand on a command's line before its end.
+#[derive(Clone, Copy)]
+pub enum Slots {
+    /// Nothing.
+    LineEnd,
+    /// Perhaps a string.
+    MaybeText,
+    /// A string.
+    Text,
+    /// A string, and perhaps another.
+    TextMaybeText,
+    /// Two strings.
+    TwoTexts,
+    /// A string and a number.
+    TextNumber,
+    /// A number.
+    Number,
+}
+
+const VERBS: [Verb; 13] = [
+    Verb::Authenticate,
+    Verb::Capability,
+    Verb::CheckScript,
+    Verb::DeleteScript,
+    Verb::GetScript,
+    Verb::HaveSpace,
+    Verb::ListScripts,
+    Verb::Logout,
+    Verb::Noop,
+    Verb::PutScript,
+    Verb::RenameScript,
+    Verb::SetActive,
+    Verb::Unauthenticate,
+];
+
+impl Verb {
+    /// The name in upper case.
+    pub fn word(self) -> &'static [u8]
+        ensures { result.now ≡ word_of self }
+    {
+        match self {
+            Verb::Authenticate => b"AUTHENTICATE",
+            Verb::Capability => b"CAPABILITY",
+            Verb::CheckScript => b"CHECKSCRIPT",
+            Verb::DeleteScript => b"DELETESCRIPT",
+            Verb::GetScript => b"GETSCRIPT",
+            Verb::HaveSpace => b"HAVESPACE",
+            Verb::ListScripts => b"LISTSCRIPTS",
+            Verb::Logout => b"LOGOUT",
+            Verb::Noop => b"NOOP",
+            Verb::PutScript => b"PUTSCRIPT",
+            Verb::RenameScript => b"RENAMESCRIPT",
+            Verb::SetActive => b"SETACTIVE",
+            Verb::Unauthenticate => b"UNAUTHENTICATE",
+        }
+    }
+
+    /// What may stand behind the name.
+    pub fn slots(self) -> Slots
+        ensures { slots_shown result ≡ slots_of self }
+    {
+        match self {
+            Verb::Authenticate => Slots::TextMaybeText,
+            Verb::Capability | Verb::ListScripts | Verb::Logout | Verb::Unauthenticate =>
+                Slots::LineEnd,
+            Verb::CheckScript | Verb::DeleteScript | Verb::GetScript | Verb::SetActive =>
+                Slots::Text,
+            Verb::HaveSpace => Slots::TextNumber,
+            Verb::Noop => Slots::MaybeText,
+            Verb::PutScript | Verb::RenameScript => Slots::TwoTexts,
+        }
+    }
+
+    /// The verb of a name in upper or lower case.
+    pub fn named(name: &[u8]) -> Option<Verb>
+        ensures { result ≡ verb_in verbs (map to_ascii_uppercase name.now) }
+    {
+        find_named(&VERBS, name)
+    }
+
+    /// A verb whose name begins with these letters and this one, upper case all: this one, if it does.
+    pub fn further(self, letters: &[u8], letter: u8) -> Option<Verb>
+        ensures { IsFurther rows letters.now letter result }
+    {
+        if goes_on(self.word(), letters, letter) {
+            return Some(self);
+        }
+        find_further(&VERBS, letters, letter)
+    }
+}
+
+// The first of the verbs with this name.
+fn find_named(verbs: &[Verb], name: &[u8]) -> Option<Verb>
+    ensures { result ≡ verb_in verbs.now (map to_ascii_uppercase name.now) }
+{
+    let mut rest = verbs;
+    while let Some((verb, more)) = rest.split_first() {
+        if spells(name, verb.word()) {
+            return Some(*verb);
+        }
+        rest = more;
+    }
+    None
+}
+
+// The first of the verbs whose name begins with these letters and this one.
+fn find_further(verbs: &[Verb], letters: &[u8], letter: u8) -> Option<Verb>
+    ensures { IsFurther (rows_of verbs.now) letters.now letter result }
+{
+    let mut rest = verbs;
+    while let Some((verb, more)) = rest.split_first() {
+        if goes_on(verb.word(), letters, letter) {
+            return Some(*verb);
+        }
+        rest = more;
+    }
+    None
+}
+
+// Whether the name is the word but for its case.
+fn spells(name: &[u8], word: &[u8]) -> bool
+    ensures { result ≡ same_word word.now (map to_ascii_uppercase name.now) }
+{
+    let mut unread = name;
+    let mut wanted = word;
+    while let Some((letter, more)) = unread.split_first() {
+        let Some((other, rest)) = wanted.split_first() else {
+            return false;
+        };
+        if *other != letter.to_ascii_uppercase() {
+            return false;
+        }
+        unread = more;
+        wanted = rest;
+    }
+    wanted.is_empty()
+}
+
+// Whether the word begins with these letters and this one.
+fn goes_on(word: &[u8], letters: &[u8], letter: u8) -> bool
+    ensures { result ≡ begins (letters.now ++ letter ∷ []) word.now }
+{
+    let mut unread = letters;
+    let mut wanted = word;
+    while let Some((next, more)) = unread.split_first() {
+        let Some((other, rest)) = wanted.split_first() else {
+            return false;
+        };
+        if *next != *other {
+            return false;
+        }
+        unread = more;
+        wanted = rest;
+    }
+    match wanted.first() {
+        Some(other) => letter == *other,
+        None => false,
+    }
+}

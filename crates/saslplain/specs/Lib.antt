@@ -1,0 +1,3 @@
+pub mod Login
+pub mod Parts
+pub mod Password

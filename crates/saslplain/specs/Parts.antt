@@ -1,0 +1,43 @@
+-- The parts of a message of PLAIN, read from the front.
+use Rattle.std.specs.Prelude.{ℕ, zero, suc, Bool, ◌&&◌, ◌||◌, not, cond, ◌==◌, nat_eq, nat_lt, ◌+◌, List, [], ◌∷◌, length, take, drop, Option, Some, None}
+use Rattle.std.specs.Cmp.Lexicographic.{pointwise}
+use Rattle.std.specs.Borrow.{Bor}
+use Rattle.saslplain.specs.declared.message.Login.{Login}
+
+-- two texts
+abbrev pub Pair : Type 0
+Pair = Option (List ℕ × List ℕ)
+
+-- how many octets stand before the first NUL
+abbrev pub nul_place : List ℕ → ℕ
+nul_place [] = zero
+nul_place (octet ∷ rest) = cond (octet == 0) zero (suc (nul_place rest))
+
+-- what stands before the first NUL and what behind it
+abbrev pub cut_in : List ℕ → Pair
+cut_in text = cond (nul_place text == length text) None (Some (take (nul_place text) text, drop (nul_place text + 1) text))
+
+-- user and password behind the authzid
+abbrev pub checked : List ℕ → Pair → Pair
+checked authzid None = None
+checked authzid (Some parts) =
+    cond (length parts.0 == 0 || length parts.1 == 0 || nat_lt (nul_place parts.1) (length parts.1)) None
+    (cond (not (length authzid == 0) && not (pointwise nat_eq authzid parts.0)) None (Some parts))
+
+abbrev pub cut_twice : Pair → Pair
+cut_twice None = None
+cut_twice (Some parts) = checked parts.0 (cut_in parts.1)
+
+-- user and password of a message
+abbrev pub login_in : List ℕ → Pair
+login_in message = cut_twice (cut_in message)
+
+-- ---- what the code gives, as values
+
+abbrev pub login_shown : Option Login → Pair
+login_shown None = None
+login_shown (Some login) = Some (login.user, login.password)
+
+abbrev pub cut_shown : Option (Bor (List ℕ) × Bor (List ℕ)) → Pair
+cut_shown None = None
+cut_shown (Some parts) = Some (parts.0.now, parts.1.now)

@@ -1,0 +1,46 @@
+//! Passwords as they are kept.
+ghost use Rattle.std.specs.Prelude.{◌≡◌, ◌↔◌, ◌++◌, IsTrue};
+ghost use Rattle.sha2.specs.Sha256.{sha256};
+ghost use Rattle.saslplain.specs.Password.{digest_of};
+
+use octets::Octets;
+use sha2::{Digest, Sha256};
+
+/// A password as it is kept: the salt, how many rounds, and the digest that they gave.
+#[derive(Drop)]
+pub struct Record {
+    pub salt: Octets,
+    pub rounds: u32,
+    pub digest: Octets,
+}
+
+/// The digest of a password under a salt after so many rounds. Takes no memory; time is linear in the rounds, each of
+/// which hashes 32 octets, the salt and the password (SHA-256 of FIPS 180-4).
+pub fn digest(salt: &[u8], rounds: u32, password: &[u8]) -> [u8; 32]
+    ensures { result ≡ digest_of salt.now password.now rounds }
+{
+    let mut digest = hashed(&[], salt, password);
+    for _ in 0..rounds {
+        digest = hashed(&digest, salt, password);
+    }
+    digest
+}
+
+/// Whether the password gives the record's digest. Takes no memory, and as long as `digest`.
+pub fn accepts(record: &Record, password: &[u8]) -> bool
+    ensures { IsTrue result ↔ (digest_of record.now.salt password.now record.now.rounds ≡ record.now.digest) }
+{
+    let given = digest(record.salt.as_slice(), record.rounds, password);
+    given.as_slice() == record.digest.as_slice()
+}
+
+// The SHA-256 of a digest before it, a salt and a password.
+fn hashed(before: &[u8], salt: &[u8], password: &[u8]) -> [u8; 32]
+    ensures { result ≡ sha256 (before.now ++ salt.now ++ password.now) }
+{
+    let mut hasher = Sha256::new();
+    hasher.update(before);
+    hasher.update(salt);
+    hasher.update(password);
+    hasher.finalize()
+}

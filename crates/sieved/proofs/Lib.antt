@@ -1,0 +1,2 @@
+pub mod FramingLemmas
+pub mod StreamLemmas

@@ -1,0 +1,31 @@
+-- What the program prints of an outcome or of a fault of the script.
+use Rattle.std.specs.Prelude.{ℕ, List, [], ◌∷◌, ◌++◌, codes, map, decimal}
+use Rattle.std.specs.List.{flat_map}
+use Rattle.sievelex.specs.declared.fault.FaultKind.{FaultKind}
+use Rattle.sievelex.specs.Faults.{text_of}
+use Rattle.mailengine.specs.Meaning.{Outcome, Done}
+
+-- a line with its end
+abbrev pub with_end : List ℕ → List ℕ
+with_end line = line ++ 10 ∷ []
+
+-- the line of a mailbox that the message goes into
+abbrev pub file_line : List ℕ → List ℕ
+file_line mailbox = codes "file " ++ mailbox
+
+-- the lines on what is done, in order
+abbrev pub deed_lines : Outcome → List (List ℕ)
+deed_lines (Done deeds) = map file_line deeds.filed
+
+-- `discard` stands where no other line does
+abbrev pub or_discard : List (List ℕ) → List (List ℕ)
+or_discard [] = codes "discard" ∷ []
+or_discard (line ∷ more) = line ∷ more
+
+-- the report on an outcome
+abbrev pub report_of : Outcome → List ℕ
+report_of outcome = flat_map with_end (or_discard (deed_lines outcome))
+
+-- the line on a fault of the script
+abbrev pub fault_line : ℕ → FaultKind → List ℕ
+fault_line line kind = with_end (codes "line " ++ (decimal line ++ (codes ": " ++ text_of kind)))

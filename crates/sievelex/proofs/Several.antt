@@ -1,0 +1,130 @@
+-- Strings of several lines.
+use Rattle.std.proofs.Common.{◌≡◌, ◌⊎◌, ℕ, ◌+◌, ◌<◌, ◌≤◌, suc, true, Option, Some, None, List, [], ◌∷◌, ◌++◌, length, take, drop, get_or, refl, ap, sym, ◌∙◌, subst, inl, inr, arith, append_assoc, length-drop, take-append-drop}
+use Rattle.std.specs.Prelude.{codes, slice_get}
+use Rattle.std.specs.Char.{to_ascii_lowercase}
+use Rattle.std.specs.List.{flat_map, prefix_len}
+use Rattle.std.proofs.lemmas.List.{length-map, map-append, append_cancel_right, drop-drop}
+use Rattle.std.proofs.lemmas.Bool.{cases_lt}
+use Rattle.octets.specs.Ascii.{lowered}
+use Rattle.octets.proofs.Lists.{some_is, some_pair}
+use Rattle.sievelex.specs.declared.front.Front.{Front}
+use Rattle.sievelex.specs.declared.token.Kind.{Kind}
+use Rattle.sievelex.specs.declared.token.Kind.TheVariants.{Identifier, Text}
+use Rattle.sievelex.specs.declared.token.Value.{Value}
+use Rattle.sievelex.specs.declared.token.Value.TheVariants.{Chars}
+use Rattle.sievelex.specs.declared.multiline.Stage.TheVariants.{Opening}
+use Rattle.sievelex.specs.Class.{is_name_octet, is_name_start}
+use Rattle.sievelex.specs.Body.{body_from}
+use Rattle.sievelex.specs.Lines.{IsFinal, line_end, line_spelling}
+use Rattle.sievelex.specs.Spelling.{OpensText}
+use Rattle.sievelex.specs.Front.{IsFront}
+use Rattle.sievelex.proofs.Prefixes.{take_sum}
+use Rattle.sievelex.proofs.Bodies.{IsOpening, opening_is, IsBody, body_is}
+use Rattle.sievelex.proofs.Worded.{IsWord, word_is, word_len, word_opens, multi_again}
+use Rattle.sievelex.proofs.Named.{IsNamed, named_is, name_bound, longest_name}
+use Rattle.sievelex.proofs.Named.IsNamed.{AName, Several}
+use Rattle.sievelex.proofs.Best.{IsBest, IsFound, best_found}
+
+word_starts : (octets : List ℕ) → IsWord octets → is_name_start (get_or octets 0 0) ≡ true
+word_starts octets w = ap (λ x. is_name_start (get_or x 0 0)) w.octets_are ∙ w.a_starts
+
+word_inside : (octets : List ℕ) → IsWord octets → 5 ≤ length octets
+word_inside octets w = let e : length octets ≡ suc (suc (suc (suc (suc (length w.more))))) = ap length w.octets_are in omega arith
+
+same_rest : (xs : List ℕ) (m n : ℕ) → m ≤ length xs → n ≤ length xs → drop m xs ≡ drop n xs → m ≡ n
+same_rest xs m n mw nw e = omega (arith, ap length e, length-drop m xs, length-drop n xs)
+
+several_bound : (octets value : List ℕ) (n : ℕ) → IsWord octets → n ≤ length (drop 5 octets) → body_from Opening (drop 5 octets) ≡ Some (value, drop n (drop 5 octets)) → (k : Kind) (v : Value) (m : ℕ) → m ≤ length octets → IsNamed octets k v m
+    → (m < 5 + n) ⊎ ((m ≡ 5 + n) × ((k ≡ Text) × (v ≡ Chars value)))
+several_bound octets value n w within h k v m inside s = elim s [
+  | AName ke ve name ↦ (let bound : m ≤ prefix_len is_name_octet octets = name_bound octets m inside name in
+      let four : prefix_len is_name_octet octets ≡ 4 = word_len octets w in
+      inl (omega arith))
+  | Several text ke ve t ↦ (let same : (text ≡ value) × (drop m octets ≡ drop n (drop 5 octets)) = some_pair (text, drop m octets) (value, drop n (drop 5 octets)) (sym (multi_again octets text m t) ∙ h) in
+      let five : 5 ≤ length octets = word_inside octets w in
+      let e : m ≡ 5 + n = same_rest octets m (5 + n) inside (omega (arith, length-drop 5 octets)) (same.1 ∙ drop-drop n 5 octets) in
+      inr (e, (ke, ve ∙ ap Chars same.0)))
+]
+
+-- the longest spelling where `text:` and such a body stand first
+several_best : (octets value : List ℕ) (n : ℕ) → lowered (take 5 octets) ≡ codes "text:" → n ≤ length (drop 5 octets) → body_from Opening (drop 5 octets) ≡ Some (value, drop n (drop 5 octets)) → IsBest octets Text (Chars value) (5 + n)
+several_best octets value n named within h =
+    let w : IsWord octets = word_is octets named in
+    let five : 5 ≤ length octets = word_inside octets w in
+    let body : List ℕ = drop 5 octets in
+    let rest : List ℕ = drop n (drop 5 octets) in
+    let o : IsOpening body value rest = opening_is body value rest h in
+    let l : IsBody o.after value rest = body_is (length o.after) o.after value rest (omega arith) o.read in
+    let spelled : List ℕ = o.blanks ++ (o.comment ++ (line_end o.bare ++ (flat_map line_spelling l.lines ++ 46 ∷ l.final))) in
+    let parts : body ≡ o.blanks ++ (o.comment ++ (line_end o.bare ++ (flat_map line_spelling l.lines ++ (46 ∷ (l.final ++ rest))))) = o.spelled ∙ ap (λ x. o.blanks ++ (o.comment ++ (line_end o.bare ++ x))) l.spelled in
+    let apart : spelled ++ rest ≡ o.blanks ++ (o.comment ++ (line_end o.bare ++ (flat_map line_spelling l.lines ++ (46 ∷ (l.final ++ rest))))) = simp append_assoc in
+    let front : take n body ≡ spelled = append_cancel_right _ _ rest (take-append-drop n body ∙ parts ∙ sym apart) in
+    let behind : drop (5 + n) octets ≡ rest = sym (drop-drop n 5 octets) in
+    let F : List ℕ → Type 0 = λ x. IsFinal l.final x in
+    record {
+      within = omega (arith, length-drop 5 octets);
+      shape = inr (record {
+        word = take 5 octets;
+        blanks = o.blanks;
+        comment = o.comment;
+        bare = o.bare;
+        lines = l.lines;
+        final = l.final;
+        named = named;
+        blank = o.blank;
+        commented = o.commented;
+        each = l.each;
+        ends = subst F (sym behind) l.ends;
+        spelled = take_sum 5 n octets ∙ ap (λ x. take 5 octets ++ x) front;
+        valued = l.valued;
+      });
+      best = λ k v m inside s. several_bound octets value n w within h k v m inside (named_is octets k v m (word_starts octets w) s);
+    }
+
+-- what the reader of strings of several lines finds
+pub several_found : (octets body value : List ℕ) (n : ℕ) → lowered (take 5 octets) ≡ codes "text:" → body ≡ drop 5 octets → n ≤ length body → body_from Opening body ≡ Some (value, drop n body) → IsFound octets (record { kind = Text; value = Chars value; len = 5 + n })
+several_found octets body value n named be within h =
+    let P : List ℕ → Type 0 = λ x. n ≤ length x in
+    let Q : List ℕ → Type 0 = λ x. body_from Opening x ≡ Some (value, drop n x) in
+    best_found octets (record { kind = Text; value = Chars value; len = 5 + n }) (several_best octets value n named (subst P be within) (subst Q be h)) tt (λ t. t)
+
+none_some : (p : List ℕ × List ℕ) → ◌≡◌ {A = Option (List ℕ × List ℕ)} None (Some p) → ⊥
+none_some p e = cc
+
+-- `text:` before no such body is no token: neither a string nor, before the colon, an identifier
+no_named : (octets : List ℕ) (g : Front) → IsWord octets → body_from Opening (drop 5 octets) ≡ None → IsFront octets g → IsNamed octets g.kind g.value g.len → ⊥
+no_named octets g w h t s = elim s [
+  | AName ke ve name ↦ (let bound : g.len ≤ prefix_len is_name_octet octets = name_bound octets g.len t.within name in
+      let four : prefix_len is_name_octet octets ≡ 4 = word_len octets w in
+      let five : 5 ≤ length octets = word_inside octets w in
+      elim (cases_lt g.len (prefix_len is_name_octet octets)) [
+        | inl less ↦ t.longest Identifier (Chars (take (prefix_len is_name_octet octets) octets)) (prefix_len is_name_octet octets) less (omega arith) (refl, longest_name octets (word_starts octets w))
+        | inr more ↦ (let same : g.len ≡ prefix_len is_name_octet octets = omega arith in
+            let A : ℕ → Type 0 = λ i. OpensText Identifier (Chars (take i octets)) (drop i octets) in
+            let B : Value → Type 0 = λ x. OpensText Identifier x (drop g.len octets) in
+            let C : Kind → Type 0 = λ x. OpensText x g.value (drop g.len octets) in
+            t.bare (subst C (sym ke) (subst B (sym ve) (subst A (sym same) (word_opens octets w)))))
+      ])
+  | Several value ke ve m ↦ none_some (value, drop g.len octets) (sym h ∙ multi_again octets value g.len m)
+]
+
+pub several_none : (octets body : List ℕ) → lowered (take 5 octets) ≡ codes "text:" → body ≡ drop 5 octets → body_from Opening body ≡ None → (g : Front) → IsFront octets g → ⊥
+several_none octets body named be h g t =
+    let w : IsWord octets = word_is octets named in
+    no_named octets g w (ap (body_from Opening) (sym be) ∙ h) t (named_is octets g.kind g.value g.len (word_starts octets w) t.shape)
+
+first_of_rest : (rest : List ℕ) → slice_get rest 0 ≡ Some 58 → take 1 rest ≡ 58 ∷ []
+first_of_rest [] h = absurd (cc)
+first_of_rest (b ∷ rest) h = ap (λ x. x ∷ []) (some_is b 58 h)
+
+pub word_five : (octets : List ℕ) → lowered (take 5 octets) ≡ codes "text:" → 5 ≤ length octets
+word_five octets h = word_inside octets (word_is octets h)
+
+-- the name and the colon behind it are the word
+pub word_found : (octets name rest : List ℕ) (n : ℕ) → name ≡ take n octets → rest ≡ drop n octets → length name ≡ n → OpensText Identifier (Chars name) rest → lowered (take 5 octets) ≡ codes "text:"
+word_found octets name rest n ne re le t =
+    let four : n ≡ 4 = sym le ∙ sym (length-map name to_ascii_lowercase) ∙ ap length t.0 in
+    let colon : take 1 (drop 4 octets) ≡ 58 ∷ [] = ap (λ i. take 1 (drop i octets)) (sym four) ∙ ap (take 1) (sym re) ∙ first_of_rest rest t.1 in
+    let front : take 4 octets ≡ name = ap (λ i. take i octets) (sym four) ∙ sym ne in
+    let parts : take 5 octets ≡ name ++ 58 ∷ [] = take_sum 4 1 octets ∙ (λ i. front i ++ colon i) in
+    ap lowered parts ∙ map-append to_ascii_lowercase name (58 ∷ []) ∙ ap (λ x. x ++ 58 ∷ []) t.0

@@ -1,0 +1,88 @@
+//! White space: blanks, line ends and comments.
+ghost use Rattle.std.specs.Prelude.{◌≡◌, ◌≤◌, length, drop, MatchResult, Some, None};
+ghost use Rattle.sievelex.specs.Skip.{begins_space, space_from};
+ghost use Rattle.sievelex.specs.declared.space.Place.TheVariants.{Between};
+
+use crate::class::is_white;
+
+/// Where in white space an octet stands.
+#[derive(Clone, Copy)]
+pub(crate) enum Place {
+    /// Behind whole pieces.
+    Between,
+    /// Behind a `#`.
+    Comment,
+    /// Behind the `/` of a `/*`.
+    Opening,
+    /// Behind a `/*`.
+    Inner,
+    /// Behind a `/*` and directly behind a `*`.
+    Star,
+}
+
+impl Place {
+    ghost use Rattle.sievelex.specs.Skip.{place_after};
+
+    /// Where the octet behind this one stands.
+    fn after(self, octet: u8) -> Place
+        ensures { result ≡ place_after self octet }
+    {
+        match self {
+            Place::Between => match octet {
+                b'#' => Place::Comment,
+                b'/' => Place::Opening,
+                _ => Place::Between,
+            },
+            Place::Comment => match octet {
+                b'\n' => Place::Between,
+                _ => Place::Comment,
+            },
+            Place::Opening => Place::Inner,
+            Place::Inner => match octet {
+                b'*' => Place::Star,
+                _ => Place::Inner,
+            },
+            Place::Star => match octet {
+                b'/' => Place::Between,
+                b'*' => Place::Star,
+                _ => Place::Inner,
+            },
+        }
+    }
+}
+
+/// A white octet, `#` or `/*` stands first.
+fn begins_space(octets: &[u8]) -> bool
+    ensures { result ≡ begins_space octets.now }
+{
+    match octets.split_first() {
+        Some((first, rest)) => is_white(*first)
+            || *first == b'#'
+            || (*first == b'/' && rest.first() == Some(&b'*')),
+        None => false,
+    }
+}
+
+/// How many octets of white space stand at the front, or where the comment begins that is not closed.
+pub(crate) fn space_len(octets: &[u8]) -> Result<usize, usize>
+    ensures { MatchResult result
+        (λ n. (n ≤ length octets.now) × (space_from Between octets.now ≡ Some (drop n octets.now)))
+        (λ opened. (opened ≤ length octets.now) × (space_from Between octets.now ≡ None)) }
+{
+    let mut place = Place::Between;
+    let mut opened = 0;
+    for (i, octet) in octets.iter().enumerate() {
+        if let Place::Between = place {
+            let (_, ahead) = octets.split_at(i);
+            if !begins_space(ahead) {
+                return Ok(i);
+            }
+            opened = i;
+        }
+        place = place.after(*octet);
+    }
+    match place {
+        Place::Between | Place::Comment => Ok(octets.len()),
+        _ => Err(opened),
+    }
+}

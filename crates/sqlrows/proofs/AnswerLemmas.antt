@@ -1,0 +1,167 @@
+-- At most one row has a key, and what a query over one table finds.
+use Rattle.std.proofs.Common.{◌≡◌, ◌⊎◌, ℕ, ◌-◌, ◌^◌, ℤ, ◌<ℤ◌, nat_le, unwrap_or, int_eq, Bool, true, false, not, ◌&&◌, cond, List, [], ◌∷◌, ◌++◌, map, filter, flat_map, find, slice_get, None, option_map, refl, sym, ap, ◌∙◌, subst, inl, inr, arith, IsPermutation, IsSorted}
+use Rattle.std.specs.List.{list_all}
+use Rattle.std.proofs.lemmas.Int.{ints}
+use Rattle.std.proofs.lemmas.Bool.{and_from, not-true, not-false, both_ways, false_from_ne_true}
+use Rattle.std.proofs.lemmas.Option.{slice_get-map}
+use Rattle.std.proofs.lemmas.List.Sorted.{length_permutation}
+use Rattle.sqlite_value.specs.declared.value.Value.TheVariants.{Int}
+use Rattle.sqlite_value.specs.declared.keys.Key.{Key}
+use Rattle.sqlite_value.specs.Order.{Row}
+use Rattle.sqlite_trees.specs.Tree.{Trees, rowid}
+use Rattle.sqlite_sql.specs.declared.ops.CompareOp.TheVariants.{Ne}
+use Rattle.sqlite_sql.specs.Term.{Term, holds, eval_all, Env}
+use Rattle.sqlite_sql.specs.Query.{Query, IsAnswer, Output, output, output_cmp}
+use Rattle.sqlite_sql.specs.Program.{overlay}
+use Rattle.sqlite_schema.specs.declared.schema.Constraint.TheVariants.{Unique}
+use Rattle.sqlite_schema.specs.declared.schema.Table.{Table}
+use Rattle.sqlite_schema.specs.declared.schema.Index.{Index}
+use Rattle.sqlite_schema.specs.declared.schema.Schema.{Schema}
+use Rattle.sqlite_schema.specs.Rules.{agree, clashes, guards, differ, Fits}
+use Rattle.sqlite_rules.specs.Lists.{Has}
+use Rattle.sqlite_rules.proofs.KeyLemmas.{agree_back, agree_chain}
+use Rattle.sqlite_rules.proofs.ListLemmas.{all_has, all_from, test_has, some_from}
+use Rattle.sqlite_rules.proofs.RuleLemmas.{keeps_at}
+use Rattle.sqlite_keyed.specs.Keyed.{IsKeyedBy}
+use Rattle.sqlite_keyed.proofs.ListLemmas.{map-map, filter-map, filter_none, map_same, slice_get-filter}
+use Rattle.sqlite_keyed.proofs.KeyedLemmas.{same_int}
+use Rattle.sqlite_typed.proofs.TestLemmas.{at_ints}
+use Rattle.sqlite.proofs.Callers.{one_permutation}
+use Rattle.sqlrows.specs.Forms.{over}
+use Rattle.sqlrows.specs.Rows.{Entry, id_of, cells_of, stored, IsHeld, has_key}
+
+pub has_map : {X Y : Type 0} (f : X → Y) (xs : List X) (x : X) → Has xs x → Has (map f xs) (f x)
+has_map f [] x h = absurd h
+has_map f (y ∷ xs) x (inl same) = inl (ap f same)
+has_map f (y ∷ xs) x (inr later) = inr (has_map f xs x later)
+
+pub has_unmap : {X Y : Type 0} (f : X → Y) (xs : List X) (y : Y) → Has (map f xs) y → (x : X) × Has xs x × (y ≡ f x)
+has_unmap f [] y h = absurd h
+has_unmap f (x ∷ xs) y (inl same) = (x, inl refl, same)
+has_unmap f (x ∷ xs) y (inr later) = let found = has_unmap f xs y later in (found.0, inr found.1, found.2)
+
+-- no element passes, or one does
+abbrev pub IsAtMostOne : {X : Type 0} → (X → Bool) → List X → Type 0
+IsAtMostOne {X} p xs = (filter p xs ≡ []) ⊎ ((x : X) × Has xs x × (p x ≡ true) × (filter p xs ≡ x ∷ []))
+
+module _ {X : Type 0} (key : X → ℤ) (p : X → Bool) where
+  pub lone : (xs : List X) → IsKeyedBy key xs → ((x y : X) → Has xs x → Has xs y → p x ≡ true → p y ≡ true → key x ≡ key y) → IsAtMostOne p xs
+  lone [] up apart = inl refl
+  lone (x ∷ xs) up apart = go (p x) refl (lone xs up.1 (λ a b h k. apart a b (inr h) (inr k)))
+    where
+      go : (b : Bool) → p x ≡ b → IsAtMostOne p xs → (cond b (x ∷ filter p xs) (filter p xs) ≡ []) ⊎ ((y : X) × Has (x ∷ xs) y × (p y ≡ true) × (cond b (x ∷ filter p xs) (filter p xs) ≡ y ∷ []))
+      go true is more =
+          let none = filter_none p xs (all_from _ xs (λ y there. false_from_ne_true _ (λ passes.
+          let same : key x ≡ key y = apart x y (inl refl) (inr there) is passes in
+          let above = all_has (λ z. key x <ℤ key z) xs y up.0 there in omega (arith, ints)))) in
+          inr (x, inl refl, is, ap (λ l. x ∷ l) none)
+      go false is (inl none) = inl none
+      go false is (inr one) = inr (one.0, inr one.1, one.2, one.3)
+
+-- as by the cells, so by the entries
+filter-entries : (p : Row → Bool) (es : List Entry) → filter p (map cells_of es) ≡ map cells_of (filter (λ e. p (cells_of e)) es)
+filter-entries p es = filter-map p cells_of es
+
+differ_ids : (a b : ℤ) → differ (Int a) (Int b) ≡ false → a ≡ b
+differ_ids a b h = let same = at_ints false Ne a b in let apart : not (int_eq a b) ≡ false = sym same ∙ h in same_int a b (not-false _ apart)
+
+-- under a unique index over the key at most one row has the key
+module _ (schema : Schema) (table : Table) (listed : Has schema.tables table) (index : Index) (indexed : Has schema.indexes index) (guarding : guards index table ≡ true) (key : Row) (places : List ℕ)
+    (agrees : (n : ℤ) (cells : Row) → has_key key cells ≡ true → agree index.order index.columns (Int n ∷ cells) places key ≡ true) (db : Trees) (fits : Fits schema db) (cells : List Row)
+    (h : IsHeld (db table.tree) cells) where
+  has_stored : (e : Entry) → Has h.entries e → Has (db table.tree) (stored e)
+  has_stored e there = subst (λ l. Has l (stored e)) (sym h.rows_are) (has_map stored h.entries e there)
+
+  same_id : (x y : Entry) → Has h.entries x → Has h.entries y → has_key key (cells_of x) ≡ true → has_key key (cells_of y) ≡ true → id_of x ≡ id_of y
+  same_id x y hx hy kx ky =
+      let kept = keeps_at Unique schema db table (stored x) (fits.rules Unique (λ e. cc)) listed (has_stored x hx) in
+      let free : (guards index table && clashes index.order index.columns (db table.tree) (stored x)) ≡ false = not-true _ (test_has _ schema.indexes index kept indexed) in
+      let agreed = agree_chain index.order index.columns places index.columns (stored y) key (stored x) (agrees (id_of y) (cells_of y) ky)
+      (agree_back index.order index.columns places (stored x) key (agrees (id_of x) (cells_of x) kx)) in
+      let near : differ (rowid (stored y)) (rowid (stored x)) ≡ false = false_from_ne_true _ (λ apart.
+      both_ways _ free (and_from _ _ guarding (some_from _ (db table.tree) (stored y) (has_stored y hy) (and_from _ _ agreed apart)))) in
+      sym (differ_ids (id_of y) (id_of x) near)
+
+  one_entry : IsAtMostOne (λ e. has_key key (cells_of e)) h.entries
+  one_entry = lone id_of (λ e. has_key key (cells_of e)) h.entries h.keyed same_id
+
+  pub one_row : IsAtMostOne (has_key key) cells
+  one_row =
+      let found = ap (filter (has_key key)) h.cells_are ∙ filter-entries (has_key key) h.entries in
+      elim one_entry [
+        | inl none ↦ inl (found ∙ ap (map cells_of) none)
+        | inr one ↦ inr (cells_of one.0, subst (λ l. Has l (cells_of one.0)) (sym h.cells_are) (has_map cells_of h.entries one.0 one.1), one.2, found ∙ ap (map cells_of) one.3)
+      ]
+
+no_permutation : {X : Type 0} (ys : List X) → IsPermutation [] ys → ys ≡ []
+no_permutation [] same = refl
+no_permutation (y ∷ ys) same = absurd (omega (arith, length_permutation _ _ same))
+
+-- a list of one element at most has one order
+few_permutation : {X : Type 0} (xs ys : List X) → (xs ≡ []) ⊎ ((x : X) × (xs ≡ x ∷ [])) → IsPermutation xs ys → ys ≡ xs
+few_permutation xs ys (inl none) same = no_permutation ys (subst (λ l. IsPermutation l ys) none same) ∙ sym none
+few_permutation xs ys (inr one) same = one_permutation one.0 ys (subst (λ l. IsPermutation l ys) one.1 same) ∙ sym one.1
+
+few_mapped : {X Y : Type 0} (f : X → Y) (p : X → Bool) (xs : List X) → IsAtMostOne p xs → (map f (filter p xs) ≡ []) ⊎ ((y : Y) × (map f (filter p xs) ≡ y ∷ []))
+few_mapped f p xs (inl none) = inl (ap (map f) none)
+few_mapped f p xs (inr one) = inr (f one.0, ap (map f) one.3)
+
+same_tree : (db : Trees) (t : ℕ) → overlay db [] t ≡ db t
+same_tree db t = elim (nat_le (2 ^ 31) t) as (λ b. unwrap_or (cond b (slice_get [] (t - 2 ^ 31)) None) (db t) ≡ db t) [ true ↦ refl | false ↦ refl ]
+
+abbrev slots : Row → Entry → Env
+slots params e = params ∷ stored e ∷ []
+
+matches_are : (params : Row) (terms : List Term) (p : Row → Bool) (meets : (n : ℤ) (cells : Row) → list_all (holds (params ∷ (Int n ∷ cells) ∷ [])) terms ≡ p cells) (es : List Entry)
+    → flat_map (λ r. cond (list_all (holds (params ∷ r ∷ [])) terms) ((params ∷ r ∷ []) ∷ []) []) (map stored es) ≡ map (slots params) (filter (λ e. p (cells_of e)) es)
+matches_are params terms p meets [] = refl
+matches_are params terms p meets (e ∷ es) =
+    rw (meets (id_of e) (cells_of e), matches_are params terms p meets es)
+    (elim (p (cells_of e)) as (λ b. cond b (slots params e ∷ []) [] ++ map (slots params) (filter (λ x. p (cells_of x)) es) ≡ map (slots params) (cond b (e ∷ filter (λ x. p (cells_of x)) es) (filter (λ x. p (cells_of x)) es)))
+    [ true ↦ refl | false ↦ refl ])
+
+-- a query over one table, whose terms test the cells
+module _ (db : Trees) (tree : ℕ) (terms project : List Term) (order : List (Term × Key)) (params : Row) (cells : List Row) (h : IsHeld (db tree) cells) (p : Row → Bool)
+    (meets : (n : ℤ) (cells : Row) → list_all (holds (params ∷ (Int n ∷ cells) ∷ [])) terms ≡ p cells) where
+  abbrev asked : Query
+  asked = (over tree terms project order).body
+
+  outputs_are : (rows : List Row) → (a : IsAnswer asked (overlay db []) params rows) → a.kept ≡ map (λ e. output asked (slots params e)) (filter (λ e. p (cells_of e)) h.entries)
+  outputs_are rows a =
+      a.distinct ∙ ap (map (output asked)) (a.grouped ∙ ap (flat_map (λ r. cond (list_all (holds (params ∷ r ∷ [])) terms) ((params ∷ r ∷ []) ∷ []) [])) (same_tree db tree ∙ h.rows_are)
+      ∙ matches_are params terms p meets h.entries) ∙ map-map (output asked) (slots params) _
+
+  -- where at most one row is found
+  pub entries_found : (rows : List Row) → IsAtMostOne (λ e. p (cells_of e)) h.entries → IsAnswer asked (overlay db []) params rows
+      → rows ≡ map (λ e. eval_all project (slots params e)) (filter (λ e. p (cells_of e)) h.entries)
+  entries_found rows one a =
+      let kept = outputs_are rows a in
+      let few = few_mapped (λ e. output asked (slots params e)) (λ e. p (cells_of e)) h.entries one in
+      let ordered = few_permutation _ a.ordered few (subst (λ k. IsPermutation k a.ordered) kept a.same) in
+      a.shown ∙ ap (map (λ (o : Output). o.1)) ordered ∙ map-map (λ (o : Output). o.1) (λ e. output asked (slots params e)) _
+
+  pub cells_in_order : (show : Row → Output) → ((n : ℤ) (cells : Row) → output asked (params ∷ (Int n ∷ cells) ∷ []) ≡ show cells) → (rows : List Row) → IsAnswer asked (overlay db []) params rows
+      → (ordered : List Output) × IsPermutation (map show (filter p cells)) ordered × IsSorted (output_cmp asked) ordered × (rows ≡ map (λ (o : Output). o.1) ordered)
+  cells_in_order show shows rows a =
+      let kept = outputs_are rows a in
+      let are : map (λ e. output asked (slots params e)) (filter (λ e. p (cells_of e)) h.entries) ≡ map show (filter p cells) =
+      map_same _ (λ e. show (cells_of e)) (λ e. shows (id_of e) (cells_of e)) _ ∙ sym (map-map show cells_of _) ∙ ap (map show) (sym (filter-entries p h.entries)) ∙ sym (ap (λ l. map show (filter p l)) h.cells_are) in
+      (a.ordered, subst (λ k. IsPermutation k a.ordered) (kept ∙ are) a.same, a.sorted, a.shown)
+
+-- the same by cells, under a unique index over the key
+module _ (schema : Schema) (table : Table) (listed : Has schema.tables table) (index : Index) (indexed : Has schema.indexes index) (guarding : guards index table ≡ true) (key : Row) (places : List ℕ)
+    (agrees : (n : ℤ) (cells : Row) → has_key key cells ≡ true → agree index.order index.columns (Int n ∷ cells) places key ≡ true) (db : Trees) (fits : Fits schema db) (cells : List Row)
+    (h : IsHeld (db table.tree) cells) (terms : List Term) (params : Row) (meets : (n : ℤ) (cells : Row) → list_all (holds (params ∷ (Int n ∷ cells) ∷ [])) terms ≡ has_key key cells) where
+  pub found_by_key : (project : List Term) (order : List (Term × Key)) (rows : List Row) → IsAnswer (over table.tree terms project order).body (overlay db []) params rows
+      → rows ≡ map (λ e. eval_all project (params ∷ stored e ∷ [])) (filter (λ e. has_key key (cells_of e)) h.entries)
+  found_by_key project order rows a =
+      entries_found db table.tree terms project order params cells h (has_key key) meets rows (one_entry schema table listed index indexed guarding key places agrees db fits cells h) a
+
+  pub cells_by_key : (project : List Term) (show : Row → Row) → ((n : ℤ) (cells : Row) → eval_all project (params ∷ (Int n ∷ cells) ∷ []) ≡ show cells) → (order : List (Term × Key)) (rows : List Row)
+      → IsAnswer (over table.tree terms project order).body (overlay db []) params rows → rows ≡ map show (filter (has_key key) cells)
+  cells_by_key project show shows order rows a =
+      found_by_key project order rows a ∙ map_same _ (λ e. show (cells_of e)) (λ e. shows (id_of e) (cells_of e)) _ ∙ sym (map-map show cells_of _) ∙ ap (map show) (sym (filter-entries (has_key key) h.entries))
+      ∙ sym (ap (λ l. map show (filter (has_key key) l)) h.cells_are)
+
+pub first_shown : {X Y : Type 0} (show : X → Y) (p : X → Bool) (xs : List X) → slice_get (map show (filter p xs)) 0 ≡ option_map show (find p xs)
+first_shown show p xs = slice_get-map show (filter p xs) 0 ∙ ap (option_map show) (slice_get-filter p xs)

@@ -1,0 +1,61 @@
+-- The tables and the statements that the lemmas speak of: STRICT tables with one key, and queries over one table.
+use Rattle.std.specs.Prelude.{ℕ, pos, negsuc, true, false, List, [], ◌∷◌, None}
+use Rattle.sqlite_value.specs.declared.value.Value.TheVariants.{Null, Int}
+use Rattle.sqlite_value.specs.declared.keys.Collation.TheVariants.{Binary}
+use Rattle.sqlite_value.specs.declared.keys.Key.{Key}
+use Rattle.sqlite_value.specs.Keys.{plain}
+use Rattle.sqlite_sql.specs.declared.ops.BinaryOp.TheVariants.{Compare}
+use Rattle.sqlite_sql.specs.declared.ops.CompareOp.TheVariants.{Eq}
+use Rattle.sqlite_sql.specs.Term.{Term, lit, col, op2}
+use Rattle.sqlite_sql.specs.Query.{inner, end}
+use Rattle.sqlite_schema.specs.declared.program.Program.{Program}
+use Rattle.sqlite_schema.specs.declared.schema.Kind.{Kind}
+use Rattle.sqlite_schema.specs.declared.schema.Column.{Column}
+use Rattle.sqlite_schema.specs.declared.schema.Reference.{Reference}
+use Rattle.sqlite_schema.specs.declared.schema.Table.{Table}
+
+-- a column that is never NULL
+abbrev pub needed : List ℕ → Kind → Column
+needed name kind = record { name = name; kind = kind; is_strict = true; not_null = true; default = Null; collation = Binary }
+
+-- a column that may be NULL
+abbrev pub maybe : List ℕ → Kind → Column
+maybe name kind = record { name = name; kind = kind; is_strict = true; not_null = false; default = Null; collation = Binary }
+
+-- a table with one key, which the third argument says by its places
+abbrev pub keyed : List ℕ → ℕ → List ℕ → List Reference → List Column → Table
+keyed name tree primary references columns = record {
+  name = name;
+  tree = tree;
+  columns = columns;
+  key = None;
+  primary = primary;
+  uniques = primary ∷ [];
+  orders = plain ∷ [];
+  checks = [];
+  references = references;
+  computed = [];
+  stamps = record { places = []; terms = []; formats = [] };
+  is_counted = false;
+}
+
+-- the column at the place is equal to the parameter
+abbrev pub equals : ℕ → ℕ → Term
+equals place param = op2 (Compare Eq Binary) (col 1 place) (col 0 param)
+
+-- a query over one table: the terms of WHERE, what it shows, and the keys of ORDER BY
+abbrev pub over : ℕ → List Term → List Term → List (Term × Key) → Program
+over tree filter project order = record {
+  lets = [];
+  body = record {
+    from = inner tree end;
+    filter = filter;
+    group = None;
+    project = project;
+    distinct = false;
+    collations = [];
+    order = order;
+    limit = lit (Int (negsuc 0));
+    offset = lit (Int (pos 0));
+  };
+}
