@@ -33,7 +33,7 @@ impl<S: Alter> Store<S> {
     }
 
     /// Adds an account without scripts, messages and replies. `rounds` is how often the password is
-    /// digested. A name that has an account is refused as `Store`.
+    /// digested. What comes of a name that has an account is left open but for the table's key, which SQLite keeps.
     pub fn add_user(
         &mut self,
         name: &[u8],
@@ -57,8 +57,8 @@ impl<S: Alter> Store<S> {
         }])
     }
 
-    /// Keeps the script under the name, in place of one that has it. A user without an account is
-    /// refused as `Store`.
+    /// Keeps the script under the name, in place of one that has it. What comes of a user without an
+    /// account is left open but for the tables' rules, which SQLite keeps.
     pub fn put_script(&mut self, user: &[u8], name: &[u8], text: &[u8]) -> Result<(), Refusal>
         ensures made { HasCleanDisk (state S.Store self.new) → OnOk result (Turns (HasUser user.now) (λ all. with_user all user.now (keeps_script name.now text.now)) (state S.Store self.old).now (state S.Store self.new).now) }
         ensures settled { HasCleanDisk (state S.Store self.new) → OnOk result (IsSettled (state S.Store self.new)) }
