@@ -1,1 +1,4 @@
-
+pub mod Tests
+pub mod MatchLemmas
+pub mod PartLemmas
+pub mod TruthLemmas

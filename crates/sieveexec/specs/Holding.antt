@@ -1,11 +1,11 @@
 -- Which tests hold of a mail (RFC 5228, 5).
 use Rattle.std.specs.Prelude.{◌≡◌, ◌≢◌, ◌<◌, ◌⊎◌, ℕ, true, List, []}
 use Rattle.std.specs.List.{All, Any}
-use Rattle.sieveexec.specs.declared.checks.Bound.{Bound}
-use Rattle.sieveexec.specs.declared.checks.Bound.TheVariants.{Over, Under}
-use Rattle.sieveexec.specs.declared.checks.EnvelopeParts.{EnvelopeParts}
-use Rattle.sieveexec.specs.declared.checks.Check.{Check}
-use Rattle.sieveexec.specs.declared.checks.Check.TheVariants.{Size, Exists, Header, Address, Envelope}
+use Rattle.sievesyntax.specs.declared.checks.Bound.{Bound}
+use Rattle.sievesyntax.specs.declared.checks.Bound.TheVariants.{Over, Under}
+use Rattle.sievesyntax.specs.declared.checks.EnvelopeParts.{EnvelopeParts}
+use Rattle.sievesyntax.specs.declared.checks.Check.{Check}
+use Rattle.sievesyntax.specs.declared.checks.Check.TheVariants.{Size, Exists, Header, Address, Envelope}
 use Rattle.sieveexec.specs.Mails.{MailSpec, values_of, texts_of, addresses_of}
 use Rattle.sieveexec.specs.Matches.{MatchesSome}
 use Rattle.sieveexec.specs.Parts.{IsPart, part_of}
@@ -27,7 +27,7 @@ Holds mail (Header header) =
     Any (λ name. Any (MatchesSome header.comparator header.matching header.keys) (texts_of mail name)) header.fields
 Holds mail (Address address) =
     Any (λ name. Any (λ one. MatchesSome address.comparator address.matching address.keys (part_of address.part one))
-        (addresses_of mail name)) address.fields
+    (addresses_of mail name)) address.fields
 Holds mail (Envelope envelope) =
     (one : List ℕ) × (part : List ℕ) × IsNamed envelope.parts mail one × IsPart envelope.part one part
     × MatchesSome envelope.comparator envelope.matching envelope.keys part

@@ -58,7 +58,7 @@ address_fields =
 
 -- whether fields of this name in lower case have addresses
 abbrev pub is_address_key : List ℕ → Bool
-is_address_key key = list_any (pointwise nat_eq key) address_fields
+is_address_key key = list_any (λ name. pointwise nat_eq name key) address_fields
 
 -- the addresses of the unfolded values, which aren't decoded, of those fields; none where fields of the name have no addresses
 abbrev pub addresses_keyed : MailSpec → List ℕ → List Addr

@@ -1,5 +1,5 @@
 -- Whether a value matches a key (RFC 5228, 2.7.1), by a comparator (RFC 4790).
-use Rattle.std.specs.Prelude.{◌≡◌, ℕ, Bool, true, false, ◌&&◌, ◌||◌, nat_eq, List, [], ◌∷◌, map}
+use Rattle.std.specs.Prelude.{◌==◌, ℕ, Bool, true, false, ◌&&◌, ◌||◌, nat_eq, List, [], ◌∷◌, map}
 use Rattle.std.specs.List.{list_any, Any}
 use Rattle.std.specs.Char.{to_ascii_uppercase}
 use Rattle.std.specs.Cmp.Lexicographic.{pointwise}
@@ -7,10 +7,10 @@ use Rattle.collation.specs.Comparators.{EqualBy, ContainsBy}
 use Rattle.globmatch.specs.Glob.{items, Glob}
 use Rattle.globmatch.specs.declared.pattern.Item.{Item}
 use Rattle.globmatch.specs.declared.pattern.Item.TheVariants.{Star, One, Exact}
-use Rattle.sieveexec.specs.declared.checks.Collation.{Collation}
-use Rattle.sieveexec.specs.declared.checks.Collation.TheVariants.{Octet, AsciiCasemap}
-use Rattle.sieveexec.specs.declared.checks.Matching.{Matching}
-use Rattle.sieveexec.specs.declared.checks.Matching.TheVariants.{Is, Contains, Matches}
+use Rattle.sievesyntax.specs.declared.checks.Collation.{Collation}
+use Rattle.sievesyntax.specs.declared.checks.Collation.TheVariants.{Octet, AsciiCasemap}
+use Rattle.sievesyntax.specs.declared.checks.Matching.{Matching}
+use Rattle.sievesyntax.specs.declared.checks.Matching.TheVariants.{Is, Contains, Matches}
 
 -- the image of an octet: octets are the same where their images are
 abbrev pub image_by : Collation → ℕ → ℕ
@@ -29,16 +29,13 @@ MatchesSome collation matching keys value = Any (λ key. MatchesKey (image_by co
 
 -- whether the images of two texts are the same
 abbrev pub is_equal : (ℕ → ℕ) → List ℕ → List ℕ → Bool
-is_equal image [] [] = true
-is_equal image [] (octet ∷ rest) = false
-is_equal image (octet ∷ rest) [] = false
-is_equal image (one ∷ key) (other ∷ value) = nat_eq (image one) (image other) && is_equal image key value
+is_equal image key value = pointwise nat_eq (map image key) (map image value)
 
 -- whether a text begins with the images of a key
 abbrev pub begins_with : (ℕ → ℕ) → List ℕ → List ℕ → Bool
 begins_with image [] value = true
 begins_with image (octet ∷ rest) [] = false
-begins_with image (one ∷ key) (other ∷ value) = nat_eq (image one) (image other) && begins_with image key value
+begins_with image (one ∷ key) (other ∷ value) = (image one == image other) && begins_with image key value
 
 -- whether some end of a text, from the whole to the empty one, passes
 abbrev pub some_end : (List ℕ → Bool) → List ℕ → Bool
@@ -57,7 +54,7 @@ is_globbed image (Star ∷ more) text = some_end (is_globbed image more) text
 is_globbed image (One ∷ more) [] = false
 is_globbed image (One ∷ more) (octet ∷ rest) = is_globbed image more rest
 is_globbed image (Exact one ∷ more) [] = false
-is_globbed image (Exact one ∷ more) (other ∷ rest) = nat_eq (image one) (image other) && is_globbed image more rest
+is_globbed image (Exact one ∷ more) (other ∷ rest) = (image one == image other) && is_globbed image more rest
 
 -- whether a value matches a key
 abbrev pub matches_key : (ℕ → ℕ) → Matching → List ℕ → List ℕ → Bool

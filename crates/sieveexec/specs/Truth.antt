@@ -1,13 +1,13 @@
 -- The truth of tests at a mail: true exactly where the test holds (`truth_of_a_check` of laws.rt).
 use Rattle.std.specs.Prelude.{ℕ, Bool, true, false, ◌&&◌, ◌||◌, not, nat_lt, List, [], ◌∷◌}
 use Rattle.std.specs.List.{list_any, list_all}
-use Rattle.sieveexec.specs.declared.checks.Bound.{Bound}
-use Rattle.sieveexec.specs.declared.checks.Bound.TheVariants.{Over, Under}
-use Rattle.sieveexec.specs.declared.checks.Header.{Header as HeaderTest}
-use Rattle.sieveexec.specs.declared.checks.Address.{Address as AddressTest}
-use Rattle.sieveexec.specs.declared.checks.EnvelopeTest.{EnvelopeTest}
-use Rattle.sieveexec.specs.declared.checks.Check.{Check}
-use Rattle.sieveexec.specs.declared.checks.Check.TheVariants.{Size, Exists, Header, Address, Envelope}
+use Rattle.sievesyntax.specs.declared.checks.Bound.{Bound}
+use Rattle.sievesyntax.specs.declared.checks.Bound.TheVariants.{Over, Under}
+use Rattle.sievesyntax.specs.declared.checks.Header.{Header as HeaderTest}
+use Rattle.sievesyntax.specs.declared.checks.Address.{Address as AddressTest}
+use Rattle.sievesyntax.specs.declared.checks.EnvelopeTest.{EnvelopeTest}
+use Rattle.sievesyntax.specs.declared.checks.Check.{Check}
+use Rattle.sievesyntax.specs.declared.checks.Check.TheVariants.{Size, Exists, Header, Address, Envelope}
 use Rattle.sieveexec.specs.Mails.{MailSpec, values_of, texts_of, addresses_of}
 use Rattle.sieveexec.specs.Matches.{matches_some}
 use Rattle.sieveexec.specs.Parts.{part_of, part_in}
@@ -35,7 +35,7 @@ header_holds mail header =
 abbrev pub address_holds : MailSpec → AddressTest → Bool
 address_holds mail address =
     list_any (λ name. list_any (λ one. matches_some address.comparator address.matching address.keys (part_of address.part one))
-        (addresses_of mail name)) address.fields
+    (addresses_of mail name)) address.fields
 
 -- whether a part of an address of the envelope matches a key of the test
 abbrev pub envelope_matches : EnvelopeTest → List ℕ → Bool

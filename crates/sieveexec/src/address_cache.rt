@@ -12,13 +12,13 @@ ghost use Rattle.sieveexec.specs.Parts.{part_of};
 ghost use Rattle.sieveexec.specs.Truth.{address_holds};
 ghost use Rattle.sieveexec.specs.Indexes.{AddressesKnown};
 
-use crate::checks::Address;
 use crate::mail::Mail;
 use crate::matching::matches_some;
 use crate::shown::{Shown, ShownList};
 use addrparts::addresses;
 use mailhead::unfolded;
 use octets::{Octets, lowered};
+use sievesyntax::Address;
 use std::alloc::{AllocError, Global};
 use std::collections::BTreeMap;
 use std::marker::Model;
@@ -123,10 +123,12 @@ fn know(
 fn addresses_under(alloc: Global, mail: &Mail<'_>, key: &Octets) -> Result<ShownList, AllocError>
     ensures { IfOk result (λ found. found ≡ addresses_keyed mail.now key.now) }
 {
-    if is_address_key(key.as_slice()) {
-        addresses_in(alloc, mail.raws(key))
-    } else {
-        Ok(ShownList::new(alloc))
+    if !is_address_key(key.as_slice()) {
+        return Ok(ShownList::new(alloc));
+    }
+    match mail.raws(key) {
+        Some(raws) => addresses_in(alloc, raws.as_slice()),
+        None => Ok(ShownList::new(alloc)),
     }
 }
 
@@ -134,12 +136,7 @@ fn addresses_under(alloc: Global, mail: &Mail<'_>, key: &Octets) -> Result<Shown
 fn is_address_key(key: &[u8]) -> bool
     ensures { result ≡ is_address_key key.now }
 {
-    for name in ADDRESS_FIELDS.iter() {
-        if key == *name {
-            return true;
-        }
-    }
-    false
+    ADDRESS_FIELDS.contains(&key)
 }
 
 /// The addresses in raw values, which are unfolded and not decoded. Linear in the values.

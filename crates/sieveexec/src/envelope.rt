@@ -2,9 +2,9 @@
 ghost use Rattle.std.specs.Prelude.{◌≡◌};
 ghost use Rattle.sieveexec.specs.Parts.{part_in, local_of, domain_of};
 
-use crate::checks::AddressPart;
 use memchr::memrchr;
 use octets::Octets;
+use sievesyntax::AddressPart;
 
 /// The addresses with which a message was received, as they were written; the null reverse-path is the empty text.
 #[derive(Debug, Drop)]

@@ -21,7 +21,7 @@ pub fn index_of<'a>(
     let mut index = BTreeMap::new(alloc);
     for field in fields {
         let name = lowered(alloc, field.name)?;
-        let raws = index.entry(name)?.or_insert_with(|| Raws::new(alloc));
+        let raws = index.entry(name)?.or_insert(Raws::new(alloc));
         raws.push(field.raw)?;
     }
     Ok(index)

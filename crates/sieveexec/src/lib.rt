@@ -2,7 +2,6 @@
 #![tactic(auto)]
 
 mod address_cache;
-mod checks;
 mod envelope;
 mod index;
 mod looked;

@@ -4,11 +4,11 @@ ghost use Rattle.sieveexec.specs.Holding.{Holds};
 ghost use Rattle.sieveexec.specs.Truth.{truth_at, envelope_holds, envelope_matches};
 
 use crate::address_cache::AddressCache;
-use crate::checks::{Check, EnvelopeTest};
 use crate::envelope::part_in;
 use crate::mail::Mail;
 use crate::matching::matches_some;
 use crate::text_cache::TextCache;
+use sievesyntax::{Check, EnvelopeTest};
 use std::alloc::{AllocError, Global};
 use std::marker::Model;
 

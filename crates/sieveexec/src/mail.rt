@@ -1,15 +1,15 @@
 //! A message with its envelope, as the tests of a script see it.
-ghost use Rattle.std.specs.Prelude.{◌≡◌, IfOk, map};
+ghost use Rattle.std.specs.Prelude.{◌≡◌, [], IfOk, unwrap_or, option_copied};
 ghost use Rattle.mailhead.specs.Fields.{texts_of};
 ghost use Rattle.sieveexec.specs.Mails.{mail_of, raws_keyed};
-ghost use Rattle.sieveexec.specs.Truth.{is_beyond, all_exist};
+ghost use Rattle.sieveexec.specs.Truth.{is_beyond, is_some_there, all_exist};
 
-use crate::checks::{Bound, Size};
 use crate::envelope::Envelope;
 use crate::index::index_of;
 use crate::raws::Raws;
 use mailhead::{Field, Head};
 use octets::{Octets, lowered};
+use sievesyntax::{Bound, Size};
 use std::alloc::{AllocError, Global};
 use std::collections::BTreeMap;
 use std::marker::Model;
@@ -95,14 +95,22 @@ impl<'a> Mail<'a> {
         self.envelope.to.as_slice()
     }
 
-    /// The raw values of the fields that have this name in lower case. No pass over the fields: n names are told apart
-    /// by log n comparisons.
-    pub fn raws(&self, key: &Octets) -> &[&'a [u8]]
-        ensures { map (λ slice. slice.now) result.now ≡ raws_keyed self.now.fields key.now }
+    /// The raw values of the fields that have this name in lower case; none where no field has it.
+    ///
+    /// No pass over the fields: log n comparisons of names where the fields have n names.
+    pub fn raws(&self, key: &Octets) -> Option<&Raws<'a>>
+        ensures { unwrap_or (option_copied result) [] ≡ raws_keyed self.now.fields key.now }
     {
-        match self.index.get(key) {
-            Some(raws) => raws.as_slice(),
-            None => &[],
+        self.index.get(key)
+    }
+
+    /// Whether some field has this name in lower case.
+    pub fn has(&self, key: &Octets) -> bool
+        ensures { result ≡ is_some_there (raws_keyed self.now.fields key.now) }
+    {
+        match self.raws(key) {
+            Some(raws) => !raws.is_empty(),
+            None => false,
         }
     }
 
@@ -111,8 +119,7 @@ impl<'a> Mail<'a> {
         ensures { IfOk result (λ there. there ≡ all_exist self.now names.now) }
     {
         for name in names {
-            let key = lowered(alloc, name.as_slice())?;
-            if self.raws(&key).is_empty() {
+            if !self.has(&lowered(alloc, name.as_slice())?) {
                 return Ok(false);
             }
         }

@@ -3,18 +3,13 @@ ghost use Rattle.std.specs.Prelude.{◌≡◌};
 ghost use Rattle.std.specs.List.{list_any};
 ghost use Rattle.sieveexec.specs.Matches.{matches_key, matches_some};
 
-use crate::checks::{Collation, Matching};
 use collation::{AsciiCasemap, Comparator, Octet, contains, is};
 use globmatch::matches;
 use octets::Octets;
+use sievesyntax::{Collation, Matching};
 
 /// Whether a value matches some key. For each key the time is that of `is`, `contains` or `matches`; no memory.
-pub fn matches_some(
-    collation: Collation,
-    matching: Matching,
-    keys: &[Octets],
-    value: &[u8],
-) -> bool
+pub fn matches_some(collation: Collation, matching: Matching, keys: &[Octets], value: &[u8]) -> bool
     ensures { result ≡ matches_some collation matching keys.now value.now }
 {
     match collation {

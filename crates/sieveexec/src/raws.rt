@@ -1,5 +1,6 @@
 //! The raw values of the fields of one name.
-ghost use Rattle.std.specs.Prelude.{◌≡◌, [], ◌∷◌, ◌++◌, map, OnOk};
+ghost use Rattle.std.specs.Prelude.{◌≡◌, [], ◌∷◌, ◌++◌, map, not, OnOk};
+ghost use Rattle.sieveexec.specs.Truth.{is_some_there};
 
 use std::alloc::{AllocError, Global};
 use std::marker::Model;
@@ -34,6 +35,12 @@ impl<'a> Raws<'a> {
     {
         self.slices.push(raw)?;
         Ok(())
+    }
+
+    pub fn is_empty(&self) -> bool
+        ensures { result ≡ not (is_some_there self.now) }
+    {
+        self.slices.is_empty()
     }
 
     pub fn as_slice(&self) -> &[&'a [u8]]

@@ -2,9 +2,9 @@
 ghost use Rattle.std.specs.Prelude.{◌≡◌, [], ◌∷◌, ◌++◌, IfOk, OnOk, map};
 ghost use Rattle.sieveexec.specs.Parts.{part_of};
 
-use crate::checks::AddressPart;
 use addrparts::Addr;
 use octets::Octets;
+use sievesyntax::AddressPart;
 use std::alloc::{AllocError, Global};
 use std::marker::Model;
 

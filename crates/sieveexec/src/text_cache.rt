@@ -10,12 +10,12 @@ ghost use Rattle.sieveexec.specs.Matches.{matches_some};
 ghost use Rattle.sieveexec.specs.Truth.{header_holds};
 ghost use Rattle.sieveexec.specs.Indexes.{TextsKnown};
 
-use crate::checks::Header;
 use crate::mail::Mail;
 use crate::matching::matches_some;
 use encwords::decoded;
 use mailhead::unfolded;
 use octets::{Octets, Texts, lowered, trim_blanks};
+use sievesyntax::Header;
 use std::alloc::{AllocError, Global};
 use std::collections::BTreeMap;
 use std::marker::Model;
@@ -91,10 +91,20 @@ fn know(
     if known.contains_key(key) {
         return Ok(());
     }
-    let texts = texts_in(alloc, mail.raws(key))?;
+    let texts = texts_under(alloc, mail, key)?;
     let name = key.copied(alloc)?;
     known.insert(name, texts)?;
     Ok(())
+}
+
+/// The texts of the fields of a name in lower case.
+fn texts_under(alloc: Global, mail: &Mail<'_>, key: &Octets) -> Result<Texts, AllocError>
+    ensures { IfOk result (λ texts. texts ≡ texts_keyed mail.now key.now) }
+{
+    match mail.raws(key) {
+        Some(raws) => texts_in(alloc, raws.as_slice()),
+        None => Ok(Texts::new(alloc)),
+    }
 }
 
 /// The texts of raw values.

@@ -1,0 +1,4 @@
+use Rattle.sieveexec.proofs.shown.Shown.of.Goals as goal
+
+pub returns : goal.returns
+returns c = ?
