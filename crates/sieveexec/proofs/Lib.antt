@@ -2,3 +2,7 @@ pub mod Tests
 pub mod MatchLemmas
 pub mod PartLemmas
 pub mod TruthLemmas
+pub mod IndexLemmas
+pub mod ShownLemmas
+pub mod NameLemmas
+mod Examples

@@ -59,5 +59,5 @@ truth_decides mail (Address address) =
 truth_decides mail (Envelope test) =
     decides_as _ (named mail test) (λ (one, part, name, is, matches). asked_for mail test one part name is matches)
     (Decides-or _ _
-      (Decides-and _ _ (is_asked test.parts.from) (matching_decides test mail.from))
-      (Decides-and _ _ (is_asked test.parts.to) (matching_decides test mail.to)))
+    (Decides-and _ _ (is_asked test.parts.from) (matching_decides test mail.from))
+    (Decides-and _ _ (is_asked test.parts.to) (matching_decides test mail.to)))

@@ -5,3 +5,4 @@ pub mod Holding
 pub mod Truth
 pub mod Indexes
 pub mod Shown
+pub mod Outcomes

@@ -35,7 +35,7 @@ mail_of message envelope =
 
 -- the raw values of the fields that have this name in lower case, in order
 abbrev pub raws_keyed : List FieldText → List ℕ → List (List ℕ)
-raws_keyed fields key = map (λ field. field.raw) (filter (λ field. pointwise nat_eq key (lowered field.name)) fields)
+raws_keyed fields key = map (λ field. field.raw) (filter (λ field. pointwise nat_eq (lowered field.name) key) fields)
 
 -- the unfolded values of the fields that have this name in lower case (RFC 5322, 2.2.3)
 abbrev pub values_keyed : MailSpec → List ℕ → List (List ℕ)

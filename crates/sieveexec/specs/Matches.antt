@@ -13,9 +13,9 @@ use Rattle.sievesyntax.specs.declared.checks.Matching.{Matching}
 use Rattle.sievesyntax.specs.declared.checks.Matching.TheVariants.{Is, Contains, Matches}
 
 -- the image of an octet: octets are the same where their images are
-abbrev pub image_by : Collation → ℕ → ℕ
-image_by Octet octet = octet
-image_by AsciiCasemap octet = to_ascii_uppercase octet
+abbrev pub image_by : Collation → (ℕ → ℕ)
+image_by Octet = λ octet. octet
+image_by AsciiCasemap = to_ascii_uppercase
 
 -- a value matches a key
 abbrev pub MatchesKey : (ℕ → ℕ) → Matching → List ℕ → List ℕ → Type 0

@@ -8,6 +8,7 @@ use Rattle.sievesyntax.specs.declared.checks.Address.{Address as AddressTest}
 use Rattle.sievesyntax.specs.declared.checks.EnvelopeTest.{EnvelopeTest}
 use Rattle.sievesyntax.specs.declared.checks.Check.{Check}
 use Rattle.sievesyntax.specs.declared.checks.Check.TheVariants.{Size, Exists, Header, Address, Envelope}
+use Rattle.addrparts.specs.declared.address.Addr.{Addr}
 use Rattle.sieveexec.specs.Mails.{MailSpec, values_of, texts_of, addresses_of}
 use Rattle.sieveexec.specs.Matches.{matches_some}
 use Rattle.sieveexec.specs.Parts.{part_of, part_in}
@@ -26,16 +27,21 @@ is_some_there (one ∷ more) = true
 abbrev pub all_exist : MailSpec → List (List ℕ) → Bool
 all_exist mail names = list_all (λ name. is_some_there (values_of mail name)) names
 
+-- whether a text matches a key of `header`
+abbrev pub text_matches : HeaderTest → List ℕ → Bool
+text_matches header text = matches_some header.comparator header.matching header.keys text
+
 -- whether `header` holds
 abbrev pub header_holds : MailSpec → HeaderTest → Bool
-header_holds mail header =
-    list_any (λ name. list_any (matches_some header.comparator header.matching header.keys) (texts_of mail name)) header.fields
+header_holds mail header = list_any (λ name. list_any (text_matches header) (texts_of mail name)) header.fields
+
+-- whether the part of an address matches a key of `address`
+abbrev pub address_matches : AddressTest → Addr → Bool
+address_matches address one = matches_some address.comparator address.matching address.keys (part_of address.part one)
 
 -- whether `address` holds
 abbrev pub address_holds : MailSpec → AddressTest → Bool
-address_holds mail address =
-    list_any (λ name. list_any (λ one. matches_some address.comparator address.matching address.keys (part_of address.part one))
-    (addresses_of mail name)) address.fields
+address_holds mail address = list_any (λ name. list_any (address_matches address) (addresses_of mail name)) address.fields
 
 -- whether a part of an address of the envelope matches a key of the test
 abbrev pub envelope_matches : EnvelopeTest → List ℕ → Bool

@@ -7,10 +7,8 @@ ghost use Rattle.std.specs.BTreeMap.{get};
 ghost use Rattle.mailhead.specs.Heads.{unfold_of};
 ghost use Rattle.addrparts.specs.Reading.{addrs};
 ghost use Rattle.sieveexec.specs.Mails.{is_address_key, addresses_of, addresses_keyed};
-ghost use Rattle.sieveexec.specs.Matches.{matches_some};
-ghost use Rattle.sieveexec.specs.Parts.{part_of};
-ghost use Rattle.sieveexec.specs.Truth.{address_holds};
-ghost use Rattle.sieveexec.specs.Indexes.{AddressesKnown};
+ghost use Rattle.sieveexec.specs.Truth.{address_matches, address_holds};
+ghost use Rattle.sieveexec.specs.Indexes.{AreKnown};
 
 use crate::mail::Mail;
 use crate::matching::matches_some;
@@ -49,14 +47,14 @@ pub struct AddressCache<'a> {
 }
 
 impl<'a> Model for AddressCache<'a> {
-    ghost use Rattle.sieveexec.specs.Mails.{MailSpec};
-    ghost use Rattle.sieveexec.specs.Indexes.{AddressesKnown};
+    ghost use Rattle.sieveexec.specs.Mails.{MailSpec, addresses_keyed};
+    ghost use Rattle.sieveexec.specs.Indexes.{AreKnown};
 
     ghost Value = { MailSpec };
 
     ghost view = { λ cache. cache.mail.now };
 
-    ghost invariant = { λ cache. AddressesKnown cache.mail.now cache.known };
+    ghost invariant = { λ cache. AreKnown (addresses_keyed cache.mail.now) cache.known };
 }
 
 impl<'a> AddressCache<'a> {
@@ -85,9 +83,8 @@ impl<'a> AddressCache<'a> {
 
     /// Whether the part of some address in the fields of a name matches some key.
     fn matches(&mut self, alloc: Global, name: &[u8], address: &Address) -> Result<bool, AllocError>
-        ensures matches { IfOk result (λ matches. matches ≡ list_any
-            (λ one. matches_some address.now.comparator address.now.matching address.now.keys (part_of address.now.part one))
-            (addresses_of self.old name.now)) }
+        ensures matches { IfOk result (λ matches. matches ≡
+            list_any (address_matches address.now) (addresses_of self.old name.now)) }
         ensures kept { self.new ≡ self.old }
     {
         let key = lowered(alloc, name)?;
@@ -106,8 +103,8 @@ fn know(
     known: &mut BTreeMap<Octets, ShownList>,
     key: &Octets,
 ) -> Result<(), AllocError>
-    requires { AddressesKnown mail.now known.old }
-    ensures kept { AddressesKnown mail.now known.new }
+    requires { AreKnown (addresses_keyed mail.now) known.old }
+    ensures kept { AreKnown (addresses_keyed mail.now) known.new }
     ensures there { OnOk result (get (slice_cmp nat_cmp) known.new key.now ≡ Some (addresses_keyed mail.now key.now)) }
 {
     if known.contains_key(key) {
@@ -154,8 +151,7 @@ fn addresses_in(alloc: Global, raws: &[&[u8]]) -> Result<ShownList, AllocError>
 
 /// Whether the part of some address matches some key.
 fn address_matches(address: &Address, found: &[Shown]) -> bool
-    ensures { result ≡ list_any
-        (λ one. matches_some address.now.comparator address.now.matching address.now.keys (part_of address.now.part one)) found.now }
+    ensures { result ≡ list_any (address_matches address.now) found.now }
 {
     for one in found {
         if matches_some(

@@ -4,9 +4,11 @@
 mod address_cache;
 mod envelope;
 mod index;
+pub mod laws;
 mod looked;
 mod mail;
 mod matching;
+mod outcome;
 mod raws;
 mod shown;
 mod text_cache;
@@ -14,3 +16,7 @@ mod text_cache;
 pub use envelope::Envelope;
 pub use looked::Looked;
 pub use mail::Mail;
+pub use outcome::{Failure, Outcome};
+
+#[cfg(test)]
+mod tests;

@@ -1,6 +1,5 @@
 //! What the tests of a run look at.
-ghost use Rattle.std.specs.Prelude.{◌≡◌, ◌↔◌, IfOk, IsTrue};
-ghost use Rattle.sieveexec.specs.Holding.{Holds};
+ghost use Rattle.std.specs.Prelude.{◌≡◌, IfOk};
 ghost use Rattle.sieveexec.specs.Truth.{truth_at, envelope_holds, envelope_matches};
 
 use crate::address_cache::AddressCache;
@@ -50,7 +49,6 @@ impl<'a> Looked<'a> {
     /// test is the first to ask for a field, linear in the field's values besides.
     pub fn holds(&mut self, alloc: Global, check: &Check) -> Result<bool, AllocError>
         ensures truth { IfOk result (λ holds. holds ≡ truth_at self.old check.now) }
-        ensures holds { IfOk result (λ holds. IsTrue holds ↔ Holds self.old check.now) }
         ensures kept { self.new ≡ self.old }
     {
         match check {

@@ -6,9 +6,8 @@ ghost use Rattle.std.specs.Cmp.Lexicographic.{slice_cmp};
 ghost use Rattle.std.specs.BTreeMap.{get};
 ghost use Rattle.mailhead.specs.Heads.{unfold_of};
 ghost use Rattle.sieveexec.specs.Mails.{text_shown, texts_of, texts_keyed};
-ghost use Rattle.sieveexec.specs.Matches.{matches_some};
-ghost use Rattle.sieveexec.specs.Truth.{header_holds};
-ghost use Rattle.sieveexec.specs.Indexes.{TextsKnown};
+ghost use Rattle.sieveexec.specs.Truth.{text_matches, header_holds};
+ghost use Rattle.sieveexec.specs.Indexes.{AreKnown};
 
 use crate::mail::Mail;
 use crate::matching::matches_some;
@@ -28,14 +27,14 @@ pub struct TextCache<'a> {
 }
 
 impl<'a> Model for TextCache<'a> {
-    ghost use Rattle.sieveexec.specs.Mails.{MailSpec};
-    ghost use Rattle.sieveexec.specs.Indexes.{TextsKnown};
+    ghost use Rattle.sieveexec.specs.Mails.{MailSpec, texts_keyed};
+    ghost use Rattle.sieveexec.specs.Indexes.{AreKnown};
 
     ghost Value = { MailSpec };
 
     ghost view = { λ cache. cache.mail.now };
 
-    ghost invariant = { λ cache. TextsKnown cache.mail.now cache.known };
+    ghost invariant = { λ cache. AreKnown (texts_keyed cache.mail.now) cache.known };
 }
 
 impl<'a> TextCache<'a> {
@@ -65,7 +64,7 @@ impl<'a> TextCache<'a> {
     /// Whether some text of the fields of a name matches some key.
     fn matches(&mut self, alloc: Global, name: &[u8], header: &Header) -> Result<bool, AllocError>
         ensures matches { IfOk result (λ matches. matches ≡
-            list_any (matches_some header.now.comparator header.now.matching header.now.keys) (texts_of self.old name.now)) }
+            list_any (text_matches header.now) (texts_of self.old name.now)) }
         ensures kept { self.new ≡ self.old }
     {
         let key = lowered(alloc, name)?;
@@ -84,8 +83,8 @@ fn know(
     known: &mut BTreeMap<Octets, Texts>,
     key: &Octets,
 ) -> Result<(), AllocError>
-    requires { TextsKnown mail.now known.old }
-    ensures kept { TextsKnown mail.now known.new }
+    requires { AreKnown (texts_keyed mail.now) known.old }
+    ensures kept { AreKnown (texts_keyed mail.now) known.new }
     ensures there { OnOk result (get (slice_cmp nat_cmp) known.new key.now ≡ Some (texts_keyed mail.now key.now)) }
 {
     if known.contains_key(key) {
@@ -129,7 +128,7 @@ fn text_in(alloc: Global, raw: &[u8]) -> Result<Octets, AllocError>
 
 /// Whether some text matches some key.
 fn text_matches(header: &Header, texts: &[Octets]) -> bool
-    ensures { result ≡ list_any (matches_some header.now.comparator header.now.matching header.now.keys) texts.now }
+    ensures { result ≡ list_any (text_matches header.now) texts.now }
 {
     for text in texts {
         if matches_some(
