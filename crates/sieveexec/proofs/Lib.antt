@@ -1,4 +1,4 @@
-pub mod Tests
+pub mod Decisions
 pub mod MatchLemmas
 pub mod PartLemmas
 pub mod TruthLemmas

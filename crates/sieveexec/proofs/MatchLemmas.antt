@@ -12,7 +12,7 @@ use Rattle.sievesyntax.specs.declared.checks.Collation.{Collation}
 use Rattle.sievesyntax.specs.declared.checks.Matching.{Matching}
 use Rattle.sievesyntax.specs.declared.checks.Matching.TheVariants.{Is, Contains, Matches}
 use Rattle.sieveexec.specs.Matches.{image_by, MatchesKey, MatchesSome, is_equal, begins_with, some_end, is_contained, is_globbed, matches_key, matches_some}
-use Rattle.sieveexec.proofs.Tests.{decides_as, any_decides}
+use Rattle.sieveexec.proofs.Decisions.{decides_as, any_decides}
 
 -- the images of a key stand first in those of a text
 abbrev BeginsBy : (ℕ → ℕ) → List ℕ → List ℕ → Type 0

@@ -13,7 +13,7 @@ use Rattle.sieveexec.specs.Matches.{MatchesSome, matches_some}
 use Rattle.sieveexec.specs.Parts.{part_of, IsPart, part_in}
 use Rattle.sieveexec.specs.Holding.{IsBeyond, IsNamed, Holds}
 use Rattle.sieveexec.specs.Truth.{is_beyond, is_some_there, envelope_matches, envelope_holds, truth_at}
-use Rattle.sieveexec.proofs.Tests.{decides_as, any_decides, all_decides}
+use Rattle.sieveexec.proofs.Decisions.{decides_as, any_decides, all_decides}
 use Rattle.sieveexec.proofs.MatchLemmas.{matches_some_decides}
 use Rattle.sieveexec.proofs.PartLemmas.{part_is, part_only}
 

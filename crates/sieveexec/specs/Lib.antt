@@ -5,4 +5,3 @@ pub mod Holding
 pub mod Truth
 pub mod Indexes
 pub mod Shown
-pub mod Outcomes

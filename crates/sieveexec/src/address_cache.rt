@@ -41,12 +41,12 @@ const ADDRESS_FIELDS: [&[u8]; 14] = [
 
 /// The addresses in the fields of a mail that some test asked for. Contracts see the mail.
 #[derive(Drop)]
-pub struct AddressCache<'a> {
-    mail: &'a Mail<'a>,
+pub struct AddressCache<'m, 'a> {
+    mail: &'m Mail<'a>,
     known: BTreeMap<Octets, ShownList>,
 }
 
-impl<'a> Model for AddressCache<'a> {
+impl<'m, 'a> Model for AddressCache<'m, 'a> {
     ghost use Rattle.sieveexec.specs.Mails.{MailSpec, addresses_keyed};
     ghost use Rattle.sieveexec.specs.Indexes.{AreKnown};
 
@@ -57,9 +57,9 @@ impl<'a> Model for AddressCache<'a> {
     ghost invariant = { λ cache. AreKnown (addresses_keyed cache.mail.now) cache.known };
 }
 
-impl<'a> AddressCache<'a> {
+impl<'m, 'a> AddressCache<'m, 'a> {
     /// No test asked for anything yet. Takes no memory.
-    pub fn new(alloc: Global, mail: &'a Mail<'a>) -> AddressCache<'a>
+    pub fn new(alloc: Global, mail: &'m Mail<'a>) -> AddressCache<'m, 'a>
         ensures { result ≡ mail.now }
     {
         AddressCache {

@@ -8,7 +8,6 @@ pub mod laws;
 mod looked;
 mod mail;
 mod matching;
-mod outcome;
 mod raws;
 mod shown;
 mod text_cache;
@@ -16,7 +15,6 @@ mod text_cache;
 pub use envelope::Envelope;
 pub use looked::Looked;
 pub use mail::Mail;
-pub use outcome::{Failure, Outcome};
 
 #[cfg(test)]
 mod tests;

@@ -14,13 +14,13 @@ use std::marker::Model;
 /// A mail in the course of a run: it keeps what tests have looked at, so that the values of a field are looked up,
 /// unfolded and decoded once for each name, however many tests ask. Contracts see the mail.
 #[derive(Drop)]
-pub struct Looked<'a> {
-    mail: &'a Mail<'a>,
-    texts: TextCache<'a>,
-    addresses: AddressCache<'a>,
+pub struct Looked<'m, 'a> {
+    mail: &'m Mail<'a>,
+    texts: TextCache<'m, 'a>,
+    addresses: AddressCache<'m, 'a>,
 }
 
-impl<'a> Model for Looked<'a> {
+impl<'m, 'a> Model for Looked<'m, 'a> {
     ghost use Rattle.std.specs.Prelude.{◌≡◌};
     ghost use Rattle.sieveexec.specs.Mails.{MailSpec};
 
@@ -31,9 +31,9 @@ impl<'a> Model for Looked<'a> {
     ghost invariant = { λ looked. (looked.texts ≡ looked.mail.now) × (looked.addresses ≡ looked.mail.now) };
 }
 
-impl<'a> Looked<'a> {
+impl<'m, 'a> Looked<'m, 'a> {
     /// Nothing is looked at yet. Takes no memory.
-    pub fn new(alloc: Global, mail: &'a Mail<'a>) -> Looked<'a>
+    pub fn new(alloc: Global, mail: &'m Mail<'a>) -> Looked<'m, 'a>
         ensures { result ≡ mail.now }
     {
         Looked {

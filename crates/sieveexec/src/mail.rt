@@ -98,14 +98,14 @@ impl<'a> Mail<'a> {
     /// The raw values of the fields that have this name in lower case; none where no field has it.
     ///
     /// No pass over the fields: log n comparisons of names where the fields have n names.
-    pub fn raws(&self, key: &Octets) -> Option<&Raws<'a>>
+    pub(crate) fn raws(&self, key: &Octets) -> Option<&Raws<'a>>
         ensures { unwrap_or (option_copied result) [] ≡ raws_keyed self.now.fields key.now }
     {
         self.index.get(key)
     }
 
     /// Whether some field has this name in lower case.
-    pub fn has(&self, key: &Octets) -> bool
+    pub(crate) fn has(&self, key: &Octets) -> bool
         ensures { result ≡ is_some_there (raws_keyed self.now.fields key.now) }
     {
         match self.raws(key) {
@@ -115,7 +115,7 @@ impl<'a> Mail<'a> {
     }
 
     /// Whether fields of all these names are there (RFC 5228, 5.5).
-    pub fn all_exist(&self, alloc: Global, names: &[Octets]) -> Result<bool, AllocError>
+    pub(crate) fn all_exist(&self, alloc: Global, names: &[Octets]) -> Result<bool, AllocError>
         ensures { IfOk result (λ there. there ≡ all_exist self.now names.now) }
     {
         for name in names {
@@ -127,7 +127,7 @@ impl<'a> Mail<'a> {
     }
 
     /// Whether the size is over or under a limit (RFC 5228, 5.9).
-    pub fn is_beyond(&self, size: Size) -> bool
+    pub(crate) fn is_beyond(&self, size: Size) -> bool
         ensures { result ≡ is_beyond size.bound self.now.size size.limit }
     {
         match size.bound {

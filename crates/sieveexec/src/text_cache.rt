@@ -21,12 +21,12 @@ use std::marker::Model;
 
 /// The texts of the fields of a mail that some test asked for. Contracts see the mail.
 #[derive(Drop)]
-pub struct TextCache<'a> {
-    mail: &'a Mail<'a>,
+pub struct TextCache<'m, 'a> {
+    mail: &'m Mail<'a>,
     known: BTreeMap<Octets, Texts>,
 }
 
-impl<'a> Model for TextCache<'a> {
+impl<'m, 'a> Model for TextCache<'m, 'a> {
     ghost use Rattle.sieveexec.specs.Mails.{MailSpec, texts_keyed};
     ghost use Rattle.sieveexec.specs.Indexes.{AreKnown};
 
@@ -37,9 +37,9 @@ impl<'a> Model for TextCache<'a> {
     ghost invariant = { λ cache. AreKnown (texts_keyed cache.mail.now) cache.known };
 }
 
-impl<'a> TextCache<'a> {
+impl<'m, 'a> TextCache<'m, 'a> {
     /// No test asked for anything yet. Takes no memory.
-    pub fn new(alloc: Global, mail: &'a Mail<'a>) -> TextCache<'a>
+    pub fn new(alloc: Global, mail: &'m Mail<'a>) -> TextCache<'m, 'a>
         ensures { result ≡ mail.now }
     {
         TextCache {
