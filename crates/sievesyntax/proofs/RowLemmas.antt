@@ -2,9 +2,9 @@
 use Rattle.std.proofs.Common.{◌≡◌, ℕ, List, ap, ◌∙◌, subst}
 use Rattle.sievesyntax.specs.declared.lexeme.Word.{Word}
 use Rattle.sievesyntax.specs.declared.lexeme.Word.TheVariants as W
-use Rattle.sievesyntax.specs.declared.tree.Size.{Size}
-use Rattle.sievesyntax.specs.declared.tree.Check.TheVariants as C
-use Rattle.sievesyntax.specs.declared.tree.Action.TheVariants as D
+use Rattle.sievesyntax.specs.declared.checks.Size.{Size}
+use Rattle.sievesyntax.specs.declared.checks.Check.TheVariants as C
+use Rattle.sievesyntax.specs.declared.action.Action.TheVariants as D
 use Rattle.sievesyntax.specs.declared.argument.Argument.{Argument}
 use Rattle.sievesyntax.specs.declared.granted.Granted.{Granted}
 use Rattle.sievesyntax.specs.Tree.{TestTree, looks, CommandTree, act}

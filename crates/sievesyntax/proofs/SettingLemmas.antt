@@ -4,7 +4,7 @@ use Rattle.std.proofs.Common.{drop, get_or}
 use Rattle.std.proofs.Math.Seq.{drop-cons}
 use Rattle.octets.proofs.Lists.{some_pair}
 use Rattle.sievesyntax.specs.declared.lexeme.Tag.TheVariants as T
-use Rattle.sievesyntax.specs.declared.tree.Bound.TheVariants as B
+use Rattle.sievesyntax.specs.declared.checks.Bound.TheVariants as B
 use Rattle.sievesyntax.specs.declared.argument.Argument.{Argument}
 use Rattle.sievesyntax.specs.declared.argument.Argument.TheVariants as A
 use Rattle.sievesyntax.specs.declared.setting.Setting.{Setting}

@@ -1,13 +1,29 @@
 -- The view, case by case.
 use Rattle.std.proofs.Common.{◌≡◌, ◌∙◌, ap, ℕ, List, [], ◌∷◌, ◌++◌, map, rules, Vec, Global}
 use Rattle.std.proofs.lemmas.List.{map-append}
-use Rattle.sievesyntax.specs.declared.tree.Action.{Action}
+use Rattle.sievesyntax.specs.declared.action.Action.{Action}
+use Rattle.sievesyntax.specs.declared.checks.Check.{Check}
 use Rattle.sievesyntax.specs.declared.tree.Test.{Test}
-use Rattle.sievesyntax.specs.declared.tree.Test.TheVariants.{True}
+use Rattle.sievesyntax.specs.declared.tree.Test as Test
 use Rattle.sievesyntax.specs.declared.tree.Branch.{Branch, roll-Branch}
 use Rattle.sievesyntax.specs.declared.tree.Command.{Command, Require, If, Stop, Act, the_lemmas}
-use Rattle.sievesyntax.specs.Tree.{require, choose, stop, act, yes}
-use Rattle.sievesyntax.specs.View.{test_view, branch_view, command_view, commands_view, branches_view}
+use Rattle.sievesyntax.specs.Tree.{require, choose, stop, act, yes, no, looks, not_of, all_of, any_of}
+use Rattle.sievesyntax.specs.View.{test_view, tests_view, branch_view, command_view, commands_view, branches_view}
+
+pub view-True : test_view Test.True ≡ yes
+view-True = search (rules, Test.the_lemmas)
+
+pub view-False : test_view Test.False ≡ no
+view-False = search (rules, Test.the_lemmas)
+
+pub view-Check : (check : Check) → test_view (Test.Check check) ≡ looks check
+view-Check check = search (rules, Test.the_lemmas)
+
+pub view-AllOf : (inner : Vec Test Global) → test_view (Test.AllOf inner) ≡ all_of (tests_view inner.items)
+view-AllOf inner = search (rules, Test.the_lemmas)
+
+pub view-AnyOf : (inner : Vec Test Global) → test_view (Test.AnyOf inner) ≡ any_of (tests_view inner.items)
+view-AnyOf inner = search (rules, Test.the_lemmas)
 
 pub view-Require : (names : List (List ℕ)) → command_view (Require names) ≡ require names
 view-Require names = search (rules, the_lemmas)
@@ -29,5 +45,5 @@ pub push-branch : (old new : List Branch) (one : Branch) → new ≡ old ++ one 
 push-branch old new one same = ap (map branch_view) same ∙ map-append branch_view old (one ∷ [])
 
 -- an `else` more
-pub push-else : (old new : List Branch) (block : Vec Command Global) → new ≡ old ++ roll-Branch (record { test = True; block = block }) ∷ [] → map branch_view new ≡ map branch_view old ++ (yes, commands_view block.items) ∷ []
-push-else old new block same = push-branch old new (roll-Branch (record { test = True; block = block })) same ∙ ap (λ b. map branch_view old ++ b ∷ []) (view-Branch True block)
+pub push-else : (old new : List Branch) (block : Vec Command Global) → new ≡ old ++ roll-Branch (record { test = Test.True; block = block }) ∷ [] → map branch_view new ≡ map branch_view old ++ (yes, commands_view block.items) ∷ []
+push-else old new block same = push-branch old new (roll-Branch (record { test = Test.True; block = block })) same ∙ ap (λ b. map branch_view old ++ b ∷ []) (view-Branch Test.True block ∙ ap (λ t. (t, commands_view block.items)) view-True)

@@ -5,6 +5,7 @@ pub mod Parsing
 pub mod Reading
 pub mod Rows
 pub mod Settings
+pub mod SoFar
 pub mod Tree
 pub mod Valid
 pub mod View

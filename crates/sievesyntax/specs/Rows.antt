@@ -2,10 +2,10 @@
 use Rattle.std.specs.Prelude.{◌≡◌, ℕ, List, [], ◌∷◌, Option, Some, None, option_map}
 use Rattle.sievesyntax.specs.declared.lexeme.Word.{Word}
 use Rattle.sievesyntax.specs.declared.lexeme.Word.TheVariants as W
-use Rattle.sievesyntax.specs.declared.tree.Bound.{Bound}
-use Rattle.sievesyntax.specs.declared.tree.Size.{Size}
-use Rattle.sievesyntax.specs.declared.tree.Check.TheVariants as C
-use Rattle.sievesyntax.specs.declared.tree.Action.TheVariants as D
+use Rattle.sievesyntax.specs.declared.checks.Bound.{Bound}
+use Rattle.sievesyntax.specs.declared.checks.Size.{Size}
+use Rattle.sievesyntax.specs.declared.checks.Check.TheVariants as C
+use Rattle.sievesyntax.specs.declared.action.Action.TheVariants as D
 use Rattle.sievesyntax.specs.declared.argument.Argument.{Argument}
 use Rattle.sievesyntax.specs.declared.argument.Argument.TheVariants as A
 use Rattle.sievesyntax.specs.declared.setting.Setting.{Setting}

@@ -2,8 +2,8 @@
 use Rattle.std.specs.Prelude.{◌≡◌, ◌⊎◌, List, [], ◌∷◌, map}
 use Rattle.sievesyntax.specs.declared.lexeme.Tag.{Tag}
 use Rattle.sievesyntax.specs.declared.lexeme.Tag.TheVariants as T
-use Rattle.sievesyntax.specs.declared.tree.Bound.{Bound}
-use Rattle.sievesyntax.specs.declared.tree.Bound.TheVariants as B
+use Rattle.sievesyntax.specs.declared.checks.Bound.{Bound}
+use Rattle.sievesyntax.specs.declared.checks.Bound.TheVariants as B
 use Rattle.sievesyntax.specs.declared.argument.Argument.{Argument}
 use Rattle.sievesyntax.specs.declared.argument.Argument.TheVariants as A
 use Rattle.sievesyntax.specs.declared.setting.Setting.{Setting}

@@ -1,13 +1,21 @@
 -- The tree of a script, as contracts see it: the cases of `Command` and `Test` without pointers.
 use Rattle.std.specs.Prelude.{ℕ, suc, max, List}
-use Rattle.sievesyntax.specs.declared.tree.Action.{Action}
-use Rattle.sievesyntax.specs.declared.tree.Check.{Check}
+use Rattle.sievesyntax.specs.declared.action.Action.{Action}
+use Rattle.sievesyntax.specs.declared.checks.Check.{Check}
 
--- a test (RFC 5228, 5)
-pub data TestTree : Type 0 where
-  yes : TestTree
-  no : TestTree
-  looks : Check → TestTree
+-- a test (RFC 5228, 5), and tests in a row
+mutual
+  pub data TestTree : Type 0 where
+    yes : TestTree
+    no : TestTree
+    looks : Check → TestTree
+    not_of : TestTree → TestTree
+    all_of : Tests → TestTree
+    any_of : Tests → TestTree
+
+  pub data Tests : Type 0 where
+    no_tests : Tests
+    test : TestTree → Tests → Tests
 
 -- commands, and the branches of an `if` (RFC 5228, 2.9, 3.1)
 mutual
@@ -35,8 +43,36 @@ abbrev mutual
 
   pub branches_depth : Branches → ℕ
   branches_depth no_branches = 0
-  branches_depth (branch test block more) = max (depth block) (branches_depth more)
+  branches_depth (branch condition block more) = max (depth block) (branches_depth more)
 
   pub depth : Commands → ℕ
   depth no_commands = 0
   depth (command first more) = max (depth_of first) (depth more)
+
+-- how many test lists enclose a test within this test, at most
+abbrev mutual
+  pub list_depth : TestTree → ℕ
+  list_depth yes = 0
+  list_depth no = 0
+  list_depth (looks check) = 0
+  list_depth (not_of inner) = list_depth inner
+  list_depth (all_of inner) = suc (lists_depth inner)
+  list_depth (any_of inner) = suc (lists_depth inner)
+
+  pub lists_depth : Tests → ℕ
+  lists_depth no_tests = 0
+  lists_depth (test first more) = max (list_depth first) (lists_depth more)
+
+-- how many `not`s enclose a test within this test, at most
+abbrev mutual
+  pub not_depth : TestTree → ℕ
+  not_depth yes = 0
+  not_depth no = 0
+  not_depth (looks check) = 0
+  not_depth (not_of inner) = suc (not_depth inner)
+  not_depth (all_of inner) = nots_depth inner
+  not_depth (any_of inner) = nots_depth inner
+
+  pub nots_depth : Tests → ℕ
+  nots_depth no_tests = 0
+  nots_depth (test first more) = max (not_depth first) (nots_depth more)

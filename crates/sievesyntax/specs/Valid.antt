@@ -2,8 +2,8 @@
 use Rattle.std.specs.Prelude.{◌≡◌, ◌≢◌, ◌≤◌, ℕ, true, List, [], ◌++◌, codes, length, All, nat_eq}
 use Rattle.std.specs.List.{list_any}
 use Rattle.std.specs.Cmp.Lexicographic.{pointwise}
-use Rattle.sievesyntax.specs.declared.tree.Action.{Action}
-use Rattle.sievesyntax.specs.declared.tree.Action.TheVariants.{Keep, Discard, FileInto}
+use Rattle.sievesyntax.specs.declared.action.Action.{Action}
+use Rattle.sievesyntax.specs.declared.action.Action.TheVariants.{Keep, Discard, FileInto, Redirect, Vacation}
 use Rattle.sievesyntax.specs.declared.granted.Granted.{Granted}
 use Rattle.sievesyntax.specs.Tree.{CommandTree, require, choose, stop, act, Branches, no_branches, branch, Commands, no_commands, command, depth}
 
@@ -26,6 +26,8 @@ abbrev pub MayAct : Granted → Action → Type 0
 MayAct granted Keep = Unit {0}
 MayAct granted Discard = Unit {0}
 MayAct granted (FileInto mailbox) = (granted.fileinto ≡ true) × IsMailbox mailbox
+MayAct granted (Redirect target) = Unit {0}
+MayAct granted (Vacation args) = Unit {0}
 
 -- commands that may stand behind the last `require`, where this is granted
 abbrev mutual

@@ -1,18 +1,34 @@
 -- The tree that the Rust values of a script stand for.
 use Rattle.std.specs.Prelude.{List, [], ◌∷◌, map}
-use Rattle.sievesyntax.specs.declared.tree.Test.{Test}
-use Rattle.sievesyntax.specs.declared.tree.Test.TheVariants.{True, False, Check}
+use Rattle.sievesyntax.specs.declared.tree.Test.{Test, fold-Test}
+use Rattle.sievesyntax.specs.declared.tree.Test.TheOpen.{Test-F}
 use Rattle.sievesyntax.specs.declared.tree.Branch.{Branch, fold-Branch}
 use Rattle.sievesyntax.specs.declared.tree.Command.{Command, fold-Command}
 use Rattle.sievesyntax.specs.declared.tree.Command.TheOpen.{Command-F, Branch-F}
 use Rattle.sievesyntax.specs.declared.script.Script.{Script}
-use Rattle.sievesyntax.specs.Tree.{TestTree, yes, no, looks, CommandTree, require, choose, stop, act, Branches, no_branches, branch, Commands, no_commands, command}
+use Rattle.sievesyntax.specs.Tree.{TestTree, yes, no, looks, not_of, all_of, any_of, Tests, no_tests, test, CommandTree, require, choose, stop, act, Branches, no_branches, branch, Commands, no_commands, command}
+
+-- tests in a row
+abbrev pub tests_of : List TestTree → Tests
+tests_of [] = no_tests
+tests_of (first ∷ more) = test first (tests_of more)
+
+-- one level, with each test inside already seen as its tree
+abbrev pub test_step : Test-F TestTree → TestTree
+test_step Test-F.True = yes
+test_step Test-F.False = no
+test_step (Test-F.Check check) = looks check
+test_step (Test-F.Not inner) = not_of inner.value
+test_step (Test-F.AllOf inner) = all_of (tests_of inner.items)
+test_step (Test-F.AnyOf inner) = any_of (tests_of inner.items)
 
 -- the tree of a test
 abbrev pub test_view : Test → TestTree
-test_view True = yes
-test_view False = no
-test_view (Check check) = looks check
+test_view = fold-Test TestTree test_step
+
+-- the tree of tests in a row
+abbrev pub tests_view : List Test → Tests
+tests_view row = tests_of (map test_view row)
 
 -- commands in a row
 abbrev pub commands_of : List CommandTree → Commands

@@ -1,7 +1,10 @@
 //! The commands of a Sieve script, and what they mean (RFC 5228, 8.2).
 #![tactic(auto)]
 
+mod action;
+mod addr_list;
 mod argument;
+mod checks;
 mod granted;
 mod lexeme;
 mod opening;
@@ -12,10 +15,18 @@ mod row;
 mod script;
 mod setting;
 mod tree;
+mod vacation;
 
+pub use action::Action;
+pub use addr_list::Addrs;
+pub use checks::{
+    Address, AddressPart, Bound, Check, Collation, EnvelopeParts, EnvelopeTest, Header, Matching,
+    Size,
+};
 pub use script::{Script, check};
 pub use sievelex::{FaultKind, ScriptError, ScriptFault};
-pub use tree::{Action, Bound, Branch, Check, Command, Size, Test};
+pub use tree::{Branch, Command, Test};
+pub use vacation::{ReplyFrom, VacArgs};
 
 #[cfg(test)]
 mod tests;

@@ -6,12 +6,14 @@ ghost use Rattle.sievesyntax.specs.View.{test_view, command_view};
 ghost use Rattle.sievesyntax.specs.Rows.{bound_in, size_of, one_number, one_text, one_list, IsSize, IsFileInto, IsRequire, IsPlainTest, IsPlainCommand};
 ghost use Rattle.sievesyntax.specs.Valid.{IsMailbox, MayStand};
 
+use crate::action::Action;
 use crate::argument::Argument;
+use crate::checks::{Bound, Check, Size};
 use crate::granted::Granted;
 use crate::lexeme::Word;
 use crate::refusal::ReadError;
 use crate::setting::{Setting, Slot, arranged};
-use crate::tree::{Action, Bound, Check, Command, Size, Test};
+use crate::tree::{Command, Test};
 use octets::{Octets, Texts};
 use sievelex::FaultKind;
 use std::alloc::Global;

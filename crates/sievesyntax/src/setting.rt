@@ -5,9 +5,9 @@ ghost use Rattle.sievesyntax.specs.Parsing.{IfFault};
 ghost use Rattle.sievesyntax.specs.Settings.{IsSetting, slot_of, Among, IsAllowed, IsPlain, IsArranged};
 
 use crate::argument::Argument;
+use crate::checks::Bound;
 use crate::lexeme::Tag;
 use crate::refusal::ReadError;
-use crate::tree::Bound;
 use sievelex::FaultKind;
 use std::alloc::Global;
 

@@ -1,5 +1,7 @@
 //! The tree of a script: its commands and their tests (RFC 5228, 8.2).
-use octets::{Octets, Texts};
+use crate::action::Action;
+use crate::checks::Check;
+use octets::Texts;
 
 /// A command (RFC 5228, 2.9).
 #[cycle(command)]
@@ -26,49 +28,20 @@ pub struct Branch {
     pub block: Vec<Command>,
 }
 
-/// What a script does with the message (RFC 5228, 4).
-#[derive(Debug, Drop)]
-pub enum Action {
-    /// `keep`: file into `INBOX` (RFC 5228, 4.3).
-    Keep,
-    /// `discard`: cancel the implicit keep (RFC 5228, 4.4).
-    Discard,
-    /// `fileinto`, with the mailbox as it was written: 1 to 255 octets, none below 32 and none 127 (RFC 5228, 4.1).
-    FileInto(Octets),
-}
-
 /// A test (RFC 5228, 5).
-#[derive(Debug, Drop)]
+#[cycle(test)]
+#[derive(Drop)]
 pub enum Test {
     /// `true` (RFC 5228, 5.10).
     True,
     /// `false` (RFC 5228, 5.6).
     False,
-    /// A test that looks at the message.
+    /// A test that looks at the message or its envelope.
     Check(Check),
-}
-
-/// A test that looks at the message.
-#[derive(Debug, Drop)]
-pub enum Check {
-    /// `size` (RFC 5228, 5.9).
-    Size(Size),
-}
-
-/// The arguments of `size`: how the message's size has to stand to the limit, in octets.
-#[derive(Clone, Copy, Debug, PartialEq, Eq)]
-pub struct Size {
-    /// Over or under.
-    pub bound: Bound,
-    /// The limit, in octets.
-    pub limit: u64,
-}
-
-/// A side of a limit. A size that is the limit is neither over nor under it.
-#[derive(Clone, Copy, Debug, PartialEq, Eq)]
-pub enum Bound {
-    /// `:over`: strictly more.
-    Over,
-    /// `:under`: strictly less.
-    Under,
+    /// `not`: holds where this test doesn't (RFC 5228, 5.8).
+    Not(Box<Test>),
+    /// `allof`: holds where each of these tests does (RFC 5228, 5.2).
+    AllOf(Vec<Test>),
+    /// `anyof`: holds where some of these tests does (RFC 5228, 5.3).
+    AnyOf(Vec<Test>),
 }

@@ -1,6 +1,7 @@
 use Rattle.std.proofs.lemmas.Result.{err_from_is_err_and}
 use Rattle.sievesyntax.proofs.FaultLemmas.{fault_on}
 use Rattle.sievesyntax.proofs.RowLemmas.{size_none, size_only}
+use Rattle.sievesyntax.proofs.ViewLemmas.{view-Check}
 use Rattle.sievesyntax.proofs.row.plain_test.Goals as goal
 
 pub returns-in_err-read_size-in-Size-clause-fault : goal.returns-in_err-read_size-in-Size-clause-fault
@@ -10,4 +11,4 @@ returns-in_err-read_size-in-Size-clause-fault c =
     rw (p.1, p.2) (fault_on _ _ _ (size_none _ _ c.in-Size.is) h)
 
 pub returns-in_ok-read_size-in-Size-clause-only : goal.returns-in_ok-read_size-in-Size-clause-only
-returns-in_ok-read_size-in-Size-clause-only c = let h = c.in_ok-read_size-in-Size.ensures in size_only _ _ c.in-Size.is _ h.1
+returns-in_ok-read_size-in-Size-clause-only c = let h = c.in_ok-read_size-in-Size.ensures in rw view-Check (size_only _ _ c.in-Size.is _ h.1)

@@ -1,0 +1,118 @@
+//! The tests that look at a message or its envelope (RFC 5228, 5).
+use octets::Texts;
+
+/// A test that looks at the message or its envelope.
+#[derive(Drop)]
+pub enum Check {
+    /// `size` (RFC 5228, 5.9).
+    Size(Size),
+    /// `exists`, with the names of the fields that have to be there, each of them (RFC 5228, 5.5).
+    Exists(Texts),
+    /// `header` (RFC 5228, 5.7).
+    Header(Header),
+    /// `address` (RFC 5228, 5.1).
+    Address(Address),
+    /// `envelope` (RFC 5228, 5.4).
+    Envelope(EnvelopeTest),
+}
+
+/// The arguments of `size`: how the message's size has to stand to the limit, in octets.
+#[derive(Clone, Copy, Debug, PartialEq, Eq)]
+pub struct Size {
+    /// Over or under.
+    pub bound: Bound,
+    /// The limit, in octets.
+    pub limit: u64,
+}
+
+/// The arguments of `header`: some value of one of the fields has to match one of the keys.
+#[derive(Drop)]
+pub struct Header {
+    /// How octets are compared.
+    pub comparator: Collation,
+    /// How a value has to match a key.
+    pub matching: Matching,
+    /// The names of the fields, as they were written.
+    pub fields: Texts,
+    /// The keys.
+    pub keys: Texts,
+}
+
+/// The arguments of `address`: a part of some address in one of the fields has to match one of the keys.
+#[derive(Drop)]
+pub struct Address {
+    /// How octets are compared.
+    pub comparator: Collation,
+    /// The part of the address.
+    pub part: AddressPart,
+    /// How the part has to match a key.
+    pub matching: Matching,
+    /// The names of the fields, as they were written.
+    pub fields: Texts,
+    /// The keys.
+    pub keys: Texts,
+}
+
+/// The arguments of `envelope`: a part of one of the envelope's addresses has to match one of the keys.
+#[derive(Drop)]
+pub struct EnvelopeTest {
+    /// How octets are compared.
+    pub comparator: Collation,
+    /// The part of the address.
+    pub part: AddressPart,
+    /// How the part has to match a key.
+    pub matching: Matching,
+    /// The addresses that are looked at.
+    pub parts: EnvelopeParts,
+    /// The keys.
+    pub keys: Texts,
+}
+
+/// Which addresses of the envelope a test names.
+#[derive(Clone, Copy, Debug, PartialEq, Eq)]
+pub struct EnvelopeParts {
+    /// The sender.
+    pub from: bool,
+    /// The recipient.
+    pub to: bool,
+}
+
+/// A side of a limit. A size that is the limit is neither over nor under it.
+#[derive(Clone, Copy, Debug, PartialEq, Eq)]
+pub enum Bound {
+    /// `:over`: strictly more.
+    Over,
+    /// `:under`: strictly less.
+    Under,
+}
+
+/// A comparator (RFC 4790).
+#[derive(Clone, Copy, Debug, PartialEq, Eq)]
+pub enum Collation {
+    /// `i;octet`: octets are equal where they are the same (RFC 4790, 9.3).
+    Octet,
+    /// `i;ascii-casemap`: the same, without ASCII case (RFC 4790, 9.2).
+    AsciiCasemap,
+}
+
+/// How a value has to match a key (RFC 5228, 2.7.1).
+#[derive(Clone, Copy, Debug, PartialEq, Eq)]
+pub enum Matching {
+    /// `:is`: the value is the key.
+    Is,
+    /// `:contains`: the key stands in the value.
+    Contains,
+    /// `:matches`: the key is a pattern, with `*` and `?`.
+    Matches,
+}
+
+/// A part of an address (RFC 5228, 2.7.4).
+#[derive(Clone, Copy, Debug, PartialEq, Eq)]
+pub enum AddressPart {
+    /// `:all`.
+    All,
+    /// `:localpart`.
+    LocalPart,
+    /// `:domain`.
+    Domain,
+}

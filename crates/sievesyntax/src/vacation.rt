@@ -1,0 +1,35 @@
+//! The arguments of `vacation` (RFC 5230).
+use crate::addr_list::Addrs;
+use addrparts::Addr;
+use octets::Octets;
+
+/// The arguments of `vacation`, as they were written (RFC 5230, 4). A tag that isn't there is none.
+#[derive(Drop)]
+pub struct VacArgs {
+    /// `:days`: for how many days the same sender gets no second answer, in any range (RFC 5230, 4.1).
+    pub days: Option<u64>,
+    /// `:subject` (RFC 5230, 4.3).
+    pub subject: Option<Octets>,
+    /// `:from` (RFC 5230, 4.3).
+    pub from: Option<ReplyFrom>,
+    /// `:addresses`: the addresses of the user besides those known already (RFC 5230, 4.4), in order. A text that
+    /// is no address has none here.
+    pub addresses: Addrs,
+    /// `:mime`: the reason is a MIME entity, a header and a body (RFC 5230, 4.5).
+    pub mime: bool,
+    /// `:handle`: the name of the answer, under which it is known whether the sender has got it (RFC 5230, 4.6).
+    pub handle: Option<Octets>,
+    /// The reason: what is answered.
+    pub reason: Octets,
+}
+
+/// The value of `:from`.
+#[derive(Drop)]
+pub struct ReplyFrom {
+    /// The text as it was written.
+    pub text: Octets,
+    /// Its display: the words before an address in angle brackets, or nothing.
+    pub display: Octets,
+    /// Its address.
+    pub address: Addr,
+}
