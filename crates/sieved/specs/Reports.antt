@@ -1,13 +1,12 @@
 -- What the program prints of an outcome or of a fault of the script.
-use Rattle.std.specs.Prelude.{ℕ, List, [], ◌∷◌, ◌++◌, codes, map, decimal, Option, Some, None}
+use Rattle.std.specs.Prelude.{ℕ, List, [], ◌∷◌, ◌++◌, codes, map, decimal, Bool, true, false, is_some}
 use Rattle.std.specs.List.{flat_map}
 use Rattle.sievelex.specs.declared.fault.FaultKind.{FaultKind}
 use Rattle.sievelex.specs.Faults.{text_of}
 use Rattle.addrparts.specs.declared.address.Addr.{Addr}
 use Rattle.addrparts.specs.Spelling.{spelling}
-use Rattle.sievesyntax.specs.declared.vacation.VacArgs.{VacArgs}
 use Rattle.sievesyntax.specs.Meaning.{Outcome, Done, Failed}
-use Rattle.sieveexec.specs.Notices.{notice_of}
+use Rattle.mailengine.specs.Notices.{notice_of}
 
 -- a line with its end
 abbrev pub with_end : List ℕ → List ℕ
@@ -22,13 +21,17 @@ abbrev pub send_line : Addr → List ℕ
 send_line target = codes "send " ++ spelling target
 
 -- the line that tells of an answer to the sender
-abbrev pub reply_lines : Option VacArgs → List (List ℕ)
-reply_lines None = []
-reply_lines (Some args) = codes "vacation wanted" ∷ []
+abbrev pub reply_lines : Bool → List (List ℕ)
+reply_lines true = codes "vacation wanted" ∷ []
+reply_lines false = []
 
--- the lines on what is done, in order; on a failure one line, which tells of it
+-- the lines on mailboxes, addresses and an answer, in this order
+abbrev pub lines_of : List (List ℕ) → List Addr → Bool → List (List ℕ)
+lines_of filed sent answers = map file_line filed ++ (map send_line sent ++ reply_lines answers)
+
+-- the lines on what is done; on a failure one line, which tells of it
 abbrev pub deed_lines : Outcome → List (List ℕ)
-deed_lines (Done deeds) = map file_line deeds.filed ++ (map send_line deeds.sent ++ reply_lines deeds.reply)
+deed_lines (Done deeds) = lines_of deeds.filed deeds.sent (is_some deeds.reply)
 deed_lines (Failed failure) = (codes "failed: " ++ notice_of failure) ∷ []
 
 -- `discard` stands where no other line does
