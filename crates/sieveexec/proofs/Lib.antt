@@ -6,3 +6,5 @@ pub mod IndexLemmas
 pub mod ShownLemmas
 pub mod NameLemmas
 mod Examples
+pub mod MachineLemmas
+pub mod MailboxLemmas

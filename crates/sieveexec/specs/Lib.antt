@@ -5,3 +5,6 @@ pub mod Holding
 pub mod Truth
 pub mod Indexes
 pub mod Shown
+pub mod Outcomes
+pub mod Mailboxes
+pub mod Runs

@@ -1,0 +1,4 @@
+pub mod LayoutLemmas
+pub mod Runs
+pub mod Forward
+pub mod Sizes

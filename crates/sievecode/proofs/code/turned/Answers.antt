@@ -1,0 +1,15 @@
+use Rattle.std.proofs.Common.{length, reverse, rules}
+use Rattle.std.proofs.lemmas.Iterator.{YieldsList-from_map_by}
+use Rattle.std.proofs.lemmas.Iterator.Adapters.{YieldsList-from_rev_slice}
+use Rattle.std.proofs.lemmas.Iterator.Consumers.{map_from_collect, YieldsList-at}
+use Rattle.std.proofs.lemmas.Simd.{map-map}
+use Rattle.sievecode.specs.Instructions.{instr_view}
+use Rattle.sievecode.specs.Layout.{forward}
+use Rattle.sievecode.proofs.LayoutLemmas.{length-seen}
+use Rattle.sievecode.proofs.code.turned.Goals as goal
+
+pub returns : goal.returns
+returns c =
+    let rows = c.args.rows.now in
+    rw (length-seen rows, map-map (forward (length rows)) instr_view (reverse rows))
+    (map_from_collect _ c.collect.ensures.ran (YieldsList-from_map_by _ instr_view (λ row. forward (length rows) (instr_view row)) (YieldsList-at c.map.ensures.source (YieldsList-from_rev_slice rows (cc))) c.map.ensures.closure (λ x r q k. search rules)))

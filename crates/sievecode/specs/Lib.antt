@@ -1,0 +1,4 @@
+pub mod Instructions
+pub mod Jumps
+pub mod Layout
+pub mod Size

@@ -1,0 +1,71 @@
+//! Compiled scripts.
+ghost use Rattle.std.specs.Prelude.{◌≡◌, ◌≤◌, ◌*◌, length, map, IfOk};
+ghost use Rattle.sievesyntax.specs.View.{script_tree};
+ghost use Rattle.sievecode.specs.Instructions.{instr_view, seen};
+ghost use Rattle.sievecode.specs.Jumps.{Stands};
+ghost use Rattle.sievecode.specs.Layout.{turned as turned_of};
+ghost use Rattle.sievecode.specs.Size.{size};
+
+use crate::emit::emit_commands;
+use crate::instr::Instr;
+use sievesyntax::Script;
+use std::alloc::{AllocError, Global};
+use std::marker::Model;
+
+/// Flat code. It borrows the tests and the actions of the script that it was compiled from. Each jump leads to a
+/// place behind its own, or to the end of the code: so a run takes no more turns than the code has instructions.
+#[derive(Drop)]
+pub struct Code<'a> {
+    instrs: Vec<Instr<'a>>,
+}
+
+impl<'a> Model for Code<'a> {
+    ghost use Rattle.std.specs.Prelude.{List, map};
+    ghost use Rattle.sievecode.specs.Instructions.{Instruction, instr_view};
+    ghost use Rattle.sievecode.specs.Jumps.{IsForward};
+
+    ghost Value = { List Instruction };
+
+    ghost view = { λ code. map instr_view code.instrs.items };
+
+    ghost invariant = { λ code. IsForward (map instr_view code.instrs.items) };
+}
+
+impl<'a> Code<'a> {
+    ghost use Rattle.sievecode.specs.Jumps.{IsForward};
+
+    /// The instructions, in order.
+    pub fn instrs(&self) -> &[Instr<'a>]
+        ensures instrs { map instr_view result.now ≡ self.now }
+        ensures forward { IsForward self.now }
+    {
+        self.instrs.as_slice()
+    }
+}
+
+/// Compiles a script. The code does what the script's tree does, whichever tests hold (RFC 5228, 2.10, 3 and 5).
+///
+/// Time and memory are linear in the number of commands, branches and tests: the code has at most two
+/// instructions for each. The stack that it takes is bounded by the script's depth.
+///
+/// # Errors
+///
+/// [`AllocError`] where memory was refused.
+pub fn compile<'a>(alloc: Global, script: &'a Script) -> Result<Code<'a>, AllocError>
+    ensures stands { IfOk result (λ code. Stands code (script_tree script.now)) }
+    ensures short { IfOk result (λ code. length code ≤ 2 * size (script_tree script.now)) }
+{
+    let mut rows = Vec::new(alloc);
+    emit_commands(&mut rows, script.commands())?;
+    Ok(Code {
+        instrs: turned(alloc, rows.as_slice())?,
+    })
+}
+
+/// Instructions that were written from the last to the first: in order, and with the places where jumps lead.
+fn turned<'a>(alloc: Global, rows: &[Instr<'a>]) -> Result<Vec<Instr<'a>>, AllocError>
+    ensures { IfOk result (λ code. map instr_view code.items ≡ turned_of (seen rows.now)) }
+{
+    let len = rows.len();
+    rows.iter().rev().map(|row| row.forward(len)).collect(alloc)
+}

@@ -1,0 +1,108 @@
+//! Code is written from its last instruction to its first: so the place where a jump leads is known when the
+//! jump is written. Until the code is turned round, a target is the number of instructions from it to the end.
+ghost use Rattle.std.specs.Prelude.{◌≡◌, ◌∷◌, OnOk};
+ghost use Rattle.sievesyntax.specs.View.{test_view, tests_view, command_view, commands_view, branches_view};
+ghost use Rattle.sievesyntax.specs.Tree.{all_of, any_of, choose};
+ghost use Rattle.sievecode.specs.Instructions.{seen, instr_view};
+ghost use Rattle.sievecode.specs.Layout.{test_code, command_code, commands_code};
+
+use crate::instr::Instr;
+use sievesyntax::{Branch, Command, Test};
+use std::alloc::{AllocError, Global};
+
+/// One instruction in front.
+fn put<'a>(rows: &mut Vec<Instr<'a>>, instr: Instr<'a>) -> Result<(), AllocError>
+    ensures { OnOk result (seen rows.new.items ≡ instr_view instr.entry ∷ seen rows.old.items) }
+{
+    rows.push(instr)?;
+    Ok(())
+}
+
+/// The code of a test in front: it sets the flag to whether the test holds.
+#[cycle(tests)]
+fn emit_test<'a>(rows: &mut Vec<Instr<'a>>, test: &'a Test) -> Result<(), AllocError>
+    ensures { OnOk result (seen rows.new.items ≡ test_code (test_view test.now) (seen rows.old.items)) }
+{
+    match test {
+        Test::True => put(rows, Instr::Set(true)),
+        Test::False => put(rows, Instr::Set(false)),
+        Test::Check(check) => put(rows, Instr::Look(check)),
+        Test::Not(inner) => {
+            put(rows, Instr::Flip)?;
+            emit_test(rows, inner)
+        }
+        Test::AllOf(inner) => emit_all(rows, inner.as_slice()),
+        Test::AnyOf(inner) => emit_any(rows, inner.as_slice()),
+    }
+}
+
+/// The code of tests in front that sets the flag to whether each holds.
+#[cycle(tests)]
+fn emit_all<'a>(rows: &mut Vec<Instr<'a>>, tests: &'a [Test]) -> Result<(), AllocError>
+    ensures { OnOk result (seen rows.new.items ≡ test_code (all_of (tests_view tests.now)) (seen rows.old.items)) }
+{
+    let end = rows.len();
+    put(rows, Instr::Set(true))?;
+    for test in tests.iter().rev() {
+        put(rows, Instr::JumpUnless(end))?;
+        emit_test(rows, test)?;
+    }
+    Ok(())
+}
+
+/// The code of tests in front that sets the flag to whether some test holds.
+#[cycle(tests)]
+fn emit_any<'a>(rows: &mut Vec<Instr<'a>>, tests: &'a [Test]) -> Result<(), AllocError>
+    ensures { OnOk result (seen rows.new.items ≡ test_code (any_of (tests_view tests.now)) (seen rows.old.items)) }
+{
+    let end = rows.len();
+    put(rows, Instr::Set(false))?;
+    for test in tests.iter().rev() {
+        put(rows, Instr::JumpIf(end))?;
+        emit_test(rows, test)?;
+    }
+    Ok(())
+}
+
+/// The code of commands in front.
+#[cycle(commands)]
+pub(crate) fn emit_commands<'a>(
+    rows: &mut Vec<Instr<'a>>,
+    commands: &'a [Command],
+) -> Result<(), AllocError>
+    ensures { OnOk result (seen rows.new.items ≡ commands_code (commands_view commands.now) (seen rows.old.items)) }
+{
+    for command in commands.iter().rev() {
+        emit_command(rows, command)?;
+    }
+    Ok(())
+}
+
+/// The code of a command in front.
+#[cycle(commands)]
+fn emit_command<'a>(rows: &mut Vec<Instr<'a>>, command: &'a Command) -> Result<(), AllocError>
+    ensures { OnOk result (seen rows.new.items ≡ command_code (command_view command.now) (seen rows.old.items)) }
+{
+    match command {
+        Command::Require(_) => Ok(()),
+        Command::If(branches) => emit_branches(rows, branches.as_slice()),
+        Command::Stop => put(rows, Instr::Stop),
+        Command::Act(action) => put(rows, Instr::Act(action)),
+    }
+}
+
+/// The code of branches in front: the first block whose test holds is run, and then the jump behind the last.
+#[cycle(commands)]
+fn emit_branches<'a>(rows: &mut Vec<Instr<'a>>, branches: &'a [Branch]) -> Result<(), AllocError>
+    ensures { OnOk result (seen rows.new.items ≡ command_code (choose (branches_view branches.now)) (seen rows.old.items)) }
+{
+    let end = rows.len();
+    for branch in branches.iter().rev() {
+        let next = rows.len();
+        put(rows, Instr::Jump(end))?;
+        emit_commands(rows, branch.block.as_slice())?;
+        put(rows, Instr::JumpUnless(next))?;
+        emit_test(rows, &branch.test)?;
+    }
+    Ok(())
+}

@@ -1,0 +1,13 @@
+//! Flat code of Sieve scripts: tests set a flag, actions are carried out, and jumps lead forward
+//! (RFC 5228, 2.10, 3 and 5).
+//!
+//! [`compile`] makes it of a checked script. Its contract says what it means, for every truth of the tests that
+//! look at the message: so nothing here needs a message.
+#![tactic(auto)]
+
+mod code;
+mod emit;
+mod instr;
+
+pub use code::{Code, compile};
+pub use instr::Instr;

@@ -1,0 +1,64 @@
+//! Copies of the arguments of actions.
+ghost use Rattle.std.specs.Prelude.{◌≡◌, IfOk};
+
+use addrparts::Addr;
+use octets::Octets;
+use sievesyntax::{Addrs, ReplyFrom, VacArgs};
+use std::alloc::{AllocError, Global};
+
+/// The same address.
+pub fn copied_address(alloc: Global, address: &Addr) -> Result<Addr, AllocError>
+    ensures { IfOk result (λ copy. copy ≡ address.now) }
+{
+    Ok(Addr {
+        local: address.local.copied(alloc)?,
+        domain: address.domain.copied(alloc)?,
+    })
+}
+
+/// The same arguments.
+pub fn copied_args(alloc: Global, args: &VacArgs) -> Result<VacArgs, AllocError>
+    ensures { IfOk result (λ copy. copy ≡ args.now) }
+{
+    Ok(VacArgs {
+        days: args.days,
+        subject: copied_text(alloc, &args.subject)?,
+        from: copied_from(alloc, &args.from)?,
+        addresses: copied_addresses(alloc, args.addresses.as_slice())?,
+        mime: args.mime,
+        handle: copied_text(alloc, &args.handle)?,
+        reason: args.reason.copied(alloc)?,
+    })
+}
+
+fn copied_text(alloc: Global, text: &Option<Octets>) -> Result<Option<Octets>, AllocError>
+    ensures { IfOk result (λ copy. copy ≡ text.now) }
+{
+    match text {
+        Some(text) => Ok(Some(text.copied(alloc)?)),
+        None => Ok(None),
+    }
+}
+
+fn copied_from(alloc: Global, from: &Option<ReplyFrom>) -> Result<Option<ReplyFrom>, AllocError>
+    ensures { IfOk result (λ copy. copy ≡ from.now) }
+{
+    match from {
+        Some(from) => Ok(Some(ReplyFrom {
+            text: from.text.copied(alloc)?,
+            display: from.display.copied(alloc)?,
+            address: copied_address(alloc, &from.address)?,
+        })),
+        None => Ok(None),
+    }
+}
+
+fn copied_addresses(alloc: Global, addresses: &[Addr]) -> Result<Addrs, AllocError>
+    ensures { IfOk result (λ copies. copies ≡ addresses.now) }
+{
+    let mut copies = Addrs::new(alloc);
+    for address in addresses {
+        copies.push(copied_address(alloc, address)?)?;
+    }
+    Ok(copies)
+}

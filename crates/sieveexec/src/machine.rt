@@ -1,0 +1,90 @@
+//! The run of flat code.
+ghost use Rattle.std.specs.Prelude.{◌≡◌, ℕ, ◌<◌, ◌+◌, ◌^◌, Option, Some, length, IfOk, OnOk};
+ghost use Rattle.sieveexec.specs.Truth.{truth_at};
+ghost use Rattle.sieveexec.specs.Runs.{so_far_of, outcome_view, after_turn, MovesOn};
+ghost use Rattle.sievecode.specs.Instructions.{instr_view};
+ghost use Rattle.sievecode.specs.Jumps.{LeadsForward, Run, jumps, turn as turn_of};
+
+use crate::looked::Looked;
+use crate::mail::Mail;
+use crate::outcome::{Failure, Outcome};
+use crate::so_far::SoFar;
+use sievecode::{Code, Instr};
+use std::alloc::{AllocError, Global};
+
+/// What comes after a turn.
+pub enum Turn {
+    /// The run goes on at this place.
+    Next(usize),
+    /// The run is over.
+    Stopped,
+    /// The run failed.
+    Failed(Failure),
+}
+
+/// What a run has looked at and done so far, with the flag that tests set.
+#[derive(Drop)]
+pub struct Machine<'m, 'a> {
+    looked: Looked<'m, 'a>,
+    flag: bool,
+    so_far: SoFar,
+}
+
+/// Runs the code of a script on a mail (RFC 5228, 2.10 and 3).
+///
+/// It makes at most as many turns as the code is long. A field's values are looked up and decoded once for each
+/// name, however many tests ask.
+///
+/// # Errors
+///
+/// [`AllocError`] where memory was refused.
+pub fn run(alloc: Global, code: &Code<'_>, mail: &Mail<'_>) -> Result<Outcome, AllocError>
+    ensures { IfOk result (λ done. Some (outcome_view done) ≡ jumps (truth_at mail.now) code.now (length code.now)) }
+{
+    let instrs = code.instrs();
+    let mut machine = Machine {
+        looked: Looked::new(alloc, mail),
+        flag: false,
+        so_far: SoFar::new(alloc),
+    };
+    let mut place = 0;
+    while place < instrs.len() {
+        match machine.turn(alloc, &instrs[place], place)? {
+            Turn::Next(next) => place = next,
+            Turn::Stopped => return machine.so_far.end(alloc),
+            Turn::Failed(failure) => return Ok(Outcome::Failed(failure)),
+        }
+    }
+    machine.so_far.end(alloc)
+}
+
+impl<'m, 'a> Machine<'m, 'a> {
+    /// One turn: the instruction at this place is carried out.
+    fn turn(&mut self, alloc: Global, instr: &Instr<'_>, place: usize) -> Result<Turn, AllocError>
+        requires { place + 1 < 2 ^ 64 }
+        ensures turn { IfOk result (λ turn. (next : Run) →
+            turn_of (truth_at self.old.looked) next (instr_view instr.now) place self.old.flag (so_far_of self.old.so_far)
+            ≡ after_turn turn next self.new.flag (so_far_of self.new.so_far)) }
+        ensures forward { IfOk result (λ turn. (len : ℕ) → LeadsForward place len (instr_view instr.now) → MovesOn place turn) }
+        ensures kept { OnOk result (self.new.looked ≡ self.old.looked) }
+    {
+        let next = place + 1;
+        match instr {
+            Instr::Set(value) => self.flag = *value,
+            Instr::Look(check) => self.flag = self.looked.holds(alloc, check)?,
+            Instr::Flip => self.flag = !self.flag,
+            Instr::Jump(target) => return Ok(Turn::Next(*target)),
+            Instr::JumpIf(target) => return Ok(Turn::Next(if self.flag { *target } else { next })),
+            Instr::JumpUnless(target) => {
+                return Ok(Turn::Next(if self.flag { next } else { *target }));
+            }
+            Instr::Act(action) => {
+                if let Some(failure) = self.so_far.act(alloc, action)? {
+                    return Ok(Turn::Failed(failure));
+                }
+            }
+            Instr::Stop => return Ok(Turn::Stopped),
+        }
+        Ok(Turn::Next(next))
+    }
+}

@@ -1,0 +1,29 @@
+//! What a script comes to.
+use octets::Texts;
+use sievesyntax::{Addrs, VacArgs};
+
+/// What a script comes to on a message.
+#[derive(Drop)]
+pub enum Outcome {
+    /// The script was run to its end or to a `stop`.
+    Done {
+        /// The mailboxes that the message goes into, each once, in the order of the first command that says so; the
+        /// implicit keep comes last (RFC 5228, 2.10.2 and 2.10.3).
+        filed: Texts,
+        /// The addresses that the message is sent to, each once, in the order of the first command that says so.
+        sent: Addrs,
+        /// What the sender is answered, if `vacation` was executed (RFC 5230).
+        reply: Option<VacArgs>,
+    },
+    /// A run-time error: no action of the script is carried out (RFC 5228, 2.10.6).
+    Failed(Failure),
+}
+
+/// Why a run fails.
+#[derive(Clone, Copy, Debug, PartialEq, Eq)]
+pub enum Failure {
+    /// A second `vacation` was executed (RFC 5230, 4.7).
+    TwoVacations,
+    /// A seventeenth address was to be sent to.
+    TooManyRedirects,
+}
