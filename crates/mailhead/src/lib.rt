@@ -10,8 +10,9 @@ mod message;
 mod size;
 mod unfolding;
 
-pub use header::Field;
-pub use message::Head;
+pub use header::{Field, read_field};
+pub use line::{first_line, logical_line, without_end};
+pub use message::{Head, after_empty_line};
 pub use size::count as message_size;
 pub use unfolding::unfolded;
 

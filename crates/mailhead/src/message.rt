@@ -98,7 +98,7 @@ fn read_header(alloc: Global, message: &[u8]) -> Result<(Vec<Field<'_>>, &[u8]),
 }
 
 /// What follows an empty line at the front, if there is one.
-fn after_empty_line(text: &[u8]) -> Option<&[u8]>
+pub fn after_empty_line(text: &[u8]) -> Option<&[u8]>
     ensures { option_copied result ≡ after_empty (lines_of text.now) }
 {
     let (first, rest) = text.split_first()?;

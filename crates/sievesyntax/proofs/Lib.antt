@@ -3,6 +3,8 @@ pub mod Chains
 pub mod FaultLemmas
 pub mod SettingLemmas
 pub mod RowLemmas
+pub mod ReasonLemmas
+pub mod VacationLemmas
 pub mod ViewLemmas
 pub mod TestLemmas
 pub mod ParserLemmas

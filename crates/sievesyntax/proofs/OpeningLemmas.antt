@@ -52,8 +52,8 @@ require_word W.Stop args names is = let e = is.1 in cc
 require_word W.Keep args names is = let e = is.1 in cc
 require_word W.Discard args names is = let e = is.1 in cc
 require_word W.FileInto args names is = let e = is.1.1 in cc
-require_word W.Redirect args names is = absurd is
-require_word W.Vacation args names is = absurd is
+require_word W.Redirect args names is = let e = is.1.1 in cc
+require_word W.Vacation args names is = let e = is.1.1 in cc
 require_word W.True args names is = absurd is
 require_word W.False args names is = absurd is
 require_word W.Not args names is = absurd is

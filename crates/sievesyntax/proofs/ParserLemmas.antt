@@ -22,8 +22,8 @@ not_choose W.Stop args chosen is = let e = is.1 in cc
 not_choose W.Keep args chosen is = let e = is.1 in cc
 not_choose W.Discard args chosen is = let e = is.1 in cc
 not_choose W.FileInto args chosen is = let e = is.1.1 in cc
-not_choose W.Redirect args chosen is = is
-not_choose W.Vacation args chosen is = is
+not_choose W.Redirect args chosen is = let e = is.1.1 in cc
+not_choose W.Vacation args chosen is = let e = is.1.1 in cc
 not_choose W.True args chosen is = is
 not_choose W.False args chosen is = is
 not_choose W.Not args chosen is = is

@@ -11,7 +11,11 @@ use Rattle.sievesyntax.specs.declared.action.Action.TheVariants as D
 use Rattle.sievesyntax.specs.declared.argument.Argument.{Argument}
 use Rattle.sievesyntax.specs.declared.granted.Granted.{Granted}
 use Rattle.sievesyntax.specs.Tree.{TestTree, looks, CommandTree, act}
-use Rattle.sievesyntax.specs.Rows.{IsSize, IsHeader, IsAddress, IsEnvelope, IsFileInto, IsList, IsPlainTest, IsPlainCommand}
+use Rattle.addrparts.specs.declared.address.Addr.{Addr}
+use Rattle.sievesyntax.specs.declared.vacation.VacArgs.{VacArgs}
+use Rattle.sievesyntax.specs.Reasons.{IsReason}
+use Rattle.sievesyntax.specs.Vacations.{IsVacation}
+use Rattle.sievesyntax.specs.Rows.{IsSize, IsHeader, IsAddress, IsEnvelope, IsText, IsList, IsRedirect, IsPlainTest, IsPlainCommand}
 use Rattle.sievesyntax.specs.Valid.{IsMailbox, MayTest, MayStand}
 
 module _ (word : Word) (args : List Argument) (granted : Granted) where
@@ -57,14 +61,33 @@ envelope_barred word args granted is_word none other is may =
 
 module _ (word : Word) (args : List Argument) (is_fileinto : word ≡ W.FileInto) where
   -- no mailbox, no command
-  pub fileinto_none : (granted : Granted) → ((name : List ℕ) → IsFileInto args name → ⊥) → (other : CommandTree) → IsPlainCommand word args other → MayStand granted other → ⊥
+  pub fileinto_none : (granted : Granted) → ((name : List ℕ) → IsText args name → ⊥) → (other : CommandTree) → IsPlainCommand word args other → MayStand granted other → ⊥
   fileinto_none granted none other is may = let at = subst (λ w. IsPlainCommand w args other) is_fileinto is in none at.0 at.1.0
 
   -- one mailbox, one command
-  pub fileinto_only : (mailbox : List ℕ) → ((y : List ℕ) → IsFileInto args y → y ≡ mailbox) → (other : CommandTree) → IsPlainCommand word args other → other ≡ act (D.FileInto mailbox)
+  pub fileinto_only : (mailbox : List ℕ) → ((y : List ℕ) → IsText args y → y ≡ mailbox) → (other : CommandTree) → IsPlainCommand word args other → other ≡ act (D.FileInto mailbox)
   fileinto_only mailbox only other is = let at = subst (λ w. IsPlainCommand w args other) is_fileinto is in at.1.1 ∙ ap (λ s. act (D.FileInto s)) (only at.0 at.1.0)
 
   -- a bad mailbox may not stand
-  pub fileinto_bad : (granted : Granted) (mailbox : List ℕ) → ((y : List ℕ) → IsFileInto args y → y ≡ mailbox) → (IsMailbox mailbox → ⊥) → (other : CommandTree) → IsPlainCommand word args other → MayStand granted other → ⊥
+  pub fileinto_bad : (granted : Granted) (mailbox : List ℕ) → ((y : List ℕ) → IsText args y → y ≡ mailbox) → (IsMailbox mailbox → ⊥) → (other : CommandTree) → IsPlainCommand word args other → MayStand granted other → ⊥
   fileinto_bad granted mailbox only bad other is may =
       let there : MayStand granted (act (D.FileInto mailbox)) = subst (MayStand granted) (fileinto_only mailbox only other is) may in bad there.1
+
+module _ (word : Word) (args : List Argument) (granted : Granted) where
+  pub redirect_none : word ≡ W.Redirect → ((x : Addr) → IsRedirect args x → ⊥) → (other : CommandTree) → IsPlainCommand word args other → MayStand granted other → ⊥
+  redirect_none is_word none other is may = let at = subst (λ w. IsPlainCommand w args other) is_word is in none at.0 at.1.0
+
+  pub vacation_row_none : word ≡ W.Vacation → ((x : VacArgs) → IsVacation args x → ⊥) → (other : CommandTree) → IsPlainCommand word args other → MayStand granted other → ⊥
+  vacation_row_none is_word none other is may = let at = subst (λ w. IsPlainCommand w args other) is_word is in none at.0 at.1.0
+
+module _ (word : Word) (args : List Argument) where
+  pub redirect_only : word ≡ W.Redirect → (x : Addr) → ((y : Addr) → IsRedirect args y → y ≡ x) → (other : CommandTree) → IsPlainCommand word args other → other ≡ act (D.Redirect x)
+  redirect_only is_word x only other is = let at = subst (λ w. IsPlainCommand w args other) is_word is in at.1.1 ∙ ap (λ y. act (D.Redirect y)) (only at.0 at.1.0)
+
+  pub vacation_only : word ≡ W.Vacation → (x : VacArgs) → ((y : VacArgs) → IsVacation args y → y ≡ x) → (other : CommandTree) → IsPlainCommand word args other → other ≡ act (D.Vacation x)
+  vacation_only is_word x only other is = let at = subst (λ w. IsPlainCommand w args other) is_word is in at.1.1 ∙ ap (λ y. act (D.Vacation y)) (only at.0 at.1.0)
+
+  -- a bad reason may not stand
+  pub vacation_bad : word ≡ W.Vacation → (granted : Granted) (x : VacArgs) → ((y : VacArgs) → IsVacation args y → y ≡ x) → (IsReason x → ⊥) → (other : CommandTree) → IsPlainCommand word args other → MayStand granted other → ⊥
+  vacation_bad is_word granted x only bad other is may =
+      let there : MayStand granted (act (D.Vacation x)) = subst (MayStand granted) (vacation_only is_word x only other is) may in bad there.1

@@ -3,6 +3,9 @@ pub mod Chains
 pub mod Lexemes
 pub mod Parsing
 pub mod Reading
+pub mod Reasons
+pub mod Vacations
+pub mod Positional
 pub mod Rows
 pub mod Settings
 pub mod Lookups

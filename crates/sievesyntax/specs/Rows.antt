@@ -3,6 +3,8 @@ use Rattle.std.specs.Prelude.{◌≡◌, ℕ, Bool, cond, ◌||◌, List, [], �
 use Rattle.std.specs.List.{list_all, list_any}
 use Rattle.sievesyntax.specs.declared.lexeme.Word.{Word}
 use Rattle.sievesyntax.specs.declared.lexeme.Word.TheVariants as W
+use Rattle.addrparts.specs.declared.address.Addr.{Addr}
+use Rattle.sievesyntax.specs.declared.vacation.VacArgs.{VacArgs}
 use Rattle.sievesyntax.specs.declared.checks.Size.{Size}
 use Rattle.sievesyntax.specs.declared.checks.Header.{Header}
 use Rattle.sievesyntax.specs.declared.checks.Address.{Address}
@@ -11,13 +13,14 @@ use Rattle.sievesyntax.specs.declared.checks.EnvelopeParts.{EnvelopeParts}
 use Rattle.sievesyntax.specs.declared.checks.Check.TheVariants as C
 use Rattle.sievesyntax.specs.declared.action.Action.TheVariants as D
 use Rattle.sievesyntax.specs.declared.argument.Argument.{Argument}
-use Rattle.sievesyntax.specs.declared.argument.Argument.TheVariants as A
 use Rattle.sievesyntax.specs.declared.setting.Setting.{Setting}
 use Rattle.sievesyntax.specs.declared.setting.Slot.{Slot}
 use Rattle.sievesyntax.specs.declared.setting.Slot.TheVariants as P
 use Rattle.sievesyntax.specs.Lexemes.{same_name}
-use Rattle.sievesyntax.specs.Settings.{strings_of, IsArranged}
+use Rattle.sievesyntax.specs.Settings.{IsArranged}
+use Rattle.sievesyntax.specs.Positional.{pair, one_number, one_text, one_list, two_lists}
 use Rattle.sievesyntax.specs.Lookups.{bound_in, comparator_in, matching_in, part_in}
+use Rattle.sievesyntax.specs.Vacations.{Names, IsVacation}
 use Rattle.sievesyntax.specs.Tree.{TestTree, yes, no, looks, CommandTree, require, stop, act}
 
 -- settings of these slots, in any order, and positional arguments, that say this
@@ -27,31 +30,6 @@ pub record IsCall {X : Type 0} (allowed : List Slot) (says : List Setting → Li
   pub arranged : IsArranged allowed args settings positional
   pub said : says settings positional ≡ Some x
 
--- both, where both are there
-abbrev pub pair : {X Y : Type 0} → Option X → Option Y → Option (X × Y)
-pair (Some x) (Some y) = Some (x, y)
-pair _ _ = None
-
--- one number and nothing else
-abbrev pub one_number : List Argument → Option ℕ
-one_number (A.Number n ∷ []) = Some n
-one_number _ = None
-
--- one string without brackets and nothing else
-abbrev pub one_text : List Argument → Option (List ℕ)
-one_text (A.Text string ∷ []) = Some string
-one_text _ = None
-
--- one list of strings and nothing else
-abbrev pub one_list : List Argument → Option (List (List ℕ))
-one_list (value ∷ []) = strings_of value
-one_list _ = None
-
--- two lists of strings and nothing else
-abbrev pub two_lists : List Argument → Option (List (List ℕ) × List (List ℕ))
-two_lists (first ∷ (second ∷ [])) = pair (strings_of first) (strings_of second)
-two_lists _ = None
-
 -- size, one of :over and :under, limit: number
 abbrev pub size_of : List Setting → List Argument → Option Size
 size_of settings positional = option_map (λ p. record { bound = p.0; limit = p.1 }) (pair (bound_in settings) (one_number positional))
@@ -60,8 +38,12 @@ abbrev pub IsSize : List Argument → Size → Type 0
 IsSize = IsCall (P.Bound ∷ []) size_of
 
 -- fileinto, mailbox: string
-abbrev pub IsFileInto : List Argument → List ℕ → Type 0
-IsFileInto = IsCall [] (λ settings positional. one_text positional)
+abbrev pub IsText : List Argument → List ℕ → Type 0
+IsText = IsCall [] (λ settings positional. one_text positional)
+
+-- redirect, address: string (RFC 5228, 4.2)
+abbrev pub IsRedirect : List Argument → Addr → Type 0
+IsRedirect args target = (text : List ℕ) × (IsText args text × Names text target)
 
 -- header [COMPARATOR] [MATCH-TYPE], fields: string-list, keys: string-list (RFC 5228, 5.7)
 abbrev pub header_of : List Setting → List Argument → Option Header
@@ -121,5 +103,7 @@ IsPlainCommand W.Require args command = (names : List (List ℕ)) × (IsList arg
 IsPlainCommand W.Stop args command = (args ≡ []) × (command ≡ stop)
 IsPlainCommand W.Keep args command = (args ≡ []) × (command ≡ act D.Keep)
 IsPlainCommand W.Discard args command = (args ≡ []) × (command ≡ act D.Discard)
-IsPlainCommand W.FileInto args command = (mailbox : List ℕ) × (IsFileInto args mailbox × (command ≡ act (D.FileInto mailbox)))
+IsPlainCommand W.FileInto args command = (mailbox : List ℕ) × (IsText args mailbox × (command ≡ act (D.FileInto mailbox)))
+IsPlainCommand W.Redirect args command = (target : Addr) × (IsRedirect args target × (command ≡ act (D.Redirect target)))
+IsPlainCommand W.Vacation args command = (vacation : VacArgs) × (IsVacation args vacation × (command ≡ act (D.Vacation vacation)))
 IsPlainCommand _ args command = ⊥

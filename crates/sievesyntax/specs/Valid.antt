@@ -7,6 +7,7 @@ use Rattle.sievesyntax.specs.declared.action.Action.TheVariants.{Keep, Discard, 
 use Rattle.sievesyntax.specs.declared.checks.Check.{Check}
 use Rattle.sievesyntax.specs.declared.checks.Check.TheVariants.{Size, Exists, Header, Address, Envelope}
 use Rattle.sievesyntax.specs.declared.granted.Granted.{Granted}
+use Rattle.sievesyntax.specs.Reasons.{IsReason}
 use Rattle.sievesyntax.specs.Tree.{TestTree, yes, no, looks, not_of, all_of, any_of, Tests, no_tests, test, list_depth, not_depth, CommandTree, require, choose, stop, act, Branches, no_branches, branch, Commands, no_commands, command, depth}
 
 -- the name of a mailbox: 1 to 255 octets, none below 32 and none 127
@@ -45,7 +46,7 @@ MayAct granted Keep = Unit {0}
 MayAct granted Discard = Unit {0}
 MayAct granted (FileInto mailbox) = (granted.fileinto ≡ true) × IsMailbox mailbox
 MayAct granted (Redirect target) = Unit {0}
-MayAct granted (Vacation args) = granted.vacation ≡ true
+MayAct granted (Vacation args) = (granted.vacation ≡ true) × IsReason args
 
 -- a test of the message that may stand where this is granted
 abbrev pub MayCheck : Granted → Check → Type 0

@@ -3,6 +3,7 @@
 
 mod action;
 mod addr_list;
+mod answer;
 mod argument;
 mod checks;
 mod conditions;
@@ -14,6 +15,7 @@ mod opening;
 mod parser;
 mod positional;
 mod reader;
+mod reason;
 mod refusal;
 mod row;
 mod script;

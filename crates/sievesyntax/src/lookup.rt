@@ -1,9 +1,11 @@
 //! What the settings of a command or a test say.
 ghost use Rattle.std.specs.Prelude.{◌≡◌, IfOk};
-ghost use Rattle.sievesyntax.specs.Lookups.{bound_in, comparator_in, matching_in, part_in};
+ghost use Rattle.sievesyntax.specs.Lookups.{bound_in, comparator_in, matching_in, part_in, days_in, subject_in, mime_in, handle_in};
 
 use crate::checks::{AddressPart, Bound, Collation, Matching};
 use crate::setting::Setting;
+use octets::Octets;
+use std::alloc::{AllocError, Global};
 
 /// The side of a limit, if one is given.
 pub fn given_bound(settings: &[Setting]) -> Option<Bound>
@@ -51,4 +53,52 @@ pub fn given_part(settings: &[Setting]) -> AddressPart
         }
     }
     AddressPart::All
+}
+
+/// The days of a `vacation`, if they are given.
+pub fn given_days(settings: &[Setting]) -> Option<u64>
+    ensures { result ≡ days_in settings.now }
+{
+    for setting in settings {
+        if let Setting::Days(days) = setting {
+            return Some(*days);
+        }
+    }
+    None
+}
+
+/// Whether its reason is a MIME entity.
+pub fn given_mime(settings: &[Setting]) -> bool
+    ensures { result ≡ mime_in settings.now }
+{
+    for setting in settings {
+        if let Setting::Mime = setting {
+            return true;
+        }
+    }
+    false
+}
+
+/// Its subject, if one is given.
+pub fn given_subject(alloc: Global, settings: &[Setting]) -> Result<Option<Octets>, AllocError>
+    ensures { IfOk result (λ found. found ≡ subject_in settings.now) }
+{
+    for setting in settings {
+        if let Setting::Subject(subject) = setting {
+            return Ok(Some(subject.copied(alloc)?));
+        }
+    }
+    Ok(None)
+}
+
+/// Its handle, if one is given.
+pub fn given_handle(alloc: Global, settings: &[Setting]) -> Result<Option<Octets>, AllocError>
+    ensures { IfOk result (λ found. found ≡ handle_in settings.now) }
+{
+    for setting in settings {
+        if let Setting::Handle(handle) = setting {
+            return Ok(Some(handle.copied(alloc)?));
+        }
+    }
+    Ok(None)
 }

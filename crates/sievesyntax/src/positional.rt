@@ -1,10 +1,12 @@
 //! Positional arguments.
 ghost use Rattle.std.specs.Prelude.{◌≡◌, ℕ, List, [], IfOk, OnOk, Some, None};
-ghost use Rattle.sievesyntax.specs.Parsing.{IfFault};
-ghost use Rattle.sievesyntax.specs.Rows.{one_number, one_text, one_list, two_lists};
+ghost use Rattle.sievesyntax.specs.Parsing.{IfFault, Finds};
+ghost use Rattle.sievesyntax.specs.Positional.{one_number, one_text, one_list, two_lists};
+ghost use Rattle.sievesyntax.specs.Rows.{IsText};
 
 use crate::argument::Argument;
 use crate::refusal::ReadError;
+use crate::setting::arranged;
 use crate::tagged::strings;
 use octets::{Octets, Texts};
 use sievelex::FaultKind;
@@ -42,6 +44,14 @@ pub fn text(alloc: Global, args: &[Argument]) -> Result<Octets, ReadError>
         [Argument::Text(string)] => Ok(string.copied(alloc)?),
         _ => Err(ReadError::Fault(count_fault(args, 1))),
     }
+}
+
+/// One string without brackets, and no tags.
+pub fn read_text(alloc: Global, args: &[Argument]) -> Result<Octets, ReadError>
+    ensures { Finds (IsText args.now) result }
+{
+    let (_settings, positional) = arranged(alloc, args, &[])?;
+    text(alloc, positional)
 }
 
 /// One list of strings.

@@ -3,20 +3,22 @@ ghost use Rattle.std.specs.Prelude.{◌≡◌, ◌↔◌, ℕ, List, [], IsTrue,
 ghost use Rattle.sievesyntax.specs.Parsing.{IfFault, Finds};
 ghost use Rattle.sievesyntax.specs.Tree.{TestTree, CommandTree};
 ghost use Rattle.sievesyntax.specs.View.{test_view, command_view};
-ghost use Rattle.sievesyntax.specs.Rows.{IsFileInto, IsList, IsPlainTest, IsPlainCommand};
+ghost use Rattle.sievesyntax.specs.Rows.{IsList, IsPlainTest, IsPlainCommand};
 ghost use Rattle.sievesyntax.specs.Valid.{IsMailbox, MayTest, MayStand};
 
 use crate::action::Action;
+use crate::answer::{read_redirect, read_vacation};
 use crate::argument::Argument;
 use crate::checks::Check;
 use crate::granted::Granted;
 use crate::lexeme::Word;
 use crate::looks::{read_address, read_envelope, read_header, read_size};
-use crate::positional::{list, no_arguments, text};
+use crate::positional::{list, no_arguments, read_text};
+use crate::reason::check_reason;
 use crate::refusal::ReadError;
 use crate::setting::arranged;
 use crate::tree::{Command, Test};
-use octets::{Octets, Texts};
+use octets::Texts;
 use sievelex::FaultKind;
 use std::alloc::Global;
 
@@ -84,25 +86,26 @@ pub fn plain_command(
             if !granted.fileinto {
                 return Err(ReadError::Fault(FaultKind::NotRequired));
             }
-            let mailbox = read_fileinto(alloc, args)?;
+            let mailbox = read_text(alloc, args)?;
             if !is_mailbox(mailbox.as_slice()) {
                 return Err(ReadError::Fault(FaultKind::BadMailbox));
             }
             Ok(Command::Act(Action::FileInto(mailbox)))
+        }
+        Word::Redirect => Ok(Command::Act(Action::Redirect(read_redirect(alloc, args)?))),
+        Word::Vacation => {
+            if !granted.vacation {
+                return Err(ReadError::Fault(FaultKind::NotRequired));
+            }
+            let vacation = read_vacation(alloc, args)?;
+            check_reason(&vacation)?;
+            Ok(Command::Act(Action::Vacation(vacation)))
         }
         Word::Require => Err(ReadError::Fault(FaultKind::LateRequire)),
         Word::Elsif => Err(ReadError::Fault(FaultKind::StrayElse)),
         Word::Else => Err(ReadError::Fault(FaultKind::StrayElse)),
         _ => Err(ReadError::Fault(FaultKind::UnknownCommand)),
     }
-}
-
-/// The mailbox of `fileinto`.
-fn read_fileinto(alloc: Global, args: &[Argument]) -> Result<Octets, ReadError>
-    ensures { Finds (IsFileInto args.now) result }
-{
-    let (_settings, positional) = arranged(alloc, args, &[])?;
-    text(alloc, positional)
 }
 
 /// The names of `require`, or the fields of `exists`.

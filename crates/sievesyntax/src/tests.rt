@@ -1,4 +1,8 @@
 use super::*;
+
+mod hostile;
+mod language;
+
 use octets::Octets;
 use std::alloc::{AllocError, Global};
 use std::test::Fail;
@@ -46,7 +50,7 @@ fn names_the_first_fault_and_its_line(rt: HostRuntime) -> Result<(), Fail> {
             1,
             FaultKind::NumberTooLarge,
         ),
-        ("keep;\nvacation \"x\";", 2, FaultKind::UnknownCommand),
+        ("keep;\nreject \"x\";", 2, FaultKind::UnknownCommand),
         ("elsif true { keep; }", 1, FaultKind::StrayElse),
         ("else { keep; }", 1, FaultKind::StrayElse),
         ("if true { }\nelse { } else { }", 2, FaultKind::StrayElse),
@@ -57,7 +61,7 @@ fn names_the_first_fault_and_its_line(rt: HostRuntime) -> Result<(), Fail> {
         ),
         ("if true { } keep; elsif true { }", 1, FaultKind::StrayElse),
         ("if true { } else true { }", 1, FaultKind::Unexpected),
-        ("if header \"a\" \"b\" { keep; }", 1, FaultKind::UnknownTest),
+        ("if body \"a\" \"b\" { keep; }", 1, FaultKind::UnknownTest),
         ("if size :is 5 { keep; }", 1, FaultKind::UnknownTag),
         ("if size :over :under 5 { keep; }", 1, FaultKind::DoubleTag),
         ("if size :over { keep; }", 1, FaultKind::MissingArgument),

@@ -1,0 +1,63 @@
+-- Lemmas on the reason of a `vacation`.
+use Rattle.std.proofs.Common.{◌≡◌, ℕ, Bool, true, false, cond, ◌&&◌, ◌||◌, nat_le, List, [], ◌∷◌, ◌++◌, Option, Some, None, length, refl, sym, ap, ◌∙◌}
+use Rattle.std.specs.List.{list_all, list_any, concat}
+use Rattle.mailhead.specs.Lines.{lines_of, begins_blank, is_empty_line, logical_lines, header_lines}
+use Rattle.mailhead.specs.Cuts.{CutsLine, CutsLogicalLine, after_empty}
+use Rattle.mailhead.proofs.FoldLemmas.{and_left, and_right, blank_not_empty, header_step}
+use Rattle.sievesyntax.specs.Reasons.{is_narrow, is_narrow_text, is_mime_line, is_entity}
+
+-- one line more, or one that is too long
+pub narrow_step : (text line after : List ℕ) → CutsLine text line after → is_narrow line ≡ true → is_narrow_text after ≡ is_narrow_text text
+narrow_step text line after cut narrow = sym (ap (list_all is_narrow) cut.first ∙ ap (λ b. b && is_narrow_text after) narrow)
+
+pub narrow_stop : (text line after : List ℕ) → CutsLine text line after → is_narrow line ≡ false → false ≡ is_narrow_text text
+narrow_stop text line after cut wide = sym (ap (list_all is_narrow) cut.first ∙ ap (λ b. b && is_narrow_text after) wide)
+
+-- the lines of a header, up to an empty line
+abbrev lines_entity : List (List ℕ) → Bool
+lines_entity lines = list_any is_empty_line lines && list_all is_mime_line (logical_lines (header_lines lines))
+
+entity_first : (empty : Bool) (line : List ℕ) (more : List (List ℕ)) (body : List ℕ) → cond empty (Some (concat more)) None ≡ Some body → (empty || list_any is_empty_line more) && list_all is_mime_line (logical_lines (cond empty [] (line ∷ header_lines more))) ≡ true
+entity_first true line more body is = refl
+entity_first false line more body is = absurd (cc is)
+
+entity_lines : (lines : List (List ℕ)) (body : List ℕ) → after_empty lines ≡ Some body → lines_entity lines ≡ true
+entity_lines [] body is = absurd (cc is)
+entity_lines (line ∷ more) body is = entity_first (is_empty_line line) line more body is
+
+-- an empty line ends the header
+pub entity_ends : (text body : List ℕ) → after_empty (lines_of text) ≡ Some body → is_entity text ≡ true
+entity_ends text body is = entity_lines (lines_of text) body is
+
+no_empty : (test : Bool) (text : List ℕ) → cond test (Some text) None ≡ None → test ≡ false
+no_empty true text h = absurd (cc h)
+no_empty false text h = refl
+
+any_folded : (others more : List (List ℕ)) → list_all begins_blank others ≡ true → list_any is_empty_line (others ++ more) ≡ list_any is_empty_line more
+any_folded [] more all = refl
+any_folded (line ∷ others) more all =
+    let kept : is_empty_line line ≡ false = blank_not_empty line (and_left _ _ all) in
+    ap (λ b. b || list_any is_empty_line (others ++ more)) kept ∙ any_folded others more (and_right _ _ all)
+
+any_step : (text line after : List ℕ) → CutsLogicalLine text line after → after_empty (lines_of text) ≡ None → list_any is_empty_line (lines_of text) ≡ list_any is_empty_line (lines_of after)
+any_step text line after cut none =
+    let kept : is_empty_line cut.first ≡ false = no_empty (is_empty_line cut.first) (concat (cut.others ++ lines_of after)) (ap after_empty (sym cut.lines) ∙ none) in
+    ap (list_any is_empty_line) cut.lines ∙ ap (λ b. b || list_any is_empty_line (cut.others ++ lines_of after)) kept ∙ any_folded cut.others (lines_of after) cut.folded
+
+entity_cut : (text line after : List ℕ) → CutsLogicalLine text line after → after_empty (lines_of text) ≡ None → is_entity text ≡ list_any is_empty_line (lines_of after) && (is_mime_line line && list_all is_mime_line (logical_lines (header_lines (lines_of after))))
+entity_cut text line after cut none =
+    ap (λ b. b && list_all is_mime_line (logical_lines (header_lines (lines_of text)))) (any_step text line after cut none)
+    ∙ ap (λ lines. list_any is_empty_line (lines_of after) && list_all is_mime_line lines) (header_step text line after cut none)
+
+-- one logical line more, or one that is no MIME field
+pub entity_step : (text line after : List ℕ) → CutsLogicalLine text line after → after_empty (lines_of text) ≡ None → is_mime_line line ≡ true → is_entity after ≡ is_entity text
+entity_step text line after cut none is =
+    sym (entity_cut text line after cut none ∙ ap (λ b. list_any is_empty_line (lines_of after) && (b && list_all is_mime_line (logical_lines (header_lines (lines_of after))))) is)
+
+and_false : (b : Bool) → b && false ≡ false
+and_false true = refl
+and_false false = refl
+
+pub entity_stop : (text line after : List ℕ) → CutsLogicalLine text line after → after_empty (lines_of text) ≡ None → is_mime_line line ≡ false → false ≡ is_entity text
+entity_stop text line after cut none is =
+    sym (entity_cut text line after cut none ∙ ap (λ b. list_any is_empty_line (lines_of after) && (b && list_all is_mime_line (logical_lines (header_lines (lines_of after))))) is ∙ and_false (list_any is_empty_line (lines_of after)))

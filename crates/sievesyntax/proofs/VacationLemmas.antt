@@ -1,0 +1,140 @@
+-- Lemmas on the arguments of `vacation`.
+use Rattle.std.proofs.Common.{◌≡◌, ℕ, Bool, true, false, List, [], ◌∷◌, ◌++◌, Option, Some, None, refl, sym, ap, ◌∙◌, subst, inl, inr}
+use Rattle.std.proofs.Common.{◌<◌, ◌+◌, length, take, get_or, add-one}
+use Rattle.std.proofs.Math.Seq.{take-suc}
+use Rattle.octets.proofs.Lists.{some_is, some_pair}
+use Rattle.addrparts.specs.declared.address.Addr.{Addr}
+use Rattle.addrparts.specs.Outbound.{IsOutbound}
+use Rattle.addrparts.proofs.Outbounds.{outbound-again}
+use Rattle.sievesyntax.specs.declared.vacation.VacArgs.{VacArgs}
+use Rattle.sievesyntax.specs.declared.vacation.ReplyFrom.{ReplyFrom}
+use Rattle.sievesyntax.specs.declared.argument.Argument.{Argument}
+use Rattle.sievesyntax.specs.declared.setting.Setting.{Setting}
+use Rattle.sievesyntax.specs.Settings.{IsArranged}
+use Rattle.sievesyntax.specs.Lookups.{days_in, subject_in, from_in, addresses_in, mime_in, handle_in}
+use Rattle.sievesyntax.specs.Rows.{IsText, IsRedirect}
+use Rattle.sievesyntax.specs.Vacations.{Names, IsReplyFrom, IsGivenFrom, AreNamed, AddsNamed, SaysVacation, vacation_slots, IsVacation}
+
+-- a text names one address with one display
+pub outbound_only : (text d e : List ℕ) (a b : Addr) → IsOutbound text d a → IsOutbound text e b → (d ≡ e) × (a ≡ b)
+outbound_only text d e a b one two = some_pair (d, a) (e, b) (sym (outbound-again text d a one) ∙ outbound-again text e b two)
+
+pub names_only : (text : List ℕ) (a b : Addr) → Names text a → Names text b → a ≡ b
+names_only text a b one two = (outbound_only text one.0 two.0 a b one.1 two.1).1
+
+-- one text more, which names an address or none
+named_more : (texts : List (List ℕ)) (found : List Addr) (text : List ℕ) (address : Addr) → AreNamed texts found → Names text address → AreNamed (texts ++ text ∷ []) (found ++ address ∷ [])
+named_more [] found text address are names = inl (address, (names, ([], (ap (λ l. l ++ address ∷ []) are, refl))))
+named_more (first ∷ more) found text address are names = elim are [
+  | inl one ↦ inl (one.0, (one.1.0, (one.1.1.0 ++ address ∷ [], (ap (λ l. l ++ address ∷ []) one.1.1.1.0, named_more more one.1.1.0 text address one.1.1.1.1 names))))
+  | inr none ↦ inr (none.0, named_more more found text address none.1 names)
+]
+
+named_other : (texts : List (List ℕ)) (found : List Addr) (text : List ℕ) → AreNamed texts found → ((address : Addr) → Names text address → ⊥) → AreNamed (texts ++ text ∷ []) found
+named_other [] found text are nobody = inr (nobody, are)
+named_other (first ∷ more) found text are nobody = elim are [
+  | inl one ↦ inl (one.0, (one.1.0, (one.1.1.0, (one.1.1.1.0, named_other more one.1.1.0 text one.1.1.1.1 nobody))))
+  | inr none ↦ inr (none.0, named_other more found text none.1 nobody)
+]
+
+-- one text more of a list
+pub named_step : (texts : List (List ℕ)) (i : ℕ) (text : List ℕ) (old new : List Addr) → i < length texts → text ≡ get_or texts i text → AreNamed (take i texts) old → AddsNamed text old new → AreNamed (take (i + 1) texts) new
+named_step texts i text old new below is are adds =
+    let front : take (i + 1) texts ≡ take i texts ++ text ∷ [] = rw add-one (take-suc texts i text below ∙ ap (λ t. take i texts ++ t ∷ []) (sym is)) in
+    let all : AreNamed (take i texts ++ text ∷ []) new = elim adds [
+      | inl one ↦ subst (AreNamed (take i texts ++ text ∷ [])) (sym one.1.1) (named_more (take i texts) old text one.0 are one.1.0)
+      | inr none ↦ subst (AreNamed (take i texts ++ text ∷ [])) (sym none.1) (named_other (take i texts) old text are none.0)
+    ] in
+    subst (λ ts. AreNamed ts new) (sym front) all
+
+-- there is one list of addresses
+pub named_only : (texts : List (List ℕ)) (one two : List Addr) → AreNamed texts one → AreNamed texts two → two ≡ one
+named_only [] one two are also = also ∙ sym are
+named_only (text ∷ more) one two are also = elim are [
+  | inl a ↦ elim also [
+    | inl b ↦
+        let first : b.0 ≡ a.0 = names_only text b.0 a.0 b.1.0 a.1.0 in
+        let others = named_only more a.1.1.0 b.1.1.0 a.1.1.1.1 b.1.1.1.1 in
+        b.1.1.1.0 ∙ ap (λ x. x ∷ b.1.1.0) first ∙ ap (λ xs. a.0 ∷ xs) others ∙ sym a.1.1.1.0
+    | inr b ↦ absurd (b.0 a.0 a.1.0)
+  ]
+  | inr a ↦ elim also [
+    | inl b ↦ absurd (a.0 b.0 b.1.0)
+    | inr b ↦ named_only more one two a.1 b.1
+  ]
+]
+
+pub reply_from_only : (text : List ℕ) (one two : ReplyFrom) → IsReplyFrom text one → IsReplyFrom text two → two ≡ one
+reply_from_only text one two are also =
+    let both = outbound_only text two.display one.display two.address one.address also.names are.names in
+    let written : two.text ≡ one.text = also.written ∙ sym are.written in
+    λ i. record { text = written i; display = both.0 i; address = both.1 i }
+
+pub given_from_only : (text : Option (List ℕ)) (one two : Option ReplyFrom) → IsGivenFrom text one → IsGivenFrom text two → two ≡ one
+given_from_only None None None are also = refl
+given_from_only None None (Some two) are also = absurd also
+given_from_only None (Some one) two are also = absurd are
+given_from_only (Some text) None two are also = absurd are
+given_from_only (Some text) (Some one) None are also = absurd also
+given_from_only (Some text) (Some one) (Some two) are also = ap Some (reply_from_only text one two are also)
+
+pub says_only : (settings : List Setting) (positional : List Argument) (one two : VacArgs) → SaysVacation settings positional one → SaysVacation settings positional two → two ≡ one
+says_only settings positional one two are also =
+    let days : two.days ≡ one.days = also.days ∙ sym are.days in
+    let subject : two.subject ≡ one.subject = also.subject ∙ sym are.subject in
+    let from : two.from ≡ one.from = given_from_only (from_in settings) one.from two.from are.from also.from in
+    let addresses : two.addresses ≡ one.addresses = named_only (addresses_in settings) one.addresses two.addresses are.addresses also.addresses in
+    let mime : two.mime ≡ one.mime = also.mime ∙ sym are.mime in
+    let handle : two.handle ≡ one.handle = also.handle ∙ sym are.handle in
+    let spelled : Some two.reason ≡ Some one.reason = sym also.reason ∙ are.reason in
+    let reason : two.reason ≡ one.reason = some_is two.reason one.reason spelled in
+    λ i. record { days = days i; subject = subject i; from = from i; addresses = addresses i; mime = mime i; handle = handle i; reason = reason i }
+
+module _ (args : List Argument) (settings : List Setting) (positional : List Argument) (only : (others : List Setting) (behind : List Argument) → IsArranged vacation_slots args others behind → (others ≡ settings) × (behind ≡ positional)) where
+  vacation_says : (v : VacArgs) → IsVacation args v → SaysVacation settings positional v
+  vacation_says v is = let same = only is.0 is.1.0 is.1.1.0 in subst (λ p. SaysVacation settings p v) same.1 (subst (λ s. SaysVacation s is.1.0 v) same.0 is.1.1.1)
+
+  -- the arguments say nothing
+  pub vacation_none : ((v : VacArgs) → SaysVacation settings positional v → ⊥) → (v : VacArgs) → IsVacation args v → ⊥
+  vacation_none none v is = none v (vacation_says v is)
+
+  -- they say one thing
+  pub vacation_found : IsArranged vacation_slots args settings positional → (v : VacArgs) → SaysVacation settings positional v → IsVacation args v × ((w : VacArgs) → IsVacation args w → w ≡ v)
+  vacation_found arranged v says = ((settings, (positional, (arranged, says))), λ w is. says_only settings positional v w says (vacation_says w is))
+
+-- the address of a `redirect`
+module _ (args : List Argument) where
+  pub redirect_no_text : ((x : List ℕ) → IsText args x → ⊥) → (y : Addr) → IsRedirect args y → ⊥
+  redirect_no_text none y is = none is.0 is.1.0
+
+  module _ (text : List ℕ) (only : (x : List ℕ) → IsText args x → x ≡ text) where
+    pub redirect_no_address : ((d : List ℕ) (a : Addr) → IsOutbound text d a → ⊥) → (y : Addr) → IsRedirect args y → ⊥
+    redirect_no_address none y is = none is.1.1.0 y (subst (λ t. IsOutbound t is.1.1.0 y) (only is.0 is.1.0) is.1.1.1)
+
+    pub redirect_found : IsText args text → (d : List ℕ) (a : Addr) → IsOutbound text d a → IsRedirect args a × ((y : Addr) → IsRedirect args y → y ≡ a)
+    redirect_found there d a names = (
+      (text, (there, (d, names))),
+      λ y is. names_only text y a (is.1.1.0, subst (λ t. IsOutbound t is.1.1.0 y) (only is.0 is.1.0) is.1.1.1) (d, names),
+    )
+
+-- the value of a `:from` that is given
+pub given_some : (o : Option (List ℕ)) (text : List ℕ) → Some text ≡ o → (r : ReplyFrom) → IsReplyFrom text r → IsGivenFrom o (Some r)
+given_some o text same r is = subst (λ p. IsGivenFrom p (Some r)) same is
+
+pub given_none : (o : Option (List ℕ)) (text : List ℕ) → Some text ≡ o → ((r : ReplyFrom) → IsReplyFrom text r → ⊥) → (y : Option ReplyFrom) → IsGivenFrom o y → ⊥
+given_none o text same none y is = off y (subst (λ p. IsGivenFrom p y) (sym same) is)
+  where
+    off : (z : Option ReplyFrom) → IsGivenFrom (Some text) z → ⊥
+    off None bad = bad
+    off (Some r) is' = none r is'
+
+-- no address
+pub outbound_none : (text : List ℕ) (o : Option (List ℕ × Addr)) → ((d : List ℕ) (a : Addr) → IsOutbound text d a → o ≡ Some (d, a)) → o ≡ None → (d : List ℕ) (a : Addr) → IsOutbound text d a → ⊥
+outbound_none text None only none d a is = absurd (cc (only d a is))
+outbound_none text (Some found) only none d a is = absurd (cc none)
+
+pub adds_none : (text : List ℕ) (old : List Addr) → ((d : List ℕ) (a : Addr) → IsOutbound text d a → ⊥) → AddsNamed text old old
+adds_none text old none = inr ((λ a names. none names.0 a names.1), refl)
+
+pub reply_none : (text : List ℕ) → ((d : List ℕ) (a : Addr) → IsOutbound text d a → ⊥) → (r : ReplyFrom) → IsReplyFrom text r → ⊥
+reply_none text none r is = none r.display r.address is.names

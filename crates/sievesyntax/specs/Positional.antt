@@ -1,0 +1,30 @@
+-- Positional arguments (RFC 5228, 2.6.1).
+use Rattle.std.specs.Prelude.{ℕ, List, [], ◌∷◌, Option, Some, None}
+use Rattle.sievesyntax.specs.declared.argument.Argument.{Argument}
+use Rattle.sievesyntax.specs.declared.argument.Argument.TheVariants as A
+use Rattle.sievesyntax.specs.Settings.{strings_of}
+
+-- both, where both are there
+abbrev pub pair : {X Y : Type 0} → Option X → Option Y → Option (X × Y)
+pair (Some x) (Some y) = Some (x, y)
+pair _ _ = None
+
+-- one number and nothing else
+abbrev pub one_number : List Argument → Option ℕ
+one_number (A.Number n ∷ []) = Some n
+one_number _ = None
+
+-- one string without brackets and nothing else
+abbrev pub one_text : List Argument → Option (List ℕ)
+one_text (A.Text string ∷ []) = Some string
+one_text _ = None
+
+-- one list of strings and nothing else
+abbrev pub one_list : List Argument → Option (List (List ℕ))
+one_list (value ∷ []) = strings_of value
+one_list _ = None
+
+-- two lists of strings and nothing else
+abbrev pub two_lists : List Argument → Option (List (List ℕ) × List (List ℕ))
+two_lists (first ∷ (second ∷ [])) = pair (strings_of first) (strings_of second)
+two_lists _ = None

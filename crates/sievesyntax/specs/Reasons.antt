@@ -1,0 +1,42 @@
+-- The reason of a `vacation`.
+use Rattle.std.specs.Prelude.{◌≡◌, ℕ, ◌==◌, ◌&&◌, ◌||◌, nat_le, nat_eq, Bool, true, false, List, take, codes, Option, Some, None, length}
+use Rattle.std.specs.List.{list_all, list_any}
+use Rattle.std.specs.Cmp.Lexicographic.{pointwise}
+use Rattle.mailhead.specs.Lines.{lines_of, is_empty_line, without_end, logical_lines, header_lines}
+use Rattle.mailhead.specs.Fields.{FieldText, field_of}
+use Rattle.sievesyntax.specs.Lexemes.{same_name}
+use Rattle.sievesyntax.specs.declared.vacation.VacArgs.{VacArgs}
+
+-- at most 998 octets without its line end (RFC 5322, 2.1.1)
+abbrev pub is_narrow : List ℕ → Bool
+is_narrow line = nat_le (length (without_end line)) 998
+
+-- each line of the text is that short
+abbrev pub is_narrow_text : List ℕ → Bool
+is_narrow_text text = list_all is_narrow (lines_of text)
+
+-- the name of a MIME field, in any ASCII case (RFC 2045, 3): it begins with `Content-` or is `MIME-Version`
+abbrev pub is_mime_name : List ℕ → Bool
+is_mime_name name = (nat_le 8 (length name) && same_name (take 8 name) (codes "content-")) || same_name name (codes "mime-version")
+
+-- a field, and it has such a name
+abbrev pub has_mime_name : Option FieldText → Bool
+has_mime_name None = false
+has_mime_name (Some field) = is_mime_name field.name
+
+-- TAB, 32 to 126, and the octets of a line end
+abbrev pub is_header_octet : ℕ → Bool
+is_header_octet octet = octet == 9 || (octet == 10 || (octet == 13 || (nat_le 32 octet && nat_le octet 126)))
+
+-- a logical line of that name and of those octets
+abbrev pub is_mime_line : List ℕ → Bool
+is_mime_line line = list_all is_header_octet line && has_mime_name (field_of line)
+
+-- a MIME entity: a header of such logical lines alone, an empty line, and anything
+abbrev pub is_entity : List ℕ → Bool
+is_entity text = list_any is_empty_line (lines_of text) && list_all is_mime_line (logical_lines (header_lines (lines_of text)))
+
+-- a reason that may stand: no line of it is too long, and with `:mime` it is a MIME entity (RFC 5230, 4.5)
+pub record IsReason (args : VacArgs) : Type 0 where
+  pub narrow : is_narrow_text args.reason ≡ true
+  pub entity : args.mime ≡ true → is_entity args.reason ≡ true

@@ -1,0 +1,61 @@
+-- The addresses that a script names, and the arguments of `vacation` (RFC 5230, 4).
+use Rattle.std.specs.Prelude.{◌≡◌, ◌⊎◌, ℕ, List, [], ◌∷◌, ◌++◌, Option, Some, None}
+use Rattle.addrparts.specs.declared.address.Addr.{Addr}
+use Rattle.addrparts.specs.Outbound.{IsOutbound}
+use Rattle.sievesyntax.specs.declared.vacation.VacArgs.{VacArgs}
+use Rattle.sievesyntax.specs.declared.vacation.ReplyFrom.{ReplyFrom}
+use Rattle.sievesyntax.specs.declared.argument.Argument.{Argument}
+use Rattle.sievesyntax.specs.declared.setting.Setting.{Setting}
+use Rattle.sievesyntax.specs.declared.setting.Slot.{Slot}
+use Rattle.sievesyntax.specs.declared.setting.Slot.TheVariants as P
+use Rattle.sievesyntax.specs.Settings.{IsArranged}
+use Rattle.sievesyntax.specs.Positional.{one_text}
+use Rattle.sievesyntax.specs.Lookups.{days_in, subject_in, from_in, addresses_in, mime_in, handle_in}
+
+-- the text names this address
+abbrev pub Names : List ℕ → Addr → Type 0
+Names text address = (display : List ℕ) × IsOutbound text display address
+
+-- the value of `:from`: an address, with its display and as it was written
+pub record IsReplyFrom (text : List ℕ) (from : ReplyFrom) : Type 0 where
+  pub written : from.text ≡ text
+  pub names : IsOutbound text from.display from.address
+
+-- the same where a text may be given or not
+abbrev pub IsGivenFrom : Option (List ℕ) → Option ReplyFrom → Type 0
+IsGivenFrom None None = Unit {0}
+IsGivenFrom None (Some from) = ⊥
+IsGivenFrom (Some text) None = ⊥
+IsGivenFrom (Some text) (Some from) = IsReplyFrom text from
+
+-- the addresses of those of these texts that name one, in order
+abbrev pub AreNamed : List (List ℕ) → List Addr → Type 0
+AreNamed [] addresses = addresses ≡ []
+AreNamed (text ∷ more) addresses =
+    ((first : Addr) × (Names text first × ((others : List Addr) × ((addresses ≡ first ∷ others) × AreNamed more others))))
+    ⊎ (((address : Addr) → Names text address → ⊥) × AreNamed more addresses)
+
+-- what one text more adds to the addresses
+abbrev pub AddsNamed : List ℕ → List Addr → List Addr → Type 0
+AddsNamed text old new =
+    ((address : Addr) × (Names text address × (new ≡ old ++ address ∷ [])))
+    ⊎ (((address : Addr) → Names text address → ⊥) × (new ≡ old))
+
+-- what the settings of a `vacation` and its positional arguments say: the reason is one string without brackets
+pub record SaysVacation (settings : List Setting) (positional : List Argument) (args : VacArgs) : Type 0 where
+  pub days : args.days ≡ days_in settings
+  pub subject : args.subject ≡ subject_in settings
+  pub from : IsGivenFrom (from_in settings) args.from
+  pub addresses : AreNamed (addresses_in settings) args.addresses
+  pub mime : args.mime ≡ mime_in settings
+  pub handle : args.handle ≡ handle_in settings
+  pub reason : one_text positional ≡ Some args.reason
+
+-- the settings of a `vacation`
+abbrev pub vacation_slots : List Slot
+vacation_slots = P.Days ∷ (P.Subject ∷ (P.From ∷ (P.Addresses ∷ (P.Mime ∷ (P.Handle ∷ [])))))
+
+-- vacation [":days" number] [":subject" string] [":from" string] [":addresses" string-list] [":mime"]
+-- [":handle" string], reason: string (RFC 5230, 4)
+abbrev pub IsVacation : List Argument → VacArgs → Type 0
+IsVacation args vacation = (settings : List Setting) × ((positional : List Argument) × (IsArranged vacation_slots args settings positional × SaysVacation settings positional vacation))
