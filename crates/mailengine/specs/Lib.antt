@@ -1,6 +1,4 @@
-pub mod Mailboxes
-pub mod Runs
-pub mod Tests
+pub mod Notices
 pub use Rattle.sievesyntax.specs.Meaning
 pub use Rattle.sievesyntax.specs.Means
 pub use Rattle.sievesyntax.specs.Tree

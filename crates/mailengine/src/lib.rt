@@ -1,12 +1,9 @@
 //! What a script does with a message.
 #![tactic(auto)]
 
-mod mail;
-mod outcome;
-mod run;
-mod so_far;
+mod notice;
 mod trial;
 
-pub use mail::Envelope;
-pub use outcome::Outcome;
+pub use notice::notice_text;
+pub use sieveexec::{Envelope, Failure, Outcome};
 pub use trial::attempt;

@@ -4,21 +4,22 @@ ghost use Rattle.sievelex.specs.Finding.{IfFault, IfFaultLine};
 ghost use Rattle.sievelex.specs.Text.{line_ends};
 ghost use Rattle.sievesyntax.specs.Tree.{Commands};
 ghost use Rattle.sievesyntax.specs.Means.{Means};
-ghost use Rattle.mailengine.specs.Tests.{outcome_at, mail_of};
-ghost use Rattle.mailengine.specs.Runs.{outcome_view};
+ghost use Rattle.sieveexec.specs.Mails.{mail_of};
+ghost use Rattle.sieveexec.specs.Outcomes.{outcome_at};
+ghost use Rattle.sieveexec.specs.Runs.{outcome_view};
 
-use crate::mail::{Envelope, Mail};
-use crate::outcome::Outcome;
-use crate::run;
+use sievecode::compile;
+use sieveexec::{Envelope, Mail, Outcome, run};
 use sievelex::ScriptError;
 use sievesyntax::check;
 use std::alloc::Global;
 
 /// What a script does with a message (RFC 5228, 2.10), or why it is no valid script.
 ///
-/// Nothing is filed: the outcome says what would be. Script, envelope and message have no limit on their size.
-/// Time is linear in the script and the message, but that n mailboxes take n log n comparisons. Memory is in
-/// proportion to the script alone; the message is looked at once and not copied.
+/// Nothing is filed, sent or answered: the outcome says what would be. Script, envelope and message have no limit
+/// on their size. The script is compiled in time linear in it, and each of its tests is asked once at most; the
+/// values of a field are decoded once, where a test asks for them. Memory is in proportion to the script, to the
+/// names of the message's fields and to the values that tests ask for; the message isn't copied.
 ///
 /// # Errors
 ///
@@ -26,17 +27,18 @@ use std::alloc::Global;
 pub fn attempt(
     alloc: Global,
     script: &[u8],
-    envelope: &Envelope,
+    envelope: Envelope,
     message: &[u8],
 ) -> Result<Outcome, ScriptError>
     ensures valid { IfOk result (λ done. (tree : Commands) × Means script.now tree) }
     ensures done { IfOk result (λ done. (tree : Commands) → Means script.now tree →
-        outcome_view done ≡ outcome_at (mail_of message.now envelope.now) tree) }
+        outcome_view done ≡ outcome_at (mail_of message.now envelope) tree) }
     ensures fault { IfFault result ((tree : Commands) → Means script.now tree → ⊥) }
     ensures line { IfFaultLine result (λ line.
         (1 ≤ line) × (line ≤ 1 + line_ends script.now)) }
 {
     let checked = check(alloc, script)?;
-    let mail = Mail::read(message, envelope);
-    Ok(run::outcome(alloc, checked.commands(), mail)?)
+    let code = compile(alloc, &checked)?;
+    let mail = Mail::read(alloc, message, envelope)?;
+    Ok(run(alloc, &code, &mail)?)
 }

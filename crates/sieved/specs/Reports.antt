@@ -1,9 +1,12 @@
 -- What the program prints of an outcome or of a fault of the script.
-use Rattle.std.specs.Prelude.{ℕ, List, [], ◌∷◌, ◌++◌, codes, map, decimal}
+use Rattle.std.specs.Prelude.{ℕ, List, [], ◌∷◌, ◌++◌, codes, map, decimal, Bool, true, false, is_some}
 use Rattle.std.specs.List.{flat_map}
 use Rattle.sievelex.specs.declared.fault.FaultKind.{FaultKind}
 use Rattle.sievelex.specs.Faults.{text_of}
-use Rattle.mailengine.specs.Meaning.{Outcome, Done}
+use Rattle.addrparts.specs.declared.address.Addr.{Addr}
+use Rattle.addrparts.specs.Spelling.{spelling}
+use Rattle.sievesyntax.specs.Meaning.{Outcome, Done, Failed}
+use Rattle.mailengine.specs.Notices.{notice_of}
 
 -- a line with its end
 abbrev pub with_end : List ℕ → List ℕ
@@ -13,9 +16,23 @@ with_end line = line ++ 10 ∷ []
 abbrev pub file_line : List ℕ → List ℕ
 file_line mailbox = codes "file " ++ mailbox
 
--- the lines on what is done, in order
+-- the line of an address that the message is sent to
+abbrev pub send_line : Addr → List ℕ
+send_line target = codes "send " ++ spelling target
+
+-- the line that tells of an answer to the sender
+abbrev pub reply_lines : Bool → List (List ℕ)
+reply_lines true = codes "vacation wanted" ∷ []
+reply_lines false = []
+
+-- the lines on mailboxes, addresses and an answer, in this order
+abbrev pub lines_of : List (List ℕ) → List Addr → Bool → List (List ℕ)
+lines_of filed sent answers = map file_line filed ++ (map send_line sent ++ reply_lines answers)
+
+-- the lines on what is done; on a failure one line, which tells of it
 abbrev pub deed_lines : Outcome → List (List ℕ)
-deed_lines (Done deeds) = map file_line deeds.filed
+deed_lines (Done deeds) = lines_of deeds.filed deeds.sent (is_some deeds.reply)
+deed_lines (Failed failure) = (codes "failed: " ++ notice_of failure) ∷ []
 
 -- `discard` stands where no other line does
 abbrev pub or_discard : List (List ℕ) → List (List ℕ)

@@ -5,8 +5,9 @@ use Rattle.sievelex.specs.declared.fault.FaultKind.{FaultKind}
 use Rattle.sievelex.specs.Text.{line_ends}
 use Rattle.mailengine.specs.Tree.{Commands}
 use Rattle.mailengine.specs.Means.{Means}
-use Rattle.mailengine.specs.declared.mail.Envelope.{Envelope}
-use Rattle.mailengine.specs.Tests.{mail_of, outcome_at}
+use Rattle.sieveexec.specs.declared.envelope.Envelope.{Envelope}
+use Rattle.sieveexec.specs.Mails.{mail_of}
+use Rattle.sieveexec.specs.Outcomes.{outcome_at}
 use Rattle.sieved.specs.declared.fault.Fault.{Fault}
 use Rattle.sieved.specs.declared.fault.Fault.TheVariants.{Memory, Stream, BadInput, BadArgument}
 use Rattle.sieved.specs.declared.answer.Answer.{Answer}

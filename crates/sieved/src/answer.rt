@@ -40,7 +40,7 @@ pub fn answer_to(alloc: Global, input: &[u8]) -> Result<Answer, Fault>
         from: Octets::new(alloc),
         to: Octets::new(alloc),
     };
-    match attempt(alloc, framed.script, &envelope, framed.message) {
+    match attempt(alloc, framed.script, envelope, framed.message) {
         Ok(outcome) => Ok(Answer::Report(report::of_outcome(alloc, &outcome)?)),
         Err(ScriptError::Fault(fault)) => Ok(Answer::Refusal(report::of_fault(alloc, fault)?)),
         Err(ScriptError::Memory) => Err(Fault::Memory),

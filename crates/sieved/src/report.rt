@@ -1,43 +1,88 @@
 //! What is printed of an outcome, or of a fault of the script.
-ghost use Rattle.std.specs.Prelude.{◌≡◌, ◌++◌, map, IfOk, OnOk};
+ghost use Rattle.std.specs.Prelude.{◌≡◌, ◌++◌, codes, map, IfOk, OnOk};
 ghost use Rattle.std.specs.List.{flat_map};
-ghost use Rattle.mailengine.specs.Runs.{outcome_view};
-ghost use Rattle.sieved.specs.Reports.{file_line, with_end, report_of, fault_line};
+ghost use Rattle.sieveexec.specs.Runs.{failure_view, outcome_view};
+ghost use Rattle.mailengine.specs.Notices.{notice_of};
+ghost use Rattle.sieved.specs.Reports.{file_line, send_line, lines_of, or_discard, with_end, report_of, fault_line};
 
-use mailengine::Outcome;
+use addrparts::{Addr, spell};
+use mailengine::{Failure, Outcome, notice_text};
 use octets::{Octets, write_decimal};
 use sievelex::ScriptFault;
 use std::alloc::{AllocError, Global};
 
-/// The report: a line for each thing that is done, in order, or `discard` where there is none.
+/// The report: a line for each thing that is done, in order, or `discard` where there is none. Of a run that failed
+/// one line tells, and nothing else.
 pub fn of_outcome(alloc: Global, outcome: &Outcome) -> Result<Octets, AllocError>
     ensures { IfOk result (λ text. text ≡ report_of (outcome_view outcome.now)) }
 {
-    let Outcome::Done { filed } = outcome;
-    if filed.is_empty() {
-        return Octets::copy(alloc, b"discard\n");
+    match outcome {
+        Outcome::Failed(failure) => of_failure(alloc, *failure),
+        Outcome::Done {
+            filed,
+            sent,
+            reply,
+        } => of_deeds(alloc, filed.as_slice(), sent.as_slice(), reply.is_some()),
     }
-    of_mailboxes(alloc, filed.as_slice())
 }
 
-/// A line for each mailbox.
-fn of_mailboxes(alloc: Global, filed: &[Octets]) -> Result<Octets, AllocError>
-    ensures { IfOk result (λ text. text ≡ flat_map with_end (map file_line filed.now)) }
+/// The lines of what is done, or `discard`.
+fn of_deeds(
+    alloc: Global,
+    filed: &[Octets],
+    sent: &[Addr],
+    answers: bool,
+) -> Result<Octets, AllocError>
+    ensures { IfOk result (λ text. text ≡ flat_map with_end (or_discard (lines_of filed.now sent.now answers))) }
 {
+    if filed.is_empty() && sent.is_empty() && !answers {
+        return Octets::copy(alloc, b"discard\n");
+    }
     let mut text = Octets::new(alloc);
-    for mailbox in filed {
-        file(&mut text, mailbox.as_slice())?;
+    add_mailboxes(&mut text, filed)?;
+    add_targets(alloc, &mut text, sent)?;
+    if answers {
+        text.extend_from_slice(b"vacation wanted\n")?;
     }
     Ok(text)
 }
 
-/// Appends the line of a mailbox.
-fn file(text: &mut Octets, mailbox: &[u8]) -> Result<(), AllocError>
-    ensures { OnOk result (text.new ≡ text.old ++ with_end (file_line mailbox.now)) }
+/// Appends a line for each mailbox.
+fn add_mailboxes(text: &mut Octets, filed: &[Octets]) -> Result<(), AllocError>
+    ensures { OnOk result (text.new ≡ text.old ++ flat_map with_end (map file_line filed.now)) }
 {
-    text.extend_from_slice(b"file ")?;
-    text.extend_from_slice(mailbox)?;
+    for mailbox in filed {
+        add_line(text, b"file ", mailbox.as_slice())?;
+    }
+    Ok(())
+}
+
+/// Appends a line for each address that the message is sent to.
+fn add_targets(alloc: Global, text: &mut Octets, sent: &[Addr]) -> Result<(), AllocError>
+    ensures { OnOk result (text.new ≡ text.old ++ flat_map with_end (map send_line sent.now)) }
+{
+    for target in sent {
+        add_line(text, b"send ", spell(alloc, target)?.as_slice())?;
+    }
+    Ok(())
+}
+
+/// Appends a word and what it is said of, as a line.
+fn add_line(text: &mut Octets, word: &[u8], what: &[u8]) -> Result<(), AllocError>
+    ensures { OnOk result (text.new ≡ text.old ++ with_end (word.now ++ what.now)) }
+{
+    text.extend_from_slice(word)?;
+    text.extend_from_slice(what)?;
     text.push(b'\n')
+}
+
+/// The line of a run that failed: `failed: more than 16 redirects`.
+fn of_failure(alloc: Global, failure: Failure) -> Result<Octets, AllocError>
+    ensures { IfOk result (λ text. text ≡ with_end (codes "failed: " ++ notice_of (failure_view failure))) }
+{
+    let mut text = Octets::new(alloc);
+    add_line(&mut text, b"failed: ", notice_text(failure))?;
+    Ok(text)
 }
 
 /// The line on a fault of the script: `line 3: unknown test`.

@@ -24,8 +24,8 @@ pub enum Turn {
 
 /// What a run has looked at and done so far, with the flag that tests set.
 #[derive(Drop)]
-pub struct Machine<'a> {
-    looked: Looked<'a>,
+pub struct Machine<'m, 'a> {
+    looked: Looked<'m, 'a>,
     flag: bool,
     so_far: SoFar,
 }
@@ -38,7 +38,7 @@ pub struct Machine<'a> {
 /// # Errors
 ///
 /// [`AllocError`] where memory was refused.
-pub fn run<'a>(alloc: Global, code: &Code<'_>, mail: &'a Mail<'a>) -> Result<Outcome, AllocError>
+pub fn run(alloc: Global, code: &Code<'_>, mail: &Mail<'_>) -> Result<Outcome, AllocError>
     ensures { IfOk result (λ done. Some (outcome_view done) ≡ jumps (truth_at mail.now) code.now (length code.now)) }
 {
     let instrs = code.instrs();
@@ -58,7 +58,7 @@ pub fn run<'a>(alloc: Global, code: &Code<'_>, mail: &'a Mail<'a>) -> Result<Out
     machine.so_far.end(alloc)
 }
 
-impl<'a> Machine<'a> {
+impl<'m, 'a> Machine<'m, 'a> {
     /// One turn: the instruction at this place is carried out.
     fn turn(&mut self, alloc: Global, instr: &Instr<'_>, place: usize) -> Result<Turn, AllocError>
         requires { place + 1 < 2 ^ 64 }

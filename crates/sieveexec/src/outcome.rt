@@ -7,24 +7,23 @@ use sievesyntax::{Addrs, VacArgs};
 pub enum Outcome {
     /// The script was run to its end or to a `stop`.
     Done {
-        /// The mailboxes that the message goes into, each once, in the order of the first command that says so;
-        /// the implicit keep comes last.
+        /// The mailboxes that the message goes into, each once, in the order of the first command that says so; the
+        /// implicit keep comes last (RFC 5228, 2.10.2 and 2.10.3).
         filed: Texts,
-        /// The addresses that the message is sent to, each once, in the order of the first command that says so:
-        /// 16 at most.
+        /// The addresses that the message is sent to, each once, in the order of the first command that says so.
         sent: Addrs,
-        /// The arguments of the `vacation` that was run, if one was.
+        /// What the sender is answered, if `vacation` was executed (RFC 5230).
         reply: Option<VacArgs>,
     },
-    /// The run failed, and nothing of it is done.
+    /// A run-time error: no action of the script is carried out (RFC 5228, 2.10.6).
     Failed(Failure),
 }
 
-/// Why a run failed (RFC 5228, 2.10.6).
+/// Why a run fails.
 #[derive(Clone, Copy, Debug, PartialEq, Eq)]
 pub enum Failure {
-    /// A second `vacation` was run (RFC 5230, 4.7).
+    /// A second `vacation` was executed (RFC 5230, 4.7).
     TwoVacations,
-    /// A 17th address was named to which the message would be sent.
+    /// A seventeenth address was to be sent to.
     TooManyRedirects,
 }

@@ -6,14 +6,14 @@ use Rattle.sievesyntax.specs.declared.lexeme.Word.TheVariants as W
 use Rattle.sievesyntax.specs.declared.argument.Argument.{Argument}
 use Rattle.sievesyntax.specs.declared.granted.Granted.{Granted}
 use Rattle.sievesyntax.specs.Lexemes.{Lexeme, word, tag, number, text, mark}
-use Rattle.sievesyntax.specs.Arguments.{IsArgument}
 use Rattle.sievesyntax.specs.Chains.{Chain}
 use Rattle.sievesyntax.specs.Tree.{TestTree, yes, CommandTree, require, choose, stop, act, Branches, no_branches, branch, Commands, no_commands, command, depth, depth_of, branches_depth}
 use Rattle.sievesyntax.specs.View.{commands_of, branches_of}
-use Rattle.sievesyntax.specs.Valid.{MayAllStand, MayBranch}
-use Rattle.sievesyntax.specs.Reading.{IsStatement, IsCommand, IsChoice, AreBranches, AreCommands, TakesBranch, TakesElsif, TakesElsifs, TakesElse, IsPastElsif, IsPastBranches, ReadsTest, ReadsCommand, TakesCommand, TakesBehind, TakesBlock, TakesAll, IsStop}
+use Rattle.sievesyntax.specs.Valid.{MayAsk, MayAllStand, MayBranch}
+use Rattle.sievesyntax.specs.Tests.{TakesTest}
+use Rattle.sievesyntax.specs.Reading.{IsStatement, IsCommand, IsChoice, AreBranches, AreCommands, TakesBranch, TakesElsif, TakesElsifs, TakesElse, IsPastElsif, IsPastBranches, ReadsCommand, TakesCommand, TakesBehind, TakesBlock, TakesAll, IsStop}
 use Rattle.sievesyntax.proofs.Chains.{IsSoFar, chain_more, chain_ends, chain_fails}
-use Rattle.sievesyntax.proofs.ArgumentLemmas.{argument_longer}
+use Rattle.sievesyntax.proofs.TestLemmas.{arguments_longer, reads_test_longer}
 
 -- commands as a list
 abbrev pub list_of : Commands → List CommandTree
@@ -46,14 +46,6 @@ module _ (granted : Granted) (room : ℕ) where
   pub stop_none : (from : List Lexeme) → IsStop from → (tree : CommandTree) (to : List Lexeme) → TakesCommand granted room tree from to → ⊥
   stop_none from stops tree to takes = subst IsStop takes.0.1.1.0 stops
 
--- arguments are not negative in length
-arguments_longer : (args : List Argument) (from to : List Lexeme) → Chain IsArgument args from to → length to ≤ length from
-arguments_longer [] from to same = omega (arith, ap length same)
-arguments_longer (a ∷ as') from to chain = omega (arith, argument_longer a from chain.0 chain.1.0, arguments_longer as' chain.0 to chain.1.1)
-
-test_longer : (test : TestTree) (from to : List Lexeme) → ReadsTest test from to → length to < length from
-test_longer test from to reads = omega (arith, ap length reads.1.1.0, arguments_longer reads.1.1.1.0 reads.1.0 to reads.1.1.1.1.0.spelled)
-
 statement_longer : (tree : CommandTree) (name : Word) (behind to : List Lexeme) → IsStatement tree name behind to → length to < length behind
 statement_longer tree name behind to is = omega (arith, arguments_longer is.0 behind (mark K.Semicolon ∷ to) is.1.0.spelled)
 
@@ -66,22 +58,22 @@ mutual
 
   choice_longer : (branches : Branches) (name : Word) (behind to : List Lexeme) → IsChoice branches name behind to → length to < length behind
   choice_longer no_branches name behind to is = absurd is
-  choice_longer (branch test block more) name behind to is =
+  choice_longer (branch condition block more) name behind to is =
       let next = is.1.0 in
       let tested = is.1.1.0 in
       let braced = tested.1.1 in
-      omega (arith, test_longer test behind tested.0 tested.1.0, ap length braced.1.0, all_longer block braced.0 (mark K.CloseBrace ∷ next) braced.1.1, branches_longer more next to is.1.1.1)
+      omega (arith, reads_test_longer condition behind tested.0 tested.1.0, ap length braced.1.0, all_longer block braced.0 (mark K.CloseBrace ∷ next) braced.1.1, branches_longer more next to is.1.1.1)
 
   branches_longer : (branches : Branches) (from to : List Lexeme) → AreBranches branches from to → length to ≤ length from
   branches_longer no_branches from to are = omega (arith, ap length are.0)
-  branches_longer (branch test block more) from to are =
+  branches_longer (branch condition block more) from to are =
       elim are [
         | inl one ↦
             let behind = one.0 in
             let next = one.1.1.0 in
             let tested = one.1.1.1.0 in
             let braced = tested.1.1 in
-            omega (arith, ap length one.1.0, test_longer test behind tested.0 tested.1.0, ap length braced.1.0, all_longer block braced.0 (mark K.CloseBrace ∷ next) braced.1.1, branches_longer more next to one.1.1.1.1)
+            omega (arith, ap length one.1.0, reads_test_longer condition behind tested.0 tested.1.0, ap length braced.1.0, all_longer block braced.0 (mark K.CloseBrace ∷ next) braced.1.1, branches_longer more next to one.1.1.1.1)
         | inr last ↦
             let braced = last.1.1.0 in
             omega (arith, ap length last.1.0, ap length braced.1.0, all_longer block braced.0 (mark K.CloseBrace ∷ to) braced.1.1)
@@ -130,11 +122,11 @@ module _ (granted : Granted) (room inner_room : ℕ) (more_room : room ≡ inner
 -- branches as a list
 abbrev pub list_of_branches : Branches → List (TestTree × Commands)
 list_of_branches no_branches = []
-list_of_branches (branch test block more) = (test, block) ∷ list_of_branches more
+list_of_branches (branch condition block more) = (condition, block) ∷ list_of_branches more
 
 branches_of-list_of : (bs : Branches) → branches_of (list_of_branches bs) ≡ bs
 branches_of-list_of no_branches = refl
-branches_of-list_of (branch test block more) = ap (branch test block) (branches_of-list_of more)
+branches_of-list_of (branch condition block more) = ap (branch condition block) (branches_of-list_of more)
 
 -- branches behind the first: each `elsif`, and an `else` or none
 pub record AreParted (granted : Granted) (room : ℕ) (all : List (TestTree × Commands)) (from to : List Lexeme) : Type 0 where
@@ -155,9 +147,18 @@ past_elsif (word W.Stop ∷ _) past = tt
 past_elsif (word W.Keep ∷ _) past = tt
 past_elsif (word W.Discard ∷ _) past = tt
 past_elsif (word W.FileInto ∷ _) past = tt
+past_elsif (word W.Redirect ∷ _) past = tt
+past_elsif (word W.Vacation ∷ _) past = tt
 past_elsif (word W.True ∷ _) past = tt
 past_elsif (word W.False ∷ _) past = tt
+past_elsif (word W.Not ∷ _) past = tt
+past_elsif (word W.AllOf ∷ _) past = tt
+past_elsif (word W.AnyOf ∷ _) past = tt
 past_elsif (word W.Size ∷ _) past = tt
+past_elsif (word W.Exists ∷ _) past = tt
+past_elsif (word W.Header ∷ _) past = tt
+past_elsif (word W.Address ∷ _) past = tt
+past_elsif (word W.Envelope ∷ _) past = tt
 past_elsif (word W.Other ∷ _) past = tt
 past_elsif (tag _ ∷ _) past = tt
 past_elsif (number _ ∷ _) past = tt
@@ -169,7 +170,7 @@ module _ (granted : Granted) (room : ℕ) where
   branches_parted no_branches from to are may low =
       let past : IsPastBranches from = subst IsPastBranches (sym are.0) are.1 in
       record { each = []; last = []; middle = from; parts = refl; elsifs = (refl, past_elsif from past); ends = (are.0, past) }
-  branches_parted (branch test block more) from to are may low =
+  branches_parted (branch condition block more) from to are may low =
       let low_block : depth block + 1 ≤ room = omega (arith, low) in
       let low_more : branches_depth more + 1 ≤ room = omega (arith, low) in
       elim are [
@@ -177,22 +178,22 @@ module _ (granted : Granted) (room : ℕ) where
             let behind = one.0 in
             let next = one.1.1.0 in
             let tested = one.1.1.1.0 in
-            let rest = branches_parted more next to one.1.1.1.1 may.1 low_more in record {
-              each = (test, block) ∷ rest.each;
+            let rest = branches_parted more next to one.1.1.1.1 may.1.1 low_more in record {
+              each = (condition, block) ∷ rest.each;
               last = rest.last;
               middle = rest.middle;
-              parts = ap (λ l. (test, block) ∷ l) rest.parts;
-              elsifs = ((next, ((behind, (one.1.0, (tested.0, (tested.1.0, (tested.1.1, (may.0, low_block)))))), rest.elsifs.0)), rest.elsifs.1);
+              parts = ap (λ l. (condition, block) ∷ l) rest.parts;
+              elsifs = ((next, ((behind, (one.1.0, (tested.0, ((tested.1.0, may.0), (tested.1.1, (may.1.0, low_block)))))), rest.elsifs.0)), rest.elsifs.1);
               ends = rest.ends;
             }
         | inr last ↦
             record {
               each = [];
-              last = (test, block) ∷ [];
+              last = (condition, block) ∷ [];
               middle = from;
-              parts = ap (λ bs. (test, block) ∷ list_of_branches bs) last.1.1.1.1;
+              parts = ap (λ bs. (condition, block) ∷ list_of_branches bs) last.1.1.1.1;
               elsifs = (refl, subst IsPastElsif (sym last.1.0) tt);
-              ends = (last.0, (last.1.0, (last.1.1.1.0, (last.1.1.0, (may.0, low_block)))));
+              ends = (last.0, (last.1.0, (last.1.1.1.0, (last.1.1.0, (may.1.0, low_block)))));
             }
       ]
 
@@ -201,7 +202,7 @@ module _ (granted : Granted) (room : ℕ) where
   last_joined (one ∷ []) from to some ends =
       let block = ends.1.1.1 in
       let low : depth one.1 + 1 ≤ room = block.1.1 in
-      (inr (ends.0, (ends.1.0, (block.0, (ends.1.1.0, refl)))), ((block.1.0, tt), omega (arith, low, some)))
+      (inr (ends.0, (ends.1.0, (block.0, (ends.1.1.0, refl)))), ((subst (MayAsk granted 32 32) (sym ends.1.1.0) (tt, (omega arith, omega arith)), (block.1.0, tt)), omega (arith, low, some)))
   last_joined (one ∷ (two ∷ more)) from to some none = absurd none
 
   branches_joined : (each last : List (TestTree × Commands)) (from middle to : List Lexeme) → 1 ≤ room → Chain (TakesElsif granted room) each from middle → TakesElse granted room last middle to → AreBranches (branches_of (each ++ last)) from to × (MayBranch granted (branches_of (each ++ last)) × (branches_depth (branches_of (each ++ last)) + 1 ≤ room))
@@ -212,7 +213,7 @@ module _ (granted : Granted) (room : ℕ) where
       let block = at.1.1.1.1 in
       let low : depth one.1 + 1 ≤ room = block.1.1 in
       let lower : branches_depth (branches_of (more ++ last)) + 1 ≤ room = rest.1.1 in
-      (inl (at.0, (at.1.0, (chain.0, ((at.1.1.0, (at.1.1.1.0, block.0)), rest.0)))), ((block.1.0, rest.1.0), omega (arith, low, lower)))
+      (inl (at.0, (at.1.0, (chain.0, ((at.1.1.0, (at.1.1.1.0.0, block.0)), rest.0)))), ((at.1.1.1.0.1, (block.1.0, rest.1.0)), omega (arith, low, lower)))
 
 -- the parts of an `if`
 pub record IsIf (granted : Granted) (room : ℕ) (tree : CommandTree) (behind to : List Lexeme) : Type 0 where
@@ -227,18 +228,18 @@ module _ (granted : Granted) (room : ℕ) (behind : List Lexeme) where
   if_parts : (tree : CommandTree) (to : List Lexeme) → TakesBehind granted room W.If tree behind to → IsIf granted room tree behind to
   if_parts (require names) to takes = absurd takes.0.1.1
   if_parts (choose no_branches) to takes = absurd takes.0
-  if_parts (choose (branch test block more)) to takes =
+  if_parts (choose (branch condition block more)) to takes =
       let next = takes.0.1.0 in
       let tested = takes.0.1.1.0 in
       let low : suc (max (depth block) (branches_depth more)) ≤ room = takes.1.1 in
       let low_block : depth block + 1 ≤ room = omega (arith, low) in
       let low_more : branches_depth more + 1 ≤ room = omega (arith, low) in record {
-        one = (test, block);
+        one = (condition, block);
         more = more;
         tree_is = refl;
         next = next;
-        first = (tested.0, (tested.1.0, (tested.1.1, (takes.1.0.0, low_block))));
-        others = branches_parted granted room more next to takes.0.1.1.1 takes.1.0.1 low_more;
+        first = (tested.0, ((tested.1.0, takes.1.0.0), (tested.1.1, (takes.1.0.1.0, low_block))));
+        others = branches_parted granted room more next to takes.0.1.1.1 takes.1.0.1.1 low_more;
       }
   if_parts stop to takes = absurd takes.0.1.1
   if_parts (act action) to takes = absurd takes.0.1.1
@@ -285,21 +286,21 @@ module _ (granted : Granted) (room : ℕ) (behind : List Lexeme) where
             let rest = branches_joined granted room each last next mid to (omega (arith, low)) elsifs.0 ends in
             let lower : branches_depth (branches_of (each ++ last)) + 1 ≤ room = rest.1.1 in
             let same : branch one.0 one.1 (branches_of (each ++ last)) ≡ branches_of whole = ap branches_of (sym (whole_is ∙ ap (λ l. l ++ last) all_is)) in
-            let takes : TakesBehind granted room W.If (choose (branch one.0 one.1 (branches_of (each ++ last)))) behind to = ((refl, (next, ((first.0, (first.1.0, block.0)), rest.0))), ((block.1.0, rest.1.0), omega (arith, low, lower))) in
+            let takes : TakesBehind granted room W.If (choose (branch one.0 one.1 (branches_of (each ++ last)))) behind to = ((refl, (next, ((first.0, (first.1.0.0, block.0)), rest.0))), ((first.1.0.1, (block.1.0, rest.1.0)), omega (arith, low, lower))) in
             subst (λ bs. TakesBehind granted room W.If (choose bs) behind to) same takes
 
 module _ (granted : Granted) (room : ℕ) (behind : List Lexeme) where
   -- no test
-  pub branch_no_test : ((test : TestTree) (to : List Lexeme) → ReadsTest test behind to → ⊥) → (one : TestTree × Commands) (to : List Lexeme) → TakesBranch granted room one behind to → ⊥
+  pub branch_no_test : ((condition : TestTree) (to : List Lexeme) → TakesTest granted 32 32 condition behind to → ⊥) → (one : TestTree × Commands) (to : List Lexeme) → TakesBranch granted room one behind to → ⊥
   branch_no_test none one to takes = none one.0 takes.0 takes.1.0
 
-  module _ (test : TestTree) (start : List Lexeme) (only : (other : TestTree) (to : List Lexeme) → ReadsTest other behind to → (other ≡ test) × (to ≡ start)) where
+  module _ (condition : TestTree) (start : List Lexeme) (only : (other : TestTree) (to : List Lexeme) → TakesTest granted 32 32 other behind to → (other ≡ condition) × (to ≡ start)) where
     -- no block
     pub branch_no_block : ((block : Commands) (to : List Lexeme) → TakesBlock granted room block start to → ⊥) → (one : TestTree × Commands) (to : List Lexeme) → TakesBranch granted room one behind to → ⊥
     branch_no_block none one to takes = none one.1 to (subst (λ l. TakesBlock granted room one.1 l to) (only one.0 takes.0 takes.1.0).1 takes.1.1)
 
     -- the one branch
-    pub branch_found : ReadsTest test behind start → (block : Commands) (to : List Lexeme) → TakesBlock granted room block start to × ((other : Commands) (end : List Lexeme) → TakesBlock granted room other start end → (other ≡ block) × (end ≡ to)) → TakesBranch granted room (test, block) behind to × ((other : TestTree × Commands) (end : List Lexeme) → TakesBranch granted room other behind end → (other ≡ (test, block)) × (end ≡ to))
+    pub branch_found : TakesTest granted 32 32 condition behind start → (block : Commands) (to : List Lexeme) → TakesBlock granted room block start to × ((other : Commands) (end : List Lexeme) → TakesBlock granted room other start end → (other ≡ block) × (end ≡ to)) → TakesBranch granted room (condition, block) behind to × ((other : TestTree × Commands) (end : List Lexeme) → TakesBranch granted room other behind end → (other ≡ (condition, block)) × (end ≡ to))
     branch_found tested block to found = (
       (start, (tested, found.0)),
       λ other end takes.
@@ -338,7 +339,7 @@ module _ (granted : Granted) (room : ℕ) (whole : List Lexeme) (each : List (Te
     pub elsif_shorter : (one : TestTree × Commands) (next : List Lexeme) → TakesBranch granted room one mid next → length next < length rest
     elsif_shorter one next takes =
         let braced = takes.1.1.0 in
-        omega (arith, ap length opens, test_longer one.0 mid takes.0 takes.1.0, ap length braced.1.0, all_longer one.1 braced.0 (mark K.CloseBrace ∷ next) braced.1.1)
+        omega (arith, ap length opens, reads_test_longer one.0 mid takes.0 takes.1.0.0, ap length braced.1.0, all_longer one.1 braced.0 (mark K.CloseBrace ∷ next) braced.1.1)
 
 -- an `else` read
 module _ (granted : Granted) (room : ℕ) (from mid : List Lexeme) (opens : from ≡ word W.Else ∷ mid) where

@@ -4,6 +4,7 @@ pub mod FaultLemmas
 pub mod SettingLemmas
 pub mod RowLemmas
 pub mod ViewLemmas
+pub mod TestLemmas
 pub mod ParserLemmas
 pub mod BlockLemmas
 pub mod OpeningLemmas

@@ -17,26 +17,26 @@ use Rattle.sievesyntax.specs.declared.granted.Granted.{Granted}
 use Rattle.sievesyntax.specs.Lexemes.{Lexeme, word, mark}
 use Rattle.sievesyntax.specs.Arguments.{AreArguments}
 use Rattle.sievesyntax.specs.Chains.{Chain}
-use Rattle.sievesyntax.specs.Rows.{IsRequire, IsPlainCommand}
+use Rattle.sievesyntax.specs.Rows.{IsList, IsPlainCommand}
 use Rattle.sievesyntax.specs.Tree.{CommandTree, require, choose, stop, act, no_branches, branch, Commands, no_commands, command, depth}
 use Rattle.sievesyntax.specs.View.{commands_of}
-use Rattle.sievesyntax.specs.Valid.{IsCapability, MayStand, MayAllStand, required, behind_requires, granted_by, IsValid}
-use Rattle.sievesyntax.specs.Reading.{IsStatement, IsCommand, AreCommands, ReadsCommand, TakesAll, TakesRequire, TakesRequires, IsPastRequires, all_names, Reads}
+use Rattle.sievesyntax.specs.Valid.{IsCapability, is_named, MayStand, MayAllStand, required, behind_requires, granted_by, IsValid}
+use Rattle.sievesyntax.specs.Reading.{IsStatement, IsCommand, AreCommands, ReadsCommand, TakesAll, TakesRequire, TakesRequires, IsPastRequires, all_names, granted_too, Reads}
 
 -- the arguments of a `require`
 module _ (behind : List Lexeme) (args : List Argument) (next : List Lexeme) (only : (other : List Argument) (to : List Lexeme) → AreArguments other behind to → (other ≡ args) × (to ≡ next)) where
   -- no names
-  pub names_none : ((names : List (List ℕ)) → IsRequire args names → ⊥) → (names : List (List ℕ)) (to : List Lexeme) → IsStatement (require names) W.Require behind to → ⊥
-  names_none none names to is = let same = only is.0 (mark K.Semicolon ∷ to) is.1.0 in none is.1.1.0 (subst (λ a. IsRequire a is.1.1.0) same.0 is.1.1.1.0)
+  pub names_none : ((names : List (List ℕ)) → IsList args names → ⊥) → (names : List (List ℕ)) (to : List Lexeme) → IsStatement (require names) W.Require behind to → ⊥
+  names_none none names to is = let same = only is.0 (mark K.Semicolon ∷ to) is.1.0 in none is.1.1.0 (subst (λ a. IsList a is.1.1.0) same.0 is.1.1.1.0)
 
   -- the one list of names
-  pub names_found : AreArguments args behind next → (names : List (List ℕ)) → IsRequire args names → ((other : List (List ℕ)) → IsRequire args other → other ≡ names) → (to : List Lexeme) → next ≡ mark K.Semicolon ∷ to → IsStatement (require names) W.Require behind to × ((other : List (List ℕ)) (end : List Lexeme) → IsStatement (require other) W.Require behind end → (other ≡ names) × (end ≡ to))
+  pub names_found : AreArguments args behind next → (names : List (List ℕ)) → IsList args names → ((other : List (List ℕ)) → IsList args other → other ≡ names) → (to : List Lexeme) → next ≡ mark K.Semicolon ∷ to → IsStatement (require names) W.Require behind to × ((other : List (List ℕ)) (end : List Lexeme) → IsStatement (require other) W.Require behind end → (other ≡ names) × (end ≡ to))
   names_found are names is alone to semicolon = (
     (args, (subst (AreArguments args behind) semicolon are, (names, (is, refl)))),
     λ other end statement.
         let same = only statement.0 (mark K.Semicolon ∷ end) statement.1.0 in
         let ends : mark K.Semicolon ∷ end ≡ mark K.Semicolon ∷ to = same.1 ∙ semicolon in
-        let it = alone statement.1.1.0 (subst (λ a. IsRequire a statement.1.1.0) same.0 statement.1.1.1.0) in
+        let it = alone statement.1.1.0 (subst (λ a. IsList a statement.1.1.0) same.0 statement.1.1.1.0) in
         let tree : require other ≡ require statement.1.1.0 = statement.1.1.1.1 in
         let named : other ≡ statement.1.1.0 = cc in
         (named ∙ it, cc),
@@ -52,10 +52,43 @@ require_word W.Stop args names is = let e = is.1 in cc
 require_word W.Keep args names is = let e = is.1 in cc
 require_word W.Discard args names is = let e = is.1 in cc
 require_word W.FileInto args names is = let e = is.1.1 in cc
+require_word W.Redirect args names is = absurd is
+require_word W.Vacation args names is = absurd is
 require_word W.True args names is = absurd is
 require_word W.False args names is = absurd is
+require_word W.Not args names is = absurd is
+require_word W.AllOf args names is = absurd is
+require_word W.AnyOf args names is = absurd is
 require_word W.Size args names is = absurd is
+require_word W.Exists args names is = absurd is
+require_word W.Header args names is = absurd is
+require_word W.Address args names is = absurd is
+require_word W.Envelope args names is = absurd is
 require_word W.Other args names is = absurd is
+
+-- any other word is past the requires
+past_word : (name : Word) (behind : List Lexeme) → (name ≡ W.Require → ⊥) → IsPastRequires (word name ∷ behind)
+past_word W.Require behind other = other refl
+past_word W.If behind other = tt
+past_word W.Elsif behind other = tt
+past_word W.Else behind other = tt
+past_word W.Stop behind other = tt
+past_word W.Keep behind other = tt
+past_word W.Discard behind other = tt
+past_word W.FileInto behind other = tt
+past_word W.Redirect behind other = tt
+past_word W.Vacation behind other = tt
+past_word W.True behind other = tt
+past_word W.False behind other = tt
+past_word W.Not behind other = tt
+past_word W.AllOf behind other = tt
+past_word W.AnyOf behind other = tt
+past_word W.Size behind other = tt
+past_word W.Exists behind other = tt
+past_word W.Header behind other = tt
+past_word W.Address behind other = tt
+past_word W.Envelope behind other = tt
+past_word W.Other behind other = tt
 
 -- no `require` stands past the requires
 past_none : (rest : List Lexeme) → IsPastRequires rest → (names : List (List ℕ)) (to : List Lexeme) → TakesRequire names rest to → ⊥
@@ -77,12 +110,13 @@ all_names-push [] names = append-nil names
 all_names-push (first ∷ more) names = ap (λ l. first ++ l) (all_names-push more names) ∙ sym (append_assoc first (all_names more) names)
 
 -- what one `require` more grants
-pub granted_push : (old new : Granted) (each : List (List (List ℕ))) (names : List (List ℕ)) → old ≡ granted_by (all_names each) → new.fileinto ≡ (old.fileinto || list_any (λ name. pointwise nat_eq name (codes "fileinto")) names) → new ≡ granted_by (all_names (each ++ names ∷ []))
+pub granted_push : (old new : Granted) (each : List (List (List ℕ))) (names : List (List ℕ)) → old ≡ granted_by (all_names each) → new ≡ granted_too old names → new ≡ granted_by (all_names (each ++ names ∷ []))
 granted_push old new each names was made =
-    let test : List ℕ → Bool = λ name. pointwise nat_eq name (codes "fileinto") in
-    let all : new.fileinto ≡ list_any test (all_names (each ++ names ∷ [])) =
-    made ∙ ap (λ g. g.fileinto || list_any test names) was ∙ sym (list_any-append test (all_names each) names) ∙ ap (list_any test) (sym (all_names-push each names)) in
-    λ i. record { fileinto = all i }
+    let also : (word : List ℕ) → list_any (is_named word) (all_names each) || list_any (is_named word) names ≡ list_any (is_named word) (all_names (each ++ names ∷ [])) =
+    λ word. sym (list_any-append (is_named word) (all_names each) names) ∙ ap (list_any (is_named word)) (sym (all_names-push each names)) in
+    let now : granted_too (granted_by (all_names each)) names ≡ granted_by (all_names (each ++ names ∷ [])) =
+    λ i. record { fileinto = also (codes "fileinto") i; envelope = also (codes "envelope") i; vacation = also (codes "vacation") i } in
+    made ∙ ap (λ g. granted_too g names) was ∙ now
 
 module _ (whole : List Lexeme) (each : List (List (List ℕ))) (rest : List Lexeme) (so : IsSoFar TakesRequire IsPastRequires whole each rest) where
   -- no `require` follows
@@ -188,30 +222,8 @@ module _ (granted : Granted) where
       other (require names) name behind none is = absurd none
       other (choose no_branches) name behind may' is = absurd is
       other (choose (branch test block more)) name behind may' is = subst (λ w. IsPastRequires (word w ∷ behind)) (sym is.0) tt
-      other stop W.Require behind may' is = let e = is.1.1.1.1 in let no : ⊥ = cc in no
-      other stop W.If behind may' is = tt
-      other stop W.Elsif behind may' is = tt
-      other stop W.Else behind may' is = tt
-      other stop W.Stop behind may' is = tt
-      other stop W.Keep behind may' is = tt
-      other stop W.Discard behind may' is = tt
-      other stop W.FileInto behind may' is = tt
-      other stop W.True behind may' is = tt
-      other stop W.False behind may' is = tt
-      other stop W.Size behind may' is = tt
-      other stop W.Other behind may' is = tt
-      other (act action) W.Require behind may' is = let e = is.1.1.1.1 in let no : ⊥ = cc in no
-      other (act action) W.If behind may' is = tt
-      other (act action) W.Elsif behind may' is = tt
-      other (act action) W.Else behind may' is = tt
-      other (act action) W.Stop behind may' is = tt
-      other (act action) W.Keep behind may' is = tt
-      other (act action) W.Discard behind may' is = tt
-      other (act action) W.FileInto behind may' is = tt
-      other (act action) W.True behind may' is = tt
-      other (act action) W.False behind may' is = tt
-      other (act action) W.Size behind may' is = tt
-      other (act action) W.Other behind may' is = tt
+      other stop name behind may' is = past_word name behind (λ same. let e = (subst (λ w. IsStatement stop w behind to) same is).1.1.1.1 in cc)
+      other (act action) name behind may' is = past_word name behind (λ same. let e = (subst (λ w. IsStatement (act action) w behind to) same is).1.1.1.1 in cc)
 
   -- a script is requires and then commands
   pub parted : (cs : Commands) (from : List Lexeme) → Reads cs from → All IsCapability (required cs) → MayAllStand granted (behind_requires cs) → (mid : List Lexeme) × (TakesRequires (requires_of cs) from mid × AreCommands (behind_requires cs) mid [])

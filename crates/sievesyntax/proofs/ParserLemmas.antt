@@ -14,18 +14,27 @@ use Rattle.sievesyntax.specs.Reading.{IsStatement, IsCommand, TakesBehind}
 
 -- an `if` is no statement
 not_choose : (name : Word) (args : List Argument) (branches : Branches) → IsPlainCommand name args (choose branches) → ⊥
-not_choose W.Require args branches is = let e = is.1.1 in cc
-not_choose W.If args branches is = is
-not_choose W.Elsif args branches is = is
-not_choose W.Else args branches is = is
-not_choose W.Stop args branches is = let e = is.1 in cc
-not_choose W.Keep args branches is = let e = is.1 in cc
-not_choose W.Discard args branches is = let e = is.1 in cc
-not_choose W.FileInto args branches is = let e = is.1.1 in cc
-not_choose W.True args branches is = is
-not_choose W.False args branches is = is
-not_choose W.Size args branches is = is
-not_choose W.Other args branches is = is
+not_choose W.Require args chosen is = let e = is.1.1 in cc
+not_choose W.If args chosen is = is
+not_choose W.Elsif args chosen is = is
+not_choose W.Else args chosen is = is
+not_choose W.Stop args chosen is = let e = is.1 in cc
+not_choose W.Keep args chosen is = let e = is.1 in cc
+not_choose W.Discard args chosen is = let e = is.1 in cc
+not_choose W.FileInto args chosen is = let e = is.1.1 in cc
+not_choose W.Redirect args chosen is = is
+not_choose W.Vacation args chosen is = is
+not_choose W.True args chosen is = is
+not_choose W.False args chosen is = is
+not_choose W.Not args chosen is = is
+not_choose W.AllOf args chosen is = is
+not_choose W.AnyOf args chosen is = is
+not_choose W.Size args chosen is = is
+not_choose W.Exists args chosen is = is
+not_choose W.Header args chosen is = is
+not_choose W.Address args chosen is = is
+not_choose W.Envelope args chosen is = is
+not_choose W.Other args chosen is = is
 
 -- a statement has no block
 plain_depth : (name : Word) (args : List Argument) (tree : CommandTree) (room : ℕ) → IsPlainCommand name args tree → depth_of tree ≤ room

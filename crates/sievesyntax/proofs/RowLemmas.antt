@@ -1,24 +1,59 @@
 -- Lemmas on the rows of the table.
-use Rattle.std.proofs.Common.{◌≡◌, ℕ, List, ap, ◌∙◌, subst}
+use Rattle.std.proofs.Common.{◌≡◌, ℕ, true, false, List, ap, ◌∙◌, subst}
 use Rattle.sievesyntax.specs.declared.lexeme.Word.{Word}
 use Rattle.sievesyntax.specs.declared.lexeme.Word.TheVariants as W
 use Rattle.sievesyntax.specs.declared.checks.Size.{Size}
+use Rattle.sievesyntax.specs.declared.checks.Header.{Header}
+use Rattle.sievesyntax.specs.declared.checks.Address.{Address}
+use Rattle.sievesyntax.specs.declared.checks.EnvelopeTest.{EnvelopeTest}
 use Rattle.sievesyntax.specs.declared.checks.Check.TheVariants as C
 use Rattle.sievesyntax.specs.declared.action.Action.TheVariants as D
 use Rattle.sievesyntax.specs.declared.argument.Argument.{Argument}
 use Rattle.sievesyntax.specs.declared.granted.Granted.{Granted}
 use Rattle.sievesyntax.specs.Tree.{TestTree, looks, CommandTree, act}
-use Rattle.sievesyntax.specs.Rows.{IsSize, IsFileInto, IsPlainTest, IsPlainCommand}
-use Rattle.sievesyntax.specs.Valid.{IsMailbox, MayStand}
+use Rattle.sievesyntax.specs.Rows.{IsSize, IsHeader, IsAddress, IsEnvelope, IsFileInto, IsList, IsPlainTest, IsPlainCommand}
+use Rattle.sievesyntax.specs.Valid.{IsMailbox, MayTest, MayStand}
 
-module _ (word : Word) (args : List Argument) (is_size : word ≡ W.Size) where
-  -- no size, no test
-  pub size_none : ((size : Size) → IsSize args size → ⊥) → (other : TestTree) → IsPlainTest word args other → ⊥
-  size_none none other is = let at = subst (λ w. IsPlainTest w args other) is_size is in none at.0 at.1.0
+module _ (word : Word) (args : List Argument) (granted : Granted) where
+  -- no arguments of this kind, no test
+  pub size_none : word ≡ W.Size → ((x : Size) → IsSize args x → ⊥) → (other : TestTree) → IsPlainTest word args other → MayTest granted other → ⊥
+  size_none is_word none other is may = let at = subst (λ w. IsPlainTest w args other) is_word is in none at.0 at.1.0
 
-  -- one size, one test
-  pub size_only : (size : Size) → ((y : Size) → IsSize args y → y ≡ size) → (other : TestTree) → IsPlainTest word args other → other ≡ looks (C.Size size)
-  size_only size only other is = let at = subst (λ w. IsPlainTest w args other) is_size is in at.1.1 ∙ ap (λ s. looks (C.Size s)) (only at.0 at.1.0)
+  pub exists_none : word ≡ W.Exists → ((x : List (List ℕ)) → IsList args x → ⊥) → (other : TestTree) → IsPlainTest word args other → MayTest granted other → ⊥
+  exists_none is_word none other is may = let at = subst (λ w. IsPlainTest w args other) is_word is in none at.0 at.1.0
+
+  pub header_none : word ≡ W.Header → ((x : Header) → IsHeader args x → ⊥) → (other : TestTree) → IsPlainTest word args other → MayTest granted other → ⊥
+  header_none is_word none other is may = let at = subst (λ w. IsPlainTest w args other) is_word is in none at.0 at.1.0
+
+  pub address_none : word ≡ W.Address → ((x : Address) → IsAddress args x → ⊥) → (other : TestTree) → IsPlainTest word args other → MayTest granted other → ⊥
+  address_none is_word none other is may = let at = subst (λ w. IsPlainTest w args other) is_word is in none at.0 at.1.0
+
+  pub envelope_none : word ≡ W.Envelope → ((x : EnvelopeTest) → IsEnvelope args x → ⊥) → (other : TestTree) → IsPlainTest word args other → MayTest granted other → ⊥
+  envelope_none is_word none other is may = let at = subst (λ w. IsPlainTest w args other) is_word is in none at.0 at.1.0
+
+module _ (word : Word) (args : List Argument) where
+  -- these arguments alone, this test alone
+  pub size_only : word ≡ W.Size → (x : Size) → ((y : Size) → IsSize args y → y ≡ x) → (other : TestTree) → IsPlainTest word args other → other ≡ looks (C.Size x)
+  size_only is_word x only other is = let at = subst (λ w. IsPlainTest w args other) is_word is in at.1.1 ∙ ap (λ y. looks (C.Size y)) (only at.0 at.1.0)
+
+  pub exists_only : word ≡ W.Exists → (x : List (List ℕ)) → ((y : List (List ℕ)) → IsList args y → y ≡ x) → (other : TestTree) → IsPlainTest word args other → other ≡ looks (C.Exists x)
+  exists_only is_word x only other is = let at = subst (λ w. IsPlainTest w args other) is_word is in at.1.1 ∙ ap (λ y. looks (C.Exists y)) (only at.0 at.1.0)
+
+  pub header_only : word ≡ W.Header → (x : Header) → ((y : Header) → IsHeader args y → y ≡ x) → (other : TestTree) → IsPlainTest word args other → other ≡ looks (C.Header x)
+  header_only is_word x only other is = let at = subst (λ w. IsPlainTest w args other) is_word is in at.1.1 ∙ ap (λ y. looks (C.Header y)) (only at.0 at.1.0)
+
+  pub address_only : word ≡ W.Address → (x : Address) → ((y : Address) → IsAddress args y → y ≡ x) → (other : TestTree) → IsPlainTest word args other → other ≡ looks (C.Address x)
+  address_only is_word x only other is = let at = subst (λ w. IsPlainTest w args other) is_word is in at.1.1 ∙ ap (λ y. looks (C.Address y)) (only at.0 at.1.0)
+
+  pub envelope_only : word ≡ W.Envelope → (x : EnvelopeTest) → ((y : EnvelopeTest) → IsEnvelope args y → y ≡ x) → (other : TestTree) → IsPlainTest word args other → other ≡ looks (C.Envelope x)
+  envelope_only is_word x only other is = let at = subst (λ w. IsPlainTest w args other) is_word is in at.1.1 ∙ ap (λ y. looks (C.Envelope y)) (only at.0 at.1.0)
+
+-- an `envelope` without its capability may not stand
+pub envelope_barred : (word : Word) (args : List Argument) (granted : Granted) → word ≡ W.Envelope → granted.envelope ≡ false → (other : TestTree) → IsPlainTest word args other → MayTest granted other → ⊥
+envelope_barred word args granted is_word none other is may =
+    let at = subst (λ w. IsPlainTest w args other) is_word is in
+    let there : MayTest granted (looks (C.Envelope at.0)) = subst (MayTest granted) at.1.1 may in
+    cc
 
 module _ (word : Word) (args : List Argument) (is_fileinto : word ≡ W.FileInto) where
   -- no mailbox, no command

@@ -1,5 +1,5 @@
 -- The view, case by case.
-use Rattle.std.proofs.Common.{◌≡◌, ◌∙◌, ap, ℕ, List, [], ◌∷◌, ◌++◌, map, rules, Vec, Global}
+use Rattle.std.proofs.Common.{◌≡◌, ◌∙◌, ap, ℕ, List, [], ◌∷◌, ◌++◌, map, rules, Vec, Box, Global}
 use Rattle.std.proofs.lemmas.List.{map-append}
 use Rattle.sievesyntax.specs.declared.action.Action.{Action}
 use Rattle.sievesyntax.specs.declared.checks.Check.{Check}
@@ -18,6 +18,9 @@ view-False = search (rules, Test.the_lemmas)
 
 pub view-Check : (check : Check) → test_view (Test.Check check) ≡ looks check
 view-Check check = search (rules, Test.the_lemmas)
+
+pub view-Not : (inner : Box Test Global) → test_view (Test.Not inner) ≡ not_of (test_view inner.value)
+view-Not inner = search (rules, Test.the_lemmas)
 
 pub view-AllOf : (inner : Vec Test Global) → test_view (Test.AllOf inner) ≡ all_of (tests_view inner.items)
 view-AllOf inner = search (rules, Test.the_lemmas)
@@ -39,6 +42,10 @@ view-Act action = search (rules, the_lemmas)
 
 pub view-Branch : (test : Test) (block : Vec Command Global) → branch_view (roll-Branch (record { test = test; block = block })) ≡ (test_view test, commands_view block.items)
 view-Branch test block = search (rules, the_lemmas)
+
+-- one test more
+pub push-test : (old new : List Test) (one : Test) → new ≡ old ++ one ∷ [] → map test_view new ≡ map test_view old ++ test_view one ∷ []
+push-test old new one same = ap (map test_view) same ∙ map-append test_view old (one ∷ [])
 
 -- one branch more
 pub push-branch : (old new : List Branch) (one : Branch) → new ≡ old ++ one ∷ [] → map branch_view new ≡ map branch_view old ++ branch_view one ∷ []

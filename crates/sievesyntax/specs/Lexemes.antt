@@ -29,17 +29,39 @@ word_of name =
     (cond (same_name name (codes "keep")) W.Keep
     (cond (same_name name (codes "discard")) W.Discard
     (cond (same_name name (codes "fileinto")) W.FileInto
+    (cond (same_name name (codes "redirect")) W.Redirect
+    (cond (same_name name (codes "vacation")) W.Vacation
     (cond (same_name name (codes "true")) W.True
     (cond (same_name name (codes "false")) W.False
+    (cond (same_name name (codes "not")) W.Not
+    (cond (same_name name (codes "allof")) W.AllOf
+    (cond (same_name name (codes "anyof")) W.AnyOf
     (cond (same_name name (codes "size")) W.Size
-    W.Other))))))))))
+    (cond (same_name name (codes "exists")) W.Exists
+    (cond (same_name name (codes "header")) W.Header
+    (cond (same_name name (codes "address")) W.Address
+    (cond (same_name name (codes "envelope")) W.Envelope
+    W.Other)))))))))))))))))))
 
 -- the tag of this name
 abbrev pub tag_of : List ℕ → Tag
 tag_of name =
     cond (same_name name (codes "over")) T.Over
     (cond (same_name name (codes "under")) T.Under
-    T.Other)
+    (cond (same_name name (codes "comparator")) T.Comparator
+    (cond (same_name name (codes "is")) T.Is
+    (cond (same_name name (codes "contains")) T.Contains
+    (cond (same_name name (codes "matches")) T.Matches
+    (cond (same_name name (codes "all")) T.All
+    (cond (same_name name (codes "localpart")) T.LocalPart
+    (cond (same_name name (codes "domain")) T.Domain
+    (cond (same_name name (codes "days")) T.Days
+    (cond (same_name name (codes "subject")) T.Subject
+    (cond (same_name name (codes "from")) T.From
+    (cond (same_name name (codes "addresses")) T.Addresses
+    (cond (same_name name (codes "mime")) T.Mime
+    (cond (same_name name (codes "handle")) T.Handle
+    T.Other))))))))))))))
 
 -- a word of the grammar (RFC 5228, 8.2); a mark is known by its kind
 pub data Lexeme : Type 0 where

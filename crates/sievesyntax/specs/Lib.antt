@@ -5,6 +5,8 @@ pub mod Parsing
 pub mod Reading
 pub mod Rows
 pub mod Settings
+pub mod Lookups
+pub mod Tests
 pub mod SoFar
 pub mod Tree
 pub mod Valid

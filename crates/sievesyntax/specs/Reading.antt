@@ -1,5 +1,5 @@
--- The grammar of tests and commands (RFC 5228, 8.2).
-use Rattle.std.specs.Prelude.{◌≡◌, ◌⊎◌, ◌≤◌, ◌+◌, ℕ, List, [], ◌∷◌, ◌++◌, All}
+-- The grammar of commands (RFC 5228, 8.2).
+use Rattle.std.specs.Prelude.{◌≡◌, ◌⊎◌, ◌≤◌, ◌+◌, ◌||◌, ℕ, List, [], ◌∷◌, ◌++◌, All}
 use Rattle.sievelex.specs.declared.token.Kind.TheVariants as K
 use Rattle.sievesyntax.specs.declared.lexeme.Word.{Word}
 use Rattle.sievesyntax.specs.declared.lexeme.Word.TheVariants as W
@@ -8,13 +8,10 @@ use Rattle.sievesyntax.specs.declared.granted.Granted.{Granted}
 use Rattle.sievesyntax.specs.Lexemes.{Lexeme, word, mark}
 use Rattle.sievesyntax.specs.Arguments.{AreArguments}
 use Rattle.sievesyntax.specs.Chains.{Chain}
-use Rattle.sievesyntax.specs.Rows.{IsPlainTest, IsPlainCommand}
+use Rattle.sievesyntax.specs.Rows.{IsPlainCommand}
+use Rattle.sievesyntax.specs.Tests.{Headed, ReadsTest, TakesTest}
 use Rattle.sievesyntax.specs.Tree.{TestTree, yes, CommandTree, require, choose, stop, act, Branches, no_branches, branch, Commands, no_commands, command, depth, depth_of}
-use Rattle.sievesyntax.specs.Valid.{IsCapability, MayStand, MayAllStand}
-
--- an identifier stands at the front, and this is so of it and of what is behind it
-abbrev pub Headed : (Word → List Lexeme → Type 0) → List Lexeme → Type 0
-Headed P from = (name : Word) × ((behind : List Lexeme) × ((from ≡ word name ∷ behind) × P name behind))
+use Rattle.sievesyntax.specs.Valid.{IsCapability, granted_by, MayStand, MayAllStand}
 
 -- this stands at the front, in braces
 abbrev pub Braced : (List Lexeme → List Lexeme → Type 0) → List Lexeme → List Lexeme → Type 0
@@ -26,17 +23,9 @@ IsPastBranches (word W.Elsif ∷ _) = ⊥
 IsPastBranches (word W.Else ∷ _) = ⊥
 IsPastBranches _ = Unit {0}
 
--- test = identifier arguments, behind its identifier
-abbrev pub IsTest : TestTree → Word → List Lexeme → List Lexeme → Type 0
-IsTest test name behind to = (args : List Argument) × (AreArguments args behind to × IsPlainTest name args test)
-
--- a test at the front
-abbrev pub ReadsTest : TestTree → List Lexeme → List Lexeme → Type 0
-ReadsTest test from to = Headed (λ name behind. IsTest test name behind to) from
-
 -- a test and a block stand at the front
 abbrev pub Tested : TestTree → (List Lexeme → List Lexeme → Type 0) → List Lexeme → List Lexeme → Type 0
-Tested test block from to = (start : List Lexeme) × (ReadsTest test from start × Braced block start to)
+Tested condition block from to = (start : List Lexeme) × (ReadsTest condition from start × Braced block start to)
 
 -- command = identifier arguments ";", behind its identifier
 abbrev pub IsStatement : CommandTree → Word → List Lexeme → List Lexeme → Type 0
@@ -53,16 +42,16 @@ abbrev mutual
   -- `if` with a test and a block, and the branches behind it (RFC 5228, 3.1)
   pub IsChoice : Branches → Word → List Lexeme → List Lexeme → Type 0
   IsChoice no_branches name behind to = ⊥
-  IsChoice (branch test block more) name behind to =
-      (name ≡ W.If) × ((next : List Lexeme) × (Tested test (AreCommands block) behind next × AreBranches more next to))
+  IsChoice (branch condition block more) name behind to =
+      (name ≡ W.If) × ((next : List Lexeme) × (Tested condition (AreCommands block) behind next × AreBranches more next to))
 
   -- each `elsif` with a test and a block, and at the end an `else` with a block, whose branch has the test
   -- `true`: all that stand there
   pub AreBranches : Branches → List Lexeme → List Lexeme → Type 0
   AreBranches no_branches from to = (from ≡ to) × IsPastBranches to
-  AreBranches (branch test block more) from to =
-      ((behind : List Lexeme) × ((from ≡ word W.Elsif ∷ behind) × ((next : List Lexeme) × (Tested test (AreCommands block) behind next × AreBranches more next to))))
-      ⊎ ((behind : List Lexeme) × ((from ≡ word W.Else ∷ behind) × (Braced (AreCommands block) behind to × ((test ≡ yes) × (more ≡ no_branches)))))
+  AreBranches (branch condition block more) from to =
+      ((behind : List Lexeme) × ((from ≡ word W.Elsif ∷ behind) × ((next : List Lexeme) × (Tested condition (AreCommands block) behind next × AreBranches more next to))))
+      ⊎ ((behind : List Lexeme) × ((from ≡ word W.Else ∷ behind) × (Braced (AreCommands block) behind to × ((condition ≡ yes) × (more ≡ no_branches)))))
 
   -- commands = *command
   pub AreCommands : Commands → List Lexeme → List Lexeme → Type 0
@@ -87,7 +76,7 @@ TakesBlock granted room block from to = Braced (AreCommands block) from to × (M
 
 -- a test and a block at the front that may stand there
 abbrev pub TakesBranch : Granted → ℕ → TestTree × Commands → List Lexeme → List Lexeme → Type 0
-TakesBranch granted room one from to = (start : List Lexeme) × (ReadsTest one.0 from start × TakesBlock granted room one.1 start to)
+TakesBranch granted room one from to = (start : List Lexeme) × (TakesTest granted 32 32 one.0 from start × TakesBlock granted room one.1 start to)
 
 -- an `elsif` at the front that may stand there
 abbrev pub TakesElsif : Granted → ℕ → TestTree × Commands → List Lexeme → List Lexeme → Type 0
@@ -131,6 +120,14 @@ IsPastRequires _ = Unit {0}
 abbrev pub all_names : List (List (List ℕ)) → List (List ℕ)
 all_names [] = []
 all_names (names ∷ more) = names ++ all_names more
+
+-- what is granted, and what these names grant
+abbrev pub granted_too : Granted → List (List ℕ) → Granted
+granted_too granted names = record {
+  fileinto = granted.fileinto || (granted_by names).fileinto;
+  envelope = granted.envelope || (granted_by names).envelope;
+  vacation = granted.vacation || (granted_by names).vacation;
+}
 
 -- requires at the front, up to another command or the end
 abbrev pub TakesRequires : List (List (List ℕ)) → List Lexeme → List Lexeme → Type 0

@@ -1,18 +1,23 @@
 -- The table of commands and tests without a block or a test in them: for each word, what its arguments say.
-use Rattle.std.specs.Prelude.{◌≡◌, ℕ, List, [], ◌∷◌, Option, Some, None, option_map}
+use Rattle.std.specs.Prelude.{◌≡◌, ℕ, Bool, cond, ◌||◌, List, [], ◌∷◌, Option, Some, None, option_map, codes}
+use Rattle.std.specs.List.{list_all, list_any}
 use Rattle.sievesyntax.specs.declared.lexeme.Word.{Word}
 use Rattle.sievesyntax.specs.declared.lexeme.Word.TheVariants as W
-use Rattle.sievesyntax.specs.declared.checks.Bound.{Bound}
 use Rattle.sievesyntax.specs.declared.checks.Size.{Size}
+use Rattle.sievesyntax.specs.declared.checks.Header.{Header}
+use Rattle.sievesyntax.specs.declared.checks.Address.{Address}
+use Rattle.sievesyntax.specs.declared.checks.EnvelopeTest.{EnvelopeTest}
+use Rattle.sievesyntax.specs.declared.checks.EnvelopeParts.{EnvelopeParts}
 use Rattle.sievesyntax.specs.declared.checks.Check.TheVariants as C
 use Rattle.sievesyntax.specs.declared.action.Action.TheVariants as D
 use Rattle.sievesyntax.specs.declared.argument.Argument.{Argument}
 use Rattle.sievesyntax.specs.declared.argument.Argument.TheVariants as A
 use Rattle.sievesyntax.specs.declared.setting.Setting.{Setting}
-use Rattle.sievesyntax.specs.declared.setting.Setting.TheVariants as S
 use Rattle.sievesyntax.specs.declared.setting.Slot.{Slot}
 use Rattle.sievesyntax.specs.declared.setting.Slot.TheVariants as P
-use Rattle.sievesyntax.specs.Settings.{IsArranged}
+use Rattle.sievesyntax.specs.Lexemes.{same_name}
+use Rattle.sievesyntax.specs.Settings.{strings_of, IsArranged}
+use Rattle.sievesyntax.specs.Lookups.{bound_in, comparator_in, matching_in, part_in}
 use Rattle.sievesyntax.specs.Tree.{TestTree, yes, no, looks, CommandTree, require, stop, act}
 
 -- settings of these slots, in any order, and positional arguments, that say this
@@ -27,11 +32,6 @@ abbrev pub pair : {X Y : Type 0} → Option X → Option Y → Option (X × Y)
 pair (Some x) (Some y) = Some (x, y)
 pair _ _ = None
 
--- the side of a limit that the settings give
-abbrev pub bound_in : List Setting → Option Bound
-bound_in [] = None
-bound_in (S.Bound bound ∷ _) = Some bound
-
 -- one number and nothing else
 abbrev pub one_number : List Argument → Option ℕ
 one_number (A.Number n ∷ []) = Some n
@@ -42,11 +42,15 @@ abbrev pub one_text : List Argument → Option (List ℕ)
 one_text (A.Text string ∷ []) = Some string
 one_text _ = None
 
--- one list of strings and nothing else: a string stands for the list of it alone (RFC 5228, 2.4.2.1)
+-- one list of strings and nothing else
 abbrev pub one_list : List Argument → Option (List (List ℕ))
-one_list (A.Text string ∷ []) = Some (string ∷ [])
-one_list (A.Strings strings ∷ []) = Some strings
+one_list (value ∷ []) = strings_of value
 one_list _ = None
+
+-- two lists of strings and nothing else
+abbrev pub two_lists : List Argument → Option (List (List ℕ) × List (List ℕ))
+two_lists (first ∷ (second ∷ [])) = pair (strings_of first) (strings_of second)
+two_lists _ = None
 
 -- size, one of :over and :under, limit: number
 abbrev pub size_of : List Setting → List Argument → Option Size
@@ -59,20 +63,61 @@ IsSize = IsCall (P.Bound ∷ []) size_of
 abbrev pub IsFileInto : List Argument → List ℕ → Type 0
 IsFileInto = IsCall [] (λ settings positional. one_text positional)
 
--- require, capabilities: string-list
-abbrev pub IsRequire : List Argument → List (List ℕ) → Type 0
-IsRequire = IsCall [] (λ settings positional. one_list positional)
+-- header [COMPARATOR] [MATCH-TYPE], fields: string-list, keys: string-list (RFC 5228, 5.7)
+abbrev pub header_of : List Setting → List Argument → Option Header
+header_of settings positional = option_map (λ lists. record { comparator = comparator_in settings; matching = matching_in settings; fields = lists.0; keys = lists.1 }) (two_lists positional)
+
+abbrev pub IsHeader : List Argument → Header → Type 0
+IsHeader = IsCall (P.Comparator ∷ (P.Matching ∷ [])) header_of
+
+-- address [COMPARATOR] [ADDRESS-PART] [MATCH-TYPE], fields: string-list, keys: string-list (RFC 5228, 5.1)
+abbrev pub address_of : List Setting → List Argument → Option Address
+address_of settings positional = option_map (λ lists. record { comparator = comparator_in settings; part = part_in settings; matching = matching_in settings; fields = lists.0; keys = lists.1 }) (two_lists positional)
+
+abbrev pub IsAddress : List Argument → Address → Type 0
+IsAddress = IsCall (P.Comparator ∷ (P.Part ∷ (P.Matching ∷ []))) address_of
+
+-- the name of a part of the envelope, without ASCII case
+abbrev pub is_part : List ℕ → Bool
+is_part name = same_name name (codes "from") || same_name name (codes "to")
+
+-- the parts of the envelope that these name: `from` and `to` alone (RFC 5228, 5.4)
+abbrev pub parts_of : List (List ℕ) → Option EnvelopeParts
+parts_of names =
+    cond (list_all is_part names)
+    (Some (record { from = list_any (λ name. same_name name (codes "from")) names; to = list_any (λ name. same_name name (codes "to")) names }))
+    None
+
+-- parts of the envelope, and keys
+abbrev pub parts_and_keys : Option (List (List ℕ) × List (List ℕ)) → Option (EnvelopeParts × List (List ℕ))
+parts_and_keys None = None
+parts_and_keys (Some lists) = pair (parts_of lists.0) (Some lists.1)
+
+-- envelope [COMPARATOR] [ADDRESS-PART] [MATCH-TYPE], parts: string-list, keys: string-list (RFC 5228, 5.4)
+abbrev pub envelope_of : List Setting → List Argument → Option EnvelopeTest
+envelope_of settings positional = option_map (λ both. record { comparator = comparator_in settings; part = part_in settings; matching = matching_in settings; parts = both.0; keys = both.1 }) (parts_and_keys (two_lists positional))
+
+abbrev pub IsEnvelope : List Argument → EnvelopeTest → Type 0
+IsEnvelope = IsCall (P.Comparator ∷ (P.Part ∷ (P.Matching ∷ []))) envelope_of
+
+-- require, capabilities: string-list; exists, fields: string-list
+abbrev pub IsList : List Argument → List (List ℕ) → Type 0
+IsList = IsCall [] (λ settings positional. one_list positional)
 
 -- the tests that have no test in them (RFC 5228, 5)
 abbrev pub IsPlainTest : Word → List Argument → TestTree → Type 0
-IsPlainTest W.True args test = (args ≡ []) × (test ≡ yes)
-IsPlainTest W.False args test = (args ≡ []) × (test ≡ no)
-IsPlainTest W.Size args test = (size : Size) × (IsSize args size × (test ≡ looks (C.Size size)))
-IsPlainTest _ args test = ⊥
+IsPlainTest W.True args condition = (args ≡ []) × (condition ≡ yes)
+IsPlainTest W.False args condition = (args ≡ []) × (condition ≡ no)
+IsPlainTest W.Size args condition = (size : Size) × (IsSize args size × (condition ≡ looks (C.Size size)))
+IsPlainTest W.Exists args condition = (fields : List (List ℕ)) × (IsList args fields × (condition ≡ looks (C.Exists fields)))
+IsPlainTest W.Header args condition = (header : Header) × (IsHeader args header × (condition ≡ looks (C.Header header)))
+IsPlainTest W.Address args condition = (address : Address) × (IsAddress args address × (condition ≡ looks (C.Address address)))
+IsPlainTest W.Envelope args condition = (envelope : EnvelopeTest) × (IsEnvelope args envelope × (condition ≡ looks (C.Envelope envelope)))
+IsPlainTest _ args condition = ⊥
 
 -- the commands that end in a semicolon (RFC 5228, 3, 4)
 abbrev pub IsPlainCommand : Word → List Argument → CommandTree → Type 0
-IsPlainCommand W.Require args command = (names : List (List ℕ)) × (IsRequire args names × (command ≡ require names))
+IsPlainCommand W.Require args command = (names : List (List ℕ)) × (IsList args names × (command ≡ require names))
 IsPlainCommand W.Stop args command = (args ≡ []) × (command ≡ stop)
 IsPlainCommand W.Keep args command = (args ≡ []) × (command ≡ act D.Keep)
 IsPlainCommand W.Discard args command = (args ≡ []) × (command ≡ act D.Discard)

@@ -1,11 +1,13 @@
 -- What a tree may be besides what the grammar asks.
-use Rattle.std.specs.Prelude.{◌≡◌, ◌≢◌, ◌≤◌, ℕ, true, List, [], ◌++◌, codes, length, All, nat_eq}
+use Rattle.std.specs.Prelude.{◌≡◌, ◌≢◌, ◌≤◌, ◌||◌, ℕ, Bool, true, List, [], ◌∷◌, ◌++◌, codes, length, All, nat_eq}
 use Rattle.std.specs.List.{list_any}
 use Rattle.std.specs.Cmp.Lexicographic.{pointwise}
 use Rattle.sievesyntax.specs.declared.action.Action.{Action}
 use Rattle.sievesyntax.specs.declared.action.Action.TheVariants.{Keep, Discard, FileInto, Redirect, Vacation}
+use Rattle.sievesyntax.specs.declared.checks.Check.{Check}
+use Rattle.sievesyntax.specs.declared.checks.Check.TheVariants.{Size, Exists, Header, Address, Envelope}
 use Rattle.sievesyntax.specs.declared.granted.Granted.{Granted}
-use Rattle.sievesyntax.specs.Tree.{CommandTree, require, choose, stop, act, Branches, no_branches, branch, Commands, no_commands, command, depth}
+use Rattle.sievesyntax.specs.Tree.{TestTree, yes, no, looks, not_of, all_of, any_of, Tests, no_tests, test, list_depth, not_depth, CommandTree, require, choose, stop, act, Branches, no_branches, branch, Commands, no_commands, command, depth}
 
 -- the name of a mailbox: 1 to 255 octets, none below 32 and none 127
 pub record IsMailbox (name : List ℕ) : Type 0 where
@@ -13,13 +15,29 @@ pub record IsMailbox (name : List ℕ) : Type 0 where
   pub short : length name ≤ 255
   pub plain : All (λ octet. (32 ≤ octet) × (octet ≢ 127)) name
 
--- the capabilities that `require` may name, compared by octets
-abbrev pub IsCapability : List ℕ → Type 0
-IsCapability name = name ≡ codes "fileinto"
+-- names of capabilities are compared by octets
+abbrev pub is_named : List ℕ → List ℕ → Bool
+is_named capability name = pointwise nat_eq name capability
 
--- what these names of capabilities grant (RFC 5228, 3.2)
+-- the capabilities that `require` may name
+abbrev pub is_capability : List ℕ → Bool
+is_capability name =
+    is_named (codes "fileinto") name
+    || (is_named (codes "envelope") name
+    || (is_named (codes "vacation") name
+    || (is_named (codes "comparator-i;octet") name
+    || is_named (codes "comparator-i;ascii-casemap") name)))
+
+abbrev pub IsCapability : List ℕ → Type 0
+IsCapability name = is_capability name ≡ true
+
+-- what these names of capabilities grant (RFC 5228, 3.2); both comparators may be used without
 abbrev pub granted_by : List (List ℕ) → Granted
-granted_by names = record { fileinto = list_any (λ name. pointwise nat_eq name (codes "fileinto")) names }
+granted_by names = record {
+  fileinto = list_any (is_named (codes "fileinto")) names;
+  envelope = list_any (is_named (codes "envelope")) names;
+  vacation = list_any (is_named (codes "vacation")) names;
+}
 
 -- an action that may stand where this is granted
 abbrev pub MayAct : Granted → Action → Type 0
@@ -27,7 +45,34 @@ MayAct granted Keep = Unit {0}
 MayAct granted Discard = Unit {0}
 MayAct granted (FileInto mailbox) = (granted.fileinto ≡ true) × IsMailbox mailbox
 MayAct granted (Redirect target) = Unit {0}
-MayAct granted (Vacation args) = Unit {0}
+MayAct granted (Vacation args) = granted.vacation ≡ true
+
+-- a test of the message that may stand where this is granted
+abbrev pub MayCheck : Granted → Check → Type 0
+MayCheck granted (Size size) = Unit {0}
+MayCheck granted (Exists fields) = Unit {0}
+MayCheck granted (Header header) = Unit {0}
+MayCheck granted (Address address) = Unit {0}
+MayCheck granted (Envelope envelope) = granted.envelope ≡ true
+
+-- a test that may stand where this is granted
+abbrev mutual
+  pub MayTest : Granted → TestTree → Type 0
+  MayTest granted yes = Unit {0}
+  MayTest granted no = Unit {0}
+  MayTest granted (looks check) = MayCheck granted check
+  MayTest granted (not_of inner) = MayTest granted inner
+  MayTest granted (all_of inner) = MayAllTest granted inner
+  MayTest granted (any_of inner) = MayAllTest granted inner
+
+  pub MayAllTest : Granted → Tests → Type 0
+  MayAllTest granted no_tests = Unit {0}
+  MayAllTest granted (test first more) = MayTest granted first × MayAllTest granted more
+
+-- a test that may stand in a branch: besides, at most so many test lists and, counted apart, so many `not`s
+-- enclose any test within it
+abbrev pub MayAsk : Granted → ℕ → ℕ → TestTree → Type 0
+MayAsk granted lists nots condition = MayTest granted condition × ((list_depth condition ≤ lists) × (not_depth condition ≤ nots))
 
 -- commands that may stand behind the last `require`, where this is granted
 abbrev mutual
@@ -39,7 +84,7 @@ abbrev mutual
 
   pub MayBranch : Granted → Branches → Type 0
   MayBranch granted no_branches = Unit {0}
-  MayBranch granted (branch test block more) = MayAllStand granted block × MayBranch granted more
+  MayBranch granted (branch condition block more) = MayAsk granted 32 32 condition × (MayAllStand granted block × MayBranch granted more)
 
   pub MayAllStand : Granted → Commands → Type 0
   MayAllStand granted no_commands = Unit {0}
@@ -58,7 +103,8 @@ behind_requires (command (require names) more) = behind_requires more
 behind_requires (command first more) = command first more
 
 -- a valid script: `require` stands before every other command and names what is known, an extension is
--- used where it is required alone, and blocks stand at depth 32 at most
+-- used where it is required alone, blocks stand at depth 32 at most, and at most 32 test lists and, counted
+-- apart, 32 `not`s enclose a test
 pub record IsValid (commands : Commands) : Type 0 where
   pub known : All IsCapability (required commands)
   pub stand : MayAllStand (granted_by (required commands)) (behind_requires commands)

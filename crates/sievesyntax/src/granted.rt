@@ -5,4 +5,8 @@
 pub struct Granted {
     /// `fileinto` (RFC 5228, 4.1).
     pub fileinto: bool,
+    /// `envelope` (RFC 5228, 5.4).
+    pub envelope: bool,
+    /// `vacation` (RFC 5230).
+    pub vacation: bool,
 }

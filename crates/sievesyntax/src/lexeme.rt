@@ -16,9 +16,18 @@ pub enum Word {
     Keep,
     Discard,
     FileInto,
+    Redirect,
+    Vacation,
     True,
     False,
+    Not,
+    AllOf,
+    AnyOf,
     Size,
+    Exists,
+    Header,
+    Address,
+    Envelope,
     /// Any other identifier.
     Other,
 }
@@ -28,6 +37,19 @@ pub enum Word {
 pub enum Tag {
     Over,
     Under,
+    Comparator,
+    Is,
+    Contains,
+    Matches,
+    All,
+    LocalPart,
+    Domain,
+    Days,
+    Subject,
+    From,
+    Addresses,
+    Mime,
+    Handle,
     /// A tag of no command and no test.
     Other,
 }
@@ -62,7 +84,7 @@ pub fn look(token: &Token) -> Seen<'_>
 }
 
 /// Names are compared without ASCII case (RFC 5228, 2.1).
-fn is_name(name: &[u8], keyword: &[u8]) -> bool
+pub fn is_name(name: &[u8], keyword: &[u8]) -> bool
     ensures { result ≡ same_name name.now keyword.now }
 {
     name.eq_ignore_ascii_case(keyword)
@@ -87,12 +109,30 @@ fn word_named(name: &[u8]) -> Word
         Word::Discard
     } else if is_name(name, b"fileinto") {
         Word::FileInto
+    } else if is_name(name, b"redirect") {
+        Word::Redirect
+    } else if is_name(name, b"vacation") {
+        Word::Vacation
     } else if is_name(name, b"true") {
         Word::True
     } else if is_name(name, b"false") {
         Word::False
+    } else if is_name(name, b"not") {
+        Word::Not
+    } else if is_name(name, b"allof") {
+        Word::AllOf
+    } else if is_name(name, b"anyof") {
+        Word::AnyOf
     } else if is_name(name, b"size") {
         Word::Size
+    } else if is_name(name, b"exists") {
+        Word::Exists
+    } else if is_name(name, b"header") {
+        Word::Header
+    } else if is_name(name, b"address") {
+        Word::Address
+    } else if is_name(name, b"envelope") {
+        Word::Envelope
     } else {
         Word::Other
     }
@@ -105,6 +145,32 @@ fn tag_named(name: &[u8]) -> Tag
         Tag::Over
     } else if is_name(name, b"under") {
         Tag::Under
+    } else if is_name(name, b"comparator") {
+        Tag::Comparator
+    } else if is_name(name, b"is") {
+        Tag::Is
+    } else if is_name(name, b"contains") {
+        Tag::Contains
+    } else if is_name(name, b"matches") {
+        Tag::Matches
+    } else if is_name(name, b"all") {
+        Tag::All
+    } else if is_name(name, b"localpart") {
+        Tag::LocalPart
+    } else if is_name(name, b"domain") {
+        Tag::Domain
+    } else if is_name(name, b"days") {
+        Tag::Days
+    } else if is_name(name, b"subject") {
+        Tag::Subject
+    } else if is_name(name, b"from") {
+        Tag::From
+    } else if is_name(name, b"addresses") {
+        Tag::Addresses
+    } else if is_name(name, b"mime") {
+        Tag::Mime
+    } else if is_name(name, b"handle") {
+        Tag::Handle
     } else {
         Tag::Other
     }

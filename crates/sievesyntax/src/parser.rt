@@ -1,22 +1,26 @@
-//! Tests, commands and blocks, by recursive descent: one pass, and no deeper than blocks may stand.
+//! Commands and blocks, by recursive descent: one pass, and no deeper than blocks may stand.
 ghost use Rattle.std.specs.Prelude.{◌≡◌, ◌↔◌, ◌++◌, ◌∷◌, ℕ, List, IfOk, IsTrue, MatchBool, map};
-ghost use Rattle.sievesyntax.specs.declared.lexeme.Word.{Word};
 ghost use Rattle.sievesyntax.specs.declared.lexeme.Word.TheVariants as W;
 ghost use Rattle.sievesyntax.specs.Lexemes.{Lexeme, word};
 ghost use Rattle.sievesyntax.specs.Parsing.{IfFault, Parses};
 ghost use Rattle.sievesyntax.specs.Tree.{TestTree, CommandTree, Commands};
-ghost use Rattle.sievesyntax.specs.View.{test_view, branch_view, command_view, commands_view};
-ghost use Rattle.sievesyntax.specs.Reading.{ReadsTest, TakesCommand, TakesBehind, TakesBlock, TakesBranch, TakesElsifs, TakesElse, IsPastElsif, IsPastBranches, TakesAll, IsStop};
+ghost use Rattle.sievesyntax.specs.View.{branch_view, command_view, commands_view};
+ghost use Rattle.sievesyntax.specs.Reading.{TakesCommand, TakesBehind, TakesBlock, TakesBranch, TakesElsifs, TakesElse, IsPastElsif, IsPastBranches, TakesAll, IsStop};
 
 use crate::argument::read_arguments;
+use crate::conditions::read_test;
 use crate::granted::Granted;
 use crate::lexeme::{Seen, Word};
 use crate::reader::Reader;
 use crate::refusal::ReadError;
-use crate::row::{plain_command, plain_test};
+use crate::row::plain_command;
 use crate::tree::{Branch, Command, Test};
 use sievelex::{FaultKind, Kind};
 use std::alloc::Global;
+
+const MAX_LISTS: usize = 32;
+
+const MAX_NOTS: usize = 32;
 
 /// Commands behind those read so far, up to the close of a block or the end.
 #[cycle(parse)]
@@ -48,7 +52,7 @@ fn read_command(
 ) -> Result<Command, ReadError>
     ensures { Parses command_view (TakesCommand granted room) reader.old reader.new result }
 {
-    let name = read_word(reader)?;
+    let name = reader.read_word()?;
     match name {
         Word::If => read_if(alloc, reader, granted, room),
         _ => read_statement(alloc, reader, granted, room, name),
@@ -82,7 +86,7 @@ fn read_branch(
 ) -> Result<Branch, ReadError>
     ensures { Parses branch_view (TakesBranch granted room) reader.old reader.new result }
 {
-    let test = read_test(alloc, reader)?;
+    let test = read_test(alloc, reader, granted, MAX_LISTS, MAX_NOTS)?;
     let block = read_block(alloc, reader, granted, room)?;
     Ok(Branch { test, block })
 }
@@ -166,30 +170,6 @@ fn read_statement(
     let command = plain_command(alloc, name, args.as_slice(), granted)?;
     reader.read_mark(Kind::Semicolon)?;
     Ok(command)
-}
-
-/// A test.
-fn read_test(alloc: Global, reader: &mut Reader<'_>) -> Result<Test, ReadError>
-    ensures { Parses test_view ReadsTest reader.old reader.new result }
-{
-    let name = read_word(reader)?;
-    let args = read_arguments(alloc, reader)?;
-    plain_test(alloc, name, args.as_slice())
-}
-
-/// An identifier.
-fn read_word(reader: &mut Reader<'_>) -> Result<Word, ReadError>
-    ensures found { IfOk result (λ name. reader.old ≡ word name ∷ reader.new) }
-    ensures fault { IfFault result ((name : Word) (to : List Lexeme) → reader.old ≡ word name ∷ to → ⊥) }
-{
-    let Some((seen, after)) = reader.split_first() else {
-        return Err(ReadError::Fault(FaultKind::Unexpected));
-    };
-    *reader = after;
-    match seen {
-        Seen::Word(name) => Ok(name),
-        _ => Err(ReadError::Fault(FaultKind::Unexpected)),
-    }
 }
 
 /// Whether commands end here.

@@ -1,9 +1,10 @@
 //! The tokens that are still to be read.
-ghost use Rattle.std.specs.Prelude.{◌≡◌, List, [], ◌∷◌, length, MatchOption, OnOk};
-ghost use Rattle.sievesyntax.specs.Lexemes.{Lexeme, mark, lexemes, lexeme_seen};
+ghost use Rattle.std.specs.Prelude.{◌≡◌, List, [], ◌∷◌, length, MatchOption, IfOk, OnOk};
+ghost use Rattle.sievesyntax.specs.declared.lexeme.Word.{Word};
+ghost use Rattle.sievesyntax.specs.Lexemes.{Lexeme, word, mark, lexemes, lexeme_seen};
 ghost use Rattle.sievesyntax.specs.Parsing.{IfFault};
 
-use crate::lexeme::{Seen, look};
+use crate::lexeme::{Seen, Word, look};
 use crate::refusal::ReadError;
 use sievelex::{FaultKind, Kind, Token};
 use std::marker::Model;
@@ -57,6 +58,21 @@ impl<'a> Reader<'a> {
         *self = after;
         match seen {
             Seen::Mark(kind) if kind == wanted => Ok(()),
+            _ => Err(ReadError::Fault(FaultKind::Unexpected)),
+        }
+    }
+
+    /// Reads an identifier.
+    pub fn read_word(&mut self) -> Result<Word, ReadError>
+        ensures found { IfOk result (λ name. self.old ≡ word name ∷ self.new) }
+        ensures fault { IfFault result ((name : Word) (to : List Lexeme) → self.old ≡ word name ∷ to → ⊥) }
+    {
+        let Some((seen, after)) = self.split_first() else {
+            return Err(ReadError::Fault(FaultKind::Unexpected));
+        };
+        *self = after;
+        match seen {
+            Seen::Word(name) => Ok(name),
             _ => Err(ReadError::Fault(FaultKind::Unexpected)),
         }
     }

@@ -3,16 +3,18 @@ ghost use Rattle.std.specs.Prelude.{◌≡◌, ◌↔◌, ℕ, List, [], IsTrue,
 ghost use Rattle.sievesyntax.specs.Parsing.{IfFault, Finds};
 ghost use Rattle.sievesyntax.specs.Tree.{TestTree, CommandTree};
 ghost use Rattle.sievesyntax.specs.View.{test_view, command_view};
-ghost use Rattle.sievesyntax.specs.Rows.{bound_in, size_of, one_number, one_text, one_list, IsSize, IsFileInto, IsRequire, IsPlainTest, IsPlainCommand};
-ghost use Rattle.sievesyntax.specs.Valid.{IsMailbox, MayStand};
+ghost use Rattle.sievesyntax.specs.Rows.{IsFileInto, IsList, IsPlainTest, IsPlainCommand};
+ghost use Rattle.sievesyntax.specs.Valid.{IsMailbox, MayTest, MayStand};
 
 use crate::action::Action;
 use crate::argument::Argument;
-use crate::checks::{Bound, Check, Size};
+use crate::checks::Check;
 use crate::granted::Granted;
 use crate::lexeme::Word;
+use crate::looks::{read_address, read_envelope, read_header, read_size};
+use crate::positional::{list, no_arguments, text};
 use crate::refusal::ReadError;
-use crate::setting::{Setting, Slot, arranged};
+use crate::setting::arranged;
 use crate::tree::{Command, Test};
 use octets::{Octets, Texts};
 use sievelex::FaultKind;
@@ -21,10 +23,15 @@ use std::alloc::Global;
 const MAX_MAILBOX: usize = 255;
 
 /// The test of this word and these arguments.
-pub fn plain_test(alloc: Global, word: Word, args: &[Argument]) -> Result<Test, ReadError>
-    ensures found { IfOk result (λ t. IsPlainTest word args.now (test_view t)) }
+pub fn plain_test(
+    alloc: Global,
+    word: Word,
+    args: &[Argument],
+    granted: Granted,
+) -> Result<Test, ReadError>
+    ensures found { IfOk result (λ t. IsPlainTest word args.now (test_view t) × MayTest granted (test_view t)) }
     ensures only { IfOk result (λ t. (other : TestTree) → IsPlainTest word args.now other → other ≡ test_view t) }
-    ensures fault { IfFault result ((other : TestTree) → IsPlainTest word args.now other → ⊥) }
+    ensures fault { IfFault result ((other : TestTree) → IsPlainTest word args.now other → MayTest granted other → ⊥) }
 {
     match word {
         Word::True => {
@@ -36,6 +43,15 @@ pub fn plain_test(alloc: Global, word: Word, args: &[Argument]) -> Result<Test, 
             Ok(Test::False)
         }
         Word::Size => Ok(Test::Check(Check::Size(read_size(alloc, args)?))),
+        Word::Exists => Ok(Test::Check(Check::Exists(read_list(alloc, args)?))),
+        Word::Header => Ok(Test::Check(Check::Header(read_header(alloc, args)?))),
+        Word::Address => Ok(Test::Check(Check::Address(read_address(alloc, args)?))),
+        Word::Envelope => {
+            if !granted.envelope {
+                return Err(ReadError::Fault(FaultKind::NotRequired));
+            }
+            Ok(Test::Check(Check::Envelope(read_envelope(alloc, args)?)))
+        }
         _ => Err(ReadError::Fault(FaultKind::UnknownTest)),
     }
 }
@@ -81,25 +97,6 @@ pub fn plain_command(
     }
 }
 
-/// The arguments of `size`.
-fn read_size(alloc: Global, args: &[Argument]) -> Result<Size, ReadError>
-    ensures { Finds (IsSize args.now) result }
-{
-    let (settings, positional) = arranged(alloc, args, &[Slot::Bound])?;
-    size_from(settings.as_slice(), positional)
-}
-
-fn size_from(settings: &[Setting], positional: &[Argument]) -> Result<Size, ReadError>
-    ensures found { IfOk result (λ size. size_of settings.now positional.now ≡ Some size) }
-    ensures fault { IfFault result (size_of settings.now positional.now ≡ None) }
-{
-    let Some(bound) = given_bound(settings) else {
-        return Err(ReadError::Fault(FaultKind::MissingArgument));
-    };
-    let limit = number(positional)?;
-    Ok(Size { bound, limit })
-}
-
 /// The mailbox of `fileinto`.
 fn read_fileinto(alloc: Global, args: &[Argument]) -> Result<Octets, ReadError>
     ensures { Finds (IsFileInto args.now) result }
@@ -108,90 +105,12 @@ fn read_fileinto(alloc: Global, args: &[Argument]) -> Result<Octets, ReadError>
     text(alloc, positional)
 }
 
-/// The names of `require`.
-pub fn read_require(alloc: Global, args: &[Argument]) -> Result<Texts, ReadError>
-    ensures { Finds (IsRequire args.now) result }
+/// The names of `require`, or the fields of `exists`.
+pub fn read_list(alloc: Global, args: &[Argument]) -> Result<Texts, ReadError>
+    ensures { Finds (IsList args.now) result }
 {
     let (_settings, positional) = arranged(alloc, args, &[])?;
     list(alloc, positional)
-}
-
-/// The side of a limit that the settings give.
-fn given_bound(settings: &[Setting]) -> Option<Bound>
-    ensures { result ≡ bound_in settings.now }
-{
-    match settings.first() {
-        Some(Setting::Bound(bound)) => Some(*bound),
-        None => None,
-    }
-}
-
-fn no_arguments(args: &[Argument]) -> Result<(), ReadError>
-    ensures found { OnOk result (args.now ≡ []) }
-    ensures fault { IfFault result (args.now ≡ [] → ⊥) }
-{
-    match args.first() {
-        None => Ok(()),
-        Some(Argument::Tag(_)) => Err(ReadError::Fault(FaultKind::UnknownTag)),
-        Some(_) => Err(ReadError::Fault(FaultKind::ExtraArgument)),
-    }
-}
-
-fn number(args: &[Argument]) -> Result<u64, ReadError>
-    ensures found { IfOk result (λ n. one_number args.now ≡ Some n) }
-    ensures fault { IfFault result (one_number args.now ≡ None) }
-{
-    match args {
-        [Argument::Number(number)] => Ok(*number),
-        _ => Err(ReadError::Fault(count_fault(args, 1))),
-    }
-}
-
-fn text(alloc: Global, args: &[Argument]) -> Result<Octets, ReadError>
-    ensures found { IfOk result (λ s. one_text args.now ≡ Some s) }
-    ensures fault { IfFault result (one_text args.now ≡ None) }
-{
-    match args {
-        [Argument::Text(string)] => Ok(string.copied(alloc)?),
-        _ => Err(ReadError::Fault(count_fault(args, 1))),
-    }
-}
-
-fn list(alloc: Global, args: &[Argument]) -> Result<Texts, ReadError>
-    ensures found { IfOk result (λ xs. one_list args.now ≡ Some xs) }
-    ensures fault { IfFault result (one_list args.now ≡ None) }
-{
-    match args {
-        [Argument::Text(string)] => {
-            let mut strings = Texts::new(alloc);
-            strings.push(string.copied(alloc)?)?;
-            Ok(strings)
-        }
-        [Argument::Strings(strings)] => copied(alloc, strings.as_slice()),
-        _ => Err(ReadError::Fault(count_fault(args, 1))),
-    }
-}
-
-fn copied(alloc: Global, strings: &[Octets]) -> Result<Texts, ReadError>
-    ensures found { IfOk result (λ xs. xs ≡ strings.now) }
-    ensures fault { IfFault result ⊥ }
-{
-    let mut copies = Texts::new(alloc);
-    for string in strings {
-        copies.push(string.copied(alloc)?)?;
-    }
-    Ok(copies)
-}
-
-/// Why these positional arguments are not those wanted: their number, or else their form.
-fn count_fault(args: &[Argument], wanted: usize) -> FaultKind {
-    if args.len() < wanted {
-        FaultKind::MissingArgument
-    } else if args.len() > wanted {
-        FaultKind::ExtraArgument
-    } else {
-        FaultKind::WrongArgument
-    }
 }
 
 /// A mailbox's name has 1 to 255 octets, none below 32 and none 127.

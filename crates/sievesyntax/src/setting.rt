@@ -5,9 +5,11 @@ ghost use Rattle.sievesyntax.specs.Parsing.{IfFault};
 ghost use Rattle.sievesyntax.specs.Settings.{IsSetting, slot_of, Among, IsAllowed, IsPlain, IsArranged};
 
 use crate::argument::Argument;
-use crate::checks::Bound;
+use crate::checks::{AddressPart, Bound, Collation, Matching};
 use crate::lexeme::Tag;
 use crate::refusal::ReadError;
+use crate::tagged::{collation_at, number_at, text_at, texts_at};
+use octets::{Octets, Texts};
 use sievelex::FaultKind;
 use std::alloc::Global;
 
@@ -16,12 +18,39 @@ use std::alloc::Global;
 pub enum Setting {
     /// `:over`, `:under`.
     Bound(Bound),
+    /// `:comparator`.
+    Comparator(Collation),
+    /// `:is`, `:contains`, `:matches`.
+    Matching(Matching),
+    /// `:all`, `:localpart`, `:domain`.
+    Part(AddressPart),
+    /// `:days`.
+    Days(u64),
+    /// `:subject`.
+    Subject(Octets),
+    /// `:from`.
+    From(Octets),
+    /// `:addresses`.
+    Addresses(Texts),
+    /// `:mime`.
+    Mime,
+    /// `:handle`.
+    Handle(Octets),
 }
 
 /// What a setting settles. Tags that exclude each other settle one thing.
 #[derive(Clone, Copy, PartialEq, Eq)]
 pub enum Slot {
     Bound,
+    Comparator,
+    Matching,
+    Part,
+    Days,
+    Subject,
+    From,
+    Addresses,
+    Mime,
+    Handle,
 }
 
 impl Setting {
@@ -30,6 +59,15 @@ impl Setting {
     {
         match self {
             Setting::Bound(_) => Slot::Bound,
+            Setting::Comparator(_) => Slot::Comparator,
+            Setting::Matching(_) => Slot::Matching,
+            Setting::Part(_) => Slot::Part,
+            Setting::Days(_) => Slot::Days,
+            Setting::Subject(_) => Slot::Subject,
+            Setting::From(_) => Slot::From,
+            Setting::Addresses(_) => Slot::Addresses,
+            Setting::Mime => Slot::Mime,
+            Setting::Handle(_) => Slot::Handle,
         }
     }
 }
@@ -47,7 +85,12 @@ pub fn arranged<'a>(
     let mut settings = Vec::new(alloc);
     let mut taken = Vec::new(alloc);
     let mut rest = args;
-    'settings: while let Some((setting, after)) = next_setting(rest, allowed, taken.as_slice())? {
+    'settings: while let Some((setting, after)) = next_setting(
+        alloc,
+        rest,
+        allowed,
+        taken.as_slice(),
+    )? {
         taken.push(setting.slot())?;
         settings.push(setting)?;
         rest = after;
@@ -57,6 +100,7 @@ pub fn arranged<'a>(
 
 /// The setting at the front, or none where no tag stands there.
 fn next_setting<'a>(
+    alloc: Global,
     args: &'a [Argument],
     allowed: &[Slot],
     taken: &[Slot],
@@ -72,7 +116,7 @@ fn next_setting<'a>(
     let Argument::Tag(tag) = first else {
         return Ok(None);
     };
-    let (setting, after) = setting_at(*tag, rest)?;
+    let (setting, after) = setting_at(alloc, *tag, rest)?;
     if !is_among(setting.slot(), allowed) {
         return Err(ReadError::Fault(FaultKind::UnknownTag));
     }
@@ -83,13 +127,48 @@ fn next_setting<'a>(
 }
 
 /// The setting that begins with this tag, and what follows it.
-fn setting_at<'a>(tag: Tag, args: &'a [Argument]) -> Result<(Setting, &'a [Argument]), ReadError>
+fn setting_at<'a>(
+    alloc: Global,
+    tag: Tag,
+    args: &'a [Argument],
+) -> Result<(Setting, &'a [Argument]), ReadError>
     ensures found { IfOk result (λ r. IsSetting r.0 (A.Tag tag ∷ args.now) r.1.now) }
     ensures fault { IfFault result ((s : Setting) (to : List Argument) → IsSetting s (A.Tag tag ∷ args.now) to → ⊥) }
 {
     match tag {
         Tag::Over => Ok((Setting::Bound(Bound::Over), args)),
         Tag::Under => Ok((Setting::Bound(Bound::Under), args)),
+        Tag::Is => Ok((Setting::Matching(Matching::Is), args)),
+        Tag::Contains => Ok((Setting::Matching(Matching::Contains), args)),
+        Tag::Matches => Ok((Setting::Matching(Matching::Matches), args)),
+        Tag::All => Ok((Setting::Part(AddressPart::All), args)),
+        Tag::LocalPart => Ok((Setting::Part(AddressPart::LocalPart), args)),
+        Tag::Domain => Ok((Setting::Part(AddressPart::Domain), args)),
+        Tag::Mime => Ok((Setting::Mime, args)),
+        Tag::Comparator => {
+            let (collation, rest) = collation_at(args)?;
+            Ok((Setting::Comparator(collation), rest))
+        }
+        Tag::Days => {
+            let (days, rest) = number_at(args)?;
+            Ok((Setting::Days(days), rest))
+        }
+        Tag::Subject => {
+            let (subject, rest) = text_at(alloc, args)?;
+            Ok((Setting::Subject(subject), rest))
+        }
+        Tag::From => {
+            let (text, rest) = text_at(alloc, args)?;
+            Ok((Setting::From(text), rest))
+        }
+        Tag::Handle => {
+            let (handle, rest) = text_at(alloc, args)?;
+            Ok((Setting::Handle(handle), rest))
+        }
+        Tag::Addresses => {
+            let (texts, rest) = texts_at(alloc, args)?;
+            Ok((Setting::Addresses(texts), rest))
+        }
         Tag::Other => Err(ReadError::Fault(FaultKind::UnknownTag)),
     }
 }
@@ -98,9 +177,15 @@ fn is_among(slot: Slot, slots: &[Slot]) -> bool
     ensures { IsTrue result ↔ Among slot slots.now }
 {
     for other in slots {
-        if slot == *other {
+        if is_same(slot, *other) {
             return true;
         }
     }
     false
+}
+
+fn is_same(slot: Slot, other: Slot) -> bool
+    ensures { IsTrue result ↔ slot ≡ other }
+{
+    slot == other
 }

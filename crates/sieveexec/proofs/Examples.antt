@@ -1,0 +1,102 @@
+-- The definitions at a few mails: what they fit, and what is near it that they don't.
+use Rattle.std.proofs.Common.{◌≡◌, ◌≢◌, ◌<◌, ℕ, true, false, inl, inr, List, [], ◌∷◌, ◌++◌, codes, refl, arith}
+use Rattle.addrparts.specs.declared.address.Addr.{Addr}
+use Rattle.mailhead.specs.Fields.{FieldText}
+use Rattle.sievesyntax.specs.declared.checks.Matching.TheVariants.{Is, Contains}
+use Rattle.sievesyntax.specs.declared.checks.AddressPart.TheVariants.{LocalPart, Domain}
+use Rattle.sievesyntax.specs.declared.checks.AddressPart.TheVariants as part
+use Rattle.sievesyntax.specs.declared.checks.Bound.TheVariants.{Over, Under}
+use Rattle.sievesyntax.specs.declared.checks.Collation.TheVariants.{Octet, AsciiCasemap}
+use Rattle.sieveexec.specs.declared.envelope.Envelope.{Envelope}
+use Rattle.sieveexec.specs.Mails.{MailSpec, mail_of, raws_keyed, values_of, text_shown, texts_of, is_address_key, addresses_of}
+use Rattle.sieveexec.specs.Matches.{MatchesKey, matches_key, matches_some, image_by}
+use Rattle.sieveexec.specs.Parts.{part_of, Cuts, CutsAtLast, IsPart, part_in, local_of, domain_of}
+use Rattle.sieveexec.specs.Holding.{IsBeyond, IsNamed}
+use Rattle.sieveexec.specs.Truth.{is_beyond}
+
+-- "To: a@b", LF, "to: c", LF, from `x@y@z` to nobody
+abbrev sample : MailSpec
+sample = mail_of (codes "To: a@b" ++ 10 ∷ codes "to: c" ++ 10 ∷ []) (record { from = codes "x@y@z"; to = [] })
+
+-- two fields have the name, in any case
+values-here : values_of sample (codes "TO") ≡ codes " a@b" ∷ codes " c" ∷ []
+values-here = refl
+
+-- none has a part of the name, and none the name with a colon
+values-part : values_of sample (codes "t") ≡ []
+values-part = refl
+
+values-colon : values_of sample (codes "to:") ≡ []
+values-colon = refl
+
+-- the blanks at the ends of a text are off, those inside stay
+shown-inside : text_shown (codes " a b ") ≡ codes "a b"
+shown-inside = refl
+
+-- and they are taken off once the text is decoded
+shown-decoded : text_shown (codes "=?us-ascii?q?_a_?=") ≡ codes "a"
+shown-decoded = refl
+
+-- `to` has addresses, and `subject` has none
+to_has_addresses : is_address_key (codes "to") ≡ true
+to_has_addresses = refl
+
+subject_has_none : is_address_key (codes "subject") ≡ false
+subject_has_none = refl
+
+subject_gives_none : addresses_of (mail_of (codes "Subject: a@b") (record { from = []; to = [] })) (codes "subject") ≡ []
+subject_gives_none = refl
+
+-- an address is cut at its last `@`, and not at its first
+cut-last : Cuts (codes "x@y@z") (codes "x@y") (codes "z")
+cut-last = inl (record { cut = refl; last = refl })
+
+cut-first : CutsAtLast (codes "x@y@z") (codes "x") (codes "y@z") → ⊥
+cut-first at = let no : true ≡ false = at.last in cc
+
+-- without `@` the domain is empty
+bare-domain : IsPart Domain (codes "root") []
+bare-domain = (codes "root", inr (record { whole = refl; none = refl; bare = refl }))
+
+bare-local : part_in LocalPart (codes "root") ≡ codes "root"
+bare-local = refl
+
+-- each part of the null reverse-path is empty
+null-parts : (part_in part.All [] ≡ []) × ((part_in LocalPart [] ≡ []) × (part_in Domain [] ≡ []))
+null-parts = (refl, (refl, refl))
+
+-- the parts of an address of a field
+parts-of : part_of part.All (record { local = codes "a"; domain = codes "b" }) ≡ codes "a@b"
+parts-of = refl
+
+-- a size that is the limit is neither over nor under it
+beyond-over : IsBeyond Over 4000 3999
+beyond-over = omega arith
+
+not_over-limit : IsBeyond Over 4000 4000 → ⊥
+not_over-limit over = omega (arith, over)
+
+not_under-limit : IsBeyond Under 4000 4000 → ⊥
+not_under-limit under = omega (arith, under)
+
+-- the key "a" is the value "A" for one comparator, and not for the other
+is-folded : matches_key (image_by AsciiCasemap) Is (codes "a") (codes "A") ≡ true
+is-folded = refl
+
+is-octet : matches_key (image_by Octet) Is (codes "a") (codes "A") ≡ false
+is-octet = refl
+
+-- the empty key stands in the empty value, and no key matches where there is no key
+contains-empty : matches_key (image_by Octet) Contains [] [] ≡ true
+contains-empty = refl
+
+no-key : matches_some Octet Is [] [] ≡ false
+no-key = refl
+
+-- a test that names the recipient alone doesn't look at the sender
+named-to : IsNamed (record { from = false; to = true }) sample []
+named-to = inr (refl, refl)
+
+not_named-from : IsNamed (record { from = false; to = true }) sample (codes "x@y@z") → ⊥
+not_named-from (inl (asked, same)) = cc
+not_named-from (inr (asked, same)) = cc

@@ -1,0 +1,10 @@
+pub mod Decisions
+pub mod MatchLemmas
+pub mod PartLemmas
+pub mod TruthLemmas
+pub mod IndexLemmas
+pub mod ShownLemmas
+pub mod NameLemmas
+mod Examples
+pub mod MachineLemmas
+pub mod MailboxLemmas

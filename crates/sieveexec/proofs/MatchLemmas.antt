@@ -1,0 +1,109 @@
+-- The tests of specs/Matches decide what a value and a key have to be.
+use Rattle.std.proofs.Common.{◌≡◌, ◌==◌, ◌≤◌, ◌+◌, ℕ, zero, suc, Bool, true, false, ◌||◌, ◌⊎◌, inl, inr, List, [], ◌∷◌, ◌++◌, length, drop, map, refl, sym, ap, ◌∙◌, arith}
+use Rattle.std.specs.Bool.{Decides}
+use Rattle.std.specs.List.{list_any, Any}
+use Rattle.std.proofs.lemmas.Bool.Decides.{Decides-and, Decides-or, Decides-eqb}
+use Rattle.std.proofs.lemmas.Slice.Eq.{bytes_eq-Decides}
+use Rattle.collation.specs.Comparators.{EqualBy, ContainsBy}
+use Rattle.globmatch.specs.Glob.{items, Glob}
+use Rattle.globmatch.specs.declared.pattern.Item.{Item}
+use Rattle.globmatch.specs.declared.pattern.Item.TheVariants.{Star, One, Exact}
+use Rattle.sievesyntax.specs.declared.checks.Collation.{Collation}
+use Rattle.sievesyntax.specs.declared.checks.Matching.{Matching}
+use Rattle.sievesyntax.specs.declared.checks.Matching.TheVariants.{Is, Contains, Matches}
+use Rattle.sieveexec.specs.Matches.{image_by, MatchesKey, MatchesSome, is_equal, begins_with, some_end, is_contained, is_globbed, matches_key, matches_some}
+use Rattle.sieveexec.proofs.Decisions.{decides_as, any_decides}
+
+-- the images of a key stand first in those of a text
+abbrev BeginsBy : (ℕ → ℕ) → List ℕ → List ℕ → Type 0
+BeginsBy image key value = (behind : List ℕ) × (map image value ≡ map image (key ++ behind))
+
+first_same : (a b : ℕ) (x y : List ℕ) → a ∷ x ≡ b ∷ y → a ≡ b
+first_same a b x y same = cc
+
+rest_same : (a b : ℕ) (x y : List ℕ) → a ∷ x ≡ b ∷ y → x ≡ y
+rest_same a b x y same = cc
+
+both_same : (a b : ℕ) (x y : List ℕ) → a ≡ b → x ≡ y → a ∷ x ≡ b ∷ y
+both_same a b x y one more = cc
+
+nothing : {P : Type 0} (a : ℕ) (x : List ℕ) → [] ≡ a ∷ x → P
+nothing a x same = absurd (let no : ⊥ = cc in no)
+
+never : {P : Type 0} → false ≡ true → P
+never same = absurd (let no : ⊥ = cc in no)
+
+begins_decides : (image : ℕ → ℕ) (key value : List ℕ) → Decides (begins_with image key value) (BeginsBy image key value)
+begins_decides image [] value = (λ h. (value, refl), λ begins. refl)
+begins_decides image (one ∷ key) [] = (λ h. never h, λ (behind, same). nothing (image one) (map image (key ++ behind)) same)
+begins_decides image (one ∷ key) (other ∷ value) =
+    decides_as _
+    (λ (first, (behind, same)). (behind, both_same _ _ _ _ (sym first) same))
+    (λ (behind, same). (sym (first_same _ _ _ _ same), (behind, rest_same _ _ _ _ same)))
+    (Decides-and _ _ (Decides-eqb (image one) (image other)) (begins_decides image key value))
+
+-- the images of a key stand first in a text or in what follows its first octet
+contained_later : (image : ℕ → ℕ) (key : List ℕ) (octet : ℕ) (rest : List ℕ) → BeginsBy image key (octet ∷ rest) ⊎ ContainsBy image key rest → ContainsBy image key (octet ∷ rest)
+contained_later image key octet rest (inl (behind, same)) = ([], (behind, same))
+contained_later image key octet rest (inr (before, (behind, same))) = (octet ∷ before, (behind, ap (λ l. image octet ∷ l) same))
+
+contained_first : (image : ℕ → ℕ) (key : List ℕ) (octet : ℕ) (rest before behind : List ℕ) → map image (octet ∷ rest) ≡ map image (before ++ key ++ behind) → BeginsBy image key (octet ∷ rest) ⊎ ContainsBy image key rest
+contained_first image key octet rest [] behind same = inl (behind, same)
+contained_first image key octet rest (first ∷ before) behind same = inr (before, (behind, rest_same _ _ _ _ same))
+
+contained_nowhere : (image : ℕ → ℕ) (key before behind : List ℕ) → [] ≡ map image (before ++ key ++ behind) → BeginsBy image key []
+contained_nowhere image key [] behind same = (behind, same)
+contained_nowhere image key (first ∷ before) behind same = nothing _ _ same
+
+contained_decides : (image : ℕ → ℕ) (key value : List ℕ) → Decides (is_contained image key value) (ContainsBy image key value)
+contained_decides image key [] =
+    decides_as _ (λ (behind, same). ([], (behind, same))) (λ (before, (behind, same)). contained_nowhere image key before behind same) (begins_decides image key [])
+contained_decides image key (octet ∷ rest) =
+    decides_as _ (contained_later image key octet rest) (λ (before, (behind, same)). contained_first image key octet rest before behind same)
+    (Decides-or _ _ (begins_decides image key (octet ∷ rest)) (contained_decides image key rest))
+
+-- some end of a text is what a test decides
+abbrev AtSomeEnd : (List ℕ → Type 0) → List ℕ → Type 0
+AtSomeEnd P text = (k : ℕ) × (k ≤ length text) × P (drop k text)
+
+end_of_nothing : (P : List ℕ → Type 0) (k : ℕ) → k ≤ 0 → P (drop k []) → P []
+end_of_nothing P zero below holds = holds
+end_of_nothing P (suc k) below holds = absurd (omega arith)
+
+end_later : (P : List ℕ → Type 0) (octet : ℕ) (rest : List ℕ) → P (octet ∷ rest) ⊎ AtSomeEnd P rest → AtSomeEnd P (octet ∷ rest)
+end_later P octet rest (inl holds) = (0, omega arith, holds)
+end_later P octet rest (inr (k, below, holds)) = (suc k, omega arith, holds)
+
+end_first : (P : List ℕ → Type 0) (octet : ℕ) (rest : List ℕ) (k : ℕ) → k ≤ length (octet ∷ rest) → P (drop k (octet ∷ rest)) → P (octet ∷ rest) ⊎ AtSomeEnd P rest
+end_first P octet rest zero below holds = inl holds
+end_first P octet rest (suc k) below holds = inr (k, omega arith, holds)
+
+some_end_decides : (passes : List ℕ → Bool) (P : List ℕ → Type 0) → ((text : List ℕ) → Decides (passes text) (P text)) → (text : List ℕ) → Decides (some_end passes text) (AtSomeEnd P text)
+some_end_decides passes P each [] =
+    decides_as _ (λ holds. (0, omega arith, holds)) (λ (k, below, holds). end_of_nothing P k below holds) (each [])
+some_end_decides passes P each (octet ∷ rest) =
+    decides_as _ (end_later P octet rest) (λ (k, below, holds). end_first P octet rest k below holds)
+    (Decides-or _ _ (each (octet ∷ rest)) (some_end_decides passes P each rest))
+
+globbed_decides : (image : ℕ → ℕ) (more : List Item) (text : List ℕ) → Decides (is_globbed image more text) (Glob image more text)
+unfolding is_globbed Glob
+globbed_decides image [] [] = (λ h. refl, λ same. refl)
+globbed_decides image [] (octet ∷ rest) = (λ h. never h, λ same. nothing octet rest (sym same))
+globbed_decides image (Star ∷ more) text = some_end_decides (is_globbed image more) (Glob image more) (globbed_decides image more) text
+globbed_decides image (One ∷ more) [] = (λ h. never h, λ none. absurd none)
+globbed_decides image (One ∷ more) (octet ∷ rest) = globbed_decides image more rest
+globbed_decides image (Exact one ∷ more) [] = (λ h. never h, λ none. absurd none)
+globbed_decides image (Exact one ∷ more) (other ∷ rest) =
+    Decides-and _ _ (Decides-eqb (image one) (image other)) (globbed_decides image more rest)
+
+-- whether a value matches a key
+pub matches_key_decides : (image : ℕ → ℕ) (matching : Matching) (key value : List ℕ) → Decides (matches_key image matching key value) (MatchesKey image matching key value)
+matches_key_decides image Is key value = bytes_eq-Decides (map image key) (map image value)
+matches_key_decides image Contains key value = contained_decides image key value
+matches_key_decides image Matches key value = globbed_decides image (items key) value
+
+-- whether a value matches some key
+pub matches_some_decides : (collation : Collation) (matching : Matching) (keys : List (List ℕ)) (value : List ℕ) → Decides (matches_some collation matching keys value) (MatchesSome collation matching keys value)
+matches_some_decides collation matching keys value =
+    any_decides (λ key. matches_key (image_by collation) matching key value) (λ key. MatchesKey (image_by collation) matching key value)
+    (λ key. matches_key_decides (image_by collation) matching key value) keys

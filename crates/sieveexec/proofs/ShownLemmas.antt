@@ -1,0 +1,16 @@
+-- An address and its text.
+use Rattle.std.proofs.Common.{◌≡◌, ◌+◌, ℕ, List, ◌∷◌, ◌++◌, length, take, drop, ap, ◌∙◌}
+use Rattle.std.proofs.Math.Seq.{take-append_seam, drop-append-add}
+use Rattle.addrparts.specs.declared.address.Addr.{Addr}
+use Rattle.addrparts.specs.Spelling.{all_of}
+use Rattle.sieveexec.specs.Shown.{address_shown}
+
+-- what shows an address is cut into that address
+pub shown_back : (address : Addr) → address_shown (all_of address) (length address.local) ≡ address
+shown_back address = λ i. record {
+  local = take-append_seam address.local (64 ∷ address.domain) i;
+  domain = drop-append-add address.local (64 ∷ address.domain) 1 i;
+}
+
+pub shown_from : (address : Addr) (all : List ℕ) (at : ℕ) → all ≡ all_of address → at ≡ length address.local → address_shown all at ≡ address
+shown_from address all at spelled place = ap (λ t. address_shown t at) spelled ∙ ap (address_shown (all_of address)) place ∙ shown_back address

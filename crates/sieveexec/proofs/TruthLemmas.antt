@@ -1,0 +1,63 @@
+-- The truth of a test is whether it holds.
+use Rattle.std.proofs.Common.{◌≡◌, ◌≢◌, ◌<◌, ℕ, Bool, true, false, ◌||◌, ◌&&◌, ◌⊎◌, inl, inr, List, [], ◌∷◌, refl, sym, subst}
+use Rattle.std.specs.Bool.{Decides}
+use Rattle.std.specs.List.{Any}
+use Rattle.std.proofs.lemmas.Bool.Decides.{Decides-and, Decides-or, Decides-ltb}
+use Rattle.sievesyntax.specs.declared.checks.Bound.{Bound}
+use Rattle.sievesyntax.specs.declared.checks.Bound.TheVariants.{Over, Under}
+use Rattle.sievesyntax.specs.declared.checks.EnvelopeTest.{EnvelopeTest}
+use Rattle.sievesyntax.specs.declared.checks.Check.{Check}
+use Rattle.sievesyntax.specs.declared.checks.Check.TheVariants.{Size, Exists, Header, Address, Envelope}
+use Rattle.sieveexec.specs.Mails.{MailSpec, values_of, texts_of, addresses_of}
+use Rattle.sieveexec.specs.Matches.{MatchesSome, matches_some}
+use Rattle.sieveexec.specs.Parts.{part_of, IsPart, part_in}
+use Rattle.sieveexec.specs.Holding.{IsBeyond, IsNamed, Holds}
+use Rattle.sieveexec.specs.Truth.{is_beyond, is_some_there, envelope_matches, envelope_holds, truth_at}
+use Rattle.sieveexec.proofs.Decisions.{decides_as, any_decides, all_decides}
+use Rattle.sieveexec.proofs.MatchLemmas.{matches_some_decides}
+use Rattle.sieveexec.proofs.PartLemmas.{part_is, part_only}
+
+beyond_decides : (bound : Bound) (size limit : ℕ) → Decides (is_beyond bound size limit) (IsBeyond bound size limit)
+beyond_decides Over size limit = Decides-ltb limit size
+beyond_decides Under size limit = Decides-ltb size limit
+
+there_decides : (some : List (List ℕ)) → Decides (is_some_there some) (some ≢ [])
+there_decides [] = (λ h. absurd (let no : ⊥ = cc in no), λ present. absurd (present refl))
+there_decides (one ∷ more) = (λ h same. let no : ⊥ = cc in no, λ present. refl)
+
+-- a part of an address of the envelope matches
+abbrev Part : EnvelopeTest → List ℕ → Type 0
+Part test address = MatchesSome test.comparator test.matching test.keys (part_in test.part address)
+
+matching_decides : (test : EnvelopeTest) (address : List ℕ) → Decides (envelope_matches test address) (Part test address)
+matching_decides test address = matches_some_decides test.comparator test.matching test.keys (part_in test.part address)
+
+named : (mail : MailSpec) (test : EnvelopeTest) → ((test.parts.from ≡ true) × Part test mail.from) ⊎ ((test.parts.to ≡ true) × Part test mail.to) → Holds mail (Envelope test)
+named mail test (inl (asked, matches)) = (mail.from, part_in test.part mail.from, inl (asked, refl), part_is test.part mail.from, matches)
+named mail test (inr (asked, matches)) = (mail.to, part_in test.part mail.to, inr (asked, refl), part_is test.part mail.to, matches)
+
+part_there : (test : EnvelopeTest) (address one part : List ℕ) → one ≡ address → IsPart test.part one part → MatchesSome test.comparator test.matching test.keys part → Part test address
+part_there test address one part same is matches =
+    subst (λ (a : List ℕ). Part test a) same (subst (MatchesSome test.comparator test.matching test.keys) (part_only test.part one part is) matches)
+
+asked_for : (mail : MailSpec) (test : EnvelopeTest) (one part : List ℕ) → IsNamed test.parts mail one → IsPart test.part one part → MatchesSome test.comparator test.matching test.keys part
+    → ((test.parts.from ≡ true) × Part test mail.from) ⊎ ((test.parts.to ≡ true) × Part test mail.to)
+asked_for mail test one part (inl (asked, same)) is matches = inl (asked, part_there test mail.from one part same is matches)
+asked_for mail test one part (inr (asked, same)) is matches = inr (asked, part_there test mail.to one part same is matches)
+
+is_asked : (asked : Bool) → Decides asked (asked ≡ true)
+is_asked asked = (λ h. h, λ h. h)
+
+-- a test is true exactly where it holds
+pub truth_decides : (mail : MailSpec) (check : Check) → Decides (truth_at mail check) (Holds mail check)
+truth_decides mail (Size size) = beyond_decides size.bound mail.size size.limit
+truth_decides mail (Exists names) = all_decides (λ name. is_some_there (values_of mail name)) (λ name. values_of mail name ≢ []) (λ name. there_decides (values_of mail name)) names
+truth_decides mail (Header header) =
+    any_decides _ _ (λ name. any_decides _ _ (matches_some_decides header.comparator header.matching header.keys) (texts_of mail name)) header.fields
+truth_decides mail (Address address) =
+    any_decides _ _ (λ name. any_decides _ _ (λ one. matches_some_decides address.comparator address.matching address.keys (part_of address.part one)) (addresses_of mail name)) address.fields
+truth_decides mail (Envelope test) =
+    decides_as _ (named mail test) (λ (one, part, name, is, matches). asked_for mail test one part name is matches)
+    (Decides-or _ _
+    (Decides-and _ _ (is_asked test.parts.from) (matching_decides test mail.from))
+    (Decides-and _ _ (is_asked test.parts.to) (matching_decides test mail.to)))

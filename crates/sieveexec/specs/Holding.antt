@@ -1,0 +1,33 @@
+-- Which tests hold of a mail (RFC 5228, 5).
+use Rattle.std.specs.Prelude.{◌≡◌, ◌≢◌, ◌<◌, ◌⊎◌, ℕ, true, List, []}
+use Rattle.std.specs.List.{All, Any}
+use Rattle.sievesyntax.specs.declared.checks.Bound.{Bound}
+use Rattle.sievesyntax.specs.declared.checks.Bound.TheVariants.{Over, Under}
+use Rattle.sievesyntax.specs.declared.checks.EnvelopeParts.{EnvelopeParts}
+use Rattle.sievesyntax.specs.declared.checks.Check.{Check}
+use Rattle.sievesyntax.specs.declared.checks.Check.TheVariants.{Size, Exists, Header, Address, Envelope}
+use Rattle.sieveexec.specs.Mails.{MailSpec, values_of, texts_of, addresses_of}
+use Rattle.sieveexec.specs.Matches.{MatchesSome}
+use Rattle.sieveexec.specs.Parts.{IsPart, part_of}
+
+-- a size over or under a limit; one that is the limit is neither (RFC 5228, 5.9)
+abbrev pub IsBeyond : Bound → ℕ → ℕ → Type 0
+IsBeyond Over size limit = limit < size
+IsBeyond Under size limit = size < limit
+
+-- an address of the envelope that a test names
+abbrev pub IsNamed : EnvelopeParts → MailSpec → List ℕ → Type 0
+IsNamed parts mail address = ((parts.from ≡ true) × (address ≡ mail.from)) ⊎ ((parts.to ≡ true) × (address ≡ mail.to))
+
+-- a test that looks at the message or its envelope holds (RFC 5228, 5.1, 5.4, 5.5, 5.7, 5.9)
+abbrev pub Holds : MailSpec → Check → Type 0
+Holds mail (Size size) = IsBeyond size.bound mail.size size.limit
+Holds mail (Exists names) = All (λ name. values_of mail name ≢ []) names
+Holds mail (Header header) =
+    Any (λ name. Any (MatchesSome header.comparator header.matching header.keys) (texts_of mail name)) header.fields
+Holds mail (Address address) =
+    Any (λ name. Any (λ one. MatchesSome address.comparator address.matching address.keys (part_of address.part one))
+    (addresses_of mail name)) address.fields
+Holds mail (Envelope envelope) =
+    (one : List ℕ) × (part : List ℕ) × IsNamed envelope.parts mail one × IsPart envelope.part one part
+    × MatchesSome envelope.comparator envelope.matching envelope.keys part

@@ -1,0 +1,10 @@
+pub mod Mails
+pub mod Matches
+pub mod Parts
+pub mod Holding
+pub mod Truth
+pub mod Indexes
+pub mod Shown
+pub mod Outcomes
+pub mod Mailboxes
+pub mod Runs

@@ -1,0 +1,77 @@
+-- A message with its envelope, as the tests of a script see it (RFC 5228, 2.4.2 and 5).
+use Rattle.std.specs.Prelude.{ℕ, Bool, cond, codes, List, [], ◌∷◌, map, nat_eq}
+use Rattle.std.specs.List.{filter, flat_map, list_any}
+use Rattle.std.specs.Cmp.Lexicographic.{pointwise}
+use Rattle.octets.specs.Ascii.{lowered, trimmed}
+use Rattle.mailhead.specs.Fields.{FieldText}
+use Rattle.mailhead.specs.Heads.{fields_of, size_of, unfold_of}
+use Rattle.encwords.specs.Values.{text_of}
+use Rattle.addrparts.specs.declared.address.Addr.{Addr}
+use Rattle.addrparts.specs.Reading.{addrs}
+use Rattle.sieveexec.specs.declared.envelope.Envelope.{Envelope}
+
+-- what a message and its envelope bring
+pub record MailSpec : Type 0 where
+  -- the message's fields, in order
+  pub fields : List FieldText
+  -- the envelope's addresses, as they were written; the null reverse-path is the empty text
+  pub from : List ℕ
+  pub to : List ℕ
+  -- the message's octets, and one more for each LF without CR right before it
+  pub size : ℕ
+  -- the message's octets
+  pub octets : List ℕ
+
+-- the mail of a message and its envelope
+abbrev pub mail_of : List ℕ → Envelope → MailSpec
+mail_of message envelope =
+    record {
+      fields = fields_of message;
+      from = envelope.from;
+      to = envelope.to;
+      size = size_of message;
+      octets = message;
+    }
+
+-- the raw values of the fields that have this name in lower case, in order
+abbrev pub raws_keyed : List FieldText → List ℕ → List (List ℕ)
+raws_keyed fields key = map (λ field. field.raw) (filter (λ field. pointwise nat_eq (lowered field.name) key) fields)
+
+-- the unfolded values of the fields that have this name in lower case (RFC 5322, 2.2.3)
+abbrev pub values_keyed : MailSpec → List ℕ → List (List ℕ)
+values_keyed mail key = map unfold_of (raws_keyed mail.fields key)
+
+-- the text of an unfolded value: decoded (RFC 2047), and then without the blanks at its ends (RFC 5228, 2.4.2.2)
+abbrev pub text_shown : List ℕ → List ℕ
+text_shown value = trimmed (text_of value)
+
+-- the texts of those fields
+abbrev pub texts_keyed : MailSpec → List ℕ → List (List ℕ)
+texts_keyed mail key = map text_shown (values_keyed mail key)
+
+-- the names of the fields that have addresses, in lower case
+abbrev pub address_fields : List (List ℕ)
+address_fields =
+    codes "from" ∷ codes "to" ∷ codes "cc" ∷ codes "bcc" ∷ codes "sender" ∷ codes "reply-to" ∷ codes "resent-from"
+    ∷ codes "resent-to" ∷ codes "resent-cc" ∷ codes "resent-bcc" ∷ codes "resent-sender" ∷ codes "delivered-to"
+    ∷ codes "x-original-to" ∷ codes "return-path" ∷ []
+
+-- whether fields of this name in lower case have addresses
+abbrev pub is_address_key : List ℕ → Bool
+is_address_key key = list_any (λ name. pointwise nat_eq name key) address_fields
+
+-- the addresses of the unfolded values, which aren't decoded, of those fields; none where fields of the name have no addresses
+abbrev pub addresses_keyed : MailSpec → List ℕ → List Addr
+addresses_keyed mail key = cond (is_address_key key) (flat_map addrs (values_keyed mail key)) []
+
+-- the unfolded values of the fields of a name, whose ASCII case is ignored; a field that is absent has none
+abbrev pub values_of : MailSpec → List ℕ → List (List ℕ)
+values_of mail name = values_keyed mail (lowered name)
+
+-- the texts of the fields of a name
+abbrev pub texts_of : MailSpec → List ℕ → List (List ℕ)
+texts_of mail name = texts_keyed mail (lowered name)
+
+-- the addresses of the fields of a name
+abbrev pub addresses_of : MailSpec → List ℕ → List Addr
+addresses_of mail name = addresses_keyed mail (lowered name)

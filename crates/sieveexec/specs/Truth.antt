@@ -1,0 +1,61 @@
+-- The truth of tests at a mail: true exactly where the test holds (`truth_of_a_check` of laws.rt).
+use Rattle.std.specs.Prelude.{ℕ, Bool, true, false, ◌&&◌, ◌||◌, not, nat_lt, List, [], ◌∷◌}
+use Rattle.std.specs.List.{list_any, list_all}
+use Rattle.sievesyntax.specs.declared.checks.Bound.{Bound}
+use Rattle.sievesyntax.specs.declared.checks.Bound.TheVariants.{Over, Under}
+use Rattle.sievesyntax.specs.declared.checks.Header.{Header as HeaderTest}
+use Rattle.sievesyntax.specs.declared.checks.Address.{Address as AddressTest}
+use Rattle.sievesyntax.specs.declared.checks.EnvelopeTest.{EnvelopeTest}
+use Rattle.sievesyntax.specs.declared.checks.Check.{Check}
+use Rattle.sievesyntax.specs.declared.checks.Check.TheVariants.{Size, Exists, Header, Address, Envelope}
+use Rattle.addrparts.specs.declared.address.Addr.{Addr}
+use Rattle.sieveexec.specs.Mails.{MailSpec, values_of, texts_of, addresses_of}
+use Rattle.sieveexec.specs.Matches.{matches_some}
+use Rattle.sieveexec.specs.Parts.{part_of, part_in}
+
+-- whether a size is over or under a limit
+abbrev pub is_beyond : Bound → ℕ → ℕ → Bool
+is_beyond Over size limit = nat_lt limit size
+is_beyond Under size limit = nat_lt size limit
+
+-- whether there are some
+abbrev pub is_some_there : List (List ℕ) → Bool
+is_some_there [] = false
+is_some_there (one ∷ more) = true
+
+-- whether the fields of these names are there
+abbrev pub all_exist : MailSpec → List (List ℕ) → Bool
+all_exist mail names = list_all (λ name. is_some_there (values_of mail name)) names
+
+-- whether a text matches a key of `header`
+abbrev pub text_matches : HeaderTest → List ℕ → Bool
+text_matches header text = matches_some header.comparator header.matching header.keys text
+
+-- whether `header` holds
+abbrev pub header_holds : MailSpec → HeaderTest → Bool
+header_holds mail header = list_any (λ name. list_any (text_matches header) (texts_of mail name)) header.fields
+
+-- whether the part of an address matches a key of `address`
+abbrev pub address_matches : AddressTest → Addr → Bool
+address_matches address one = matches_some address.comparator address.matching address.keys (part_of address.part one)
+
+-- whether `address` holds
+abbrev pub address_holds : MailSpec → AddressTest → Bool
+address_holds mail address = list_any (λ name. list_any (address_matches address) (addresses_of mail name)) address.fields
+
+-- whether a part of an address of the envelope matches a key of the test
+abbrev pub envelope_matches : EnvelopeTest → List ℕ → Bool
+envelope_matches test address = matches_some test.comparator test.matching test.keys (part_in test.part address)
+
+-- whether `envelope` holds
+abbrev pub envelope_holds : MailSpec → EnvelopeTest → Bool
+envelope_holds mail test =
+    (test.parts.from && envelope_matches test mail.from) || (test.parts.to && envelope_matches test mail.to)
+
+-- whether a test that looks at the message or its envelope holds
+abbrev pub truth_at : MailSpec → Check → Bool
+truth_at mail (Size size) = is_beyond size.bound mail.size size.limit
+truth_at mail (Exists names) = all_exist mail names
+truth_at mail (Header header) = header_holds mail header
+truth_at mail (Address address) = address_holds mail address
+truth_at mail (Envelope test) = envelope_holds mail test

@@ -1,0 +1,28 @@
+//! The fields of a message by their names.
+ghost use Rattle.std.specs.Prelude.{◌≡◌, IfOk};
+ghost use Rattle.mailhead.specs.Fields.{texts_of};
+ghost use Rattle.sieveexec.specs.Indexes.{IsIndex};
+
+use crate::raws::Raws;
+use mailhead::Field;
+use octets::{Octets, lowered};
+use std::alloc::{AllocError, Global};
+use std::collections::BTreeMap;
+
+/// The raw values of the fields of each name, by the name in lower case.
+///
+/// For n fields n log n comparisons of names; memory for a slice for each field and a copy of each name.
+pub fn index_of<'a>(
+    alloc: Global,
+    fields: &[Field<'a>],
+) -> Result<BTreeMap<Octets, Raws<'a>>, AllocError>
+    ensures { IfOk result (λ index. IsIndex (texts_of fields.now) index) }
+{
+    let mut index = BTreeMap::new(alloc);
+    for field in fields {
+        let name = lowered(alloc, field.name)?;
+        let raws = index.entry(name)?.or_insert(Raws::new(alloc));
+        raws.push(field.raw)?;
+    }
+    Ok(index)
+}

@@ -1,0 +1,27 @@
+//! Laws of the definitions, each the contract of a function that does nothing.
+ghost use Rattle.std.specs.Prelude.{◌≡◌, ◌↔◌, ◌⊎◌, ℕ, List, [], IsTrue, false};
+ghost use Rattle.std.specs.List.{list_all};
+ghost use Rattle.mailhead.specs.Fields.{is_name};
+ghost use Rattle.sievesyntax.specs.declared.checks.Check.{Check};
+ghost use Rattle.sieveexec.specs.declared.envelope.Envelope.{Envelope};
+ghost use Rattle.sieveexec.specs.Mails.{MailSpec, mail_of, values_of};
+ghost use Rattle.sieveexec.specs.Parts.{Cuts, local_of, domain_of};
+ghost use Rattle.sieveexec.specs.Holding.{Holds};
+ghost use Rattle.sieveexec.specs.Truth.{truth_at};
+
+/// A test that looks at the message or its envelope is true exactly where it holds.
+pub fn truth_of_a_check()
+    ensures { (mail : MailSpec) (check : Check) → IsTrue (truth_at mail check) ↔ Holds mail check }
+{}
+
+/// An address of the envelope is cut in one way.
+pub fn parts_of_an_address()
+    ensures found { (text : List ℕ) → Cuts text (local_of text) (domain_of text) }
+    ensures only { (text local domain : List ℕ) → Cuts text local domain → (local ≡ local_of text) × (domain ≡ domain_of text) }
+{}
+
+/// A name that is no field's name, empty or with an octet that can't stand in one, names no field.
+pub fn invalid_names()
+    ensures { (message : List ℕ) (envelope : Envelope) (name : List ℕ) → (list_all is_name name ≡ false) ⊎ (name ≡ [])
+        → values_of (mail_of message envelope) name ≡ [] }
+{}

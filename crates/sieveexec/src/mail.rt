@@ -1,0 +1,138 @@
+//! A message with its envelope, as the tests of a script see it.
+ghost use Rattle.std.specs.Prelude.{◌≡◌, [], IfOk, unwrap_or, option_copied};
+ghost use Rattle.mailhead.specs.Fields.{texts_of};
+ghost use Rattle.sieveexec.specs.Mails.{mail_of, raws_keyed};
+ghost use Rattle.sieveexec.specs.Truth.{is_beyond, is_some_there, all_exist};
+
+use crate::envelope::Envelope;
+use crate::index::index_of;
+use crate::raws::Raws;
+use mailhead::{Field, Head};
+use octets::{Octets, lowered};
+use sievesyntax::{Bound, Size};
+use std::alloc::{AllocError, Global};
+use std::collections::BTreeMap;
+use std::marker::Model;
+
+/// A message with its envelope (RFC 5228, 2.4.2). It borrows the message and copies nothing of it but the names of its
+/// fields. Contracts see the fields, the envelope's addresses, the size and the octets.
+#[derive(Drop)]
+pub struct Mail<'a> {
+    head: Head<'a>,
+    envelope: Envelope,
+    size: u64,
+    index: BTreeMap<Octets, Raws<'a>>,
+}
+
+impl<'a> Model for Mail<'a> {
+    ghost use Rattle.std.specs.Prelude.{◌≡◌};
+    ghost use Rattle.mailhead.specs.Heads.{fields_of, size_of};
+    ghost use Rattle.sieveexec.specs.Mails.{MailSpec, mail_of};
+    ghost use Rattle.sieveexec.specs.Indexes.{IsIndex};
+
+    ghost Value = { MailSpec };
+
+    ghost view = { λ mail. mail_of mail.head mail.envelope };
+
+    ghost invariant = { λ mail. (mail.size ≡ size_of mail.head) × IsIndex (fields_of mail.head) mail.index };
+}
+
+impl<'a> Mail<'a> {
+    /// Reads the header of a message and counts its size.
+    ///
+    /// One pass over the header and one over the message; the body isn't copied, and no value is unfolded or decoded.
+    /// For n fields n log n comparisons of names.
+    pub fn read(
+        alloc: Global,
+        message: &'a [u8],
+        envelope: Envelope,
+    ) -> Result<Mail<'a>, AllocError>
+        ensures { IfOk result (λ mail. mail ≡ mail_of message.now envelope) }
+    {
+        let head = Head::read(alloc, message)?;
+        let size = head.size();
+        let index = index_of(alloc, head.fields())?;
+        Ok(Mail {
+            head,
+            envelope,
+            size,
+            index,
+        })
+    }
+
+    /// The fields, in order.
+    pub fn fields(&self) -> &[Field<'a>]
+        ensures { texts_of result.now ≡ self.now.fields }
+    {
+        self.head.fields()
+    }
+
+    /// The octets of the message as they were received.
+    pub fn message(&self) -> &'a [u8]
+        ensures { result.now ≡ self.now.octets }
+    {
+        self.head.message()
+    }
+
+    /// The message's octets, and one more for each LF without CR right before it.
+    pub fn size(&self) -> u64
+        ensures { result ≡ self.now.size }
+    {
+        self.size
+    }
+
+    /// The envelope's sender, as it was written; empty for the null reverse-path.
+    pub fn from(&self) -> &[u8]
+        ensures { result.now ≡ self.now.from }
+    {
+        self.envelope.from.as_slice()
+    }
+
+    /// The envelope's recipient, as it was written.
+    pub fn to(&self) -> &[u8]
+        ensures { result.now ≡ self.now.to }
+    {
+        self.envelope.to.as_slice()
+    }
+
+    /// The raw values of the fields that have this name in lower case; none where no field has it.
+    ///
+    /// No pass over the fields: log n comparisons of names where the fields have n names.
+    pub(crate) fn raws(&self, key: &Octets) -> Option<&Raws<'a>>
+        ensures { unwrap_or (option_copied result) [] ≡ raws_keyed self.now.fields key.now }
+    {
+        self.index.get(key)
+    }
+
+    /// Whether some field has this name in lower case.
+    pub(crate) fn has(&self, key: &Octets) -> bool
+        ensures { result ≡ is_some_there (raws_keyed self.now.fields key.now) }
+    {
+        match self.raws(key) {
+            Some(raws) => !raws.is_empty(),
+            None => false,
+        }
+    }
+
+    /// Whether fields of all these names are there (RFC 5228, 5.5).
+    pub(crate) fn all_exist(&self, alloc: Global, names: &[Octets]) -> Result<bool, AllocError>
+        ensures { IfOk result (λ there. there ≡ all_exist self.now names.now) }
+    {
+        for name in names {
+            if !self.has(&lowered(alloc, name.as_slice())?) {
+                return Ok(false);
+            }
+        }
+        Ok(true)
+    }
+
+    /// Whether the size is over or under a limit (RFC 5228, 5.9).
+    pub(crate) fn is_beyond(&self, size: Size) -> bool
+        ensures { result ≡ is_beyond size.bound self.now.size size.limit }
+    {
+        match size.bound {
+            Bound::Over => size.limit < self.size,
+            Bound::Under => self.size < size.limit,
+        }
+    }
+}

@@ -1,0 +1,95 @@
+//! Addresses that are written out once.
+ghost use Rattle.std.specs.Prelude.{◌≡◌, [], ◌∷◌, ◌++◌, IfOk, OnOk, map};
+ghost use Rattle.sieveexec.specs.Parts.{part_of};
+
+use addrparts::Addr;
+use octets::Octets;
+use sievesyntax::AddressPart;
+use std::alloc::{AllocError, Global};
+use std::marker::Model;
+
+/// An address as `:all` compares it, and where its `@` stands. Contracts see the address.
+#[derive(Drop)]
+pub struct Shown {
+    all: Octets,
+    at: usize,
+}
+
+impl Model for Shown {
+    ghost use Rattle.std.specs.Prelude.{◌≡◌, ◌+◌, take, drop};
+    ghost use Rattle.addrparts.specs.declared.address.Addr.{Addr};
+    ghost use Rattle.addrparts.specs.Spelling.{all_of};
+    ghost use Rattle.sieveexec.specs.Shown.{address_shown, IsShown};
+
+    ghost Value = { Addr };
+
+    ghost view = { λ shown. address_shown shown.all shown.at };
+
+    ghost invariant = { λ shown. IsShown shown.all shown.at };
+}
+
+impl Shown {
+    /// Writes an address out.
+    pub fn of(alloc: Global, address: &Addr) -> Result<Shown, AllocError>
+        ensures { IfOk result (λ shown. shown ≡ address.now) }
+    {
+        Ok(Shown {
+            all: address.all(alloc)?,
+            at: address.local.len(),
+        })
+    }
+
+    /// A part of the address (RFC 5228, 2.7.4).
+    pub fn part(&self, part: AddressPart) -> &[u8]
+        ensures { result.now ≡ part_of part self.now }
+    {
+        let all = self.all.as_slice();
+        match part {
+            AddressPart::All => all,
+            AddressPart::LocalPart => all.split_at(self.at).0,
+            AddressPart::Domain => all.split_at(self.at + 1).1,
+        }
+    }
+}
+
+/// Addresses that are written out. Contracts see the list of addresses.
+#[derive(Drop)]
+pub struct ShownList {
+    items: Vec<Shown>,
+}
+
+impl Model for ShownList {
+    ghost use Rattle.std.specs.Prelude.{List};
+    ghost use Rattle.addrparts.specs.declared.address.Addr.{Addr};
+
+    ghost Value = { List Addr };
+
+    ghost view = { λ list. list.items.items };
+}
+
+impl ShownList {
+    /// No addresses. Takes no memory.
+    pub fn new(alloc: Global) -> ShownList
+        ensures { result ≡ [] }
+    {
+        ShownList {
+            items: Vec::new(alloc),
+        }
+    }
+
+    /// Writes out addresses behind those that are there.
+    pub fn add(&mut self, alloc: Global, addresses: &[Addr]) -> Result<(), AllocError>
+        ensures { OnOk result (self.new ≡ self.old ++ addresses.now) }
+    {
+        for address in addresses {
+            self.items.push(Shown::of(alloc, address)?)?;
+        }
+        Ok(())
+    }
+
+    pub fn as_slice(&self) -> &[Shown]
+        ensures { result.now ≡ self.now }
+    {
+        self.items.as_slice()
+    }
+}

@@ -1,0 +1,118 @@
+//! Tests, by recursive descent: no deeper than test lists and `not`s may enclose them.
+ghost use Rattle.std.specs.Prelude.{◌≡◌, ◌++◌, ◌∷◌, ℕ, List, IfOk, map};
+ghost use Rattle.sievelex.specs.declared.token.Kind.TheVariants as K;
+ghost use Rattle.sievesyntax.specs.declared.lexeme.Word.TheVariants as W;
+ghost use Rattle.sievesyntax.specs.Chains.{Chain};
+ghost use Rattle.sievesyntax.specs.Lexemes.{Lexeme, mark};
+ghost use Rattle.sievesyntax.specs.Parsing.{IfFault, Parses};
+ghost use Rattle.sievesyntax.specs.Tree.{TestTree};
+ghost use Rattle.sievesyntax.specs.View.{test_view, tests_view};
+ghost use Rattle.sievesyntax.specs.Tests.{TakesTest, AsksBehind, TakesNextTest, TakesTests};
+
+use crate::argument::{read_arguments, read_separator};
+use crate::granted::Granted;
+use crate::lexeme::Word;
+use crate::reader::Reader;
+use crate::refusal::ReadError;
+use crate::row::plain_test;
+use crate::tree::Test;
+use sievelex::{FaultKind, Kind};
+use std::alloc::Global;
+
+/// A test that may stand here: so many test lists and so many `not`s may enclose the tests within it.
+#[cycle(ask)]
+pub fn read_test(
+    alloc: Global,
+    reader: &mut Reader<'_>,
+    granted: Granted,
+    lists: usize,
+    nots: usize,
+) -> Result<Test, ReadError>
+    ensures { Parses test_view (TakesTest granted lists nots) reader.old reader.new result }
+{
+    let name = reader.read_word()?;
+    match name {
+        Word::Not => read_not(alloc, reader, granted, lists, nots),
+        Word::AllOf => Ok(Test::AllOf(read_tests(alloc, reader, granted, lists, nots)?)),
+        Word::AnyOf => Ok(Test::AnyOf(read_tests(alloc, reader, granted, lists, nots)?)),
+        _ => read_plain(alloc, reader, granted, lists, nots, name),
+    }
+}
+
+/// `not`, behind its name.
+#[cycle(ask)]
+fn read_not(
+    alloc: Global,
+    reader: &mut Reader<'_>,
+    granted: Granted,
+    lists: usize,
+    nots: usize,
+) -> Result<Test, ReadError>
+    ensures { Parses test_view (AsksBehind granted lists nots W.Not) reader.old reader.new result }
+{
+    if nots == 0 {
+        return Err(ReadError::Fault(FaultKind::TooDeep));
+    }
+    let inner = read_test(alloc, reader, granted, lists, nots - 1)?;
+    Ok(Test::Not(Box::new(alloc, inner)?))
+}
+
+/// A test list.
+#[cycle(ask)]
+fn read_tests(
+    alloc: Global,
+    reader: &mut Reader<'_>,
+    granted: Granted,
+    lists: usize,
+    nots: usize,
+) -> Result<Vec<Test>, ReadError>
+    ensures { Parses (λ v. tests_view v.items) (TakesTests granted lists nots) reader.old reader.new result }
+{
+    reader.read_mark(Kind::OpenParen)?;
+    if lists == 0 {
+        return Err(ReadError::Fault(FaultKind::TooDeep));
+    }
+    let mut tests = Vec::new(alloc);
+    tests.push(read_test(alloc, reader, granted, lists - 1, nots)?)?;
+    let tests = read_more_tests(alloc, reader, granted, lists - 1, nots, tests)?;
+    Ok(tests)
+}
+
+/// The tests of a list behind those read so far, and its close parenthesis.
+#[cycle(ask)]
+fn read_more_tests(
+    alloc: Global,
+    reader: &mut Reader<'_>,
+    granted: Granted,
+    lists: usize,
+    nots: usize,
+    tests: Vec<Test>,
+) -> Result<Vec<Test>, ReadError>
+    ensures found { IfOk result (λ all. (more : List TestTree) × ((map test_view all.items ≡ map test_view tests.items ++ more) × Chain (TakesNextTest granted lists nots) more reader.old (mark K.CloseParen ∷ reader.new))) }
+    ensures only { IfOk result (λ all. (more : List TestTree) (to : List Lexeme) → Chain (TakesNextTest granted lists nots) more reader.old (mark K.CloseParen ∷ to) → (map test_view all.items ≡ map test_view tests.items ++ more) × (to ≡ reader.new)) }
+    ensures fault { IfFault result ((more : List TestTree) (to : List Lexeme) → Chain (TakesNextTest granted lists nots) more reader.old (mark K.CloseParen ∷ to) → ⊥) }
+{
+    let mut tests = tests;
+    'tests: while read_separator(reader, Kind::CloseParen)? {
+        tests.push(read_test(alloc, reader, granted, lists, nots)?)?;
+    }
+    Ok(tests)
+}
+
+/// A test without tests in it, behind its name.
+fn read_plain(
+    alloc: Global,
+    reader: &mut Reader<'_>,
+    granted: Granted,
+    lists: usize,
+    nots: usize,
+    name: Word,
+) -> Result<Test, ReadError>
+    requires no_not { name ≡ W.Not → ⊥ }
+    requires no_allof { name ≡ W.AllOf → ⊥ }
+    requires no_anyof { name ≡ W.AnyOf → ⊥ }
+    ensures { Parses test_view (AsksBehind granted lists nots name) reader.old reader.new result }
+{
+    let args = read_arguments(alloc, reader)?;
+    Ok(plain_test(alloc, name, args.as_slice(), granted)?)
+}
