@@ -2,3 +2,4 @@ pub mod LayoutLemmas
 pub mod Runs
 pub mod Forward
 pub mod Sizes
+pub mod Examples

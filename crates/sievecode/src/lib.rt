@@ -11,3 +11,6 @@ mod instr;
 
 pub use code::{Code, compile};
 pub use instr::Instr;
+
+#[cfg(test)]
+mod tests;
