@@ -3,7 +3,7 @@ ghost use Rattle.std.specs.Prelude.{◌≡◌, ◌++◌, codes, map, IfOk, OnOk}
 ghost use Rattle.std.specs.List.{flat_map};
 ghost use Rattle.sieveexec.specs.Runs.{failure_view, outcome_view};
 ghost use Rattle.mailengine.specs.Notices.{notice_of};
-ghost use Rattle.sieved.specs.Reports.{file_line, send_line, lines_of, or_discard, with_end, report_of, fault_line};
+ghost use Rattle.sieved.specs.Reports.{file_line, send_line, lines_of, or_discard, reply_lines, with_end, report_of, fault_line};
 
 use addrparts::{Addr, spell};
 use mailengine::{Failure, Outcome, notice_text};
@@ -18,11 +18,12 @@ pub fn of_outcome(alloc: Global, outcome: &Outcome) -> Result<Octets, AllocError
 {
     match outcome {
         Outcome::Failed(failure) => of_failure(alloc, *failure),
-        Outcome::Done {
-            filed,
-            sent,
-            reply,
-        } => of_deeds(alloc, filed.as_slice(), sent.as_slice(), reply.is_some()),
+        Outcome::Done { filed, sent, reply } => of_deeds(
+            alloc,
+            filed.as_slice(),
+            sent.as_slice(),
+            reply.is_some(),
+        ),
     }
 }
 
@@ -35,16 +36,37 @@ fn of_deeds(
 ) -> Result<Octets, AllocError>
     ensures { IfOk result (λ text. text ≡ flat_map with_end (or_discard (lines_of filed.now sent.now answers))) }
 {
-    if filed.is_empty() && sent.is_empty() && !answers {
+    let text = of_lines(alloc, filed, sent, answers)?;
+    if text.is_empty() {
         return Octets::copy(alloc, b"discard\n");
     }
+    Ok(text)
+}
+
+/// The lines of what is done.
+fn of_lines(
+    alloc: Global,
+    filed: &[Octets],
+    sent: &[Addr],
+    answers: bool,
+) -> Result<Octets, AllocError>
+    ensures { IfOk result (λ text. text ≡ flat_map with_end (lines_of filed.now sent.now answers)) }
+{
     let mut text = Octets::new(alloc);
     add_mailboxes(&mut text, filed)?;
     add_targets(alloc, &mut text, sent)?;
+    add_answer(&mut text, answers)?;
+    Ok(text)
+}
+
+/// Appends the line of an answer to the sender, if there is one.
+fn add_answer(text: &mut Octets, answers: bool) -> Result<(), AllocError>
+    ensures { OnOk result (text.new ≡ text.old ++ flat_map with_end (reply_lines answers)) }
+{
     if answers {
         text.extend_from_slice(b"vacation wanted\n")?;
     }
-    Ok(text)
+    Ok(())
 }
 
 /// Appends a line for each mailbox.

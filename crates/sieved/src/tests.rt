@@ -172,8 +172,10 @@ fn tries_a_script_on_a_message_with_its_envelope(rt: HostRuntime) -> Result<(), 
     };
     let script = b"require \"fileinto\"; fileinto \"lists\"; if size :under 25 { keep; }";
     let outcome = attempt(alloc, script, envelope, MAIL)?;
-    assert!(rt; matches!(&outcome, Outcome::Done { filed, sent, reply: None } if sent.as_slice().is_empty()
-        && matches!(filed.as_slice(), [first, second] if first.as_slice() == b"lists".as_slice() && second.as_slice() == b"INBOX".as_slice())));
+    assert!(rt;
+        matches!(&outcome, Outcome::Done { filed, sent, reply: None } if sent.as_slice().is_empty()
+        && matches!(filed.as_slice(), [first, second] if first.as_slice() == b"lists".as_slice() && second.as_slice() == b"INBOX".as_slice()))
+    );
     Ok(())
 }
 

@@ -75,18 +75,27 @@ fn tests_hold_or_not(rt: HostRuntime) -> Result<(), Fail> {
         (b"address :is :all \"from\" \"tim@example.com\"", true),
         (b"address :is :all \"from\" \"tim@example.net\"", false),
         (b"address \"from\" \"TIM@EXAMPLE.COM\"", true),
-        (b"address :comparator \"i;octet\" \"from\" \"TIM@EXAMPLE.COM\"", false),
+        (
+            b"address :comparator \"i;octet\" \"from\" \"TIM@EXAMPLE.COM\"",
+            false,
+        ),
         (b"address :domain \"from\" \"example.com\"", true),
         (b"address :localpart \"from\" \"tim\"", true),
         (b"address :localpart \"from\" \"Ulysses\"", false),
         (b"address :localpart [\"cc\", \"TO\"] \"bugs\"", true),
         (b"address :domain :contains \"to\" \"desert\"", true),
         (b"address :domain :matches \"to\" \"*.example.*\"", true),
-        (b"address \"sender\" \"owner-ietf-mta-filters@imc.org\"", true),
+        (
+            b"address \"sender\" \"owner-ietf-mta-filters@imc.org\"",
+            true,
+        ),
         (b"address :contains \"subject\" \"\"", false),
         (b"address :contains \"to\" \"Coyote, W.\"", false),
         (b"address :contains \"cc\" \"\"", false),
-        (b"address :is \"from\" [\"x@y.z\", \"tim@example.com\"]", true),
+        (
+            b"address :is \"from\" [\"x@y.z\", \"tim@example.com\"]",
+            true,
+        ),
         // 5.2, 5.3
         (b"allof (false, false)", false),
         (b"allof (false, true)", false),
@@ -96,14 +105,20 @@ fn tests_hold_or_not(rt: HostRuntime) -> Result<(), Fail> {
         (b"anyof (true, true)", true),
         (b"allof (true)", true),
         (b"anyof (false)", false),
-        (b"anyof (allof (true, false), not allof (true, false))", true),
+        (
+            b"anyof (allof (true, false), not allof (true, false))",
+            true,
+        ),
         // 5.4
         (b"envelope :all :is \"from\" \"bob@example.net\"", true),
         (b"envelope :all :is \"from\" \"tim@example.com\"", false),
         (b"envelope :localpart \"FROM\" \"BOB\"", true),
         (b"envelope :domain \"to\" \"example.org\"", true),
         (b"envelope [\"from\", \"to\"] \"alice@example.org\"", true),
-        (b"envelope :comparator \"i;octet\" \"to\" \"ALICE@example.org\"", false),
+        (
+            b"envelope :comparator \"i;octet\" \"to\" \"ALICE@example.org\"",
+            false,
+        ),
         (b"envelope :matches \"from\" \"*@*.net\"", true),
         // 5.5
         (b"exists [\"From\",\"Date\"]", true),
@@ -121,7 +136,10 @@ fn tests_hold_or_not(rt: HostRuntime) -> Result<(), Fail> {
         (b"header :is \"X-Caffeine\" \"\"", false),
         (b"header :contains \"X-Caffeine\" \"\"", true),
         (b"header :is \"x-caffeine\" \"c8h10n4o2\"", true),
-        (b"header :comparator \"i;octet\" \"x-caffeine\" \"c8h10n4o2\"", false),
+        (
+            b"header :comparator \"i;octet\" \"x-caffeine\" \"c8h10n4o2\"",
+            false,
+        ),
         (b"header :matches \"x-caffeine\" \"C?H*O?\"", true),
         (b"header :matches \"x-caffeine\" \"C?H*O\"", false),
         (b"header :contains \"x-nothing\" \"\"", false),
@@ -129,7 +147,10 @@ fn tests_hold_or_not(rt: HostRuntime) -> Result<(), Fail> {
         (b"header :is \"x-empty\" \"\"", true),
         (b"header :is \"x-blank\" \"\"", true),
         (b"header :is \"folded\" \"one two\"", true),
-        (b"header :contains [\"x-nothing\", \"folded\"] [\"three\", \"TWO\"]", true),
+        (
+            b"header :contains [\"x-nothing\", \"folded\"] [\"three\", \"TWO\"]",
+            true,
+        ),
         (b"header :is \"subject\" \"caf\xc3\xa9 cr\xc3\xa8me\"", true),
         (b"header :contains \"subject\" \"=?utf-8?\"", false),
         (b"header :matches \"subject\" \"caf?? cr*\"", true),
@@ -280,14 +301,26 @@ fn scripts_come_to_their_outcome(rt: HostRuntime) -> Result<(), Fail> {
             b"require [\"fileinto\"]; if header :contains \"from\" \"ulysses\" { fileinto \"INBOX.harassment\"; }",
             b"file INBOX.harassment\n",
         ),
-        on_list(b"redirect \"bart@example.com\";", b"send bart@example.com\n"),
-        on_list(b"if size :under 1M { keep; } else { discard; }", b"file INBOX\n"),
-        on_list(b"if header :contains [\"from\"] [\"tim@example.com\"] { discard; }", b"discard\n"),
+        on_list(
+            b"redirect \"bart@example.com\";",
+            b"send bart@example.com\n",
+        ),
+        on_list(
+            b"if size :under 1M { keep; } else { discard; }",
+            b"file INBOX\n",
+        ),
+        on_list(
+            b"if header :contains [\"from\"] [\"tim@example.com\"] { discard; }",
+            b"discard\n",
+        ),
         on_list(
             b"if anyof (not exists [\"From\", \"Date\"], header :contains \"from\" \"fool@example.com\") { discard; }",
             b"file INBOX\n",
         ),
-        on_list(b"keep; redirect \"a@b.c\"; discard;", b"file INBOX\nsend a@b.c\n"),
+        on_list(
+            b"keep; redirect \"a@b.c\"; discard;",
+            b"file INBOX\nsend a@b.c\n",
+        ),
         on_list(
             b"redirect \"c@example.com\"; redirect \"Carol <c@example.com>\";",
             b"send c@example.com\n",
@@ -296,15 +329,27 @@ fn scripts_come_to_their_outcome(rt: HostRuntime) -> Result<(), Fail> {
             b"redirect \"c@example.com\"; redirect \"C@example.com\"; redirect \"c@Example.com\";",
             b"send c@example.com\nsend C@example.com\nsend c@Example.com\n",
         ),
-        on_list(b"redirect \"\\\"j d\\\"@ex.org\";", b"send \"j d\"@ex.org\n"),
-        on_list(b"require \"fileinto\"; fileinto \"inbox\"; keep; discard;", b"file INBOX\n"),
+        on_list(
+            b"redirect \"\\\"j d\\\"@ex.org\";",
+            b"send \"j d\"@ex.org\n",
+        ),
+        on_list(
+            b"require \"fileinto\"; fileinto \"inbox\"; keep; discard;",
+            b"file INBOX\n",
+        ),
         on_list(
             b"require \"fileinto\"; fileinto \"b\"; redirect \"x@y.z\"; fileinto \"a\"; redirect \"a@y.z\"; fileinto \"b\";",
             b"file b\nfile a\nsend x@y.z\nsend a@y.z\n",
         ),
         on_list(b"fileinto \"x\";", b"line 1: extension not required\n"),
-        on_list(b"require \"fileinto\"; fileinto \"\";", b"line 1: bad mailbox name\n"),
-        on_list(b"redirect \"Carol c@example.com\";", b"line 1: bad address\n"),
+        on_list(
+            b"require \"fileinto\"; fileinto \"\";",
+            b"line 1: bad mailbox name\n",
+        ),
+        on_list(
+            b"redirect \"Carol c@example.com\";",
+            b"line 1: bad address\n",
+        ),
         // 8.1
         on_list(b"/* a */ # b\r\nkeep;", b"file INBOX\n"),
         on_list(b"/* a", b"line 1: comment is not closed\n"),
@@ -317,15 +362,47 @@ fn scripts_come_to_their_outcome(rt: HostRuntime) -> Result<(), Fail> {
             EXTENDED,
             b"file spam\n",
         ),
-        on(b"From: x@y.z\nCc: me@example.com.au\nSubject: hello\n\n", EXTENDED, b"file personal\n"),
+        on(
+            b"From: x@y.z\nCc: me@example.com.au\nSubject: hello\n\n",
+            EXTENDED,
+            b"file personal\n",
+        ),
         // fields that are there or not
-        on(b"X: 1\nY: 2\n\n", b"if not exists [\"X\",\"Y\"] { discard; } else { keep; }", b"file INBOX\n"),
-        on(b"X: 1\n\n", b"if not exists [\"X\",\"Y\"] { discard; } else { keep; }", b"discard\n"),
-        on(nothing, b"if header :is \"x\" \"\" { discard; }", b"file INBOX\n"),
-        on(b"X:", b"if header :is \"x\" \"\" { discard; }", b"discard\n"),
-        on(b"X: \t", b"if header :is \"x\" \"\" { discard; }", b"discard\n"),
-        on(b"Bad line\n c\nX : y\n\nb", b"if header :is \"x\" \"y\" { discard; }", b"discard\n"),
-        on(b"X: 1\nx: 2\n\n", b"if header :is \"X\" \"2\" { discard; }", b"discard\n"),
+        on(
+            b"X: 1\nY: 2\n\n",
+            b"if not exists [\"X\",\"Y\"] { discard; } else { keep; }",
+            b"file INBOX\n",
+        ),
+        on(
+            b"X: 1\n\n",
+            b"if not exists [\"X\",\"Y\"] { discard; } else { keep; }",
+            b"discard\n",
+        ),
+        on(
+            nothing,
+            b"if header :is \"x\" \"\" { discard; }",
+            b"file INBOX\n",
+        ),
+        on(
+            b"X:",
+            b"if header :is \"x\" \"\" { discard; }",
+            b"discard\n",
+        ),
+        on(
+            b"X: \t",
+            b"if header :is \"x\" \"\" { discard; }",
+            b"discard\n",
+        ),
+        on(
+            b"Bad line\n c\nX : y\n\nb",
+            b"if header :is \"x\" \"y\" { discard; }",
+            b"discard\n",
+        ),
+        on(
+            b"X: 1\nx: 2\n\n",
+            b"if header :is \"X\" \"2\" { discard; }",
+            b"discard\n",
+        ),
         on(
             b"Subject: hello\n\nbody\n",
             b"if header :contains \"subject\" \"HELL\" { discard; }",
@@ -336,7 +413,11 @@ fn scripts_come_to_their_outcome(rt: HostRuntime) -> Result<(), Fail> {
             b"if header :comparator \"i;octet\" :contains \"subject\" \"HELL\" { discard; }",
             b"file INBOX\n",
         ),
-        on(LUNCH, b"if address :localpart \"to\" \"ALICE\" { discard; }", b"discard\n"),
+        on(
+            LUNCH,
+            b"if address :localpart \"to\" \"ALICE\" { discard; }",
+            b"discard\n",
+        ),
         // a value that isn't decoded for `address`
         on(
             b"To: =?utf-8?Q?alice=40example.org?=\n\n",
@@ -370,8 +451,16 @@ fn scripts_come_to_their_outcome(rt: HostRuntime) -> Result<(), Fail> {
             b"discard\n",
         ),
         // RFC 5230
-        on(LUNCH, b"require \"vacation\"; vacation \"Away.\";", b"file INBOX\nvacation wanted\n"),
-        on(LUNCH, b"require \"vacation\"; discard; vacation \"x\";", b"vacation wanted\n"),
+        on(
+            LUNCH,
+            b"require \"vacation\"; vacation \"Away.\";",
+            b"file INBOX\nvacation wanted\n",
+        ),
+        on(
+            LUNCH,
+            b"require \"vacation\"; discard; vacation \"x\";",
+            b"vacation wanted\n",
+        ),
         on(
             LUNCH,
             b"require \"vacation\"; vacation :days 23 :addresses [\"tjs@example.edu\", \"ts4z@landru.example.edu\"] \"I'm away until October 19.\";",
@@ -419,11 +508,23 @@ fn redirects(alloc: Global, targets: u64, again: bool) -> Result<Octets, AllocEr
 fn a_message_is_sent_to_sixteen_addresses_at_most(rt: HostRuntime) -> Result<(), Fail> {
     let alloc = rt.alloc();
     let failed: &[u8] = b"failed: more than 16 redirects\n";
-    for (targets, again, lines) in [(1, true, 1), (15, false, 15), (16, false, 16), (16, true, 16)] {
+    for (targets, again, lines) in [
+        (1, true, 1),
+        (15, false, 15),
+        (16, false, 16),
+        (16, true, 16),
+    ] {
         let script = redirects(alloc, targets, again)?;
         let told = answer(alloc, script.as_slice(), b"", b"", LUNCH)?;
-        assert!(rt; told.as_slice().starts_with(b"send r0@example.com\n"), "{targets}");
-        let ends = told.as_slice().iter().filter(|octet| **octet == b'\n').count();
+        assert!(rt;
+            told.as_slice().starts_with(b"send r0@example.com\n"),
+            "{targets}"
+        );
+        let ends = told
+            .as_slice()
+            .iter()
+            .filter(|octet| **octet == b'\n')
+            .count();
         assert_eq!(rt; ends, lines, "{targets}");
     }
     for targets in [17, 18, 40] {
