@@ -1,13 +1,11 @@
 //! The address that a part of a list gives, as far as its tokens have been read.
-ghost use Rattle.std.specs.Prelude.{◌≡◌, [], ◌++◌, IfOk, OnOk};
-ghost use Rattle.addrparts.specs.Pieces as spec;
+ghost use Rattle.std.specs.Prelude.{◌≡◌, ◌++◌, IfOk, OnOk};
 ghost use Rattle.addrparts.specs.Reading as reading;
 
 use crate::address::Addr;
+use crate::gathered::Gathered;
 use crate::scanner::{Kind, Token};
-use octets::Octets;
 use std::alloc::{AllocError, Global};
-use std::mem;
 
 /// Where in its part the next token stands.
 #[derive(Clone, Copy)]
@@ -46,11 +44,11 @@ pub enum Stage {
 
 /// A part of a list, as far as it has been read.
 #[derive(Drop)]
-pub struct Draft {
+pub struct Draft<'a> {
     pub place: Place,
     pub stage: Stage,
-    pub local: Octets,
-    pub domain: Octets,
+    pub local: Gathered<'a>,
+    pub domain: Gathered<'a>,
 }
 
 fn stage_after(stage: Stage, kind: Kind) -> Stage
@@ -83,55 +81,30 @@ fn stage_after(stage: Stage, kind: Kind) -> Stage
     }
 }
 
-/// Appends the text without its quotation marks, and with each quoted pair replaced by its octet. Reads the text once.
-pub fn unquote(out: &mut Octets, text: &[u8]) -> Result<(), AllocError>
-    ensures { OnOk result (out.new ≡ out.old ++ spec.unquoted text.now) }
-{
-    let mut escaped = false;
-    for octet in text {
-        if !escaped && *octet == b'\\' {
-            escaped = true;
-        } else if escaped || *octet != b'"' {
-            out.push(*octet)?;
-            escaped = false;
-        }
-    }
-    Ok(())
-}
-
 /// Appends what a word, a dot or a domain literal stands for.
-fn append(out: &mut Octets, token: Token<'_>) -> Result<(), AllocError>
+fn append<'a>(alloc: Global, out: &mut Gathered<'a>, token: Token<'a>) -> Result<(), AllocError>
     ensures { OnOk result (out.new ≡ out.old ++ reading.value_of token.entry.kind token.entry.text.now) }
 {
     match token.kind {
-        Kind::Quoted => unquote(out, token.text),
-        Kind::Dot => out.push(b'.'),
-        _ => out.extend_from_slice(token.text),
+        Kind::Quoted => out.add_unquoted(alloc, token.text),
+        Kind::Dot => out.add(alloc, b".", token.from),
+        _ => out.add(alloc, token.text, token.from),
     }
 }
 
-/// No octets, with the room that there was.
-fn clear(alloc: Global, text: &mut Octets)
-    ensures { text.new ≡ [] }
-{
-    let mut items = mem::replace(text, Octets::new(alloc)).into_vec();
-    items.clear();
-    *text = Octets::from_vec(items);
-}
-
-impl Draft {
+impl<'a> Draft<'a> {
     ghost use Rattle.addrparts.specs.declared.draft.Place.TheVariants as P;
     ghost use Rattle.addrparts.specs.declared.draft.Stage.TheVariants as S;
 
     /// Nothing read. Takes no memory.
-    pub fn new(alloc: Global, place: Place) -> Draft
+    pub fn new(alloc: Global, place: Place) -> Draft<'a>
         ensures { result ≡ reading.start_at place }
     {
         Draft {
             place,
             stage: Stage::Start,
-            local: Octets::new(alloc),
-            domain: Octets::new(alloc),
+            local: Gathered::new(alloc),
+            domain: Gathered::new(alloc),
         }
     }
 
@@ -146,43 +119,43 @@ impl Draft {
     }
 
     /// Begins anew behind an opening bracket.
-    fn open(&mut self, alloc: Global)
+    fn open(&mut self)
         ensures { self.new ≡ reading.start_at P.Open }
     {
         self.place = Place::Open;
         self.stage = Stage::Start;
-        clear(alloc, &mut self.local);
-        clear(alloc, &mut self.domain);
+        self.local.clear();
+        self.domain.clear();
     }
 
     /// Reads a token of an addr-spec.
-    fn read(&mut self, token: Token<'_>) -> Result<(), AllocError>
+    fn read(&mut self, alloc: Global, token: Token<'a>) -> Result<(), AllocError>
         ensures { OnOk result (self.new ≡ reading.read self.old token.entry.kind token.entry.text.now) }
     {
         self.stage = stage_after(self.stage, token.kind);
         match self.stage {
-            Stage::Word | Stage::Dot => append(&mut self.local, token),
-            Stage::Name | Stage::NameDot | Stage::Literal => append(&mut self.domain, token),
+            Stage::Word | Stage::Dot => append(alloc, &mut self.local, token),
+            Stage::Name | Stage::NameDot | Stage::Literal => append(alloc, &mut self.domain, token),
             _ => Ok(()),
         }
     }
 
     /// Reads a token at its place.
-    fn take_at(&mut self, alloc: Global, token: Token<'_>) -> Result<(), AllocError>
+    fn take_at(&mut self, alloc: Global, token: Token<'a>) -> Result<(), AllocError>
         ensures { OnOk result (self.new ≡ reading.take_at self.old.place self.old token.entry.kind token.entry.text.now) }
     {
         match self.place {
             Place::Front => match token.kind {
-                Kind::Less => self.open(alloc),
+                Kind::Less => self.open(),
                 Kind::Greater => self.spoil(Place::Behind),
-                _ => self.read(token)?,
+                _ => self.read(alloc, token)?,
             },
             Place::Open => match token.kind {
                 Kind::At => self.place = Place::Route,
                 Kind::Greater => self.place = Place::Behind,
                 _ => {
                     self.place = Place::Inside;
-                    self.read(token)?;
+                    self.read(alloc, token)?;
                 }
             },
             Place::Route => match token.kind {
@@ -192,7 +165,7 @@ impl Draft {
             },
             Place::Inside => match token.kind {
                 Kind::Greater => self.place = Place::Behind,
-                _ => self.read(token)?,
+                _ => self.read(alloc, token)?,
             },
             Place::Behind => match token.kind {
                 Kind::Less => self.spoil(Place::Inside),
@@ -211,7 +184,7 @@ impl Draft {
     }
 
     /// Reads a token that doesn't end the part. A blank or a comment changes nothing.
-    pub fn take(&mut self, alloc: Global, token: Token<'_>) -> Result<(), AllocError>
+    pub fn take(&mut self, alloc: Global, token: Token<'a>) -> Result<(), AllocError>
         ensures { OnOk result (self.new ≡ reading.taken self.old token.entry.kind token.entry.text.now) }
     {
         match token.kind {
@@ -244,10 +217,10 @@ impl Draft {
     }
 
     /// Begins the next part.
-    pub fn restart(&mut self, alloc: Global)
+    pub fn restart(&mut self)
         ensures { self.new ≡ reading.start }
     {
-        self.open(alloc);
+        self.open();
         self.place = Place::Front;
     }
 
@@ -257,7 +230,7 @@ impl Draft {
         ensures anew { OnOk result (self.new ≡ reading.start) }
     {
         let found = self.address(alloc)?;
-        self.restart(alloc);
+        self.restart();
         Ok(found)
     }
 }

@@ -8,6 +8,7 @@
 
 pub mod address;
 mod draft;
+mod gathered;
 pub mod list;
 pub mod outbound;
 mod scanner;

@@ -33,7 +33,7 @@ fn give(found: &mut Vec<Addr>, address: Option<Addr>) -> Result<(), AllocError>
 /// Ends the part at this mark; before a colon it gives none.
 fn end_part(
     alloc: Global,
-    draft: &mut Draft,
+    draft: &mut Draft<'_>,
     mark: Kind,
     found: &mut Vec<Addr>,
 ) -> Result<(), AllocError>
@@ -41,7 +41,7 @@ fn end_part(
     ensures anew { OnOk result (draft.new ≡ reading.start) }
 {
     if let Kind::Colon = mark {
-        draft.restart(alloc);
+        draft.restart();
         return Ok(());
     }
     let address = draft.finish(alloc)?;

@@ -7,7 +7,8 @@ ghost use Rattle.addrparts.specs.Reading as reading;
 ghost use Rattle.addrparts.specs.Spelling.{IsDomain};
 
 use crate::address::Addr;
-use crate::draft::{Draft, Place, unquote};
+use crate::draft::{Draft, Place};
+use crate::gathered::unquote;
 use crate::scanner::{Kind, next_token};
 use octets::{Octets, trim_blanks};
 use std::alloc::{AllocError, Global};

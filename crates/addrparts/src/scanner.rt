@@ -40,6 +40,8 @@ pub enum Kind {
 pub struct Token<'a> {
     pub kind: Kind,
     pub text: &'a [u8],
+    /// The value from the piece on.
+    pub from: &'a [u8],
 }
 
 /// The kind of piece that begins with this octet.
@@ -80,7 +82,7 @@ static ATOM_OCTETS: [u8; 256] = *b"\
     \xf0\xf1\xf2\xf3\xf4\xf5\xf6\xf7\xf8\xf9\xfa\xfb\xfc\xfd\xfe\xff";
 
 /// The octet may stand in an atom. One look into a table.
-#[inline]
+#[inline(always)]
 pub fn is_atom(octet: u8) -> bool
     ensures { result ≡ spec.is_atom octet }
 {
@@ -127,6 +129,7 @@ fn comment_len(inside: &[u8]) -> Option<usize>
     None
 }
 
+#[inline(always)]
 fn atom_len(text: &[u8]) -> usize
     ensures is { result ≡ prefix_len spec.is_atom text.now }
     ensures within { result ≤ length text.now }
@@ -146,6 +149,7 @@ fn closed(kind: Kind, others: &[u8], len: Option<usize>) -> (Kind, usize)
 }
 
 /// The kind of the piece that begins with this octet, and how many octets it has.
+#[inline(always)]
 fn first_piece(first: u8, others: &[u8]) -> (Kind, usize)
     ensures is { result ≡ reading.front first others.now }
     ensures some { 0 < result.1 }
@@ -162,11 +166,13 @@ fn first_piece(first: u8, others: &[u8]) -> (Kind, usize)
 }
 
 /// The first piece of a text, and what follows it.
+#[inline(always)]
 pub fn next_token(text: &[u8]) -> Option<(Token<'_>, &[u8])>
     ensures { MatchOption result (reading.pieces text.now ≡ []) (λ r. reading.IsNext text.now r.0.kind r.0.text.now r.1.now) }
 {
     let (first, others) = text.split_first()?;
     let (kind, len) = first_piece(*first, others);
-    let (text, rest) = text.split_at(len);
-    Some((Token { kind, text }, rest))
+    let from = text;
+    let (text, rest) = from.split_at(len);
+    Some((Token { kind, text, from }, rest))
 }
