@@ -4,7 +4,7 @@ ghost use Rattle.addrparts.specs.Reading as reading;
 
 use crate::address::Addr;
 use crate::gathered::Gathered;
-use crate::scanner::{Kind, Token};
+use crate::scanner::Kind;
 use std::alloc::{AllocError, Global};
 
 /// Where in its part the next token stands.
@@ -82,13 +82,19 @@ fn stage_after(stage: Stage, kind: Kind) -> Stage
 }
 
 /// Appends what a word, a dot or a domain literal stands for.
-fn append<'a>(alloc: Global, out: &mut Gathered<'a>, token: Token<'a>) -> Result<(), AllocError>
-    ensures { OnOk result (out.new ≡ out.old ++ reading.value_of token.entry.kind token.entry.text.now) }
+fn append<'a>(
+    alloc: Global,
+    out: &mut Gathered<'a>,
+    kind: Kind,
+    text: &[u8],
+    from: &'a [u8],
+) -> Result<(), AllocError>
+    ensures { OnOk result (out.new ≡ out.old ++ reading.value_of kind text.now) }
 {
-    match token.kind {
-        Kind::Quoted => out.add_unquoted(alloc, token.text),
-        Kind::Dot => out.add(alloc, b".", token.from),
-        _ => out.add(alloc, token.text, token.from),
+    match kind {
+        Kind::Quoted => out.add_unquoted(alloc, text),
+        Kind::Dot => out.add(alloc, b".", from),
+        _ => out.add(alloc, text, from),
     }
 }
 
@@ -129,45 +135,63 @@ impl<'a> Draft<'a> {
     }
 
     /// Reads a token of an addr-spec.
-    fn read(&mut self, alloc: Global, token: Token<'a>) -> Result<(), AllocError>
-        ensures { OnOk result (self.new ≡ reading.read self.old token.entry.kind token.entry.text.now) }
+    fn read(
+        &mut self,
+        alloc: Global,
+        kind: Kind,
+        text: &'a [u8],
+        from: &'a [u8],
+    ) -> Result<(), AllocError>
+        ensures { OnOk result (self.new ≡ reading.read self.old kind text.now) }
     {
-        self.stage = stage_after(self.stage, token.kind);
+        self.stage = stage_after(self.stage, kind);
         match self.stage {
-            Stage::Word | Stage::Dot => append(alloc, &mut self.local, token),
-            Stage::Name | Stage::NameDot | Stage::Literal => append(alloc, &mut self.domain, token),
+            Stage::Word | Stage::Dot => append(alloc, &mut self.local, kind, text, from),
+            Stage::Name | Stage::NameDot | Stage::Literal => append(
+                alloc,
+                &mut self.domain,
+                kind,
+                text,
+                from,
+            ),
             _ => Ok(()),
         }
     }
 
     /// Reads a token at its place.
-    fn take_at(&mut self, alloc: Global, token: Token<'a>) -> Result<(), AllocError>
-        ensures { OnOk result (self.new ≡ reading.take_at self.old.place self.old token.entry.kind token.entry.text.now) }
+    fn take_at(
+        &mut self,
+        alloc: Global,
+        kind: Kind,
+        text: &'a [u8],
+        from: &'a [u8],
+    ) -> Result<(), AllocError>
+        ensures { OnOk result (self.new ≡ reading.take_at self.old.place self.old kind text.now) }
     {
         match self.place {
-            Place::Front => match token.kind {
+            Place::Front => match kind {
                 Kind::Less => self.open(),
                 Kind::Greater => self.spoil(Place::Behind),
-                _ => self.read(alloc, token)?,
+                _ => self.read(alloc, kind, text, from)?,
             },
-            Place::Open => match token.kind {
+            Place::Open => match kind {
                 Kind::At => self.place = Place::Route,
                 Kind::Greater => self.place = Place::Behind,
                 _ => {
                     self.place = Place::Inside;
-                    self.read(alloc, token)?;
+                    self.read(alloc, kind, text, from)?;
                 }
             },
-            Place::Route => match token.kind {
+            Place::Route => match kind {
                 Kind::Colon => self.place = Place::Inside,
                 Kind::Greater => self.place = Place::Behind,
                 _ => {}
             },
-            Place::Inside => match token.kind {
+            Place::Inside => match kind {
                 Kind::Greater => self.place = Place::Behind,
-                _ => self.read(alloc, token)?,
+                _ => self.read(alloc, kind, text, from)?,
             },
-            Place::Behind => match token.kind {
+            Place::Behind => match kind {
                 Kind::Less => self.spoil(Place::Inside),
                 _ => self.spoil(Place::Behind),
             },
@@ -184,12 +208,18 @@ impl<'a> Draft<'a> {
     }
 
     /// Reads a token that doesn't end the part. A blank or a comment changes nothing.
-    pub fn take(&mut self, alloc: Global, token: Token<'a>) -> Result<(), AllocError>
-        ensures { OnOk result (self.new ≡ reading.taken self.old token.entry.kind token.entry.text.now) }
+    pub fn take(
+        &mut self,
+        alloc: Global,
+        kind: Kind,
+        text: &'a [u8],
+        from: &'a [u8],
+    ) -> Result<(), AllocError>
+        ensures { OnOk result (self.new ≡ reading.taken self.old kind text.now) }
     {
-        match token.kind {
+        match kind {
             Kind::Blank | Kind::Comment => Ok(()),
-            _ => self.take_at(alloc, token),
+            _ => self.take_at(alloc, kind, text, from),
         }
     }
 

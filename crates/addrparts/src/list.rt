@@ -65,7 +65,7 @@ pub fn addresses(alloc: Global, value: &[u8]) -> Result<Vec<Addr>, AllocError>
         if is_separator(token.kind) && draft.is_outside() {
             end_part(alloc, &mut draft, token.kind, &mut found)?;
         } else {
-            draft.take(alloc, token)?;
+            draft.take(alloc, token.kind, token.text, rest)?;
         }
         rest = after;
     }

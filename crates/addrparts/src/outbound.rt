@@ -68,7 +68,7 @@ fn sole(alloc: Global, place: Place, text: &[u8]) -> Result<Option<Addr>, AllocE
     while let Some((token, after)) = next_token(rest) {
         match token.kind {
             Kind::Comment | Kind::Less => return Ok(None),
-            _ => draft.take(alloc, token)?,
+            _ => draft.take(alloc, token.kind, token.text, rest)?,
         }
         rest = after;
     }

@@ -40,8 +40,6 @@ pub enum Kind {
 pub struct Token<'a> {
     pub kind: Kind,
     pub text: &'a [u8],
-    /// The value from the piece on.
-    pub from: &'a [u8],
 }
 
 /// The kind of piece that begins with this octet.
@@ -172,7 +170,6 @@ pub fn next_token(text: &[u8]) -> Option<(Token<'_>, &[u8])>
 {
     let (first, others) = text.split_first()?;
     let (kind, len) = first_piece(*first, others);
-    let from = text;
-    let (text, rest) = from.split_at(len);
-    Some((Token { kind, text, from }, rest))
+    let (text, rest) = text.split_at(len);
+    Some((Token { kind, text }, rest))
 }
