@@ -1,6 +1,7 @@
 pub mod Scanning
 pub mod Fronts
 pub mod Enclosed
+pub mod Quotes
 pub mod Cuts
 pub mod Specs
 pub mod PartLemmas

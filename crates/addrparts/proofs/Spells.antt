@@ -9,7 +9,7 @@ use Rattle.addrparts.specs.declared.scanner.Kind.TheVariants as K
 use Rattle.addrparts.specs.declared.address.Addr.{Addr}
 use Rattle.addrparts.specs.Pieces.{Piece, is_atom, Inner, Plain, Pair, written, IsInside, IsEnclosed, AreAtoms, IsNoAtom, IsShape, Cut, unquoted_from}
 use Rattle.addrparts.specs.Parts.{is_token, tokens, Each, IsWord, IsAtom, Dotted, IsLiteral, IsSpec, IsRouted, Part, AreParts, Gives, Answers, Collects, AreAddresses}
-use Rattle.addrparts.specs.Outbound.{is_fit, is_no_comment, IsOutbound}
+use Rattle.addrparts.specs.Outbound.{is_fit, is_no_comment, IsOutbound, IsBareAddress}
 use Rattle.addrparts.specs.Spelling.{is_dotted, is_dot_atom, escaped, quoted, local_spelling, spelling, IsDomain}
 use Rattle.addrparts.proofs.PartLemmas.{is_inner, spec-inner}
 
@@ -327,3 +327,8 @@ pub result-domain : {E : Type 0} (text : List ℕ) (result : Result (Option (Lis
 result-domain text (Err e) is = tt
 result-domain text (Ok None) is = tt
 result-domain text (Ok (Some found)) is = outbound-domain text found.0 found.1 is
+
+pub result-bare_domain : {E : Type 0} (text : List ℕ) (result : Result (Option Addr) E) → IfOk result (λ found. IfSome found (λ address. IsBareAddress text address)) → IfOk result (λ found. IfSome found (λ address. IsDomain address.domain))
+result-bare_domain text (Err e) is = tt
+result-bare_domain text (Ok None) is = tt
+result-bare_domain text (Ok (Some address)) b = spec-domain (tokens b.pieces) address (tokens-shaped b.pieces (cut-shaped text b.pieces b.cut)) b.spec

@@ -9,6 +9,7 @@
 pub mod address;
 mod draft;
 mod gathered;
+pub mod laws;
 pub mod list;
 pub mod outbound;
 mod scanner;
@@ -17,4 +18,4 @@ mod tests;
 
 pub use address::{Addr, spell};
 pub use list::addresses;
-pub use outbound::sieve_address;
+pub use outbound::{bare_address, sieve_address};

@@ -108,3 +108,18 @@ pub fn sieve_address(alloc: Global, text: &[u8]) -> Result<Option<(Octets, Addr)
     }
     read_fit(alloc, text)
 }
+
+/// The address of a text that is an addr-spec alone, without display and angle brackets (RFC 5322, 3.4.1): `a@b`, and not `<a@b>` or `"" <a@b>`.
+///
+/// None for any other text, and for one that `sieve_address` refuses. Linear in the text's length; memory for the address alone.
+pub fn bare_address(alloc: Global, text: &[u8]) -> Result<Option<Addr>, AllocError>
+    ensures found { IfOk result (λ found. IfSome found (λ address. spec.IsBareAddress text.now address)) }
+    ensures only { IfOk result (λ found. (address : Addr) → spec.IsBareAddress text.now address → found ≡ Some address) }
+    ensures read { IfOk result (λ found. found ≡ reading.bare text.now) }
+    ensures domain { IfOk result (λ found. IfSome found (λ address. IsDomain address.domain)) }
+{
+    if !is_fit(text) {
+        return Ok(None);
+    }
+    sole(alloc, Place::Front, text)
+}
