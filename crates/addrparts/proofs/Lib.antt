@@ -9,3 +9,4 @@ pub mod Shapes
 pub mod Lists
 pub mod Outbounds
 pub mod Spells
+pub mod Examples

@@ -103,7 +103,7 @@ impl<'a> Draft<'a> {
     ghost use Rattle.addrparts.specs.declared.draft.Stage.TheVariants as S;
 
     /// Nothing read. Takes no memory.
-    pub fn new(alloc: Global, place: Place) -> Draft<'a>
+    pub(crate) fn new(alloc: Global, place: Place) -> Draft<'a>
         ensures { result ≡ reading.start_at place }
     {
         Draft {
@@ -115,7 +115,7 @@ impl<'a> Draft<'a> {
     }
 
     /// No angle bracket is open.
-    pub fn is_outside(&self) -> bool
+    pub(crate) fn is_outside(&self) -> bool
         ensures { result ≡ reading.is_outside self.now.place }
     {
         match self.place {
@@ -208,7 +208,7 @@ impl<'a> Draft<'a> {
     }
 
     /// Reads a token that doesn't end the part. A blank or a comment changes nothing.
-    pub fn take(
+    pub(crate) fn take(
         &mut self,
         alloc: Global,
         kind: Kind,
@@ -247,7 +247,7 @@ impl<'a> Draft<'a> {
     }
 
     /// Begins the next part.
-    pub fn restart(&mut self)
+    pub(crate) fn restart(&mut self)
         ensures { self.new ≡ reading.start }
     {
         self.open();
@@ -255,7 +255,7 @@ impl<'a> Draft<'a> {
     }
 
     /// The address that the part gives, if it ends here. The next part begins.
-    pub fn finish(&mut self, alloc: Global) -> Result<Option<Addr>, AllocError>
+    pub(crate) fn finish(&mut self, alloc: Global) -> Result<Option<Addr>, AllocError>
         ensures found { IfOk result (λ found. found ≡ reading.outcome self.old) }
         ensures anew { OnOk result (self.new ≡ reading.start) }
     {

@@ -32,7 +32,7 @@ impl<'a> Model for Gathered<'a> {
 }
 
 /// Appends the text without its quotation marks, and with each quoted pair replaced by its octet. Reads the text once.
-pub fn unquote(out: &mut Octets, text: &[u8]) -> Result<(), AllocError>
+pub(crate) fn unquote(out: &mut Octets, text: &[u8]) -> Result<(), AllocError>
     ensures { OnOk result (out.new ≡ out.old ++ spec.unquoted text.now) }
 {
     let mut escaped = false;
@@ -69,7 +69,7 @@ fn goes_on(from: &[u8], len: usize, piece: &[u8]) -> bool
 
 impl<'a> Gathered<'a> {
     /// Nothing. Takes no memory.
-    pub fn new(alloc: Global) -> Gathered<'a>
+    pub(crate) fn new(alloc: Global) -> Gathered<'a>
         ensures { result ≡ [] }
     {
         Gathered {
@@ -81,7 +81,7 @@ impl<'a> Gathered<'a> {
     }
 
     /// Takes all octets away. The room stays.
-    pub fn clear(&mut self)
+    pub(crate) fn clear(&mut self)
         ensures { self.new ≡ [] }
     {
         self.len = 0;
@@ -89,7 +89,12 @@ impl<'a> Gathered<'a> {
     }
 
     /// Appends a piece. No octet is copied while the value, from where the piece is said to stand, goes on as the pieces do.
-    pub fn add(&mut self, alloc: Global, piece: &[u8], from: &'a [u8]) -> Result<(), AllocError>
+    pub(crate) fn add(
+        &mut self,
+        alloc: Global,
+        piece: &[u8],
+        from: &'a [u8],
+    ) -> Result<(), AllocError>
         ensures { OnOk result (self.new ≡ self.old ++ piece.now) }
     {
         if self.is_copied {
@@ -109,7 +114,7 @@ impl<'a> Gathered<'a> {
     }
 
     /// Appends the value of a quoted string.
-    pub fn add_unquoted(&mut self, alloc: Global, text: &[u8]) -> Result<(), AllocError>
+    pub(crate) fn add_unquoted(&mut self, alloc: Global, text: &[u8]) -> Result<(), AllocError>
         ensures { OnOk result (self.new ≡ self.old ++ spec.unquoted text.now) }
     {
         if !self.is_copied {
@@ -121,7 +126,7 @@ impl<'a> Gathered<'a> {
     }
 
     /// A copy of the octets, at their exact size.
-    pub fn copied(&self, alloc: Global) -> Result<Octets, AllocError>
+    pub(crate) fn copied(&self, alloc: Global) -> Result<Octets, AllocError>
         ensures { IfOk result (λ text. text ≡ self.now) }
     {
         if self.is_copied {

@@ -81,7 +81,7 @@ static ATOM_OCTETS: [u8; 256] = *b"\
 
 /// The octet may stand in an atom. One look into a table.
 #[inline(always)]
-pub fn is_atom(octet: u8) -> bool
+pub(crate) fn is_atom(octet: u8) -> bool
     ensures { result ≡ spec.is_atom octet }
 {
     ATOM_OCTETS[octet as usize] != b','
@@ -153,9 +153,11 @@ fn first_piece(first: u8, others: &[u8]) -> (Kind, usize)
     ensures some { 0 < result.1 }
     ensures within { result.1 ≤ 1 + length others.now }
 {
+    if is_atom(first) {
+        return (Kind::Atom, 1 + atom_len(others));
+    }
     let kind = kind_of(first);
     match kind {
-        Kind::Atom => (kind, 1 + atom_len(others)),
         Kind::Quoted => closed(kind, others, enclosed_len(others, b'"')),
         Kind::Literal => closed(kind, others, enclosed_len(others, b']')),
         Kind::Comment => closed(kind, others, comment_len(others)),
@@ -165,7 +167,7 @@ fn first_piece(first: u8, others: &[u8]) -> (Kind, usize)
 
 /// The first piece of a text, and what follows it.
 #[inline(always)]
-pub fn next_token(text: &[u8]) -> Option<(Token<'_>, &[u8])>
+pub(crate) fn next_token(text: &[u8]) -> Option<(Token<'_>, &[u8])>
     ensures { MatchOption result (reading.pieces text.now ≡ []) (λ r. reading.IsNext text.now r.0.kind r.0.text.now r.1.now) }
 {
     let (first, others) = text.split_first()?;
