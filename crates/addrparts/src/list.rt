@@ -51,7 +51,7 @@ fn end_part(
 /// The addresses of a header value, in order (RFC 5322, 3.4). The value is unfolded, and isn't decoded.
 ///
 /// A part that is no address gives none. Any octets may stand in the value. One pass, linear in the value's length; memory
-/// for the addresses alone.
+/// for the addresses, and for the local part and the domain of one address whose pieces stand apart or are quoted.
 pub fn addresses(alloc: Global, value: &[u8]) -> Result<Vec<Addr>, AllocError>
     ensures found { IfOk result (λ found. spec.AreAddresses value.now found.items) }
     ensures only { IfOk result (λ found. (others : List Addr) → spec.AreAddresses value.now others → others ≡ found.items) }
