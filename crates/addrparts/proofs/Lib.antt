@@ -1,6 +1,7 @@
 pub mod Scanning
 pub mod Fronts
 pub mod Enclosed
+pub mod Quotes
 pub mod Cuts
 pub mod Specs
 pub mod PartLemmas
@@ -8,3 +9,4 @@ pub mod Shapes
 pub mod Lists
 pub mod Outbounds
 pub mod Spells
+pub mod Examples

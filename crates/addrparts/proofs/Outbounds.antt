@@ -12,8 +12,8 @@ use Rattle.addrparts.specs.declared.draft.Draft.{Draft}
 use Rattle.addrparts.specs.declared.address.Addr.{Addr}
 use Rattle.addrparts.specs.Pieces.{Piece, Cut, unquoted}
 use Rattle.addrparts.specs.Parts.{is_token, tokens, Each, IsSpec, IsNamed}
-use Rattle.addrparts.specs.Outbound.{is_fit, is_no_comment, is_phrase, BeginsWithWord, IsBare, IsPhrased, IsOutbound}
-use Rattle.addrparts.specs.Reading.{start, start_at, taken, outcome, sole, opening, with_display, outbound_at, outbound_fit, outbound, pieces}
+use Rattle.addrparts.specs.Outbound.{is_fit, is_no_comment, is_phrase, BeginsWithWord, IsBare, IsPhrased, IsOutbound, IsBareAddress}
+use Rattle.addrparts.specs.Reading.{start, start_at, taken, outcome, sole, opening, with_display, outbound_at, outbound_fit, outbound, bare, pieces}
 use Rattle.addrparts.proofs.Cuts.{cut-only, cut-all}
 use Rattle.addrparts.proofs.PartLemmas.{runs, Each-append, is_inner, spec-inner, bare-again, inside-again}
 use Rattle.addrparts.proofs.Shapes.{shape-is, closed-is}
@@ -97,12 +97,18 @@ opening-none seen at (piece ∷ more) closed = by_kind piece.kind piece.text see
     by_kind K.Dot text false plain same word = refl
     by_kind _ text seen' plain same word = refl
 
+-- an addr-spec opens no bracket
+spec-closed : (all : List Piece) (address : Addr) → IsSpec (tokens all) address → Each is_no_less all
+spec-closed all address spec = tokens-closed all (Each-weaker is_inner is_no_less inner-closed (tokens all) (spec-inner (tokens all) address spec))
+
 -- an addr-spec alone is read as one
+spec-read : (all : List Piece) (address : Addr) → Each is_no_comment all → IsSpec (tokens all) address → sole start all ≡ Some address
+spec-read all address plain spec = sole-tokens all start plain (spec-closed all address spec) ∙ bare-again (tokens all) address spec
+
 bare-read : (text display : List ℕ) (address : Addr) → Each is_no_comment (pieces text) → IsBare (pieces text) display address → outbound_fit text ≡ Some (display, address)
 bare-read text display address plain bare =
     let all = pieces text in
-    let closed : Each is_no_less all = tokens-closed all (Each-weaker is_inner is_no_less inner-closed (tokens all) (spec-inner (tokens all) address bare.spec)) in
-    ap (outbound_at text) (opening-none false 0 all closed) ∙ ap (with_display []) (sole-tokens all start plain closed ∙ bare-again (tokens all) address bare.spec) ∙ ap (λ d. shown d address) (sym bare.shown)
+    ap (outbound_at text) (opening-none false 0 all (spec-closed all address bare.spec)) ∙ ap (with_display []) (spec-read all address plain bare.spec) ∙ ap (λ d. shown d address) (sym bare.shown)
   where
     shown : List ℕ → Addr → Option (List ℕ × Addr)
     shown d a = Some (d, a)
@@ -234,19 +240,22 @@ bare-shape : (all : List Piece) (address : Addr) → Each is_no_less (tokens all
 bare-shape all address closed (inl spec) = spec
 bare-shape all address closed (inr n) = absurd (no-less n.display (n.inside ++ n.greater ∷ []) n.less n.opens (subst (Each is_no_less) n.cut closed))
 
+-- what is read alone is an addr-spec
+record IsAlone (all : List Piece) (address : Addr) : Type 0 where
+  plain : Each is_no_comment all
+  spec : IsSpec (tokens all) address
+
+alone-is : (all : List Piece) (address : Addr) → sole start all ≡ Some address → IsAlone all address
+alone-is all address found =
+    let read = sole-is all start address found in
+    let outcome-is : outcome (runs start (tokens all)) ≡ Some address = sym (sole-tokens all start read.plain read.closed) ∙ found in
+    record { plain = read.plain; spec = bare-shape all address (closed-tokens all read.closed) (shape-is (tokens all) address (tokens-each all) outcome-is) }
+
 bare-is : (text shown : List ℕ) (address : Addr) → is_fit text ≡ true → with_display [] (sole start (pieces text)) ≡ Some (shown, address) → IsOutbound text shown address
 bare-is text shown address fit is =
-    let all = pieces text in
-    let s = shown-is [] (sole start all) shown address is in
-    let read = sole-is all start address s.found in
-    let outcome-is : outcome (runs start (tokens all)) ≡ Some address = sym (sole-tokens all start read.plain read.closed) ∙ s.found in
-    record {
-      fit = fit;
-      pieces = all;
-      cut = cut-all text;
-      no_comment = read.plain;
-      shape = inl (record { spec = bare-shape all address (closed-tokens all read.closed) (shape-is (tokens all) address (tokens-each all) outcome-is); shown = s.same });
-    }
+    let s = shown-is [] (sole start (pieces text)) shown address is in
+    let alone = alone-is (pieces text) address s.found in
+    record { fit = fit; pieces = pieces text; cut = cut-all text; no_comment = alone.plain; shape = inl (record { spec = alone.spec; shown = s.same }) }
 
 phrase-plain : (kind : Kind) → is_phrase kind ≡ true → is_no_comment kind ≡ true
 phrase-plain K.Comment is = absurd (false≢true is)
@@ -310,3 +319,33 @@ result-named text (Ok (Some found)) is = outbound-is text found.0 found.1 (sym i
 pub result-only : {E : Type 0} (text : List ℕ) (result : Result (Option (List ℕ × Addr)) E) → IfOk result (λ found. found ≡ outbound text) → IfOk result (λ found. (display : List ℕ) (address : Addr) → IsOutbound text display address → found ≡ Some (display, address))
 result-only text (Err e) is = is
 result-only text (Ok found) is = λ display address o. is ∙ outbound-again text display address o
+
+-- a text without display is read as its address
+pub bare-found : (text : List ℕ) (address : Addr) → IsBareAddress text address → bare text ≡ Some address
+unfolding bare
+bare-found text address b =
+    let same = cut-only text b.pieces b.cut in
+    ap (λ fit. cond fit (sole start (pieces text)) None) b.fit
+    ∙ spec-read (pieces text) address (subst (Each is_no_comment) (sym same) b.no_comment) (subst (λ all. IsSpec (tokens all) address) (sym same) b.spec)
+
+-- and what is read without display is a text's address
+pub bare-named : (text : List ℕ) (address : Addr) → bare text ≡ Some address → IsBareAddress text address
+unfolding bare
+bare-named text address is = elim (fork (is_fit text) (sole start (pieces text)) None (Some address) is) [
+  | inl p ↦ let alone = alone-is (pieces text) address p.1 in record { fit = p.0; pieces = pieces text; cut = cut-all text; no_comment = alone.plain; spec = alone.spec }
+  | inr p ↦ absurd (cc)
+]
+
+-- it names that address, with an empty display
+pub bare-outbound : (text : List ℕ) (address : Addr) → IsBareAddress text address → IsOutbound text [] address
+bare-outbound text address b = record { fit = b.fit; pieces = b.pieces; cut = b.cut; no_comment = b.no_comment; shape = inl (record { spec = b.spec; shown = refl }) }
+
+-- the clauses of a result that is what the text is without display
+pub result-bare : {E : Type 0} (text : List ℕ) (result : Result (Option Addr) E) → IfOk result (λ found. found ≡ bare text) → IfOk result (λ found. IfSome found (λ address. IsBareAddress text address))
+result-bare text (Err e) is = is
+result-bare text (Ok None) is = tt
+result-bare text (Ok (Some found)) is = bare-named text found (sym is)
+
+pub result-bare_only : {E : Type 0} (text : List ℕ) (result : Result (Option Addr) E) → IfOk result (λ found. found ≡ bare text) → IfOk result (λ found. (address : Addr) → IsBareAddress text address → found ≡ Some address)
+result-bare_only text (Err e) is = is
+result-bare_only text (Ok found) is = λ address b. is ∙ bare-found text address b

@@ -9,9 +9,10 @@ use Rattle.addrparts.specs.declared.scanner.Kind.TheVariants as K
 use Rattle.addrparts.specs.declared.address.Addr.{Addr}
 use Rattle.addrparts.specs.Pieces.{Piece, is_atom, Inner, Plain, Pair, written, IsInside, IsEnclosed, AreAtoms, IsNoAtom, IsShape, Cut, unquoted_from}
 use Rattle.addrparts.specs.Parts.{is_token, tokens, Each, IsWord, IsAtom, Dotted, IsLiteral, IsSpec, IsRouted, Part, AreParts, Gives, Answers, Collects, AreAddresses}
-use Rattle.addrparts.specs.Outbound.{is_fit, is_no_comment, IsOutbound}
+use Rattle.addrparts.specs.Outbound.{is_fit, is_no_comment, IsOutbound, IsBareAddress}
 use Rattle.addrparts.specs.Spelling.{is_dotted, is_dot_atom, escaped, quoted, local_spelling, spelling, IsDomain}
 use Rattle.addrparts.proofs.PartLemmas.{is_inner, spec-inner}
+use Rattle.addrparts.proofs.Outbounds.{bare-outbound}
 
 -- each piece has its shape, whatever followed it
 abbrev pub Shaped : List Piece → Type 0
@@ -298,9 +299,9 @@ inner-no_comment : (all : List Piece) → Each is_inner all → Each is_no_comme
 inner-no_comment [] inner = tt
 inner-no_comment (piece ∷ more) inner = (inner-plain piece.kind inner.0, inner-no_comment more inner.1)
 
--- what is spelled names the address, if it is fit
-pub spelling-again : (address : Addr) → IsDomain address.domain → is_fit (spelling address) ≡ true → IsOutbound (spelling address) [] address
-spelling-again address domain fit =
+-- what is spelled is the address, without display, if it is fit
+spelling-bare : (address : Addr) → IsDomain address.domain → is_fit (spelling address) ≡ true → IsBareAddress (spelling address) address
+spelling-bare address domain fit =
     let l = local-is address.local in
     let h = host-is address.domain domain in
     let at : Piece = record { kind = K.At; text = 64 ∷ [] } in
@@ -312,14 +313,24 @@ spelling-again address domain fit =
       pieces = all;
       cut = l.cut (64 ∷ address.domain) (at ∷ h.pieces) refl (address.domain, (refl, (record { octet = 64; alone = refl; begins = refl }, h.cut)));
       no_comment = inner-no_comment all inner;
-      shape = inl (record { spec = subst (λ ps. IsSpec ps address) (sym (inner-tokens all inner)) spec; shown = refl });
+      spec = subst (λ ps. IsSpec ps address) (sym (inner-tokens all inner)) spec;
     }
 
--- the two facts under which a spelling names its address, and that it names it only then
+spelling-fit : (address : Addr) (text : List ℕ) → text ≡ spelling address → IsDomain address.domain × (is_fit text ≡ true) → IsBareAddress text address
+spelling-fit address text is both = subst (λ t. IsBareAddress t address) (sym is) (spelling-bare address both.0 (subst (λ t. is_fit t ≡ true) is both.1))
+
+-- the two facts under which a spelling is its address, and that it is only then
+pub spelling-alone : (address : Addr) (text : List ℕ) → text ≡ spelling address → (IsBareAddress text address → IsDomain address.domain × (is_fit text ≡ true)) × (IsDomain address.domain × (is_fit text ≡ true) → IsBareAddress text address)
+spelling-alone address text is = (
+  λ b. (outbound-domain text [] address (bare-outbound text address b), b.fit),
+  spelling-fit address text is,
+)
+
+-- the same of the address that it names
 pub spelling-law : (address : Addr) (text : List ℕ) → text ≡ spelling address → (IsOutbound text [] address → IsDomain address.domain × (is_fit text ≡ true)) × (IsDomain address.domain × (is_fit text ≡ true) → IsOutbound text [] address)
 spelling-law address text is = (
   λ o. (outbound-domain text [] address o, o.fit),
-  λ both. subst (λ t. IsOutbound t [] address) (sym is) (spelling-again address both.0 (subst (λ t. is_fit t ≡ true) is both.1)),
+  λ both. bare-outbound text address (spelling-fit address text is both),
 )
 
 -- the address of a result has a domain
@@ -327,3 +338,8 @@ pub result-domain : {E : Type 0} (text : List ℕ) (result : Result (Option (Lis
 result-domain text (Err e) is = tt
 result-domain text (Ok None) is = tt
 result-domain text (Ok (Some found)) is = outbound-domain text found.0 found.1 is
+
+pub result-bare_domain : {E : Type 0} (text : List ℕ) (result : Result (Option Addr) E) → IfOk result (λ found. IfSome found (λ address. IsBareAddress text address)) → IfOk result (λ found. IfSome found (λ address. IsDomain address.domain))
+result-bare_domain text (Err e) is = tt
+result-bare_domain text (Ok None) is = tt
+result-bare_domain text (Ok (Some address)) b = spec-domain (tokens b.pieces) address (tokens-shaped b.pieces (cut-shaped text b.pieces b.cut)) b.spec

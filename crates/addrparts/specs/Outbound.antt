@@ -70,3 +70,11 @@ pub record IsOutbound (text : List ℕ) (display : List ℕ) (address : Addr) : 
   pub cut : Cut text pieces
   pub no_comment : Each is_no_comment pieces
   pub shape : IsBare pieces display address ⊎ IsPhrased pieces display address
+
+-- the text is this address and nothing beside it: short, without control characters and comments, and an addr-spec
+pub record IsBareAddress (text : List ℕ) (address : Addr) : Type 0 where
+  pub fit : is_fit text ≡ true
+  pub pieces : List Piece
+  pub cut : Cut text pieces
+  pub no_comment : Each is_no_comment pieces
+  pub spec : IsSpec (tokens pieces) address

@@ -62,6 +62,19 @@ pub record IsEnclosed (opening closing : ℕ) (text : List ℕ) : Type 0 where
   pub plain : IsInside closing inside
   pub spelled : text ≡ opening ∷ written inside (closing ∷ [])
 
+-- what octets and pairs stand for: a pair for the octet behind its backslash
+abbrev pub valued : List Inner → List ℕ
+valued [] = []
+valued (Plain octet ∷ more) = octet ∷ valued more
+valued (Pair octet ∷ more) = octet ∷ valued more
+
+-- a quoted string, and its value (RFC 5322, 3.2.4)
+pub record IsQuoted (text value : List ℕ) : Type 0 where
+  pub inside : List Inner
+  pub plain : IsInside 34 inside
+  pub spelled : text ≡ 34 ∷ written inside (34 ∷ [])
+  pub is : value ≡ valued inside
+
 -- the inside of a comment: octets, pairs, and comments (RFC 5322, 3.2.2: ccontent)
 pub data Notes : Type 0 where
   End : Notes

@@ -209,3 +209,7 @@ outbound_fit text = outbound_at text (opening false 0 (pieces text))
 -- the display and the address that a text names
 unfoldable pub outbound : List ℕ → Option (List ℕ × Addr)
 outbound text = if is_fit text then outbound_fit text else None
+
+-- the address that a text is, without display
+unfoldable pub bare : List ℕ → Option Addr
+bare text = if is_fit text then sole start (pieces text) else None

@@ -18,7 +18,7 @@ pub struct Addr {
 }
 
 impl Addr {
-    /// The local part, `@` and the domain, with nothing quoted.
+    /// The local part, `@` and the domain, with nothing quoted. One copy.
     pub fn all(&self, alloc: Global) -> Result<Octets, AllocError>
         ensures { IfOk result (λ text. text ≡ spec.all_of self.now) }
     {
@@ -76,11 +76,13 @@ fn escape(out: &mut Octets, text: &[u8]) -> Result<(), AllocError>
 
 /// The address as a header or a command has it: the local part as it is if it is atoms with dots between, else as a quoted string.
 ///
-/// `sieve_address` gives the address back, with an empty display, exactly where the domain is one and what is written fits its
-/// limits.
+/// `sieve_address` gives the address back, with an empty display, and so does `bare_address`, exactly where the domain is one and
+/// what is written fits the limits. Linear in the address' length; memory for what is written alone.
 pub fn spell(alloc: Global, address: &Addr) -> Result<Octets, AllocError>
     ensures spelled { IfOk result (λ text. text ≡ spec.spelling address.now) }
     ensures again { IfOk result (λ text. outbound.IsOutbound text [] address.now
+        ↔ (spec.IsDomain address.now.domain × IsTrue (outbound.is_fit text))) }
+    ensures bare { IfOk result (λ text. outbound.IsBareAddress text address.now
         ↔ (spec.IsDomain address.now.domain × IsTrue (outbound.is_fit text))) }
 {
     let mut text = Octets::new(alloc);

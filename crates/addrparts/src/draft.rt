@@ -1,13 +1,11 @@
 //! The address that a part of a list gives, as far as its tokens have been read.
-ghost use Rattle.std.specs.Prelude.{◌≡◌, [], ◌++◌, IfOk, OnOk};
-ghost use Rattle.addrparts.specs.Pieces as spec;
+ghost use Rattle.std.specs.Prelude.{◌≡◌, ◌++◌, IfOk, OnOk};
 ghost use Rattle.addrparts.specs.Reading as reading;
 
 use crate::address::Addr;
-use crate::scanner::{Kind, Token};
-use octets::Octets;
+use crate::gathered::Gathered;
+use crate::scanner::Kind;
 use std::alloc::{AllocError, Global};
-use std::mem;
 
 /// Where in its part the next token stands.
 #[derive(Clone, Copy)]
@@ -46,11 +44,11 @@ pub enum Stage {
 
 /// A part of a list, as far as it has been read.
 #[derive(Drop)]
-pub struct Draft {
+pub struct Draft<'a> {
     pub place: Place,
     pub stage: Stage,
-    pub local: Octets,
-    pub domain: Octets,
+    pub local: Gathered<'a>,
+    pub domain: Gathered<'a>,
 }
 
 fn stage_after(stage: Stage, kind: Kind) -> Stage
@@ -83,60 +81,41 @@ fn stage_after(stage: Stage, kind: Kind) -> Stage
     }
 }
 
-/// Appends the text without its quotation marks, and with each quoted pair replaced by its octet. Reads the text once.
-pub fn unquote(out: &mut Octets, text: &[u8]) -> Result<(), AllocError>
-    ensures { OnOk result (out.new ≡ out.old ++ spec.unquoted text.now) }
-{
-    let mut escaped = false;
-    for octet in text {
-        if !escaped && *octet == b'\\' {
-            escaped = true;
-        } else if escaped || *octet != b'"' {
-            out.push(*octet)?;
-            escaped = false;
-        }
-    }
-    Ok(())
-}
-
 /// Appends what a word, a dot or a domain literal stands for.
-fn append(out: &mut Octets, token: Token<'_>) -> Result<(), AllocError>
-    ensures { OnOk result (out.new ≡ out.old ++ reading.value_of token.entry.kind token.entry.text.now) }
+fn append<'a>(
+    alloc: Global,
+    out: &mut Gathered<'a>,
+    kind: Kind,
+    text: &[u8],
+    from: &'a [u8],
+) -> Result<(), AllocError>
+    ensures { OnOk result (out.new ≡ out.old ++ reading.value_of kind text.now) }
 {
-    match token.kind {
-        Kind::Quoted => unquote(out, token.text),
-        Kind::Dot => out.push(b'.'),
-        _ => out.extend_from_slice(token.text),
+    match kind {
+        Kind::Quoted => out.add_unquoted(alloc, text),
+        Kind::Dot => out.add(alloc, b".", from),
+        _ => out.add(alloc, text, from),
     }
 }
 
-/// No octets, with the room that there was.
-fn clear(alloc: Global, text: &mut Octets)
-    ensures { text.new ≡ [] }
-{
-    let mut items = mem::replace(text, Octets::new(alloc)).into_vec();
-    items.clear();
-    *text = Octets::from_vec(items);
-}
-
-impl Draft {
+impl<'a> Draft<'a> {
     ghost use Rattle.addrparts.specs.declared.draft.Place.TheVariants as P;
     ghost use Rattle.addrparts.specs.declared.draft.Stage.TheVariants as S;
 
     /// Nothing read. Takes no memory.
-    pub fn new(alloc: Global, place: Place) -> Draft
+    pub(crate) fn new(alloc: Global, place: Place) -> Draft<'a>
         ensures { result ≡ reading.start_at place }
     {
         Draft {
             place,
             stage: Stage::Start,
-            local: Octets::new(alloc),
-            domain: Octets::new(alloc),
+            local: Gathered::new(alloc),
+            domain: Gathered::new(alloc),
         }
     }
 
     /// No angle bracket is open.
-    pub fn is_outside(&self) -> bool
+    pub(crate) fn is_outside(&self) -> bool
         ensures { result ≡ reading.is_outside self.now.place }
     {
         match self.place {
@@ -146,55 +125,73 @@ impl Draft {
     }
 
     /// Begins anew behind an opening bracket.
-    fn open(&mut self, alloc: Global)
+    fn open(&mut self)
         ensures { self.new ≡ reading.start_at P.Open }
     {
         self.place = Place::Open;
         self.stage = Stage::Start;
-        clear(alloc, &mut self.local);
-        clear(alloc, &mut self.domain);
+        self.local.clear();
+        self.domain.clear();
     }
 
     /// Reads a token of an addr-spec.
-    fn read(&mut self, token: Token<'_>) -> Result<(), AllocError>
-        ensures { OnOk result (self.new ≡ reading.read self.old token.entry.kind token.entry.text.now) }
+    fn read(
+        &mut self,
+        alloc: Global,
+        kind: Kind,
+        text: &'a [u8],
+        from: &'a [u8],
+    ) -> Result<(), AllocError>
+        ensures { OnOk result (self.new ≡ reading.read self.old kind text.now) }
     {
-        self.stage = stage_after(self.stage, token.kind);
+        self.stage = stage_after(self.stage, kind);
         match self.stage {
-            Stage::Word | Stage::Dot => append(&mut self.local, token),
-            Stage::Name | Stage::NameDot | Stage::Literal => append(&mut self.domain, token),
+            Stage::Word | Stage::Dot => append(alloc, &mut self.local, kind, text, from),
+            Stage::Name | Stage::NameDot | Stage::Literal => append(
+                alloc,
+                &mut self.domain,
+                kind,
+                text,
+                from,
+            ),
             _ => Ok(()),
         }
     }
 
     /// Reads a token at its place.
-    fn take_at(&mut self, alloc: Global, token: Token<'_>) -> Result<(), AllocError>
-        ensures { OnOk result (self.new ≡ reading.take_at self.old.place self.old token.entry.kind token.entry.text.now) }
+    fn take_at(
+        &mut self,
+        alloc: Global,
+        kind: Kind,
+        text: &'a [u8],
+        from: &'a [u8],
+    ) -> Result<(), AllocError>
+        ensures { OnOk result (self.new ≡ reading.take_at self.old.place self.old kind text.now) }
     {
         match self.place {
-            Place::Front => match token.kind {
-                Kind::Less => self.open(alloc),
+            Place::Front => match kind {
+                Kind::Less => self.open(),
                 Kind::Greater => self.spoil(Place::Behind),
-                _ => self.read(token)?,
+                _ => self.read(alloc, kind, text, from)?,
             },
-            Place::Open => match token.kind {
+            Place::Open => match kind {
                 Kind::At => self.place = Place::Route,
                 Kind::Greater => self.place = Place::Behind,
                 _ => {
                     self.place = Place::Inside;
-                    self.read(token)?;
+                    self.read(alloc, kind, text, from)?;
                 }
             },
-            Place::Route => match token.kind {
+            Place::Route => match kind {
                 Kind::Colon => self.place = Place::Inside,
                 Kind::Greater => self.place = Place::Behind,
                 _ => {}
             },
-            Place::Inside => match token.kind {
+            Place::Inside => match kind {
                 Kind::Greater => self.place = Place::Behind,
-                _ => self.read(token)?,
+                _ => self.read(alloc, kind, text, from)?,
             },
-            Place::Behind => match token.kind {
+            Place::Behind => match kind {
                 Kind::Less => self.spoil(Place::Inside),
                 _ => self.spoil(Place::Behind),
             },
@@ -211,12 +208,18 @@ impl Draft {
     }
 
     /// Reads a token that doesn't end the part. A blank or a comment changes nothing.
-    pub fn take(&mut self, alloc: Global, token: Token<'_>) -> Result<(), AllocError>
-        ensures { OnOk result (self.new ≡ reading.taken self.old token.entry.kind token.entry.text.now) }
+    pub(crate) fn take(
+        &mut self,
+        alloc: Global,
+        kind: Kind,
+        text: &'a [u8],
+        from: &'a [u8],
+    ) -> Result<(), AllocError>
+        ensures { OnOk result (self.new ≡ reading.taken self.old kind text.now) }
     {
-        match token.kind {
+        match kind {
             Kind::Blank | Kind::Comment => Ok(()),
-            _ => self.take_at(alloc, token),
+            _ => self.take_at(alloc, kind, text, from),
         }
     }
 
@@ -244,20 +247,20 @@ impl Draft {
     }
 
     /// Begins the next part.
-    pub fn restart(&mut self, alloc: Global)
+    pub(crate) fn restart(&mut self)
         ensures { self.new ≡ reading.start }
     {
-        self.open(alloc);
+        self.open();
         self.place = Place::Front;
     }
 
     /// The address that the part gives, if it ends here. The next part begins.
-    pub fn finish(&mut self, alloc: Global) -> Result<Option<Addr>, AllocError>
+    pub(crate) fn finish(&mut self, alloc: Global) -> Result<Option<Addr>, AllocError>
         ensures found { IfOk result (λ found. found ≡ reading.outcome self.old) }
         ensures anew { OnOk result (self.new ≡ reading.start) }
     {
         let found = self.address(alloc)?;
-        self.restart(alloc);
+        self.restart();
         Ok(found)
     }
 }

@@ -2,12 +2,14 @@
 //!
 //! The rules are those of RFC 5322, 3.2 and 3.4, with its obsolete forms (4.4) as far as they are useful: blanks and
 //! comments may stand between any two tokens, a route before an address is passed over, and a part of a list that is
-//! no address gives none and doesn't touch its neighbours. Nothing here recurses; an octet is looked at a fixed number
-//! of times (those of a quoted string twice, those of a display of `sieve_address` three times).
+//! no address gives none and doesn't touch its neighbours. Nothing here recurses. An octet is looked at a fixed number of
+//! times: as its piece is cut off, as the piece joins the others of its address, and as the address is copied.
 #![tactic(auto)]
 
 pub mod address;
 mod draft;
+mod gathered;
+pub mod laws;
 pub mod list;
 pub mod outbound;
 mod scanner;
@@ -16,4 +18,4 @@ mod tests;
 
 pub use address::{Addr, spell};
 pub use list::addresses;
-pub use outbound::sieve_address;
+pub use outbound::{bare_address, sieve_address};

@@ -33,7 +33,7 @@ fn give(found: &mut Vec<Addr>, address: Option<Addr>) -> Result<(), AllocError>
 /// Ends the part at this mark; before a colon it gives none.
 fn end_part(
     alloc: Global,
-    draft: &mut Draft,
+    draft: &mut Draft<'_>,
     mark: Kind,
     found: &mut Vec<Addr>,
 ) -> Result<(), AllocError>
@@ -41,7 +41,7 @@ fn end_part(
     ensures anew { OnOk result (draft.new ≡ reading.start) }
 {
     if let Kind::Colon = mark {
-        draft.restart(alloc);
+        draft.restart();
         return Ok(());
     }
     let address = draft.finish(alloc)?;
@@ -51,7 +51,7 @@ fn end_part(
 /// The addresses of a header value, in order (RFC 5322, 3.4). The value is unfolded, and isn't decoded.
 ///
 /// A part that is no address gives none. Any octets may stand in the value. One pass, linear in the value's length; memory
-/// for the addresses alone.
+/// for the addresses, and for the local part and the domain of one address whose pieces stand apart or are quoted.
 pub fn addresses(alloc: Global, value: &[u8]) -> Result<Vec<Addr>, AllocError>
     ensures found { IfOk result (λ found. spec.AreAddresses value.now found.items) }
     ensures only { IfOk result (λ found. (others : List Addr) → spec.AreAddresses value.now others → others ≡ found.items) }
@@ -65,7 +65,7 @@ pub fn addresses(alloc: Global, value: &[u8]) -> Result<Vec<Addr>, AllocError>
         if is_separator(token.kind) && draft.is_outside() {
             end_part(alloc, &mut draft, token.kind, &mut found)?;
         } else {
-            draft.take(alloc, token)?;
+            draft.take(alloc, token.kind, token.text, rest)?;
         }
         rest = after;
     }

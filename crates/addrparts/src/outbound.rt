@@ -7,7 +7,8 @@ ghost use Rattle.addrparts.specs.Reading as reading;
 ghost use Rattle.addrparts.specs.Spelling.{IsDomain};
 
 use crate::address::Addr;
-use crate::draft::{Draft, Place, unquote};
+use crate::draft::{Draft, Place};
+use crate::gathered::unquote;
 use crate::scanner::{Kind, next_token};
 use octets::{Octets, trim_blanks};
 use std::alloc::{AllocError, Global};
@@ -67,7 +68,7 @@ fn sole(alloc: Global, place: Place, text: &[u8]) -> Result<Option<Addr>, AllocE
     while let Some((token, after)) = next_token(rest) {
         match token.kind {
             Kind::Comment | Kind::Less => return Ok(None),
-            _ => draft.take(alloc, token)?,
+            _ => draft.take(alloc, token.kind, token.text, rest)?,
         }
         rest = after;
     }
@@ -91,10 +92,11 @@ fn read_fit(alloc: Global, text: &[u8]) -> Result<Option<(Octets, Addr)>, AllocE
 }
 
 /// The display and the address of a text that is an addr-spec, or words and an addr-spec in angle brackets (RFC 5228, 2.4.2.3).
-/// The display is empty where there are no words, and has no quotation marks.
+/// The display is empty where there are no words; it is without the marks around quoted strings, and without the backslashes
+/// of quoted pairs.
 ///
 /// None for any other text: one with a comment, a route, a control character, more than 512 octets, or more than one
-/// address. Linear in the text's length.
+/// address. Linear in the text's length; memory for the display and the address alone.
 pub fn sieve_address(alloc: Global, text: &[u8]) -> Result<Option<(Octets, Addr)>, AllocError>
     ensures found { IfOk result (λ found. IfSome found (λ r. spec.IsOutbound text.now r.0 r.1)) }
     ensures only { IfOk result (λ found. (display : List ℕ) (address : Addr) →
@@ -102,8 +104,26 @@ pub fn sieve_address(alloc: Global, text: &[u8]) -> Result<Option<(Octets, Addr)
     ensures read { IfOk result (λ found. found ≡ reading.outbound text.now) }
     ensures domain { IfOk result (λ found. IfSome found (λ r. IsDomain r.1.domain)) }
 {
+    if is_fit(text) {
+        read_fit(alloc, text)
+    } else {
+        Ok(None)
+    }
+}
+
+/// The address of a text that is an addr-spec alone, without display and angle brackets (RFC 5322, 3.4.1): `a@b`, and not
+/// `<a@b>` or `"" <a@b>`.
+///
+/// None for any other text, and for one that `sieve_address` refuses. Linear in the text's length; memory for the address
+/// alone.
+pub fn bare_address(alloc: Global, text: &[u8]) -> Result<Option<Addr>, AllocError>
+    ensures found { IfOk result (λ found. IfSome found (λ address. spec.IsBareAddress text.now address)) }
+    ensures only { IfOk result (λ found. (address : Addr) → spec.IsBareAddress text.now address → found ≡ Some address) }
+    ensures read { IfOk result (λ found. found ≡ reading.bare text.now) }
+    ensures domain { IfOk result (λ found. IfSome found (λ address. IsDomain address.domain)) }
+{
     if !is_fit(text) {
         return Ok(None);
     }
-    read_fit(alloc, text)
+    sole(alloc, Place::Front, text)
 }

@@ -64,13 +64,27 @@ fn kind_of(octet: u8) -> Kind
     }
 }
 
-pub fn is_atom(octet: u8) -> bool
+/// Each octet of an atom stands at its own place, and a comma at every other place.
+static ATOM_OCTETS: [u8; 256] = *b"\
+    ,,,,,,,,,,,,,,,,,,,,,,,,,,,,,,,,\
+    ,!,#$%&',,*+,-,/0123456789,,,=,?\
+    ,ABCDEFGHIJKLMNOPQRSTUVWXYZ,,,^_\
+    `abcdefghijklmnopqrstuvwxyz{|}~,\
+    \x80\x81\x82\x83\x84\x85\x86\x87\x88\x89\x8a\x8b\x8c\x8d\x8e\x8f\
+    \x90\x91\x92\x93\x94\x95\x96\x97\x98\x99\x9a\x9b\x9c\x9d\x9e\x9f\
+    \xa0\xa1\xa2\xa3\xa4\xa5\xa6\xa7\xa8\xa9\xaa\xab\xac\xad\xae\xaf\
+    \xb0\xb1\xb2\xb3\xb4\xb5\xb6\xb7\xb8\xb9\xba\xbb\xbc\xbd\xbe\xbf\
+    \xc0\xc1\xc2\xc3\xc4\xc5\xc6\xc7\xc8\xc9\xca\xcb\xcc\xcd\xce\xcf\
+    \xd0\xd1\xd2\xd3\xd4\xd5\xd6\xd7\xd8\xd9\xda\xdb\xdc\xdd\xde\xdf\
+    \xe0\xe1\xe2\xe3\xe4\xe5\xe6\xe7\xe8\xe9\xea\xeb\xec\xed\xee\xef\
+    \xf0\xf1\xf2\xf3\xf4\xf5\xf6\xf7\xf8\xf9\xfa\xfb\xfc\xfd\xfe\xff";
+
+/// The octet may stand in an atom. One look into a table.
+#[inline(always)]
+pub(crate) fn is_atom(octet: u8) -> bool
     ensures { result ≡ spec.is_atom octet }
 {
-    match kind_of(octet) {
-        Kind::Atom => true,
-        _ => false,
-    }
+    ATOM_OCTETS[octet as usize] != b','
 }
 
 /// How many octets it takes to come past the closing octet; a backslash takes the next octet with it.
@@ -113,6 +127,7 @@ fn comment_len(inside: &[u8]) -> Option<usize>
     None
 }
 
+#[inline(always)]
 fn atom_len(text: &[u8]) -> usize
     ensures is { result ≡ prefix_len spec.is_atom text.now }
     ensures within { result ≤ length text.now }
@@ -132,14 +147,17 @@ fn closed(kind: Kind, others: &[u8], len: Option<usize>) -> (Kind, usize)
 }
 
 /// The kind of the piece that begins with this octet, and how many octets it has.
+#[inline(always)]
 fn first_piece(first: u8, others: &[u8]) -> (Kind, usize)
     ensures is { result ≡ reading.front first others.now }
     ensures some { 0 < result.1 }
     ensures within { result.1 ≤ 1 + length others.now }
 {
+    if is_atom(first) {
+        return (Kind::Atom, 1 + atom_len(others));
+    }
     let kind = kind_of(first);
     match kind {
-        Kind::Atom => (kind, 1 + atom_len(others)),
         Kind::Quoted => closed(kind, others, enclosed_len(others, b'"')),
         Kind::Literal => closed(kind, others, enclosed_len(others, b']')),
         Kind::Comment => closed(kind, others, comment_len(others)),
@@ -148,7 +166,8 @@ fn first_piece(first: u8, others: &[u8]) -> (Kind, usize)
 }
 
 /// The first piece of a text, and what follows it.
-pub fn next_token(text: &[u8]) -> Option<(Token<'_>, &[u8])>
+#[inline(always)]
+pub(crate) fn next_token(text: &[u8]) -> Option<(Token<'_>, &[u8])>
     ensures { MatchOption result (reading.pieces text.now ≡ []) (λ r. reading.IsNext text.now r.0.kind r.0.text.now r.1.now) }
 {
     let (first, others) = text.split_first()?;

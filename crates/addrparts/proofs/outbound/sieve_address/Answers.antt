@@ -4,19 +4,19 @@ use Rattle.addrparts.proofs.Outbounds.{result-named, result-only}
 use Rattle.addrparts.proofs.Spells.{result-domain}
 use Rattle.addrparts.proofs.outbound.sieve_address.Goals as goal
 
-pub returns-then-not-is_fit-clause-read : goal.returns-then-not-is_fit-clause-read
+pub returns-else-is_fit-clause-read : goal.returns-else-is_fit-clause-read
 unfolding outbound
-returns-then-not-is_fit-clause-read c = search rules
+returns-else-is_fit-clause-read c = search rules
 
-pub returns-clause-read : goal.returns-clause-read
+pub returns-then-is_fit-clause-read : goal.returns-then-is_fit-clause-read
 unfolding outbound
-returns-clause-read c = search rules
+returns-then-is_fit-clause-read c = search rules
 
-pub returns-clause-found : goal.returns-clause-found
-returns-clause-found c = result-named c.args.text.now c.read_fit.result (returns-clause-read c)
+pub returns-then-is_fit-clause-found : goal.returns-then-is_fit-clause-found
+returns-then-is_fit-clause-found c = result-named c.args.text.now c.read_fit.result (returns-then-is_fit-clause-read c)
 
-pub returns-clause-only : goal.returns-clause-only
-returns-clause-only c = result-only c.args.text.now c.read_fit.result (returns-clause-read c)
+pub returns-then-is_fit-clause-only : goal.returns-then-is_fit-clause-only
+returns-then-is_fit-clause-only c = result-only c.args.text.now c.read_fit.result (returns-then-is_fit-clause-read c)
 
-pub returns-clause-domain : goal.returns-clause-domain
-returns-clause-domain c = result-domain c.args.text.now c.read_fit.result (returns-clause-found c)
+pub returns-then-is_fit-clause-domain : goal.returns-then-is_fit-clause-domain
+returns-then-is_fit-clause-domain c = result-domain c.args.text.now c.read_fit.result (returns-then-is_fit-clause-found c)

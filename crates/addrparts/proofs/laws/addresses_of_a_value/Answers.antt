@@ -1,0 +1,8 @@
+use Rattle.addrparts.proofs.Lists.{addrs-are, addrs-only}
+use Rattle.addrparts.proofs.laws.addresses_of_a_value.Goals as goal
+
+pub returns-clause-found : goal.returns-clause-found
+returns-clause-found c = addrs-are
+
+pub returns-clause-only : goal.returns-clause-only
+returns-clause-only c = addrs-only

@@ -1,0 +1,9 @@
+use Rattle.std.proofs.Common.{sym}
+use Rattle.addrparts.proofs.Cuts.{cut-all, cut-only}
+use Rattle.addrparts.proofs.laws.pieces_of_a_value.Goals as goal
+
+pub returns-clause-found : goal.returns-clause-found
+returns-clause-found c = cut-all
+
+pub returns-clause-only : goal.returns-clause-only
+returns-clause-only c = λ value cut is. sym (cut-only value cut is)
