@@ -2,6 +2,8 @@
 ghost use Rattle.std.specs.Prelude.{◌≡◌, ◌≢◌, ◌↔◌, ◌++◌, ℕ, Bool, true, List, IfOk};
 ghost use Rattle.msproto.specs.declared.items.Item.{Item as ItemValue};
 ghost use Rattle.msproto.specs.declared.items.Item.TheVariants.{Need};
+ghost use Rattle.msproto.specs.declared.items.Reach.{Reach as ReachValue};
+ghost use Rattle.msproto.specs.declared.items.Reach.TheVariants as reach;
 ghost use Rattle.msproto.specs.Items.{IsInLiteral, Reaches, Gives};
 ghost use Rattle.msproto.specs.Machine.{run, start, in_literal};
 ghost use Rattle.msproto.specs.Scanning.{reach_of};
@@ -47,7 +49,7 @@ pub fn extent(buffer: &[u8], pending: bool) -> Reach
 {
     let mut scan = Scan::new(pending);
     let mut rest = buffer;
-    while let Reach::Need = scan.reach() {
+    while let Reach::Need = scan.state() {
         let inside = scan.literal_left().min(rest.len());
         if inside > 0 {
             scan.pass(inside);
@@ -60,7 +62,7 @@ pub fn extent(buffer: &[u8], pending: bool) -> Reach
         scan.turn(*octet);
         rest = more;
     }
-    scan.reach()
+    scan.state()
 }
 
 /// What comes first, with the value of a command. While a challenge is pending the item is one string.
@@ -103,6 +105,23 @@ pub fn item_stays()
 /// The function of the first item gives what the relation says.
 pub fn item_is()
     ensures { (pending : Bool) (stream : List ℕ) → Gives pending (item_of pending stream) stream }
+{}
+
+/// What is reached is one: no stream reaches two.
+pub fn one_reach()
+    ensures { (pending : Bool) (one other : ReachValue) (stream : List ℕ) →
+        Reaches pending one stream → Reaches pending other stream → one ≡ other }
+{}
+
+/// What is reached stays the same whatever octets follow.
+pub fn reach_stays()
+    ensures { (pending : Bool) (found : ReachValue) (stream more : List ℕ) →
+        found ≢ reach.Need → Reaches pending found stream → Reaches pending found (stream ++ more) }
+{}
+
+/// The function of what is reached gives what the relation says.
+pub fn reach_is()
+    ensures { (pending : Bool) (stream : List ℕ) → Reaches pending (reach_of pending stream) stream }
 {}
 
 /// The octet behind a text stands inside a literal exactly where the machine has octets of one to come.

@@ -19,11 +19,11 @@ pub returns-in_default-split_first-clause-item : goal.returns-in_default-split_f
 returns-in_default-split_first-clause-item c =
     let empty = nil_from_length c.loop-scan.rest.now c.in_default-split_first.ensures.cases in
     let at : reach_of c.args.pending c.args.buffer.now ≡ Need =
-    ap found (sym c.loop-scan.invariant) ∙ ap (λ (t : List ℕ). found (fold turned c.loop-scan.scan t)) empty ∙ sym c.reach.ensures ∙ c.in-Need.is in
+    ap found (sym c.loop-scan.invariant) ∙ ap (λ (t : List ℕ). found (fold turned c.loop-scan.scan t)) empty ∙ sym c.state.ensures ∙ c.in-Need.is in
     subst (λ (r : Reach). Reaches c.args.pending r c.args.buffer.now) at (reaches c.args.pending c.args.buffer.now)
 
 pub returns : goal.returns
 returns c =
-    let value : c.reach-2.result ≡ reach_of c.args.pending c.args.buffer.now =
-    c.reach-2.ensures ∙ settled c.loop-scan.scan c.loop-scan.rest.now (λ n. c.in_default.not-Need (c.reach.ensures ∙ n)) ∙ ap found c.loop-scan.invariant in
+    let value : c.state-2.result ≡ reach_of c.args.pending c.args.buffer.now =
+    c.state-2.ensures ∙ settled c.loop-scan.scan c.loop-scan.rest.now (λ n. c.in_default.not-Need (c.state.ensures ∙ n)) ∙ ap found c.loop-scan.invariant in
     record { value = value; item = subst (λ (r : Reach). Reaches c.args.pending r c.args.buffer.now) (sym value) (reaches c.args.pending c.args.buffer.now) }

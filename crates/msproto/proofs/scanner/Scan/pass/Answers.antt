@@ -7,7 +7,7 @@ use Rattle.msproto.proofs.scanner.Scan.pass.Goals.{then-count-left, else-count-l
 
 pub returns-after-count-left : goal.returns-after-count-left
 returns-after-count-left c = λ piece len.
-    pass_takes c.self.inside.state c.if-count-left.self c.in-Body.left c.self.inside.outside c.self.inside.used c.args.count c.in-Body.slots c.self.inside.reach c.args.self.now piece
+    pass_takes c.self.inside.line c.if-count-left.self c.in-Body.left c.self.inside.outside c.self.inside.used c.args.count c.in-Body.slots c.self.inside.reach c.args.self.now piece
     c.in-Body.is c.self.view_is c.requires c.self.invariant.0 len
     (elim c.if-count-left.branch [
       | then-count-left w ↦ ap s.shown w.self-is ∙ pass_end c.in-Body.left c.args.count (s.slots_shown c.in-Body.slots) w.if-count-left.true
