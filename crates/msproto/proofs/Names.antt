@@ -135,7 +135,7 @@ begins_row_other x w (row ∷ rs) e =
     let parts = and_parts (lacks x row.0) (rows_lack x rs) e in
     or_from (begins (w ++ x ∷ []) row.0) (begins_row rs (w ++ x ∷ [])) (begins_other x w row.0 parts.0) (begins_row_other x w rs parts.1)
 
-no_space : (w : List ℕ) → begins_row rows (w ++ 32 ∷ []) ≡ false
+pub no_space : (w : List ℕ) → begins_row rows (w ++ 32 ∷ []) ≡ false
 unfolding rows
 no_space w = begins_row_other 32 w rows refl
 
@@ -147,7 +147,7 @@ pub no_brace : (w : List ℕ) → begins_row rows (w ++ 123 ∷ []) ≡ false
 unfolding rows
 no_brace w = begins_row_other 123 w rows refl
 
-no_return : (w : List ℕ) → begins_row rows (w ++ 13 ∷ []) ≡ false
+pub no_return : (w : List ℕ) → begins_row rows (w ++ 13 ∷ []) ≡ false
 unfolding rows
 no_return w = begins_row_other 13 w rows refl
 

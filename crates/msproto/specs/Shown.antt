@@ -1,5 +1,5 @@
 -- What the states of the code stand for.
-use Rattle.std.specs.Prelude.{List, None, Option, Some, [], cond, false, nat_lt, take, true, ℕ, ◌&&◌, ◌++◌, ◌==◌, ◌^◌, ◌||◌, ◌∷◌, ◌≡◌}
+use Rattle.std.specs.Prelude.{Bool, List, None, Option, Some, [], cond, false, length, min, nat_lt, not, suc, take, true, zero, ℕ, ◌&&◌, ◌++◌, ◌-◌, ◌==◌, ◌^◌, ◌||◌, ◌∷◌, ◌≡◌}
 use Rattle.std.specs.Char.{is_ascii_digit}
 use Rattle.octets.specs.Decimal.{with_digit}
 use Rattle.msproto.specs.declared.verb.Verb.{Verb}
@@ -7,10 +7,11 @@ use Rattle.msproto.specs.declared.verb.Slots.{Slots}
 use Rattle.msproto.specs.declared.verb.Slots.TheVariants as slots
 use Rattle.msproto.specs.declared.state.State.{State}
 use Rattle.msproto.specs.declared.state.State.TheVariants as state
+use Rattle.msproto.specs.Arguments.{is_quotable}
 use Rattle.msproto.specs.Machine as machine
 use Rattle.msproto.specs.declared.items.Reach.{Reach}
 use Rattle.msproto.specs.declared.items.Reach.TheVariants as reach
-use Rattle.msproto.specs.Scanning.{Scanned, Open, Found}
+use Rattle.msproto.specs.Scanning.{Scanned, Open, Found, literal_rest}
 
 -- what may still stand on a line
 abbrev pub slots_shown : Slots → machine.Slots
@@ -58,6 +59,32 @@ next_digit number octet =
     (cond (number == 0) None (cond (nat_lt (with_digit number octet) (2 ^ 32)) (Some (with_digit number octet)) None))
     None
 
+-- ---- octets that leave a line where it stands
+
+-- an octet that stands between quotation marks as it is
+abbrev pub is_plain : ℕ → Bool
+is_plain octet = is_quotable octet && not (octet == 34 || octet == 92)
+
+-- an octet that ends no line
+abbrev pub is_inner : ℕ → Bool
+is_inner octet = not (octet == 10)
+
+-- how many octets in front pass a test
+abbrev pub passing : (ℕ → Bool) → List ℕ → ℕ
+passing test [] = zero
+passing test (octet ∷ rest) = cond (test octet) (suc (passing test rest)) zero
+
+-- how many octets in front leave the line between the same quotation marks, or on the same bad line
+abbrev pub skimmed : machine.State → List ℕ → ℕ
+skimmed (machine.Quoted left slots) octets = passing is_plain (take left octets)
+skimmed machine.Dead octets = passing is_inner octets
+skimmed _ octets = zero
+
+-- the state behind so many of these
+abbrev pub behind : machine.State → ℕ → machine.State
+behind (machine.Quoted left slots) count = machine.Quoted (left - count) slots
+behind state count = state
+
 -- ---- a scan
 
 -- what a scan keeps: where it stands, or what it found
@@ -66,6 +93,13 @@ scan_shown state outside used reach.Need = Open (shown state) outside used
 scan_shown state outside used (reach.Command length) = Found (reach.Command length)
 scan_shown state outside used (reach.Bad length) = Found (reach.Bad length)
 scan_shown state outside used reach.TooBig = Found reach.TooBig
+
+-- how many octets in front leave a scan's line where it stands: those of a literal, and of others no more than may stand outside literals
+abbrev pub skimmed_in : Scanned → List ℕ → ℕ
+skimmed_in (Open state outside used) octets =
+    cond (nat_lt 0 (literal_rest (Open state outside used))) (min (literal_rest (Open state outside used)) (length octets))
+    (skimmed state (take (8192 - outside) octets))
+skimmed_in (Found reach) octets = zero
 
 -- what an octet ends, if anything
 abbrev pub ending : machine.State → ℕ → ℕ → ℕ → Reach

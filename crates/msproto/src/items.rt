@@ -42,7 +42,8 @@ pub enum Reach {
 
 /// What comes first, without the value of a command. While a challenge is pending the item is one string.
 ///
-/// Looks at each octet of the item outside literals once, and passes over those inside; it takes no memory.
+/// Looks at each octet of the item outside literals once, or twice where it ends a run that is passed in one step, and
+/// passes over those inside; it takes no memory.
 pub fn extent(buffer: &[u8], pending: bool) -> Reach
     ensures value { result ≡ reach_of pending buffer.now }
     ensures item { Reaches pending result buffer.now }
@@ -50,10 +51,9 @@ pub fn extent(buffer: &[u8], pending: bool) -> Reach
     let mut scan = Scan::new(pending);
     let mut rest = buffer;
     while let Reach::Need = scan.state() {
-        let inside = scan.literal_left().min(rest.len());
-        if inside > 0 {
-            scan.pass(inside);
-            rest = &rest[inside..];
+        let count = scan.skim(rest);
+        if count > 0 {
+            rest = &rest[count..];
             continue;
         }
         let Some((octet, more)) = rest.split_first() else {

@@ -1,5 +1,5 @@
 //! A scan that looks for the end of the first item, octet by octet.
-ghost use Rattle.std.specs.Prelude.{◌≡◌, ℕ, ◌+◌, ◌-◌, ◌≤◌, List, length, fold};
+ghost use Rattle.std.specs.Prelude.{◌≡◌, ℕ, ◌+◌, ◌-◌, ◌≤◌, List, length, fold, take};
 ghost use Rattle.msproto.specs.declared.items.Reach.TheVariants.{Need};
 ghost use Rattle.msproto.specs.Machine as m;
 ghost use Rattle.msproto.specs.Scanning.{fresh, turned, found, literal_rest};
@@ -88,6 +88,30 @@ impl Scan {
                 State::Body(left - count as u32, slots)
             };
         }
+    }
+
+    /// Takes the octets in front that end nothing and leave the line where it stands: those of a literal, plain ones
+    /// between quotation marks, and those of a bad line before its LF. Gives how many. Nothing may have come first
+    /// yet, and nothing did then.
+    pub fn skim(&mut self, octets: &[u8]) -> usize
+        requires { found self.old ≡ Need }
+        ensures count { result ≡ s.skimmed_in self.old octets.now }
+        ensures within { result ≤ length octets.now }
+        ensures taken { self.new ≡ fold turned self.old (take result octets.now) }
+        ensures still { found self.new ≡ Need }
+    {
+        let inside = self.literal_left();
+        if inside > 0 {
+            let count = inside.min(octets.len());
+            self.pass(count);
+            return count;
+        }
+        let most = (MOST_OUTSIDE - self.outside).min(octets.len());
+        let (line, count) = self.line.skim(&octets[..most]);
+        self.line = line;
+        self.outside += count;
+        self.used += count;
+        count
     }
 
     /// How many octets of a literal come next.
