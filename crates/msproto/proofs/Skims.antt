@@ -2,13 +2,15 @@
 use Rattle.std.proofs.Common.{◌≡◌, ℕ, zero, suc, ◌+◌, ◌-◌, ◌<◌, ◌≤◌, Bool, true, false, not, ◌||◌, ◌&&◌, ◌==◌, cond, List, [], ◌∷◌, ◌++◌, length, take, min, refl, sym, ap, ◌∙◌, subst, arith}
 use Rattle.std.specs.Prelude.{nat_lt, fold}
 use Rattle.std.proofs.lemmas.Bool.{le-ltb, lt-ltb, ltb-true, ltb-false, and_parts, or_parts, not-true}
-use Rattle.std.proofs.lemmas.List.{length-take-le, length-take, take_take}
+use Rattle.std.proofs.lemmas.List.{length-take-le, take_min}
 use Rattle.msproto.specs.declared.items.Reach.{Reach}
 use Rattle.msproto.specs.declared.items.Reach.TheVariants.{Need}
 use Rattle.msproto.specs.Arguments.{is_quotable}
-use Rattle.msproto.specs.Machine.{Slots, State, Quoted, Dead, step, is_whole, is_dead, room}
+use Rattle.msproto.specs.declared.state.State as code
+use Rattle.msproto.specs.Machine.{Slots, State, Quoted, Body, Dead, step, is_whole, is_dead, room}
 use Rattle.msproto.specs.Scanning.{Scanned, Open, Found, turned, found, literal_rest}
-use Rattle.msproto.specs.Shown.{is_plain, is_inner, passing, skimmed, behind, skimmed_in}
+use Rattle.msproto.specs.Shown.{shown, scan_shown, is_plain, is_inner, passing, skimmed, behind}
+use Rattle.msproto.proofs.Turning.{is_open, passed, body_is}
 
 -- ---- the front that passes
 
@@ -39,7 +41,8 @@ quoted-step x left slots e =
     let parts = and_parts (is_quotable x) (not (x == 34 || x == 92)) e in
     let others = or_parts (x == 34) (x == 92) (not-true (x == 34 || x == 92) parts.1) in
     let less : suc left - 1 ≡ left = omega arith in
-    rw (others.0, others.1, parts.0, less) refl
+    let some : nat_lt 0 (suc left) ≡ true = lt-ltb 0 (suc left) (omega arith) in
+    rw (others.0, others.1, parts.0, some, less) refl
 
 quoted_turned : (x left n k : ℕ) (slots : Slots) → is_plain x ≡ true → n + 1 ≤ 8192 → turned (Open (Quoted (suc left) slots) n k) x ≡ Open (Quoted left slots) (n + 1) (k + 1)
 quoted_turned x left n k slots e low =
@@ -138,3 +141,29 @@ skims s n k m t low = nothing_taken s n k
 pub room_behind : (s : State) (c : ℕ) → room (behind s c) ≡ room s
 room_behind (Quoted left slots) c = refl
 room_behind s c = refl
+
+pub skim_takes : (st next : code.State) (o u m c : ℕ) (r : Reach) (sc : Scanned) (t : List ℕ) → scan_shown st o u r ≡ sc → found sc ≡ Need → o ≤ 8192 → m ≡ min (8192 - o) (length t) → c ≡ skimmed (shown st) (take m t) → shown next ≡ behind (shown st) c → scan_shown next (o + c) (u + c) r ≡ fold turned sc (take c t)
+skim_takes st next o u m c r sc t is need low cut count to =
+    let at = is_open st o u r sc is need in
+    let same : c ≡ skimmed (shown st) (take (8192 - o) t) = count ∙ ap (λ (v : List ℕ). skimmed (shown st) v) (ap (λ (n : ℕ). take n t) cut ∙ take_min (8192 - o) t) in
+    ap (scan_shown next (o + c) (u + c)) at.0
+    ∙ ap (λ (s : State). Open s (o + c) (u + c)) to
+    ∙ ap (λ (d : ℕ). Open (behind (shown st) d) (o + d) (u + d)) same
+    ∙ sym (skims (shown st) o u (8192 - o) t (omega (arith, low)))
+    ∙ ap (λ (d : ℕ). fold turned (Open (shown st) o u) (take d t)) (sym same)
+    ∙ ap (λ (sc : Scanned). fold turned sc (take c t)) (sym at.1)
+
+-- nothing ends inside a literal
+still_open : (s : State) (o u : ℕ) (piece : List ℕ) → o ≤ 8192 → length piece ≤ literal_rest (Open s o u) → found (fold turned (Open s o u) piece) ≡ Need
+still_open (Body left slots) o u piece low le =
+    ap (λ (s : State). found (fold turned (Open s o u) piece)) (body_is left slots) ∙ ap found (passed piece (left + 1) o u slots le low)
+still_open s o u [] low le = refl
+still_open s o u (x ∷ piece) low le = absurd (omega (arith, le))
+
+pub pass_still : (st : code.State) (o u count : ℕ) (r : Reach) (sc new : Scanned) (t : List ℕ) → scan_shown st o u r ≡ sc → found sc ≡ Need → o ≤ 8192 → count ≤ literal_rest sc → count ≤ length t → ((piece : List ℕ) → length piece ≡ count → new ≡ fold turned sc piece) → found new ≡ Need
+pass_still st o u count r sc new t is need low rest fits by =
+    let at = is_open st o u r sc is need in
+    let len : length (take count t) ≡ count = length-take-le count t fits in
+    let fits2 : length (take count t) ≤ literal_rest (Open (shown st) o u) = subst (λ (c : Scanned). length (take count t) ≤ literal_rest c) at.1 (omega (arith, len, rest)) in
+    ap found (by (take count t) len ∙ ap (λ (s : Scanned). fold turned s (take count t)) at.1)
+    ∙ still_open (shown st) o u (take count t) low fits2
