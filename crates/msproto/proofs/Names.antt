@@ -20,7 +20,7 @@ Rows = List (List ℕ × Slots)
 eq_self : (x : ℕ) → (x == x) ≡ true
 eq_self x = eq-eqb x x refl
 
-begins-append : (p q : List ℕ) → begins p (p ++ q) ≡ true
+pub begins-append : (p q : List ℕ) → begins p (p ++ q) ≡ true
 begins-append [] q = refl
 begins-append (x ∷ p) q = and_from (x == x) (begins p (p ++ q)) (eq_self x) (begins-append p q)
 

@@ -1,6 +1,6 @@
 -- What the states of the code stand for.
-use Rattle.std.specs.Prelude.{Bool, List, None, Option, Some, [], cond, false, length, min, nat_lt, not, suc, take, true, zero, ℕ, ◌&&◌, ◌++◌, ◌-◌, ◌==◌, ◌^◌, ◌||◌, ◌∷◌, ◌≡◌}
-use Rattle.std.specs.Char.{is_ascii_digit}
+use Rattle.std.specs.Prelude.{Bool, List, None, Option, Some, [], cond, drop, false, length, min, nat_lt, not, suc, take, true, zero, ℕ, ◌&&◌, ◌++◌, ◌+◌, ◌-◌, ◌==◌, ◌^◌, ◌||◌, ◌∷◌, ◌≡◌}
+use Rattle.std.specs.Char.{to_ascii_uppercase, is_ascii_digit}
 use Rattle.octets.specs.Decimal.{with_digit}
 use Rattle.msproto.specs.declared.verb.Verb.{Verb}
 use Rattle.msproto.specs.declared.verb.Slots.{Slots}
@@ -11,7 +11,7 @@ use Rattle.msproto.specs.Arguments.{is_quotable}
 use Rattle.msproto.specs.Machine as machine
 use Rattle.msproto.specs.declared.items.Reach.{Reach}
 use Rattle.msproto.specs.declared.items.Reach.TheVariants as reach
-use Rattle.msproto.specs.Scanning.{Scanned, Open, Found, literal_rest}
+use Rattle.msproto.specs.Scanning.{Scanned, Open, Found}
 
 -- what may still stand on a line
 abbrev pub slots_shown : Slots → machine.Slots
@@ -74,16 +74,28 @@ abbrev pub passing : (ℕ → Bool) → List ℕ → ℕ
 passing test [] = zero
 passing test (octet ∷ rest) = cond (test octet) (suc (passing test rest)) zero
 
--- how many octets in front leave the line between the same quotation marks, or on the same bad line
-abbrev pub skimmed : machine.State → List ℕ → ℕ
-skimmed (machine.Quoted left slots) octets = passing is_plain (take left octets)
-skimmed machine.Dead octets = passing is_inner octets
+-- how many octets in front are these letters in upper or lower case
+abbrev pub spelling : List ℕ → List ℕ → ℕ
+spelling [] octets = zero
+spelling (letter ∷ letters) [] = zero
+spelling (letter ∷ letters) (octet ∷ rest) = cond (letter == to_ascii_uppercase octet) (suc (spelling letters rest)) zero
+
+-- how many letters of a verb's name are read
+abbrev pub letters_read : Verb → ℕ → ℕ
+letters_read verb count = min count (length (machine.word_of verb))
+
+-- how many octets in front leave the line in the same name, between the same quotation marks, or on the same bad line
+abbrev pub skimmed : State → List ℕ → ℕ
+skimmed (state.Word verb count) octets = spelling (drop (letters_read verb count) (machine.word_of verb)) octets
+skimmed (state.Quoted left slots) octets = passing is_plain (take left octets)
+skimmed state.Dead octets = passing is_inner octets
 skimmed _ octets = zero
 
 -- the state behind so many of these
-abbrev pub behind : machine.State → ℕ → machine.State
-behind (machine.Quoted left slots) count = machine.Quoted (left - count) slots
-behind state count = state
+abbrev pub behind : State → ℕ → machine.State
+behind (state.Word verb count) more = machine.Word (take (letters_read verb count + more) (machine.word_of verb))
+behind (state.Quoted left slots) more = machine.Quoted (left - more) (slots_shown slots)
+behind state more = shown state
 
 -- ---- a scan
 
@@ -93,13 +105,6 @@ scan_shown state outside used reach.Need = Open (shown state) outside used
 scan_shown state outside used (reach.Command length) = Found (reach.Command length)
 scan_shown state outside used (reach.Bad length) = Found (reach.Bad length)
 scan_shown state outside used reach.TooBig = Found reach.TooBig
-
--- how many octets in front leave a scan's line where it stands: those of a literal, and of others no more than may stand outside literals
-abbrev pub skimmed_in : Scanned → List ℕ → ℕ
-skimmed_in (Open state outside used) octets =
-    cond (nat_lt 0 (literal_rest (Open state outside used))) (min (literal_rest (Open state outside used)) (length octets))
-    (skimmed state (take (8192 - outside) octets))
-skimmed_in (Found reach) octets = zero
 
 -- what an octet ends, if anything
 abbrev pub ending : machine.State → ℕ → ℕ → ℕ → Reach

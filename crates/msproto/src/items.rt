@@ -42,8 +42,8 @@ pub enum Reach {
 
 /// What comes first, without the value of a command. While a challenge is pending the item is one string.
 ///
-/// Looks at each octet of the item outside literals once, or twice where it ends a run that is passed in one step, and
-/// passes over those inside; it takes no memory.
+/// Time is linear in the item's octets outside literals, each of which is looked at once, or twice where it ends a run
+/// that is passed in one step; those inside literals are not looked at. Takes no memory.
 pub fn extent(buffer: &[u8], pending: bool) -> Reach
     ensures value { result ≡ reach_of pending buffer.now }
     ensures item { Reaches pending result buffer.now }
@@ -67,8 +67,8 @@ pub fn extent(buffer: &[u8], pending: bool) -> Reach
 
 /// What comes first, with the value of a command. While a challenge is pending the item is one string.
 ///
-/// Reads the item's octets as `extent` does, and a command's once more for its value; takes memory for its strings
-/// alone, and lack of it is the only error.
+/// Time is that of `extent`, and for a command linear in its octets besides. Takes memory for its strings alone, and
+/// lack of it is the only error.
 pub fn first(alloc: Global, buffer: &[u8], pending: bool) -> Result<Item, AllocError>
     ensures value { IfOk result (λ item. item ≡ item_of pending buffer.now) }
     ensures item { IfOk result (λ item. Gives pending item buffer.now) }

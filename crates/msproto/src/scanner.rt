@@ -90,12 +90,11 @@ impl Scan {
         }
     }
 
-    /// Takes the octets in front that end nothing and leave the line where it stands: those of a literal, plain ones
-    /// between quotation marks, and those of a bad line before its LF. Gives how many. Nothing may have come first
-    /// yet, and nothing did then.
+    /// Takes the octets in front that end nothing and leave the line where it stands: those of a name, of a literal,
+    /// plain ones between quotation marks, and those of a bad line before its LF. Gives how many. Nothing may have
+    /// come first yet, and nothing did then.
     pub fn skim(&mut self, octets: &[u8]) -> usize
         requires { found self.old ≡ Need }
-        ensures count { result ≡ s.skimmed_in self.old octets.now }
         ensures within { result ≤ length octets.now }
         ensures taken { self.new ≡ fold turned self.old (take result octets.now) }
         ensures still { found self.new ≡ Need }

@@ -75,14 +75,20 @@ impl State {
         }
     }
 
-    /// The state behind the octets in front that leave the line between the same quotation marks, or on the same bad
-    /// line, and how many they are.
+    /// The state behind the octets in front that leave the line in the same name, between the same quotation marks or
+    /// on the same bad line, and how many they are.
     pub fn skim(self, octets: &[u8]) -> (State, usize)
-        ensures count { result.1 ≡ s.skimmed (s.shown self) octets.now }
-        ensures state { s.shown result.0 ≡ s.behind (s.shown self) result.1 }
+        ensures count { result.1 ≡ s.skimmed self octets.now }
+        ensures state { s.shown result.0 ≡ s.behind self result.1 }
         ensures within { result.1 ≤ length octets.now }
     {
         match self {
+            State::Word(verb, count) => {
+                let word = verb.word();
+                let read = count.min(word.len());
+                let more = spelling_length(&word[read..], octets);
+                (State::Word(verb, read + more), more)
+            }
             State::Quoted(left, slots) => {
                 let count = plain_length(&octets[..(left as usize).min(octets.len())]);
                 (State::Quoted(left - count as u32, slots), count)
@@ -91,6 +97,29 @@ impl State {
             _ => (self, 0),
         }
     }
+}
+
+// How many octets in front are these letters in upper or lower case.
+fn spelling_length(letters: &[u8], octets: &[u8]) -> usize
+    ensures value { result ≡ s.spelling letters.now octets.now }
+    ensures within { result ≤ length octets.now }
+    ensures letters { result ≤ length letters.now }
+{
+    let mut wanted = letters;
+    let mut rest = octets;
+    let mut count = 0;
+    while let Some((letter, behind)) = wanted.split_first() {
+        let Some((octet, more)) = rest.split_first() else {
+            break;
+        };
+        if *letter != octet.to_ascii_uppercase() {
+            break;
+        }
+        count += 1;
+        wanted = behind;
+        rest = more;
+    }
+    count
 }
 
 // How many octets in front stand between quotation marks as they are.
