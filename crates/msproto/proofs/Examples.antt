@@ -1,5 +1,5 @@
 -- Each definition at work: what it takes, and one beside it that it doesn't.
-use Rattle.std.proofs.Common.{◌≡◌, ◌≢◌, ℕ, zero, suc, ◌+◌, ◌≤◌, ◌<◌, ◌^◌, ◌⊎◌, inl, inr, Bool, true, false, List, [], ◌∷◌, ◌++◌, length, take, Option, Some, None, refl, sym, ap, ◌∙◌, subst, arith}
+use Rattle.std.proofs.Common.{◌≡◌, ℕ, zero, suc, inl, inr, true, false, List, [], ◌∷◌, ◌++◌, length, Some, None, refl, subst, arith}
 use Rattle.std.specs.Prelude.{codes, replicate}
 use Rattle.msproto.specs.declared.commands.Command.TheVariants as command
 use Rattle.msproto.specs.declared.items.Item.TheVariants as item
@@ -8,10 +8,10 @@ use Rattle.msproto.specs.declared.items.Reach.TheVariants.{Need, Command, Bad, T
 use Rattle.msproto.specs.declared.replies.Code.TheVariants as code
 use Rattle.msproto.specs.declared.replies.Line.TheVariants as line
 use Rattle.msproto.specs.declared.replies.Word.TheVariants as word
-use Rattle.msproto.specs.Arguments.{inside, AreQuotable, IsQuoted, AreDigits, IsNumeral, IsLiteral, IsString, Text, Figure, IsArgument, AreArguments, IsLine, IsAnswer}
+use Rattle.msproto.specs.Arguments.{inside, IsQuoted, AreDigits, IsNumeral, IsLiteral, Figure, IsArgument, IsAnswer}
 use Rattle.msproto.specs.Commands.{IsSpelling, IsCommand, IsViable}
-use Rattle.msproto.specs.Items.{EndsAtFeed, IsBadLine, IsInLiteral, Counts, IsLong, EndsInLargeHead, Reaches, Gives}
-use Rattle.msproto.specs.Machine.{Dead, rows, start, run}
+use Rattle.msproto.specs.Items.{EndsAtFeed, IsBadLine, IsInLiteral, Counts, IsLong, EndsInLargeHead, Reaches}
+use Rattle.msproto.specs.Machine.{Dead, rows, start}
 use Rattle.msproto.specs.Scanning.{reach_of}
 use Rattle.msproto.specs.Values.{item_of}
 use Rattle.msproto.specs.Replies.{string_spelled, line_spelled, last_spelled, Extends}
@@ -20,7 +20,7 @@ use Rattle.msproto.proofs.Law.{spelling_whole, live_viable, viable_live}
 use Rattle.msproto.proofs.Outside.{literal_free, not_free, outside_from, counts, counts_only}
 use Rattle.msproto.proofs.Heads.{head_large}
 use Rattle.msproto.proofs.Scans.{reaches}
-use Rattle.msproto.proofs.Unique.{one_reach, gives}
+use Rattle.msproto.proofs.Unique.{one_reach}
 
 -- with CRLF behind it
 abbrev crlf : List ℕ → List ℕ

@@ -1,13 +1,12 @@
 -- The names of the commands, and what stands behind them.
-use Rattle.std.proofs.Common.{◌≡◌, ℕ, ◌⊎◌, inl, inr, Bool, true, false, not, ◌||◌, ◌&&◌, ◌==◌, cond, List, [], ◌∷◌, ◌++◌, Option, Some, None, refl, sym, ap, ◌∙◌, subst, arith, append_assoc}
+use Rattle.std.proofs.Common.{◌≡◌, ℕ, ◌⊎◌, inl, inr, Bool, true, false, not, ◌&&◌, ◌==◌, cond, List, [], ◌∷◌, ◌++◌, Option, Some, None, refl, sym, ap, ◌∙◌, subst, append_assoc}
 use Rattle.std.specs.Prelude.{map, codes}
 use Rattle.std.specs.Char.{to_ascii_uppercase}
-use Rattle.std.proofs.lemmas.Bool.{cases_Bool, eqb-true, eq-eqb, or_cases, or_from, or_left, or_right, and_parts, and_from, and_left, and_right, not-true, not-false}
+use Rattle.std.proofs.lemmas.Bool.{eqb-true, eq-eqb, or_cases, or_from, or_left, or_right, and_parts, and_from, and_left, and_right, not-true}
 use Rattle.std.proofs.lemmas.List.{append-nil}
-use Rattle.msproto.specs.Arguments.{Argument, Text, Figure, IsString, IsArgument, AreArguments}
-use Rattle.msproto.specs.Machine.{Slots, LineEnd, MaybeText, ThenText, ThenNumber, rows, begins, begins_row, same_word, slots_in, State, Word, Between, leave, leave_named, step, run}
+use Rattle.msproto.specs.Arguments.{Argument, Text, Figure, AreArguments}
+use Rattle.msproto.specs.Machine.{Slots, LineEnd, MaybeText, ThenText, ThenNumber, rows, begins, begins_row, same_word, slots_in, State, Word, Between, leave, step, run}
 use Rattle.msproto.proofs.Left.{IsAfter}
-use Rattle.msproto.proofs.Runs.{run-append}
 use Rattle.msproto.specs.declared.commands.Command.{Command}
 use Rattle.msproto.specs.declared.commands.Command.TheVariants.{Capability, Noop, Logout, Authenticate, Unauthenticate, HaveSpace, PutScript, CheckScript, ListScripts, SetActive, GetScript, DeleteScript, RenameScript, Response}
 use Rattle.msproto.specs.Commands.{Form, Named, Alone, form_of}

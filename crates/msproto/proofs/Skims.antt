@@ -1,5 +1,5 @@
 -- Octets that leave a scan's line where it stands, taken in one step.
-use Rattle.std.proofs.Common.{◌≡◌, ℕ, zero, suc, ◌+◌, ◌-◌, ◌<◌, ◌≤◌, Bool, true, false, not, ◌||◌, ◌&&◌, ◌==◌, cond, List, [], ◌∷◌, ◌++◌, length, take, drop, min, append_assoc, refl, sym, ap, ◌∙◌, subst, arith}
+use Rattle.std.proofs.Common.{◌≡◌, ℕ, zero, suc, ◌+◌, ◌-◌, ◌≤◌, Bool, true, false, not, ◌||◌, ◌==◌, cond, List, [], ◌∷◌, ◌++◌, length, take, drop, min, append_assoc, refl, sym, ap, ◌∙◌, subst, arith}
 use Rattle.std.specs.Prelude.{nat_lt, fold}
 use Rattle.std.proofs.lemmas.Bool.{le-ltb, lt-ltb, eqb-true, and_parts, or_parts, not-true}
 use Rattle.std.specs.Char.{to_ascii_uppercase}
@@ -12,8 +12,8 @@ use Rattle.msproto.specs.declared.state.State as code
 use Rattle.msproto.specs.declared.state.State.TheVariants as code_state
 use Rattle.msproto.specs.declared.verb.Slots as code_slots
 use Rattle.msproto.specs.declared.verb.Verb.{Verb}
-use Rattle.msproto.specs.Machine.{Slots, State, Word, Quoted, Body, Dead, word_of, begins, step, is_whole, is_dead, room}
-use Rattle.msproto.specs.Scanning.{Scanned, Open, Found, turned, found, literal_rest}
+use Rattle.msproto.specs.Machine.{Slots, State, Word, Quoted, Body, Dead, word_of, begins, step, room}
+use Rattle.msproto.specs.Scanning.{Scanned, Open, turned, found, literal_rest}
 use Rattle.msproto.specs.Shown.{shown, slots_shown, scan_shown, is_plain, is_inner, passing, spelling, letters_read, skimmed, behind}
 use Rattle.msproto.proofs.Names.{begins-append}
 use Rattle.msproto.proofs.Verbs.{word_more}

@@ -1,10 +1,10 @@
-use Rattle.std.proofs.Common.{◌≡◌, ℕ, ◌-◌, ◌≤◌, List, [], length, take, drop, sym, ap, ◌∙◌, subst, arith}
+use Rattle.std.proofs.Common.{◌≡◌, ℕ, List, take, sym, ap, ◌∙◌, subst, arith}
 use Rattle.std.specs.Prelude.{fold}
 use Rattle.std.proofs.lemmas.List.{take_rest, nil_from_length}
 use Rattle.msproto.specs.declared.items.Reach.{Reach}
 use Rattle.msproto.specs.declared.items.Reach.TheVariants.{Need}
 use Rattle.msproto.specs.Items.{Reaches}
-use Rattle.msproto.specs.Scanning.{Scanned, turned, found, scanned, reach_of}
+use Rattle.msproto.specs.Scanning.{Scanned, turned, found, reach_of}
 use Rattle.msproto.proofs.Scans.{reaches}
 use Rattle.msproto.proofs.Turning.{settled, skims_on}
 use Rattle.msproto.proofs.items.extent.Goals as goal

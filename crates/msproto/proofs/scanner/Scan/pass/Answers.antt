@@ -1,6 +1,5 @@
-use Rattle.std.proofs.Common.{◌≡◌, ℕ, ◌+◌, ◌-◌, ◌<◌, ◌≤◌, Bool, true, false, ◌==◌, cond, refl, sym, ap, ◌∙◌, arith}
+use Rattle.std.proofs.Common.{ap, ◌∙◌}
 use Rattle.msproto.proofs.Turning.{pass_takes, pass_end, pass_within}
-use Rattle.msproto.specs.Machine as m
 use Rattle.msproto.specs.Shown as s
 use Rattle.msproto.proofs.scanner.Scan.pass.Goals as goal
 use Rattle.msproto.proofs.scanner.Scan.pass.Goals.{then-count-left, else-count-left}

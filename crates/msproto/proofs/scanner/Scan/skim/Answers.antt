@@ -1,4 +1,4 @@
-use Rattle.std.proofs.Common.{◌≡◌, arith}
+use Rattle.std.proofs.Common.{arith}
 use Rattle.msproto.proofs.Skims.{skim_takes, pass_still}
 use Rattle.msproto.proofs.scanner.Scan.skim.Goals as goal
 

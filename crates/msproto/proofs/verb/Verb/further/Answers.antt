@@ -1,4 +1,4 @@
-use Rattle.std.proofs.Common.{◌≡◌, ℕ, List, [], ◌∷◌, ◌++◌, false, sym, ap, ◌∙◌, subst}
+use Rattle.std.proofs.Common.{◌≡◌, ℕ, [], ◌∷◌, ◌++◌, false, sym, subst}
 use Rattle.msproto.specs.Machine.{rows, begins_row}
 use Rattle.msproto.proofs.Names.{no_space, no_return}
 use Rattle.msproto.proofs.Verbs.{rows_are}
