@@ -1,8 +1,7 @@
 -- Messages of PLAIN at work: what the definition takes, and one beside it that it doesn't.
-use Rattle.std.proofs.Common.{◌≡◌, ℕ, inl, inr, List, [], ◌∷◌, ◌++◌, Option, Some, refl, arith}
+use Rattle.std.proofs.Common.{◌≡◌, ℕ, inl, inr, List, [], ◌∷◌, ◌++◌, refl, arith}
 use Rattle.sha2.specs.Sha256.{sha256}
 use Rattle.saslplain.specs.Login.{NoNul, IsMessage}
-use Rattle.saslplain.specs.Parts.{login_in}
 use Rattle.saslplain.specs.Password.{digest_of}
 use Rattle.saslplain.proofs.Messages.{login_said}
 use Rattle.saslplain.proofs.Rounds.{digest_of-zero, digest_of-more}
