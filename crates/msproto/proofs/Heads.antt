@@ -1,14 +1,14 @@
 -- A literal's head, read by the machine and in the words of spellings.
-use Rattle.std.proofs.Common.{◌≡◌, ℕ, zero, suc, ◌+◌, ◌-◌, ◌<◌, ◌≤◌, ◌^◌, ◌⊎◌, inl, inr, Bool, true, false, ◌||◌, ◌&&◌, ◌==◌, cond, ltb, leb, List, [], ◌∷◌, ◌++◌, length, Option, Some, None, refl, sym, ap, ◌∙◌, subst, arith, lit<, append_assoc}
+use Rattle.std.proofs.Common.{◌≡◌, ℕ, ◌-◌, ◌<◌, ◌^◌, Bool, true, false, ◌||◌, ◌&&◌, ◌==◌, cond, List, [], ◌∷◌, ◌++◌, Option, Some, None, refl, sym, ap, ◌∙◌, subst, arith, lit<, append_assoc}
 use Rattle.std.specs.Prelude.{nat_lt, fold}
 use Rattle.std.specs.Char.{to_ascii_uppercase, is_ascii_digit}
-use Rattle.std.proofs.lemmas.Bool.{cases_Bool, eqb-true, eqb-false, ltb-true, lt-ltb, ne_eqb, and_parts, and_from, false≢true, false_from_ne_true}
+use Rattle.std.proofs.lemmas.Bool.{eqb-true, eqb-false, ltb-true, lt-ltb, ne_eqb, false≢true, false_from_ne_true}
 use Rattle.std.proofs.lemmas.Grind.{fold-append}
 use Rattle.std.proofs.lemmas.List.{append-nil, same_from_push}
 use Rattle.octets.specs.Decimal.{with_digit}
 use Rattle.msproto.specs.Arguments.{is_quotable, AreDigits, IsNumeral}
-use Rattle.msproto.specs.Machine.{Slots, LineEnd, MaybeText, ThenText, ThenNumber, rows, begins_row, slots_in, State, Word, Between, Opening, Quoted, Escaped, Brace, Count, Plus, Closed, Return, Body, Number, Digits, LineFeed, Whole, Dead, after_space, after_return, leave, leave_named, longer, literal_left, step, run, start, in_literal, is_large, weight}
-use Rattle.msproto.specs.Items.{IsInLiteral, EndsInLargeHead}
+use Rattle.msproto.specs.Machine.{Slots, LineEnd, MaybeText, ThenText, ThenNumber, rows, begins_row, slots_in, State, Word, Between, Opening, Quoted, Escaped, Brace, Count, Plus, Closed, Return, Body, Number, Digits, LineFeed, Whole, Dead, after_space, after_return, leave, leave_named, longer, literal_left, step, run, start, in_literal, is_large}
+use Rattle.msproto.specs.Items.{EndsInLargeHead}
 use Rattle.msproto.proofs.Left.{IsProper}
 use Rattle.msproto.proofs.Into.{proper_run, proper_start}
 use Rattle.msproto.proofs.Runs.{run-append, run_dead, digit_range, count_digits}

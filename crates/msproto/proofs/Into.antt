@@ -1,11 +1,11 @@
 -- What follows a state behind an octet follows the state before it, behind that octet.
-use Rattle.std.proofs.Common.{◌≡◌, ℕ, zero, suc, ◌+◌, ◌-◌, ◌<◌, ◌≤◌, ◌^◌, ◌⊎◌, inl, inr, Bool, true, false, ◌||◌, ◌&&◌, ◌==◌, cond, ltb, leb, List, [], ◌∷◌, ◌++◌, length, Option, Some, None, refl, sym, ap, ◌∙◌, subst, arith, append_assoc}
+use Rattle.std.proofs.Common.{◌≡◌, ℕ, suc, ◌-◌, ◌<◌, ◌^◌, inl, inr, Bool, true, false, ◌||◌, ◌&&◌, ◌==◌, cond, leb, List, [], ◌∷◌, ◌++◌, Option, Some, None, refl, sym, ap, ◌∙◌, arith, append_assoc}
 use Rattle.std.specs.Prelude.{map, fold, nat_lt}
 use Rattle.std.specs.Char.{to_ascii_uppercase, is_ascii_digit}
 use Rattle.std.proofs.lemmas.Bool.{eqb-true, eqb-false, ltb-true, leb-true, or_cases, or_from, and_parts}
 use Rattle.std.proofs.lemmas.List.{append-nil}
 use Rattle.octets.specs.Decimal.{with_digit}
-use Rattle.msproto.specs.Arguments.{escaped, inside, is_quotable, AreQuotable, AreDigits, IsNumeral, IsString, IsQuoted, IsLiteral}
+use Rattle.msproto.specs.Arguments.{inside, is_quotable}
 use Rattle.msproto.specs.Machine.{Slots, LineEnd, MaybeText, ThenText, ThenNumber, rows, begins_row, slots_in, State, Word, Between, Opening, Quoted, Escaped, Brace, Count, Plus, Closed, Return, Body, Number, Digits, LineFeed, Whole, Dead, after_space, after_return, leave, leave_named, longer, literal_left, step, run, start}
 use Rattle.msproto.proofs.Left.{IsAfter, InName, AtString, InQuotes, InEscape, AtCount, InCount, InLiteral, AtNumber, InNumber, IsLeft, IsProper}
 

@@ -1,17 +1,16 @@
 -- The machine accepts the spellings, and lives on their fronts.
-use Rattle.std.proofs.Common.{◌≡◌, ℕ, suc, Bool, true, false, List, [], ◌∷◌, ◌++◌, length, Option, Some, None, refl, sym, ap, ◌∙◌, subst, arith, append_assoc}
+use Rattle.std.proofs.Common.{◌≡◌, ℕ, Bool, true, false, List, [], ◌∷◌, ◌++◌, Some, refl, sym, ap, ◌∙◌, subst}
 use Rattle.std.specs.Prelude.{map, replicate}
 use Rattle.std.specs.Char.{to_ascii_uppercase}
-use Rattle.std.proofs.lemmas.List.{append-nil, length-replicate}
-use Rattle.msproto.specs.Arguments.{IsLine, IsAnswer}
-use Rattle.msproto.specs.Machine.{Slots, LineEnd, MaybeText, ThenText, ThenNumber, rows, slots_in, State, Word, Between, Opening, Quoted, Escaped, Brace, Count, Plus, Closed, Return, Body, Number, Digits, LineFeed, Whole, Dead, literal_left, step, run, start}
+use Rattle.std.proofs.lemmas.List.{length-replicate}
+use Rattle.msproto.specs.Machine.{Slots, LineEnd, MaybeText, ThenText, ThenNumber, rows, slots_in, State, Word, Between, Opening, Quoted, Escaped, Brace, Count, Plus, Closed, Return, Body, Number, Digits, LineFeed, Whole, Dead, literal_left, run, start}
 use Rattle.msproto.specs.declared.commands.Command.{Command}
 use Rattle.msproto.specs.declared.commands.Command.TheVariants.{Response}
 use Rattle.msproto.specs.Commands.{Form, Named, Alone, form_of, IsFormed, IsSpelling, IsCommand, IsViable}
-use Rattle.msproto.proofs.Left.{IsAfter, InName, AtString, IsProper}
+use Rattle.msproto.proofs.Left.{IsAfter, InName, IsProper}
 use Rattle.msproto.proofs.Into.{whole_left, proper_start, proper_run}
 use Rattle.msproto.proofs.Runs.{run-append, run_dead, body-run, string-run, after-run}
-use Rattle.msproto.proofs.Names.{word-run, name_goes_on, Fill, fill_after, after_fill, IsFilled, filled, named_command}
+use Rattle.msproto.proofs.Names.{word-run, name_goes_on, fill_after, after_fill, IsFilled, filled, named_command}
 
 -- ---- from each state that lives a line can be ended
 

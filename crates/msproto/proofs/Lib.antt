@@ -9,6 +9,7 @@ pub mod Scans
 pub mod Verbs
 pub mod Rooms
 pub mod Turning
+pub mod Skims
 pub mod Parsing
 pub mod Unique
 pub mod Quoting

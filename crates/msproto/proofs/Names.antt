@@ -1,13 +1,12 @@
 -- The names of the commands, and what stands behind them.
-use Rattle.std.proofs.Common.{◌≡◌, ℕ, ◌⊎◌, inl, inr, Bool, true, false, not, ◌||◌, ◌&&◌, ◌==◌, cond, List, [], ◌∷◌, ◌++◌, Option, Some, None, refl, sym, ap, ◌∙◌, subst, arith, append_assoc}
+use Rattle.std.proofs.Common.{◌≡◌, ℕ, ◌⊎◌, inl, inr, Bool, true, false, not, ◌&&◌, ◌==◌, cond, List, [], ◌∷◌, ◌++◌, Option, Some, None, refl, sym, ap, ◌∙◌, subst, append_assoc}
 use Rattle.std.specs.Prelude.{map, codes}
 use Rattle.std.specs.Char.{to_ascii_uppercase}
-use Rattle.std.proofs.lemmas.Bool.{cases_Bool, eqb-true, eq-eqb, or_cases, or_from, or_left, or_right, and_parts, and_from, and_left, and_right, not-true, not-false}
+use Rattle.std.proofs.lemmas.Bool.{eqb-true, eq-eqb, or_cases, or_from, or_left, or_right, and_parts, and_from, and_left, and_right, not-true}
 use Rattle.std.proofs.lemmas.List.{append-nil}
-use Rattle.msproto.specs.Arguments.{Argument, Text, Figure, IsString, IsArgument, AreArguments}
-use Rattle.msproto.specs.Machine.{Slots, LineEnd, MaybeText, ThenText, ThenNumber, rows, begins, begins_row, same_word, slots_in, State, Word, Between, leave, leave_named, step, run}
+use Rattle.msproto.specs.Arguments.{Argument, Text, Figure, AreArguments}
+use Rattle.msproto.specs.Machine.{Slots, LineEnd, MaybeText, ThenText, ThenNumber, rows, begins, begins_row, same_word, slots_in, State, Word, Between, leave, step, run}
 use Rattle.msproto.proofs.Left.{IsAfter}
-use Rattle.msproto.proofs.Runs.{run-append}
 use Rattle.msproto.specs.declared.commands.Command.{Command}
 use Rattle.msproto.specs.declared.commands.Command.TheVariants.{Capability, Noop, Logout, Authenticate, Unauthenticate, HaveSpace, PutScript, CheckScript, ListScripts, SetActive, GetScript, DeleteScript, RenameScript, Response}
 use Rattle.msproto.specs.Commands.{Form, Named, Alone, form_of}
@@ -20,7 +19,7 @@ Rows = List (List ℕ × Slots)
 eq_self : (x : ℕ) → (x == x) ≡ true
 eq_self x = eq-eqb x x refl
 
-begins-append : (p q : List ℕ) → begins p (p ++ q) ≡ true
+pub begins-append : (p q : List ℕ) → begins p (p ++ q) ≡ true
 begins-append [] q = refl
 begins-append (x ∷ p) q = and_from (x == x) (begins p (p ++ q)) (eq_self x) (begins-append p q)
 
@@ -135,7 +134,7 @@ begins_row_other x w (row ∷ rs) e =
     let parts = and_parts (lacks x row.0) (rows_lack x rs) e in
     or_from (begins (w ++ x ∷ []) row.0) (begins_row rs (w ++ x ∷ [])) (begins_other x w row.0 parts.0) (begins_row_other x w rs parts.1)
 
-no_space : (w : List ℕ) → begins_row rows (w ++ 32 ∷ []) ≡ false
+pub no_space : (w : List ℕ) → begins_row rows (w ++ 32 ∷ []) ≡ false
 unfolding rows
 no_space w = begins_row_other 32 w rows refl
 
@@ -147,7 +146,7 @@ pub no_brace : (w : List ℕ) → begins_row rows (w ++ 123 ∷ []) ≡ false
 unfolding rows
 no_brace w = begins_row_other 123 w rows refl
 
-no_return : (w : List ℕ) → begins_row rows (w ++ 13 ∷ []) ≡ false
+pub no_return : (w : List ℕ) → begins_row rows (w ++ 13 ∷ []) ≡ false
 unfolding rows
 no_return w = begins_row_other 13 w rows refl
 

@@ -1,11 +1,7 @@
 -- Which octets stand inside literals, and how many do not.
-use Rattle.std.proofs.Common.{◌≡◌, ℕ, zero, suc, ◌+◌, ◌-◌, ◌<◌, ◌≤◌, ◌⊎◌, inl, inr, Bool, true, false, ◌||◌, ◌&&◌, ◌==◌, cond, ltb, List, [], ◌∷◌, ◌++◌, length, Option, Some, None, refl, sym, ap, ◌∙◌, subst, arith, append_assoc, zero-add}
-use Rattle.std.specs.Prelude.{nat_lt}
-use Rattle.std.specs.Char.{to_ascii_uppercase, is_ascii_digit}
+use Rattle.std.proofs.Common.{◌≡◌, ℕ, ◌+◌, ◌-◌, inl, inr, Bool, true, false, ◌==◌, cond, List, [], ◌∷◌, ◌++◌, Option, Some, None, refl, sym, ap, ◌∙◌, subst, arith, zero-add}
 use Rattle.std.proofs.lemmas.Bool.{cases_Bool, false≢true, false_from_ne_true}
-use Rattle.std.proofs.lemmas.List.{append-nil}
-use Rattle.msproto.specs.Machine.{Slots, rows, begins_row, slots_in, State, Word, Between, Opening, Quoted, Escaped, Brace, Count, Plus, Closed, Return, Body, Number, Digits, LineFeed, Whole, Dead, leave, leave_named, literal_left, step, run, start, in_literal, weight}
-use Rattle.msproto.specs.Commands.{IsViable}
+use Rattle.msproto.specs.Machine.{Slots, rows, slots_in, State, Word, Between, Opening, Quoted, Escaped, Brace, Count, Plus, Closed, Return, Body, Number, Digits, LineFeed, Whole, Dead, leave_named, literal_left, step, run, start, in_literal, weight}
 use Rattle.msproto.specs.Items.{IsInLiteral, Counts}
 use Rattle.msproto.proofs.Runs.{run-append}
 use Rattle.msproto.proofs.Names.{no_nul}
@@ -64,7 +60,7 @@ free_literal pending text free =
 -- ---- counts
 
 -- what stands outside literals, behind a state
-pub outside_from : State → List ℕ → ℕ
+unfoldable pub outside_from : State → List ℕ → ℕ
 outside_from s [] = 0
 outside_from s (x ∷ t) = weight s + outside_from (step s x) t
 

@@ -1,17 +1,17 @@
 -- What a text spells is read from it.
-use Rattle.std.proofs.Common.{◌≡◌, ℕ, zero, suc, ◌+◌, ◌-◌, ◌<◌, ◌≤◌, ◌^◌, ◌⊎◌, inl, inr, Bool, true, false, not, ◌||◌, ◌&&◌, ◌==◌, cond, List, [], ◌∷◌, ◌++◌, length, take, drop, Option, Some, None, refl, sym, ap, ◌∙◌, subst, arith, append_assoc}
+use Rattle.std.proofs.Common.{◌≡◌, ℕ, suc, ◌<◌, ◌^◌, inl, inr, Bool, true, false, not, ◌||◌, ◌==◌, List, [], ◌∷◌, ◌++◌, length, take, drop, Some, None, refl, sym, ap, ◌∙◌, subst, arith, append_assoc}
 use Rattle.std.specs.Prelude.{map, fold, nat_lt, nat_le}
 use Rattle.std.specs.Char.{to_ascii_uppercase, is_ascii_digit}
-use Rattle.std.proofs.lemmas.Bool.{cases_Bool, eqb-true, eqb-false, ne_eqb, eq-eqb, lt-ltb, le-leb, and_parts, and_from, or_parts, or_from, not-true, not_from_false, false_from_ne_true, both_ways}
+use Rattle.std.proofs.lemmas.Bool.{ne_eqb, eq-eqb, lt-ltb, le-leb, and_parts, or_parts, or_from, not-true, both_ways}
 use Rattle.std.proofs.lemmas.List.{take_at, drop_at, length-append}
 use Rattle.octets.specs.Decimal.{with_digit}
 use Rattle.msproto.specs.declared.commands.Command.{Command}
 use Rattle.msproto.specs.declared.commands.Command.TheVariants.{Capability, Noop, Logout, Authenticate, Unauthenticate, HaveSpace, PutScript, CheckScript, ListScripts, SetActive, GetScript, DeleteScript, RenameScript, Response}
-use Rattle.msproto.specs.Arguments.{Argument, inside, AreDigits, IsNumeral, IsString, IsQuoted, IsLiteral, AreArguments}
+use Rattle.msproto.specs.Arguments.{Argument, inside, AreDigits, IsNumeral, IsString, AreArguments}
 use Rattle.msproto.specs.Commands.{Form, Named, Alone, form_of, IsFormed, IsSpelling}
-use Rattle.msproto.specs.Machine.{Slots, rows, slots_in, verbs, verb_in, same_word}
-use Rattle.msproto.specs.Values.{Read, with_octet, quoted_in, number_in, octets_in, literal_in, string_in, size_in, text_in, name_length, verb_command, command_in}
-use Rattle.msproto.proofs.Runs.{fold_grows, digit_range}
+use Rattle.msproto.specs.Machine.{Slots, rows, slots_in, verbs, verb_in}
+use Rattle.msproto.specs.Values.{with_octet, quoted_in, number_in, octets_in, literal_in, string_in, size_in, text_in, name_length, verb_command, command_in}
+use Rattle.msproto.proofs.Runs.{fold_grows}
 use Rattle.msproto.proofs.Names.{Rows, lacks, rows_lack, slots_step, filled, IsFilled}
 
 -- ---- strings

@@ -1,5 +1,5 @@
 -- A quoted string, as the code reads it.
-use Rattle.std.proofs.Common.{◌≡◌, ℕ, List, [], ◌∷◌, ◌++◌, Option, Some, None, refl, ap, append_assoc}
+use Rattle.std.proofs.Common.{◌≡◌, ℕ, List, [], ◌∷◌, ◌++◌, Some, None, refl, ap, append_assoc}
 use Rattle.msproto.specs.Values.{Read, with_octet}
 
 -- what was read so far, and what is still read

@@ -1,11 +1,11 @@
 -- How many octets of literals may still come.
-use Rattle.std.proofs.Common.{◌≡◌, ℕ, zero, suc, ◌+◌, ◌-◌, ◌<◌, ◌≤◌, ◌^◌, Bool, true, false, ◌||◌, ◌&&◌, ◌==◌, cond, leb, List, [], ◌∷◌, ◌++◌, length, Option, Some, None, refl, sym, ap, ◌∙◌, subst, arith, inl, inr}
+use Rattle.std.proofs.Common.{◌≡◌, ℕ, ◌+◌, ◌-◌, ◌≤◌, ◌^◌, Bool, true, false, ◌||◌, ◌&&◌, ◌==◌, cond, List, [], ◌∷◌, ◌++◌, Option, Some, None, refl, subst, arith, inl, inr}
 use Rattle.std.specs.Prelude.{nat_lt, nat_le}
 use Rattle.std.specs.Char.{to_ascii_uppercase, is_ascii_digit}
-use Rattle.std.proofs.lemmas.Bool.{cases_Bool, eqb-true, eqb-false, leb-true, ltb-false, and_parts, and_cases, both_ways, false≢true}
+use Rattle.std.proofs.lemmas.Bool.{eqb-false, leb-true, ltb-false, and_parts, and_cases, both_ways}
 use Rattle.octets.specs.Decimal.{with_digit}
 use Rattle.msproto.specs.Arguments.{is_quotable}
-use Rattle.msproto.specs.Machine.{Slots, LineEnd, MaybeText, ThenText, ThenNumber, rows, begins_row, slots_in, same_word, State, Word, Between, Opening, Quoted, Escaped, Brace, Count, Plus, Closed, Return, Body, Number, Digits, LineFeed, Whole, Dead, after_space, after_return, leave, leave_named, longer, literal_left, step, in_literal, is_large, weight, slots_room, room}
+use Rattle.msproto.specs.Machine.{Slots, LineEnd, MaybeText, ThenText, ThenNumber, rows, begins_row, slots_in, State, Word, Between, Opening, Quoted, Escaped, Brace, Count, Plus, Closed, Return, Body, Number, Digits, LineFeed, Whole, Dead, after_space, after_return, leave, leave_named, longer, literal_left, step, is_large, weight, slots_room, room}
 use Rattle.msproto.proofs.Names.{slots_step}
 
 either : (n : ℕ) (b : Bool) (s u : State) → (b ≡ true → room s ≤ n) → (b ≡ false → room u ≤ n) → room (cond b s u) ≤ n

@@ -1,12 +1,11 @@
 -- What is spelled right comes to the end of a line.
-use Rattle.std.proofs.Common.{◌≡◌, ℕ, zero, suc, ◌+◌, ◌*◌, ◌-◌, ◌<◌, ◌≤◌, ◌^◌, ◌⊎◌, inl, inr, Bool, true, false, ◌||◌, ◌&&◌, ◌==◌, cond, ltb, leb, List, [], ◌∷◌, ◌++◌, length, Option, Some, None, refl, sym, ap, ◌∙◌, subst, arith, append_assoc}
-use Rattle.std.specs.Prelude.{map, fold, nat_lt}
-use Rattle.std.specs.Char.{to_ascii_uppercase, is_ascii_digit}
-use Rattle.std.proofs.lemmas.Bool.{cases_Bool, eqb-true, eqb-false, ne_eqb, ltb-true, leb-true, lt-ltb, or_cases, or_from, and_parts, or_parts, false_from_ne_true, false≢true}
-use Rattle.std.proofs.lemmas.List.{append-nil}
+use Rattle.std.proofs.Common.{◌≡◌, ℕ, suc, ◌-◌, ◌<◌, ◌≤◌, ◌^◌, inl, inr, true, false, ◌||◌, ◌==◌, leb, List, [], ◌∷◌, ◌++◌, length, refl, ap, ◌∙◌, arith, append_assoc}
+use Rattle.std.specs.Prelude.{fold, nat_lt}
+use Rattle.std.specs.Char.{is_ascii_digit}
+use Rattle.std.proofs.lemmas.Bool.{cases_Bool, ne_eqb, leb-true, lt-ltb, and_parts, or_parts}
 use Rattle.octets.specs.Decimal.{with_digit}
-use Rattle.msproto.specs.Arguments.{escaped, inside, is_quotable, AreQuotable, AreDigits, IsNumeral, IsString, IsQuoted, IsLiteral}
-use Rattle.msproto.specs.Machine.{Slots, LineEnd, MaybeText, ThenText, ThenNumber, rows, begins_row, slots_in, State, Word, Between, Opening, Quoted, Escaped, Brace, Count, Plus, Closed, Return, Body, Number, Digits, LineFeed, Whole, Dead, after_space, after_return, leave, leave_named, longer, literal_left, step, run, start}
+use Rattle.msproto.specs.Arguments.{inside, AreQuotable, AreDigits, IsNumeral, IsString}
+use Rattle.msproto.specs.Machine.{Slots, LineEnd, MaybeText, ThenText, ThenNumber, State, Between, Opening, Quoted, Brace, Count, Body, Number, Digits, Whole, Dead, longer, literal_left, step, run}
 use Rattle.msproto.proofs.Left.{IsAfter}
 
 pub run-append : (s : State) (a b : List ℕ) → run s (a ++ b) ≡ run (run s a) b

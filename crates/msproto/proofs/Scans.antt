@@ -1,14 +1,13 @@
 -- What is known behind a text is right for it.
-use Rattle.std.proofs.Common.{◌≡◌, ◌≢◌, ℕ, zero, suc, ◌+◌, ◌-◌, ◌<◌, ◌≤◌, ◌⊎◌, inl, inr, Bool, true, false, ◌||◌, ◌&&◌, ◌==◌, cond, List, [], ◌∷◌, ◌++◌, length, take, refl, sym, ap, ◌∙◌, subst, arith, append_assoc}
+use Rattle.std.proofs.Common.{◌≡◌, ◌≢◌, ℕ, ◌+◌, ◌≤◌, inl, inr, Bool, true, false, ◌||◌, ◌&&◌, ◌==◌, cond, List, [], ◌∷◌, ◌++◌, length, take, refl, sym, ap, ◌∙◌, subst, arith, append_assoc}
 use Rattle.std.specs.Prelude.{nat_lt, fold}
-use Rattle.std.proofs.lemmas.Bool.{cases_Bool, cases_lt, eqb-true, eq-eqb, eqb-false, ltb-true, ltb-false, lt-ltb, or_cases, or_parts, or_from, or_left, or_right, and_parts, and_from, false≢true, both_ways}
-use Rattle.std.proofs.lemmas.Grind.{fold-append}
+use Rattle.std.proofs.lemmas.Bool.{cases_Bool, cases_lt, eqb-true, eq-eqb, ltb-true, ltb-false, lt-ltb, or_cases, or_parts, and_parts, and_from, false≢true, both_ways}
 use Rattle.std.proofs.lemmas.List.{append-nil, length_push, length-append, take_all, take-append-le}
 use Rattle.msproto.specs.declared.items.Reach.{Reach}
 use Rattle.msproto.specs.declared.items.Reach.TheVariants.{Need, Command, Bad, TooBig}
-use Rattle.msproto.specs.Machine.{State, Whole, Dead, step, run, start, in_literal, is_large, is_whole, is_dead, weight}
+use Rattle.msproto.specs.Machine.{State, Whole, Dead, step, run, start, is_large, is_whole, is_dead, weight}
 use Rattle.msproto.specs.Commands.{IsCommand, IsViable}
-use Rattle.msproto.specs.Items.{EndsAtFeed, IsBadLine, Counts, IsLong, EndsInLargeHead, IsTooBig, IsItem, NoItem, Reaches}
+use Rattle.msproto.specs.Items.{EndsAtFeed, IsBadLine, Counts, IsTooBig, IsItem, NoItem, Reaches}
 use Rattle.msproto.specs.Scanning.{Scanned, Open, Found, turned, fresh, scanned, found, reach_of}
 use Rattle.msproto.proofs.Runs.{run-append, run_dead}
 use Rattle.msproto.proofs.Law.{spelling_whole, whole_spelling, viable_live, live_viable}

@@ -1,9 +1,9 @@
 -- A scan, as the code turns it.
-use Rattle.std.proofs.Common.{◌≡◌, ℕ, zero, suc, ◌+◌, ◌-◌, ◌<◌, ◌≤◌, Bool, true, false, ◌||◌, ◌&&◌, ◌==◌, cond, List, [], ◌∷◌, ◌++◌, length, take, drop, refl, sym, ap, ◌∙◌, subst, arith}
+use Rattle.std.proofs.Common.{◌≡◌, ℕ, zero, suc, ◌+◌, ◌-◌, ◌<◌, ◌≤◌, Bool, true, false, ◌||◌, ◌&&◌, ◌==◌, cond, List, [], ◌∷◌, length, take, drop, refl, sym, ap, ◌∙◌, subst, arith}
 use Rattle.std.specs.Prelude.{nat_lt, fold}
 use Rattle.std.proofs.lemmas.Bool.{ltb-false, le-ltb, or_parts}
 use Rattle.std.proofs.lemmas.Grind.{fold-append}
-use Rattle.std.proofs.lemmas.List.{take-append-drop, length-take-le, nil_from_length}
+use Rattle.std.proofs.lemmas.List.{take-append-drop, nil_from_length}
 use Rattle.msproto.specs.declared.items.Reach.{Reach}
 use Rattle.msproto.specs.declared.items.Reach.TheVariants.{Need, Command, Bad, TooBig}
 use Rattle.msproto.specs.declared.state.State as code
@@ -51,7 +51,7 @@ shown_found st o u (Command k) some = refl
 shown_found st o u (Bad k) some = refl
 shown_found st o u TooBig some = refl
 
-is_open : (st : code.State) (o u : ℕ) (r : Reach) (sc : Scanned) → scan_shown st o u r ≡ sc → found sc ≡ Need → (r ≡ Need) × (sc ≡ Open (shown st) o u)
+pub is_open : (st : code.State) (o u : ℕ) (r : Reach) (sc : Scanned) → scan_shown st o u r ≡ sc → found sc ≡ Need → (r ≡ Need) × (sc ≡ Open (shown st) o u)
 is_open st o u r sc e need =
     let at : r ≡ Need = open_need st o u r (ap found e ∙ need) in
     (at, sym e ∙ ap (scan_shown st o u) at)
@@ -88,7 +88,7 @@ body_turned left n k x slots low =
     let same : n + 0 ≡ n = omega arith in
     rw (small, on.0, on.1, same) refl
 
-passed : (piece : List ℕ) (left n k : ℕ) (slots : Slots) → length piece ≤ left → n ≤ 8192 → fold turned (Open (literal_left left slots) n k) piece ≡ Open (literal_left (left - length piece) slots) n (k + length piece)
+pub passed : (piece : List ℕ) (left n k : ℕ) (slots : Slots) → length piece ≤ left → n ≤ 8192 → fold turned (Open (literal_left left slots) n k) piece ≡ Open (literal_left (left - length piece) slots) n (k + length piece)
 passed [] left n k slots le low =
     let a : left - 0 ≡ left = omega arith in
     let b : k + 0 ≡ k = omega arith in
@@ -115,7 +115,7 @@ settled_pass : (next : code.State) (o u : ℕ) (r : Reach) (sc : Scanned) (piece
 settled_pass next o u r sc piece e some none =
     shown_found next o u r some ∙ sym e ∙ ap (fold turned sc) (sym (nil_from_length piece none))
 
-body_is : (left : ℕ) (slots : Slots) → Body left slots ≡ literal_left (left + 1) slots
+pub body_is : (left : ℕ) (slots : Slots) → Body left slots ≡ literal_left (left + 1) slots
 body_is left slots = sym (left-suc left slots) ∙ ap (λ (m : ℕ). literal_left m slots) (omega arith)
 
 pub pass_takes : (st next : code.State) (left o u count : ℕ) (slots : code_slots.Slots) (r : Reach) (sc : Scanned) (piece : List ℕ) → st ≡ code_state.Body left slots → scan_shown st o u r ≡ sc → count ≤ literal_rest sc → o ≤ 8192 → length piece ≡ count → shown next ≡ literal_left (left + 1 - count) (slots_shown slots) → scan_shown next o (u + count) r ≡ fold turned sc piece
@@ -143,8 +143,8 @@ pub settled : (sc : Scanned) (t : List ℕ) → (found sc ≡ Need → ⊥) → 
 settled (Open s n k) t some = absurd (some refl)
 settled (Found r) t some = ap found (sym (found_stays r t))
 
-pub passes_on : (sc next : Scanned) (t : List ℕ) (count : ℕ) → count ≤ length t → ((piece : List ℕ) → length piece ≡ count → next ≡ fold turned sc piece) → fold turned next (drop count t) ≡ fold turned sc t
-passes_on sc next t count le by =
-    ap (λ (s : Scanned). fold turned s (drop count t)) (by (take count t) (length-take-le count t le))
+pub skims_on : (sc next : Scanned) (t : List ℕ) (count : ℕ) → next ≡ fold turned sc (take count t) → fold turned next (drop count t) ≡ fold turned sc t
+skims_on sc next t count by =
+    ap (λ (s : Scanned). fold turned s (drop count t)) by
     ∙ sym (fold-append turned sc (take count t) (drop count t))
     ∙ ap (fold turned sc) (take-append-drop count t)

@@ -1,5 +1,5 @@
 -- The verbs, as the code looks for them.
-use Rattle.std.proofs.Common.{◌≡◌, ℕ, zero, suc, ◌+◌, ◌<◌, ◌≤◌, ◌⊎◌, inl, inr, Bool, true, false, ◌||◌, ◌&&◌, ◌==◌, cond, List, [], ◌∷◌, ◌++◌, length, take, drop, get_or, Option, Some, None, refl, sym, ap, ◌∙◌, subst, arith}
+use Rattle.std.proofs.Common.{◌≡◌, ℕ, zero, suc, ◌+◌, ◌<◌, ◌≤◌, inl, inr, Bool, true, false, ◌||◌, ◌&&◌, ◌==◌, cond, List, [], ◌∷◌, ◌++◌, length, take, Option, Some, None, refl, sym, ap, ◌∙◌, subst, arith}
 use Rattle.std.specs.Prelude.{map, min, is_none}
 use Rattle.std.specs.Char.{to_ascii_uppercase}
 use Rattle.std.specs.Option.{option_map}
@@ -7,8 +7,8 @@ use Rattle.std.proofs.lemmas.Bool.{ne_eqb, or_left, or_right, and_parts, cases_o
 use Rattle.std.proofs.lemmas.List.{take_all, take_at, take_min, length_push, length-take}
 use Rattle.msproto.specs.declared.verb.Verb.{Verb}
 use Rattle.msproto.specs.declared.verb.Verb.TheVariants as verb
-use Rattle.msproto.specs.Machine.{Slots, word_of, slots_of, verbs, rows_of, rows, begins, begins_row, same_word, verb_in, slots_in, State, Word, Dead, leave, leave_named, step}
-use Rattle.msproto.proofs.Names.{begins_split, same_is}
+use Rattle.msproto.specs.Machine.{word_of, slots_of, verbs, rows_of, rows, begins, begins_row, same_word, verb_in, slots_in, Word, Dead, leave, step}
+use Rattle.msproto.proofs.Names.{begins_split}
 
 pub same_word_end : (wanted unread : List ℕ) → length unread ≡ 0 → (length wanted == 0) ≡ same_word wanted (map to_ascii_uppercase unread)
 same_word_end [] [] e = refl

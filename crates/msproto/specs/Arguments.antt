@@ -1,5 +1,5 @@
 -- Strings, numbers and command lines as they are spelled (RFC 5804, sections 1.2 and 4).
-use Rattle.std.specs.Prelude.{◌≡◌, ℕ, ◌<◌, ◌≤◌, ◌^◌, ◌⊎◌, Bool, true, false, not, cond, ◌==◌, ◌||◌, List, [], ◌∷◌, ◌++◌, length, map, fold}
+use Rattle.std.specs.Prelude.{◌≡◌, ℕ, ◌<◌, ◌≤◌, ◌^◌, ◌⊎◌, Bool, true, not, cond, ◌==◌, ◌||◌, List, [], ◌∷◌, ◌++◌, length, map, fold}
 use Rattle.std.specs.Char.{to_ascii_uppercase, is_ascii_digit}
 use Rattle.octets.specs.Decimal.{with_digit}
 

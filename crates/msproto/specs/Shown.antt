@@ -1,12 +1,13 @@
 -- What the states of the code stand for.
-use Rattle.std.specs.Prelude.{List, None, Option, Some, [], cond, false, nat_lt, take, true, ℕ, ◌&&◌, ◌++◌, ◌==◌, ◌^◌, ◌||◌, ◌∷◌, ◌≡◌}
-use Rattle.std.specs.Char.{is_ascii_digit}
+use Rattle.std.specs.Prelude.{Bool, List, None, Option, Some, [], cond, drop, false, length, min, nat_lt, not, suc, take, true, zero, ℕ, ◌&&◌, ◌++◌, ◌+◌, ◌-◌, ◌==◌, ◌^◌, ◌||◌, ◌∷◌, ◌≡◌}
+use Rattle.std.specs.Char.{to_ascii_uppercase, is_ascii_digit}
 use Rattle.octets.specs.Decimal.{with_digit}
 use Rattle.msproto.specs.declared.verb.Verb.{Verb}
 use Rattle.msproto.specs.declared.verb.Slots.{Slots}
 use Rattle.msproto.specs.declared.verb.Slots.TheVariants as slots
 use Rattle.msproto.specs.declared.state.State.{State}
 use Rattle.msproto.specs.declared.state.State.TheVariants as state
+use Rattle.msproto.specs.Arguments.{is_quotable}
 use Rattle.msproto.specs.Machine as machine
 use Rattle.msproto.specs.declared.items.Reach.{Reach}
 use Rattle.msproto.specs.declared.items.Reach.TheVariants as reach
@@ -57,6 +58,44 @@ next_digit number octet =
     cond (is_ascii_digit octet)
     (cond (number == 0) None (cond (nat_lt (with_digit number octet) (2 ^ 32)) (Some (with_digit number octet)) None))
     None
+
+-- ---- octets that leave a line where it stands
+
+-- an octet that stands between quotation marks as it is
+abbrev pub is_plain : ℕ → Bool
+is_plain octet = is_quotable octet && not (octet == 34 || octet == 92)
+
+-- an octet that ends no line
+abbrev pub is_inner : ℕ → Bool
+is_inner octet = not (octet == 10)
+
+-- how many octets in front pass a test
+abbrev pub passing : (ℕ → Bool) → List ℕ → ℕ
+passing test [] = zero
+passing test (octet ∷ rest) = cond (test octet) (suc (passing test rest)) zero
+
+-- how many octets in front are these letters in upper or lower case
+abbrev pub spelling : List ℕ → List ℕ → ℕ
+spelling [] octets = zero
+spelling (letter ∷ letters) [] = zero
+spelling (letter ∷ letters) (octet ∷ rest) = cond (letter == to_ascii_uppercase octet) (suc (spelling letters rest)) zero
+
+-- how many letters of a verb's name are read
+abbrev pub letters_read : Verb → ℕ → ℕ
+letters_read verb count = min count (length (machine.word_of verb))
+
+-- how many octets in front leave the line in the same name, between the same quotation marks, or on the same bad line
+abbrev pub skimmed : State → List ℕ → ℕ
+skimmed (state.Word verb count) octets = spelling (drop (letters_read verb count) (machine.word_of verb)) octets
+skimmed (state.Quoted left slots) octets = passing is_plain (take left octets)
+skimmed state.Dead octets = passing is_inner octets
+skimmed _ octets = zero
+
+-- the state behind so many of these
+abbrev pub behind : State → ℕ → machine.State
+behind (state.Word verb count) more = machine.Word (take (letters_read verb count + more) (machine.word_of verb))
+behind (state.Quoted left slots) more = machine.Quoted (left - more) (slots_shown slots)
+behind state more = shown state
 
 -- ---- a scan
 

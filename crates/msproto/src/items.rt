@@ -2,6 +2,8 @@
 ghost use Rattle.std.specs.Prelude.{◌≡◌, ◌≢◌, ◌↔◌, ◌++◌, ℕ, Bool, true, List, IfOk};
 ghost use Rattle.msproto.specs.declared.items.Item.{Item as ItemValue};
 ghost use Rattle.msproto.specs.declared.items.Item.TheVariants.{Need};
+ghost use Rattle.msproto.specs.declared.items.Reach.{Reach as ReachValue};
+ghost use Rattle.msproto.specs.declared.items.Reach.TheVariants as reach;
 ghost use Rattle.msproto.specs.Items.{IsInLiteral, Reaches, Gives};
 ghost use Rattle.msproto.specs.Machine.{run, start, in_literal};
 ghost use Rattle.msproto.specs.Scanning.{reach_of};
@@ -40,18 +42,18 @@ pub enum Reach {
 
 /// What comes first, without the value of a command. While a challenge is pending the item is one string.
 ///
-/// Looks at each octet of the item outside literals once, and passes over those inside; it takes no memory.
+/// Time is linear in the item's octets outside literals, each of which is looked at once, or twice where it ends a run
+/// that is passed in one step; those inside literals are not looked at. Takes no memory.
 pub fn extent(buffer: &[u8], pending: bool) -> Reach
     ensures value { result ≡ reach_of pending buffer.now }
     ensures item { Reaches pending result buffer.now }
 {
     let mut scan = Scan::new(pending);
     let mut rest = buffer;
-    while let Reach::Need = scan.reach() {
-        let inside = scan.literal_left().min(rest.len());
-        if inside > 0 {
-            scan.pass(inside);
-            rest = &rest[inside..];
+    while let Reach::Need = scan.state() {
+        let count = scan.skim(rest);
+        if count > 0 {
+            rest = &rest[count..];
             continue;
         }
         let Some((octet, more)) = rest.split_first() else {
@@ -60,13 +62,13 @@ pub fn extent(buffer: &[u8], pending: bool) -> Reach
         scan.turn(*octet);
         rest = more;
     }
-    scan.reach()
+    scan.state()
 }
 
 /// What comes first, with the value of a command. While a challenge is pending the item is one string.
 ///
-/// Reads the item's octets as `extent` does, and a command's once more for its value; takes memory for its strings
-/// alone, and lack of it is the only error.
+/// Time is that of `extent`, and for a command linear in its octets besides. Takes memory for its strings alone, and
+/// lack of it is the only error.
 pub fn first(alloc: Global, buffer: &[u8], pending: bool) -> Result<Item, AllocError>
     ensures value { IfOk result (λ item. item ≡ item_of pending buffer.now) }
     ensures item { IfOk result (λ item. Gives pending item buffer.now) }
@@ -103,6 +105,23 @@ pub fn item_stays()
 /// The function of the first item gives what the relation says.
 pub fn item_is()
     ensures { (pending : Bool) (stream : List ℕ) → Gives pending (item_of pending stream) stream }
+{}
+
+/// What is reached is one: no stream reaches two.
+pub fn one_reach()
+    ensures { (pending : Bool) (one other : ReachValue) (stream : List ℕ) →
+        Reaches pending one stream → Reaches pending other stream → one ≡ other }
+{}
+
+/// What is reached stays the same whatever octets follow.
+pub fn reach_stays()
+    ensures { (pending : Bool) (found : ReachValue) (stream more : List ℕ) →
+        found ≢ reach.Need → Reaches pending found stream → Reaches pending found (stream ++ more) }
+{}
+
+/// The function of what is reached gives what the relation says.
+pub fn reach_is()
+    ensures { (pending : Bool) (stream : List ℕ) → Reaches pending (reach_of pending stream) stream }
 {}
 
 /// The octet behind a text stands inside a literal exactly where the machine has octets of one to come.

@@ -1,5 +1,5 @@
 //! A scan that looks for the end of the first item, octet by octet.
-ghost use Rattle.std.specs.Prelude.{◌≡◌, ℕ, ◌+◌, ◌-◌, ◌≤◌, List, length, fold};
+ghost use Rattle.std.specs.Prelude.{◌≡◌, ℕ, ◌+◌, ◌-◌, ◌≤◌, List, length, fold, take};
 ghost use Rattle.msproto.specs.declared.items.Reach.TheVariants.{Need};
 ghost use Rattle.msproto.specs.Machine as m;
 ghost use Rattle.msproto.specs.Scanning.{fresh, turned, found, literal_rest};
@@ -19,7 +19,7 @@ const LARGEST_LITERAL: u32 = 1_048_576;
 /// there are, or what came first. Contracts see that. It takes no memory.
 #[derive(Drop)]
 pub struct Scan {
-    state: State,
+    line: State,
     outside: usize,
     used: usize,
     reach: Reach,
@@ -38,10 +38,10 @@ impl Model for Scan {
 
     ghost coded = { Prim.hlevel (codes, slots_code) };
 
-    ghost view = { λ scan. scan_shown scan.state scan.outside scan.used scan.reach };
+    ghost view = { λ scan. scan_shown scan.line scan.outside scan.used scan.reach };
 
     ghost invariant = { λ scan. (scan.outside ≤ 8192)
-        × (scan.used + room (shown scan.state) ≤ scan.outside + 2097152) };
+        × (scan.used + room (shown scan.line) ≤ scan.outside + 2097152) };
 }
 
 impl Scan {
@@ -50,24 +50,24 @@ impl Scan {
         ensures { result ≡ fresh pending }
     {
         Scan {
-            state: State::start(pending),
+            line: State::start(pending),
             outside: 0,
             used: 0,
             reach: Reach::Need,
         }
     }
 
-    /// Takes one octet more.
+    /// Takes one octet more. Nothing may have come first yet: `state` tells.
     pub fn turn(&mut self, octet: u8)
         requires { found self.old ≡ Need }
         ensures { self.new ≡ turned self.old octet }
     {
-        let outside = self.outside + weight(self.state);
+        let outside = self.outside + weight(self.line);
         let used = self.used + 1;
-        let next = self.state.step(octet);
-        match ending(self.state, next, octet, outside, used) {
+        let next = self.line.step(octet);
+        match ending(self.line, next, octet, outside, used) {
             Reach::Need => {
-                self.state = next;
+                self.line = next;
                 self.outside = outside;
                 self.used = used;
             }
@@ -80,9 +80,9 @@ impl Scan {
         requires { count ≤ literal_rest self.old }
         ensures { (piece : List ℕ) → length piece ≡ count → self.new ≡ fold turned self.old piece }
     {
-        if let State::Body(left, slots) = self.state {
+        if let State::Body(left, slots) = self.line {
             self.used += count;
-            self.state = if count > left as usize {
+            self.line = if count > left as usize {
                 State::Between(slots)
             } else {
                 State::Body(left - count as u32, slots)
@@ -90,18 +90,41 @@ impl Scan {
         }
     }
 
+    /// Takes the octets in front that end nothing and leave the line where it stands: those of a name, of a literal,
+    /// plain ones between quotation marks, and those of a bad line before its LF. Gives how many. Nothing may have
+    /// come first yet, and nothing did then.
+    pub fn skim(&mut self, octets: &[u8]) -> usize
+        requires { found self.old ≡ Need }
+        ensures within { result ≤ length octets.now }
+        ensures taken { self.new ≡ fold turned self.old (take result octets.now) }
+        ensures still { found self.new ≡ Need }
+    {
+        let inside = self.literal_left();
+        if inside > 0 {
+            let count = inside.min(octets.len());
+            self.pass(count);
+            return count;
+        }
+        let most = (MOST_OUTSIDE - self.outside).min(octets.len());
+        let (line, count) = self.line.skim(&octets[..most]);
+        self.line = line;
+        self.outside += count;
+        self.used += count;
+        count
+    }
+
     /// How many octets of a literal come next.
     pub fn literal_left(&self) -> usize
         ensures { result ≡ literal_rest self.now }
     {
-        match (self.reach, self.state) {
+        match (self.reach, self.line) {
             (Reach::Need, State::Body(left, _)) => left as usize + 1,
             _ => 0,
         }
     }
 
-    /// What came first, if anything did.
-    pub fn reach(&self) -> Reach
+    /// What came first in the octets so far: `Need` where nothing did yet.
+    pub fn state(&self) -> Reach
         ensures { result ≡ found self.now }
     {
         self.reach

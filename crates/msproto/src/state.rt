@@ -1,5 +1,5 @@
 //! Where a line stands behind each of its octets: a state, and no search.
-ghost use Rattle.std.specs.Prelude.{◌≡◌, ℕ, take};
+ghost use Rattle.std.specs.Prelude.{◌≡◌, ◌≤◌, ℕ, length, take};
 ghost use Rattle.msproto.specs.Machine as m;
 ghost use Rattle.msproto.specs.Shown as s;
 
@@ -74,6 +74,86 @@ impl State {
             State::Whole | State::Dead => State::Dead,
         }
     }
+
+    /// The state behind the octets in front that leave the line in the same name, between the same quotation marks or
+    /// on the same bad line, and how many they are.
+    pub fn skim(self, octets: &[u8]) -> (State, usize)
+        ensures count { result.1 ≡ s.skimmed self octets.now }
+        ensures state { s.shown result.0 ≡ s.behind self result.1 }
+        ensures within { result.1 ≤ length octets.now }
+    {
+        match self {
+            State::Word(verb, count) => {
+                let word = verb.word();
+                let read = count.min(word.len());
+                let more = spelling_length(&word[read..], octets);
+                (State::Word(verb, read + more), more)
+            }
+            State::Quoted(left, slots) => {
+                let count = plain_length(&octets[..(left as usize).min(octets.len())]);
+                (State::Quoted(left - count as u32, slots), count)
+            }
+            State::Dead => (self, inner_length(octets)),
+            _ => (self, 0),
+        }
+    }
+}
+
+// How many octets in front are these letters in upper or lower case.
+fn spelling_length(letters: &[u8], octets: &[u8]) -> usize
+    ensures value { result ≡ s.spelling letters.now octets.now }
+    ensures within { result ≤ length octets.now }
+    ensures letters { result ≤ length letters.now }
+{
+    let mut wanted = letters;
+    let mut rest = octets;
+    let mut count = 0;
+    while let Some((letter, behind)) = wanted.split_first() {
+        let Some((octet, more)) = rest.split_first() else {
+            break;
+        };
+        if *letter != octet.to_ascii_uppercase() {
+            break;
+        }
+        count += 1;
+        wanted = behind;
+        rest = more;
+    }
+    count
+}
+
+// How many octets in front stand between quotation marks as they are.
+fn plain_length(octets: &[u8]) -> usize
+    ensures value { result ≡ s.passing s.is_plain octets.now }
+    ensures within { result ≤ length octets.now }
+{
+    let mut rest = octets;
+    let mut count = 0;
+    while let Some((octet, more)) = rest.split_first() {
+        if matches!(*octet, b'"' | b'\\' | b'\0' | b'\n' | b'\r') {
+            break;
+        }
+        count += 1;
+        rest = more;
+    }
+    count
+}
+
+// How many octets stand before the first LF.
+fn inner_length(octets: &[u8]) -> usize
+    ensures value { result ≡ s.passing s.is_inner octets.now }
+    ensures within { result ≤ length octets.now }
+{
+    let mut rest = octets;
+    let mut count = 0;
+    while let Some((octet, more)) = rest.split_first() {
+        if *octet == b'\n' {
+            break;
+        }
+        count += 1;
+        rest = more;
+    }
+    count
 }
 
 // One octet that must be this one.

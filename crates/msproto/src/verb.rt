@@ -109,6 +109,10 @@ impl Verb {
         if goes_on(self.word(), letters, letter) {
             return Some(self);
         }
+        // No name has a space or a CR in it.
+        if letter == b' ' || letter == b'\r' {
+            return None;
+        }
         find_further(&VERBS, letters, letter)
     }
 }

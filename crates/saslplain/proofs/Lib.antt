@@ -1,3 +1,4 @@
 pub mod Messages
 pub mod Rounds
 pub mod Logins
+pub mod Examples

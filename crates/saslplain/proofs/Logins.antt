@@ -1,11 +1,11 @@
 -- A login is what its base64 decodes to.
-use Rattle.std.proofs.Common.{◌≡◌, ℕ, Bool, true, false, List, Option, Some, None, Result, Ok, Err, refl, sym, ap, ◌∙◌, subst}
+use Rattle.std.proofs.Common.{◌≡◌, ℕ, List, Option, Some, None, Result, Ok, Err, refl, sym, ap, ◌∙◌}
 use Rattle.std.specs.Prelude.{◌↔◌, IfOk}
 use Rattle.base64.specs.Engines.{standard}
 use Rattle.base64.specs.GeneralPurpose.{IsBytes, IsStrict, encode_of, decode_of}
 use Rattle.base64.specs.declared.decode.DecodeError.{DecodeError}
 use Rattle.saslplain.specs.declared.message.Login.{Login}
-use Rattle.saslplain.specs.Login.{IsMessage, IsLogin, IsFound}
+use Rattle.saslplain.specs.Login.{IsLogin, IsFound}
 use Rattle.saslplain.specs.Parts.{login_in, login_shown}
 use Rattle.saslplain.proofs.Messages.{login_said, login_read}
 

@@ -1,9 +1,9 @@
 -- The parts of a message are those that it is made of.
-use Rattle.std.proofs.Common.{◌≡◌, ◌≢◌, ℕ, zero, suc, ◌+◌, ◌<◌, ◌≤◌, ◌⊎◌, inl, inr, Bool, true, false, not, ◌||◌, ◌&&◌, ◌==◌, cond, ltb, List, [], ◌∷◌, ◌++◌, length, take, drop, Option, Some, None, Result, Ok, Err, refl, sym, ap, ◌∙◌, subst, arith, append_assoc}
+use Rattle.std.proofs.Common.{◌≡◌, ◌≢◌, ℕ, zero, suc, ◌+◌, ◌<◌, ◌≤◌, ◌⊎◌, inl, inr, Bool, true, false, not, ◌||◌, ◌&&◌, ◌==◌, cond, List, [], ◌∷◌, ◌++◌, length, take, drop, Some, None, refl, sym, ap, ◌∙◌, subst, arith, append_assoc}
 use Rattle.std.specs.Prelude.{nat_eq, nat_lt}
 use Rattle.std.specs.Cmp.Lexicographic.{pointwise}
-use Rattle.std.proofs.lemmas.Bool.{cases_Bool, eqb-true, eqb-false, ne_eqb, eq-eqb, lt-ltb, le-ltb, ltb-false, ltb-true, and_parts, and_cases, and_right, or_parts, or_cases, or_from, not-true, not-false, both_ways}
-use Rattle.std.proofs.lemmas.List.{take_at, drop_at, length-append, take-append-drop, nil_from_length}
+use Rattle.std.proofs.lemmas.Bool.{eqb-true, eqb-false, ne_eqb, eq-eqb, le-ltb, ltb-false, and_parts, and_cases, and_right, or_parts, or_from, not-false}
+use Rattle.std.proofs.lemmas.List.{take_at, drop_at, length-append, nil_from_length}
 use Rattle.saslplain.specs.Login.{NoNul, IsMessage}
 use Rattle.saslplain.specs.Parts.{Pair, nul_place, cut_in, checked, cut_twice, login_in}
 

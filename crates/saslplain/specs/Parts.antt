@@ -1,5 +1,5 @@
 -- The parts of a message of PLAIN, read from the front.
-use Rattle.std.specs.Prelude.{ℕ, zero, suc, Bool, ◌&&◌, ◌||◌, not, cond, ◌==◌, nat_eq, nat_lt, ◌+◌, List, [], ◌∷◌, length, take, drop, Option, Some, None}
+use Rattle.std.specs.Prelude.{ℕ, zero, suc, ◌&&◌, ◌||◌, not, cond, ◌==◌, nat_eq, nat_lt, ◌+◌, List, [], ◌∷◌, length, take, drop, Option, Some, None}
 use Rattle.std.specs.Cmp.Lexicographic.{pointwise}
 use Rattle.std.specs.Borrow.{Bor}
 use Rattle.saslplain.specs.declared.message.Login.{Login}

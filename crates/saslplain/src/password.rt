@@ -27,11 +27,11 @@ pub fn digest(salt: &[u8], rounds: u32, password: &[u8]) -> [u8; 32]
 }
 
 /// Whether the password gives the record's digest. Takes no memory, and as long as `digest`.
-pub fn accepts(record: &Record, password: &[u8]) -> bool
-    ensures { IsTrue result ↔ (digest_of record.now.salt password.now record.now.rounds ≡ record.now.digest) }
+pub fn accepts(kept: &Record, password: &[u8]) -> bool
+    ensures { IsTrue result ↔ (digest_of kept.now.salt password.now kept.now.rounds ≡ kept.now.digest) }
 {
-    let given = digest(record.salt.as_slice(), record.rounds, password);
-    given.as_slice() == record.digest.as_slice()
+    let given = digest(kept.salt.as_slice(), kept.rounds, password);
+    given.as_slice() == kept.digest.as_slice()
 }
 
 // The SHA-256 of a digest before it, a salt and a password.

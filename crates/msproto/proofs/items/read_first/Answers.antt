@@ -1,4 +1,4 @@
-use Rattle.std.proofs.Common.{◌≡◌, List, take, sym, ◌∙◌}
+use Rattle.std.proofs.Common.{take, sym, ◌∙◌}
 use Rattle.msproto.proofs.Unique.{some_read}
 use Rattle.msproto.proofs.items.read_first.Goals as goal
 

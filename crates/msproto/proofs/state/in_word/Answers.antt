@@ -1,7 +1,5 @@
-use Rattle.std.proofs.Common.{◌≡◌, [], ◌∷◌, ◌++◌, Bool, true, false, ℕ, length, take, sym, ap, ◌∙◌, subst, arith}
-use Rattle.std.specs.Char.{to_ascii_uppercase}
+use Rattle.std.proofs.Common.{ap, ◌∙◌}
 use Rattle.msproto.specs.Machine as m
-use Rattle.msproto.specs.Shown as s
 use Rattle.msproto.proofs.Verbs.{in_word_more, in_word_end, in_word_dies}
 use Rattle.msproto.proofs.state.in_word.Goals as goal
 
