@@ -11,3 +11,4 @@ pub mod ParserLemmas
 pub mod BlockLemmas
 pub mod OpeningLemmas
 pub mod LineLemmas
+pub mod Examples

@@ -1,0 +1,123 @@
+-- Examples of the definitions: a right one and a near miss each.
+use Rattle.std.proofs.Common.{◌≡◌, ℕ, Bool, true, false, List, [], ◌∷◌, ◌++◌, Option, Some, None, refl, sym, ap, arith, subst, inl, inr}
+use Rattle.std.specs.Prelude.{codes}
+use Rattle.sievelex.specs.declared.token.Kind.TheVariants as K
+use Rattle.sievesyntax.specs.declared.lexeme.Word.TheVariants as W
+use Rattle.sievesyntax.specs.declared.lexeme.Tag.TheVariants as T
+use Rattle.sievesyntax.specs.declared.argument.Argument.TheVariants as A
+use Rattle.sievesyntax.specs.declared.setting.Setting.{Setting}
+use Rattle.sievesyntax.specs.declared.setting.Setting.TheVariants as S
+use Rattle.sievesyntax.specs.declared.setting.Slot.TheVariants as P
+use Rattle.sievesyntax.specs.declared.argument.Argument.{Argument}
+use Rattle.sievesyntax.specs.declared.checks.Matching.TheVariants as M
+use Rattle.sievesyntax.specs.declared.checks.Collation.TheVariants as C
+use Rattle.sievesyntax.specs.declared.checks.Check.TheVariants as L
+use Rattle.sievesyntax.specs.declared.checks.Check.{Check}
+use Rattle.sievesyntax.specs.declared.vacation.VacArgs.{VacArgs}
+use Rattle.sievesyntax.specs.declared.action.Action.TheVariants as D
+use Rattle.sievesyntax.specs.Lexemes.{Lexeme, word, tag, number, text, mark}
+use Rattle.sievesyntax.specs.Arguments.{AreStrings, AreArguments}
+use Rattle.sievesyntax.specs.Settings.{IsPlain, IsArranged}
+use Rattle.sievesyntax.specs.Rows.{IsPlainTest, IsPlainCommand, parts_of}
+use Rattle.sievesyntax.specs.Tests.{IsTest, ReadsTest}
+use Rattle.sievesyntax.specs.Reading.{Reads}
+use Rattle.sievesyntax.specs.Tree.{TestTree, yes, looks, not_of, all_of, any_of, no_tests, test, list_depth, not_depth, CommandTree, choose, stop, act, no_branches, branch, Commands, no_commands, command, depth}
+use Rattle.sievesyntax.specs.Valid.{IsMailbox, IsValid, is_capability}
+use Rattle.sievesyntax.specs.Means.{Means}
+use Rattle.sievesyntax.specs.SoFar.{TwoVacations}
+use Rattle.sievesyntax.specs.Meaning.{outcome, Done, Failed}
+
+-- `:over 5` and no more before a semicolon
+arguments : AreArguments (A.Tag T.Over ∷ (A.Number 5 ∷ [])) (tag T.Over ∷ (number 5 ∷ (mark K.Semicolon ∷ []))) (mark K.Semicolon ∷ [])
+arguments = record { spelled = (number 5 ∷ (mark K.Semicolon ∷ []), (refl, (mark K.Semicolon ∷ [], (refl, refl)))); all = tt }
+
+-- a list in brackets has a string in it
+no_strings : (xs : List (List ℕ)) (to end : List Lexeme) → AreStrings xs (mark K.CloseBracket ∷ to) end → ⊥
+no_strings [] to end are = are
+no_strings (x ∷ more) to end are = let e : mark K.CloseBracket ∷ to ≡ text x ∷ are.0 = are.1.0 in absurd (cc e)
+
+-- `:comparator "i;octet" :contains "a"`
+settings : IsArranged (P.Comparator ∷ (P.Matching ∷ [])) (A.Tag T.Comparator ∷ (A.Text (codes "i;octet") ∷ (A.Tag T.Contains ∷ (A.Text (codes "a") ∷ [])))) (S.Comparator C.Octet ∷ (S.Matching M.Contains ∷ [])) (A.Text (codes "a") ∷ [])
+settings = record {
+  written = (A.Tag T.Contains ∷ (A.Text (codes "a") ∷ []), ((refl, inl refl), (A.Text (codes "a") ∷ [], ((refl, inr (inl refl)), refl))));
+  plain = tt;
+  once = (λ among. elim among [ inl e ↦ cc e | inr none ↦ none ], (λ none. none, tt));
+}
+
+-- a tag where no setting is allowed
+no_setting : (settings : List Setting) (positional : List Argument) → IsArranged [] (A.Tag T.Mime ∷ []) settings positional → ⊥
+no_setting [] positional is = let e : A.Tag T.Mime ∷ [] ≡ positional = is.written in subst IsPlain (sym e) is.plain
+no_setting (s ∷ more) positional is = is.written.1.0.1
+
+-- `header "a" "b"` compares by `:is` and `i;ascii-casemap`
+header : IsPlainTest W.Header (A.Text (codes "a") ∷ (A.Text (codes "b") ∷ [])) (looks (L.Header (record { comparator = C.AsciiCasemap; matching = M.Is; fields = codes "a" ∷ []; keys = codes "b" ∷ [] })))
+header = (record { comparator = C.AsciiCasemap; matching = M.Is; fields = codes "a" ∷ []; keys = codes "b" ∷ [] }, (record { settings = []; positional = A.Text (codes "a") ∷ (A.Text (codes "b") ∷ []); arranged = record { written = refl; plain = tt; once = tt }; said = refl }, refl))
+
+-- `keep "a"`
+no_keep : (tree : CommandTree) → IsPlainCommand W.Keep (A.Text (codes "a") ∷ []) tree → ⊥
+no_keep tree is = let e : A.Text (codes "a") ∷ [] ≡ [] = is.0 in absurd (cc e)
+
+-- `FROM` is a part of the envelope, `auth` is none
+parts : parts_of (codes "FROM" ∷ []) ≡ Some (record { from = true; to = false })
+parts = refl
+
+no_parts : parts_of (codes "from" ∷ (codes "auth" ∷ [])) ≡ None
+no_parts = refl
+
+-- `not true`
+not_true : ReadsTest (not_of yes) (word W.Not ∷ (word W.True ∷ (mark K.Semicolon ∷ []))) (mark K.Semicolon ∷ [])
+not_true = (W.Not, (word W.True ∷ (mark K.Semicolon ∷ []), (refl, (refl, (W.True, (mark K.Semicolon ∷ [], (refl, ([], (record { spelled = refl; all = tt }, (refl, refl))))))))))
+
+-- `not` alone
+not_nothing : (inner : TestTree) (to : List Lexeme) → IsTest (not_of inner) W.Not (mark K.Semicolon ∷ []) to → ⊥
+not_nothing inner to is = let e : mark K.Semicolon ∷ [] ≡ word is.1.0 ∷ is.1.1.0 = is.1.1.1.0 in absurd (cc e)
+
+-- `keep;` is a `keep` and no `stop`
+keep : Reads (command (act D.Keep) no_commands) (word W.Keep ∷ (mark K.Semicolon ∷ []))
+keep = ([], ((W.Keep, (mark K.Semicolon ∷ [], (refl, ([], (record { spelled = refl; all = tt }, (refl, refl)))))), refl))
+
+-- a name of one octet is a mailbox, the empty one isn't
+no_mailbox : IsMailbox [] → ⊥
+no_mailbox is = is.some refl
+
+-- `stop;` is valid, `fileinto` without `require` isn't
+stop_valid : IsValid (command stop no_commands)
+stop_valid = record { known = λ k d below. absurd (omega (arith, below)); stand = (tt, tt); shallow = omega arith }
+
+fileinto_bare : IsValid (command (act (D.FileInto (codes "a"))) no_commands) → ⊥
+fileinto_bare valid = let e : false ≡ true = valid.stand.0.0 in absurd (cc e)
+
+-- capabilities are compared by octets
+known : is_capability (codes "comparator-i;octet") ≡ true
+known = refl
+
+unknown : is_capability (codes "FileInto") ≡ false
+unknown = refl
+
+-- the three depths
+depths : list_depth (all_of (test (not_of (any_of (test yes no_tests))) no_tests)) ≡ 2
+depths = refl
+
+not_depths : not_depth (not_of (all_of (test (not_of yes) (test yes no_tests)))) ≡ 2
+not_depths = refl
+
+block_depths : depth (command (choose (branch yes (command (choose (branch yes no_commands no_branches)) no_commands) no_branches)) no_commands) ≡ 2
+block_depths = refl
+
+-- `redirect` of one address twice sends once, and nothing is kept
+once : (truth : Check → Bool) → outcome truth (command (act (D.Redirect (record { local = codes "c"; domain = codes "d" }))) (command (act (D.Redirect (record { local = codes "c"; domain = codes "d" }))) no_commands)) ≡ Done (record { filed = []; sent = record { local = codes "c"; domain = codes "d" } ∷ []; reply = None })
+once truth = refl
+
+-- `vacation` keeps the message; a second one fails, behind a `discard` too
+answered : (truth : Check → Bool) (args : VacArgs) → outcome truth (command (act (D.Vacation args)) no_commands) ≡ Done (record { filed = codes "INBOX" ∷ []; sent = []; reply = Some args })
+answered truth args = refl
+
+twice : (truth : Check → Bool) (args other : VacArgs) → outcome truth (command (act D.Discard) (command (act (D.Vacation args)) (command (act (D.Vacation other)) no_commands))) ≡ Failed TwoVacations
+twice truth args other = refl
+
+apart : (a b : ℕ) → a ≡ 0 → b ≡ 10 → a ≡ b → ⊥
+apart a b p q e = omega arith
+
+-- a CR alone means nothing
+no_meaning : (tree : Commands) → Means (13 ∷ []) tree → ⊥
+no_meaning tree m = apart 0 10 refl refl (m.spelled.written.octets.no_lone_cr 0 refl)
