@@ -55,6 +55,16 @@ fn compiles_scripts_to_the_code_that_was_written_by_hand(rt: HostRuntime) -> Res
             "if true { if false { } }",
             "set true\njump unless 6\nset false\njump unless 5\njump 5\njump 6\n",
         ),
+        (
+            "if allof(true, false) { keep; }",
+            "set true\njump unless 5\nset false\njump unless 5\nset true\n\
+             jump unless 8\nkeep\njump 8\n",
+        ),
+        (
+            "if anyof(false, not exists \"x\") { keep; } stop;",
+            "set false\njump if 6\nlook\nflip\njump if 6\nset false\n\
+             jump unless 9\nkeep\njump 9\nstop\n",
+        ),
     ];
     for (text, expected) in table {
         let script = script(rt.alloc(), text.as_bytes())?;
