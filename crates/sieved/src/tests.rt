@@ -1,4 +1,6 @@
-//! Whole runs, over readers and writers in memory.
+//! Whole runs, over readers and writers in memory; the store.
+mod store;
+
 use crate::fault::Fault;
 use crate::trial::{refuse, try_run};
 use mailengine::{Envelope, Outcome, attempt};
