@@ -1,5 +1,6 @@
-//! Whole runs, over readers and writers in memory.
+//! Whole runs, over readers and writers in memory; the language; the store.
 mod language;
+mod store;
 
 use crate::fault::Fault;
 use crate::trial::{refuse, try_run};
