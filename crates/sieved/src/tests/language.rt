@@ -166,7 +166,7 @@ fn tests_hold_or_not(rt: HostRuntime) -> Result<(), Fail> {
         (b"size :over 0", true),
         (b"size :under 0", false),
         // 8.1: comments within a test, and names without case
-        (b"/* not */ TRUE # no", true),
+        (b"/* not */ TRUE # no\n", true),
         (b"NOT /* * / */ FALSE", true),
         (b"AnyOf(false,Not false)", true),
     ];
