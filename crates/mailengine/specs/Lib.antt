@@ -1,6 +1,13 @@
+pub mod Delivered
+pub mod Limits
 pub mod Mailboxes
+pub mod Obeyed
+pub mod Plans
 pub mod Runs
+pub mod Sound
+pub mod Stands
 pub mod Tests
+pub mod World
 pub use Rattle.sievesyntax.specs.Meaning
 pub use Rattle.sievesyntax.specs.Means
 pub use Rattle.sievesyntax.specs.Tree

@@ -1,11 +1,13 @@
 -- What each query finds, and that it changes nothing.
-use Rattle.std.proofs.Common.{◌≡◌, ℕ, List, [], ◌∷◌, map, filter, Ok, Err, Result, Vec, IfOk, IfErr, IsTrue, refl, sym, ◌∙◌, subst, inl, inr}
+use Rattle.std.proofs.Common.{◌≡◌, ℕ, List, [], ◌∷◌, map, filter, Ok, Err, Result, Vec, Option, Some, None, IfOk, IfErr, IsTrue, refl, sym, ◌∙◌, subst, inl, inr}
 use Rattle.std.specs.declared.alloc.Global.{Global}
 use Rattle.sqlite_value.specs.Order.{Row, column}
 use Rattle.sqlite_sql.specs.Term.{col}
+use Rattle.sqlite_schema.specs.declared.command.Returning.{Returning}
 use Rattle.sqlite.specs.Listing.{understood}
+use Rattle.sqlite.specs.Clock.{timed}
 use Rattle.sqlite.specs.declared.error.Error.{Error}
-use Rattle.sqlite.specs.State.{State, HasCleanDisk, Survives, CommitsShowing, Shown, FailsToQuery, IsUnchanged, IsRolledBack}
+use Rattle.sqlite.specs.State.{State, HasCleanDisk, Survives, CommitsShowing, Shown, ShowsRows, FailsToQuery, FailsToShow, IsNotRun, IsUnchanged, IsRolledBack}
 use Rattle.sqlite.proofs.Callers.{IsPlain, never_commits}
 use Rattle.sqlite.proofs.StateLemmas.{survives_weaker, survives_then}
 use Rattle.sqlrows.specs.Rows.{Tables, Holds, has_key}
@@ -15,7 +17,7 @@ use Rattle.sqlrows.proofs.ListLemmas.{owner_key, pair_key}
 use Rattle.mailstore.specs.Schema.{mail_schema, account, script}
 use Rattle.mailstore.specs.Statements.{select_account, select_next_copy, select_script}
 use Rattle.mailstore.specs.Cells.{shown_account}
-use Rattle.mailstore.specs.Words.{StaysSame, ReadsOnly, IsLiveOnOk, IsQuiet}
+use Rattle.mailstore.specs.Words.{StaysSame, ReadsOnly, IsLiveOnOk, IsQuiet, StaysShut}
 use Rattle.mailstore.specs.Shows.{rows_of}
 use Rattle.mailstore.proofs.TextFacts.{by_one, by_two, account_shown, select_account_is, select_account_plain, select_next_copy_is, select_next_copy_plain, select_script_is, select_script_plain}
 use Rattle.mailstore.proofs.WriteLemmas.{clean_before}
@@ -41,6 +43,32 @@ module _ (sql : List ℕ) (params : Row) (old new : State) (plain : IsPlain (und
 
   pub is_quiet : Survives old new (CommitsShowing sql params old) → IsQuiet old new
   is_quiet survives = survives_weaker old new _ (λ _. (tables : Tables) → Holds mail_schema old.now tables → ⊥) (λ clean db commits tables h. never_commits sql params old db (subst (λ s. IsPlain (understood s sql)) (sym h.is) plain) commits) survives
+
+-- rows are shown over an open connection alone, which stays open
+open_shown : (sql : List ℕ) (params : Row) (old new : State) (rows : List Row) → Shown sql params old new rows → IsTrue old.is_open × IsTrue new.is_open
+unfolding Shown
+open_shown sql params old new rows h = go h.0.returning h.2
+  where
+    go : (what : Option Returning) → ShowsRows old new sql h.0 (timed params h.0.formats h.1.now) rows what → IsTrue old.is_open × IsTrue new.is_open
+    go None k = (k.3.0.was_open, k.3.0.is_open)
+    go (Some what) k = (k.1.shown.was_open, k.1.shown.is_open)
+
+-- a query that fails opens nothing
+open_failed : (sql : List ℕ) (params : Row) (old new : State) (e : Error) → FailsToQuery sql params old new e → IsTrue new.is_open → IsTrue old.is_open
+unfolding FailsToQuery IsNotRun
+open_failed sql params old new e (inl (inl not_run)) is_open = not_run.1.0.was_open
+open_failed sql params old new e (inl (inr fails)) is_open = fails.3.was_open is_open
+open_failed sql params old new e (inr h) is_open = go h.0.returning h.2
+  where
+    go : (what : Option Returning) → FailsToShow old new sql h.0 (timed params h.0.formats h.1.now) e what → IsTrue old.is_open
+    go None k = k.3.0.was_open
+    go (Some what) (inl k) = k.1.0.was_open
+    go (Some what) (inr k) = k.3.was_open is_open
+
+pub stays_shut : (sql : List ℕ) (params : Row) (old new : State) (r : Result (Vec Row Global) Error) → (HasCleanDisk new → IfOk r (λ rows. Shown sql params old new rows.items))
+    → (HasCleanDisk new → IfErr r (FailsToQuery sql params old new)) → StaysShut old new r
+stays_shut sql params old new (Ok rows) ok err clean = let shown = open_shown sql params old new rows.items (ok clean) in (λ is_open. shown.0, shown.1)
+stays_shut sql params old new (Err e) ok err clean = (open_failed sql params old new e (err clean), tt)
 
 module _ (old new : State) (rows : List Row) (tables : Tables) (h : Holds mail_schema old.now tables) where
   pub account_found : (name : List ℕ) → Shown select_account (owner_key name) old new rows → rows ≡ map shown_account (rows_of name tables 2)

@@ -51,3 +51,7 @@ IsLiveOnOk old new result = HasCleanDisk new → (tables : Tables) → Holds mai
 -- a crash leaves what it left before, where the tables are ours
 abbrev pub IsQuiet : State → State → Type 0
 IsQuiet old new = Survives old new (λ _. (tables : Tables) → Holds mail_schema old.now tables → ⊥)
+
+-- a connection that a fault of the disk has shut stays shut, and none answers over one that is shut
+abbrev pub StaysShut : {X E : Type 0} → State → State → Result X E → Type 0
+StaysShut old new result = HasCleanDisk new → (IsTrue new.is_open → IsTrue old.is_open) × OnOk result (IsTrue new.is_open)

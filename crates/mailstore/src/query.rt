@@ -8,7 +8,7 @@ ghost use Rattle.sqlite_value.specs.Order.{column};
 ghost use Rattle.sqlrows.specs.Rows.{Tables, Holds};
 ghost use Rattle.mailstore.specs.Schema.{mail_schema};
 ghost use Rattle.mailstore.specs.Calls.{profile_row};
-ghost use Rattle.mailstore.specs.Words.{ReadsOnly, IsLiveOnOk, IsQuiet};
+ghost use Rattle.mailstore.specs.Words.{ReadsOnly, IsLiveOnOk, IsQuiet, StaysShut};
 ghost use Rattle.mailstore.specs.Shows.{rows_of, Presents};
 ghost use Rattle.mailstore.specs.Account.{Accounts, messages_in};
 ghost use Rattle.mailstore.specs.Tally.{tallied, AreFolders};
@@ -23,6 +23,7 @@ pub fn find_account<S: Alter>(conn: &mut Connection<S>, name: &[u8]) -> Result<V
     ensures found { HasCleanDisk (state S.Store conn.new) → (accounts : Accounts) → Presents (state S.Store conn.old).now accounts → IfOk result (λ rows. slice_get rows.items 0 ≡ option_map profile_row (get accounts name.now)) }
     ensures same { ReadsOnly (state S.Store conn.old) (state S.Store conn.new) }
     ensures live { IsLiveOnOk (state S.Store conn.old) (state S.Store conn.new) result }
+    ensures shut { StaysShut (state S.Store conn.old) (state S.Store conn.new) result }
     ensures crash { IsQuiet (state S.Store conn.old) (state S.Store conn.new) }
 {
     let _settled = conn.is_autocommit();

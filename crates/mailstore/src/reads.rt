@@ -7,7 +7,7 @@ ghost use Rattle.sqlite.specs.Held.{state};
 ghost use Rattle.sqlite.specs.State.{HasCleanDisk};
 ghost use Rattle.sqlrows.specs.Rows.{Tables, Holds};
 ghost use Rattle.mailstore.specs.Schema.{mail_schema};
-ghost use Rattle.mailstore.specs.Words.{ReadsOnly, IsLiveOnOk, IsQuiet};
+ghost use Rattle.mailstore.specs.Words.{ReadsOnly, IsLiveOnOk, IsQuiet, StaysShut};
 ghost use Rattle.mailstore.specs.Shows.{rows_of, Presents};
 ghost use Rattle.mailstore.specs.Account.{Accounts, messages_in};
 ghost use Rattle.mailstore.specs.Tally.{tallied, AreFolders};
@@ -56,6 +56,7 @@ impl<S: Alter> Store<S> {
         ensures found { HasCleanDisk (state S.Store self.new) → (accounts : Accounts) → Presents (state S.Store self.old).now accounts → IfOk result (λ profile. profile ≡ option_map profile_of (get accounts user.now)) }
         ensures same { KeepsTables (state S.Store self.old) (state S.Store self.new) }
         ensures live { IsOpenOnOk (state S.Store self.old) (state S.Store self.new) result }
+        ensures shut { StaysShut (state S.Store self.old) (state S.Store self.new) result }
         ensures crash { LosesNothing (state S.Store self.old) (state S.Store self.new) }
         ensures named { IfErr result IsPassing }
     {

@@ -6,7 +6,7 @@ use Rattle.sqlrows.proofs.ListLemmas.{owner_key}
 use Rattle.mailstore.specs.Statements.{select_account}
 use Rattle.mailstore.specs.Calls.{profile_row}
 use Rattle.mailstore.proofs.TextFacts.{select_account_plain}
-use Rattle.mailstore.proofs.QueryLemmas.{reads_only, is_live, is_quiet, if_shown}
+use Rattle.mailstore.proofs.QueryLemmas.{reads_only, is_live, is_quiet, stays_shut, if_shown}
 use Rattle.mailstore.proofs.ReadLemmas.{account_read}
 use Rattle.mailstore.proofs.query.find_account.Goals as goal
 
@@ -31,3 +31,7 @@ returns-clause-crash g c =
 pub returns-clause-live : goal.returns-clause-live
 returns-clause-live g c =
     is_live select_account (owner_key c.args.name.now) (state g.S.Store c.args.conn.now) (state g.S.Store c.query_all.new.self) select_account_plain.0 c.query_all.result (rw (c.params-to_sql.ensures) at c.query_all.ensures.ok)
+
+pub returns-clause-shut : goal.returns-clause-shut
+returns-clause-shut g c =
+    stays_shut select_account (owner_key c.args.name.now) (state g.S.Store c.args.conn.now) (state g.S.Store c.query_all.new.self) c.query_all.result (rw (c.params-to_sql.ensures) at c.query_all.ensures.ok) (rw (c.params-to_sql.ensures) at c.query_all.ensures.err)

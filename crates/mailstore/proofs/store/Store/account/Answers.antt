@@ -28,3 +28,15 @@ pub returns-clause-crash : goal.returns-clause-crash
 returns-clause-crash g c =
     let same : c.self.inside.conn ≡ c.args.self.now = search rules in
     loses_nothing (state g.S.Store c.args.self.now) (state g.S.Store c.find_account.new.conn) (rw same at c.find_account.ensures.crash)
+
+pub returns-in_err-rows-clause-shut : goal.returns-in_err-rows-clause-shut
+returns-in_err-rows-clause-shut g c clean =
+    let same : c.self.inside.conn ≡ c.args.self.now = search rules in
+    let shut = (rw same at c.find_account.ensures.shut) clean in
+    (shut.0, tt)
+
+pub returns-clause-shut : goal.returns-clause-shut
+returns-clause-shut g c clean =
+    let same : c.self.inside.conn ≡ c.args.self.now = search rules in
+    let shut = (rw same at c.in_ok-rows.ensures.shut) clean in
+    (shut.0, on_any c.first_profile.result _ shut.1)
