@@ -1,1 +1,3 @@
+pub mod DeliveryLemmas
 pub mod MailboxLemmas
+pub mod StandLemmas

@@ -1,7 +1,7 @@
 -- What the engine takes: sizes, names and moments.
-use Rattle.std.specs.Prelude.{◌≡◌, ℕ, ◌≤◌, Bool, true, cond, not, ◌&&◌, ◌||◌, ◌==◌, nat_le, nat_lt, List, length, Option, Some, None}
-use Rattle.std.specs.List.{list_all}
-use Rattle.std.specs.Str.{all_scalars, encode_utf8_all}
+use Rattle.std.specs.Prelude.{◌≡◌, ℕ, ◌≤◌, Bool, false, cond, not, ◌&&◌, ◌||◌, ◌==◌, nat_le, nat_lt, List, length, Option, Some, None}
+use Rattle.std.specs.List.{list_any}
+use Rattle.std.specs.Str.{IsUtf8, chars}
 use Rattle.mailstore.specs.declared.refusal.Refusal.{Refusal}
 use Rattle.mailstore.specs.declared.refusal.Refusal.TheVariants.{TooLarge, BadEnvelope, BadMoment}
 use Rattle.mailengine.specs.declared.mail.Envelope.{Envelope}
@@ -22,12 +22,10 @@ is_barred c = nat_le c 0x1f || (nat_le 0x7f c && nat_le c 0x9f) || c == 0x2028 |
 
 -- a script's name: 1 to 128 characters in UTF-8, none of them barred
 pub record IsScriptName (name : List ℕ) : Type 0 where
-  pub characters : List ℕ
-  pub scalars : all_scalars characters ≡ true
-  pub written : encode_utf8_all characters ≡ name
-  pub present : 1 ≤ length characters
-  pub short : length characters ≤ 128
-  pub allowed : list_all (λ c. not (is_barred c)) characters ≡ true
+  pub utf8 : IsUtf8 name
+  pub present : 1 ≤ length (chars name)
+  pub short : length (chars name) ≤ 128
+  pub allowed : list_any is_barred (chars name) ≡ false
 
 -- ---- deliveries
 
@@ -41,7 +39,7 @@ is_broken octet = octet == 0 || octet == 10 || octet == 13
 
 -- an envelope address that is taken, the null sender among them
 abbrev pub is_envelope_address : List ℕ → Bool
-is_envelope_address text = nat_le (length text) 1024 && list_all (λ octet. not (is_broken octet)) text
+is_envelope_address text = nat_le (length text) 1024 && not (list_any is_broken text)
 
 -- both addresses are taken
 abbrev pub is_envelope : Envelope → Bool

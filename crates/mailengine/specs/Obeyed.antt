@@ -14,6 +14,7 @@ use Rattle.msproto.specs.declared.replies.Reply.{Reply}
 use Rattle.msproto.specs.declared.replies.Code.{Code}
 use Rattle.msproto.specs.declared.replies.Code.TheVariants.{MaxSize, MaxScripts, NonExistent}
 use Rattle.msproto.specs.declared.replies.Word.TheVariants.{Ok, No}
+use Rattle.msproto.specs.Replies.{spelled}
 use Rattle.msproto.specs.Values.{item_of}
 use Rattle.mailstore.specs.Account.{Account, keeps_script, activates}
 use Rattle.mailengine.specs.Limits.{script_limit, scripts_limit, IsScriptName}
@@ -50,6 +51,10 @@ IsValid text = (tree : Commands) × Means text tree
 abbrev pub HasRoom : Account → List ℕ → Type 0
 HasRoom a name = IsSome (get a.scripts name) ⊎ (len a.scripts < scripts_limit)
 
+-- the answer to a text that is looked at as a script
+abbrev pub IsVerdict : List ℕ → Reply → Type 0
+IsVerdict text reply = Where (IsValid text) (reply ≡ accepted (codes "Stored.")) (TellsFault text reply)
+
 -- ---- the table
 
 -- `PUTSCRIPT` (RFC 5804, 2.6)
@@ -58,9 +63,7 @@ RepliesToPut a name text reply =
     Where (IsScriptName name)
     (Where (length text ≤ script_limit)
     (Where (HasRoom a name)
-    (Where (IsValid text)
-    (reply ≡ accepted (codes "Stored."))
-    (TellsFault text reply))
+    (IsVerdict text reply)
     (reply ≡ declined (Some MaxScripts) (codes "Too many scripts.")))
     (reply ≡ declined (Some MaxSize) (codes "Script too large.")))
     (reply ≡ declined None (codes "Bad script name."))
@@ -72,11 +75,11 @@ RepliesToSet a name reply =
     (reply ≡ accepted (codes "Done."))
     (reply ≡ declined (Some NonExistent) (codes "No such script."))
 
--- what a command may answer; the others are not taken yet
-abbrev pub RepliesTo : Account → Command → Reply → Type 0
-RepliesTo a (PutScript name script) reply = RepliesToPut a name script reply
-RepliesTo a (SetActive name) reply = RepliesToSet a name reply
-RepliesTo a _ reply = ⊥
+-- what is answered to a command, or to octets that are none; a command that is not taken yet counts as none
+abbrev pub RepliesTo : Account → Option Command → Reply → Type 0
+RepliesTo a (Some (PutScript name script)) reply = RepliesToPut a name script reply
+RepliesTo a (Some (SetActive name)) reply = RepliesToSet a name reply
+RepliesTo a _ reply = reply ≡ declined None (codes "Syntax error.")
 
 -- the script that a name makes active
 abbrev pub chosen : List ℕ → Option (List ℕ)
@@ -84,40 +87,31 @@ chosen [] = None
 chosen (octet ∷ rest) = Some (octet ∷ rest)
 
 -- the account after a command that was carried out
-abbrev pub carried_out : Command → Account → Account
-carried_out (PutScript name script) a = keeps_script name script a
-carried_out (SetActive name) a = activates (chosen name) a
+abbrev pub carried_out : Option Command → Account → Account
+carried_out (Some (PutScript name script)) a = keeps_script name script a
+carried_out (Some (SetActive name)) a = activates (chosen name) a
 carried_out _ a = a
 
--- the account after a command: it changes where the answer begins with OK, and nowhere else
-abbrev pub obeyed : Command → Bool → Account → Account
+-- the account after a command: it changes where the answer is OK, and nowhere else
+abbrev pub obeyed : Option Command → Bool → Account → Account
 obeyed command true a = carried_out command a
 obeyed command false a = a
 
--- ---- one command as bytes
-
--- the command that the bytes are, if they are one that is taken, and nothing more
-abbrev pub of_kind : Command → Option Command
-of_kind (PutScript name script) = Some (PutScript name script)
-of_kind (SetActive name) = Some (SetActive name)
-of_kind _ = None
-
-abbrev pub whole_in : Item → ℕ → Option Command
-whole_in (item.Command command used) count = cond (used == count) (of_kind command) None
-whole_in _ count = None
-
-abbrev pub whole_of : List ℕ → Option Command
-whole_of bytes = whole_in (item_of false bytes) (length bytes)
-
--- what is answered to bytes that are such a command, or are none
-abbrev pub RepliesToWhole : Account → Option Command → Reply → Type 0
-RepliesToWhole a None reply = reply ≡ declined None (codes "Syntax error.")
-RepliesToWhole a (Some command) reply = RepliesTo a command reply
-
--- the octets of an answer that begins with OK
+-- whether an answer begins with OK
 abbrev pub is_ok : List ℕ → Bool
 is_ok octets = slice_index octets 0 == 79 && slice_index octets 1 == 75
 
-abbrev pub obeyed_whole : Option Command → Bool → Account → Account
-obeyed_whole None ok a = a
-obeyed_whole (Some command) ok a = obeyed command ok a
+-- a command: the account and the answer that it gives
+pub record Obeys (a : Account) (command : Option Command) (after : Account) (reply : Reply) : Type 0 where
+  pub replies : RepliesTo a command reply
+  pub changed : after ≡ obeyed command (is_ok (spelled reply)) a
+
+-- ---- one command as bytes
+
+abbrev pub whole_in : Item → ℕ → Option Command
+whole_in (item.Command command used) count = cond (used == count) (Some command) None
+whole_in _ count = None
+
+-- the command that the bytes are, if they are one and nothing more
+abbrev pub whole_of : List ℕ → Option Command
+whole_of bytes = whole_in (item_of false bytes) (length bytes)

@@ -14,7 +14,7 @@ use Rattle.mailengine.specs.declared.answer.Answer.{Answer}
 use Rattle.mailengine.specs.declared.answer.Answer.TheVariants.{Out, Delivered, Refused}
 use Rattle.mailengine.specs.Limits.{cause_of}
 use Rattle.mailengine.specs.Delivered.{Reports, delivered}
-use Rattle.mailengine.specs.Obeyed.{whole_of, RepliesToWhole, obeyed_whole, is_ok}
+use Rattle.mailengine.specs.Obeyed.{whole_of, RepliesTo, obeyed, is_ok}
 
 pub record World : Type 0 where
   pub accounts : Accounts
@@ -36,7 +36,7 @@ refusal_in (Whole user bytes) = None
 -- to an event of a user with this account
 abbrev pub SaysOwn : Account → Event → Answer → Type 0
 SaysOwn a (Deliver user envelope message moment) answer = (report : Report) × (answer ≡ Delivered report) × Reports a moment envelope message report
-SaysOwn a (Whole user bytes) answer = (reply : Reply) × (answer ≡ Out Done (spelled reply)) × RepliesToWhole a (whole_of bytes) reply
+SaysOwn a (Whole user bytes) answer = (reply : Reply) × (answer ≡ Out Done (spelled reply)) × RepliesTo a (whole_of bytes) reply
 
 abbrev pub SaysTo : Option Account → Event → Answer → Type 0
 SaysTo None event answer = answer ≡ Refused NoUser
@@ -55,7 +55,7 @@ Says w event answer = SaysUnless (refusal_in event) (get w.accounts (user_of eve
 -- the account of the event's user
 abbrev pub changed : Event → Answer → Account → Account
 changed (Deliver user envelope message moment) (Delivered report) a = delivered message report a
-changed (Whole user bytes) (Out progress octets) a = obeyed_whole (whole_of bytes) (is_ok octets) a
+changed (Whole user bytes) (Out progress octets) a = obeyed (whole_of bytes) (is_ok octets) a
 changed event answer a = a
 
 -- the world: a refused event changes nothing, and no event another user's account

@@ -1,9 +1,9 @@
 //! What is answered to events.
-ghost use Rattle.std.specs.Prelude.{◌≡◌, ◌+◌, ◌<◌, ◌≤◌, [], ◌∷◌, ◌++◌, length, OnOk, OnErr};
+ghost use Rattle.std.specs.Prelude.{◌≡◌, [], length};
 
 use mailstore::{Refusal, Report};
 use octets::Octets;
-use std::alloc::{AllocError, Global};
+use std::alloc::Global;
 use std::marker::Model;
 
 /// How a session goes on after an answer.
@@ -47,6 +47,13 @@ impl Answers {
         Answers {
             items: Vec::new(alloc),
         }
+    }
+
+    /// The same answers, without a copy.
+    pub fn from_vec(answers: Vec<Answer>) -> Answers
+        ensures { result ≡ answers.items }
+    {
+        Answers { items: answers }
     }
 
     pub fn as_slice(&self) -> &[Answer]

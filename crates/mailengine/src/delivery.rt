@@ -1,14 +1,13 @@
 //! The delivery of a message.
-ghost use Rattle.std.specs.Prelude.{◌≡◌, OnOk, OnErr, IfOk, IfErr, IfSome, Err};
+ghost use Rattle.std.specs.Prelude.{◌≡◌, OnOk, OnErr, IfSome, Err};
 ghost use Rattle.sqlite.specs.Held.{state};
 ghost use Rattle.sqlite.specs.State.{HasCleanDisk, Survives};
 ghost use Rattle.mailstore.specs.Words.{IsSettled, StaysSame};
 ghost use Rattle.mailstore.specs.Account.{Accounts};
 ghost use Rattle.mailstore.specs.Shows.{Presents};
 ghost use Rattle.mailengine.specs.declared.event.Event.TheVariants.{Deliver};
-ghost use Rattle.mailengine.specs.Delivered.{active_text as text_of};
 ghost use Rattle.mailengine.specs.World.{refusal_in};
-ghost use Rattle.mailengine.specs.Stands.{IsEvent, MayLeave, told};
+ghost use Rattle.mailengine.specs.Stands.{IsEvent, MayLeave, delivery_told};
 
 use crate::limits::denied;
 use crate::mail::Envelope;
@@ -37,7 +36,7 @@ pub fn deliver<S: Alter>(
     message: &[u8],
     moment: u64,
 ) -> Result<Report, Refusal>
-    ensures event { IsEvent (Deliver user.now envelope.now message.now moment) (told result) (state S.Store store.old) (state S.Store store.new) }
+    ensures event { IsEvent (Deliver user.now envelope.now message.now moment) (delivery_told result) (state S.Store store.old) (state S.Store store.new) }
     ensures early { IfSome (refusal_in (Deliver user.now envelope.now message.now moment)) (λ refusal. (result ≡ Err refusal) × (store.new ≡ store.old)) }
     ensures settled { HasCleanDisk (state S.Store store.new) → OnOk result (IsSettled (state S.Store store.new)) }
     ensures same { HasCleanDisk (state S.Store store.new) → (accounts : Accounts) → Presents (state S.Store store.old).now accounts → OnErr result (StaysSame (state S.Store store.old) (state S.Store store.new)) }
@@ -46,20 +45,8 @@ pub fn deliver<S: Alter>(
     if let Some(refusal) = denied(envelope, message, moment) {
         return Err(refusal);
     }
-    file(alloc, store, user, envelope, message)
-}
-
-/// Files a message by the active script.
-fn file<S: Alter>(
-    alloc: Global,
-    store: &mut Store<S>,
-    user: &[u8],
-    envelope: &Envelope,
-    message: &[u8],
-) -> Result<Report, Refusal>
-{
     let text = active_text(store, user)?;
-    let plan = plan(alloc, text.as_ref().map(|text| text.as_slice()), envelope, message)?;
+    let plan = plan(alloc, text.as_ref(), envelope, message)?;
     store.commit_delivery(user, &plan)?;
     let Plan {
         copies: _,

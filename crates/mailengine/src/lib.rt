@@ -7,11 +7,15 @@ mod event;
 mod limits;
 mod mail;
 mod outcome;
+mod obey;
 mod plan;
+mod reply;
 mod run;
 mod so_far;
 mod trial;
 mod view;
+mod whole;
+pub mod world;
 
 pub use answer::{Answer, Answers, Progress, Ran};
 pub use delivery::deliver;
@@ -20,3 +24,4 @@ pub use mail::Envelope;
 pub use mailstore::{Plan, Refusal, Report};
 pub use outcome::Outcome;
 pub use trial::attempt;
+

@@ -1,5 +1,7 @@
 //! What is taken: sizes, names and moments.
 ghost use Rattle.std.specs.Prelude.{◌≡◌, ◌↔◌, IsTrue};
+ghost use Rattle.std.specs.List.{list_any};
+ghost use Rattle.std.specs.Str.{chars};
 ghost use Rattle.mailengine.specs.Limits.{cause_of, is_envelope_address, IsScriptName, is_barred, is_broken};
 
 use crate::mail::Envelope;
@@ -39,13 +41,13 @@ pub fn denied(envelope: &Envelope, message: &[u8], moment: u64) -> Option<Refusa
 fn is_address(text: &[u8]) -> bool
     ensures { result ≡ is_envelope_address text.now }
 {
-    text.len() <= ADDRESS_LIMIT && text.iter().all(|&octet| !is_broken(octet))
+    text.len() <= ADDRESS_LIMIT && !has_broken(text)
 }
 
-fn is_broken(octet: u8) -> bool
-    ensures { result ≡ is_broken octet }
+fn has_broken(text: &[u8]) -> bool
+    ensures { result ≡ list_any is_broken text.now }
 {
-    octet == 0 || octet == b'\n' || octet == b'\r'
+    text.iter().any(|octet| *octet == 0 || *octet == b'\n' || *octet == b'\r')
 }
 
 /// Whether a text is a script's name (RFC 5804, 1.6): 1 to 128 characters in UTF-8, without control characters and
@@ -57,7 +59,18 @@ pub fn is_script_name(name: &[u8]) -> bool
         return false;
     };
     let count = text.chars().count();
-    1 <= count && count <= NAME_LIMIT && text.chars().all(|c| !is_barred(c as u32))
+    1 <= count && count <= NAME_LIMIT && !has_barred(text)
+}
+
+fn has_barred(text: &str) -> bool
+    ensures { result ≡ list_any is_barred (chars text.now) }
+{
+    for c in text.chars() {
+        if is_barred(c as u32) {
+            return true;
+        }
+    }
+    false
 }
 
 fn is_barred(c: u32) -> bool

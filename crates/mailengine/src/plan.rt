@@ -19,7 +19,7 @@ const INBOX: &[u8] = b"INBOX";
 /// What is to be written of a message under the active script's text, if there is one. The message is not copied.
 pub fn plan<'a>(
     alloc: Global,
-    text: Option<&[u8]>,
+    text: Option<&Octets>,
     envelope: &Envelope,
     message: &'a [u8],
 ) -> Result<Plan<'a>, AllocError>
@@ -36,7 +36,7 @@ pub fn plan<'a>(
 /// The mailboxes of a message. It is kept where there is no script, or where the text is none.
 fn mailboxes(
     alloc: Global,
-    text: Option<&[u8]>,
+    text: Option<&Octets>,
     envelope: &Envelope,
     message: &[u8],
 ) -> Result<Texts, AllocError>
@@ -45,7 +45,7 @@ fn mailboxes(
     let Some(text) = text else {
         return inbox(alloc);
     };
-    match attempt(alloc, text, envelope, message) {
+    match attempt(alloc, text.as_slice(), envelope, message) {
         Ok(Outcome::Done { filed }) => Ok(filed),
         Err(ScriptError::Fault(_)) => inbox(alloc),
         Err(ScriptError::Memory) => Err(AllocError),

@@ -1,4 +1,4 @@
-use Rattle.std.proofs.Common.{◌≡◌, rules}
+use Rattle.std.proofs.Common.{◌≡◌, OnOk, IsTrue, rules}
 use Rattle.sqlite.specs.Held.{state}
 use Rattle.mailstore.proofs.ResultLemmas.{on_any}
 use Rattle.mailstore.proofs.ChainLemmas.{loses_nothing}
@@ -33,7 +33,8 @@ pub returns-in_err-rows-clause-shut : goal.returns-in_err-rows-clause-shut
 returns-in_err-rows-clause-shut g c clean =
     let same : c.self.inside.conn ≡ c.args.self.now = search rules in
     let shut = (rw same at c.find_account.ensures.shut) clean in
-    (shut.0, tt)
+    let none : OnOk c.from_residual.result (IsTrue (state g.S.Store c.find_account.new.conn).is_open) = search rules in
+    (shut.0, none)
 
 pub returns-clause-shut : goal.returns-clause-shut
 returns-clause-shut g c clean =
