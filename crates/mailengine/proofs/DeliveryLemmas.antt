@@ -1,5 +1,7 @@
 -- A delivery: the read of the active script, and then the write.
-use Rattle.std.proofs.Common.{◌≡◌, ◌⊎◌, ℕ, List, Option, Some, None, Ok, Err, Result, OnOk, OnErr, IfErr, IsSome, IsTrue, refl, sym, ◌∙◌, ap, subst, inl, inr}
+use Rattle.std.proofs.Common.{◌≡◌, ◌⊎◌, ℕ, List, Option, Some, None, Ok, Err, Result, OnOk, IfErr, IsSome, IsTrue, refl, sym, ◌∙◌, ap, subst, inl, inr}
+use Rattle.std.specs.Borrow.{Bor}
+use Rattle.std.specs.Option.{option_copied}
 use Rattle.std.specs.FinMap.{get}
 use Rattle.sqlite.specs.State.{State, HasCleanDisk, Survives}
 use Rattle.sqlite.proofs.StateLemmas.{survives_then}
@@ -7,21 +9,21 @@ use Rattle.mailstore.specs.declared.refusal.Refusal.{Refusal}
 use Rattle.mailstore.specs.declared.refusal.Refusal.TheVariants.{NoUser}
 use Rattle.mailstore.specs.declared.report.Report.{Report}
 use Rattle.mailstore.specs.Words.{StaysSame}
+use Rattle.mailstore.specs.Cells.{contents}
 use Rattle.mailstore.specs.Account.{Account, Accounts, with_user, files_copies}
 use Rattle.mailstore.specs.Shows.{Presents}
 use Rattle.mailstore.specs.Calls.{HasUser, IsFree, OfUser, Turns, MayShow}
 use Rattle.mailstore.specs.Refusals.{IsPassing}
 use Rattle.mailstore.proofs.WriteLemmas.{clean_before}
-use Rattle.mailstore.proofs.ResultLemmas.{on_ok}
 use Rattle.mailengine.specs.declared.mail.Envelope.{Envelope}
 use Rattle.mailengine.specs.declared.event.Event.{Event}
 use Rattle.mailengine.specs.declared.event.Event.TheVariants.{Deliver}
-use Rattle.mailengine.specs.declared.answer.Answer.TheVariants.{Delivered, Refused}
+use Rattle.mailengine.specs.declared.answer.Answer.TheVariants.{Delivered}
 use Rattle.mailengine.specs.Limits.{cause_of}
 use Rattle.mailengine.specs.Delivered.{Files, active_text, delivered}
 use Rattle.mailengine.specs.World.{World, Next, SaysUnless, SaysTo}
-use Rattle.mailengine.specs.Stands.{Stands, Looks, IsOwn, IsEvent, MayLeave}
-use Rattle.mailengine.proofs.StandLemmas.{mid_presents, event_refused, same_then}
+use Rattle.mailengine.specs.Stands.{Stands, Looks, IsEvent, MayLeave, delivery_told}
+use Rattle.mailengine.proofs.StandLemmas.{mid_presents, event_refused, own_refusal, same_then}
 
 pub delivered_next : (w : World) (user : List ℕ) (envelope : Envelope) (message : List ℕ) (moment : ℕ) (report : Report) (a : Account) → cause_of envelope message moment ≡ None → get w.accounts user ≡ Some a
     → Files (active_text a) envelope message report.filed → Next w (Deliver user envelope message moment) (Delivered report) (record { accounts = with_user w.accounts user (delivered message report) })
@@ -45,38 +47,25 @@ module _ (a b c : State) (r : Result (Option (List ℕ)) Refusal) (text : Option
       let before = clean_before b c _ late clean in
       let shown = mid_presents a b r text is looks before w stands in
       let own = found before w stands in
-      (shown.1, shown.2, subst IsSome (sym own.1) tt, delivered_next w user envelope message moment report own.0 none own.1 (subst (λ t. Files t envelope message report.filed) own.2 files))
+      (shown.1, shown.2, subst IsSome (sym own.1) refl, delivered_next w user envelope message moment report own.0 none own.1 (subst (λ t. Files t envelope message report.filed) own.2 files))
 
-  pub event_delivered : {Y : Type 0} (q : Result Y Refusal) (y : Y) → q ≡ Ok y → (HasCleanDisk c → OnOk q (Turns (HasUser user) (λ accounts. with_user accounts user (files_copies copies whole)) b.now c.now))
-      → IsEvent (Deliver user envelope message moment) (Delivered report) a c
-  event_delivered q y ok made clean w stands =
+  pub event_delivered : (HasCleanDisk c → Turns (HasUser user) (λ accounts. with_user accounts user (files_copies copies whole)) b.now c.now) → IsEvent (Deliver user envelope message moment) (Delivered report) a c
+  event_delivered made clean w stands =
       let m = mid clean w stands in
-      let turned = on_ok q y ok _ (made clean) w.accounts m.1 m.2 in
+      let turned = made clean w.accounts m.1 m.2 in
       (next_of w, m.3, λ is_open. subst (Presents c.now) (next_is w) turned)
 
-  pub stays_refused : {Y : Type 0} (q : Result Y Refusal) (e : Refusal) → q ≡ Err e → (HasCleanDisk c → (accounts : Accounts) → Presents b.now accounts → OnErr q (StaysSame b c)) → HasCleanDisk c → (w : World) → Stands a w → StaysSame b c
-  stays_refused q e err same clean w stands =
+  pub event_undone : (q : Result Report Refusal) → OnOk q ⊥ → (HasCleanDisk c → (accounts : Accounts) → Presents b.now accounts → StaysSame b c)
+      → (HasCleanDisk c → (accounts : Accounts) → Presents b.now accounts → IfErr q (λ e. e ≡ NoUser → IsFree user accounts)) → IfErr q (λ e. (e ≡ NoUser) ⊎ IsPassing e) → IsEvent (Deliver user envelope message moment) (delivery_told q) a c
+  event_undone q undone same no_user named = event_refused a c (Deliver user envelope message moment) q undone none (λ clean w stands.
       let m = mid clean w stands in
-      on_err q e err _ (same clean w.accounts m.1)
-    where
-      on_err : {X E : Type 0} (o : Result X E) (x : E) → o ≡ Err x → (P : Type 0) → OnErr o P → P
-      on_err (Err x) y is P h = h
-      on_err (Ok x) y is P h = absurd (let same = is in cc)
+      (own_refusal q w.accounts user (no_user clean w.accounts m.1) named, λ is_open. subst (λ db. Presents db w.accounts) (sym ((same clean w.accounts m.1).now_is is_open)) m.1))
 
-  pub event_undone : {Y : Type 0} (q : Result Y Refusal) (e : Refusal) → q ≡ Err e → (HasCleanDisk c → (accounts : Accounts) → Presents b.now accounts → OnErr q (StaysSame b c))
-      → (HasCleanDisk c → (accounts : Accounts) → Presents b.now accounts → e ≡ NoUser → IsFree user accounts) → (e ≡ NoUser) ⊎ IsPassing e → IsEvent (Deliver user envelope message moment) (Refused e) a c
-  event_undone q e err same no_user named = event_refused a c (Deliver user envelope message moment) e none (λ clean w stands.
-      let m = mid clean w stands in
-      let kept = stays_refused q e err same clean w stands in
-      let own : IsOwn w.accounts user e = elim named [ inl free ↦ inl (free, no_user clean w.accounts m.1 free) | inr passing ↦ inr passing ] in
-      (own, λ is_open. subst (λ db. Presents db w.accounts) (sym (kept.now_is is_open)) m.1))
-
-  pub same_undone : {Y : Type 0} (q : Result Y Refusal) (e : Refusal) → q ≡ Err e → (HasCleanDisk c → (accounts : Accounts) → Presents b.now accounts → OnErr q (StaysSame b c)) → HasCleanDisk c → (accounts : Accounts)
-      → Presents a.now accounts → StaysSame a c
-  same_undone q e err same clean accounts p =
+  pub same_undone : (HasCleanDisk c → (accounts : Accounts) → Presents b.now accounts → StaysSame b c) → HasCleanDisk c → (accounts : Accounts) → Presents a.now accounts → StaysSame a c
+  same_undone same clean accounts p =
       let w : World = record { accounts = accounts } in
       let m = mid clean w (λ o. p) in
-      same_then a b c m.0 (looks.same (clean_before b c _ late clean) accounts p) (stays_refused q e err same clean w (λ o. p))
+      same_then a b c m.0 (looks.same (clean_before b c _ late clean) accounts p) (same clean accounts m.1)
 
   pub delivery_crash : Survives a c (MayLeave (Deliver user envelope message moment) a)
   delivery_crash = survives_then a b c _ _ _ (λ clean db lost w p. absurd (lost w.accounts p))
@@ -84,3 +73,8 @@ module _ (a b c : State) (r : Result (Option (List ℕ)) Refusal) (text : Option
       let m = mid clean w (λ o. p) in
       let left = may w.accounts m.1 m.2 in
       (left.0, Delivered report, next_of w, m.3, subst (Presents left.0) (next_is w) left.1, left.2)) looks.crash late
+
+-- a text behind a reference is the text
+pub contents_is : (o : Option (Bor (List ℕ))) → contents o ≡ option_copied o
+contents_is None = refl
+contents_is (Some b) = refl

@@ -1,3 +1,5 @@
 pub mod DeliveryLemmas
 pub mod MailboxLemmas
+pub mod ObeyLemmas
 pub mod StandLemmas
+pub mod ViewLemmas

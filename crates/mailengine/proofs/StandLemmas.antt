@@ -7,6 +7,7 @@ use Rattle.sqlite.specs.State.{State, HasCleanDisk, Survives}
 use Rattle.sqlite.proofs.StateLemmas.{survives_then, survives_weaker}
 use Rattle.mailstore.specs.declared.refusal.Refusal.{Refusal}
 use Rattle.mailstore.specs.declared.refusal.Refusal.TheVariants.{Memory, Store, NoUser}
+use Rattle.mailstore.specs.declared.report.Report.{Report}
 use Rattle.mailstore.specs.Words.{StaysSame, StaysShut}
 use Rattle.mailstore.specs.Account.{Account, Accounts}
 use Rattle.mailstore.specs.Shows.{Presents}
@@ -18,7 +19,7 @@ use Rattle.mailengine.specs.declared.event.Event.{Event}
 use Rattle.mailengine.specs.declared.answer.Answer.{Answer}
 use Rattle.mailengine.specs.declared.answer.Answer.TheVariants.{Refused}
 use Rattle.mailengine.specs.World.{World, Next, SaysUnless, SaysTo, MayRefuse, refusal_in, user_of}
-use Rattle.mailengine.specs.Stands.{Stands, Looks, Reads, IsOwn, IsEvent, MayLeave}
+use Rattle.mailengine.specs.Stands.{Stands, Looks, Reads, IsOwn, IsEvent, MayLeave, delivery_told}
 
 -- ---- reads
 
@@ -36,8 +37,12 @@ looks_first {X} {E} a b r same shut crash = record {
     go (Err e) h = tt
 
 -- the same reads with a refusal as their answer
-pub looks_refused : {X Y E F : Type 0} (a b : State) (r : Result X E) (e : F) → Looks a b r → Looks {X = Y} a b (Err e)
-looks_refused a b r e l = record { stands = l.stands; live = λ clean w stands. tt; same = l.same; crash = l.crash }
+pub looks_refused : {X Y E F : Type 0} (a b : State) (r : Result X E) (q : Result Y F) → OnOk q ⊥ → Looks a b r → Looks a b q
+looks_refused {X} {Y} {E} {F} a b r q none l = record { stands = l.stands; live = λ clean w stands. go q none; same = l.same; crash = l.crash }
+  where
+    go : (o : Result Y F) → OnOk o ⊥ → OnOk o (IsTrue a.is_open × IsTrue b.is_open)
+    go (Ok y) h = absurd h
+    go (Err e) h = tt
 
 -- the same reads with another answer
 pub looks_ok : {X Y E F : Type 0} (a b : State) (r : Result X E) (x : X) (y : Y) → r ≡ Ok x → Looks a b r → Looks {E = F} a b (Ok y)
@@ -79,6 +84,12 @@ module _ {X E Y F : Type 0} (a b c : State) (r : Result X E) (x : X) (is : r ≡
 pub reads_one : {X E : Type 0} (a b : State) (r : Result X E) → KeepsTables a b → IsOpenOnOk a b r → LosesNothing a b → Reads a b r
 reads_one a b r same live crash = record { same = same; live = λ clean accounts p was. live clean accounts p; crash = crash }
 
+-- a refusal that is NoUser only where there is no account
+pub own_refusal : {X : Type 0} (q : Result X Refusal) (accounts : Accounts) (user : List ℕ) → IfErr q (λ e. e ≡ NoUser → IsFree user accounts) → IfErr q (λ e. (e ≡ NoUser) ⊎ IsPassing e) → IfErr q (IsOwn accounts user)
+own_refusal (Ok x) accounts user absent named = tt
+own_refusal (Err e) accounts user absent (inl none) = inl (none, absent none)
+own_refusal (Err e) accounts user absent (inr passing) = inr passing
+
 -- ---- refused events
 
 pub denied_next : (w : World) (event : Event) (e : Refusal) → refusal_in event ≡ Some e → Next w event (Refused e) w
@@ -88,15 +99,22 @@ pub refused_next : (w : World) (event : Event) (e : Refusal) → refusal_in even
 refused_next w event e is (inl none) =
     (inl (subst (λ o. SaysUnless o (get w.accounts (user_of event)) event (Refused e)) (sym is) (subst (λ o. SaysTo o event (Refused e)) (sym none.1) (ap Refused none.0))), refl)
 refused_next w event e is (inr (inl memory)) =
-    (inr (e, refl, subst (MayRefuse w event) (sym memory) (let may : is_none (refusal_in event) ≡ is_none None = ap is_none is in subst IsTrue (sym may) tt)), refl)
+    (inr (e, refl, subst (MayRefuse w event) (sym memory) (subst (λ (o : Option Refusal). IsTrue (is_none o)) (sym is) refl)), refl)
 refused_next w event e is (inr (inr store)) =
-    (inr (e, refl, subst (MayRefuse w event) (sym store) (let may : is_none (refusal_in event) ≡ is_none None = ap is_none is in subst IsTrue (sym may) tt)), refl)
+    (inr (e, refl, subst (MayRefuse w event) (sym store) (subst (λ (o : Option Refusal). IsTrue (is_none o)) (sym is) refl)), refl)
 
 pub event_denied : (a : State) (event : Event) (e : Refusal) → refusal_in event ≡ Some e → IsEvent event (Refused e) a a
 event_denied a event e is clean w stands = (w, denied_next w event e is, stands)
 
-pub event_refused : (a c : State) (event : Event) (e : Refusal) → refusal_in event ≡ None → (HasCleanDisk c → (w : World) → Stands a w → IsOwn w.accounts (user_of event) e × Stands c w) → IsEvent event (Refused e) a c
-event_refused a c event e is kept clean w stands = let k = kept clean w stands in (w, refused_next w event e is k.0, k.1)
+-- reads alone, and a refusal
+pub event_refused : (a c : State) (event : Event) (q : Result Report Refusal) → OnOk q ⊥ → refusal_in event ≡ None
+    → (HasCleanDisk c → (w : World) → Stands a w → IfErr q (IsOwn w.accounts (user_of event)) × Stands c w) → IsEvent event (delivery_told q) a c
+event_refused a c event (Ok x) none is kept = absurd none
+event_refused a c event (Err e) none is kept = λ clean w stands. let k = kept clean w stands in (w, refused_next w event e is k.0, k.1)
+
+pub own_passing : {X : Type 0} (q : Result X Refusal) (accounts : Accounts) (user : List ℕ) → IfErr q IsPassing → IfErr q (IsOwn accounts user)
+own_passing (Ok x) accounts user h = tt
+own_passing (Err e) accounts user h = inr h
 
 -- after reads alone a crash leaves what it left before
 pub reads_may : (a b : State) (event : Event) → LosesNothing a b → Survives a b (MayLeave event a)

@@ -6,8 +6,8 @@ mod delivery;
 mod event;
 mod limits;
 mod mail;
-mod outcome;
 mod obey;
+mod outcome;
 mod plan;
 mod reply;
 mod run;
@@ -24,4 +24,3 @@ pub use mail::Envelope;
 pub use mailstore::{Plan, Refusal, Report};
 pub use outcome::Outcome;
 pub use trial::attempt;
-

@@ -47,7 +47,8 @@ fn is_address(text: &[u8]) -> bool
 fn has_broken(text: &[u8]) -> bool
     ensures { result ≡ list_any is_broken text.now }
 {
-    text.iter().any(|octet| *octet == 0 || *octet == b'\n' || *octet == b'\r')
+    text.iter()
+        .any(|octet| *octet == 0 || *octet == b'\n' || *octet == b'\r')
 }
 
 /// Whether a text is a script's name (RFC 5804, 1.6): 1 to 128 characters in UTF-8, without control characters and

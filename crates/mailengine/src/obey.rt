@@ -1,5 +1,7 @@
 //! The commands that act on a user's scripts.
-ghost use Rattle.std.specs.Prelude.{◌≡◌, ◌⊎◌, ◌↔◌, IsTrue, Some, IfOk, IfErr, OnOk, OnErr};
+ghost use Rattle.std.specs.Prelude.{◌≡◌, ◌⊎◌, ◌↔◌, IsTrue, Some, nat_eq, IfOk, IfErr, OnOk, OnErr};
+ghost use Rattle.std.specs.List.{list_any};
+ghost use Rattle.std.specs.Cmp.Lexicographic.{pointwise};
 ghost use Rattle.std.specs.FinMap.{get};
 ghost use Rattle.sqlite.specs.Held.{state};
 ghost use Rattle.sqlite.specs.State.{HasCleanDisk, Survives};
@@ -17,6 +19,7 @@ use crate::limits::{SCRIPT_LIMIT, SCRIPTS_LIMIT, is_script_name};
 use crate::reply;
 use mailstore::{Refusal, Store};
 use msproto::{Code, Command, Reply};
+use octets::Octets;
 use sievelex::ScriptError;
 use sievesyntax::check;
 use sqlite::Alter;
@@ -108,11 +111,14 @@ fn has_room<S: Alter>(store: &mut Store<S>, user: &[u8], name: &[u8]) -> Result<
     ensures named { IfErr result (λ e. (e ≡ Refusal.NoUser) ⊎ IsPassing e) }
     ensures reads { Reads (state S.Store store.old) (state S.Store store.new) result }
 {
-    if store.script(user, name)?.is_some() {
-        return Ok(true);
-    }
     let names = store.scripts(user)?;
-    Ok(names.len() < SCRIPTS_LIMIT)
+    Ok(names.len() < SCRIPTS_LIMIT || has_name(names.as_slice(), name))
+}
+
+fn has_name(names: &[Octets], name: &[u8]) -> bool
+    ensures { result ≡ list_any (pointwise nat_eq name.now) names.now }
+{
+    names.iter().any(|known| name == known.as_slice())
 }
 
 /// `SETACTIVE`.

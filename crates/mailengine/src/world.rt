@@ -97,7 +97,12 @@ fn happen<S: Alter>(alloc: Global, store: &mut Store<S>, event: &Event) -> Answe
             Ok(report) => Answer::Delivered(report),
             Err(refusal) => Answer::Refused(refusal),
         },
-        Event::Whole { user, bytes } => match whole(alloc, store, user.as_slice(), bytes.as_slice()) {
+        Event::Whole { user, bytes } => match whole(
+            alloc,
+            store,
+            user.as_slice(),
+            bytes.as_slice(),
+        ) {
             Ok(octets) => Answer::Out(Progress::Done, octets),
             Err(refusal) => Answer::Refused(refusal),
         },

@@ -2,9 +2,13 @@
 #![tactic(auto)]
 
 mod answer;
+#[cfg(test)]
+mod engine_tests;
 mod fault;
 mod framing;
 mod report;
+#[cfg(test)]
+mod store_tests;
 mod stream;
 #[cfg(test)]
 mod tests;
