@@ -1,5 +1,9 @@
 pub mod DeliveryLemmas
+pub mod EventLemmas
 pub mod MailboxLemmas
 pub mod ObeyLemmas
+pub mod RunLemmas
+pub mod SoundLemmas
 pub mod StandLemmas
 pub mod ViewLemmas
+pub mod WholeLemmas

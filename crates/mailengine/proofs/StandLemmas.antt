@@ -19,7 +19,7 @@ use Rattle.mailengine.specs.declared.event.Event.{Event}
 use Rattle.mailengine.specs.declared.answer.Answer.{Answer}
 use Rattle.mailengine.specs.declared.answer.Answer.TheVariants.{Refused}
 use Rattle.mailengine.specs.World.{World, Next, SaysUnless, SaysTo, MayRefuse, refusal_in, user_of}
-use Rattle.mailengine.specs.Stands.{Stands, Looks, Reads, IsOwn, IsEvent, MayLeave, delivery_told}
+use Rattle.mailengine.specs.Stands.{Stands, Looks, Reads, IsOwn, IsEvent, MayLeave, delivery_told, command_told}
 
 -- ---- reads
 
@@ -111,6 +111,11 @@ pub event_refused : (a c : State) (event : Event) (q : Result Report Refusal) �
     → (HasCleanDisk c → (w : World) → Stands a w → IfErr q (IsOwn w.accounts (user_of event)) × Stands c w) → IsEvent event (delivery_told q) a c
 event_refused a c event (Ok x) none is kept = absurd none
 event_refused a c event (Err e) none is kept = λ clean w stands. let k = kept clean w stands in (w, refused_next w event e is k.0, k.1)
+
+pub command_refused : (a c : State) (event : Event) (q : Result (List ℕ) Refusal) → OnOk q ⊥ → refusal_in event ≡ None
+    → (HasCleanDisk c → (w : World) → Stands a w → IfErr q (IsOwn w.accounts (user_of event)) × Stands c w) → IsEvent event (command_told q) a c
+command_refused a c event (Ok x) none is kept = absurd none
+command_refused a c event (Err e) none is kept = λ clean w stands. let k = kept clean w stands in (w, refused_next w event e is k.0, k.1)
 
 pub own_passing : {X : Type 0} (q : Result X Refusal) (accounts : Accounts) (user : List ℕ) → IfErr q IsPassing → IfErr q (IsOwn accounts user)
 own_passing (Ok x) accounts user h = tt

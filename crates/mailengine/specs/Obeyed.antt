@@ -13,6 +13,7 @@ use Rattle.msproto.specs.declared.items.Item.TheVariants as item
 use Rattle.msproto.specs.declared.replies.Reply.{Reply}
 use Rattle.msproto.specs.declared.replies.Code.{Code}
 use Rattle.msproto.specs.declared.replies.Code.TheVariants.{MaxSize, MaxScripts, NonExistent}
+use Rattle.msproto.specs.declared.replies.Word.{Word}
 use Rattle.msproto.specs.declared.replies.Word.TheVariants.{Ok, No}
 use Rattle.msproto.specs.Replies.{spelled}
 use Rattle.msproto.specs.Values.{item_of}
@@ -27,6 +28,11 @@ accepted text = record { lines = []; word = Ok; code = None; text = Some text }
 
 abbrev pub declined : Option Code → List ℕ → Reply
 declined code text = record { lines = []; word = No; code = code; text = Some text }
+
+-- whether a reply's word is OK
+abbrev pub is_accepted : Word → Bool
+is_accepted Ok = true
+is_accepted _ = false
 
 -- `line N: TEXT`, as a fault of a script is told
 abbrev pub fault_line : ℕ → FaultKind → List ℕ

@@ -17,7 +17,7 @@ use Rattle.mailengine.specs.declared.event.Event.{Event}
 use Rattle.mailengine.specs.declared.answer.Answer.{Answer}
 use Rattle.mailengine.specs.declared.answer.Answer.TheVariants.{Out, Delivered, Refused}
 use Rattle.mailengine.specs.declared.answer.Progress.TheVariants.{Done}
-use Rattle.mailengine.specs.World.{World, Next}
+use Rattle.mailengine.specs.World.{World, Next, Runs}
 
 -- the tables show the world's accounts; of a connection that a fault of the disk has shut nothing is said
 abbrev pub Stands : State → World → Type 0
@@ -48,6 +48,10 @@ command_in (Some command) = Some command.now
 -- the step from one state of the store to another is the event with this answer, of whatever world the old one shows
 abbrev pub IsEvent : Event → Answer → State → State → Type 0
 IsEvent event answer old new = HasCleanDisk new → (w : World) → Stands old w → (next : World) × Next w event answer next × Stands new next
+
+-- the steps from one state of the store to another are these events with these answers
+abbrev pub IsRun : List Event → List Answer → State → State → Type 0
+IsRun events answers old new = HasCleanDisk new → (w : World) → Stands old w → (end : World) × Runs w events answers end × Stands new end
 
 -- what a crash may leave of the event shows a world after it, as a whole
 abbrev pub MayLeave : Event → State → Trees → Type 0

@@ -1,5 +1,5 @@
 //! What is taken: sizes, names and moments.
-ghost use Rattle.std.specs.Prelude.{◌≡◌, ◌↔◌, IsTrue};
+ghost use Rattle.std.specs.Prelude.{◌≡◌, ◌↔◌, length, IsTrue};
 ghost use Rattle.std.specs.List.{list_any};
 ghost use Rattle.std.specs.Str.{chars};
 ghost use Rattle.mailengine.specs.Limits.{cause_of, is_envelope_address, IsScriptName, is_barred, is_broken};
@@ -59,8 +59,21 @@ pub fn is_script_name(name: &[u8]) -> bool
     let Ok(text) = str::from_utf8(name) else {
         return false;
     };
-    let count = text.chars().count();
-    1 <= count && count <= NAME_LIMIT && !has_barred(text)
+    let count = characters(text);
+    if count == 0 {
+        return false;
+    }
+    if count > NAME_LIMIT {
+        return false;
+    }
+    !has_barred(text)
+}
+
+/// How many characters.
+fn characters(text: &str) -> usize
+    ensures { result ≡ length (chars text.now) }
+{
+    text.chars().count()
 }
 
 fn has_barred(text: &str) -> bool

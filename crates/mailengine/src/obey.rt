@@ -1,5 +1,5 @@
 //! The commands that act on a user's scripts.
-ghost use Rattle.std.specs.Prelude.{◌≡◌, ◌⊎◌, ◌↔◌, IsTrue, Some, nat_eq, IfOk, IfErr, OnOk, OnErr};
+ghost use Rattle.std.specs.Prelude.{◌≡◌, ◌⊎◌, ◌↔◌, ◌<◌, length, IsTrue, Some, nat_eq, IfOk, IfErr, OnOk, OnErr};
 ghost use Rattle.std.specs.List.{list_any};
 ghost use Rattle.std.specs.Cmp.Lexicographic.{pointwise};
 ghost use Rattle.std.specs.FinMap.{get};
@@ -11,7 +11,8 @@ ghost use Rattle.mailstore.specs.Shows.{Presents};
 ghost use Rattle.mailstore.specs.Calls.{HasUser, IsFree, OfUser, Turns, MayShow};
 ghost use Rattle.mailstore.specs.Refusals.{IsPassing};
 ghost use Rattle.mailstore.specs.Cells.{contents};
-ghost use Rattle.mailengine.specs.Obeyed.{HasRoom, IsVerdict, RepliesToPut, RepliesToSet, RepliesTo, carried_out, chosen as chosen_by};
+ghost use Rattle.mailengine.specs.Limits.{scripts_limit};
+ghost use Rattle.mailengine.specs.Obeyed.{HasRoom, IsVerdict, RepliesToPut, RepliesToSet, RepliesTo, carried_out, obeyed, chosen as chosen_by};
 ghost use Rattle.mailengine.specs.World.{World};
 ghost use Rattle.mailengine.specs.Stands.{Stands, Looks, Reads, IsOwn, command_in};
 
@@ -36,9 +37,9 @@ pub fn reply_to<S: Alter>(
     ensures refused { HasCleanDisk (state S.Store store.new) → (w : World) → Stands (state S.Store store.old) w → IfErr result (IsOwn w.accounts user.now) }
     ensures looks { Looks (state S.Store store.old) (state S.Store store.new) result }
 {
-    if store.account(user)?.is_none() {
+    let Some(_) = store.account(user)? else {
         return Err(Refusal::NoUser);
-    }
+    };
     answer(alloc, store, user, command)
 }
 
@@ -112,7 +113,14 @@ fn has_room<S: Alter>(store: &mut Store<S>, user: &[u8], name: &[u8]) -> Result<
     ensures reads { Reads (state S.Store store.old) (state S.Store store.new) result }
 {
     let names = store.scripts(user)?;
-    Ok(names.len() < SCRIPTS_LIMIT || has_name(names.as_slice(), name))
+    Ok(is_room(names.as_slice(), name))
+}
+
+/// Whether there is room beside scripts of these names.
+fn is_room(names: &[Octets], name: &[u8]) -> bool
+    ensures { IsTrue result ↔ (IsTrue (list_any (pointwise nat_eq name.now) names.now) ⊎ (length names.now < scripts_limit)) }
+{
+    names.len() < SCRIPTS_LIMIT || has_name(names, name)
 }
 
 fn has_name(names: &[Octets], name: &[u8]) -> bool
@@ -133,14 +141,36 @@ fn answer_set<S: Alter>(
     ensures named { IfErr result (λ e. (e ≡ Refusal.NoUser) ⊎ IsPassing e) }
     ensures reads { Reads (state S.Store store.old) (state S.Store store.new) result }
 {
-    if !name.is_empty() && store.script(user, name)?.is_none() {
-        return Ok(reply::declined(alloc, Some(Code::NonExistent), b"No such script.")?);
+    if name.is_empty() {
+        return Ok(reply::accepted(alloc, b"Done.")?);
     }
+    let Some(_) = store.script(user, name)? else {
+        return Ok(reply::declined(alloc, Some(Code::NonExistent), b"No such script.")?);
+    };
     Ok(reply::accepted(alloc, b"Done.")?)
 }
 
-/// Writes what a command makes of the user's account, in one transaction.
-pub fn carry_out<S: Alter>(
+/// Writes what a command makes of the user's account where its answer is OK, in one transaction.
+pub fn obey<S: Alter>(
+    store: &mut Store<S>,
+    user: &[u8],
+    command: Option<&Command>,
+    accepted: bool,
+) -> Result<(), Refusal>
+    ensures made { HasCleanDisk (state S.Store store.new) → OnOk result (Turns (HasUser user.now) (λ all. with_user all user.now (obeyed (command_in command.entry) accepted)) (state S.Store store.old).now (state S.Store store.new).now) }
+    ensures same { HasCleanDisk (state S.Store store.new) → OnErr result (StaysSame (state S.Store store.old) (state S.Store store.new)) }
+    ensures crash { Survives (state S.Store store.old) (state S.Store store.new) (MayShow (HasUser user.now) (λ all. with_user all user.now (obeyed (command_in command.entry) accepted)) (state S.Store store.old)) }
+    ensures named { IfErr result IsPassing }
+{
+    if accepted {
+        carry_out(store, user, command)
+    } else {
+        Ok(())
+    }
+}
+
+/// Writes what a command makes of the user's account.
+fn carry_out<S: Alter>(
     store: &mut Store<S>,
     user: &[u8],
     command: Option<&Command>,

@@ -1,6 +1,6 @@
 //! Replies of one line.
 ghost use Rattle.std.specs.Prelude.{◌≡◌, IfOk, None};
-ghost use Rattle.mailengine.specs.Obeyed.{accepted as accepted_of, declined as declined_of, fault_line};
+ghost use Rattle.mailengine.specs.Obeyed.{accepted as accepted_of, declined as declined_of, is_accepted as is_ok_word, fault_line};
 
 use msproto::{Code, Lines, Reply, Word};
 use octets::{Octets, write_decimal};
@@ -29,6 +29,16 @@ pub fn declined(alloc: Global, code: Option<Code>, text: &[u8]) -> Result<Reply,
         code,
         text: Some(Octets::copy(alloc, text)?),
     })
+}
+
+/// Whether the reply is OK.
+pub fn is_accepted(reply: &Reply) -> bool
+    ensures { result ≡ is_ok_word reply.now.word }
+{
+    match reply.word {
+        Word::Ok => true,
+        Word::No | Word::Bye | Word::Nothing => false,
+    }
 }
 
 /// `NO "line N: TEXT"`

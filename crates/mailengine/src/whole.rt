@@ -9,9 +9,10 @@ ghost use Rattle.mailengine.specs.declared.event.Event.TheVariants.{Whole};
 ghost use Rattle.mailengine.specs.Obeyed.{whole_of};
 ghost use Rattle.mailengine.specs.Stands.{IsEvent, MayLeave, command_told};
 
-use crate::obey::{carry_out, reply_to};
+use crate::obey::{obey, reply_to};
+use crate::reply::is_accepted;
 use mailstore::{Refusal, Store};
-use msproto::{Command, Item, Word, first, spell};
+use msproto::{Command, Item, first, spell};
 use octets::Octets;
 use sqlite::Alter;
 use std::alloc::{AllocError, Global};
@@ -39,9 +40,7 @@ pub fn whole<S: Alter>(
     let reply = reply_to(alloc, store, user, command.as_ref())?;
     let mut out = Octets::new(alloc);
     spell(alloc, &reply, &mut out)?;
-    if let Word::Ok = reply.word {
-        carry_out(store, user, command.as_ref())?;
-    }
+    obey(store, user, command.as_ref(), is_accepted(&reply))?;
     Ok(out)
 }
 

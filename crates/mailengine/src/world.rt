@@ -1,11 +1,10 @@
 //! Events in turn over one store.
 ghost use Rattle.std.specs.Prelude.{◌≡◌, ◌≤◌, length, take, IsTrue};
 ghost use Rattle.sqlite.specs.Held.{state};
-ghost use Rattle.sqlite.specs.State.{HasCleanDisk, Survives};
-ghost use Rattle.mailstore.specs.Account.{Accounts};
+ghost use Rattle.sqlite.specs.State.{Survives};
 ghost use Rattle.mailengine.specs.World.{World as Machine, Runs};
 ghost use Rattle.mailengine.specs.Sound.{AreSound};
-ghost use Rattle.mailengine.specs.Stands.{Stands, IsEvent, MayLeave};
+ghost use Rattle.mailengine.specs.Stands.{IsEvent, IsRun, MayLeave};
 
 use crate::answer::{Answer, Answers, Progress, Ran};
 use crate::delivery::deliver;
@@ -42,7 +41,7 @@ impl<S: Alter> World<S> {
 /// the event, and `whole` is false; the answers are then those of the events so far. An event that is refused
 /// changes nothing, and the run goes on.
 pub fn run<S: Alter>(world: &mut World<S>, events: &[Event]) -> Ran
-    ensures runs { HasCleanDisk (state S.Store world.new.store) → (w : Machine) → Stands (state S.Store world.old.store) w → (end : Machine) × Runs w (take (length result.answers) events.now) result.answers end × Stands (state S.Store world.new.store) end }
+    ensures runs { IsRun (take (length result.answers) events.now) result.answers (state S.Store world.old.store) (state S.Store world.new.store) }
     ensures front { length result.answers ≤ length events.now }
     ensures whole { IsTrue result.whole → length result.answers ≡ length events.now }
     ensures sound { (w end : Machine) → AreSound w.accounts → Runs w (take (length result.answers) events.now) result.answers end → AreSound end.accounts }
@@ -52,7 +51,7 @@ pub fn run<S: Alter>(world: &mut World<S>, events: &[Event]) -> Ran
 
 /// The run, without the theorem on its accounts.
 fn run_events<S: Alter>(world: &mut World<S>, events: &[Event]) -> Ran
-    ensures runs { HasCleanDisk (state S.Store world.new.store) → (w : Machine) → Stands (state S.Store world.old.store) w → (end : Machine) × Runs w (take (length result.answers) events.now) result.answers end × Stands (state S.Store world.new.store) end }
+    ensures runs { IsRun (take (length result.answers) events.now) result.answers (state S.Store world.old.store) (state S.Store world.new.store) }
     ensures front { length result.answers ≤ length events.now }
     ensures whole { IsTrue result.whole → length result.answers ≡ length events.now }
 {

@@ -121,7 +121,7 @@ fn an_empty_script_keeps_the_message(rt: HostRuntime) {
 #[test]
 fn an_empty_script_keeps_the_message_in_a_file(rt: HostRuntime) -> Result<(), std::test::Fail> {
     let folder = env::temp_dir(&rt)?;
-    let name = format!(in rt.alloc(); "sieved-engine-{}.db", process::id(&rt))?;
+    let name = format!(in rt.alloc(); "sieved-engine-{}.db", process::id(rt.process()))?;
     let path = folder.join(rt.alloc(), name.as_str())?;
     let path = format!(in rt.alloc(); "{}", path.display())?;
     let kept = in_a_file(&rt, path.as_str());
