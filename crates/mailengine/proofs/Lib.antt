@@ -1,5 +1,6 @@
 pub mod DeliveryLemmas
 pub mod EventLemmas
+mod Examples
 pub mod MailboxLemmas
 pub mod ObeyLemmas
 pub mod RunLemmas
