@@ -12,7 +12,6 @@ use Rattle.mailengine.specs.Limits.{IsScriptName, is_envelope_address, cause_of}
 use Rattle.mailengine.specs.Delivered.{Files}
 use Rattle.mailengine.specs.Obeyed.{accepted, RepliesToSet, is_ok}
 use Rattle.mailengine.specs.World.{World, Says, MayRefuse, Runs}
-use Rattle.mailengine.specs.Sound.{IsSound}
 
 -- ---- names
 
@@ -92,20 +91,3 @@ no_events = refl
 
 answer_without_event : Runs nobody [] (Refused NoUser ∷ []) nobody → ⊥
 answer_without_event h = h
-
--- ---- sound accounts
-
-fresh_sound : IsSound fresh
-fresh_sound = record {
-  scripts = λ name text e. absurd (let none : None ≡ Some text = sym (get-empty name) ∙ e in cc);
-  count = subst (λ n. n ≤ 32) (sym (len-empty bytes_cmp (List ℕ))) (omega arith);
-  active = λ name e. absurd (let none : None ≡ Some name = e in cc);
-  folders = λ name e. let none : None ≡ Some [] = sym (get-empty name) ∙ e in cc;
-}
-
--- an active name that is no script's
-absent_unsound : IsSound (record fresh { active = Some (codes "m") }) → ⊥
-absent_unsound s =
-    let there = s.active (codes "m") refl in
-    let none : is_some (get fresh.scripts (codes "m")) ≡ false = ap is_some (get-empty (codes "m")) in
-    cc

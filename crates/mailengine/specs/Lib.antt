@@ -4,7 +4,6 @@ pub mod Mailboxes
 pub mod Obeyed
 pub mod Plans
 pub mod Runs
-pub mod Sound
 pub mod Stands
 pub mod Tests
 pub mod World

@@ -1,6 +1,5 @@
 //! Deliveries and commands, over a store in memory and over one in a file.
-use mailengine::world::{World, run};
-use mailengine::{Answer, Envelope, Event, Progress, Refusal, deliver};
+use mailengine::{Envelope, Refusal, deliver};
 use mailstore::Store;
 use octets::Octets;
 use sqlite::{Alter, Connection};
@@ -33,76 +32,30 @@ fn envelope(alloc: Global, from: &[u8]) -> Result<Envelope, Refusal> {
     })
 }
 
-fn command(alloc: Global, bytes: &[u8]) -> Result<Event, Refusal> {
-    Ok(Event::Whole {
-        user: Octets::copy(alloc, b"alice")?,
-        bytes: Octets::copy(alloc, bytes)?,
-    })
+/// M1 goes into INBOX, where the active script is empty.
+fn empty_script<S: Alter + Drop>(alloc: Global, conn: Connection<S>) -> Result<bool, Refusal> {
+    let mut store = with_alice(alloc, conn)?;
+    store.put_script(b"alice", b"e", b"")?;
+    store.set_active(b"alice", Some(b"e"))?;
+    goes_into(alloc, &mut store, b"INBOX")
 }
 
-fn delivery(alloc: Global) -> Result<Event, Refusal> {
-    Ok(Event::Deliver {
-        user: Octets::copy(alloc, b"alice")?,
-        envelope: envelope(alloc, b"bob@example.net")?,
-        message: Octets::copy(alloc, M1)?,
-        moment: 1_700_000_000,
-    })
-}
-
-fn is_out(answer: &Answer, octets: &[u8]) -> bool {
-    match answer {
-        Answer::Out(Progress::Done, out) => out.as_slice() == octets,
-        _ => false,
-    }
-}
-
-fn files(answer: &Answer, folder: &[u8]) -> bool {
-    match answer {
-        Answer::Delivered(report) => match report.filed.as_slice() {
-            [filed] => filed.as_slice() == folder,
-            _ => false,
-        },
-        _ => false,
-    }
-}
-
-/// Two commands with their answers, and then M1, which goes into the folder.
-fn goes_into<S: Alter + Drop>(
+fn goes_into<S: Alter>(
     alloc: Global,
-    world: &mut World<S>,
-    put: &[u8],
-    set: &[u8],
+    store: &mut Store<S>,
     folder: &[u8],
 ) -> Result<bool, Refusal> {
-    let mut events = Vec::new(alloc);
-    events.push(command(alloc, put)?)?;
-    events.push(command(alloc, set)?)?;
-    events.push(delivery(alloc)?)?;
-    let ran = run(world, events.as_slice());
-    let answered = match ran.answers.as_slice() {
-        [stored, done, delivered] => {
-            is_out(stored, b"OK \"Stored.\"\r\n")
-                && is_out(done, b"OK \"Done.\"\r\n")
-                && files(delivered, folder)
-        }
+    let envelope = envelope(alloc, b"bob@example.net")?;
+    let report = deliver(alloc, store, b"alice", &envelope, M1, 1_700_000_000)?;
+    let filed = match report.filed.as_slice() {
+        [filed] => filed.as_slice() == folder,
         _ => false,
     };
-    let kept = match world.store.folder(b"alice", folder)?.as_slice() {
+    let kept = match store.folder(b"alice", folder)?.as_slice() {
         [message] => message.as_slice() == M1,
         _ => false,
     };
-    Ok(ran.whole && ran.answers.len() == 3 && answered && kept)
-}
-
-fn empty_script<S: Alter + Drop>(alloc: Global, conn: Connection<S>) -> Result<bool, Refusal> {
-    let mut world = World::new(alloc, with_alice(alloc, conn)?);
-    goes_into(
-        alloc,
-        &mut world,
-        b"PUTSCRIPT \"e\" {0+}\r\n\r\n",
-        b"SETACTIVE \"e\"\r\n",
-        b"INBOX",
-    )
+    Ok(filed && kept)
 }
 
 fn in_memory(rt: &HostRuntime) -> Result<bool, Refusal> {
@@ -130,81 +83,21 @@ fn an_empty_script_keeps_the_message_in_a_file(rt: HostRuntime) -> Result<(), st
     Ok(())
 }
 
-fn session(rt: &HostRuntime) -> Result<bool, Refusal> {
+fn by_the_active_script(rt: &HostRuntime) -> Result<bool, Refusal> {
     let alloc = rt.alloc();
-    let conn = Connection::open_in_memory(alloc)?;
-    let mut world = World::new(alloc, with_alice(alloc, conn)?);
-    goes_into(
-        alloc,
-        &mut world,
-        b"PUTSCRIPT \"main\" {40+}\r\nrequire \"fileinto\";\r\nfileinto \"lists\";\r\n\r\n",
-        b"SETACTIVE \"main\"\r\n",
-        b"lists",
-    )
+    let mut store = with_alice(alloc, Connection::open_in_memory(alloc)?)?;
+    store.put_script(
+        b"alice",
+        b"main",
+        b"require \"fileinto\";\r\nfileinto \"lists\";\r\n",
+    )?;
+    store.set_active(b"alice", Some(b"main"))?;
+    goes_into(alloc, &mut store, b"lists")
 }
 
 #[test]
-fn a_script_is_stored_and_files_by_its_commands(rt: HostRuntime) {
-    assert!(rt; matches!(session(&rt), Ok(true)));
-}
-
-/// What one command is answered, in a store where alice has no script.
-fn answered(rt: &HostRuntime, bytes: &[u8], answer: &[u8]) -> Result<bool, Refusal> {
-    let alloc = rt.alloc();
-    let conn = Connection::open_in_memory(alloc)?;
-    let mut world = World::new(alloc, with_alice(alloc, conn)?);
-    let mut events = Vec::new(alloc);
-    events.push(command(alloc, bytes)?)?;
-    events.push(command(alloc, b"SETACTIVE \"m\"\r\n")?)?;
-    let ran = run(&mut world, events.as_slice());
-    let none = world.store.scripts(b"alice")?.is_empty();
-    Ok(match ran.answers.as_slice() {
-        [first, second] => {
-            is_out(first, answer)
-                && is_out(second, b"NO (NONEXISTENT) \"No such script.\"\r\n")
-                && none
-        }
-        _ => false,
-    })
-}
-
-#[test]
-fn what_is_not_stored_is_not_there(rt: HostRuntime) {
-    for (bytes, answer) in [
-        (
-            b"PUTSCRIPT \"m\" {13+}\r\nfileinto \"x\";\r\n".as_slice(),
-            b"NO \"line 1: extension not required\"\r\n".as_slice(),
-        ),
-        (
-            b"PUTSCRIPT \"\" {0+}\r\n\r\n",
-            b"NO \"Bad script name.\"\r\n",
-        ),
-        (
-            b"PUTSCRIPT \"a\\\\b\x7f\" {0+}\r\n\r\n",
-            b"NO \"Bad script name.\"\r\n",
-        ),
-        (
-            b"PUTSCRIPT \"\xe2\x80\xa8\" {0+}\r\n\r\n",
-            b"NO \"Bad script name.\"\r\n",
-        ),
-        (
-            b"PUTSCRIPT \"m\" {0+}\r\n\r\nNOOP\r\n",
-            b"NO \"Syntax error.\"\r\n",
-        ),
-        (
-            b"PUTSCRIPT \"m\" {03+}\r\nabc\r\n",
-            b"NO \"Syntax error.\"\r\n",
-        ),
-        (
-            b"PUTSCRIPT \"m\" {1048577+}\r\n",
-            b"NO \"Syntax error.\"\r\n",
-        ),
-        (b"NOOP\r\n", b"NO \"Syntax error.\"\r\n"),
-        (b"", b"NO \"Syntax error.\"\r\n"),
-        (b"SETACTIVE \"\"\r\n", b"OK \"Done.\"\r\n"),
-    ] {
-        assert!(rt; matches!(answered(&rt, bytes, answer), Ok(true)));
-    }
+fn a_message_is_filed_by_the_active_script(rt: HostRuntime) {
+    assert!(rt; matches!(by_the_active_script(&rt), Ok(true)));
 }
 
 /// Whether a delivery is refused so, and nothing is filed.
