@@ -7,8 +7,6 @@ mod engine_tests;
 mod fault;
 mod framing;
 mod report;
-#[cfg(test)]
-mod store_tests;
 mod stream;
 #[cfg(test)]
 mod tests;
