@@ -1,4 +1,10 @@
+pub mod Delivered
+pub mod Limits
 pub mod Notices
+pub mod Obeyed
+pub mod Plans
+pub mod Stands
+pub mod World
 pub use Rattle.sievesyntax.specs.Meaning
 pub use Rattle.sievesyntax.specs.Means
 pub use Rattle.sievesyntax.specs.Tree

@@ -2,6 +2,8 @@
 #![tactic(auto)]
 
 mod answer;
+#[cfg(test)]
+mod engine_tests;
 mod fault;
 mod framing;
 mod report;

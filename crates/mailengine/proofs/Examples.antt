@@ -1,0 +1,93 @@
+-- The definitions on small cases: one that is right, and one that nearly is.
+use Rattle.std.proofs.Common.{◌≡◌, ◌≢◌, ℕ, ◌≤◌, Bool, true, false, List, [], ◌∷◌, codes, length, is_some, Option, Some, None, IsSome, refl, sym, ◌∙◌, ap, subst, inl, inr, arith}
+use Rattle.std.specs.FinMap.{empty, get, len, get-empty, len-empty}
+use Rattle.std.specs.Str.{chars}
+use Rattle.sievesyntax.specs.SoFar.{inbox}
+use Rattle.mailstore.specs.declared.refusal.Refusal.TheVariants.{Store, NoUser, BadEnvelope, BadMoment}
+use Rattle.mailstore.specs.Account.{bytes_cmp, Account, new_account}
+use Rattle.sieveexec.specs.declared.envelope.Envelope.{Envelope}
+use Rattle.mailengine.specs.declared.event.Event.TheVariants.{Deliver, Whole}
+use Rattle.mailengine.specs.declared.answer.Answer.TheVariants.{Refused}
+use Rattle.mailengine.specs.Limits.{IsScriptName, is_envelope_address, cause_of}
+use Rattle.mailengine.specs.Delivered.{Files}
+use Rattle.mailengine.specs.Obeyed.{accepted, RepliesToSet, is_ok}
+use Rattle.mailengine.specs.World.{World, Says, MayRefuse, Runs}
+
+-- ---- names
+
+name_right : IsScriptName (codes "e")
+unfolding chars
+name_right = record { utf8 = (codes "e", (refl, refl)); present = omega arith; short = omega arith; allowed = refl }
+
+name_empty : IsScriptName [] → ⊥
+unfolding chars
+name_empty n = let none : 1 ≤ 0 = n.present in absurd (omega arith)
+
+name_with_delete : IsScriptName (97 ∷ 127 ∷ []) → ⊥
+unfolding chars
+name_with_delete n = let barred : true ≡ false = n.allowed in cc
+
+-- ---- deliveries
+
+abbrev pub no_addresses : Envelope
+no_addresses = record { from = []; to = [] }
+
+address_right : is_envelope_address (codes "bob@example.net") ≡ true
+address_right = refl
+
+address_with_return : is_envelope_address (98 ∷ 13 ∷ []) ≡ false
+address_with_return = refl
+
+moment_last : cause_of no_addresses [] 253402300799 ≡ None
+moment_last = refl
+
+moment_past : cause_of no_addresses [] 253402300800 ≡ Some BadMoment
+moment_past = refl
+
+-- the address goes before the moment
+address_first : cause_of (record { from = 10 ∷ []; to = [] }) [] 253402300800 ≡ Some BadEnvelope
+address_first = refl
+
+kept_without_script : Files None no_addresses [] (inbox ∷ [])
+kept_without_script = refl
+
+dropped_without_script : Files None no_addresses [] [] → ⊥
+dropped_without_script e = let no : [] ≡ inbox ∷ [] = e in cc
+
+-- ---- commands
+
+abbrev pub fresh : Account
+fresh = new_account (codes "alice@example.org") (record { salt = []; rounds = 1; digest = [] })
+
+none_active : RepliesToSet fresh [] (accepted (codes "Done."))
+none_active = inl (inl refl, refl)
+
+-- a script that isn't there isn't made active
+absent_active : RepliesToSet fresh (codes "m") (accepted (codes "Done.")) → ⊥
+absent_active (inl (inl e, is)) = cc
+absent_active (inl (inr there, is)) = let none : is_some (get fresh.scripts (codes "m")) ≡ false = ap is_some (get-empty (codes "m")) in cc
+absent_active (inr (absent, is)) = cc
+
+ok_right : is_ok (codes "OK \"Done.\"") ≡ true
+ok_right = refl
+
+ok_near : is_ok (codes "NO \"Done.\"") ≡ false
+ok_near = refl
+
+-- ---- the machine
+
+abbrev pub nobody : World
+nobody = record { accounts = empty }
+
+stranger : Says nobody (Whole (codes "carol") []) (Refused NoUser)
+stranger = let none : get nobody.accounts (codes "carol") ≡ None = get-empty (codes "carol") in rw none refl
+
+-- a delivery with a cause of its own isn't refused by the store
+never_failed : MayRefuse nobody (Deliver (codes "carol") no_addresses [] 253402300800) Store → ⊥
+never_failed h = let no : false ≡ true = h in cc
+
+no_events : Runs nobody [] [] nobody
+no_events = refl
+
+answer_without_event : Runs nobody [] (Refused NoUser ∷ []) nobody → ⊥
+answer_without_event h = h

@@ -1,0 +1,4 @@
+pub mod DeliveryLemmas
+mod Examples
+pub mod StandLemmas
+pub mod ViewLemmas

@@ -1,0 +1,25 @@
+//! What happens to the accounts, one event after the other.
+use sieveexec::Envelope;
+use octets::Octets;
+
+/// What happens, with all that it brings from outside.
+#[derive(Drop)]
+pub enum Event {
+    /// A message is delivered to a user.
+    Deliver {
+        /// The user's name.
+        user: Octets,
+        envelope: Envelope,
+        /// The octets that were received.
+        message: Octets,
+        /// When, in seconds since 1970-01-01 UTC.
+        moment: u64,
+    },
+    /// A user sends one `PUTSCRIPT` or `SETACTIVE` as a whole (RFC 5804, 2.6 and 2.8).
+    Whole {
+        /// The user's name; the user counts as logged in.
+        user: Octets,
+        /// The command with its line end, and nothing more.
+        bytes: Octets,
+    },
+}

@@ -1,0 +1,44 @@
+//! What is taken: sizes, names and moments.
+ghost use Rattle.std.specs.Prelude.{◌≡◌};
+ghost use Rattle.std.specs.List.{list_any};
+ghost use Rattle.mailengine.specs.Limits.{cause_of, is_envelope_address, is_broken};
+
+use sieveexec::Envelope;
+use mailstore::Refusal;
+
+/// How many octets a message may have.
+pub const MESSAGE_LIMIT: usize = 33_554_432;
+/// How many octets an envelope address may have.
+pub const ADDRESS_LIMIT: usize = 1_024;
+/// The last second of the year 9999.
+pub const MOMENT_LIMIT: u64 = 253_402_300_799;
+
+/// Why a delivery is refused before anything is looked up, the first cause in the order of these. Takes no memory.
+pub fn denied(envelope: &Envelope, message: &[u8], moment: u64) -> Option<Refusal>
+    ensures { result ≡ cause_of envelope.now message.now moment }
+{
+    if message.len() > MESSAGE_LIMIT {
+        return Some(Refusal::TooLarge);
+    }
+    if !(is_address(envelope.from.as_slice()) && is_address(envelope.to.as_slice())) {
+        return Some(Refusal::BadEnvelope);
+    }
+    if moment > MOMENT_LIMIT {
+        return Some(Refusal::BadMoment);
+    }
+    None
+}
+
+/// Whether an envelope address is taken.
+fn is_address(text: &[u8]) -> bool
+    ensures { result ≡ is_envelope_address text.now }
+{
+    text.len() <= ADDRESS_LIMIT && !has_broken(text)
+}
+
+fn has_broken(text: &[u8]) -> bool
+    ensures { result ≡ list_any is_broken text.now }
+{
+    text.iter()
+        .any(|octet| *octet == 0 || *octet == b'\n' || *octet == b'\r')
+}
