@@ -16,7 +16,7 @@ use Rattle.mailengine.specs.World.{World, Says, MayRefuse, Runs}
 -- ---- names
 
 name_right : IsScriptName (codes "e")
-unfolding chars
+unfolding chars lib.Utf8.encode
 name_right = record { utf8 = (codes "e", (refl, refl)); present = omega arith; short = omega arith; allowed = refl }
 
 name_empty : IsScriptName [] → ⊥
@@ -65,7 +65,7 @@ none_active = inl (inl refl, refl)
 -- a script that isn't there isn't made active
 absent_active : RepliesToSet fresh (codes "m") (accepted (codes "Done.")) → ⊥
 absent_active (inl (inl e, is)) = cc
-absent_active (inl (inr there, is)) = let none : is_some (get fresh.scripts (codes "m")) ≡ false = ap is_some (get-empty (codes "m")) in cc
+absent_active (inl (inr there, is)) = let none : is_some (get fresh.scripts (codes "m")) ≡ false = ap is_some (get-empty bytes_cmp (codes "m")) in cc
 absent_active (inr (absent, is)) = cc
 
 ok_right : is_ok (codes "OK \"Done.\"") ≡ true
@@ -80,7 +80,7 @@ abbrev pub nobody : World
 nobody = record { accounts = empty }
 
 stranger : Says nobody (Whole (codes "carol") []) (Refused NoUser)
-stranger = let none : get nobody.accounts (codes "carol") ≡ None = get-empty (codes "carol") in rw none refl
+stranger = let none : get nobody.accounts (codes "carol") ≡ None = get-empty bytes_cmp (codes "carol") in rw none refl
 
 -- a delivery with a cause of its own isn't refused by the store
 never_failed : MayRefuse nobody (Deliver (codes "carol") no_addresses [] 253402300800) Store → ⊥

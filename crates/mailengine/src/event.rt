@@ -1,6 +1,6 @@
 //! What happens to the accounts, one event after the other.
-use sieveexec::Envelope;
 use octets::Octets;
+use sieveexec::Envelope;
 
 /// What happens, with all that it brings from outside.
 #[derive(Drop)]

@@ -3,8 +3,8 @@ ghost use Rattle.std.specs.Prelude.{◌≡◌};
 ghost use Rattle.std.specs.List.{list_any};
 ghost use Rattle.mailengine.specs.Limits.{cause_of, is_envelope_address, is_broken};
 
-use sieveexec::Envelope;
 use mailstore::Refusal;
+use sieveexec::Envelope;
 
 /// How many octets a message may have.
 pub const MESSAGE_LIMIT: usize = 33_554_432;

@@ -2,7 +2,7 @@
 ghost use Rattle.std.specs.Prelude.{◌≡◌, [], ◌∷◌, IfOk, nat_eq};
 ghost use Rattle.std.specs.List.{list_any};
 ghost use Rattle.std.specs.Cmp.Lexicographic.{pointwise};
-ghost use Rattle.sievesyntax.specs.SoFar.{inbox as inbox_of};
+ghost use Rattle.sievesyntax.specs.SoFar.{inbox as inbox_of, with_mailbox};
 ghost use Rattle.mailstore.specs.Cells.{contents};
 ghost use Rattle.sieveexec.specs.Runs.{outcome_view};
 ghost use Rattle.mailengine.specs.Delivered.{Files, kept_by, kept_with};
@@ -61,7 +61,11 @@ fn kept(alloc: Global, outcome: Outcome) -> Result<Texts, AllocError>
 {
     match outcome {
         Outcome::Failed(_) => inbox(alloc),
-        Outcome::Done { filed, sent, reply: _ } => kept_with(alloc, sent.as_slice(), filed),
+        Outcome::Done {
+            filed,
+            sent,
+            reply: _,
+        } => kept_with(alloc, sent.as_slice(), filed),
     }
 }
 
@@ -69,7 +73,17 @@ fn kept(alloc: Global, outcome: Outcome) -> Result<Texts, AllocError>
 fn kept_with(alloc: Global, sent: &[Addr], filed: Texts) -> Result<Texts, AllocError>
     ensures { IfOk result (λ kept. kept ≡ kept_with sent.now filed) }
 {
-    if sent.is_empty() || is_among(filed.as_slice(), INBOX) {
+    match sent.split_first() {
+        None => Ok(filed),
+        Some(_) => with_inbox(alloc, filed),
+    }
+}
+
+/// The mailboxes with INBOX behind them, unless it is there.
+fn with_inbox(alloc: Global, filed: Texts) -> Result<Texts, AllocError>
+    ensures { IfOk result (λ kept. kept ≡ with_mailbox filed inbox_of) }
+{
+    if is_among(filed.as_slice(), INBOX) {
         return Ok(filed);
     }
     let mut kept = filed;
