@@ -100,7 +100,8 @@ fn a_field_folded_a_million_times(rt: HostRuntime) -> Result<(), Fail> {
 #[test]
 fn a_field_of_thirty_megabytes(rt: HostRuntime) -> Result<(), Fail> {
     let alloc = rt.alloc();
-    let message = repeated(alloc, b"X: ", b"abcdefghij", 3_000_000, b"k\r\n")?;
+    let part = repeated(alloc, b"", b"abcdefghij", 1_000, b"")?;
+    let message = repeated(alloc, b"X: ", part.as_slice(), 3_000, b"k\r\n")?;
     let check = header(alloc, Matching::Contains, b"x", b"jk")?;
     assert_eq!(rt; says(alloc, message.as_slice(), &check)?, (true, true));
     Ok(())
