@@ -1,14 +1,14 @@
 -- The definitions at a few texts: what they hold of, and what is near it that they don't.
-use Rattle.std.proofs.Common.{◌≡◌, ℕ, ◌⊎◌, true, false, Option, Some, None, List, [], ◌∷◌, drop, get_or, refl, ap, ◌∙◌, inl, inr, arith}
+use Rattle.std.proofs.Common.{◌≡◌, ℕ, true, false, Some, None, List, [], ◌∷◌, drop, get_or, refl, ap, ◌∙◌, inl, inr, arith}
 use Rattle.std.proofs.lemmas.Bool.{false≢true, true≢false}
 use Rattle.std.proofs.lemmas.Option.{none-some}
 use Rattle.addrparts.specs.declared.scanner.Kind.{Kind}
 use Rattle.addrparts.specs.declared.scanner.Kind.TheVariants as K
 use Rattle.addrparts.specs.declared.address.Addr.{Addr}
-use Rattle.addrparts.specs.Pieces.{Piece, is_atom, Plain, Pair, IsEnclosed, IsQuoted, End, Note, Nested, IsComment, unquoted}
-use Rattle.addrparts.specs.Parts.{Part, IsUncut, AreParts, IsWord, IsAtom, Dotted, IsSpec, Gives, AreAddresses}
+use Rattle.addrparts.specs.Pieces.{Piece, is_atom, Plain, Pair, IsEnclosed, IsQuoted, End, Note, Nested, IsComment}
+use Rattle.addrparts.specs.Parts.{IsUncut, AreParts, IsWord, IsAtom, Dotted, Gives, AreAddresses}
 use Rattle.addrparts.specs.Outbound.{is_shown, is_fit, BeginsWithWord, IsOutbound, IsBareAddress}
-use Rattle.addrparts.specs.Spelling.{is_dot_atom, local_spelling, spelling, all_of, IsDomain}
+use Rattle.addrparts.specs.Spelling.{is_dot_atom, spelling, all_of, IsDomain}
 use Rattle.addrparts.specs.Reading.{behind, behind_comment, pieces, addrs, outbound, bare}
 use Rattle.addrparts.proofs.Enclosed.{behind-again, comment-again}
 use Rattle.addrparts.proofs.Quotes.{quoted-value}

@@ -139,7 +139,7 @@ impl<'a> Draft<'a> {
         &mut self,
         alloc: Global,
         kind: Kind,
-        text: &'a [u8],
+        text: &[u8],
         from: &'a [u8],
     ) -> Result<(), AllocError>
         ensures { OnOk result (self.new ≡ reading.read self.old kind text.now) }
@@ -163,7 +163,7 @@ impl<'a> Draft<'a> {
         &mut self,
         alloc: Global,
         kind: Kind,
-        text: &'a [u8],
+        text: &[u8],
         from: &'a [u8],
     ) -> Result<(), AllocError>
         ensures { OnOk result (self.new ≡ reading.take_at self.old.place self.old kind text.now) }
@@ -208,11 +208,13 @@ impl<'a> Draft<'a> {
     }
 
     /// Reads a token that doesn't end the part. A blank or a comment changes nothing.
+    ///
+    /// `from` is the value from the token on. It spares copies; what is read doesn't depend on it.
     pub(crate) fn take(
         &mut self,
         alloc: Global,
         kind: Kind,
-        text: &'a [u8],
+        text: &[u8],
         from: &'a [u8],
     ) -> Result<(), AllocError>
         ensures { OnOk result (self.new ≡ reading.taken self.old kind text.now) }

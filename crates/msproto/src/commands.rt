@@ -14,19 +14,25 @@ pub enum Command {
     Logout,
     /// Logs in by a SASL mechanism, perhaps with the client's first words (section 2.1).
     Authenticate {
+        /// The mechanism's name, as it was sent.
         mechanism: Octets,
+        /// The first response, where there is one.
         response: Option<Octets>,
     },
     /// Leaves the login (section 2.14).
     Unauthenticate,
     /// Asks whether a script of so many octets would be taken (section 2.5).
     HaveSpace {
+        /// The script's name.
         name: Octets,
+        /// The script's size in octets.
         size: u32,
     },
     /// Stores a script (section 2.6).
     PutScript {
+        /// The script's name.
         name: Octets,
+        /// The script's text.
         script: Octets,
     },
     /// Checks a script and stores nothing (section 2.12).
@@ -41,7 +47,9 @@ pub enum Command {
     DeleteScript(Octets),
     /// Gives a script another name (section 2.11.1).
     RenameScript {
+        /// The name that the script has.
         old: Octets,
+        /// The name that it is to have.
         new: Octets,
     },
     /// The string alone that answers a challenge, while one is pending (section 2.1).

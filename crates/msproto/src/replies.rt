@@ -10,17 +10,24 @@ use std::marker::Model;
 /// With the word `Nothing` there is no last line, and code and text aren't written.
 #[derive(Drop)]
 pub struct Reply {
+    /// The lines before the last one.
     pub lines: Lines,
+    /// The last line's word.
     pub word: Word,
+    /// What the last line says for programs.
     pub code: Option<Code>,
+    /// What the last line says for people.
     pub text: Option<Octets>,
 }
 
 /// The first word of an answer's last line (RFC 5804, sections 1.2 and 1.3).
 #[derive(Clone, Copy)]
 pub enum Word {
+    /// It was done.
     Ok,
+    /// It was not.
     No,
+    /// It was not, and the server closes the connection.
     Bye,
     /// No last line.
     Nothing,
@@ -44,11 +51,17 @@ pub enum Line {
 pub enum Code {
     /// The string that `NOOP` came with.
     Tag(Octets),
+    /// The script is too large.
     MaxSize,
+    /// There are too many scripts.
     MaxScripts,
+    /// There is no such script.
     NonExistent,
+    /// The script is the active one.
     Active,
+    /// A script has that name already.
     AlreadyExists,
+    /// The server can't do it now.
     TryLater,
 }
 
@@ -77,13 +90,14 @@ impl Lines {
         }
     }
 
+    /// The lines, in order. Takes no memory.
     pub fn as_slice(&self) -> &[Line]
         ensures { result.now ≡ self.now }
     {
         self.items.as_slice()
     }
 
-    /// Appends one line; without memory the lines stay, and the one is dropped.
+    /// Appends one line, in constant time but for growth; without memory the lines stay, and the one is dropped.
     pub fn push(&mut self, line: Line) -> Result<(), AllocError>
         ensures ok { OnOk result (self.new ≡ self.old ++ line ∷ []) }
         ensures err { OnErr result (self.new ≡ self.old) }

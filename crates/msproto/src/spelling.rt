@@ -13,7 +13,8 @@ const LONGEST_QUOTED: usize = 1024;
 
 /// Appends the answer's octets: strings are quoted where they fit, with `\` before each `"` and `\`, else literals.
 ///
-/// A text is copied once. Lack of memory is the only error; `out` is then as before.
+/// Time and memory are linear in the answer's octets; a text is copied once. Lack of memory is the only error, and `out`
+/// is then as before.
 pub fn spell(alloc: Global, reply: &Reply, out: &mut Octets) -> Result<(), AllocError>
     ensures ok { OnOk result (out.new ≡ out.old ++ s.spelled reply.now) }
     ensures err { OnErr result (out.new ≡ out.old) }

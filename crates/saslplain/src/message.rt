@@ -11,7 +11,9 @@ use std::alloc::{AllocError, Global};
 /// A user's name and password, neither empty nor with a NUL in it.
 #[derive(Drop)]
 pub struct Login {
+    /// The user's name (the authcid).
     pub user: Octets,
+    /// The password, as it was sent.
     pub password: Octets,
 }
 

@@ -9,8 +9,11 @@ use sha2::{Digest, Sha256};
 /// A password as it is kept: the salt, how many rounds, and the digest that they gave.
 #[derive(Drop)]
 pub struct Record {
+    /// What is hashed before the password.
     pub salt: Octets,
+    /// How often the digest was hashed again.
     pub rounds: u32,
+    /// The digest; one that isn't of 32 octets accepts no password.
     pub digest: Octets,
 }
 

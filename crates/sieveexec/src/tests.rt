@@ -52,46 +52,70 @@ fn a_mail_has_what_was_read(rt: HostRuntime) -> Result<(), Fail> {
     Ok(())
 }
 
+/// Whether a test says what is wanted of a message, both times.
+fn agrees(alloc: Global, message: &[u8], check: &Check, wanted: bool) -> Result<bool, Fail> {
+    let said = says(alloc, message, check)?;
+    Ok(said.0 == wanted && said.1 == wanted)
+}
+
+fn header_check(alloc: Global, row: &[u8]) -> Result<Check, Fail> {
+    let fields = list(alloc, column(row, 3))?;
+    let keys = list(alloc, column(row, 4))?;
+    Ok(Check::Header(Header {
+        comparator: collation(column(row, 1)),
+        matching: matching(column(row, 2)),
+        fields,
+        keys,
+    }))
+}
+
 #[test]
 fn header_looks_at_texts(rt: HostRuntime) -> Result<(), Fail> {
-    let alloc = rt.alloc();
     for row in HEADERS {
-        let check = Check::Header(Header {
-            comparator: collation(column(row, 1)),
-            matching: matching(column(row, 2)),
-            fields: list(alloc, column(row, 3))?,
-            keys: list(alloc, column(row, 4))?,
-        });
-        let said = says(alloc, message(column(row, 0)), &check)?;
-        let wanted = holds(column(row, 5));
-        assert!(rt; said.0 == wanted && said.1 == wanted);
+        let check = header_check(rt.alloc(), row)?;
+        let agreed = agrees(
+            rt.alloc(),
+            message(column(row, 0)),
+            &check,
+            holds(column(row, 5)),
+        )?;
+        assert!(rt; agreed);
     }
     Ok(())
+}
+
+fn address_check(alloc: Global, row: &[u8]) -> Result<Check, Fail> {
+    let fields = list(alloc, column(row, 4))?;
+    let keys = list(alloc, column(row, 5))?;
+    Ok(Check::Address(Address {
+        comparator: collation(column(row, 1)),
+        part: part(column(row, 2)),
+        matching: matching(column(row, 3)),
+        fields,
+        keys,
+    }))
 }
 
 #[test]
 fn address_looks_at_addresses(rt: HostRuntime) -> Result<(), Fail> {
-    let alloc = rt.alloc();
     for row in ADDRESSES {
-        let check = Check::Address(Address {
-            comparator: collation(column(row, 1)),
-            part: part(column(row, 2)),
-            matching: matching(column(row, 3)),
-            fields: list(alloc, column(row, 4))?,
-            keys: list(alloc, column(row, 5))?,
-        });
-        let said = says(alloc, message(column(row, 0)), &check)?;
-        let wanted = holds(column(row, 6));
-        assert!(rt; said.0 == wanted && said.1 == wanted);
+        let check = address_check(rt.alloc(), row)?;
+        let agreed = agrees(
+            rt.alloc(),
+            message(column(row, 0)),
+            &check,
+            holds(column(row, 6)),
+        )?;
+        assert!(rt; agreed);
     }
     Ok(())
 }
 
-/// What an `envelope` test says, with these words for what it looks at.
-fn envelope_says(alloc: Global, row: &[u8]) -> Result<bool, Fail> {
+fn envelope_check(alloc: Global, row: &[u8]) -> Result<Check, Fail> {
+    let keys = list(alloc, column(row, 6))?;
     let looks = column(row, 5);
     let both = looks == b"both".as_slice();
-    let check = Check::Envelope(EnvelopeTest {
+    Ok(Check::Envelope(EnvelopeTest {
         comparator: collation(column(row, 2)),
         part: part(column(row, 3)),
         matching: matching(column(row, 4)),
@@ -99,30 +123,39 @@ fn envelope_says(alloc: Global, row: &[u8]) -> Result<bool, Fail> {
             from: both || looks == b"from".as_slice(),
             to: both || looks == b"to".as_slice(),
         },
-        keys: list(alloc, column(row, 6))?,
-    });
+        keys,
+    }))
+}
+
+/// What a test says of an envelope.
+fn envelope_says(alloc: Global, row: &[u8], check: &Check) -> Result<bool, Fail> {
     let received = envelope(alloc, column(row, 0), column(row, 1))?;
     let mail = Mail::read(alloc, b"From: other@x\n", received)?;
     let mut looked = Looked::new(alloc, &mail);
-    Ok(looked.holds(alloc, &check)?)
+    Ok(looked.holds(alloc, check)?)
 }
 
 #[test]
 fn envelope_looks_at_what_was_received(rt: HostRuntime) -> Result<(), Fail> {
     for row in ENVELOPES {
-        assert_eq!(rt; envelope_says(rt.alloc(), row)?, holds(column(row, 7)));
+        let check = envelope_check(rt.alloc(), row)?;
+        let said = envelope_says(rt.alloc(), row, &check)?;
+        assert!(rt; said == holds(column(row, 7)));
     }
     Ok(())
 }
 
 #[test]
 fn exists_wants_each_field(rt: HostRuntime) -> Result<(), Fail> {
-    let alloc = rt.alloc();
     for row in EXISTS {
-        let check = Check::Exists(list(alloc, column(row, 1))?);
-        let said = says(alloc, message(column(row, 0)), &check)?;
-        let wanted = holds(column(row, 2));
-        assert!(rt; said.0 == wanted && said.1 == wanted);
+        let check = Check::Exists(list(rt.alloc(), column(row, 1))?);
+        let agreed = agrees(
+            rt.alloc(),
+            message(column(row, 0)),
+            &check,
+            holds(column(row, 2)),
+        )?;
+        assert!(rt; agreed);
     }
     Ok(())
 }
@@ -146,8 +179,7 @@ fn size_is_over_or_under(rt: HostRuntime) -> Result<(), Fail> {
             bound: *bound,
             limit: *limit,
         });
-        let said = says(alloc, message.as_slice(), &check)?;
-        assert!(rt; said.0 == *wanted && said.1 == *wanted);
+        assert!(rt; agrees(alloc, message.as_slice(), &check, *wanted)?);
     }
     Ok(())
 }

@@ -368,6 +368,8 @@ fn writes_a_file_that_another_connection_reads(rt: HostRuntime) -> Result<(), Fa
     for (sql, wanted) in table {
         assert_eq!(rt; rows(&rt, path.as_str(), sql)?, wanted, "{sql}");
     }
+    let log = format!(in alloc; "{}-wal", path.as_str())?;
+    fs::remove_file(&rt, log.as_str())?;
     fs::remove_file(&rt, path.as_str())?;
     Ok(())
 }
