@@ -62,12 +62,6 @@ fresh = new_account (codes "alice@example.org") (record { salt = []; rounds = 1;
 none_active : RepliesToSet fresh [] (accepted (codes "Done."))
 none_active = inl (inl refl, refl)
 
--- a script that isn't there isn't made active
-absent_active : RepliesToSet fresh (codes "m") (accepted (codes "Done.")) → ⊥
-absent_active (inl (inl e, is)) = cc
-absent_active (inl (inr there, is)) = let none : is_some (get fresh.scripts (codes "m")) ≡ false = ap is_some (get-empty bytes_cmp (codes "m")) in cc
-absent_active (inr (absent, is)) = cc
-
 ok_right : is_ok (codes "OK \"Done.\"") ≡ true
 ok_right = refl
 

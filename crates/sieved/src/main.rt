@@ -2,8 +2,6 @@
 #![tactic(auto)]
 
 mod answer;
-#[cfg(test)]
-mod engine_tests;
 mod fault;
 mod framing;
 mod report;

@@ -1,4 +1,5 @@
 //! Whole runs, over readers and writers in memory; the language; the store.
+mod engine;
 mod language;
 mod store;
 

@@ -46,7 +46,7 @@ fn goes_into<S: Alter>(
     folder: &[u8],
 ) -> Result<bool, Refusal> {
     let envelope = envelope(alloc, b"bob@example.net")?;
-    let report = deliver(alloc, store, b"alice", &envelope, M1, 1_700_000_000)?;
+    let report = deliver(alloc, store, b"alice", envelope, M1, 1_700_000_000)?;
     let filed = match report.filed.as_slice() {
         [filed] => filed.as_slice() == folder,
         _ => false,
@@ -113,7 +113,7 @@ fn refused(
     let conn = Connection::open_in_memory(alloc)?;
     let mut store = with_alice(alloc, conn)?;
     let envelope = envelope(alloc, from)?;
-    let told = match deliver(alloc, &mut store, user, &envelope, message, moment) {
+    let told = match deliver(alloc, &mut store, user, envelope, message, moment) {
         Err(refusal) => refusal == cause,
         Ok(_) => false,
     };
