@@ -66,12 +66,33 @@ fn on_list<'a>(script: &'a [u8], answer: &'a [u8]) -> Case<'a> {
     }
 }
 
-// RFC 5228, 5: whether a test holds of the message LIST, from bob@example.net to alice@example.org.
+// Whether each test holds of the message LIST, from bob@example.net to alice@example.org, as it is said.
+fn all_as_said(alloc: Global, table: &[(&[u8], bool)]) -> Result<bool, AllocError> {
+    for (test, holds) in table {
+        let script = discards(alloc, test)?;
+        let told = answer(
+            alloc,
+            script.as_slice(),
+            b"bob@example.net",
+            b"alice@example.org",
+            LIST,
+        )?;
+        let wanted: &[u8] = if *holds {
+            b"discard\n"
+        } else {
+            b"file INBOX\n"
+        };
+        if told.as_slice() != wanted {
+            return Ok(false);
+        }
+    }
+    Ok(true)
+}
+
+// RFC 5228, 5.1, and the parts of 2.7.4
 #[test]
-fn tests_hold_or_not(rt: HostRuntime) -> Result<(), Fail> {
-    let alloc = rt.alloc();
-    let table: [(&[u8], bool); 68] = [
-        // 5.1, and the parts of 2.7.4
+fn tests_hold_address(rt: HostRuntime) -> Result<(), Fail> {
+    let table: [(&[u8], bool); 8] = [
         (b"address :is :all \"from\" \"tim@example.com\"", true),
         (b"address :is :all \"from\" \"tim@example.net\"", false),
         (b"address \"from\" \"TIM@EXAMPLE.COM\"", true),
@@ -83,6 +104,15 @@ fn tests_hold_or_not(rt: HostRuntime) -> Result<(), Fail> {
         (b"address :localpart \"from\" \"tim\"", true),
         (b"address :localpart \"from\" \"Ulysses\"", false),
         (b"address :localpart [\"cc\", \"TO\"] \"bugs\"", true),
+    ];
+    assert!(rt; all_as_said(rt.alloc(), &table)?);
+    Ok(())
+}
+
+// RFC 5228, 5.1, and the parts of 2.7.4
+#[test]
+fn tests_hold_address_further(rt: HostRuntime) -> Result<(), Fail> {
+    let table: [(&[u8], bool); 7] = [
         (b"address :domain :contains \"to\" \"desert\"", true),
         (b"address :domain :matches \"to\" \"*.example.*\"", true),
         (
@@ -96,7 +126,15 @@ fn tests_hold_or_not(rt: HostRuntime) -> Result<(), Fail> {
             b"address :is \"from\" [\"x@y.z\", \"tim@example.com\"]",
             true,
         ),
-        // 5.2, 5.3
+    ];
+    assert!(rt; all_as_said(rt.alloc(), &table)?);
+    Ok(())
+}
+
+// RFC 5228, 5.2, 5.3
+#[test]
+fn tests_hold_lists_of_tests(rt: HostRuntime) -> Result<(), Fail> {
+    let table: [(&[u8], bool); 9] = [
         (b"allof (false, false)", false),
         (b"allof (false, true)", false),
         (b"allof (true, true)", true),
@@ -109,7 +147,15 @@ fn tests_hold_or_not(rt: HostRuntime) -> Result<(), Fail> {
             b"anyof (allof (true, false), not allof (true, false))",
             true,
         ),
-        // 5.4
+    ];
+    assert!(rt; all_as_said(rt.alloc(), &table)?);
+    Ok(())
+}
+
+// RFC 5228, 5.4
+#[test]
+fn tests_hold_envelope(rt: HostRuntime) -> Result<(), Fail> {
+    let table: [(&[u8], bool); 7] = [
         (b"envelope :all :is \"from\" \"bob@example.net\"", true),
         (b"envelope :all :is \"from\" \"tim@example.com\"", false),
         (b"envelope :localpart \"FROM\" \"BOB\"", true),
@@ -120,7 +166,15 @@ fn tests_hold_or_not(rt: HostRuntime) -> Result<(), Fail> {
             false,
         ),
         (b"envelope :matches \"from\" \"*@*.net\"", true),
-        // 5.5
+    ];
+    assert!(rt; all_as_said(rt.alloc(), &table)?);
+    Ok(())
+}
+
+// RFC 5228, 5.5
+#[test]
+fn tests_hold_exists(rt: HostRuntime) -> Result<(), Fail> {
+    let table: [(&[u8], bool); 8] = [
         (b"exists [\"From\",\"Date\"]", true),
         (b"not exists [\"From\",\"Date\"]", false),
         (b"exists \"fRoM\"", true),
@@ -129,10 +183,23 @@ fn tests_hold_or_not(rt: HostRuntime) -> Result<(), Fail> {
         (b"exists \"from \"", false),
         (b"exists \"from:\"", false),
         (b"exists \"body\"", false),
-        // 5.6, 5.10
-        (b"false", false),
-        (b"true", true),
-        // 5.7
+    ];
+    assert!(rt; all_as_said(rt.alloc(), &table)?);
+    Ok(())
+}
+
+// RFC 5228, 5.6, 5.10
+#[test]
+fn tests_hold_constants(rt: HostRuntime) -> Result<(), Fail> {
+    let table: [(&[u8], bool); 2] = [(b"false", false), (b"true", true)];
+    assert!(rt; all_as_said(rt.alloc(), &table)?);
+    Ok(())
+}
+
+// RFC 5228, 5.7
+#[test]
+fn tests_hold_header(rt: HostRuntime) -> Result<(), Fail> {
+    let table: [(&[u8], bool); 9] = [
         (b"header :is \"X-Caffeine\" \"\"", false),
         (b"header :contains \"X-Caffeine\" \"\"", true),
         (b"header :is \"x-caffeine\" \"c8h10n4o2\"", true),
@@ -145,6 +212,15 @@ fn tests_hold_or_not(rt: HostRuntime) -> Result<(), Fail> {
         (b"header :contains \"x-nothing\" \"\"", false),
         (b"header :is \"x-nothing\" \"\"", false),
         (b"header :is \"x-empty\" \"\"", true),
+    ];
+    assert!(rt; all_as_said(rt.alloc(), &table)?);
+    Ok(())
+}
+
+// RFC 5228, 5.7
+#[test]
+fn tests_hold_header_further(rt: HostRuntime) -> Result<(), Fail> {
+    let table: [(&[u8], bool); 8] = [
         (b"header :is \"x-blank\" \"\"", true),
         (b"header :is \"folded\" \"one two\"", true),
         (
@@ -156,32 +232,36 @@ fn tests_hold_or_not(rt: HostRuntime) -> Result<(), Fail> {
         (b"header :matches \"subject\" \"caf?? cr*\"", true),
         (b"header :contains \"from\" \"Ulysses\"", true),
         (b"header :is \"body\" \"\"", false),
-        // 5.8
+    ];
+    assert!(rt; all_as_said(rt.alloc(), &table)?);
+    Ok(())
+}
+
+// RFC 5228, 5.8, 5.9
+#[test]
+fn tests_hold_not_and_size(rt: HostRuntime) -> Result<(), Fail> {
+    let table: [(&[u8], bool); 7] = [
         (b"not true", false),
         (b"not not true", true),
         (b"not header :contains \"from\" \"coyote\"", true),
-        // 5.9
         (b"size :over 100K", false),
         (b"size :under 100K", true),
         (b"size :over 0", true),
         (b"size :under 0", false),
-        // 8.1: comments within a test, and names without case
+    ];
+    assert!(rt; all_as_said(rt.alloc(), &table)?);
+    Ok(())
+}
+
+// RFC 5228, 8.1: comments within a test, and names without case
+#[test]
+fn tests_hold_comments(rt: HostRuntime) -> Result<(), Fail> {
+    let table: [(&[u8], bool); 3] = [
         (b"/* not */ TRUE # no\n", true),
         (b"NOT /* * / */ FALSE", true),
         (b"AnyOf(false,Not false)", true),
     ];
-    for (test, holds) in table {
-        let script = discards(alloc, test)?;
-        let told = answer(
-            alloc,
-            script.as_slice(),
-            b"bob@example.net",
-            b"alice@example.org",
-            LIST,
-        )?;
-        let wanted: &[u8] = if holds { b"discard\n" } else { b"file INBOX\n" };
-        assert_eq!(rt; told.as_slice(), wanted, "{test:?}");
-    }
+    assert!(rt; all_as_said(rt.alloc(), &table)?);
     Ok(())
 }
 
@@ -274,13 +354,21 @@ fn sent_by<'a>(from: &'a [u8], script: &'a [u8], answer: &'a [u8]) -> Case<'a> {
     }
 }
 
-// RFC 5228, 2.10, 3, 4 and 9, and RFC 5230.
+// Whether each script is answered so.
+fn all_so(alloc: Global, table: &[Case<'_>]) -> Result<bool, AllocError> {
+    for case in table {
+        let told = answer(alloc, case.script, case.from, case.to, case.message)?;
+        if told.as_slice() != case.answer {
+            return Ok(false);
+        }
+    }
+    Ok(true)
+}
+
+// 2.10.2, 3.1, 3.3
 #[test]
-fn scripts_come_to_their_outcome(rt: HostRuntime) -> Result<(), Fail> {
-    let alloc = rt.alloc();
-    let nothing: &[u8] = b"";
+fn scripts_flow(rt: HostRuntime) -> Result<(), Fail> {
     let table = [
-        // 2.10.2, 3.1, 3.3
         on_list(b"", b"file INBOX\n"),
         on_list(b"stop; discard;", b"file INBOX\n"),
         on_list(b"if false { stop; } discard;", b"discard\n"),
@@ -296,7 +384,15 @@ fn scripts_come_to_their_outcome(rt: HostRuntime) -> Result<(), Fail> {
             b"require \"fileinto\"; if true { fileinto \"a\"; if true { stop; } fileinto \"b\"; } fileinto \"c\";",
             b"file a\n",
         ),
-        // 4.1 to 4.4
+    ];
+    assert!(rt; all_so(rt.alloc(), &table)?);
+    Ok(())
+}
+
+// 4.1 to 4.4
+#[test]
+fn scripts_actions(rt: HostRuntime) -> Result<(), Fail> {
+    let table = [
         on_list(
             b"require [\"fileinto\"]; if header :contains \"from\" \"ulysses\" { fileinto \"INBOX.harassment\"; }",
             b"file INBOX.harassment\n",
@@ -325,6 +421,15 @@ fn scripts_come_to_their_outcome(rt: HostRuntime) -> Result<(), Fail> {
             b"redirect \"c@example.com\"; redirect \"Carol <c@example.com>\";",
             b"send c@example.com\n",
         ),
+    ];
+    assert!(rt; all_so(rt.alloc(), &table)?);
+    Ok(())
+}
+
+// 4.1 to 4.4
+#[test]
+fn scripts_actions_further(rt: HostRuntime) -> Result<(), Fail> {
+    let table = [
         on_list(
             b"redirect \"c@example.com\"; redirect \"C@example.com\"; redirect \"c@Example.com\";",
             b"send c@example.com\nsend C@example.com\nsend c@Example.com\n",
@@ -350,10 +455,26 @@ fn scripts_come_to_their_outcome(rt: HostRuntime) -> Result<(), Fail> {
             b"redirect \"Carol c@example.com\";",
             b"line 1: bad address\n",
         ),
-        // 8.1
+    ];
+    assert!(rt; all_so(rt.alloc(), &table)?);
+    Ok(())
+}
+
+// 8.1
+#[test]
+fn scripts_comments(rt: HostRuntime) -> Result<(), Fail> {
+    let table = [
         on_list(b"/* a */ # b\r\nkeep;", b"file INBOX\n"),
         on_list(b"/* a", b"line 1: comment is not closed\n"),
-        // 9
+    ];
+    assert!(rt; all_so(rt.alloc(), &table)?);
+    Ok(())
+}
+
+// 9
+#[test]
+fn scripts_whole_scripts(rt: HostRuntime) -> Result<(), Fail> {
+    let table = [
         on_list(EXTENDED, b"file filter\n"),
         on(b"From: x@example.com\n\n", EXTENDED, b"file INBOX\n"),
         on(b"From: x@y.z\nTo: you@y.z\n\n", EXTENDED, b"file spam\n"),
@@ -367,7 +488,15 @@ fn scripts_come_to_their_outcome(rt: HostRuntime) -> Result<(), Fail> {
             EXTENDED,
             b"file personal\n",
         ),
-        // fields that are there or not
+    ];
+    assert!(rt; all_so(rt.alloc(), &table)?);
+    Ok(())
+}
+
+// fields that are there or not
+#[test]
+fn scripts_fields(rt: HostRuntime) -> Result<(), Fail> {
+    let table = [
         on(
             b"X: 1\nY: 2\n\n",
             b"if not exists [\"X\",\"Y\"] { discard; } else { keep; }",
@@ -379,7 +508,7 @@ fn scripts_come_to_their_outcome(rt: HostRuntime) -> Result<(), Fail> {
             b"discard\n",
         ),
         on(
-            nothing,
+            b"",
             b"if header :is \"x\" \"\" { discard; }",
             b"file INBOX\n",
         ),
@@ -393,6 +522,15 @@ fn scripts_come_to_their_outcome(rt: HostRuntime) -> Result<(), Fail> {
             b"if header :is \"x\" \"\" { discard; }",
             b"discard\n",
         ),
+    ];
+    assert!(rt; all_so(rt.alloc(), &table)?);
+    Ok(())
+}
+
+// fields that are there or not
+#[test]
+fn scripts_fields_further(rt: HostRuntime) -> Result<(), Fail> {
+    let table = [
         on(
             b"Bad line\n c\nX : y\n\nb",
             b"if header :is \"x\" \"y\" { discard; }",
@@ -418,15 +556,29 @@ fn scripts_come_to_their_outcome(rt: HostRuntime) -> Result<(), Fail> {
             b"if address :localpart \"to\" \"ALICE\" { discard; }",
             b"discard\n",
         ),
-        // a value that isn't decoded for `address`
-        on(
-            b"To: =?utf-8?Q?alice=40example.org?=\n\n",
-            b"if address \"to\" \"alice@example.org\" { discard; }",
-            b"file INBOX\n",
-        ),
-        // the envelope, and its null sender
+    ];
+    assert!(rt; all_so(rt.alloc(), &table)?);
+    Ok(())
+}
+
+// a value that isn't decoded for `address`
+#[test]
+fn scripts_undecoded(rt: HostRuntime) -> Result<(), Fail> {
+    let table = [on(
+        b"To: =?utf-8?Q?alice=40example.org?=\n\n",
+        b"if address \"to\" \"alice@example.org\" { discard; }",
+        b"file INBOX\n",
+    )];
+    assert!(rt; all_so(rt.alloc(), &table)?);
+    Ok(())
+}
+
+// the envelope, and its null sender
+#[test]
+fn scripts_envelope(rt: HostRuntime) -> Result<(), Fail> {
+    let table = [
         sent_by(
-            nothing,
+            b"",
             b"require \"envelope\"; if envelope :domain \"from\" \"\" { discard; }",
             b"discard\n",
         ),
@@ -436,7 +588,7 @@ fn scripts_come_to_their_outcome(rt: HostRuntime) -> Result<(), Fail> {
             b"file INBOX\n",
         ),
         sent_by(
-            nothing,
+            b"",
             b"require \"envelope\"; if allof (envelope :localpart \"from\" \"\", envelope \"from\" \"\") { discard; }",
             b"discard\n",
         ),
@@ -450,7 +602,15 @@ fn scripts_come_to_their_outcome(rt: HostRuntime) -> Result<(), Fail> {
             b"require \"envelope\"; if allof (envelope :localpart \"from\" \"postmaster\", envelope :domain \"from\" \"\") { discard; }",
             b"discard\n",
         ),
-        // RFC 5230
+    ];
+    assert!(rt; all_so(rt.alloc(), &table)?);
+    Ok(())
+}
+
+// RFC 5230
+#[test]
+fn scripts_vacation(rt: HostRuntime) -> Result<(), Fail> {
+    let table = [
         on(
             LUNCH,
             b"require \"vacation\"; vacation \"Away.\";",
@@ -478,15 +638,12 @@ fn scripts_come_to_their_outcome(rt: HostRuntime) -> Result<(), Fail> {
             b"failed: vacation executed twice\n",
         ),
         sent_by(
-            nothing,
+            b"",
             b"require [\"envelope\",\"vacation\"]; if envelope :domain \"from\" \"\" { vacation \"x\"; }",
             b"file INBOX\nvacation wanted\n",
         ),
     ];
-    for case in &table {
-        let told = answer(alloc, case.script, case.from, case.to, case.message)?;
-        assert_eq!(rt; told.as_slice(), case.answer, "{:?}", case.script);
-    }
+    assert!(rt; all_so(rt.alloc(), &table)?);
     Ok(())
 }
 
