@@ -8,10 +8,10 @@ const LONG: &[u8] =
 fn answers_every_front_of_a_script(rt: HostRuntime) -> Result<(), Fail> {
     let alloc = rt.alloc();
     assert_eq!(rt; fault_of(alloc, LONG)?, None);
-    let mut valid = 0;
+    let mut valid = 0_u32;
     for len in 0..LONG.len() {
         if fault_of(alloc, &LONG[..len])?.is_none() {
-            valid += 1;
+            valid = valid.saturating_add(1);
         }
     }
     // A front of the comment, white space behind it, the `require` whole, white space behind it, and all but the last
