@@ -1,6 +1,6 @@
 -- A text has one list of lines, and its body is its end.
 use Rattle.std.proofs.Common.{◌≡◌, ◌≢◌, ◌⊎◌, ℕ, ◌+◌, Bool, true, false, cond, not, List, [], ◌∷◌, ◌++◌, length, drop, refl, sym, ap, ◌∙◌, inl, inr, arith}
-use Rattle.std.proofs.lemmas.Bool.{eqb-true}
+use Rattle.std.proofs.lemmas.Bool.{eqb-true, not-true}
 use Rattle.std.proofs.lemmas.List.{append-nil, append_assoc, drop_at, length-append}
 use Rattle.std.specs.List.{concat, list_all}
 use Rattle.mailhead.specs.Lines.{is_feed, is_other, at_front, lines_of, IsEnded, IsOpen, AreLines, is_empty_line, body_lines}
@@ -12,10 +12,7 @@ other_from : (octet : ℕ) → is_feed octet ≡ false → is_other octet ≡ tr
 other_from octet not_feed = ap not not_feed
 
 feed_from : (octet : ℕ) → is_other octet ≡ true → is_feed octet ≡ false
-feed_from octet is = not_true (is_feed octet) is where
-  not_true : (test : Bool) → not test ≡ true → test ≡ false
-  not_true true h = absurd (cc h)
-  not_true false h = refl
+feed_from octet is = not-true (is_feed octet) is
 
 longer : (octet : ℕ) (line rest : List ℕ) → is_feed octet ≡ false → IsEnded line ⊎ (IsOpen line × (rest ≡ [])) → IsEnded (octet ∷ line) ⊎ (IsOpen (octet ∷ line) × (rest ≡ []))
 longer octet line rest not_feed (inl ended) = inl (record {

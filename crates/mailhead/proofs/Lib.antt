@@ -6,3 +6,4 @@ pub mod FormLemmas
 pub mod CutLemmas
 pub mod PlaceLemmas
 pub mod SizeLemmas
+pub mod Examples

@@ -1,5 +1,6 @@
 //! What the heads of messages are.
 mod cases;
+mod lines;
 
 use crate::{Head, unfolded};
 use cases::CASES;
