@@ -4,11 +4,13 @@ pub mod Digits
 mod Examples
 pub mod FaultLemmas
 pub mod Gaps
+pub mod Indexed
 pub mod Marks
 pub mod Named
 pub mod Next
 pub mod Numbered
 pub mod Opening
+pub mod Packing
 pub mod Prefixes
 pub mod Scanned
 pub mod Several

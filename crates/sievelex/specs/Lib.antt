@@ -6,8 +6,10 @@ pub mod Finding
 pub mod Front
 pub mod Inside
 pub mod Lines
+pub mod Said
 pub mod Shape
 pub mod Skip
 pub mod Space
 pub mod Spelling
 pub mod Text
+pub mod Unpacked

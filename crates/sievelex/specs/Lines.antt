@@ -1,4 +1,4 @@
--- Strings of several lines (RFC 5228, 2.4.2.2 and 8.1).
+-- Strings of several lines (RFC 5228, 2.4.2 and 8.1).
 use Rattle.std.specs.Prelude.{◌≡◌, ◌≢◌, ◌⊎◌, ℕ, Bool, true, false, ◌==◌, ◌||◌, ◌&&◌, not, cond, List, [], ◌∷◌, ◌++◌, slice_index, codes, IsTrue}
 use Rattle.std.specs.List.{list_all, flat_map}
 use Rattle.octets.specs.Ascii.{is_blank, lowered}

@@ -6,6 +6,7 @@ mod fault;
 mod front;
 mod multiline;
 mod number;
+mod packed;
 mod quoted;
 mod scanner;
 mod space;
@@ -15,5 +16,6 @@ mod text;
 mod token;
 
 pub use fault::{FaultKind, ScriptError, ScriptFault};
+pub use packed::{Cursor, Packed, Piece, line_of, pack};
 pub use scanner::tokens;
 pub use token::{Kind, Token, Value};

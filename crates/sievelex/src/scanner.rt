@@ -51,7 +51,12 @@ fn read_tokens(alloc: Global, text: &[u8]) -> Result<Vec<Token>, ScriptError>
 }
 
 /// The token that comes next from a place of the text on, or none where only white space is left.
-fn next(alloc: Global, text: &[u8], at: usize, line: u64) -> Result<Option<Token>, ScriptError>
+pub(crate) fn next(
+    alloc: Global,
+    text: &[u8],
+    at: usize,
+    line: u64,
+) -> Result<Option<Token>, ScriptError>
     requires inside { at ≤ length text.now }
     requires on_line { line ≡ 1 + line_ends (take at text.now) }
     ensures found { IfOk result (λ o. MatchOption o (SpellsFrom text.now at []) (λ t. IsNext text.now at t)) }

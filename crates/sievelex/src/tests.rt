@@ -1,6 +1,7 @@
 //! Scripts and what they are as tokens, by RFC 5228, sections 2.1 to 2.4 and 8.1.
 
 use crate::fault::{FaultKind, ScriptError, ScriptFault};
+use crate::packed::{Piece, line_of, pack};
 use crate::scanner::tokens;
 use crate::token::{Token, Value};
 use std::alloc::Global;
@@ -235,5 +236,58 @@ fn names_each_kind_by_number_and_text(rt: HostRuntime) -> Result<(), Fail> {
         let error = ScriptError::Fault(ScriptFault { line: 7, kind });
         assert_eq!(rt; format!(in rt.alloc(); "{error}")?.as_str(), words);
     }
+    Ok(())
+}
+
+/// What the tokens of a text are and say, with their lines, as they are packed, or its fault.
+fn told_packed(alloc: Global, text: &[u8]) -> Result<String, Fail> {
+    let mut words = String::new(alloc);
+    let packed = match pack(alloc, text) {
+        Ok(packed) => packed,
+        Err(error) => return Ok(format!(in alloc; "{error}")?),
+    };
+    let mut rest = packed.cursor();
+    for index in 0..packed.len() {
+        let Some((piece, after)) = rest.split_first() else {
+            return Err("a token is missing")?;
+        };
+        let line = line_of(alloc, text, index)?;
+        let left = after.left();
+        let said = match piece {
+            Piece::Bare(kind) => format!(in alloc; "{kind:?} line {line}, {left} left; ")?,
+            Piece::Amount(kind, amount) => {
+                format!(in alloc; "{kind:?} {amount} line {line}, {left} left; ")?
+            }
+            Piece::Chars(kind, chars) => {
+                let chars = str::from_utf8(chars)?;
+                format!(in alloc; "{kind:?} <{chars}> line {line}, {left} left; ")?
+            }
+        };
+        words.push_str(said.as_str())?;
+        rest = after;
+    }
+    Ok(words)
+}
+
+#[test]
+fn packs_what_tokens_are_and_say(rt: HostRuntime) -> Result<(), Fail> {
+    let alloc = rt.alloc();
+    let table: [(&[u8], &str); 4] = [
+        (b"", ""),
+        (
+            b"a :b\n12K \"c\\\"d\" ;",
+            "Identifier <a> line 1, 4 left; Tag <b> line 1, 3 left; Number 12288 line 2, 2 left; Text <c\"d> line 2, 1 left; Semicolon line 2, 0 left; ",
+        ),
+        (
+            b"text:\na\n.\n(\"\"",
+            "Text <a\r\n> line 1, 2 left; OpenParen line 4, 1 left; Text <> line 4, 0 left; ",
+        ),
+        (b"a\n/* b", "line 2: comment is not closed"),
+    ];
+    for (text, words) in table {
+        assert_eq!(rt; told_packed(alloc, text)?.as_str(), words);
+    }
+    assert_eq!(rt; line_of(alloc, b"\na", 0)?, 2);
+    assert_eq!(rt; line_of(alloc, b"\na", 1)?, 1);
     Ok(())
 }

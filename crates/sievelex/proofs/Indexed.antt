@@ -1,0 +1,33 @@
+-- The token of an index.
+use Rattle.std.proofs.Common.{◌≡◌, ℕ, ◌+◌, ◌≤◌, List, [], ◌∷◌, ◌++◌, Some, length, slice_get, ap, sym, ◌∙◌, refl}
+use Rattle.std.proofs.lemmas.Option.{slice_get_past}
+use Rattle.sievelex.specs.declared.token.Token.{Token}
+use Rattle.sievelex.specs.Spelling.{IsNext, SpellsFrom}
+use Rattle.sievelex.specs.Text.{line_ends}
+use Rattle.sievelex.specs.Said.{line_or, line_at}
+use Rattle.sievelex.proofs.Next.{tail_no_next, line_within}
+use Rattle.sievelex.proofs.Scanned.{IsFront}
+
+-- what stands behind a list is found at its length
+get_behind : (so_far more : List Token) (t : Token) → slice_get (so_far ++ t ∷ more) (length so_far) ≡ Some t
+get_behind [] more t = refl
+get_behind (x ∷ so_far) more t = get_behind so_far more t
+
+first_at : (text : List ℕ) (at : ℕ) (t : Token) (so_far us : List Token) → IsNext text at t → ((u : Token) → IsNext text at u → Some t ≡ Some u) → (ts : List Token) → us ≡ so_far ++ ts → SpellsFrom text at ts → slice_get us (length so_far) ≡ Some t
+first_at text at t so_far us here one [] e h = absurd (tail_no_next text at t h here)
+first_at text at t so_far us here one (u ∷ ts) e h =
+    ap (λ x. slice_get x (length so_far)) e ∙ get_behind so_far ts u ∙ sym (one u h.0)
+
+-- the line of the token that comes next behind so many
+pub line_here : (text : List ℕ) (at index : ℕ) (t : Token) (so_far us : List Token) → IsFront text so_far at → length so_far ≡ index → IsNext text at t → ((u : Token) → IsNext text at u → Some t ≡ Some u) → SpellsFrom text 0 us → t.line ≡ line_at index us
+line_here text at index t so_far us f count here one s =
+    let r : (ts : List Token) × ((us ≡ so_far ++ ts) × SpellsFrom text at ts) = f.only us s in
+    sym (ap (λ i. line_at i us) (sym count) ∙ ap line_or (first_at text at t so_far us here one r.0 r.1.0 r.1.1))
+
+-- behind the last token there is none
+pub line_past : (index : ℕ) (us : List Token) → length us ≤ index → 1 ≡ line_at index us
+line_past index us past = sym (ap line_or (slice_get_past us index past))
+
+-- within the text
+pub line_in : (text : List ℕ) (at : ℕ) (t : Token) → IsNext text at t → (1 ≤ t.line) × (t.line ≤ 1 + line_ends text)
+line_in text at t here = line_within text t.start t.line here.line t.line refl
