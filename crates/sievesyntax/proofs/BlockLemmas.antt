@@ -3,7 +3,6 @@ use Rattle.std.proofs.Common.{◌≡◌, inl, inr, ◌++◌, ℕ, ◌≤◌, ◌
 use Rattle.sievelex.specs.declared.token.Kind.TheVariants as K
 use Rattle.sievesyntax.specs.declared.lexeme.Word.{Word}
 use Rattle.sievesyntax.specs.declared.lexeme.Word.TheVariants as W
-use Rattle.sievesyntax.specs.declared.argument.Argument.{Argument}
 use Rattle.sievesyntax.specs.declared.granted.Granted.{Granted}
 use Rattle.sievesyntax.specs.Lexemes.{Lexeme, word, tag, number, text, mark}
 use Rattle.sievesyntax.specs.Chains.{Chain}

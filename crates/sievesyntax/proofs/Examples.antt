@@ -1,5 +1,5 @@
 -- Examples of the definitions: a right one and a near miss each.
-use Rattle.std.proofs.Common.{◌≡◌, ℕ, Bool, true, false, List, [], ◌∷◌, ◌++◌, Option, Some, None, refl, sym, ap, arith, subst, inl, inr}
+use Rattle.std.proofs.Common.{◌≡◌, ℕ, Bool, true, false, List, [], ◌∷◌, Some, None, refl, sym, arith, subst, inl, inr}
 use Rattle.std.specs.Prelude.{codes}
 use Rattle.sievelex.specs.declared.token.Kind.TheVariants as K
 use Rattle.sievesyntax.specs.declared.lexeme.Word.TheVariants as W
@@ -103,6 +103,13 @@ not_depths = refl
 
 block_depths : depth (command (choose (branch yes (command (choose (branch yes no_commands no_branches)) no_commands) no_branches)) no_commands) ≡ 2
 block_depths = refl
+
+-- `fileinto "inbox"; keep; discard;` files into INBOX once; `Inbox ` is another mailbox
+inbox_once : (truth : Check → Bool) → outcome truth (command (act (D.FileInto (codes "inbox"))) (command (act D.Keep) (command (act D.Discard) no_commands))) ≡ Done (record { filed = codes "INBOX" ∷ []; sent = []; reply = None })
+inbox_once truth = refl
+
+inbox_twice : (truth : Check → Bool) → outcome truth (command (act (D.FileInto (codes "Inbox "))) (command (act D.Keep) no_commands)) ≡ Done (record { filed = codes "Inbox " ∷ (codes "INBOX" ∷ []); sent = []; reply = None })
+inbox_twice truth = refl
 
 -- `redirect` of one address twice sends once, and nothing is kept
 once : (truth : Check → Bool) → outcome truth (command (act (D.Redirect (record { local = codes "c"; domain = codes "d" }))) (command (act (D.Redirect (record { local = codes "c"; domain = codes "d" }))) no_commands)) ≡ Done (record { filed = []; sent = record { local = codes "c"; domain = codes "d" } ∷ []; reply = None })

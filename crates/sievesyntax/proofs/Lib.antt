@@ -10,5 +10,10 @@ pub mod TestLemmas
 pub mod ParserLemmas
 pub mod BlockLemmas
 pub mod OpeningLemmas
-pub mod LineLemmas
+pub mod MeansLemmas
 pub mod Examples
+pub mod FirstTokenLemmas
+pub mod FirstWordLemmas
+pub mod FirstScriptLemmas
+pub mod ScriptExamples
+pub mod FirstExamples

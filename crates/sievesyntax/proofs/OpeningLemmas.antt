@@ -1,12 +1,11 @@
 -- Lemmas on the requires at the front, and on whole scripts.
-use Rattle.std.proofs.Common.{◌≡◌, ◌||◌, ℕ, Bool, ◌≤◌, ◌<◌, ◌+◌, List, [], ◌∷◌, ◌++◌, append_assoc, length, map, codes, nat_eq, refl, sym, ap, ◌∙◌, subst, arith}
+use Rattle.std.proofs.Common.{◌≡◌, ◌||◌, ℕ, ◌≤◌, ◌<◌, ◌+◌, List, [], ◌∷◌, ◌++◌, append_assoc, length, map, codes, refl, sym, ap, ◌∙◌, subst, arith}
 use Rattle.std.specs.List.{list_any, All}
 use Rattle.std.proofs.Common.{length-append}
 use Rattle.std.proofs.Math.ListN.{get_or-append}
 use Rattle.std.proofs.lemmas.List.{append-nil, get_or-append-add}
 use Rattle.std.proofs.lemmas.List.Folds.{list_any-append}
 use Rattle.std.proofs.lemmas.List.Elements.{All-append}
-use Rattle.std.specs.Cmp.Lexicographic.{pointwise}
 use Rattle.sievesyntax.proofs.Chains.{IsSoFar, chain_more, chain_ends, chain_fails}
 use Rattle.sievesyntax.proofs.BlockLemmas.{list_of, commands_of-list_of, chain_is, is_chain, reads_longer}
 use Rattle.sievelex.specs.declared.token.Kind.TheVariants as K

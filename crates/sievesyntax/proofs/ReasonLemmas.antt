@@ -1,5 +1,5 @@
 -- Lemmas on the reason of a `vacation`.
-use Rattle.std.proofs.Common.{◌≡◌, ℕ, Bool, true, false, cond, ◌&&◌, ◌||◌, nat_le, List, [], ◌∷◌, ◌++◌, Option, Some, None, length, refl, sym, ap, ◌∙◌}
+use Rattle.std.proofs.Common.{◌≡◌, ℕ, Bool, true, false, cond, ◌&&◌, ◌||◌, List, [], ◌∷◌, ◌++◌, Some, None, refl, sym, ap, ◌∙◌}
 use Rattle.std.specs.List.{list_all, list_any, concat}
 use Rattle.mailhead.specs.Lines.{lines_of, begins_blank, is_empty_line, logical_lines, header_lines}
 use Rattle.mailhead.specs.Cuts.{CutsLine, CutsLogicalLine, after_empty}

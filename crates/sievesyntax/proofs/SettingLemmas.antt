@@ -15,7 +15,6 @@ use Rattle.sievesyntax.specs.declared.argument.Argument.TheVariants as A
 use Rattle.sievesyntax.specs.declared.setting.Setting.{Setting}
 use Rattle.sievesyntax.specs.declared.setting.Setting.TheVariants as S
 use Rattle.sievesyntax.specs.declared.setting.Slot.{Slot}
-use Rattle.sievesyntax.specs.declared.setting.Slot.TheVariants as P
 use Rattle.sievesyntax.specs.Chains.{Chain}
 use Rattle.sievesyntax.specs.Settings.{strings_of, IsSetting, slot_of, Among, AreApart, IsAllowed, IsPlain, IsArranged}
 use Rattle.sievesyntax.proofs.Chains.{IsSoFar, chain_begins, chain_more, chain_ends}

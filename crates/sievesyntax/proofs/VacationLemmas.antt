@@ -1,5 +1,5 @@
 -- Lemmas on the arguments of `vacation`.
-use Rattle.std.proofs.Common.{◌≡◌, ℕ, Bool, true, false, List, [], ◌∷◌, ◌++◌, Option, Some, None, refl, sym, ap, ◌∙◌, subst, inl, inr}
+use Rattle.std.proofs.Common.{◌≡◌, ℕ, List, [], ◌∷◌, ◌++◌, Option, Some, None, refl, sym, ap, ◌∙◌, subst, inl, inr}
 use Rattle.std.proofs.Common.{◌<◌, ◌+◌, length, take, get_or, add-one}
 use Rattle.std.proofs.Math.Seq.{take-suc}
 use Rattle.octets.proofs.Lists.{some_is, some_pair}
@@ -11,7 +11,7 @@ use Rattle.sievesyntax.specs.declared.vacation.ReplyFrom.{ReplyFrom}
 use Rattle.sievesyntax.specs.declared.argument.Argument.{Argument}
 use Rattle.sievesyntax.specs.declared.setting.Setting.{Setting}
 use Rattle.sievesyntax.specs.Settings.{IsArranged}
-use Rattle.sievesyntax.specs.Lookups.{days_in, subject_in, from_in, addresses_in, mime_in, handle_in}
+use Rattle.sievesyntax.specs.Lookups.{from_in, addresses_in}
 use Rattle.sievesyntax.specs.Rows.{IsText, IsRedirect}
 use Rattle.sievesyntax.specs.Vacations.{Names, IsReplyFrom, IsGivenFrom, AreNamed, AddsNamed, SaysVacation, vacation_slots, IsVacation}
 

@@ -7,6 +7,7 @@ use Rattle.sievelex.specs.declared.token.Kind.TheVariants as K
 use Rattle.sievelex.specs.declared.token.Value.{Value}
 use Rattle.sievelex.specs.declared.token.Value.TheVariants as V
 use Rattle.sievelex.specs.declared.token.Token.{Token}
+use Rattle.sievelex.specs.Unpacked.{Saying}
 use Rattle.sievesyntax.specs.declared.lexeme.Word.{Word}
 use Rattle.sievesyntax.specs.declared.lexeme.Word.TheVariants as W
 use Rattle.sievesyntax.specs.declared.lexeme.Tag.{Tag}
@@ -85,6 +86,14 @@ lexeme_of token = lexeme token.value token.kind
 -- the same of tokens in a row
 abbrev pub lexemes : List Token → List Lexeme
 lexemes tokens = map lexeme_of tokens
+
+-- the same of what a token is and says
+abbrev pub lexeme_said : Saying → Lexeme
+lexeme_said saying = lexeme saying.1 saying.0
+
+-- the same of what tokens in a row are and say
+abbrev pub lexemes_said : List Saying → List Lexeme
+lexemes_said sayings = map lexeme_said sayings
 
 -- what a look at a token tells
 abbrev pub lexeme_seen : Seen → Lexeme

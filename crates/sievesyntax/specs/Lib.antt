@@ -14,6 +14,7 @@ pub mod SoFar
 pub mod Tree
 pub mod Valid
 pub mod View
-pub mod Lines
 pub mod Meaning
 pub mod Means
+pub mod FirstTokens
+pub mod FirstScripts

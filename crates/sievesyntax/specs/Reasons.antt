@@ -1,7 +1,6 @@
 -- The reason of a `vacation`.
-use Rattle.std.specs.Prelude.{◌≡◌, ℕ, ◌==◌, ◌&&◌, ◌||◌, nat_le, nat_eq, Bool, true, false, List, take, codes, Option, Some, None, length}
+use Rattle.std.specs.Prelude.{◌≡◌, ℕ, ◌==◌, ◌&&◌, ◌||◌, nat_le, Bool, true, false, List, take, codes, Option, Some, None, length}
 use Rattle.std.specs.List.{list_all, list_any}
-use Rattle.std.specs.Cmp.Lexicographic.{pointwise}
 use Rattle.mailhead.specs.Lines.{lines_of, is_empty_line, without_end, logical_lines, header_lines}
 use Rattle.mailhead.specs.Fields.{FieldText, field_of}
 use Rattle.sievesyntax.specs.Lexemes.{same_name}
@@ -36,7 +35,7 @@ is_mime_line line = list_all is_header_octet line && has_mime_name (field_of lin
 abbrev pub is_entity : List ℕ → Bool
 is_entity text = list_any is_empty_line (lines_of text) && list_all is_mime_line (logical_lines (header_lines (lines_of text)))
 
--- a reason that may stand: no line of it is too long, and with `:mime` it is a MIME entity (RFC 5230, 4.5)
+-- a reason that may stand: no line of it is too long, and with `:mime` it is a MIME entity (RFC 5230, 4.4)
 pub record IsReason (args : VacArgs) : Type 0 where
   pub narrow : is_narrow_text args.reason ≡ true
   pub entity : args.mime ≡ true → is_entity args.reason ≡ true

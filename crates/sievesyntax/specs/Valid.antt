@@ -1,5 +1,5 @@
 -- What a tree may be besides what the grammar asks.
-use Rattle.std.specs.Prelude.{◌≡◌, ◌≢◌, ◌≤◌, ◌||◌, ℕ, Bool, true, List, [], ◌∷◌, ◌++◌, codes, length, All, nat_eq}
+use Rattle.std.specs.Prelude.{◌≡◌, ◌≢◌, ◌≤◌, ◌||◌, ℕ, Bool, true, List, [], ◌++◌, codes, length, All, nat_eq}
 use Rattle.std.specs.List.{list_any}
 use Rattle.std.specs.Cmp.Lexicographic.{pointwise}
 use Rattle.sievesyntax.specs.declared.action.Action.{Action}

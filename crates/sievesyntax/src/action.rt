@@ -1,5 +1,5 @@
 //! What a script does with the message (RFC 5228, 4).
-use crate::vacation::VacArgs;
+use crate::reply::Reply;
 use addrparts::Addr;
 use octets::Octets;
 
@@ -15,5 +15,5 @@ pub enum Action {
     /// `redirect`, with the address that the message is sent to (RFC 5228, 4.2).
     Redirect(Addr),
     /// `vacation`: answer the sender (RFC 5230).
-    Vacation(VacArgs),
+    Vacation(Reply),
 }

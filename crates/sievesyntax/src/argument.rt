@@ -59,7 +59,7 @@ fn read_argument(alloc: Global, reader: &mut Reader<'_>) -> Result<Option<Argume
         }
         Seen::Text(string) => {
             *reader = after;
-            Ok(Some(Argument::Text(string.copied(alloc)?)))
+            Ok(Some(Argument::Text(Octets::copy(alloc, string)?)))
         }
         Seen::Mark(Kind::OpenBracket) => {
             *reader = after;
@@ -73,7 +73,7 @@ fn read_argument(alloc: Global, reader: &mut Reader<'_>) -> Result<Option<Argume
 fn read_strings(alloc: Global, reader: &mut Reader<'_>) -> Result<Texts, ReadError>
     ensures { Parses (λ strings. strings) AreStrings reader.old reader.new result }
 {
-    let mut strings = Texts::new(alloc);
+    let mut strings = Texts::from_vec(Vec::with_capacity(alloc, 1)?);
     strings.push(read_text(alloc, reader)?)?;
     read_others(alloc, reader, strings)
 }
@@ -119,7 +119,7 @@ fn read_text(alloc: Global, reader: &mut Reader<'_>) -> Result<Octets, ReadError
     };
     *reader = after;
     match seen {
-        Seen::Text(string) => Ok(string.copied(alloc)?),
+        Seen::Text(string) => Ok(Octets::copy(alloc, string)?),
         _ => Err(ReadError::Fault(FaultKind::Unexpected)),
     }
 }

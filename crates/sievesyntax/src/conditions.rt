@@ -72,9 +72,9 @@ fn read_tests(
     if lists == 0 {
         return Err(ReadError::Fault(FaultKind::TooDeep));
     }
-    let mut tests = Vec::new(alloc);
-    tests.push(read_test(alloc, reader, granted, lists - 1, nots)?)?;
-    let tests = read_more_tests(alloc, reader, granted, lists - 1, nots, tests)?;
+    let mut one = Vec::with_capacity(alloc, 1)?;
+    one.push(read_test(alloc, reader, granted, lists - 1, nots)?)?;
+    let tests = read_more_tests(alloc, reader, granted, lists - 1, nots, one)?;
     Ok(tests)
 }
 

@@ -1,9 +1,9 @@
 //! What the grammar sees of a token: keywords in place of names.
 ghost use Rattle.std.specs.Prelude.{◌≡◌};
-ghost use Rattle.sievesyntax.specs.Lexemes.{same_name, word_of, tag_of, lexeme_of, lexeme_seen};
+ghost use Rattle.sievelex.specs.Said.{piece_said};
+ghost use Rattle.sievesyntax.specs.Lexemes.{same_name, word_of, tag_of, lexeme_said, lexeme_seen};
 
-use octets::Octets;
-use sievelex::{Kind, Token, Value};
+use sievelex::{Kind, Piece};
 
 /// The name of a command or of a test.
 #[derive(Clone, Copy)]
@@ -54,32 +54,32 @@ pub enum Tag {
     Other,
 }
 
-/// What the grammar sees of a token, over the token's own text.
+/// What the grammar sees of a token, over the octets that it says.
 #[derive(Clone, Copy)]
 pub enum Seen<'a> {
     Word(Word),
     Tag(Tag),
     Number(u64),
-    Text(&'a Octets),
+    Text(&'a [u8]),
     Mark(Kind),
 }
 
 /// What the grammar sees of this token. Time by the length of a name, no memory.
-pub fn look(token: &Token) -> Seen<'_>
-    ensures { lexeme_seen result ≡ lexeme_of token.now }
+pub fn look<'a>(piece: Piece<'a>) -> Seen<'a>
+    ensures { lexeme_seen result ≡ lexeme_said (piece_said piece.entry) }
 {
-    match &token.value {
-        Value::Chars(chars) => match token.kind {
-            Kind::Identifier => Seen::Word(word_named(chars.as_slice())),
-            Kind::Tag => Seen::Tag(tag_named(chars.as_slice())),
+    match piece {
+        Piece::Chars(kind, chars) => match kind {
+            Kind::Identifier => Seen::Word(word_named(chars)),
+            Kind::Tag => Seen::Tag(tag_named(chars)),
             Kind::Text => Seen::Text(chars),
             kind => Seen::Mark(kind),
         },
-        Value::Amount(number) => match token.kind {
-            Kind::Number => Seen::Number(*number),
+        Piece::Amount(kind, number) => match kind {
+            Kind::Number => Seen::Number(number),
             kind => Seen::Mark(kind),
         },
-        Value::Nothing => Seen::Mark(token.kind),
+        Piece::Bare(kind) => Seen::Mark(kind),
     }
 }
 

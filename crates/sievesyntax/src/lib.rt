@@ -7,6 +7,7 @@ mod answer;
 mod argument;
 mod checks;
 mod conditions;
+mod first;
 mod granted;
 mod lexeme;
 mod looks;
@@ -17,6 +18,7 @@ mod positional;
 mod reader;
 mod reason;
 mod refusal;
+mod reply;
 mod row;
 mod script;
 mod setting;
@@ -30,6 +32,8 @@ pub use checks::{
     Address, AddressPart, Bound, Check, Collation, EnvelopeParts, EnvelopeTest, Header, Matching,
     Size,
 };
+pub use first::{first_scripts_stay, first_tokens_stay};
+pub use reply::Reply;
 pub use script::{Script, check};
 pub use sievelex::{FaultKind, ScriptError, ScriptFault};
 pub use tree::{Branch, Command, Test};

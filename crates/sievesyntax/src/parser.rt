@@ -1,5 +1,5 @@
 //! Commands and blocks, by recursive descent: one pass, and no deeper than blocks may stand.
-ghost use Rattle.std.specs.Prelude.{◌≡◌, ◌↔◌, ◌++◌, ◌∷◌, ℕ, List, IfOk, IsTrue, MatchBool, map};
+ghost use Rattle.std.specs.Prelude.{◌≡◌, ◌↔◌, ◌++◌, ◌∷◌, [], ℕ, List, IfOk, IsTrue, MatchBool, map};
 ghost use Rattle.sievesyntax.specs.declared.lexeme.Word.TheVariants as W;
 ghost use Rattle.sievesyntax.specs.Lexemes.{Lexeme, word};
 ghost use Rattle.sievesyntax.specs.Parsing.{IfFault, Parses};
@@ -16,7 +16,7 @@ use crate::refusal::ReadError;
 use crate::row::plain_command;
 use crate::tree::{Branch, Command, Test};
 use sievelex::{FaultKind, Kind};
-use std::alloc::Global;
+use std::alloc::{AllocError, Global};
 
 const MAX_LISTS: usize = 32;
 
@@ -69,9 +69,9 @@ fn read_if(
 ) -> Result<Command, ReadError>
     ensures { Parses command_view (TakesBehind granted room W.If) reader.old reader.new result }
 {
-    let mut branches = Vec::new(alloc);
-    branches.push(read_branch(alloc, reader, granted, room)?)?;
-    let branches = read_elsifs(alloc, reader, granted, room, branches)?;
+    let mut one = Vec::with_capacity(alloc, 1)?;
+    one.push(read_branch(alloc, reader, granted, room)?)?;
+    let branches = read_elsifs(alloc, reader, granted, room, one)?;
     let branches = read_else(alloc, reader, granted, room, branches)?;
     Ok(Command::If(branches))
 }
@@ -150,9 +150,21 @@ fn read_block(
     if room == 0 {
         return Err(ReadError::Fault(FaultKind::TooDeep));
     }
-    let block = read_commands(alloc, reader, granted, room - 1, Vec::new(alloc))?;
+    let none = no_commands(alloc, reader)?;
+    let block = read_commands(alloc, reader, granted, room - 1, none)?;
     reader.read_mark(Kind::CloseBrace)?;
     Ok(block)
+}
+
+/// No commands yet, and a place for one where one follows: most blocks have no other.
+fn no_commands(alloc: Global, reader: &Reader<'_>) -> Result<Vec<Command>, AllocError>
+    ensures { IfOk result (λ none. none.items ≡ []) }
+{
+    if is_stop(reader) {
+        Ok(Vec::new(alloc))
+    } else {
+        Vec::with_capacity(alloc, 1)
+    }
 }
 
 /// A command without a block, behind its name.

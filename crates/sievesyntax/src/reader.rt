@@ -1,42 +1,45 @@
 //! The tokens that are still to be read.
 ghost use Rattle.std.specs.Prelude.{◌≡◌, List, [], ◌∷◌, length, MatchOption, IfOk, OnOk};
 ghost use Rattle.sievesyntax.specs.declared.lexeme.Word.{Word};
-ghost use Rattle.sievesyntax.specs.Lexemes.{Lexeme, word, mark, lexemes, lexeme_seen};
+ghost use Rattle.sievelex.specs.Said.{said};
+ghost use Rattle.sievesyntax.specs.Lexemes.{Lexeme, word, mark, lexemes_said, lexeme_seen};
 ghost use Rattle.sievesyntax.specs.Parsing.{IfFault};
 
 use crate::lexeme::{Seen, Word, look};
 use crate::refusal::ReadError;
-use sievelex::{FaultKind, Kind, Token};
+use sievelex::{Cursor, FaultKind, Kind, Packed};
 use std::marker::Model;
 
 /// The tokens that are still to be read. Contracts see the lexemes.
 #[derive(Drop)]
 pub struct Reader<'a> {
-    rest: &'a [Token],
+    rest: Cursor<'a>,
 }
 
 impl<'a> Model for Reader<'a> {
     ghost use Rattle.std.specs.Prelude.{List};
-    ghost use Rattle.sievesyntax.specs.Lexemes.{Lexeme, lexemes};
+    ghost use Rattle.sievesyntax.specs.Lexemes.{Lexeme, lexemes_said};
 
     ghost Value = { List Lexeme };
 
-    ghost view = { λ r. lexemes r.rest.now };
+    ghost view = { λ r. lexemes_said r.rest };
 }
 
 impl<'a> Reader<'a> {
     /// Before the first of these tokens.
-    pub fn new(tokens: &'a [Token]) -> Reader<'a>
-        ensures { result ≡ lexemes tokens.now }
+    pub fn new(tokens: &'a Packed) -> Reader<'a>
+        ensures { result ≡ lexemes_said (said tokens.now) }
     {
-        Reader { rest: tokens }
+        Reader {
+            rest: tokens.cursor(),
+        }
     }
 
     /// How many tokens are left.
     pub fn left(&self) -> usize
         ensures { result ≡ length self.now }
     {
-        self.rest.len()
+        self.rest.left()
     }
 
     /// The next lexeme, and what follows it; none at the end.

@@ -1,4 +1,4 @@
-//! The reason of a `vacation` (RFC 5230, 4.5).
+//! The reason of a `vacation` (RFC 5230, 4.4).
 ghost use Rattle.std.specs.Prelude.{◌≡◌, OnOk, option_map};
 ghost use Rattle.std.specs.List.{list_all};
 ghost use Rattle.sievesyntax.specs.Parsing.{IfFault};

@@ -16,6 +16,7 @@ use crate::looks::{read_address, read_envelope, read_header, read_size};
 use crate::positional::{list, no_arguments, read_text};
 use crate::reason::check_reason;
 use crate::refusal::ReadError;
+use crate::reply::Reply;
 use crate::setting::arranged;
 use crate::tree::{Command, Test};
 use octets::Texts;
@@ -99,7 +100,7 @@ pub fn plain_command(
             }
             let vacation = read_vacation(alloc, args)?;
             check_reason(&vacation)?;
-            Ok(Command::Act(Action::Vacation(vacation)))
+            Ok(Command::Act(Action::Vacation(Reply::new(alloc, vacation)?)))
         }
         Word::Require => Err(ReadError::Fault(FaultKind::LateRequire)),
         Word::Elsif => Err(ReadError::Fault(FaultKind::StrayElse)),

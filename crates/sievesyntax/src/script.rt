@@ -1,19 +1,21 @@
 //! A checked script.
-ghost use Rattle.std.specs.Prelude.{◌≡◌, ◌⊎◌, ◌+◌, ◌≤◌, Contains, IfOk};
+ghost use Rattle.std.specs.Prelude.{◌≡◌, ◌+◌, ◌-◌, ◌≤◌, List, IfOk, IfErr};
 ghost use Rattle.sievelex.specs.declared.token.Token.{Token};
-ghost use Rattle.sievelex.specs.Finding.{IfFault, IfFaultLine};
+ghost use Rattle.sievelex.specs.Spelling.{Spells};
+ghost use Rattle.sievelex.specs.Finding.{IfFault, IfFaultLine, OnFaultLine};
+ghost use Rattle.sievelex.specs.Said.{said, line_at};
 ghost use Rattle.sievelex.specs.Text.{line_ends};
-ghost use Rattle.sievesyntax.specs.Lexemes.{lexemes};
+ghost use Rattle.sievesyntax.specs.Lexemes.{lexemes_said};
 ghost use Rattle.sievesyntax.specs.Tree.{Commands};
 ghost use Rattle.sievesyntax.specs.Valid.{IsValid};
 ghost use Rattle.sievesyntax.specs.Reading.{Reads};
-ghost use Rattle.sievesyntax.specs.Lines.{IsLineOf};
+ghost use Rattle.sievesyntax.specs.Parsing.{OnFault};
 
 use crate::opening::read_script;
 use crate::reader::Reader;
 use crate::refusal::ReadError;
 use crate::tree::Command;
-use sievelex::{ScriptError, ScriptFault, Token, tokens};
+use sievelex::{FaultKind, Packed, ScriptError, ScriptFault, line_of, pack};
 use std::alloc::Global;
 
 /// A script that was checked: its tree is valid.
@@ -39,8 +41,8 @@ ghost use Rattle.sievesyntax.specs.Means.{Means};
 /// Checks a script: the one tree that the text means, or the fault that was met first, where it means none
 /// (RFC 5228, 8.2). Any octets are taken as text.
 ///
-/// Time and memory are linear in the text's length, and the stack that it takes is bounded: blocks stand in
-/// blocks no deeper than 32 levels.
+/// Time and memory are linear in the text's length, and the stack that it takes is bounded: blocks, test lists and
+/// `not`s stand in their like no deeper than 32 levels each.
 ///
 /// # Errors
 ///
@@ -51,35 +53,34 @@ pub fn check(alloc: Global, text: &[u8]) -> Result<Script, ScriptError>
     ensures fault { IfFault result ((tree : Commands) → Means text.now tree → ⊥) }
     ensures lines { IfFaultLine result (λ n. (1 ≤ n) × (n ≤ 1 + line_ends text.now)) }
 {
-    let all = tokens(alloc, text)?;
-    check_tokens(alloc, all.as_slice())
-}
-
-/// The script of these tokens.
-fn check_tokens(alloc: Global, all: &[Token]) -> Result<Script, ScriptError>
-    ensures found { IfOk result (λ script. Reads (script_tree script) (lexemes all.now) × IsValid (script_tree script)) }
-    ensures only { IfOk result (λ script. (tree : Commands) → Reads tree (lexemes all.now) → IsValid tree → tree ≡ script_tree script) }
-    ensures fault { IfFault result ((tree : Commands) → Reads tree (lexemes all.now) → IsValid tree → ⊥) }
-    ensures lines { IfFaultLine result (IsLineOf all.now) }
-{
-    let mut reader = Reader::new(all);
-    match read_script(alloc, &mut reader) {
-        Ok(commands) => Ok(Script { commands }),
-        Err(ReadError::Memory) => Err(ScriptError::Memory),
-        Err(ReadError::Fault(kind)) => Err(ScriptError::Fault(ScriptFault {
-            line: line_read(all, reader.left()),
-            kind,
-        })),
+    let tokens = pack(alloc, text)?;
+    match check_tokens(alloc, &tokens) {
+        Ok(script) => Ok(script),
+        Err((ReadError::Memory, _)) => Err(ScriptError::Memory),
+        Err((ReadError::Fault(kind), read)) => Err(fault_behind(alloc, text, read, kind)),
     }
 }
 
-/// The line of the token that was read last, when so many are left.
-fn line_read(all: &[Token], left: usize) -> u64
-    ensures { IsLineOf all.now result }
+/// The script of these tokens, or why they are none, and how many of them were read.
+fn check_tokens(alloc: Global, tokens: &Packed) -> Result<Script, (ReadError, usize)>
+    ensures found { IfOk result (λ script. Reads (script_tree script) (lexemes_said (said tokens.now)) × IsValid (script_tree script)) }
+    ensures only { IfOk result (λ script. (tree : Commands) → Reads tree (lexemes_said (said tokens.now)) → IsValid tree → tree ≡ script_tree script) }
+    ensures fault { IfErr result (λ e. OnFault e.0 ((tree : Commands) → Reads tree (lexemes_said (said tokens.now)) → IsValid tree → ⊥)) }
 {
-    let read = all.len().saturating_sub(left);
-    match all.get(read.saturating_sub(1)) {
-        Some(token) => token.line,
-        None => 1,
+    let mut reader = Reader::new(tokens);
+    match read_script(alloc, &mut reader) {
+        Ok(commands) => Ok(Script { commands }),
+        Err(error) => Err((error, tokens.len().saturating_sub(reader.left()))),
+    }
+}
+
+/// The fault of a script that was met when so many of its tokens were read: its line is that of the last of them.
+fn fault_behind(alloc: Global, text: &[u8], read: usize, kind: FaultKind) -> ScriptError
+    ensures exact { (ts : List Token) → Spells text.now ts → OnFaultLine result (λ n. n ≡ line_at (read - 1) ts) }
+    ensures lines { OnFaultLine result (λ n. (1 ≤ n) × (n ≤ 1 + line_ends text.now)) }
+{
+    match line_of(alloc, text, read.saturating_sub(1)) {
+        Ok(line) => ScriptError::Fault(ScriptFault { line, kind }),
+        Err(error) => error,
     }
 }

@@ -95,7 +95,7 @@ pub fn strings(alloc: Global, value: &Argument) -> Result<Texts, ReadError>
 {
     match value {
         Argument::Text(string) => {
-            let mut strings = Texts::new(alloc);
+            let mut strings = Texts::from_vec(Vec::with_capacity(alloc, 1)?);
             strings.push(string.copied(alloc)?)?;
             Ok(strings)
         }
@@ -108,7 +108,7 @@ fn copied(alloc: Global, strings: &[Octets]) -> Result<Texts, ReadError>
     ensures found { IfOk result (λ xs. xs ≡ strings.now) }
     ensures fault { IfFault result ⊥ }
 {
-    let mut copies = Texts::new(alloc);
+    let mut copies = Texts::from_vec(Vec::with_capacity(alloc, strings.len())?);
     for string in strings {
         copies.push(string.copied(alloc)?)?;
     }

@@ -26,8 +26,9 @@ fn repeated(alloc: Global, text: &[u8], times: usize, end: &[u8]) -> Result<Octe
     Ok(all)
 }
 
+/// Arguments that their command or test doesn't take.
 #[test]
-fn names_the_first_fault_and_its_line(rt: HostRuntime) -> Result<(), Fail> {
+fn names_the_first_bad_argument(rt: HostRuntime) -> Result<(), Fail> {
     let table = [
         ("fileinto \"x\";", 1, FaultKind::NotRequired),
         (
@@ -45,11 +46,26 @@ fn names_the_first_fault_and_its_line(rt: HostRuntime) -> Result<(), Fail> {
             3,
             FaultKind::WrongArgument,
         ),
-        (
-            "if size :over 8589934592G {stop;}",
-            1,
-            FaultKind::NumberTooLarge,
-        ),
+        ("if size :is 5 { keep; }", 1, FaultKind::UnknownTag),
+        ("if size :over :under 5 { keep; }", 1, FaultKind::DoubleTag),
+        ("if size :over { keep; }", 1, FaultKind::MissingArgument),
+        ("if size 5 { keep; }", 1, FaultKind::MissingArgument),
+        ("if size :over 5 6 { keep; }", 1, FaultKind::ExtraArgument),
+        ("keep \"a\";", 1, FaultKind::ExtraArgument),
+        ("if size :over \"5\" { keep; }", 1, FaultKind::WrongArgument),
+        ("if size 5 :over { keep; }", 1, FaultKind::MissingArgument),
+    ];
+    for (text, line, kind) in table {
+        let wanted = Some(ScriptFault { line, kind });
+        assert_eq!(rt; fault_of(rt.alloc(), text.as_bytes())?, wanted, "{text}");
+    }
+    Ok(())
+}
+
+/// Names that are none, and commands out of their place. An unknown capability is seen behind the `;`.
+#[test]
+fn names_the_first_command_out_of_place(rt: HostRuntime) -> Result<(), Fail> {
+    let table = [
         ("keep;\nreject \"x\";", 2, FaultKind::UnknownCommand),
         ("elsif true { keep; }", 1, FaultKind::StrayElse),
         ("else { keep; }", 1, FaultKind::StrayElse),
@@ -62,14 +78,6 @@ fn names_the_first_fault_and_its_line(rt: HostRuntime) -> Result<(), Fail> {
         ("if true { } keep; elsif true { }", 1, FaultKind::StrayElse),
         ("if true { } else true { }", 1, FaultKind::Unexpected),
         ("if body \"a\" \"b\" { keep; }", 1, FaultKind::UnknownTest),
-        ("if size :is 5 { keep; }", 1, FaultKind::UnknownTag),
-        ("if size :over :under 5 { keep; }", 1, FaultKind::DoubleTag),
-        ("if size :over { keep; }", 1, FaultKind::MissingArgument),
-        ("if size 5 { keep; }", 1, FaultKind::MissingArgument),
-        ("if size :over 5 6 { keep; }", 1, FaultKind::ExtraArgument),
-        ("keep \"a\";", 1, FaultKind::ExtraArgument),
-        ("if size :over \"5\" { keep; }", 1, FaultKind::WrongArgument),
-        ("if size 5 :over { keep; }", 1, FaultKind::MissingArgument),
         (
             "require [\"fileinto\", \"imap4flags\"];",
             1,
@@ -81,6 +89,23 @@ fn names_the_first_fault_and_its_line(rt: HostRuntime) -> Result<(), Fail> {
             "if true { require \"fileinto\"; }",
             1,
             FaultKind::LateRequire,
+        ),
+    ];
+    for (text, line, kind) in table {
+        let wanted = Some(ScriptFault { line, kind });
+        assert_eq!(rt; fault_of(rt.alloc(), text.as_bytes())?, wanted, "{text}");
+    }
+    Ok(())
+}
+
+/// Tokens that can't stand where they are; at the end of the text the line is that of the last token.
+#[test]
+fn names_the_first_unexpected_token(rt: HostRuntime) -> Result<(), Fail> {
+    let table = [
+        (
+            "if size :over 8589934592G {stop;}",
+            1,
+            FaultKind::NumberTooLarge,
         ),
         ("keep", 1, FaultKind::Unexpected),
         ("keep;\n}", 2, FaultKind::Unexpected),

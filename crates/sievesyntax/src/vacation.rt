@@ -12,12 +12,12 @@ pub struct VacArgs {
     pub subject: Option<Octets>,
     /// `:from` (RFC 5230, 4.3).
     pub from: Option<ReplyFrom>,
-    /// `:addresses`: the addresses of the user besides those known already (RFC 5230, 4.4), in order. A text that
+    /// `:addresses`: the addresses of the user besides those known already (RFC 5230, 4.5), in order. A text that
     /// is no address has none here.
     pub addresses: Addrs,
-    /// `:mime`: the reason is a MIME entity, a header and a body (RFC 5230, 4.5).
+    /// `:mime`: the reason is a MIME entity, a header and a body (RFC 5230, 4.4).
     pub mime: bool,
-    /// `:handle`: the name of the answer, under which it is known whether the sender has got it (RFC 5230, 4.6).
+    /// `:handle`: the name of the answer, under which it is known whether the sender has got it (RFC 5230, 4.2).
     pub handle: Option<Octets>,
     /// The reason: what is answered.
     pub reason: Octets,

@@ -105,15 +105,20 @@ fn counts_each_depth_apart(rt: HostRuntime) -> Result<(), Fail> {
 #[test]
 fn counts_the_octets_of_a_line(rt: HostRuntime) -> Result<(), Fail> {
     let alloc = rt.alloc();
-    for (octets, kind) in [(998, None), (999, Some(FaultKind::LongReasonLine))] {
+    // The line is that of the reason's first octet.
+    let long = ScriptFault {
+        line: 3,
+        kind: FaultKind::LongReasonLine,
+    };
+    for (octets, wanted) in [(998, None), (999, Some(long))] {
         let reason = repeated(alloc, b"x", octets, b"\r\ny\";")?;
         let text = repeated(
             alloc,
-            b"require \"vacation\"; vacation \"a\r\n",
+            b"require \"vacation\";\nvacation\n\"a\r\n",
             1,
             reason.as_slice(),
         )?;
-        assert_eq!(rt; fault_of(alloc, text.as_slice())?.map(|f| f.kind), kind);
+        assert_eq!(rt; fault_of(alloc, text.as_slice())?, wanted);
     }
     Ok(())
 }

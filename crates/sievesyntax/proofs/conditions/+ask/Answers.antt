@@ -1,6 +1,6 @@
 use Rattle.std.proofs.Common.{◌≡◌, ap, sym, ◌∙◌, ◌++◌, ◌∷◌, [], map, append_assoc, length, arith, Ok, ◌-◌}
 use Rattle.std.proofs.lemmas.Result.{err_from_is_err_and}
-use Rattle.sievesyntax.specs.View.{test_view, tests_view}
+use Rattle.sievesyntax.specs.View.{test_view}
 use Rattle.sievesyntax.proofs.FaultLemmas.{fault_on, faults_on}
 use Rattle.sievesyntax.proofs.ViewLemmas.{view-Not, view-AllOf, view-AnyOf, push-test}
 use Rattle.sievesyntax.proofs.TestLemmas.{allof_none, allof_found, anyof_none, anyof_found, not_deep, not_none, not_found, tests_no_first, tests_no_more, tests_found, next_stops, next_lacks, next_grows, next_ends, reads_test_longer}
@@ -56,7 +56,7 @@ read_tests-returns-in_err-tests t c =
 
 pub read_tests-returns : goal.read_tests-returns
 read_tests-returns t c =
-    let one = rw c.new-tests.ensures.items at c.in_ok-push.ensures.items in
+    let one = rw c.in_ok-one.ensures.items at c.in_ok-push.ensures.items in
     let found = rw one at c.in_ok-tests.ensures.found in
     let only = rw one at c.in_ok-tests.ensures.only in
     tests_found c.args.granted c.args.lists c.args.nots _ _ c.in_ok-read_mark.ensures.found (c.args.lists - 1) (omega arith) _ _ c.in_ok-read_test.ensures _ _ found only

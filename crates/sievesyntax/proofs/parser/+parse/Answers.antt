@@ -101,7 +101,7 @@ read_elsifs-returns-clause-only t c = λ each to takes.
 pub read_if-returns-in_err-read_branch : goal.read_if-returns-in_err-read_branch
 read_if-returns-in_err-read_branch t c =
     let e = c.in_err-read_branch.ensures in
-    let p = err_from_is_err_and c.from_residual.result c.from_residual.ensures.1 in
+    let p = err_from_is_err_and c.from_residual-in_err-read_branch.result c.from_residual-in_err-read_branch.ensures.1 in
     rw (p.1, p.2) (fault_on _ _ _ (if_no_first c.args.granted c.args.room _) e)
 
 pub read_if-returns-in_err-branches : goal.read_if-returns-in_err-branches
@@ -112,7 +112,7 @@ read_if-returns-in_err-branches t c =
 
 pub read_if-returns-in_err-branches-2 : goal.read_if-returns-in_err-branches-2
 read_if-returns-in_err-branches-2 t c =
-    let one = rw c.new-branches.ensures.items at c.in_ok-push.ensures.items in
+    let one = rw c.in_ok-one.ensures.items at c.in_ok-push.ensures.items in
     let only = rw one at c.in_ok-branches.ensures.only in
     let e = c.in_err-branches-2.ensures.fault in
     let p = err_from_is_err_and c.from_residual-in_err-branches-2.result c.from_residual-in_err-branches-2.ensures.1 in
@@ -120,7 +120,7 @@ read_if-returns-in_err-branches-2 t c =
 
 pub read_if-returns : goal.read_if-returns
 read_if-returns t c =
-    let one = rw c.new-branches.ensures.items at c.in_ok-push.ensures.items in
+    let one = rw c.in_ok-one.ensures.items at c.in_ok-push.ensures.items in
     let only = rw one at c.in_ok-branches.ensures.only in
     let each = rw one at c.in_ok-branches.ensures.found in
     let last = c.in_ok-branches-2.ensures.found in
@@ -138,15 +138,15 @@ read_block-returns-in_err-block t c =
 
 pub read_block-returns-in_err-read_mark-2 : goal.read_block-returns-in_err-read_mark-2
 read_block-returns-in_err-read_mark-2 t c =
-    let only = rw c.new.ensures.items at c.in_ok-block.ensures.only in
+    let only = rw c.in_ok-none.ensures at c.in_ok-block.ensures.only in
     let e = c.in_err-read_mark-2.ensures.fault in
     let p = err_from_is_err_and c.from_residual-in_err-read_mark-2.result c.from_residual-in_err-read_mark-2.ensures.1 in
     rw (p.1, p.2) (fault_on _ _ _ (block_no_close c.args.granted c.args.room (c.args.room - 1) (omega arith) _ _ c.in_ok-read_mark.ensures.found _ _ only) e)
 
 pub read_block-returns : goal.read_block-returns
 read_block-returns t c =
-    let only = rw c.new.ensures.items at c.in_ok-block.ensures.only in
-    let found = rw c.new.ensures.items at c.in_ok-block.ensures.found in
+    let only = rw c.in_ok-none.ensures at c.in_ok-block.ensures.only in
+    let found = rw c.in_ok-none.ensures at c.in_ok-block.ensures.found in
     let all = rw (← found.1.0) at found.1.1 in
     block_found c.args.granted c.args.room (c.args.room - 1) (omega arith) _ _ c.in_ok-read_mark.ensures.found _ _ only all _ c.in_ok-read_mark-2.ensures.found
 

@@ -41,5 +41,7 @@ returns-in_err-check_reason-in-Vacation-clause-fault c =
     let p = err_from_is_err_and c.from_residual-in_err-check_reason-in-Vacation.result c.from_residual-in_err-check_reason-in-Vacation.ensures.1 in
     rw (p.1, p.2) (fault_on _ _ _ (vacation_bad _ _ c.in-Vacation.is c.args.granted _ h.1) e)
 
-pub returns-in_ok-check_reason-in-Vacation-clause-only : goal.returns-in_ok-check_reason-in-Vacation-clause-only
-returns-in_ok-check_reason-in-Vacation-clause-only c = let h = c.in_ok-vacation-in-Vacation.ensures in rw view-Act (vacation_only _ _ c.in-Vacation.is _ h.1)
+pub returns-in_ok-new-in-Vacation-clause-only : goal.returns-in_ok-new-in-Vacation-clause-only
+returns-in_ok-new-in-Vacation-clause-only c =
+    let h = c.in_ok-vacation-in-Vacation.ensures in
+    rw (view-Act, c.in_ok-new-in-Vacation.ensures) (vacation_only _ _ c.in-Vacation.is _ h.1)
