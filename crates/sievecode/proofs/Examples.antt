@@ -1,12 +1,13 @@
 -- Right examples and near misses of the definitions.
 use Rattle.std.proofs.Common.{◌≡◌, ℕ, zero, suc, ◌<◌, Bool, true, false, List, [], ◌∷◌, Option, Some, None, refl, ap, subst, arith}
+use Rattle.std.proofs.lemmas.Option.{same_Some}
 use Rattle.sievesyntax.specs.declared.action.Action.TheVariants.{Discard}
 use Rattle.sievesyntax.specs.declared.checks.Check.{Check}
 use Rattle.sievesyntax.specs.SoFar.{inbox}
 use Rattle.sievesyntax.specs.Tree.{no, choose, branch, no_branches, Commands, command, no_commands}
 use Rattle.sievesyntax.specs.Tree as T
 use Rattle.sievesyntax.specs.Meaning.{Outcome, Done, Failed}
-use Rattle.sievecode.specs.Instructions.{Instruction, set, jump, jump_unless, act, stop}
+use Rattle.sievecode.specs.Instructions.{set, jump, jump_unless, act, stop}
 use Rattle.sievecode.specs.Jumps.{jumps, Stands, LeadsForward, IsForward}
 use Rattle.sievecode.specs.Size.{size}
 
@@ -36,11 +37,8 @@ unfolding filed_by
 too_far stands = let kept : inbox ∷ [] ≡ [] = ap filed_by (stands (λ check. true)) in cc
 
 -- a jump to the end leads forward, and one to its own place doesn't
-some_is : {a b : Instruction} → Some a ≡ Some b → a ≡ b
-some_is e = cc
-
 forward : IsForward (jump 1 ∷ [])
-forward zero instr here = subst (LeadsForward 0 1) (some_is here) (omega arith, omega arith)
+forward zero instr here = subst (LeadsForward 0 1) (same_Some _ _ here) (omega arith, omega arith)
 forward (suc n) instr here = cc
 
 in_place : IsForward (jump 0 ∷ []) → ⊥

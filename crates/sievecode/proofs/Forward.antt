@@ -3,7 +3,7 @@ use Rattle.std.proofs.Common.{◌≡◌, ℕ, zero, suc, ◌+◌, ◌-◌, ◌�
 use Rattle.std.specs.Prelude.{slice_get}
 use Rattle.std.specs.Option.{option_map}
 use Rattle.std.proofs.lemmas.List.{length-drop, length-map, drop-drop}
-use Rattle.std.proofs.lemmas.Option.{slice_get-map, slice_get_past}
+use Rattle.std.proofs.lemmas.Option.{same_Some, slice_get-map, slice_get_past}
 use Rattle.sievesyntax.specs.declared.checks.Check.{Check}
 use Rattle.sievesyntax.specs.SoFar.{SoFar, at_first, Flow, Going, Stopped, Failed, and_then, acted}
 use Rattle.sievesyntax.specs.Tree.{TestTree, yes, no, looks, not_of, all_of, any_of, Tests, no_tests, test, CommandTree, require, choose, stop, act, Branches, no_branches, branch, Commands, no_commands, command}
@@ -171,11 +171,8 @@ forward_at back within place instr [] e here = absurd (none_is_some (sym (nothin
     none_is_some e = cc
 forward_at back within place instr (first ∷ rest) e here =
     let first_within = subst AreWithin e (within_drop place back within) in
-    let same : forward (length back) first ≡ instr = some_is (sym (something_at back place first rest e) ∙ here) in
+    let same : forward (length back) first ≡ instr = same_Some _ _ (sym (something_at back place first rest e) ∙ here) in
     subst (LeadsForward place (length back)) same (leads back place first rest (left_at back place first rest e) first_within.0)
-  where
-    some_is : {a b : Instruction} → Some a ≡ Some b → a ≡ b
-    some_is e = cc
 
 pub turned_forward : (commands : Commands) (code : List Instruction) → code ≡ turned (commands_code commands []) → IsForward code
 turned_forward commands code e place instr here =

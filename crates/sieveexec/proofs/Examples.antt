@@ -1,18 +1,14 @@
 -- The definitions at a few mails: what they fit, and what is near it that they don't.
-use Rattle.std.proofs.Common.{◌≡◌, ◌≢◌, ◌<◌, ℕ, true, false, inl, inr, List, [], ◌∷◌, ◌++◌, codes, refl, arith}
-use Rattle.addrparts.specs.declared.address.Addr.{Addr}
-use Rattle.mailhead.specs.Fields.{FieldText}
+use Rattle.std.proofs.Common.{◌≡◌, true, false, inl, inr, [], ◌∷◌, ◌++◌, codes, refl, arith}
 use Rattle.sievesyntax.specs.declared.checks.Matching.TheVariants.{Is, Contains}
 use Rattle.sievesyntax.specs.declared.checks.AddressPart.TheVariants.{LocalPart, Domain}
 use Rattle.sievesyntax.specs.declared.checks.AddressPart.TheVariants as part
 use Rattle.sievesyntax.specs.declared.checks.Bound.TheVariants.{Over, Under}
 use Rattle.sievesyntax.specs.declared.checks.Collation.TheVariants.{Octet, AsciiCasemap}
-use Rattle.sieveexec.specs.declared.envelope.Envelope.{Envelope}
-use Rattle.sieveexec.specs.Mails.{MailSpec, mail_of, raws_keyed, values_of, text_shown, texts_of, is_address_key, addresses_of}
-use Rattle.sieveexec.specs.Matches.{MatchesKey, matches_key, matches_some, image_by}
-use Rattle.sieveexec.specs.Parts.{part_of, Cuts, CutsAtLast, IsPart, part_in, local_of, domain_of}
+use Rattle.sieveexec.specs.Mails.{MailSpec, mail_of, values_of, text_shown, is_address_key, addresses_of}
+use Rattle.sieveexec.specs.Matches.{matches_key, matches_some, image_by}
+use Rattle.sieveexec.specs.Parts.{part_of, Cuts, CutsAtLast, IsPart, part_in}
 use Rattle.sieveexec.specs.Holding.{IsBeyond, IsNamed}
-use Rattle.sieveexec.specs.Truth.{is_beyond}
 
 -- "To: a@b", LF, "to: c", LF, from `x@y@z` to nobody
 abbrev sample : MailSpec

@@ -1,17 +1,16 @@
 -- The tests of specs/Matches decide what a value and a key have to be.
-use Rattle.std.proofs.Common.{◌≡◌, ◌==◌, ◌≤◌, ◌+◌, ℕ, zero, suc, Bool, true, false, ◌||◌, ◌⊎◌, inl, inr, List, [], ◌∷◌, ◌++◌, length, drop, map, refl, sym, ap, ◌∙◌, arith}
+use Rattle.std.proofs.Common.{◌≡◌, ◌≤◌, ℕ, zero, suc, Bool, true, false, ◌⊎◌, inl, inr, List, [], ◌∷◌, ◌++◌, length, drop, map, refl, sym, ap, arith}
 use Rattle.std.specs.Bool.{Decides}
-use Rattle.std.specs.List.{list_any, Any}
 use Rattle.std.proofs.lemmas.Bool.Decides.{Decides-and, Decides-or, Decides-eqb}
 use Rattle.std.proofs.lemmas.Slice.Eq.{bytes_eq-Decides}
-use Rattle.collation.specs.Comparators.{EqualBy, ContainsBy}
+use Rattle.collation.specs.Comparators.{ContainsBy}
 use Rattle.globmatch.specs.Glob.{items, Glob}
 use Rattle.globmatch.specs.declared.pattern.Item.{Item}
 use Rattle.globmatch.specs.declared.pattern.Item.TheVariants.{Star, One, Exact}
 use Rattle.sievesyntax.specs.declared.checks.Collation.{Collation}
 use Rattle.sievesyntax.specs.declared.checks.Matching.{Matching}
 use Rattle.sievesyntax.specs.declared.checks.Matching.TheVariants.{Is, Contains, Matches}
-use Rattle.sieveexec.specs.Matches.{image_by, MatchesKey, MatchesSome, is_equal, begins_with, some_end, is_contained, is_globbed, matches_key, matches_some}
+use Rattle.sieveexec.specs.Matches.{image_by, MatchesKey, MatchesSome, begins_with, some_end, is_contained, is_globbed, matches_key, matches_some}
 use Rattle.sieveexec.proofs.Decisions.{decides_as, any_decides}
 
 -- the images of a key stand first in those of a text

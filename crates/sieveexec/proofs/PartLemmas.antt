@@ -1,21 +1,14 @@
 -- An address of the envelope is cut in one way.
-use Rattle.std.proofs.Common.{◌≡◌, ◌==◌, ◌<◌, ◌≤◌, ◌+◌, ℕ, suc, Bool, true, false, ◌||◌, ◌&&◌, not, cond, ◌⊎◌, inl, inr, List, [], ◌∷◌, ◌++◌, length, take, drop, get_or, refl, sym, ap, ◌∙◌, subst, arith, add-one, length-drop}
-use Rattle.std.specs.Bool.{Decides}
-use Rattle.std.specs.List.{list_any}
+use Rattle.std.proofs.Common.{◌≡◌, ◌<◌, ◌+◌, ℕ, suc, Bool, true, false, ◌||◌, ◌&&◌, not, cond, inl, inr, List, [], ◌∷◌, ◌++◌, length, take, drop, get_or, refl, sym, ap, ◌∙◌, subst, arith, add-one, length-drop}
 use Rattle.std.proofs.Math.Bool.{or-true}
 use Rattle.std.proofs.Math.Seq.{drop-cons}
-use Rattle.std.proofs.lemmas.Bool.{eqb-true, cond-true, cond-false, false_from_ne_true}
+use Rattle.std.proofs.lemmas.Bool.{eqb-true, cond-true, cond-false, false_from_ne_true, or_parts}
 use Rattle.std.proofs.lemmas.List.{get_or-drop, get_or_default, take-append-drop}
 use Rattle.std.proofs.lemmas.List.Folds.{list_any_none}
 use Rattle.memchr.specs.Find.{Nowhere, NoneAfter, Passes, is_byte}
 use Rattle.sievesyntax.specs.declared.checks.AddressPart.{AddressPart}
 use Rattle.sievesyntax.specs.declared.checks.AddressPart.TheVariants.{All, LocalPart, Domain}
-use Rattle.sieveexec.specs.Parts.{is_at, has_at, CutsAtLast, IsLocalAlone, Cuts, local_of, domain_of, IsPart, part_in}
-
--- neither holds
-neither : (a b : Bool) → (a || b) ≡ false → (a ≡ false) × (b ≡ false)
-neither true b none = absurd (let no : ⊥ = cc in no)
-neither false b none = (refl, none)
+use Rattle.sieveexec.specs.Parts.{is_at, has_at, CutsAtLast, Cuts, local_of, domain_of, IsPart, part_in}
 
 -- an octet other than the last `@`
 goes_on : (at later : Bool) (text : List ℕ) → at ≡ false → cond (at && not later) [] text ≡ text
@@ -31,13 +24,13 @@ goes_further false later text more = refl
 bare_local : (text : List ℕ) → has_at text ≡ false → local_of text ≡ text
 bare_local [] bare = refl
 bare_local (octet ∷ rest) bare =
-    goes_on (is_at octet) (has_at rest) _ (neither _ _ bare).0 ∙ ap (λ l. octet ∷ l) (bare_local rest (neither _ _ bare).1)
+    goes_on (is_at octet) (has_at rest) _ (or_parts _ _ bare).0 ∙ ap (λ l. octet ∷ l) (bare_local rest (or_parts _ _ bare).1)
 
 -- and has no domain
 bare_domain : (text : List ℕ) → has_at text ≡ false → domain_of text ≡ []
 bare_domain [] bare = refl
 bare_domain (octet ∷ rest) bare =
-    cond-false (has_at rest) _ _ (neither _ _ bare).1 ∙ cond-false (is_at octet) rest [] (neither _ _ bare).0
+    cond-false (has_at rest) _ _ (or_parts _ _ bare).1 ∙ cond-false (is_at octet) rest [] (or_parts _ _ bare).0
 
 has_at_behind : (local domain : List ℕ) → has_at (local ++ 64 ∷ domain) ≡ true
 has_at_behind [] domain = refl

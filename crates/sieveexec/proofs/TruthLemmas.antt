@@ -1,7 +1,6 @@
 -- The truth of a test is whether it holds.
-use Rattle.std.proofs.Common.{◌≡◌, ◌≢◌, ◌<◌, ℕ, Bool, true, false, ◌||◌, ◌&&◌, ◌⊎◌, inl, inr, List, [], ◌∷◌, refl, sym, subst}
+use Rattle.std.proofs.Common.{◌≡◌, ◌≢◌, ℕ, Bool, true, ◌⊎◌, inl, inr, List, [], ◌∷◌, refl, subst}
 use Rattle.std.specs.Bool.{Decides}
-use Rattle.std.specs.List.{Any}
 use Rattle.std.proofs.lemmas.Bool.Decides.{Decides-and, Decides-or, Decides-ltb}
 use Rattle.sievesyntax.specs.declared.checks.Bound.{Bound}
 use Rattle.sievesyntax.specs.declared.checks.Bound.TheVariants.{Over, Under}
@@ -9,10 +8,10 @@ use Rattle.sievesyntax.specs.declared.checks.EnvelopeTest.{EnvelopeTest}
 use Rattle.sievesyntax.specs.declared.checks.Check.{Check}
 use Rattle.sievesyntax.specs.declared.checks.Check.TheVariants.{Size, Exists, Header, Address, Envelope}
 use Rattle.sieveexec.specs.Mails.{MailSpec, values_of, texts_of, addresses_of}
-use Rattle.sieveexec.specs.Matches.{MatchesSome, matches_some}
+use Rattle.sieveexec.specs.Matches.{MatchesSome}
 use Rattle.sieveexec.specs.Parts.{part_of, IsPart, part_in}
 use Rattle.sieveexec.specs.Holding.{IsBeyond, IsNamed, Holds}
-use Rattle.sieveexec.specs.Truth.{is_beyond, is_some_there, envelope_matches, envelope_holds, truth_at}
+use Rattle.sieveexec.specs.Truth.{is_beyond, is_some_there, envelope_matches, truth_at}
 use Rattle.sieveexec.proofs.Decisions.{decides_as, any_decides, all_decides}
 use Rattle.sieveexec.proofs.MatchLemmas.{matches_some_decides}
 use Rattle.sieveexec.proofs.PartLemmas.{part_is, part_only}

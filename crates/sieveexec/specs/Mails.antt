@@ -41,7 +41,7 @@ raws_keyed fields key = map (λ field. field.raw) (filter (λ field. pointwise n
 abbrev pub values_keyed : MailSpec → List ℕ → List (List ℕ)
 values_keyed mail key = map unfold_of (raws_keyed mail.fields key)
 
--- the text of an unfolded value: decoded (RFC 2047), and then without the blanks at its ends (RFC 5228, 2.4.2.2)
+-- the text of an unfolded value: decoded (RFC 2047), and then without the blanks at its ends (RFC 5228, 5.7)
 abbrev pub text_shown : List ℕ → List ℕ
 text_shown value = trimmed (text_of value)
 

@@ -1,5 +1,5 @@
 -- The truth of tests at a mail: true exactly where the test holds (`truth_of_a_check` of laws.rt).
-use Rattle.std.specs.Prelude.{ℕ, Bool, true, false, ◌&&◌, ◌||◌, not, nat_lt, List, [], ◌∷◌}
+use Rattle.std.specs.Prelude.{ℕ, Bool, true, false, ◌&&◌, ◌||◌, nat_lt, List, [], ◌∷◌}
 use Rattle.std.specs.List.{list_any, list_all}
 use Rattle.sievesyntax.specs.declared.checks.Bound.{Bound}
 use Rattle.sievesyntax.specs.declared.checks.Bound.TheVariants.{Over, Under}

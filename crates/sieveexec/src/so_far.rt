@@ -62,7 +62,7 @@ impl SoFar {
             }
             Action::FileInto(name) => self.file_into(alloc, mailbox_named(name.as_slice())),
             Action::Redirect(target) => self.send_to(alloc, target),
-            Action::Vacation(args) => self.reply_by(alloc, args),
+            Action::Vacation(reply) => self.reply_by(alloc, reply.args()),
         }
     }
 
