@@ -1,10 +1,11 @@
 -- The definitions on small cases: one that is right, and one that nearly is.
-use Rattle.std.proofs.Common.{◌≡◌, ◌≢◌, ℕ, ◌≤◌, Bool, true, false, List, [], ◌∷◌, codes, length, is_some, Option, Some, None, IsSome, refl, sym, ◌∙◌, ap, subst, inl, inr, arith}
-use Rattle.std.specs.FinMap.{empty, get, len, get-empty, len-empty}
+use Rattle.std.proofs.Common.{◌≡◌, ℕ, ◌≤◌, true, false, List, [], ◌∷◌, codes, Option, Some, None, IsSome, refl, sym, ◌∙◌, subst, inl, arith}
+use Rattle.std.specs.FinMap.{empty, get, insert, len, get-empty, get-insert, len-empty}
+use Rattle.std.proofs.lemmas.Cmp.{nat_list_cmp_total}
 use Rattle.std.specs.Str.{chars}
 use Rattle.sievesyntax.specs.SoFar.{inbox}
 use Rattle.mailstore.specs.declared.refusal.Refusal.TheVariants.{Store, NoUser, BadEnvelope, BadMoment}
-use Rattle.mailstore.specs.Account.{bytes_cmp, Account, new_account}
+use Rattle.mailstore.specs.Account.{bytes_cmp, Account, new_account, activates}
 use Rattle.sieveexec.specs.declared.envelope.Envelope.{Envelope}
 use Rattle.mailengine.specs.declared.event.Event.TheVariants.{Deliver, Whole}
 use Rattle.mailengine.specs.declared.answer.Answer.TheVariants.{Refused}
@@ -12,6 +13,7 @@ use Rattle.mailengine.specs.Limits.{IsScriptName, is_envelope_address, cause_of}
 use Rattle.mailengine.specs.Delivered.{Files}
 use Rattle.mailengine.specs.Obeyed.{accepted, RepliesToSet, is_ok}
 use Rattle.mailengine.specs.World.{World, Says, MayRefuse, Runs}
+use Rattle.mailengine.specs.Sound.{IsSound}
 
 -- ---- names
 
@@ -85,3 +87,24 @@ no_events = refl
 
 answer_without_event : Runs nobody [] (Refused NoUser ∷ []) nobody → ⊥
 answer_without_event h = h
+
+-- ---- sound accounts
+
+not_there : {X : Type 0} (x : X) → None ≡ Some x → ⊥
+not_there x is = cc
+
+fresh_sound : IsSound fresh
+fresh_sound = record {
+  scripts = λ name text is. absurd (not_there text (sym (get-empty bytes_cmp name) ∙ is));
+  few = let none : len fresh.scripts ≡ 0 = len-empty bytes_cmp (List ℕ) in omega arith;
+  active = tt;
+  filled = λ folder is. not_there {X = List (List ℕ)} [] (sym (get-empty bytes_cmp folder) ∙ is);
+}
+
+-- the active name is no script's
+active_nothing : IsSound (activates (Some (codes "x")) fresh) → ⊥
+active_nothing s = let no : false ≡ true = subst (λ (o : Option (List ℕ)). IsSome o) (get-empty bytes_cmp (codes "x")) s.active in cc
+
+-- a folder is empty
+folder_without_message : IsSound (record fresh { folders = insert empty (codes "x") [] }) → ⊥
+folder_without_message s = s.filled (codes "x") (get-insert nat_list_cmp_total empty (codes "x") [] (codes "x"))

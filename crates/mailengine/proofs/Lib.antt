@@ -1,4 +1,9 @@
+pub mod CommandLemmas
 pub mod DeliveryLemmas
 mod Examples
+pub mod RunLemmas
+pub mod SoundLemmas
 pub mod StandLemmas
+pub mod StepLemmas
 pub mod ViewLemmas
+pub mod WholeLemmas

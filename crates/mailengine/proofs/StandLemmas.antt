@@ -1,22 +1,19 @@
 -- What reads leave of a store, and what a refused event comes to.
-use Rattle.std.proofs.Common.{◌≡◌, ◌⊎◌, ℕ, List, Option, Some, None, Ok, Err, Result, OnOk, OnErr, IfOk, IfErr, IsTrue, is_none, refl, sym, ◌∙◌, ap, subst, inl, inr}
+use Rattle.std.proofs.Common.{◌≡◌, ◌⊎◌, ℕ, List, Option, Some, None, Ok, Err, Result, OnOk, IfErr, IsTrue, is_none, refl, sym, ◌∙◌, ap, subst, inl, inr}
 use Rattle.std.specs.FinMap.{get}
-use Rattle.sqlite_trees.specs.Tree.{Trees}
-use Rattle.sqlite.specs.Effect.{Database}
 use Rattle.sqlite.specs.State.{State, HasCleanDisk, Survives}
 use Rattle.sqlite.proofs.StateLemmas.{survives_then, survives_weaker}
 use Rattle.mailstore.specs.declared.refusal.Refusal.{Refusal}
-use Rattle.mailstore.specs.declared.refusal.Refusal.TheVariants.{Memory, Store, NoUser}
+use Rattle.mailstore.specs.declared.refusal.Refusal.TheVariants.{NoUser}
 use Rattle.mailstore.specs.declared.report.Report.{Report}
 use Rattle.mailstore.specs.Words.{StaysSame, StaysShut}
-use Rattle.mailstore.specs.Account.{Account, Accounts}
+use Rattle.mailstore.specs.Account.{Accounts}
 use Rattle.mailstore.specs.Shows.{Presents}
-use Rattle.mailstore.specs.Calls.{IsFree, OfUser, KeepsTables, IsOpenOnOk, LosesNothing}
+use Rattle.mailstore.specs.Calls.{IsFree, KeepsTables, IsOpenOnOk, LosesNothing}
 use Rattle.mailstore.specs.Refusals.{IsPassing}
 use Rattle.mailstore.proofs.WriteLemmas.{clean_before}
 use Rattle.mailstore.proofs.ResultLemmas.{on_ok}
 use Rattle.mailengine.specs.declared.event.Event.{Event}
-use Rattle.mailengine.specs.declared.answer.Answer.{Answer}
 use Rattle.mailengine.specs.declared.answer.Answer.TheVariants.{Refused}
 use Rattle.mailengine.specs.World.{World, Next, SaysUnless, SaysTo, MayRefuse, refusal_in, user_of}
 use Rattle.mailengine.specs.Stands.{Stands, Looks, Reads, IsOwn, IsEvent, MayLeave, delivery_told, command_told}

@@ -53,6 +53,19 @@ module _ (a b : State) (r : Result (Option Profile) Refusal) (user : List ℕ) (
       let same : own.0.active ≡ None = sym (ap (λ (q : Profile). q.active) own.2) ∙ none in
       (own.0, own.1, sym (ap (text_named own.0.scripts) same))
 
+  module _ {X : Type 0} (c : State) (p : Profile) (is : r ≡ Ok (Some p)) (q : Result X Refusal) (reads : Reads b c q) where
+    -- what a second read finds of the account
+    pub found_then : (P : X → Account → Type 0) → (HasCleanDisk c → (accounts : Accounts) → Presents b.now accounts → IfOk q (λ x. OfUser accounts user (P x))) → HasCleanDisk c → (w : World) → Stands a w
+        → IfOk q (λ x. OfUser w.accounts user (P x))
+    found_then P read clean w stands = read clean w.accounts (mid_presents a b r (Some p) is looks (clean_before b c _ reads.crash clean) w stands).2
+
+    pub refusal_seen : (HasCleanDisk c → (accounts : Accounts) → Presents b.now accounts → IfErr q (λ e. e ≡ NoUser → IsFree user accounts)) → IfErr q (λ e. (e ≡ NoUser) ⊎ IsPassing e) → HasCleanDisk c → (w : World)
+        → Stands a w → IfErr q (IsOwn w.accounts user)
+    refusal_seen absent named clean w stands =
+        let before = clean_before b c _ reads.crash clean in
+        let mid = mid_presents a b r (Some p) is looks before w stands in
+        own_refusal q w.accounts user (absent clean w.accounts mid.2) named
+
   module _ (c : State) (p : Profile) (is : r ≡ Ok (Some p)) (name : List ℕ) (active : p.active ≡ Some name) (q : Result (Option (List ℕ)) Refusal) (reads : Reads b c q) where
     pub text_seen : (HasCleanDisk c → (accounts : Accounts) → Presents b.now accounts → IfOk q (λ text. OfUser accounts user (λ a. text ≡ get a.scripts name))) → HasCleanDisk c → (w : World) → Stands a w
         → IfOk q (λ text. OfUser w.accounts user (λ a. text ≡ active_text a))
@@ -68,10 +81,3 @@ module _ (a b : State) (r : Result (Option Profile) Refusal) (user : List ℕ) (
             let acc : own.0 ≡ h.0 = cc in
             let same : h.0.active ≡ Some name = sym (ap (λ (x : Account). x.active) acc) ∙ (sym (ap (λ (x : Profile). x.active) own.2) ∙ active) in
             (h.0, h.1, h.2 ∙ sym (ap (text_named h.0.scripts) same))
-
-    pub refusal_seen : (HasCleanDisk c → (accounts : Accounts) → Presents b.now accounts → IfErr q (λ e. e ≡ NoUser → IsFree user accounts)) → IfErr q (λ e. (e ≡ NoUser) ⊎ IsPassing e) → HasCleanDisk c → (w : World)
-        → Stands a w → IfErr q (IsOwn w.accounts user)
-    refusal_seen absent named clean w stands =
-        let before = clean_before b c _ reads.crash clean in
-        let mid = mid_presents a b r (Some p) is looks before w stands in
-        own_refusal q w.accounts user (absent clean w.accounts mid.2) named

@@ -49,8 +49,3 @@ pub record Reports (a : Account) (moment : ℕ) (envelope : Envelope) (message :
 -- the account after a delivery that reports this: the message joins the end of each folder
 abbrev pub delivered : List ℕ → Report → Account → Account
 delivered message report a = files_copies report.filed message a
-
--- a delivery: the account and the report that it gives
-pub record Delivers (a : Account) (moment : ℕ) (envelope : Envelope) (message : List ℕ) (after : Account) (report : Report) : Type 0 where
-  pub reports : Reports a moment envelope message report
-  pub changed : after ≡ delivered message report a

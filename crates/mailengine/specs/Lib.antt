@@ -3,7 +3,9 @@ pub mod Limits
 pub mod Notices
 pub mod Obeyed
 pub mod Plans
+pub mod Sound
 pub mod Stands
+pub mod Told
 pub mod World
 pub use Rattle.sievesyntax.specs.Meaning
 pub use Rattle.sievesyntax.specs.Means

@@ -57,6 +57,10 @@ IsValid text = (tree : Commands) × Means text tree
 abbrev pub HasRoom : Account → List ℕ → Type 0
 HasRoom a name = IsSome (get a.scripts name) ⊎ (len a.scripts < scripts_limit)
 
+-- a name that can be made active: a script's, or the empty one for none
+abbrev pub IsChoice : Account → List ℕ → Type 0
+IsChoice a name = (name ≡ []) ⊎ IsSome (get a.scripts name)
+
 -- the answer to a text that is looked at as a script
 abbrev pub IsVerdict : List ℕ → Reply → Type 0
 IsVerdict text reply = Where (IsValid text) (reply ≡ accepted (codes "Stored.")) (TellsFault text reply)
@@ -77,7 +81,7 @@ RepliesToPut a name text reply =
 -- `SETACTIVE` (RFC 5804, 2.8): the empty name makes none active
 abbrev pub RepliesToSet : Account → List ℕ → Reply → Type 0
 RepliesToSet a name reply =
-    Where (name ≡ [] ⊎ IsSome (get a.scripts name))
+    Where (IsChoice a name)
     (reply ≡ accepted (codes "Done."))
     (reply ≡ declined (Some NonExistent) (codes "No such script."))
 
@@ -106,11 +110,6 @@ obeyed command false a = a
 -- whether an answer begins with OK
 abbrev pub is_ok : List ℕ → Bool
 is_ok octets = slice_index octets 0 == 79 && slice_index octets 1 == 75
-
--- a command: the account and the answer that it gives
-pub record Obeys (a : Account) (command : Option Command) (after : Account) (reply : Reply) : Type 0 where
-  pub replies : RepliesTo a command reply
-  pub changed : after ≡ obeyed command (is_ok (spelled reply)) a
 
 -- ---- one command as bytes
 

@@ -19,8 +19,9 @@ use std::alloc::Global;
 
 /// Delivers a message to a user by the active script (RFC 5228, 2.10), in one transaction, which is its last act.
 ///
-/// `moment` is in seconds since 1970-01-01 UTC. The message is borrowed and written once for each folder. Without
-/// an active script, or where its text is none, the message goes into INBOX.
+/// `moment` is in seconds since 1970-01-01 UTC. The message is borrowed and written once for each folder. Without an
+/// active script, where its text is none, or where its run fails, the message goes into INBOX; one that is redirected
+/// goes there too, since nothing is sent on yet.
 ///
 /// # Errors
 ///

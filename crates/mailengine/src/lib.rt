@@ -4,16 +4,27 @@
 mod answer;
 mod delivery;
 mod event;
+mod happening;
+pub mod laws;
 mod limits;
 mod notice;
+mod obey;
+mod one_command;
 mod plan;
+mod reply;
+mod runs;
+mod script_name;
 mod trial;
 mod view;
+mod world;
 
 pub use answer::{Answer, Progress};
 pub use delivery::deliver;
 pub use event::Event;
 pub use mailstore::{Plan, Refusal, Report};
 pub use notice::notice_text;
+pub use one_command::whole;
+pub use runs::{Ran, run};
 pub use sieveexec::{Envelope, Failure, Outcome};
 pub use trial::attempt;
+pub use world::World;

@@ -6,9 +6,10 @@ ghost use Rattle.mailstore.specs.Calls.{OfUser};
 ghost use Rattle.mailengine.specs.Delivered.{active_text as text_of};
 ghost use Rattle.mailengine.specs.World.{World};
 ghost use Rattle.mailengine.specs.Stands.{Stands, Looks, IsOwn};
+ghost use Rattle.mailengine.specs.Told.{AreNames};
 
 use mailstore::{Refusal, Store};
-use octets::Octets;
+use octets::{Octets, Texts};
 use sqlite::Alter;
 
 /// The text of the active script, if there is one. It is read once, by its key.
@@ -24,4 +25,16 @@ pub fn active_text<S: Alter>(store: &mut Store<S>, user: &[u8]) -> Result<Option
         None => Ok(None),
         Some(name) => store.script(user, name.as_slice()),
     }
+}
+
+/// The names of the user's scripts, in the order of their octets.
+pub fn script_names<S: Alter>(store: &mut Store<S>, user: &[u8]) -> Result<Texts, Refusal>
+    ensures found { HasCleanDisk (state S.Store store.new) → (w : World) → Stands (state S.Store store.old) w → IfOk result (λ names. OfUser w.accounts user.now (AreNames names)) }
+    ensures refused { HasCleanDisk (state S.Store store.new) → (w : World) → Stands (state S.Store store.old) w → IfErr result (IsOwn w.accounts user.now) }
+    ensures looks { Looks (state S.Store store.old) (state S.Store store.new) result }
+{
+    let Some(_) = store.account(user)? else {
+        return Err(Refusal::NoUser);
+    };
+    store.scripts(user)
 }

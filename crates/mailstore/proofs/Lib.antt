@@ -14,3 +14,4 @@ pub mod ReadLemmas
 pub mod ChainLemmas
 pub mod TallyLemmas
 pub mod FolderLemmas
+pub mod OneLemmas

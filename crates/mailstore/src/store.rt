@@ -16,7 +16,8 @@ use std::marker::Model;
 /// Accounts with their scripts, messages, queue, replies and notices, in an SQL database.
 ///
 /// Each write is one transaction: after a refusal the store stays as it was. No transaction is open
-/// between two calls. Dropping it closes the connection.
+/// between two calls. Dropping it drops the connection, which leaves the log beside a file; to have all in the one
+/// file, `release` the connection and close it.
 pub struct Store<S: Alter> {
     pub(crate) conn: Connection<S>,
     pub(crate) alloc: Global,

@@ -1,4 +1,4 @@
-use Rattle.std.proofs.Common.{◌≡◌, ◌⊎◌, Ok, Err, Some, None, OnOk, IfErr, sym, ◌∙◌, ap, subst, rules}
+use Rattle.std.proofs.Common.{◌≡◌, ◌⊎◌, Some, None, OnOk, IfErr, ◌∙◌, subst, rules}
 use Rattle.sqlite.specs.Held.{state}
 use Rattle.mailstore.specs.declared.refusal.Refusal.TheVariants.{NoUser}
 use Rattle.mailstore.specs.Calls.{IsFree}
@@ -9,7 +9,8 @@ use Rattle.mailengine.specs.Limits.{cause_of}
 use Rattle.mailengine.specs.Delivered.{Files}
 use Rattle.mailengine.specs.Stands.{IsOwn}
 use Rattle.mailengine.proofs.StandLemmas.{event_denied, event_refused, own_passing, reads_may}
-use Rattle.mailengine.proofs.DeliveryLemmas.{event_delivered, event_undone, same_undone, delivery_crash, contents_is}
+use Rattle.mailengine.proofs.DeliveryLemmas.{event_delivered, event_undone, delivery_crash, contents_is}
+use Rattle.mailengine.proofs.StepLemmas.{undone_then}
 use Rattle.mailengine.proofs.delivery.deliver.Goals as goal
 
 pub returns-in-Some-clause-event : goal.returns-in-Some-clause-event
@@ -56,10 +57,7 @@ returns-in_err-commit_delivery-clause-event g c =
 
 pub returns-in_err-commit_delivery-clause-same : goal.returns-in_err-commit_delivery-clause-same
 returns-in_err-commit_delivery-clause-same g c clean accounts p =
-    let none : cause_of c.args.envelope c.args.message.now c.args.moment ≡ None = cc in
-    let planned = c.in_ok-plan.ensures in
-    let files = subst (λ t. Files t c.args.envelope c.args.message.now c.in_ok-plan.plan.report.filed) (contents_is c.as_ref.result ∙ c.as_ref.ensures.value) planned.files in
-    on_err_any c.from_residual-in_err-commit_delivery.result _ (same_undone (state g.S.Store c.args.store.now) (state g.S.Store c.active_text.new.store) (state g.S.Store c.commit_delivery.new.self) c.active_text.result c.in_ok-text.text c.in_ok-text.was c.active_text.ensures.looks c.args.user.now c.args.envelope c.args.message.now c.args.moment none c.in_ok-text.ensures.found c.in_ok-plan.plan.copies c.in_ok-plan.plan.message.now c.in_ok-plan.plan.report files planned.copies planned.whole c.commit_delivery.ensures.crash c.in_err-commit_delivery.ensures.same clean accounts p)
+    on_err_any c.from_residual-in_err-commit_delivery.result _ (undone_then (state g.S.Store c.args.store.now) (state g.S.Store c.active_text.new.store) (state g.S.Store c.commit_delivery.new.self) c.active_text.result c.in_ok-text.text c.in_ok-text.was c.active_text.ensures.looks c.commit_delivery.ensures.crash c.in_err-commit_delivery.ensures.same clean accounts p)
 
 pub returns-in_err-commit_delivery-clause-crash : goal.returns-in_err-commit_delivery-clause-crash
 returns-in_err-commit_delivery-clause-crash g c =

@@ -1,4 +1,4 @@
-use Rattle.std.proofs.Common.{◌≡◌, Some, IfOk, sym, ap, ◌∙◌, subst, inr}
+use Rattle.std.proofs.Common.{◌≡◌, Some, IfOk, sym, ap, subst, inr}
 use Rattle.mailstore.specs.Cells.{contents}
 use Rattle.mailstore.proofs.ResultLemmas.{if_ok}
 use Rattle.mailengine.specs.Delivered.{Files}

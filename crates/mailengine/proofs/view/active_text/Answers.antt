@@ -48,9 +48,8 @@ returns-clause-refused g c =
     let mid = state g.S.Store c.account.new.self in
     let new = state g.S.Store c.script.new.self in
     let is : c.account.result ≡ Ok (Some c.in-Some.profile) = cc in
-    let active : c.in-Some.profile.active ≡ Some c.as_slice.result.now = cc in
-    refusal_seen old mid c.account.result c.args.user.now c.account.ensures.found (looks_first old mid c.account.result c.account.ensures.same c.account.ensures.shut c.account.ensures.crash) new c.in-Some.profile is c.as_slice.result.now
-    active c.script.result (reads_one mid new c.script.result c.script.ensures.same c.script.ensures.live c.script.ensures.crash) c.script.ensures.absent c.script.ensures.named
+    refusal_seen old mid c.account.result c.args.user.now c.account.ensures.found (looks_first old mid c.account.result c.account.ensures.same c.account.ensures.shut c.account.ensures.crash) new c.in-Some.profile is
+    c.script.result (reads_one mid new c.script.result c.script.ensures.same c.script.ensures.live c.script.ensures.crash) c.script.ensures.absent c.script.ensures.named
 
 pub returns-clause-looks : goal.returns-clause-looks
 returns-clause-looks g c =

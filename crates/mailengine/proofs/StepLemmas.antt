@@ -1,0 +1,61 @@
+-- An event of one user that is reads, and then one write: or reads alone.
+use Rattle.std.proofs.Common.{◌≡◌, Some, Ok, Result, IsSome, IsTrue, refl, sym, subst}
+use Rattle.std.specs.FinMap.{get}
+use Rattle.sqlite_trees.specs.Tree.{Trees}
+use Rattle.sqlite.specs.State.{State, HasCleanDisk, Survives}
+use Rattle.sqlite.proofs.StateLemmas.{survives_then}
+use Rattle.mailstore.specs.Words.{StaysSame}
+use Rattle.mailstore.specs.Account.{Account, Accounts, with_user}
+use Rattle.mailstore.specs.Shows.{Presents}
+use Rattle.mailstore.specs.Calls.{HasUser, OfUser, Turns, MayShow}
+use Rattle.mailstore.proofs.WriteLemmas.{clean_before}
+use Rattle.mailengine.specs.declared.event.Event.{Event}
+use Rattle.mailengine.specs.declared.answer.Answer.{Answer}
+use Rattle.mailengine.specs.World.{World, Next, user_of}
+use Rattle.mailengine.specs.Stands.{Stands, Looks, IsEvent, MayLeave}
+use Rattle.mailengine.proofs.StandLemmas.{mid_presents, same_then}
+
+-- the world in which the event's user has another account
+abbrev pub moved : Event → (Account → Account) → World → World
+moved event change w = record { accounts = with_user w.accounts (user_of event) change }
+
+-- what the reads found of the user's account makes the event with this answer a step
+abbrev pub Steps : Event → Answer → (Account → Account) → (Account → Type 0) → Type 0
+Steps event answer change P = (w : World) (a : Account) → get w.accounts (user_of event) ≡ Some a → P a → Next w event answer (moved event change w)
+
+-- reads, and a write that is undone
+pub undone_then : {X E : Type 0} (a b c : State) (r : Result X E) (x : X) → r ≡ Ok x → Looks a b r → {P : Trees → Type 0} → Survives b c P → (HasCleanDisk c → (accounts : Accounts) → Presents b.now accounts → StaysSame b c)
+    → HasCleanDisk c → (accounts : Accounts) → Presents a.now accounts → StaysSame a c
+undone_then a b c r x is looks late same clean accounts p =
+    let before = clean_before b c _ late clean in
+    let shown = mid_presents a b r x is looks before (record { accounts = accounts }) (λ o. p) in
+    same_then a b c shown.1 (looks.same before accounts p) (same clean accounts shown.2)
+
+module _ {X E : Type 0} (a b c : State) (r : Result X E) (x : X) (is : r ≡ Ok x) (looks : Looks a b r) (event : Event) (answer : Answer) (change : Account → Account) (P : Account → Type 0)
+    (found : HasCleanDisk b → (w : World) → Stands a w → OfUser w.accounts (user_of event) P) (steps : Steps event answer change P)
+    (late : Survives b c (MayShow (HasUser (user_of event)) (λ accounts. with_user accounts (user_of event) change) b)) where
+  -- what the tables show between the reads and the write
+  mid : HasCleanDisk c → (w : World) → Stands a w → IsTrue b.is_open × Presents b.now w.accounts × HasUser (user_of event) w.accounts × Next w event answer (moved event change w)
+  mid clean w stands =
+      let before = clean_before b c _ late clean in
+      let shown = mid_presents a b r x is looks before w stands in
+      let own = found before w stands in
+      (shown.1, shown.2, subst IsSome (sym own.1) refl, steps w own.0 own.1 own.2)
+
+  pub event_made : (HasCleanDisk c → Turns (HasUser (user_of event)) (λ accounts. with_user accounts (user_of event) change) b.now c.now) → IsEvent event answer a c
+  event_made made clean w stands =
+      let m = mid clean w stands in
+      (moved event change w, m.3, λ is_open. made clean w.accounts m.1 m.2)
+
+  -- where the write is undone, the tables show the world as it was
+  pub stands_undone : (HasCleanDisk c → (accounts : Accounts) → Presents b.now accounts → StaysSame b c) → HasCleanDisk c → (w : World) → Stands a w → Presents b.now w.accounts × Stands c w
+  stands_undone same clean w stands =
+      let m = mid clean w stands in
+      (m.1, λ is_open. subst (λ db. Presents db w.accounts) (sym ((same clean w.accounts m.1).now_is is_open)) m.1)
+
+  pub step_crash : Survives a c (MayLeave event a)
+  step_crash = survives_then a b c _ _ _ (λ clean db lost w p. absurd (lost w.accounts p))
+      (λ clean db may w p.
+      let m = mid clean w (λ o. p) in
+      let left = may w.accounts m.1 m.2 in
+      (left.0, answer, moved event change w, m.3, left.1, left.2)) looks.crash late

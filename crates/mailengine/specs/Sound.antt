@@ -1,0 +1,31 @@
+-- Which accounts are sound, and that runs keep them so.
+use Rattle.std.specs.Prelude.{◌≡◌, ◌≢◌, ℕ, ◌≤◌, List, [], length, Some, IsSome, IfSome, IsTrue}
+use Rattle.std.specs.FinMap.{get, len}
+use Rattle.sqlite.specs.State.{State, HasCleanDisk}
+use Rattle.mailstore.specs.Account.{Account, Accounts}
+use Rattle.mailstore.specs.Shows.{Presents}
+use Rattle.mailengine.specs.Limits.{script_limit, scripts_limit, IsScriptName}
+use Rattle.mailengine.specs.Obeyed.{IsValid}
+
+-- a script as it may be kept: its name is a script's, its text is within the limit and means some tree
+pub record IsSoundScript (name text : List ℕ) : Type 0 where
+  pub named : IsScriptName name
+  pub short : length text ≤ script_limit
+  pub valid : IsValid text
+
+-- an account in which each script may be kept, there are no more of them than may be, the active name is one of theirs,
+-- and no folder is empty; what its address is like joins this once the engine makes accounts
+pub record IsSound (a : Account) : Type 0 where
+  pub scripts : (name text : List ℕ) → get a.scripts name ≡ Some text → IsSoundScript name text
+  pub few : len a.scripts ≤ scripts_limit
+  pub active : IfSome a.active (λ name. IsSome (get a.scripts name))
+  pub filled : (folder : List ℕ) → get a.folders folder ≢ Some []
+
+-- each of the accounts is sound
+abbrev pub AreSound : Accounts → Type 0
+AreSound accounts = (user : List ℕ) (a : Account) → get accounts user ≡ Some a → IsSound a
+
+-- where the store showed sound accounts, all that it shows later are sound
+abbrev pub KeepsSound : State → State → Type 0
+KeepsSound old new =
+    HasCleanDisk new → (before later : Accounts) → Presents old.now before → AreSound before → IsTrue new.is_open → Presents new.now later → AreSound later
