@@ -1,2 +1,3 @@
 pub mod FramingLemmas
 pub mod StreamLemmas
+pub mod Examples

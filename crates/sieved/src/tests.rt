@@ -1,7 +1,9 @@
 //! Whole runs, over readers and writers in memory; the language; the store.
-mod engine;
+pub mod engine;
 mod language;
+mod runs;
 mod store;
+mod upload;
 
 use crate::fault::Fault;
 use crate::trial::{refuse, try_run};

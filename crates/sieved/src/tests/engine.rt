@@ -3,14 +3,17 @@ use mailengine::{Envelope, Refusal, deliver};
 use mailstore::Store;
 use octets::Octets;
 use sqlite::{Alter, Connection};
-use std::alloc::Global;
+use std::alloc::{AllocError, Global};
 use std::{env, format, fs, process};
 
 /// 18 octets.
-const M1: &[u8] = b"Subject: hi\r\n\r\nx\r\n";
+pub const M1: &[u8] = b"Subject: hi\r\n\r\nx\r\n";
 
 /// A store that has alice, in an empty database.
-fn with_alice<S: Alter + Drop>(alloc: Global, conn: Connection<S>) -> Result<Store<S>, Refusal> {
+pub fn with_alice<S: Alter + Drop>(
+    alloc: Global,
+    conn: Connection<S>,
+) -> Result<Store<S>, Refusal> {
     let mut store = match Store::create(alloc, conn) {
         Ok(store) => store,
         Err((refusal, _)) => return Err(refusal),
@@ -40,7 +43,7 @@ fn empty_script<S: Alter + Drop>(alloc: Global, conn: Connection<S>) -> Result<b
     goes_into(alloc, &mut store, b"INBOX")
 }
 
-fn goes_into<S: Alter>(
+pub fn goes_into<S: Alter>(
     alloc: Global,
     store: &mut Store<S>,
     folder: &[u8],
@@ -56,6 +59,14 @@ fn goes_into<S: Alter>(
         _ => false,
     };
     Ok(filed && kept)
+}
+
+/// Takes away the database and its log, if they are there. What drops a store leaves the log.
+pub fn clear(rt: &HostRuntime, path: &str) -> Result<(), AllocError> {
+    let log = format!(in rt.alloc(); "{path}-wal")?;
+    let _ = fs::remove_file(rt, log.as_str());
+    let _ = fs::remove_file(rt, path);
+    Ok(())
 }
 
 fn in_memory(rt: &HostRuntime) -> Result<bool, Refusal> {
@@ -77,8 +88,9 @@ fn an_empty_script_keeps_the_message_in_a_file(rt: HostRuntime) -> Result<(), st
     let name = format!(in rt.alloc(); "sieved-engine-{}.db", process::id(rt.process()))?;
     let path = folder.join(rt.alloc(), name.as_str())?;
     let path = format!(in rt.alloc(); "{}", path.display())?;
+    clear(&rt, path.as_str())?;
     let kept = in_a_file(&rt, path.as_str());
-    let _ = fs::remove_file(&rt, path.as_str());
+    clear(&rt, path.as_str())?;
     assert!(rt; matches!(kept, Ok(true)));
     Ok(())
 }
