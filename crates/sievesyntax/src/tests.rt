@@ -1,7 +1,8 @@
 use super::*;
 
+mod faults;
 mod hostile;
-mod language;
+mod trees;
 
 use octets::Octets;
 use std::alloc::{AllocError, Global};
