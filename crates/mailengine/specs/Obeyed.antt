@@ -1,8 +1,8 @@
 -- What a command of ManageSieve makes of an account, and what it answers (RFC 5804, section 2).
-use Rattle.std.specs.Prelude.{◌≡◌, ℕ, ◌+◌, ◌<◌, ◌≤◌, ◌⊎◌, Bool, true, false, ◌&&◌, ◌==◌, cond, List, [], ◌∷◌, ◌++◌, length, slice_index, codes, decimal, Option, Some, None, IsSome}
+use Rattle.std.specs.Prelude.{◌≡◌, ℕ, ◌+◌, ◌<◌, ◌≤◌, ◌⊎◌, Bool, true, false, ◌&&◌, ◌==◌, cond, List, [], ◌∷◌, length, slice_index, codes, Option, Some, None, IsSome}
 use Rattle.std.specs.FinMap.{get, len}
 use Rattle.sievelex.specs.declared.fault.FaultKind.{FaultKind}
-use Rattle.sievelex.specs.Faults.{text_of}
+use Rattle.sievelex.specs.Faults.{fault_line}
 use Rattle.sievelex.specs.Text.{line_ends}
 use Rattle.sievesyntax.specs.Tree.{Commands}
 use Rattle.sievesyntax.specs.Means.{Means}
@@ -33,10 +33,6 @@ declined code text = record { lines = []; word = No; code = code; text = Some te
 abbrev pub is_accepted : Word → Bool
 is_accepted Ok = true
 is_accepted _ = false
-
--- `line N: TEXT`, as a fault of a script is told
-abbrev pub fault_line : ℕ → FaultKind → List ℕ
-fault_line line kind = codes "line " ++ (decimal line ++ (codes ": " ++ text_of kind))
 
 -- a reply that tells of a fault on one of the text's lines; which line and which fault is open
 abbrev pub TellsFault : List ℕ → Reply → Type 0

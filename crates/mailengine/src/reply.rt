@@ -1,9 +1,10 @@
 //! Answers of one line.
 ghost use Rattle.std.specs.Prelude.{◌≡◌, [], IfOk, None};
-ghost use Rattle.mailengine.specs.Obeyed.{accepted as accepted_with, declined as declined_with, fault_line};
+ghost use Rattle.sievelex.specs.Faults.{fault_line};
+ghost use Rattle.mailengine.specs.Obeyed.{accepted as accepted_with, declined as declined_with};
 
-use msproto::{Code, Lines, Reply, Word};
-use octets::{Octets, write_decimal};
+use msproto::{Code, Reply, Word};
+use octets::{ListOf, Octets};
 use sievelex::ScriptFault;
 use std::alloc::{AllocError, Global};
 
@@ -27,10 +28,7 @@ pub fn declined(alloc: Global, code: Option<Code>, text: &[u8]) -> Result<Reply,
 pub fn faulty(alloc: Global, fault: ScriptFault) -> Result<Reply, AllocError>
     ensures { IfOk result (λ reply. reply ≡ declined_with None (fault_line fault.line fault.kind)) }
 {
-    let mut text = Octets::copy(alloc, b"line ")?;
-    write_decimal(&mut text, fault.line)?;
-    text.extend_from_slice(b": ")?;
-    text.extend_from_slice(fault.kind.text().as_bytes())?;
+    let text = fault.told(alloc)?;
     Ok(of_one_line(alloc, Word::No, None, text))
 }
 
@@ -38,7 +36,7 @@ fn of_one_line(alloc: Global, word: Word, code: Option<Code>, text: Octets) -> R
     ensures { result ≡ record { lines = []; word = word; code = code; text = Some text } }
 {
     Reply {
-        lines: Lines::new(alloc),
+        lines: ListOf::new(alloc),
         word,
         code,
         text: Some(text),

@@ -7,10 +7,10 @@ ghost use Rattle.mailstore.specs.Refusals.{IsPassing};
 ghost use Rattle.mailstore.specs.Cells.{or_null};
 ghost use Rattle.mailstore.specs.Calls.{IsRead};
 
-use crate::folders::Folders;
+use crate::folders::{Folder, count};
 use crate::profile::Profile;
 use crate::refusal::Refusal;
-use octets::{Octets, Texts};
+use octets::{ListOf, Octets, Texts};
 use sqlite::{Error, Row};
 use std::alloc::Global;
 
@@ -103,13 +103,13 @@ pub fn texts(alloc: Global, rows: &[Row]) -> Result<Texts, Refusal>
 }
 
 /// The folders whose names are in the rows, in order, each with how often it stands there.
-pub fn tally(alloc: Global, rows: &[Row]) -> Result<Folders, Refusal>
+pub fn tally(alloc: Global, rows: &[Row]) -> Result<ListOf<Folder>, Refusal>
     ensures ok { IfOk result (λ all. (names : List (List ℕ)) → map (λ r. column r 0) rows.now ≡ map (λ n. Blob n) names → all ≡ tallied names) }
     ensures named { IfErr result IsPassing }
 {
-    let mut all = Folders::new(alloc);
+    let mut all = Vec::new(alloc);
     for row in rows {
-        all.count(text_at(row, 0)?)?;
+        count(&mut all, text_at(row, 0)?)?;
     }
-    Ok(all)
+    Ok(ListOf::from_vec(all))
 }

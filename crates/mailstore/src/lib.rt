@@ -15,7 +15,7 @@ pub mod store;
 mod table;
 mod writes;
 
-pub use folders::{Folder, Folders};
+pub use folders::Folder;
 pub use profile::Profile;
 pub use refusal::Refusal;
 pub use report::{Plan, Report};

@@ -15,14 +15,14 @@ ghost use Rattle.mailstore.specs.Calls.{IsFree, OfUser, profile_of, KeepsTables,
 ghost use Rattle.mailstore.specs.Refusals.{IsPassing};
 
 use crate::decode::{first_profile, first_text, only_number, tally, texts};
-use crate::folders::Folders;
+use crate::folders::Folder;
 use crate::profile::Profile;
 use crate::query::{
     find_account, find_folders, find_messages, find_names, find_next_copy, find_script,
 };
 use crate::refusal::Refusal;
 use crate::store::Store;
-use octets::{Octets, Texts};
+use octets::{ListOf, Octets, Texts};
 use sqlite::{Alter, Row};
 
 impl<S: Alter> Store<S> {
@@ -141,7 +141,7 @@ impl<S: Alter> Store<S> {
 
     /// The user's folders in the order of the octets of their names, with how many messages they
     /// have. No message is read.
-    pub fn folders(&mut self, user: &[u8]) -> Result<Folders, Refusal>
+    pub fn folders(&mut self, user: &[u8]) -> Result<ListOf<Folder>, Refusal>
         ensures found { HasCleanDisk (state S.Store self.new) → (accounts : Accounts) → Presents (state S.Store self.old).now accounts → IfOk result (λ folders. OfUser accounts user.now (AreFolders folders)) }
         ensures absent { HasCleanDisk (state S.Store self.new) → (accounts : Accounts) → Presents (state S.Store self.old).now accounts → IfErr result (λ e. e ≡ Refusal.NoUser → IsFree user.now accounts) }
         ensures same { KeepsTables (state S.Store self.old) (state S.Store self.new) }

@@ -12,7 +12,7 @@ mod verb;
 
 pub use commands::Command;
 pub use items::{Item, Reach, extent, first};
-pub use replies::{Code, Line, Lines, Reply, Word};
+pub use replies::{Code, Line, Reply, Word};
 pub use spelling::spell;
 
 #[cfg(test)]

@@ -1,9 +1,5 @@
 //! What the server answers.
-ghost use Rattle.std.specs.Prelude.{◌≡◌, [], ◌∷◌, ◌++◌, OnOk, OnErr};
-
-use octets::Octets;
-use std::alloc::{AllocError, Global};
-use std::marker::Model;
+use octets::{ListOf, Octets};
 
 /// An answer: the lines before the last one, and the last one's parts (RFC 5804, section 1.3).
 ///
@@ -11,7 +7,7 @@ use std::marker::Model;
 #[derive(Drop)]
 pub struct Reply {
     /// The lines before the last one.
-    pub lines: Lines,
+    pub lines: ListOf<Line>,
     /// The last line's word.
     pub word: Word,
     /// What the last line says for programs.
@@ -63,48 +59,4 @@ pub enum Code {
     AlreadyExists,
     /// The server can't do it now.
     TryLater,
-}
-
-/// The lines before the last one. Contracts see their list.
-#[derive(Drop)]
-pub struct Lines {
-    items: Vec<Line>,
-}
-
-impl Model for Lines {
-    ghost use Rattle.std.specs.Prelude.{List};
-    ghost use Rattle.msproto.specs.declared.replies.Line.{Line};
-
-    ghost Value = { List Line };
-
-    ghost view = { λ lines. lines.items.items };
-}
-
-impl Lines {
-    /// No lines. Takes no memory.
-    pub fn new(alloc: Global) -> Lines
-        ensures { result ≡ [] }
-    {
-        Lines {
-            items: Vec::new(alloc),
-        }
-    }
-
-    /// The lines, in order. Takes no memory.
-    pub fn as_slice(&self) -> &[Line]
-        ensures { result.now ≡ self.now }
-    {
-        self.items.as_slice()
-    }
-
-    /// Appends one line, in constant time but for growth; without memory the lines stay, and the one is dropped.
-    pub fn push(&mut self, line: Line) -> Result<(), AllocError>
-        ensures ok { OnOk result (self.new ≡ self.old ++ line ∷ []) }
-        ensures err { OnErr result (self.new ≡ self.old) }
-    {
-        match self.items.push(line) {
-            Ok(()) => Ok(()),
-            Err(_) => Err(AllocError),
-        }
-    }
 }

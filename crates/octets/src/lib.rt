@@ -10,7 +10,7 @@ pub mod string;
 
 pub use ascii::{is_blank, is_letter, is_printable, lowered, trim_blanks};
 pub use decimal::{parse_decimal, write_decimal};
-pub use list::Texts;
+pub use list::{ListOf, Texts};
 pub use string::Octets;
 
 #[cfg(test)]

@@ -1,4 +1,4 @@
-//! A list of texts.
+//! A list.
 ghost use Rattle.std.specs.Prelude.{◌≡◌, ◌↔◌, [], ◌∷◌, ◌++◌, length, IsTrue, OnOk, OnErr};
 
 use crate::string::Octets;
@@ -6,44 +6,49 @@ use std::alloc::{AllocError, Global};
 use std::fmt;
 use std::marker::Model;
 
-/// A list of texts. Contracts see the list of their octets.
+/// A list of what the crates of the workspace make types of: texts, lines, addresses. Contracts see the list of its
+/// items, without the vector's room.
 #[derive(Drop)]
-pub struct Texts {
-    items: Vec<Octets>,
+pub struct ListOf<T> {
+    items: Vec<T>,
 }
 
-impl Model for Texts {
-    ghost use Rattle.std.specs.Prelude.{ℕ, List};
+/// A list of texts. Contracts see the list of their octets.
+pub type Texts = ListOf<Octets>;
 
-    ghost Value = { List (List ℕ) };
+impl<T> Model for ListOf<T> {
+    ghost use Rattle.std.specs.Prelude.{List};
 
-    ghost view = { λ texts. texts.items.items };
+    ghost Value = { List T };
+
+    ghost view = { λ list. list.items.items };
 }
 
-impl Texts {
-    /// No texts. Takes no memory.
-    pub fn new(alloc: Global) -> Texts
+impl<T: Drop> ListOf<T> {
+    /// No items. Takes no memory.
+    pub fn new(alloc: Global) -> ListOf<T>
         ensures { result ≡ [] }
     {
-        Texts {
+        ListOf {
             items: Vec::new(alloc),
         }
     }
 
-    /// The same texts, without a copy.
-    pub fn from_vec(texts: Vec<Octets>) -> Texts
-        ensures { result ≡ texts.items }
+    /// The same items, without a copy.
+    pub fn from_vec(items: Vec<T>) -> ListOf<T>
+        ensures { result ≡ items.items }
     {
-        Texts { items: texts }
+        ListOf { items }
     }
 
-    pub fn as_slice(&self) -> &[Octets]
+    /// The items, in order. Takes no memory.
+    pub fn as_slice(&self) -> &[T]
         ensures { result.now ≡ self.now }
     {
         self.items.as_slice()
     }
 
-    /// How many texts.
+    /// How many items.
     pub fn len(&self) -> usize
         ensures { result ≡ length self.now }
     {
@@ -56,19 +61,19 @@ impl Texts {
         self.items.is_empty()
     }
 
-    /// Appends one text; without memory the list stays, and the text is dropped.
-    pub fn push(&mut self, text: Octets) -> Result<(), AllocError>
-        ensures ok { OnOk result (self.new ≡ self.old ++ text ∷ []) }
+    /// Appends one item, in constant time but for growth; without memory the list stays, and the item is dropped.
+    pub fn push(&mut self, item: T) -> Result<(), AllocError>
+        ensures ok { OnOk result (self.new ≡ self.old ++ item ∷ []) }
         ensures err { OnErr result (self.new ≡ self.old) }
     {
-        match self.items.push(text) {
+        match self.items.push(item) {
             Ok(()) => Ok(()),
             Err(_) => Err(AllocError),
         }
     }
 }
 
-impl fmt::Debug for Texts {
+impl<T: fmt::Debug + Drop> fmt::Debug for ListOf<T> {
     fn fmt<W: fmt::Write>(&self, f: &mut fmt::Formatter<W>) -> fmt::Result {
         self.as_slice().fmt(f)
     }

@@ -1,8 +1,6 @@
 -- What the program prints of an outcome or of a fault of the script.
-use Rattle.std.specs.Prelude.{ℕ, List, [], ◌∷◌, ◌++◌, codes, map, decimal, Bool, true, false, is_some}
+use Rattle.std.specs.Prelude.{ℕ, List, [], ◌∷◌, ◌++◌, codes, map, Bool, true, false, is_some}
 use Rattle.std.specs.List.{flat_map}
-use Rattle.sievelex.specs.declared.fault.FaultKind.{FaultKind}
-use Rattle.sievelex.specs.Faults.{text_of}
 use Rattle.addrparts.specs.declared.address.Addr.{Addr}
 use Rattle.addrparts.specs.Spelling.{spelling}
 use Rattle.sievesyntax.specs.Meaning.{Outcome, Done, Failed}
@@ -42,7 +40,3 @@ or_discard (line ∷ more) = line ∷ more
 -- the report on an outcome
 abbrev pub report_of : Outcome → List ℕ
 report_of outcome = flat_map with_end (or_discard (deed_lines outcome))
-
--- the line on a fault of the script
-abbrev pub fault_line : ℕ → FaultKind → List ℕ
-fault_line line kind = with_end (codes "line " ++ (decimal line ++ (codes ": " ++ text_of kind)))

@@ -2,6 +2,7 @@
 use Rattle.std.specs.Prelude.{◌≡◌, ℕ, ◌+◌, ◌≤◌, ◌⊎◌, List, [], ◌∷◌, Option, Some, None, Result, Ok, Err}
 use Rattle.std.specs.Io.KnownBytes.{Appends, Keeps}
 use Rattle.sievelex.specs.declared.fault.FaultKind.{FaultKind}
+use Rattle.sievelex.specs.Faults.{fault_line}
 use Rattle.sievelex.specs.Text.{line_ends}
 use Rattle.mailengine.specs.Tree.{Commands}
 use Rattle.mailengine.specs.Means.{Means}
@@ -15,7 +16,7 @@ use Rattle.sieved.specs.declared.answer.Answer.TheVariants.{Report, Refusal}
 use Rattle.sieved.specs.Faults.{status_of, line_of}
 use Rattle.sieved.specs.Framing.{IsFramed}
 use Rattle.sieved.specs.Streams.{AppendsFront}
-use Rattle.sieved.specs.Reports.{report_of, fault_line}
+use Rattle.sieved.specs.Reports.{with_end, report_of}
 
 -- the envelope that is told of no sender and no recipient
 abbrev pub no_envelope : Envelope
@@ -40,7 +41,7 @@ pub record Refuses (input text : List ℕ) : Type 0 where
   pub kind : FaultKind
   pub counted : 1 ≤ line
   pub within : line ≤ 1 + line_ends script
-  pub told : text ≡ fault_line line kind
+  pub told : text ≡ with_end (fault_line line kind)
 
 -- the input is no script and message
 abbrev pub IsNoInput : List ℕ → Type 0

@@ -1,13 +1,14 @@
 //! What is printed of an outcome, or of a fault of the script.
 ghost use Rattle.std.specs.Prelude.{◌≡◌, ◌++◌, codes, map, IfOk, OnOk};
 ghost use Rattle.std.specs.List.{flat_map};
+ghost use Rattle.sievelex.specs.Faults.{fault_line};
 ghost use Rattle.sieveexec.specs.Runs.{failure_view, outcome_view};
 ghost use Rattle.mailengine.specs.Notices.{notice_of};
-ghost use Rattle.sieved.specs.Reports.{file_line, send_line, lines_of, or_discard, reply_lines, with_end, report_of, fault_line};
+ghost use Rattle.sieved.specs.Reports.{file_line, send_line, lines_of, or_discard, reply_lines, with_end, report_of};
 
 use addrparts::{Addr, spell};
 use mailengine::{Failure, Outcome, notice_text};
-use octets::{Octets, write_decimal};
+use octets::Octets;
 use sievelex::ScriptFault;
 use std::alloc::{AllocError, Global};
 
@@ -109,13 +110,9 @@ fn of_failure(alloc: Global, failure: Failure) -> Result<Octets, AllocError>
 
 /// The line on a fault of the script: `line 3: unknown test`.
 pub fn of_fault(alloc: Global, fault: ScriptFault) -> Result<Octets, AllocError>
-    ensures { IfOk result (λ text. text ≡ fault_line fault.line fault.kind) }
+    ensures { IfOk result (λ text. text ≡ with_end (fault_line fault.line fault.kind)) }
 {
-    let mut text = Octets::new(alloc);
-    text.extend_from_slice(b"line ")?;
-    write_decimal(&mut text, fault.line)?;
-    text.extend_from_slice(b": ")?;
-    text.extend_from_slice(fault.kind.text().as_bytes())?;
+    let mut text = fault.told(alloc)?;
     text.push(b'\n')?;
     Ok(text)
 }

@@ -12,10 +12,10 @@ ghost use Rattle.sieveexec.specs.Indexes.{AreKnown};
 
 use crate::mail::Mail;
 use crate::matching::matches_some;
-use crate::shown::{Shown, ShownList};
+use crate::shown::{Shown, show};
 use addrparts::addresses;
 use mailhead::unfolded;
-use octets::{Octets, lowered};
+use octets::{ListOf, Octets, lowered};
 use sievesyntax::Address;
 use std::alloc::{AllocError, Global};
 use std::collections::BTreeMap;
@@ -43,7 +43,7 @@ const ADDRESS_FIELDS: [&[u8]; 14] = [
 #[derive(Drop)]
 pub struct AddressCache<'m, 'a> {
     mail: &'m Mail<'a>,
-    known: BTreeMap<Octets, ShownList>,
+    known: BTreeMap<Octets, ListOf<Shown>>,
 }
 
 impl<'m, 'a> Model for AddressCache<'m, 'a> {
@@ -100,7 +100,7 @@ impl<'m, 'a> AddressCache<'m, 'a> {
 fn know(
     alloc: Global,
     mail: &Mail<'_>,
-    known: &mut BTreeMap<Octets, ShownList>,
+    known: &mut BTreeMap<Octets, ListOf<Shown>>,
     key: &Octets,
 ) -> Result<(), AllocError>
     requires { AreKnown (addresses_keyed mail.now) known.old }
@@ -117,15 +117,19 @@ fn know(
 }
 
 /// The addresses in the fields of a name in lower case: none where such fields have no addresses.
-fn addresses_under(alloc: Global, mail: &Mail<'_>, key: &Octets) -> Result<ShownList, AllocError>
+fn addresses_under(
+    alloc: Global,
+    mail: &Mail<'_>,
+    key: &Octets,
+) -> Result<ListOf<Shown>, AllocError>
     ensures { IfOk result (λ found. found ≡ addresses_keyed mail.now key.now) }
 {
     if !is_address_key(key.as_slice()) {
-        return Ok(ShownList::new(alloc));
+        return Ok(ListOf::new(alloc));
     }
     match mail.raws(key) {
         Some(raws) => addresses_in(alloc, raws.as_slice()),
-        None => Ok(ShownList::new(alloc)),
+        None => Ok(ListOf::new(alloc)),
     }
 }
 
@@ -137,14 +141,14 @@ fn is_address_key(key: &[u8]) -> bool
 }
 
 /// The addresses in raw values, which are unfolded and not decoded. Linear in the values.
-fn addresses_in(alloc: Global, raws: &[&[u8]]) -> Result<ShownList, AllocError>
+fn addresses_in(alloc: Global, raws: &[&[u8]]) -> Result<ListOf<Shown>, AllocError>
     ensures { IfOk result (λ found. found ≡ flat_map addrs (map unfold_of (map (λ raw. raw.now) raws.now))) }
 {
-    let mut found = ShownList::new(alloc);
+    let mut found = ListOf::new(alloc);
     for raw in raws {
         let value = unfolded(alloc, raw)?;
         let more = addresses(alloc, value.as_slice())?;
-        found.add(alloc, more.as_slice())?;
+        show(alloc, &mut found, more.as_slice())?;
     }
     Ok(found)
 }

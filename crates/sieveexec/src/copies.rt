@@ -2,8 +2,8 @@
 ghost use Rattle.std.specs.Prelude.{◌≡◌, IfOk};
 
 use addrparts::Addr;
-use octets::Octets;
-use sievesyntax::{Addrs, ReplyFrom, VacArgs};
+use octets::{ListOf, Octets};
+use sievesyntax::{ReplyFrom, VacArgs};
 use std::alloc::{AllocError, Global};
 
 /// The same address.
@@ -53,10 +53,10 @@ fn copied_from(alloc: Global, from: &Option<ReplyFrom>) -> Result<Option<ReplyFr
     }
 }
 
-fn copied_addresses(alloc: Global, addresses: &[Addr]) -> Result<Addrs, AllocError>
+fn copied_addresses(alloc: Global, addresses: &[Addr]) -> Result<ListOf<Addr>, AllocError>
     ensures { IfOk result (λ copies. copies ≡ addresses.now) }
 {
-    let mut copies = Addrs::new(alloc);
+    let mut copies = ListOf::new(alloc);
     for address in addresses {
         copies.push(copied_address(alloc, address)?)?;
     }

@@ -1,6 +1,7 @@
 //! What a script comes to.
-use octets::Texts;
-use sievesyntax::{Addrs, VacArgs};
+use addrparts::Addr;
+use octets::{ListOf, Texts};
+use sievesyntax::VacArgs;
 
 /// What a script comes to on a message.
 #[derive(Drop)]
@@ -11,7 +12,7 @@ pub enum Outcome {
         /// implicit keep comes last (RFC 5228, 2.10.2 and 2.10.3).
         filed: Texts,
         /// The addresses that the message is sent to, each once, in the order of the first command that says so.
-        sent: Addrs,
+        sent: ListOf<Addr>,
         /// What the sender is answered, if `vacation` was executed (RFC 5230).
         reply: Option<VacArgs>,
     },

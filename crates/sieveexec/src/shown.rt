@@ -1,9 +1,9 @@
 //! Addresses that are written out once.
-ghost use Rattle.std.specs.Prelude.{◌≡◌, [], ◌∷◌, ◌++◌, IfOk, OnOk, map};
+ghost use Rattle.std.specs.Prelude.{◌≡◌, ◌++◌, IfOk, OnOk};
 ghost use Rattle.sieveexec.specs.Parts.{part_of};
 
 use addrparts::Addr;
-use octets::Octets;
+use octets::{ListOf, Octets};
 use sievesyntax::AddressPart;
 use std::alloc::{AllocError, Global};
 use std::marker::Model;
@@ -52,44 +52,12 @@ impl Shown {
     }
 }
 
-/// Addresses that are written out. Contracts see the list of addresses.
-#[derive(Drop)]
-pub struct ShownList {
-    items: Vec<Shown>,
-}
-
-impl Model for ShownList {
-    ghost use Rattle.std.specs.Prelude.{List};
-    ghost use Rattle.addrparts.specs.declared.address.Addr.{Addr};
-
-    ghost Value = { List Addr };
-
-    ghost view = { λ list. list.items.items };
-}
-
-impl ShownList {
-    /// No addresses. Takes no memory.
-    pub fn new(alloc: Global) -> ShownList
-        ensures { result ≡ [] }
-    {
-        ShownList {
-            items: Vec::new(alloc),
-        }
+/// Writes out addresses behind those that are there.
+pub fn show(alloc: Global, shown: &mut ListOf<Shown>, addresses: &[Addr]) -> Result<(), AllocError>
+    ensures { OnOk result (shown.new ≡ shown.old ++ addresses.now) }
+{
+    for address in addresses {
+        shown.push(Shown::of(alloc, address)?)?;
     }
-
-    /// Writes out addresses behind those that are there.
-    pub fn add(&mut self, alloc: Global, addresses: &[Addr]) -> Result<(), AllocError>
-        ensures { OnOk result (self.new ≡ self.old ++ addresses.now) }
-    {
-        for address in addresses {
-            self.items.push(Shown::of(alloc, address)?)?;
-        }
-        Ok(())
-    }
-
-    pub fn as_slice(&self) -> &[Shown]
-        ensures { result.now ≡ self.now }
-    {
-        self.items.as_slice()
-    }
+    Ok(())
 }

@@ -11,8 +11,8 @@ ghost use Rattle.sievesyntax.specs.Meaning.{Done, deeds_of};
 use crate::copies::{copied_address, copied_args};
 use crate::outcome::{Failure, Outcome};
 use addrparts::Addr;
-use octets::{Octets, Texts};
-use sievesyntax::{Action, Addrs, VacArgs};
+use octets::{ListOf, Octets, Texts};
+use sievesyntax::{Action, VacArgs};
 use std::alloc::{AllocError, Global};
 use std::collections::BTreeSet;
 
@@ -28,7 +28,7 @@ pub struct SoFar {
     /// The mailboxes that the message goes into, in the order of the commands that say so.
     pub named: Texts,
     /// The addresses that the message is sent to, each once, in the order of the first command that says so.
-    pub sent: Addrs,
+    pub sent: ListOf<Addr>,
     /// The arguments of the `vacation` that was run, if one was.
     pub reply: Option<VacArgs>,
     /// Whether the implicit keep is cancelled.
@@ -44,7 +44,7 @@ impl SoFar {
     {
         SoFar {
             named: Texts::new(alloc),
-            sent: Addrs::new(alloc),
+            sent: ListOf::new(alloc),
             reply: None,
             cancelled: false,
         }

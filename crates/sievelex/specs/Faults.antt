@@ -1,4 +1,4 @@
-use Rattle.std.specs.Prelude.{ℕ, List, codes}
+use Rattle.std.specs.Prelude.{ℕ, List, ◌++◌, codes, decimal}
 use Rattle.sievelex.specs.declared.fault.FaultKind.{FaultKind}
 use Rattle.sievelex.specs.declared.fault.FaultKind.TheVariants.{NotUtf8, BadByte, OpenString, OpenComment, NumberTooLarge, Unexpected, UnknownCommand, UnknownTest, UnknownTag, DoubleTag, MissingArgument, ExtraArgument, WrongArgument, NotRequired, UnknownCapability, LateRequire, StrayElse, TooDeep, BadMailbox, BadAddress, BadMime, LongReasonLine}
 
@@ -51,3 +51,7 @@ text_of BadMailbox = codes "bad mailbox name"
 text_of BadAddress = codes "bad address"
 text_of BadMime = codes "bad MIME reason"
 text_of LongReasonLine = codes "reason line too long"
+
+-- a fault in words: the line, counted from 1, and what is wrong there
+abbrev pub fault_line : ℕ → FaultKind → List ℕ
+fault_line line kind = codes "line " ++ (decimal line ++ (codes ": " ++ text_of kind))

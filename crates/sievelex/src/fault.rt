@@ -1,6 +1,8 @@
-ghost use Rattle.std.specs.Prelude.{◌≡◌};
+ghost use Rattle.std.specs.Prelude.{◌≡◌, IfOk};
+ghost use Rattle.sievelex.specs.Faults.{fault_line};
 
-use std::alloc::{AllocError, AllocFailed};
+use octets::{Octets, write_decimal};
+use std::alloc::{AllocError, AllocFailed, Global};
 use std::fmt;
 use thiserror::Error;
 
@@ -115,6 +117,19 @@ pub struct ScriptFault {
     pub line: u64,
     /// What is wrong there.
     pub kind: FaultKind,
+}
+
+impl ScriptFault {
+    /// The fault in words, as a script's author is told of it: `line 3: unknown test`.
+    pub fn told(&self, alloc: Global) -> Result<Octets, AllocError>
+        ensures { IfOk result (λ text. text ≡ fault_line self.now.line self.now.kind) }
+    {
+        let mut text = Octets::copy(alloc, b"line ")?;
+        write_decimal(&mut text, self.line)?;
+        text.extend_from_slice(b": ")?;
+        text.extend_from_slice(self.kind.text().as_bytes())?;
+        Ok(text)
+    }
 }
 
 /// Why there is no answer for a script: no memory, or a fault of the script.

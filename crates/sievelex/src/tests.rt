@@ -233,7 +233,9 @@ fn names_each_kind_by_number_and_text(rt: HostRuntime) -> Result<(), Fail> {
     ];
     for (kind, number, words) in table {
         assert_eq!(rt; kind.number(), number);
-        let error = ScriptError::Fault(ScriptFault { line: 7, kind });
+        let fault = ScriptFault { line: 7, kind };
+        assert_eq!(rt; fault.told(rt.alloc())?.as_slice(), words.as_bytes());
+        let error = ScriptError::Fault(fault);
         assert_eq!(rt; format!(in rt.alloc(); "{error}")?.as_str(), words);
     }
     Ok(())

@@ -9,7 +9,6 @@ ghost use Rattle.sievesyntax.specs.Lookups.{from_in, addresses_in};
 ghost use Rattle.sievesyntax.specs.Rows.{IsRedirect};
 ghost use Rattle.sievesyntax.specs.Vacations.{IsReplyFrom, IsGivenFrom, AreNamed, AddsNamed, SaysVacation, IsVacation};
 
-use crate::addr_list::Addrs;
 use crate::argument::Argument;
 use crate::lookup::{given_days, given_handle, given_mime, given_subject};
 use crate::positional::{read_text, text};
@@ -17,7 +16,7 @@ use crate::refusal::ReadError;
 use crate::setting::{Setting, Slot, arranged};
 use crate::vacation::{ReplyFrom, VacArgs};
 use addrparts::{Addr, sieve_address};
-use octets::Octets;
+use octets::{ListOf, Octets};
 use sievelex::FaultKind;
 use std::alloc::{AllocError, Global};
 
@@ -118,7 +117,7 @@ fn reply_from(alloc: Global, text: &Octets) -> Result<ReplyFrom, ReadError>
 }
 
 /// The addresses of the texts of `:addresses`: none where it isn't given.
-fn given_addresses(alloc: Global, settings: &[Setting]) -> Result<Addrs, AllocError>
+fn given_addresses(alloc: Global, settings: &[Setting]) -> Result<ListOf<Addr>, AllocError>
     ensures { IfOk result (λ addresses. AreNamed (addresses_in settings.now) addresses) }
 {
     for setting in settings {
@@ -126,14 +125,14 @@ fn given_addresses(alloc: Global, settings: &[Setting]) -> Result<Addrs, AllocEr
             return addresses_named(alloc, texts.as_slice());
         }
     }
-    Ok(Addrs::new(alloc))
+    Ok(ListOf::new(alloc))
 }
 
 /// The addresses of those texts that name one.
-fn addresses_named(alloc: Global, texts: &[Octets]) -> Result<Addrs, AllocError>
+fn addresses_named(alloc: Global, texts: &[Octets]) -> Result<ListOf<Addr>, AllocError>
     ensures { IfOk result (λ addresses. AreNamed texts.now addresses) }
 {
-    let mut addresses = Addrs::new(alloc);
+    let mut addresses = ListOf::new(alloc);
     for text in texts {
         add_named(alloc, &mut addresses, text.as_slice())?;
     }
@@ -141,7 +140,7 @@ fn addresses_named(alloc: Global, texts: &[Octets]) -> Result<Addrs, AllocError>
 }
 
 /// Appends the address that the text names, if it names one.
-fn add_named(alloc: Global, addresses: &mut Addrs, text: &[u8]) -> Result<(), AllocError>
+fn add_named(alloc: Global, addresses: &mut ListOf<Addr>, text: &[u8]) -> Result<(), AllocError>
     ensures { OnOk result (AddsNamed text.now addresses.old addresses.new) }
 {
     match sieve_address(alloc, text)? {

@@ -2,7 +2,6 @@
 #![tactic(auto)]
 
 mod action;
-mod addr_list;
 mod answer;
 mod argument;
 mod checks;
@@ -27,7 +26,6 @@ mod tree;
 mod vacation;
 
 pub use action::Action;
-pub use addr_list::Addrs;
 pub use checks::{
     Address, AddressPart, Bound, Check, Collation, EnvelopeParts, EnvelopeTest, Header, Matching,
     Size,

@@ -1,7 +1,6 @@
 //! The arguments of `vacation` (RFC 5230).
-use crate::addr_list::Addrs;
 use addrparts::Addr;
-use octets::Octets;
+use octets::{ListOf, Octets};
 
 /// The arguments of `vacation`, as they were written (RFC 5230, 4). A tag that isn't there is none.
 #[derive(Drop)]
@@ -14,7 +13,7 @@ pub struct VacArgs {
     pub from: Option<ReplyFrom>,
     /// `:addresses`: the addresses of the user besides those known already (RFC 5230, 4.5), in order. A text that
     /// is no address has none here.
-    pub addresses: Addrs,
+    pub addresses: ListOf<Addr>,
     /// `:mime`: the reason is a MIME entity, a header and a body (RFC 5230, 4.4).
     pub mime: bool,
     /// `:handle`: the name of the answer, under which it is known whether the sender has got it (RFC 5230, 4.2).

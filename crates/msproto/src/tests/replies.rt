@@ -1,6 +1,6 @@
 //! Answers, octet by octet.
-use crate::{Code, Line, Lines, Reply, Word, spell};
-use octets::Octets;
+use crate::{Code, Line, Reply, Word, spell};
+use octets::{ListOf, Octets};
 use std::alloc::{AllocError, Global};
 use std::test::Fail;
 
@@ -16,7 +16,7 @@ fn last(alloc: Global, word: Word, code: Option<Code>, said: &[u8]) -> Result<Re
         text(alloc, said)?
     };
     Ok(Reply {
-        lines: Lines::new(alloc),
+        lines: ListOf::new(alloc),
         word,
         code,
         text,
@@ -153,7 +153,7 @@ fn spells_the_last_line_of_each_answer(rt: HostRuntime) -> Result<(), Fail> {
 #[test]
 fn spells_the_greeting(rt: HostRuntime) -> Result<(), Fail> {
     let alloc = rt.alloc();
-    let mut lines = Lines::new(alloc);
+    let mut lines = ListOf::new(alloc);
     for (name, value) in [
         (b"IMPLEMENTATION".as_slice(), b"sieved 1".as_slice()),
         (b"SASL", b"PLAIN"),

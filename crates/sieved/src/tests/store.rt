@@ -1,7 +1,7 @@
 //! The store over memory and over a file. What calls the store or SQL has no clause, so that the
 //! proof of a test does not carry the state of each call.
-use mailstore::{Folder, Folders, Plan, Profile, Refusal, Report, Store};
-use octets::{Octets, Texts};
+use mailstore::{Folder, Plan, Profile, Refusal, Report, Store};
+use octets::{ListOf, Octets, Texts};
 use sqlite::{Alter, Connection, Error, File, FileStore, MemStore};
 use std::alloc::{AllocError, Global};
 use std::test::Fail;
@@ -86,7 +86,7 @@ fn script<S: Alter>(
     store.script(user, name)
 }
 
-fn folders<S: Alter>(store: &mut Store<S>, user: &[u8]) -> Result<Folders, Refusal> {
+fn folders<S: Alter>(store: &mut Store<S>, user: &[u8]) -> Result<ListOf<Folder>, Refusal> {
     store.folders(user)
 }
 
@@ -114,7 +114,7 @@ fn is_folder(folder: &Folder, name: &[u8], count: u64) -> bool {
     folder.name.as_slice() == name && folder.count == count
 }
 
-fn has_folders(folders: &Folders, wanted: &[(&[u8], u64)]) -> bool {
+fn has_folders(folders: &ListOf<Folder>, wanted: &[(&[u8], u64)]) -> bool {
     folders.len() == wanted.len()
         && folders
             .as_slice()

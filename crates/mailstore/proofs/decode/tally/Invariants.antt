@@ -4,4 +4,4 @@ use Rattle.mailstore.specs.Tally.{tallied}
 use Rattle.mailstore.proofs.decode.tally.Given as goal
 
 abbrev pub invariant-loop-row : goal.invariant-loop-row
-invariant-loop-row l = l.all ≡ tallied (map (λ r. bytes (column r 0)) (take l.row-index l.rows))
+invariant-loop-row l = l.all.items ≡ tallied (map (λ r. bytes (column r 0)) (take l.row-index l.rows))
