@@ -4,7 +4,7 @@ ghost use Rattle.std.specs.List.{flat_map};
 ghost use Rattle.sievelex.specs.Faults.{fault_line};
 ghost use Rattle.sieveexec.specs.Runs.{failure_view, outcome_view};
 ghost use Rattle.mailengine.specs.Notices.{notice_of};
-ghost use Rattle.sieved.specs.Reports.{file_line, send_line, lines_of, or_discard, reply_lines, with_end, report_of};
+ghost use Rattle.reportlines.specs.Reports.{file_line, send_line, lines_of, or_discard, reply_lines, with_end, report_of};
 
 use addrparts::{Addr, spell};
 use mailengine::{Failure, Outcome, notice_text};
