@@ -15,3 +15,4 @@ pub mod ChainLemmas
 pub mod TallyLemmas
 pub mod FolderLemmas
 pub mod OneLemmas
+pub mod SchemaLemmas
