@@ -16,3 +16,4 @@ pub mod TallyLemmas
 pub mod FolderLemmas
 pub mod OneLemmas
 pub mod SchemaLemmas
+pub mod OpenLemmas

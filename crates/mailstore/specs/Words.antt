@@ -15,6 +15,11 @@ Makes old new result change =
     HasCleanDisk new → IsTrue old.in_transaction
     → KeepsCommit old new × OnOk result (((tables : Tables) → Holds mail_schema old.now tables → Holds mail_schema new.now (change tables)) × Shows old new new.now old.committed true)
 
+-- the connection is open, and sees its last commit
+pub record SeesCommit (s : State) : Type 0 where
+  pub is_open : IsTrue s.is_open
+  pub same : s.now ≡ s.committed
+
 -- the connection is open, sees its last commit, and a crash leaves that alone
 pub record IsSettled (s : State) : Type 0 where
   pub is_open : IsTrue s.is_open

@@ -8,8 +8,8 @@ ghost use Rattle.sqlite_value.specs.Order.{column};
 ghost use Rattle.sqlrows.specs.Rows.{Tables, Holds, has_key};
 ghost use Rattle.mailstore.specs.Schema.{mail_schema};
 ghost use Rattle.mailstore.specs.Calls.{profile_row};
-ghost use Rattle.mailstore.specs.Words.{StaysSame, ReadsOnly, IsLiveOnOk, IsQuiet, StaysShut};
-ghost use Rattle.mailstore.specs.Shows.{rows_of, version_key, version_row, Presents};
+ghost use Rattle.mailstore.specs.Words.{StaysSame, SeesCommit, ReadsOnly, IsLiveOnOk, IsQuiet, StaysShut};
+ghost use Rattle.mailstore.specs.Shows.{rows_of, version_key, HasVersion, Presents};
 ghost use Rattle.mailstore.specs.Account.{Accounts, messages_in};
 ghost use Rattle.mailstore.specs.Tally.{tallied, AreFolders};
 
@@ -23,7 +23,7 @@ pub fn find_version<S: Alter>(conn: &mut Connection<S>) -> Result<Vec<Row>, Erro
     ensures limit { conn.new.step_limit ≡ conn.old.step_limit }
     ensures found { HasCleanDisk (state S.Store conn.new) → (tables : Tables) → Holds mail_schema (state S.Store conn.old).now tables → IfOk result (λ rows. rows.items ≡ map (λ c. column c 1 ∷ []) (filter (has_key version_key) (tables 0))) }
     ensures same { (state S.Store conn.old).now.schema ≡ mail_schema → HasCleanDisk (state S.Store conn.new) → StaysSame (state S.Store conn.old) (state S.Store conn.new) }
-    ensures live { (state S.Store conn.old).now.schema ≡ mail_schema → HasCleanDisk (state S.Store conn.new) → OnOk result (IsTrue (state S.Store conn.new).is_open) }
+    ensures live { (state S.Store conn.old).now.schema ≡ mail_schema → HasCleanDisk (state S.Store conn.new) → OnOk result (SeesCommit (state S.Store conn.new)) }
     ensures crash { (state S.Store conn.old).now.schema ≡ mail_schema → Survives (state S.Store conn.old) (state S.Store conn.new) (λ _. ⊥) }
 {
     let _settled = conn.is_autocommit();
@@ -35,9 +35,9 @@ pub fn has_version<S: Alter>(conn: &mut Connection<S>) -> Result<bool, Error>
     requires { conn.old.in_transaction ≡ false }
     ensures ended { conn.new.in_transaction ≡ false }
     ensures limit { conn.new.step_limit ≡ conn.old.step_limit }
-    ensures found { HasCleanDisk (state S.Store conn.new) → (tables : Tables) → Holds mail_schema (state S.Store conn.old).now tables → IfOk result (λ is. IsTrue is ↔ (filter (has_key version_key) (tables 0) ≡ version_row ∷ [])) }
+    ensures found { HasCleanDisk (state S.Store conn.new) → (tables : Tables) → Holds mail_schema (state S.Store conn.old).now tables → IfOk result (λ is. IsTrue is ↔ HasVersion tables) }
     ensures same { (state S.Store conn.old).now.schema ≡ mail_schema → HasCleanDisk (state S.Store conn.new) → StaysSame (state S.Store conn.old) (state S.Store conn.new) }
-    ensures live { (state S.Store conn.old).now.schema ≡ mail_schema → HasCleanDisk (state S.Store conn.new) → OnOk result (IsTrue (state S.Store conn.new).is_open) }
+    ensures live { (state S.Store conn.old).now.schema ≡ mail_schema → HasCleanDisk (state S.Store conn.new) → OnOk result (SeesCommit (state S.Store conn.new)) }
     ensures crash { (state S.Store conn.old).now.schema ≡ mail_schema → Survives (state S.Store conn.old) (state S.Store conn.new) (λ _. ⊥) }
 {
     let rows = find_version(conn)?;

@@ -1,5 +1,5 @@
 //! The store of accounts.
-ghost use Rattle.std.specs.Prelude.{◌≡◌, ◌⊎◌, ¬◌, false, IsTrue, IfOk, IfErr, OnOk};
+ghost use Rattle.std.specs.Prelude.{◌≡◌, ◌⊎◌, false, IsTrue, IfOk, IfErr, OnOk};
 ghost use Rattle.sqlite.specs.Held.{state};
 ghost use Rattle.sqlite.specs.State.{HasCleanDisk};
 ghost use Rattle.sqlrows.specs.Rows.{Tables, Holds};
