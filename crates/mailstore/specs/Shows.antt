@@ -3,8 +3,9 @@ use Rattle.std.specs.Prelude.{◌≡◌, ◌≢◌, ℕ, pos, ◌<◌, ◌≤◌
 use Rattle.std.specs.FinMap.{empty, get, from_entries}
 use Rattle.std.specs.List.{AllByRecursion}
 use Rattle.sqlite_value.specs.declared.value.Value.TheVariants.{Int, Text, Blob}
-use Rattle.sqlite_value.specs.Order.{Row}
-use Rattle.sqlite_trees.specs.Tree.{IsAscending}
+use Rattle.sqlite_value.specs.Order.{Row, column}
+use Rattle.sqlite_trees.specs.Tree.{Trees, IsAscending}
+use Rattle.sqlite_rules.specs.Lists.{Has}
 use Rattle.sqlite.specs.Effect.{Database}
 use Rattle.sqlrows.specs.Rows.{Tables, Holds, has_key}
 use Rattle.mailstore.specs.Schema.{mail_schema}
@@ -20,6 +21,9 @@ pub record Copy : Type 0 where
   pub folder : List ℕ
   pub n : ℕ
   pub message : List ℕ
+
+abbrev pub version_key : Row
+version_key = Text (codes "version") ∷ []
 
 abbrev pub version_row : Row
 version_row = Text (codes "version") ∷ Int (pos 1) ∷ []
@@ -104,3 +108,15 @@ pub record ShowsAccounts (tables : Tables) (accounts : Accounts) : Type 0 where
 -- a database of our schema, whose tables show the accounts
 abbrev pub Presents : Database → Accounts → Type 0
 Presents db accounts = (tables : Tables) × Holds mail_schema db tables × ShowsAccounts tables accounts
+
+-- a row of the table of the version says 1
+abbrev pub HasVersion : Tables → Type 0
+HasVersion tables = (row : Row) × Has (tables 0) row × (column row 0 ≡ Text (codes "version")) × (column row 1 ≡ Int (pos 1))
+
+-- a database of our tables and of this version
+abbrev pub IsOurs : Database → Type 0
+IsOurs db = (tables : Tables) × Holds mail_schema db tables × HasVersion tables
+
+-- the trees are those of a database that shows the accounts
+abbrev pub ShowsIn : Trees → Accounts → Type 0
+ShowsIn trees accounts = (db : Database) × Presents db accounts × (trees ≡ db.trees)
