@@ -7,10 +7,11 @@ use Rattle.sqlite_value.specs.Order.{Row, column}
 use Rattle.sqlite_trees.specs.Tree.{Trees, IsAscending}
 use Rattle.sqlite_rules.specs.Lists.{Has}
 use Rattle.sqlite.specs.Effect.{Database}
+use Rattle.sqlite.specs.State.{State}
 use Rattle.sqlrows.specs.Rows.{Tables, Holds, has_key}
-use Rattle.mailstore.specs.Schema.{mail_schema}
+use Rattle.mailstore.specs.Schema.{no_schema, mail_schema}
 use Rattle.mailstore.specs.Cells.{or_null, script_cells, copy_cells}
-use Rattle.mailstore.specs.Account.{Queued, Noted, Account, Accounts, Folders, filed}
+use Rattle.mailstore.specs.Account.{Queued, Noted, Account, Accounts, Folders, filed, no_accounts}
 
 -- the rows of one user, in each table that has an owner and in the table of accounts
 abbrev pub rows_of : List ℕ → Tables → Tables
@@ -120,3 +121,7 @@ IsOurs db = (tables : Tables) × Holds mail_schema db tables × HasVersion table
 -- the trees are those of a database that shows the accounts
 abbrev pub ShowsIn : Trees → Accounts → Type 0
 ShowsIn trees accounts = (db : Database) × Presents db accounts × (trees ≡ db.trees)
+
+-- what a crash may leave while the tables are made in an empty database
+abbrev pub MayCreate : State → Trees → Type 0
+MayCreate s trees = s.now.schema ≡ no_schema → ShowsIn trees no_accounts
