@@ -1,12 +1,16 @@
 //! Scripts and their first fault.
+use mailengine::{Envelope, attempt};
 use octets::Octets;
 use sievelex::ScriptError;
-use sievesyntax::check;
 use std::alloc::{AllocError, Global};
 
 /// The first fault of a script, or `valid`.
 pub fn told(alloc: Global, out: &mut Octets, script: &[u8]) -> Result<(), AllocError> {
-    match check(alloc, script) {
+    let envelope = Envelope {
+        from: Octets::new(alloc),
+        to: Octets::new(alloc),
+    };
+    match attempt(alloc, script, envelope, b"") {
         Ok(_) => out.extend_from_slice(b"valid"),
         Err(error) => add_error(alloc, out, &error),
     }

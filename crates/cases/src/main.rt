@@ -6,7 +6,6 @@
 
 mod address;
 mod ascii;
-mod code;
 mod comparison;
 mod fault;
 mod head;

@@ -2,8 +2,7 @@
 use crate::tally::Tally;
 use crate::text::columns;
 use crate::{
-    address, ascii, code, comparison, fault, head, item, line, login, reply, script, session,
-    token, word,
+    address, ascii, comparison, fault, head, item, line, login, reply, script, session, token, word,
 };
 use octets::Octets;
 use std::alloc::{AllocError, Global};
@@ -23,7 +22,6 @@ pub enum Table {
     Texts,
     Tokens,
     Faults,
-    Codes,
     Items,
     Replies,
     Logins,
@@ -34,7 +32,7 @@ pub enum Table {
 }
 
 /// All of them, in the order in which they are tried.
-pub const TABLES: [Table; 20] = [
+pub const TABLES: [Table; 19] = [
     Table::Ascii,
     Table::Addresses,
     Table::Targets,
@@ -47,7 +45,6 @@ pub const TABLES: [Table; 20] = [
     Table::Texts,
     Table::Tokens,
     Table::Faults,
-    Table::Codes,
     Table::Items,
     Table::Replies,
     Table::Logins,
@@ -73,7 +70,6 @@ impl Table {
             Table::Texts => "texts.cases",
             Table::Tokens => "tokens.cases",
             Table::Faults => "faults.cases",
-            Table::Codes => "codes.cases",
             Table::Items => "items.cases",
             Table::Replies => "replies.cases",
             Table::Logins => "logins.cases",
@@ -144,7 +140,6 @@ impl Table {
             Table::Texts => word::written(alloc, out, text),
             Table::Tokens => token::told(alloc, out, text),
             Table::Faults => fault::told(alloc, out, text),
-            Table::Codes => code::listed(alloc, out, text),
             _ => out.extend_from_slice(b"not so many columns"),
         }
     }

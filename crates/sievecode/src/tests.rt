@@ -1,4 +1,4 @@
-//! The code of a script; scripts with their instructions are cases of crates/cases.
+//! The code of a script; what scripts do with messages is shown by the cases of crates/cases.
 use super::*;
 use sievesyntax::{ScriptError, check};
 use std::alloc::Global;

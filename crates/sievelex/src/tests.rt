@@ -9,7 +9,10 @@ fn chars_of(alloc: Global, text: &[u8]) -> Result<Vec<u8>, ScriptError> {
     let mut chars = Vec::new(alloc);
     let packed = pack(alloc, text)?;
     let mut rest = packed.cursor();
-    while let Some((piece, after)) = rest.split_first() {
+    for _ in 0..packed.len() {
+        let Some((piece, after)) = rest.split_first() else {
+            break;
+        };
         if let Piece::Chars(_, said) = piece {
             chars.extend_from_slice(said)?;
         }
