@@ -4,7 +4,6 @@
 mod answer;
 mod fault;
 mod framing;
-mod report;
 mod stream;
 #[cfg(test)]
 mod tests;

@@ -1,0 +1,118 @@
+//! What is printed of an outcome, or of a fault of the script.
+ghost use Rattle.std.specs.Prelude.{◌≡◌, ◌++◌, codes, map, IfOk, OnOk};
+ghost use Rattle.std.specs.List.{flat_map};
+ghost use Rattle.sievelex.specs.Faults.{fault_line};
+ghost use Rattle.sieveexec.specs.Runs.{failure_view, outcome_view};
+ghost use Rattle.mailengine.specs.Notices.{notice_of};
+ghost use Rattle.reportlines.specs.Reports.{file_line, send_line, lines_of, or_discard, reply_lines, with_end, report_of};
+
+use addrparts::{Addr, spell};
+use mailengine::{Failure, Outcome, notice_text};
+use octets::Octets;
+use sievelex::ScriptFault;
+use std::alloc::{AllocError, Global};
+
+/// The report: a line for each thing that is done, in order, or `discard` where there is none. Of a run that failed
+/// one line tells, and nothing else.
+pub fn of_outcome(alloc: Global, outcome: &Outcome) -> Result<Octets, AllocError>
+    ensures { IfOk result (λ text. text ≡ report_of (outcome_view outcome.now)) }
+{
+    match outcome {
+        Outcome::Failed(failure) => of_failure(alloc, *failure),
+        Outcome::Done { filed, sent, reply } => of_deeds(
+            alloc,
+            filed.as_slice(),
+            sent.as_slice(),
+            reply.is_some(),
+        ),
+    }
+}
+
+/// The lines of what is done, or `discard`.
+fn of_deeds(
+    alloc: Global,
+    filed: &[Octets],
+    sent: &[Addr],
+    answers: bool,
+) -> Result<Octets, AllocError>
+    ensures { IfOk result (λ text. text ≡ flat_map with_end (or_discard (lines_of filed.now sent.now answers))) }
+{
+    let text = of_lines(alloc, filed, sent, answers)?;
+    if text.is_empty() {
+        return Octets::copy(alloc, b"discard\n");
+    }
+    Ok(text)
+}
+
+/// The lines of what is done.
+fn of_lines(
+    alloc: Global,
+    filed: &[Octets],
+    sent: &[Addr],
+    answers: bool,
+) -> Result<Octets, AllocError>
+    ensures { IfOk result (λ text. text ≡ flat_map with_end (lines_of filed.now sent.now answers)) }
+{
+    let mut text = Octets::new(alloc);
+    add_mailboxes(&mut text, filed)?;
+    add_targets(alloc, &mut text, sent)?;
+    add_answer(&mut text, answers)?;
+    Ok(text)
+}
+
+/// Appends the line of an answer to the sender, if there is one.
+fn add_answer(text: &mut Octets, answers: bool) -> Result<(), AllocError>
+    ensures { OnOk result (text.new ≡ text.old ++ flat_map with_end (reply_lines answers)) }
+{
+    if answers {
+        text.extend_from_slice(b"vacation wanted\n")?;
+    }
+    Ok(())
+}
+
+/// Appends a line for each mailbox.
+fn add_mailboxes(text: &mut Octets, filed: &[Octets]) -> Result<(), AllocError>
+    ensures { OnOk result (text.new ≡ text.old ++ flat_map with_end (map file_line filed.now)) }
+{
+    for mailbox in filed {
+        add_line(text, b"file ", mailbox.as_slice())?;
+    }
+    Ok(())
+}
+
+/// Appends a line for each address that the message is sent to.
+fn add_targets(alloc: Global, text: &mut Octets, sent: &[Addr]) -> Result<(), AllocError>
+    ensures { OnOk result (text.new ≡ text.old ++ flat_map with_end (map send_line sent.now)) }
+{
+    for target in sent {
+        add_line(text, b"send ", spell(alloc, target)?.as_slice())?;
+    }
+    Ok(())
+}
+
+/// Appends a word and what it is said of, as a line.
+fn add_line(text: &mut Octets, word: &[u8], what: &[u8]) -> Result<(), AllocError>
+    ensures { OnOk result (text.new ≡ text.old ++ with_end (word.now ++ what.now)) }
+{
+    text.extend_from_slice(word)?;
+    text.extend_from_slice(what)?;
+    text.push(b'\n')
+}
+
+/// The line of a run that failed: `failed: more than 16 redirects`.
+fn of_failure(alloc: Global, failure: Failure) -> Result<Octets, AllocError>
+    ensures { IfOk result (λ text. text ≡ with_end (codes "failed: " ++ notice_of (failure_view failure))) }
+{
+    let mut text = Octets::new(alloc);
+    add_line(&mut text, b"failed: ", notice_text(failure))?;
+    Ok(text)
+}
+
+/// The line on a fault of the script: `line 3: unknown test`.
+pub fn of_fault(alloc: Global, fault: ScriptFault) -> Result<Octets, AllocError>
+    ensures { IfOk result (λ text. text ≡ with_end (fault_line fault.line fault.kind)) }
+{
+    let mut text = fault.told(alloc)?;
+    text.push(b'\n')?;
+    Ok(text)
+}
