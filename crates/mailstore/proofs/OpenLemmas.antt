@@ -1,15 +1,18 @@
 -- What opening a database reads of it, and what that leaves.
-use Rattle.std.proofs.Common.{◌≡◌, ◌↔◌, ℕ, pos, Bool, true, false, cond, List, [], ◌∷◌, ◌++◌, map, filter, flat_map, length, Ok, Err, Result, Vec, IfOk, IfErr, OnOk, IsTrue, IsPermutation, refl, sym, ap, ◌∙◌, subst, inl, inr, arith}
+use Rattle.std.proofs.Common.{◌≡◌, ◌↔◌, ℕ, pos, Bool, true, false, ◌&&◌, cond, codes, List, [], ◌∷◌, ◌++◌, map, filter, flat_map, length, Ok, Err, Result, Vec, IfOk, IfErr, OnOk, IsTrue, IsPermutation, refl, sym, ap, ◌∙◌, subst, inl, inr, arith}
 use Rattle.std.specs.declared.alloc.Global.{Global}
-use Rattle.sqlite_value.specs.declared.value.Value.TheVariants.{Int}
+use Rattle.sqlite_value.specs.declared.value.Value.TheVariants.{Int, Text}
 use Rattle.sqlite_value.specs.Order.{Row, column}
 use Rattle.std.specs.List.{list_all}
 use Rattle.std.proofs.lemmas.List.Sorted.{length_permutation, IsPermutation-map}
+use Rattle.sqlite_value.specs.declared.keys.Collation.TheVariants.{Binary}
+use Rattle.sqlite_sql.specs.declared.ops.CompareOp.TheVariants.{Eq}
+use Rattle.sqlite_typed.proofs.TestLemmas.{at_texts, bytes_eq_refl}
 use Rattle.sqlite_sql.specs.Term.{col, holds, Env}
 use Rattle.sqlite_sql.specs.Query.{Query, IsAnswer, Output, output}
 use Rattle.sqlite_sql.specs.Program.{overlay}
 use Rattle.sqlite_trees.specs.Tree.{Trees}
-use Rattle.sqlite_schema.specs.Rules.{Fits}
+use Rattle.sqlite_schema.specs.Rules.{equal, Fits}
 use Rattle.sqlite.specs.Effect.{Database}
 use Rattle.sqlite.specs.Listing.{understood}
 use Rattle.sqlite.specs.declared.error.Error.{Error}
@@ -17,13 +20,13 @@ use Rattle.sqlite.specs.State.{State, HasCleanDisk, Shown, FailsToQuery}
 use Rattle.sqlite_keyed.proofs.ListLemmas.{map-map}
 use Rattle.sqlite.proofs.Callers.{IsPlain, one_permutation}
 use Rattle.sqlrows.specs.Forms.{over}
-use Rattle.sqlrows.specs.Rows.{IsHeld, Holds, has_key_from}
+use Rattle.sqlrows.specs.Rows.{Entry, id_of, cells_of, stored, IsHeld, Holds, has_key_from}
 use Rattle.sqlrows.proofs.ReadLemmas.{shown_same, fails_same, answered}
-use Rattle.mailstore.specs.Schema.{mail_schema}
+use Rattle.mailstore.specs.Schema.{mail_schema, meta}
 use Rattle.mailstore.specs.Statements.{select_version}
 use Rattle.mailstore.specs.Words.{StaysSame, SeesCommit}
 use Rattle.mailstore.specs.Account.{Accounts}
-use Rattle.mailstore.specs.Shows.{version_key, version_rows, SaysOne, IsOurs, ShowsIn, Presents}
+use Rattle.mailstore.specs.Shows.{version_key, version_row, version_rows, SaysOne, IsOurs, ShowsIn, Presents}
 use Rattle.mailstore.proofs.TextFacts.{by_one, select_version_is, select_version_plain}
 use Rattle.mailstore.proofs.QueryLemmas.{same_unchanged, same_undone}
 
@@ -100,3 +103,23 @@ shows_again db new accounts ours is p =
     let again : Holds mail_schema db p.1.0 =
     record { is = ours; fits = subst (Fits mail_schema) (sym p.2) held.fits; each = λ t listed. subst (λ (trees : Trees). IsHeld (trees t.tree) (p.1.0 t.tree)) (sym p.2) (held.each t listed) } in
     (p.1.0, subst (λ d. Holds mail_schema d p.1.0) (sym is) again, p.1.2)
+
+itself : equal Binary (Text (codes "version")) (Text (codes "version")) ≡ true
+itself = at_texts false Eq (codes "version") (codes "version") ∙ bytes_eq_refl (codes "version")
+
+-- a database that shows accounts is ours
+pub shown_ours : (db : Database) (accounts : Accounts) → Presents db accounts → IsOurs db
+shown_ours db accounts p = let held = p.1.each meta (inl refl) in go held.entries held.rows_are (sym p.2.version ∙ held.cells_are)
+  where
+    go : (es : List Entry) → db.trees 0 ≡ map stored es → version_row ∷ [] ≡ map cells_of es → IsOurs db
+    go [] rows cells = absurd (let none = cells in cc)
+    go (e ∷ []) rows cells =
+        let is : version_row ≡ cells_of e = cc in
+        let row : Row = Int (id_of e) ∷ version_row in
+        record {
+          schema = p.1.is;
+          row = row;
+          only = ap (filter (has_key_from 1 version_key)) rows ∙ ap (λ c. filter (has_key_from 1 version_key) ((Int (id_of e) ∷ c) ∷ [])) (sym is) ∙ ap (λ b. cond (b && true) (row ∷ []) []) itself;
+          says = refl;
+        }
+    go (e ∷ f ∷ es) rows cells = absurd (let two = cells in cc)

@@ -95,6 +95,7 @@ impl<S: Alter> Store<S> {
         ensures same { IfOk result (λ store. HasCleanDisk (state S.Store store) → StaysSame (state S.Store conn) (state S.Store store)) }
         ensures crash { IfOk result (λ store. Leaves (state S.Store conn) (state S.Store store)) }
         ensures not_ours { IfErr result (λ e. HasCleanDisk (state S.Store e.1) → e.0 ≡ Refusal.NotOurs → ¬ IsOurs (state S.Store conn).now) }
+        ensures not_shown { IfErr result (λ e. HasCleanDisk (state S.Store e.1) → e.0 ≡ Refusal.NotOurs → (accounts : Accounts) → ¬ Presents (state S.Store conn).now accounts) }
         ensures named { IfErr result (λ e. (e.0 ≡ Refusal.NotOurs) ⊎ IsPassing e.0) }
         ensures same_if_refused { IfErr result (λ e. HasCleanDisk (state S.Store e.1) → StaysSame (state S.Store conn) (state S.Store e.1)) }
         ensures crash_if_refused { IfErr result (λ e. Leaves (state S.Store conn) (state S.Store e.1)) }

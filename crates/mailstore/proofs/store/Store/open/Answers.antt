@@ -2,7 +2,7 @@ use Rattle.std.proofs.Common.{◌≡◌, true, false, IfOk, OnOk, IsTrue, rules,
 use Rattle.sqlite.specs.Held.{state}
 use Rattle.mailstore.specs.Schema.{mail_schema}
 use Rattle.mailstore.specs.Words.{SeesCommit}
-use Rattle.mailstore.proofs.OpenLemmas.{shows_again}
+use Rattle.mailstore.proofs.OpenLemmas.{shows_again, shown_ours}
 use Rattle.mailstore.proofs.store.Store.open.Goals as goal
 
 pub returns-in-Ok-true-clause-shown : goal.returns-in-Ok-true-clause-shown
@@ -29,3 +29,6 @@ returns-in-Ok-false-clause-not_ours g c clean same ours =
     let said = rw (c.in-Ok-false.is, c.in-Ok-false.field-0-test) at ((rw (c.set_step_limit.ensures) at c.has_version.ensures.found) ours.schema clean) in
     let no = said.1 ours in
     absurd (let e : false ≡ true = no in cc)
+
+pub returns-in-Ok-false-clause-not_shown : goal.returns-in-Ok-false-clause-not_shown
+returns-in-Ok-false-clause-not_shown g c clean same accounts p = returns-in-Ok-false-clause-not_ours g c clean same (shown_ours (state g.S.Store c.args.conn).now accounts p)
