@@ -17,3 +17,4 @@ pub mod FolderLemmas
 pub mod OneLemmas
 pub mod SchemaLemmas
 pub mod OpenLemmas
+mod Examples

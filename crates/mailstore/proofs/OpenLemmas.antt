@@ -1,36 +1,32 @@
 -- What opening a database reads of it, and what that leaves.
-use Rattle.std.proofs.Common.{◌≡◌, ◌↔◌, ◌⊎◌, ℕ, ℤ, pos, Bool, true, false, codes, List, [], ◌∷◌, map, filter, slice_get, option_map, Option, Some, None, Ok, Err, Result, Vec, IfOk, IfErr, OnOk, IsTrue, refl, sym, ap, ◌∙◌, subst, inl, inr, true≢false, arith}
+use Rattle.std.proofs.Common.{◌≡◌, ◌↔◌, ℕ, pos, Bool, true, false, ◌&&◌, cond, codes, List, [], ◌∷◌, ◌++◌, map, filter, flat_map, length, Ok, Err, Result, Vec, IfOk, IfErr, OnOk, IsTrue, IsPermutation, refl, sym, ap, ◌∙◌, subst, inl, inr, arith}
 use Rattle.std.specs.declared.alloc.Global.{Global}
-use Rattle.std.proofs.lemmas.Bool.{and_from, and_parts}
-use Rattle.sqlite_value.specs.declared.value.Value.{Value}
-use Rattle.sqlite_value.specs.declared.value.Value.TheVariants.{Null, Int, Real, Text, Blob}
-use Rattle.sqlite_value.specs.declared.keys.Collation.TheVariants.{Binary}
-use Rattle.sqlite_value.specs.Keys.{first_key}
+use Rattle.sqlite_value.specs.declared.value.Value.TheVariants.{Int, Text}
 use Rattle.sqlite_value.specs.Order.{Row, column}
-use Rattle.sqlite_value.proofs.OrderLemmas.{value_cmp-apart}
-use Rattle.sqlite_sql.specs.Ops.{binary}
+use Rattle.std.specs.List.{list_all}
+use Rattle.std.proofs.lemmas.List.Sorted.{length_permutation, IsPermutation-map}
+use Rattle.sqlite_value.specs.declared.keys.Collation.TheVariants.{Binary}
 use Rattle.sqlite_sql.specs.declared.ops.CompareOp.TheVariants.{Eq}
-use Rattle.sqlite_sql.specs.Term.{col}
-use Rattle.sqlite_schema.specs.declared.schema.Index.{Index}
+use Rattle.sqlite_typed.proofs.TestLemmas.{at_texts, bytes_eq_refl}
+use Rattle.sqlite_sql.specs.Term.{col, holds, Env}
+use Rattle.sqlite_sql.specs.Query.{Query, IsAnswer, Output, output}
+use Rattle.sqlite_sql.specs.Program.{overlay}
 use Rattle.sqlite_trees.specs.Tree.{Trees}
-use Rattle.sqlite_schema.specs.Rules.{agree, equal, Fits}
-use Rattle.sqlite_rules.specs.Lists.{Has}
-use Rattle.sqlite_rules.proofs.ListLemmas.{has_kept}
-use Rattle.sqlite_catalog.specs.Listing.{automatic}
-use Rattle.sqlite_typed.proofs.TestLemmas.{at_texts, same_bytes, bytes_eq_refl}
+use Rattle.sqlite_schema.specs.Rules.{equal, Fits}
 use Rattle.sqlite.specs.Effect.{Database}
 use Rattle.sqlite.specs.Listing.{understood}
 use Rattle.sqlite.specs.declared.error.Error.{Error}
 use Rattle.sqlite.specs.State.{State, HasCleanDisk, Shown, FailsToQuery}
-use Rattle.sqlite.proofs.Callers.{IsPlain}
-use Rattle.sqlrows.specs.Rows.{Tables, IsHeld, Holds, has_key}
-use Rattle.sqlrows.proofs.AnswerLemmas.{IsAtMostOne, cells_by_key, one_row}
+use Rattle.sqlite_keyed.proofs.ListLemmas.{map-map}
+use Rattle.sqlite.proofs.Callers.{IsPlain, one_permutation}
+use Rattle.sqlrows.specs.Forms.{over}
+use Rattle.sqlrows.specs.Rows.{Entry, id_of, cells_of, stored, IsHeld, Holds, has_key_from}
 use Rattle.sqlrows.proofs.ReadLemmas.{shown_same, fails_same, answered}
 use Rattle.mailstore.specs.Schema.{mail_schema, meta}
 use Rattle.mailstore.specs.Statements.{select_version}
 use Rattle.mailstore.specs.Words.{StaysSame, SeesCommit}
 use Rattle.mailstore.specs.Account.{Accounts}
-use Rattle.mailstore.specs.Shows.{version_key, HasVersion, ShowsIn, Presents}
+use Rattle.mailstore.specs.Shows.{version_key, version_row, version_rows, SaysOne, IsOurs, ShowsIn, Presents}
 use Rattle.mailstore.proofs.TextFacts.{by_one, select_version_is, select_version_plain}
 use Rattle.mailstore.proofs.QueryLemmas.{same_unchanged, same_undone}
 
@@ -47,61 +43,58 @@ module _ (sql : List ℕ) (params : Row) (old new : State) (ours : old.now.schem
       record { is_open = shows.is_open; same = shows.now_is ∙ settled shows.was_open ∙ sym shows.committed_is }
   sees_commit (Err e) settled ok clean = tt
 
-abbrev meta_index : Index
-meta_index = automatic meta 0 (1 ∷ []) 1
+abbrev asked : Query
+asked = (over 0 by_one (col 1 2 ∷ []) []).body
 
-version_agrees : (n : ℤ) (cells : Row) → has_key version_key cells ≡ true → agree meta_index.order meta_index.columns (Int n ∷ cells) (0 ∷ []) version_key ≡ true
-unfolding first_key
-version_agrees n cells h = h
+abbrev slots : Row → Env
+slots row = version_key ∷ row ∷ []
 
-abbrev version_rows : Tables → List Row
-version_rows tables = filter (has_key version_key) (tables 0)
+matches_are : (rows : List Row)
+    → flat_map (λ r. cond (list_all (holds (version_key ∷ r ∷ [])) by_one) ((version_key ∷ r ∷ []) ∷ []) []) rows ≡ map slots (filter (has_key_from 1 version_key) rows)
+matches_are [] = refl
+matches_are (r ∷ rows) =
+    rw (matches_are rows) (elim (has_key_from 1 version_key r) as (λ b. cond b (slots r ∷ []) [] ++ map slots (filter (has_key_from 1 version_key) rows) ≡ map slots (cond b (r ∷ filter (has_key_from 1 version_key) rows) (filter (has_key_from 1 version_key) rows)))
+    [ true ↦ refl | false ↦ refl ])
 
-pub version_found : (old new : State) (rows : List Row) (tables : Tables) → Holds mail_schema old.now tables → Shown select_version version_key old new rows → rows ≡ map (λ c. column c 1 ∷ []) (version_rows tables)
-version_found old new rows tables h shown =
-    cells_by_key mail_schema meta (inl refl) meta_index (inl refl) refl version_key (0 ∷ []) version_agrees old.now.trees h.fits (tables 0) (h.each meta (inl refl)) by_one version_key (λ n cells. refl) (col 1 2 ∷ []) (λ c. column c 1 ∷ []) (λ n cells. refl) [] rows
-    (answered mail_schema select_version version_key old new h.is select_version_plain.0 0 by_one (col 1 2 ∷ []) [] _ select_version_is select_version_plain.1 rows shown)
+-- the numbers that the query shows are those of the rows of the version
+numbers_are : (trees : Trees) (rows : List Row) → IsAnswer asked (overlay trees []) version_key rows → IsPermutation (map (λ r. column r 2 ∷ []) (version_rows trees)) rows
+numbers_are trees rows a =
+    let kept : a.kept ≡ map (output asked) (map slots (version_rows trees)) = a.distinct ∙ ap (map (output asked)) (a.grouped ∙ matches_are (trees 0)) in
+    let shown : map (λ (o : Output). o.1) a.kept ≡ map (λ r. column r 2 ∷ []) (version_rows trees) =
+    ap (map (λ (o : Output). o.1)) kept ∙ map-map (λ (o : Output). o.1) (output asked) (map slots (version_rows trees)) ∙ map-map _ slots (version_rows trees) in
+    subst (λ l. IsPermutation l rows) shown (subst (λ l. IsPermutation (map (λ (o : Output). o.1) a.kept) l) (sym a.shown) (IsPermutation-map (λ (o : Output). o.1) a.kept a.ordered a.same))
 
-equal_text : (v : Value) (a : List ℕ) → equal Binary v (Text a) ≡ true → v ≡ Text a
-unfolding binary
-equal_text Null a h = absurd (true≢false (sym h))
-equal_text (Int n) a h = absurd (let e = rw (value_cmp-apart (Int n) (Text a) (λ same. absurd (omega (arith, same)))) at h in true≢false (sym e))
-equal_text (Real x) a h = absurd (let e = rw (value_cmp-apart (Real x) (Text a) (λ same. absurd (omega (arith, same)))) at h in true≢false (sym e))
-equal_text (Blob t) a h = absurd (let e = rw (value_cmp-apart (Blob t) (Text a) (λ same. absurd (omega (arith, same)))) at h in true≢false (sym e))
-equal_text (Text b) a h = ap Text (same_bytes b a (sym (at_texts false Eq b a) ∙ h))
+pub version_found : (old new : State) (rows : List Row) → old.now.schema ≡ mail_schema → Shown select_version version_key old new rows → IsPermutation (map (λ r. column r 2 ∷ []) (version_rows old.now.trees)) rows
+version_found old new rows ours shown =
+    numbers_are old.now.trees rows (answered mail_schema select_version version_key old new ours select_version_plain.0 0 by_one (col 1 2 ∷ []) [] _ select_version_is select_version_plain.1 rows shown)
 
-itself : equal Binary (Text (codes "version")) (Text (codes "version")) ≡ true
-itself = at_texts false Eq (codes "version") (codes "version") ∙ bytes_eq_refl (codes "version")
-
--- one row of the version is found at most
-lone_version : (db : State) (tables : Tables) → Holds mail_schema db.now tables → IsAtMostOne (has_key version_key) (tables 0)
-lone_version db tables h = one_row mail_schema meta (inl refl) meta_index (inl refl) refl version_key (0 ∷ []) version_agrees db.now.trees h.fits (tables 0) (h.each meta (inl refl))
-
--- the one row that is found says 1
-abbrev FirstSays : List Row → Type 0
-FirstSays rows = option_map (λ r. column r 0) (slice_get rows 0) ≡ Some (Int (pos 1))
-
-says_both : (db : State) (tables : Tables) → Holds mail_schema db.now tables → FirstSays (map (λ c. column c 1 ∷ []) (version_rows tables)) ↔ HasVersion tables
-says_both db tables h = go (lone_version db tables h)
+says_ours : (db : Database) (rows found : List Row) → db.schema ≡ mail_schema → version_rows db.trees ≡ found → IsPermutation (map (λ r. column r 2 ∷ []) found) rows → SaysOne rows ↔ IsOurs db
+says_ours db rows [] ours are same = (
+  λ one. absurd (let none = length_permutation _ _ (subst (IsPermutation []) one.1 same) in omega (arith, none)),
+  λ h. absurd (let none = sym are ∙ h.only in cc),
+)
+says_ours db rows (r ∷ []) ours are same =
+    let alone = one_permutation (column r 2 ∷ []) rows same in (
+      λ one. record { schema = ours; row = r; only = are; says = ap (λ l. column (first_of l) 0) (sym alone ∙ one.1) ∙ one.2 },
+      λ h. (column r 2 ∷ [], alone, ap (λ l. column (first_of l) 2) (sym are ∙ h.only) ∙ h.says),
+    )
   where
-    -- a row of the version is among those with the key
-    among : (v : HasVersion tables) → Has (version_rows tables) v.0
-    among v = has_kept (has_key version_key) (tables 0) v.0 v.1 (and_from _ _ (subst (λ x. equal Binary x (Text (codes "version")) ≡ true) (sym v.2) itself) refl)
+    first_of : List Row → Row
+    first_of [] = []
+    first_of (x ∷ xs) = x
+says_ours db rows (r ∷ q ∷ more) ours are same = (
+  λ one. absurd (let many = length_permutation _ _ (subst (IsPermutation _) one.1 same) in omega (arith, many)),
+  λ h. absurd (let one = sym are ∙ h.only in let many : length (r ∷ q ∷ more) ≡ 1 = ap length one in omega (arith, many)),
+)
 
-    go : IsAtMostOne (has_key version_key) (tables 0) → FirstSays (map (λ c. column c 1 ∷ []) (version_rows tables)) ↔ HasVersion tables
-    go (inl none) = (
-      λ says. absurd (let no = subst (λ l. FirstSays (map (λ c. column c 1 ∷ []) l)) none says in cc),
-      λ v. absurd (subst (λ l. Has l v.0) none (among v)),
-    )
-    go (inr one) = (
-      λ says. let value = subst (λ l. FirstSays (map (λ c. column c 1 ∷ []) l)) one.3 says in (one.0, one.1, equal_text _ _ (and_parts _ _ one.2).0, cc),
-      λ v. elim (subst (λ l. Has l v.0) one.3 (among v)) [ inl is ↦ subst (λ l. FirstSays (map (λ c. column c 1 ∷ []) l)) (sym one.3) (ap (λ (r : Row). Some (column r 1)) (sym is) ∙ ap Some v.3) | inr none ↦ absurd none ],
-    )
+pub row_says : (rows : List Row) (row : Row) → rows ≡ row ∷ [] → (r : Result Bool Error) → IfOk r (λ is. IsTrue is ↔ (column row 0 ≡ Int (pos 1))) → IfOk r (λ is. IsTrue is ↔ SaysOne rows)
+row_says rows row are (Err e) said = tt
+row_says rows row are (Ok is) said = (λ e. (row, are, said.0 e), λ h. let same : row ∷ [] ≡ h.0 ∷ [] = sym are ∙ h.1 in let one : row ≡ h.0 = cc in said.1 (ap (λ (x : Row). column x 0) one ∙ h.2))
 
-pub version_says : (old : State) (tables : Tables) → Holds mail_schema old.now tables → (rows : List Row) → rows ≡ map (λ c. column c 1 ∷ []) (version_rows tables) → (r : Result Bool Error)
-    → IfOk r (λ is. IsTrue is ↔ FirstSays rows) → IfOk r (λ is. IsTrue is ↔ HasVersion tables)
-version_says old tables h rows are (Err e) said = tt
-version_says old tables h rows are (Ok is) said = let both = says_both old tables h in let says = subst (λ l. IsTrue is ↔ FirstSays l) are said in (λ e. both.0 (says.0 e), λ v. says.1 (both.1 v))
+pub version_says : (db : Database) (rows : List Row) → db.schema ≡ mail_schema → IsPermutation (map (λ r. column r 2 ∷ []) (version_rows db.trees)) rows → (r : Result Bool Error) → IfOk r (λ is. IsTrue is ↔ SaysOne rows)
+    → IfOk r (λ is. IsTrue is ↔ IsOurs db)
+version_says db rows ours same (Err e) said = tt
+version_says db rows ours same (Ok is) said = let both = says_ours db rows _ ours refl same in (λ e. both.0 (said.0 e), λ h. said.1 (both.1 h))
 
 -- opened on trees that show accounts, a database of our schema shows them
 pub shows_again : (db new : Database) (accounts : Accounts) → db.schema ≡ mail_schema → new ≡ db → ShowsIn db.trees accounts → Presents new accounts
@@ -110,3 +103,23 @@ shows_again db new accounts ours is p =
     let again : Holds mail_schema db p.1.0 =
     record { is = ours; fits = subst (Fits mail_schema) (sym p.2) held.fits; each = λ t listed. subst (λ (trees : Trees). IsHeld (trees t.tree) (p.1.0 t.tree)) (sym p.2) (held.each t listed) } in
     (p.1.0, subst (λ d. Holds mail_schema d p.1.0) (sym is) again, p.1.2)
+
+itself : equal Binary (Text (codes "version")) (Text (codes "version")) ≡ true
+itself = at_texts false Eq (codes "version") (codes "version") ∙ bytes_eq_refl (codes "version")
+
+-- a database that shows accounts is ours
+pub shown_ours : (db : Database) (accounts : Accounts) → Presents db accounts → IsOurs db
+shown_ours db accounts p = let held = p.1.each meta (inl refl) in go held.entries held.rows_are (sym p.2.version ∙ held.cells_are)
+  where
+    go : (es : List Entry) → db.trees 0 ≡ map stored es → version_row ∷ [] ≡ map cells_of es → IsOurs db
+    go [] rows cells = absurd (let none = cells in cc)
+    go (e ∷ []) rows cells =
+        let is : version_row ≡ cells_of e = cc in
+        let row : Row = Int (id_of e) ∷ version_row in
+        record {
+          schema = p.1.is;
+          row = row;
+          only = ap (filter (has_key_from 1 version_key)) rows ∙ ap (λ c. filter (has_key_from 1 version_key) ((Int (id_of e) ∷ c) ∷ [])) (sym is) ∙ ap (λ b. cond (b && true) (row ∷ []) []) itself;
+          says = refl;
+        }
+    go (e ∷ f ∷ es) rows cells = absurd (let two = cells in cc)

@@ -5,10 +5,9 @@ use Rattle.std.specs.List.{AllByRecursion}
 use Rattle.sqlite_value.specs.declared.value.Value.TheVariants.{Int, Text, Blob}
 use Rattle.sqlite_value.specs.Order.{Row, column}
 use Rattle.sqlite_trees.specs.Tree.{Trees, IsAscending}
-use Rattle.sqlite_rules.specs.Lists.{Has}
 use Rattle.sqlite.specs.Effect.{Database}
 use Rattle.sqlite.specs.State.{State}
-use Rattle.sqlrows.specs.Rows.{Tables, Holds, has_key}
+use Rattle.sqlrows.specs.Rows.{Tables, Holds, has_key, has_key_from}
 use Rattle.mailstore.specs.Schema.{no_schema, mail_schema}
 use Rattle.mailstore.specs.Cells.{or_null, script_cells, copy_cells}
 use Rattle.mailstore.specs.Account.{Queued, Noted, Account, Accounts, Folders, filed, no_accounts}
@@ -110,13 +109,20 @@ pub record ShowsAccounts (tables : Tables) (accounts : Accounts) : Type 0 where
 abbrev pub Presents : Database → Accounts → Type 0
 Presents db accounts = (tables : Tables) × Holds mail_schema db tables × ShowsAccounts tables accounts
 
--- a row of the table of the version says 1
-abbrev pub HasVersion : Tables → Type 0
-HasVersion tables = (row : Row) × Has (tables 0) row × (column row 0 ≡ Text (codes "version")) × (column row 1 ≡ Int (pos 1))
+-- the rows of the version, each with its rowid
+abbrev pub version_rows : Trees → List Row
+version_rows trees = filter (has_key_from 1 version_key) (trees 0)
 
--- a database of our tables and of this version
-abbrev pub IsOurs : Database → Type 0
-IsOurs db = (tables : Tables) × Holds mail_schema db tables × HasVersion tables
+-- there is one row, and it begins with 1
+abbrev pub SaysOne : List Row → Type 0
+SaysOne rows = (row : Row) × (rows ≡ row ∷ []) × (column row 0 ≡ Int (pos 1))
+
+-- a database of our tables, whose one row of the version says 1
+pub record IsOurs (db : Database) : Type 0 where
+  pub schema : db.schema ≡ mail_schema
+  pub row : Row
+  pub only : version_rows db.trees ≡ row ∷ []
+  pub says : column row 2 ≡ Int (pos 1)
 
 -- the trees are those of a database that shows the accounts
 abbrev pub ShowsIn : Trees → Accounts → Type 0

@@ -1,23 +1,22 @@
-use Rattle.std.proofs.Common.{◌≡◌, [], ◌∷◌, map, filter, rules, IsTrue}
+use Rattle.std.proofs.Common.{◌≡◌, [], ◌∷◌, map, IsPermutation, rules, IsTrue}
 use Rattle.sqlite_value.specs.Order.{column}
 use Rattle.sqlite.specs.Held.{state}
 use Rattle.sqlite.specs.State.{Shown}
-use Rattle.sqlrows.specs.Rows.{has_key}
 use Rattle.sqlrows.proofs.ReadLemmas.{quiet}
 use Rattle.mailstore.specs.Schema.{mail_schema}
 use Rattle.mailstore.specs.Statements.{select_version}
-use Rattle.mailstore.specs.Shows.{version_key}
+use Rattle.mailstore.specs.Shows.{version_key, version_rows}
 use Rattle.mailstore.proofs.TextFacts.{select_version_plain}
 use Rattle.mailstore.proofs.QueryLemmas.{if_shown}
 use Rattle.mailstore.proofs.OpenLemmas.{version_found, keeps_same, sees_commit}
 use Rattle.mailstore.proofs.query.find_version.Goals as goal
 
 pub returns-clause-found : goal.returns-clause-found
-returns-clause-found g c clean tables h =
+returns-clause-found g c ours clean =
     let old = state g.S.Store c.args.conn.now in
     let new = state g.S.Store c.query_all.new.self in
     let ok = rw (c.params-to_sql.ensures) at (c.query_all.ensures.ok clean) in
-    if_shown c.query_all.result (Shown select_version version_key old new) (λ rows. rows ≡ map (λ cells. column cells 1 ∷ []) (filter (has_key version_key) (tables 0))) (λ rows shown. version_found old new rows tables h shown) ok
+    if_shown c.query_all.result (Shown select_version version_key old new) (IsPermutation (map (λ r. column r 2 ∷ []) (version_rows old.now.trees))) (λ rows shown. version_found old new rows ours shown) ok
 
 pub returns-clause-same : goal.returns-clause-same
 returns-clause-same g c ours =

@@ -2,7 +2,7 @@ use Rattle.std.proofs.Common.{◌≡◌, true, false, IfOk, OnOk, IsTrue, rules,
 use Rattle.sqlite.specs.Held.{state}
 use Rattle.mailstore.specs.Schema.{mail_schema}
 use Rattle.mailstore.specs.Words.{SeesCommit}
-use Rattle.mailstore.proofs.OpenLemmas.{shows_again}
+use Rattle.mailstore.proofs.OpenLemmas.{shows_again, shown_ours}
 use Rattle.mailstore.proofs.store.Store.open.Goals as goal
 
 pub returns-in-Ok-true-clause-shown : goal.returns-in-Ok-true-clause-shown
@@ -12,10 +12,11 @@ returns-in-Ok-true-clause-shown g c clean accounts p =
     let same = (rw (c.set_step_limit.ensures) at c.has_version.ensures.same) ours clean in
     shows_again (state g.S.Store c.args.conn).now (state g.S.Store c.has_version.new.conn).now accounts ours (same.now_is live.is_open) p
 
-pub returns-in-Ok-true-clause-version : goal.returns-in-Ok-true-clause-version
-returns-in-Ok-true-clause-version g c clean tables h =
-    let said = rw (c.in-Ok-true.is, c.in-Ok-true.field-0-test) at ((rw (c.set_step_limit.ensures) at c.has_version.ensures.found) clean tables h) in
-    (tables, h, said.0 refl)
+pub returns-in-Ok-true-clause-ours : goal.returns-in-Ok-true-clause-ours
+returns-in-Ok-true-clause-ours g c clean =
+    let ours : c.args.conn.schema ≡ mail_schema = search rules in
+    let said = rw (c.in-Ok-true.is, c.in-Ok-true.field-0-test) at ((rw (c.set_step_limit.ensures) at c.has_version.ensures.found) ours clean) in
+    said.0 refl
 
 pub returns-in-Ok-true-clause-settled : goal.returns-in-Ok-true-clause-settled
 returns-in-Ok-true-clause-settled g c clean =
@@ -25,6 +26,9 @@ returns-in-Ok-true-clause-settled g c clean =
 
 pub returns-in-Ok-false-clause-not_ours : goal.returns-in-Ok-false-clause-not_ours
 returns-in-Ok-false-clause-not_ours g c clean same ours =
-    let said = rw (c.in-Ok-false.is, c.in-Ok-false.field-0-test) at ((rw (c.set_step_limit.ensures) at c.has_version.ensures.found) clean ours.0 ours.1) in
-    let no = said.1 ours.2 in
+    let said = rw (c.in-Ok-false.is, c.in-Ok-false.field-0-test) at ((rw (c.set_step_limit.ensures) at c.has_version.ensures.found) ours.schema clean) in
+    let no = said.1 ours in
     absurd (let e : false ≡ true = no in cc)
+
+pub returns-in-Ok-false-clause-not_shown : goal.returns-in-Ok-false-clause-not_shown
+returns-in-Ok-false-clause-not_shown g c clean same accounts p = returns-in-Ok-false-clause-not_ours g c clean same (shown_ours (state g.S.Store c.args.conn).now accounts p)
