@@ -3,6 +3,7 @@ use Rattle.std.specs.Prelude.{false, List, [], ◌∷◌, ◌++◌, codes}
 use Rattle.sqlite_schema.specs.declared.schema.Action.TheVariants.{NoAction}
 use Rattle.sqlite_schema.specs.declared.schema.Kind.TheVariants.{Integer, Text, Blob}
 use Rattle.sqlite_schema.specs.declared.schema.Reference.{Reference}
+use Rattle.sqlite_schema.specs.declared.schema.Index.{Index}
 use Rattle.sqlite_schema.specs.declared.schema.Table.{Table}
 use Rattle.sqlite_schema.specs.declared.schema.Schema.{Schema}
 use Rattle.sqlite_catalog.specs.Change.{automatics, created}
@@ -42,14 +43,14 @@ the_tables = meta ∷ account ∷ script ∷ copy ∷ outgoing ∷ reply ∷ not
 abbrev pub no_schema : Schema
 no_schema = record { tables = []; indexes = []; views = [] }
 
--- the tables, each with the index of its key
+-- the index of each table's key
+abbrev pub the_indexes : List Index
+the_indexes =
+    automatics meta 0 1 meta.uniques ++ automatics account 0 3 account.uniques ++ automatics script 0 5 script.uniques ++ automatics copy 0 7 copy.uniques
+    ++ automatics outgoing 0 9 outgoing.uniques ++ automatics reply 0 11 reply.uniques ++ automatics notice 0 13 notice.uniques
+
 abbrev pub mail_schema : Schema
-mail_schema = record {
-  tables = the_tables;
-  indexes = automatics meta 0 1 meta.uniques ++ automatics account 0 3 account.uniques ++ automatics script 0 5 script.uniques ++ automatics copy 0 7 copy.uniques
-      ++ automatics outgoing 0 9 outgoing.uniques ++ automatics reply 0 11 reply.uniques ++ automatics notice 0 13 notice.uniques;
-  views = [];
-}
+mail_schema = record { tables = the_tables; indexes = the_indexes; views = [] }
 
 -- the schema once the first tables are made
 abbrev pub schema_1 : Schema

@@ -4,7 +4,7 @@ use Rattle.std.specs.FinMap.{empty, get, from_entries}
 use Rattle.std.specs.List.{AllByRecursion}
 use Rattle.sqlite_value.specs.declared.value.Value.TheVariants.{Int, Text, Blob}
 use Rattle.sqlite_value.specs.Order.{Row}
-use Rattle.sqlite_trees.specs.Tree.{IsAscending}
+use Rattle.sqlite_trees.specs.Tree.{Trees, IsAscending}
 use Rattle.sqlite.specs.Effect.{Database}
 use Rattle.sqlrows.specs.Rows.{Tables, Holds, has_key}
 use Rattle.mailstore.specs.Schema.{mail_schema}
@@ -20,6 +20,9 @@ pub record Copy : Type 0 where
   pub folder : List ℕ
   pub n : ℕ
   pub message : List ℕ
+
+abbrev pub version_key : Row
+version_key = Text (codes "version") ∷ []
 
 abbrev pub version_row : Row
 version_row = Text (codes "version") ∷ Int (pos 1) ∷ []
@@ -104,3 +107,11 @@ pub record ShowsAccounts (tables : Tables) (accounts : Accounts) : Type 0 where
 -- a database of our schema, whose tables show the accounts
 abbrev pub Presents : Database → Accounts → Type 0
 Presents db accounts = (tables : Tables) × Holds mail_schema db tables × ShowsAccounts tables accounts
+
+-- a database of our tables, whose one row of a version says 1
+abbrev pub IsOurs : Database → Type 0
+IsOurs db = (tables : Tables) × Holds mail_schema db tables × (filter (has_key version_key) (tables 0) ≡ version_row ∷ [])
+
+-- the trees are those of a database that shows the accounts
+abbrev pub ShowsIn : Trees → Accounts → Type 0
+ShowsIn trees accounts = (db : Database) × Presents db accounts × (trees ≡ db.trees)

@@ -46,6 +46,9 @@ delete_script = codes "DELETE FROM script WHERE owner = ?1 AND name = ?2"
 abbrev pub insert_copy : List ℕ
 insert_copy = codes "INSERT INTO copy (owner, folder, n, message) VALUES (?1, ?2, ?3, ?4)"
 
+abbrev pub select_version : List ℕ
+select_version = codes "SELECT value FROM meta WHERE item = ?1"
+
 abbrev pub select_account : List ℕ
 select_account = codes "SELECT address, salt, rounds, digest, active FROM account WHERE name = ?1"
 

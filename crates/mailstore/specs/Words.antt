@@ -1,8 +1,9 @@
 -- What a call leaves of a connection: after Ok, after a refusal, and where a crash comes.
-use Rattle.std.specs.Prelude.{◌≡◌, ◌||◌, Bool, true, [], codes, is_some, Result, OnOk, IsTrue}
+use Rattle.std.specs.Prelude.{◌≡◌, ◌≤◌, ◌||◌, Bool, true, [], codes, is_some, Result, OnOk, IsTrue}
 use Rattle.sqlite_schema.specs.declared.schema.Schema.{Schema}
 use Rattle.sqlite_schema.specs.Names.{table_named}
 use Rattle.sqlite_trees.specs.Tree.{Trees}
+use Rattle.sqlite_trees.specs.View.{doubt}
 use Rattle.sqlite.specs.declared.error.Error.{Error}
 use Rattle.sqlite.specs.State.{State, HasCleanDisk, Survives, KeepsCommit, Shows}
 use Rattle.sqlrows.specs.Rows.{Tables, Holds}
@@ -24,6 +25,11 @@ pub record IsSettled (s : State) : Type 0 where
 pub record StaysSame (old new : State) : Type 0 where
   pub now_is : IsTrue new.is_open → new.now ≡ old.now
   pub committed_is : IsTrue new.is_open → new.committed ≡ old.committed
+
+-- no fault of the disk is forgotten, and a crash leaves what it left before and nothing else
+pub record Leaves (old new : State) : Type 0 where
+  pub faults : doubt old.is_clean ≤ doubt new.is_clean
+  pub alone : HasCleanDisk new → (db : Trees) → new.may_leave db → old.may_leave db
 
 -- no table has a row
 abbrev pub no_rows : Tables

@@ -1,6 +1,6 @@
 //! From the rows of a query to what a call answers.
 ghost use Rattle.mailstore.specs.Tally.{tallied};
-ghost use Rattle.std.specs.Prelude.{◌≡◌, ◌⊎◌, ℕ, List, [], pos, Some, option_map, map, slice_get, IfOk, IfErr};
+ghost use Rattle.std.specs.Prelude.{◌≡◌, ◌⊎◌, ℕ, List, [], pos, Some, option_map, map, slice_get, ◌↔◌, IsTrue, IfOk, IfErr};
 ghost use Rattle.sqlite_value.specs.declared.value.Value.TheVariants.{Int, Blob};
 ghost use Rattle.sqlite_value.specs.Order.{column};
 ghost use Rattle.mailstore.specs.Refusals.{IsPassing};
@@ -19,6 +19,19 @@ fn text_at(row: &Row, at: usize) -> Result<Octets, Error>
 {
     let items: Vec<u8> = row.get(at)?;
     Ok(Octets::from_vec(items))
+}
+
+/// Whether the first row says version 1.
+pub fn says_version_1(rows: &[Row]) -> Result<bool, Error>
+    ensures { IfOk result (λ is. IsTrue is ↔ (option_map (λ r. column r 0) (slice_get rows.now 0) ≡ Some (Int (pos 1)))) }
+{
+    match rows.first() {
+        Some(row) => {
+            let version: i64 = row.get(0)?;
+            Ok(version == 1)
+        }
+        None => Ok(false),
+    }
 }
 
 /// The number in the first row; without a row the user has no account.

@@ -10,6 +10,7 @@ mod query;
 mod reads;
 mod refusal;
 mod report;
+mod schema;
 mod statement;
 pub mod store;
 mod table;

@@ -1,13 +1,17 @@
 //! The store of accounts.
-ghost use Rattle.std.specs.Prelude.{◌≡◌, ◌⊎◌, false, IsTrue, IfOk, IfErr, OnOk};
+ghost use Rattle.std.specs.Prelude.{◌≡◌, ◌⊎◌, ¬◌, false, IsTrue, IfOk, IfErr, OnOk};
 ghost use Rattle.sqlite.specs.Held.{state};
 ghost use Rattle.sqlite.specs.State.{HasCleanDisk};
-ghost use Rattle.mailstore.specs.Words.{IsSettled, StaysSame, has_our_name};
-ghost use Rattle.mailstore.specs.Account.{no_accounts};
-ghost use Rattle.mailstore.specs.Shows.{Presents};
+ghost use Rattle.sqlrows.specs.Rows.{Tables, Holds};
+ghost use Rattle.mailstore.specs.Schema.{mail_schema};
+ghost use Rattle.mailstore.specs.Words.{IsSettled, StaysSame, Leaves, has_our_name};
+ghost use Rattle.mailstore.specs.Account.{Accounts, no_accounts};
+ghost use Rattle.mailstore.specs.Shows.{Presents, IsOurs, ShowsIn};
 ghost use Rattle.mailstore.specs.Refusals.{IsPassing};
 
+use crate::query::has_version;
 use crate::refusal::Refusal;
+use crate::schema::is_ours;
 use crate::table::{is_blank, is_taken, make_tables};
 use sqlite::{Alter, Connection};
 use std::alloc::Global;
@@ -70,6 +74,39 @@ impl<S: Alter> Store<S> {
         conn.set_step_limit(None);
         match make_tables(&mut conn) {
             Ok(()) => Ok(Store { conn, alloc }),
+            Err(error) => Err((Refusal::from(error), conn)),
+        }
+    }
+
+    /// Opens a database that `create` made.
+    ///
+    /// Where its tables are not exactly ours, or have no row of version 1, it is `NotOurs`. No table but that
+    /// of the version is read. The connection comes back beside a refusal, with its tables as they are.
+    pub fn open(
+        alloc: Global,
+        mut conn: Connection<S>,
+    ) -> Result<Store<S>, (Refusal, Connection<S>)>
+        ensures shown { IfOk result (λ store. HasCleanDisk (state S.Store store) → (accounts : Accounts) → ShowsIn (state S.Store conn).now.trees accounts → Presents (state S.Store store).now accounts) }
+        ensures schema { IfOk result (λ _. conn.schema ≡ mail_schema) }
+        ensures version { IfOk result (λ store. HasCleanDisk (state S.Store store) → (tables : Tables) → Holds mail_schema (state S.Store conn).now tables → IsOurs (state S.Store conn).now) }
+        ensures settled { IfOk result (λ store. HasCleanDisk (state S.Store store) → IsSettled (state S.Store store)) }
+        ensures same { IfOk result (λ store. HasCleanDisk (state S.Store store) → StaysSame (state S.Store conn) (state S.Store store)) }
+        ensures crash { IfOk result (λ store. Leaves (state S.Store conn) (state S.Store store)) }
+        ensures not_ours { IfErr result (λ e. HasCleanDisk (state S.Store e.1) → e.0 ≡ Refusal.NotOurs → ¬ IsOurs (state S.Store conn).now) }
+        ensures named { IfErr result (λ e. (e.0 ≡ Refusal.NotOurs) ⊎ IsPassing e.0) }
+        ensures same_if_refused { IfErr result (λ e. HasCleanDisk (state S.Store e.1) → StaysSame (state S.Store conn) (state S.Store e.1)) }
+        ensures crash_if_refused { IfErr result (λ e. Leaves (state S.Store conn) (state S.Store e.1)) }
+    {
+        if !conn.is_autocommit() {
+            return Err((Refusal::Store, conn));
+        }
+        if !is_ours(conn.schema()) {
+            return Err((Refusal::NotOurs, conn));
+        }
+        conn.set_step_limit(None);
+        match has_version(&mut conn) {
+            Ok(true) => Ok(Store { conn, alloc }),
+            Ok(false) => Err((Refusal::NotOurs, conn)),
             Err(error) => Err((Refusal::from(error), conn)),
         }
     }
