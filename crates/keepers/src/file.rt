@@ -1,5 +1,5 @@
 //! A keeper over a file.
-use crate::keeper::{Held, Keeper};
+use crate::keeper::{Held, Keeper, store_of};
 use mailstore::{Refusal, Store};
 use sqlite::{Connection, Error, ErrorCode, File as Database, FileStore};
 use std::fs::{File, OpenOptions, TryLockError};
@@ -10,15 +10,15 @@ use std::{format, fs};
 ///
 /// The lock is given back when the store is handed back, or when the process ends. The file `FILE.lock` stays.
 #[derive(Drop)]
-pub struct FileKeeper {
-    rt: HostRuntime,
+pub struct FileKeeper<'a> {
+    rt: &'a HostRuntime,
     lock: Option<File>,
     waits: bool,
 }
 
-impl FileKeeper {
+impl<'a> FileKeeper<'a> {
     /// A keeper that has no store yet, and doesn't wait for one.
-    pub fn new(rt: HostRuntime) -> FileKeeper {
+    pub fn new(rt: &'a HostRuntime) -> FileKeeper<'a> {
         FileKeeper {
             rt,
             lock: None,
@@ -27,7 +27,7 @@ impl FileKeeper {
     }
 }
 
-impl Keeper for FileKeeper {
+impl Keeper for FileKeeper<'_> {
     type S = FileStore<Database>;
 
     ghost use Rattle.std.specs.Prelude.{false, is_some};
@@ -46,16 +46,13 @@ impl Keeper for FileKeeper {
     }
 
     fn take(&mut self, path: &str, fresh: bool) -> Result<Store<FileStore<Database>>, Held> {
-        let lock = locked(&self.rt, path, self.waits)?;
-        let store = opened(&self.rt, path, fresh)?;
+        let lock = locked(self.rt, path, self.waits)?;
+        let store = opened(self.rt, path, fresh)?;
         self.lock = Some(lock);
         Ok(store)
     }
 
-    fn put_back(
-        &mut self,
-        store: &mut Option<Store<FileStore<Database>>>,
-    ) -> Result<(), Refusal> {
+    fn put_back(&mut self, store: &mut Option<Store<FileStore<Database>>>) -> Result<(), Refusal> {
         let closed = match store.take() {
             Some(store) => store.release().close(),
             None => Ok(()),
@@ -92,21 +89,12 @@ fn locked(rt: &HostRuntime, path: &str, waits: bool) -> Result<File, Held> {
 }
 
 /// The store of a file whose lock is held. Only a new one makes the file where it is absent.
-fn opened(
-    rt: &HostRuntime,
-    path: &str,
-    fresh: bool,
-) -> Result<Store<FileStore<Database>>, Held> {
+fn opened(rt: &HostRuntime, path: &str, fresh: bool) -> Result<Store<FileStore<Database>>, Held> {
     if !fresh && is_absent(rt, path) {
         return Err(Held::Refused(Refusal::NotOurs));
     }
     let conn = Connection::open(rt, path).map_err(held_by_cause)?;
-    let made = if fresh {
-        Store::create(rt.alloc(), conn)
-    } else {
-        Store::open(rt.alloc(), conn)
-    };
-    match made {
+    match store_of(rt.alloc(), conn, fresh) {
         Ok(store) => Ok(store),
         Err((refusal, conn)) => {
             let _ = conn.close();

@@ -4,13 +4,16 @@ ghost use Rattle.sqlite.specs.Effect.{Database};
 ghost use Rattle.sqlite.specs.Held as sqlite;
 ghost use Rattle.sqlite.specs.Held.{state};
 ghost use Rattle.sqlite.specs.State.{HasCleanDisk};
+ghost use Rattle.mailstore.specs.Words.{StaysSame};
+ghost use Rattle.keepers.specs.Taken.{IsTaken};
 ghost use Rattle.mailstore.specs.Account.{no_accounts};
 ghost use Rattle.mailstore.specs.Shows.{Presents};
 ghost use Rattle.mailstore.specs.Refusals.{IsPassing};
 ghost use Rattle.mailstore.specs.Schema.{no_schema, mail_schema};
 
 use mailstore::{Refusal, Store};
-use sqlite::Alter;
+use sqlite::{Alter, Connection};
+use std::alloc::Global;
 
 /// Why no store is given out.
 #[derive(Clone, Copy, Debug, PartialEq, Eq)]
@@ -58,10 +61,7 @@ pub trait Keeper {
     /// `Busy` where another process has the store and there is no waiting; else why it can't be opened, or made. The
     /// tables stay as they are.
     fn take(&mut self, path: &str, fresh: bool) -> Result<Store<Self::S>, Held>
-        ensures opened { IfOk result (λ store. IsTrue tells → fresh ≡ false → (state Self.S.Store store).now ≡ holds self.old) }
-        ensures ours { IfOk result (λ store. IsTrue tells → fresh ≡ false → (holds self.old).schema ≡ mail_schema) }
-        ensures made { IfOk result (λ store. IsTrue tells → IsTrue fresh → Presents (state Self.S.Store store).now no_accounts) }
-        ensures blank { IfOk result (λ store. IsTrue tells → IsTrue fresh → (holds self.old).schema ≡ no_schema) }
+        ensures taken { IfOk result (λ store. IsTrue tells → IsTaken fresh (holds self.old) (state Self.S.Store store).now) }
         ensures refused { OnErr result (IsTrue tells → holds self.new ≡ holds self.old) }
         ensures out { OnOk result (IsTrue (is_out self.new)) }
         ensures kept { OnErr result (is_out self.new ≡ is_out self.old) };
@@ -91,4 +91,23 @@ pub trait Keeper {
 
     // Where it tells them, nothing shuts a store or makes it lie.
     ghost sure: { (held : sqlite.Held Self.S) → IsTrue tells → HasCleanDisk (state Self.S.Store held) × IsTrue (state Self.S.Store held).is_open };
+}
+
+/// The store of a database: the one that is there, or with `fresh` a new one.
+pub(crate) fn store_of<S: Alter + Drop>(
+    alloc: Global,
+    conn: Connection<S>,
+    fresh: bool,
+) -> Result<Store<S>, (Refusal, Connection<S>)>
+    ensures opened { IfOk result (λ store. HasCleanDisk (state S.Store store) → fresh ≡ false → StaysSame (state S.Store conn) (state S.Store store)) }
+    ensures ours { IfOk result (λ store. fresh ≡ false → conn.schema ≡ mail_schema) }
+    ensures made { IfOk result (λ store. HasCleanDisk (state S.Store store) → IsTrue fresh → Presents (state S.Store store).now no_accounts) }
+    ensures blank { IfOk result (λ store. IsTrue fresh → conn.schema ≡ no_schema) }
+    ensures refused { IfErr result (λ e. HasCleanDisk (state S.Store e.1) → StaysSame (state S.Store conn) (state S.Store e.1)) }
+{
+    if fresh {
+        Store::create(alloc, conn)
+    } else {
+        Store::open(alloc, conn)
+    }
 }

@@ -4,6 +4,8 @@
 mod file;
 mod keeper;
 mod memory;
+#[cfg(test)]
+mod tests;
 
 pub use file::FileKeeper;
 pub use keeper::{Held, Keeper};

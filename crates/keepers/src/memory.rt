@@ -1,5 +1,5 @@
 //! A keeper over memory, for tests.
-use crate::keeper::{Held, Keeper};
+use crate::keeper::{Held, Keeper, store_of};
 use mailstore::{Refusal, Store};
 use sqlite::{Connection, MemStore};
 use std::alloc::{AllocError, Global};
@@ -53,12 +53,7 @@ impl Keeper for MemoryKeeper {
         let Some(conn) = self.conn.take() else {
             return Err(Held::Busy);
         };
-        let made = if fresh {
-            Store::create(self.alloc, conn)
-        } else {
-            Store::open(self.alloc, conn)
-        };
-        match made {
+        match store_of(self.alloc, conn, fresh) {
             Ok(store) => Ok(store),
             Err((refusal, conn)) => {
                 self.conn = Some(conn);
