@@ -1,5 +1,6 @@
 pub mod Faults
 pub mod Framing
+pub mod Promise
 pub mod Reports
 pub mod Streams
 pub mod Trial

@@ -28,6 +28,11 @@ pub fn of_outcome(alloc: Global, outcome: &Outcome) -> Result<Octets, AllocError
     }
 }
 
+/// TEMP
+pub fn of_report(alloc: Global, report: &mailengine::Report) -> Result<Octets, AllocError> {
+    of_deeds(alloc, report.filed.as_slice(), &[], false)
+}
+
 /// The lines of what is done, or `discard`.
 fn of_deeds(
     alloc: Global,

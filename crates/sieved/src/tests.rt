@@ -1,12 +1,13 @@
 //! Whole runs, over readers and writers in memory; the language; the store.
+mod drive;
 pub mod engine;
 mod language;
 mod runs;
 mod store;
 mod upload;
 
-use crate::fault::Fault;
-use crate::trial::{refuse, try_run};
+use crate::fault::{Fault, refuse};
+use crate::trial::try_run;
 use mailengine::{Envelope, Outcome, attempt};
 use octets::{Octets, write_decimal};
 use std::alloc::{AllocError, Global};
@@ -91,6 +92,14 @@ impl Write for Takes {
     }
 }
 
+/// The envelope of no sender and no recipient.
+fn unaddressed(alloc: Global) -> Envelope {
+    Envelope {
+        from: Octets::new(alloc),
+        to: Octets::new(alloc),
+    }
+}
+
 /// What a run leaves.
 #[derive(Debug, Drop, PartialEq)]
 struct Left {
@@ -102,7 +111,7 @@ struct Left {
 fn run(alloc: Global, input: &[u8]) -> Left {
     let mut given = input;
     let (mut output, mut faults) = (Vec::new(alloc), Vec::new(alloc));
-    let status = try_run(alloc, &mut given, &mut output, &mut faults);
+    let status = try_run(alloc, unaddressed(alloc), &mut given, &mut output, &mut faults);
     Left {
         status,
         output,
@@ -285,7 +294,7 @@ fn tells_of_each_read_that_fails(rt: HostRuntime) -> Result<(), Fail> {
         };
         let (mut output, mut faults) = (Vec::new(alloc), Vec::new(alloc));
         assert_eq!(rt;
-            try_run(alloc, &mut input, &mut output, &mut faults),
+            try_run(alloc, unaddressed(alloc), &mut input, &mut output, &mut faults),
             75,
             "{calls}"
         );
@@ -297,7 +306,7 @@ fn tells_of_each_read_that_fails(rt: HostRuntime) -> Result<(), Fail> {
         waits: false,
     };
     let (mut output, mut faults) = (Vec::new(alloc), Vec::new(alloc));
-    assert_eq!(rt; try_run(alloc, &mut waiting, &mut output, &mut faults), 0);
+    assert_eq!(rt; try_run(alloc, unaddressed(alloc), &mut waiting, &mut output, &mut faults), 0);
     assert_eq!(rt; output.as_slice(), b"file a\nfile b\n".as_slice());
     Ok(())
 }
@@ -312,7 +321,7 @@ fn gives_up_after_forty_million_reads(rt: HostRuntime) {
         fails_as: ErrorKind::Interrupted,
     };
     let (mut output, mut faults) = (Vec::new(alloc), Vec::new(alloc));
-    assert_eq!(rt; try_run(alloc, &mut input, &mut output, &mut faults), 75);
+    assert_eq!(rt; try_run(alloc, unaddressed(alloc), &mut input, &mut output, &mut faults), 75);
     assert_eq!(rt; faults.as_slice(), FAILED);
 }
 
@@ -333,7 +342,7 @@ fn tells_of_each_write_that_fails(rt: HostRuntime) -> Result<(), Fail> {
             calls,
         };
         assert_eq!(rt;
-            try_run(alloc, &mut given, &mut output, &mut faults),
+            try_run(alloc, unaddressed(alloc), &mut given, &mut output, &mut faults),
             75,
             "{calls}"
         );
