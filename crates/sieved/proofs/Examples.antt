@@ -1,13 +1,10 @@
--- Framing and reports by example: right ones, and what is near them.
+-- Framing by example: right ones, and what is near them.
 use Prim.Native.Nat.{zero}
 use Rattle.std.proofs.Common.{true, false, suc, ◌<◌, get_or, refl, ◌≡◌, ◌≢◌, ℕ, List, [], ◌∷◌, ◌++◌, Option, Some, None, arith}
 use Rattle.std.specs.Prelude.{codes, length}
 use Rattle.octets.specs.Ascii.{is_digit}
 use Rattle.octets.specs.Decimal.{Writes, number_of}
-use Rattle.sievesyntax.specs.Meaning.{Outcome, Deeds, Done, Failed}
-use Rattle.sievesyntax.specs.SoFar.{TooManyRedirects}
 use Rattle.sieved.specs.Framing.{IsFramed}
-use Rattle.sieved.specs.Reports.{report_of}
 
 five-digits : (k d : ℕ) → k < 1 → is_digit (get_or (codes "5") k d) ≡ true
 five-digits zero d k<1 = refl
@@ -34,17 +31,3 @@ longer (d ∷ x ∷ more) w e = let feed : x ≡ 10 = cc in not_feed x feed (w.d
 
 framed-longer : IsFramed (codes "6\nkeep;") (codes "keep;") [] → ⊥
 framed-longer h = longer h.digits h.written h.spelled
-
--- nothing done is told by `discard`, and mailboxes by a line each
-report-nothing : report_of (Done (record { filed = []; sent = []; reply = None })) ≡ codes "discard\n"
-report-nothing = refl
-
-report-two : report_of (Done (record { filed = codes "lists" ∷ codes "INBOX" ∷ []; sent = []; reply = None })) ≡ codes "file lists\nfile INBOX\n"
-report-two = refl
-
--- beside a mailbox there is no `discard`
-report-beside : report_of (Done (record { filed = codes "INBOX" ∷ []; sent = []; reply = None })) ≡ codes "file INBOX\ndiscard\n" → ⊥
-report-beside e = cc
-
-report-failed : report_of (Failed TooManyRedirects) ≡ codes "failed: more than 16 redirects\n"
-report-failed = refl

@@ -1,6 +1,5 @@
 pub mod Faults
 pub mod Framing
 pub mod Promise
-pub mod Reports
 pub mod Streams
 pub mod Trial

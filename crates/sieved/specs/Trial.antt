@@ -16,7 +16,7 @@ use Rattle.sieved.specs.declared.answer.Answer.TheVariants.{Report, Refusal}
 use Rattle.sieved.specs.Faults.{status_of, line_of}
 use Rattle.sieved.specs.Framing.{IsFramed}
 use Rattle.sieved.specs.Streams.{AppendsFront}
-use Rattle.sieved.specs.Reports.{with_end, report_of}
+use Rattle.reportlines.specs.Reports.{with_end, report_of}
 
 -- the input has a valid script, and the text is the report on what it comes to on the message with the envelope
 pub record Reports (envelope : Envelope) (input text : List ℕ) : Type 0 where

@@ -4,9 +4,10 @@ ghost use Rattle.sieved.specs.Trial.{Answers, IsNoInput, text_in};
 ghost use Rattle.sieved.specs.Faults.{IsUnanswered};
 
 use crate::fault::Fault;
-use crate::{framing, report};
+use crate::framing;
 use mailengine::{Envelope, attempt};
 use octets::Octets;
+use reportlines::{of_fault, of_outcome};
 use sievelex::ScriptError;
 use std::alloc::Global;
 
@@ -37,8 +38,8 @@ pub fn answer_to(alloc: Global, envelope: Envelope, input: &[u8]) -> Result<Answ
 {
     let framed = framing::split(input).ok_or(Fault::BadInput)?;
     match attempt(alloc, framed.script, envelope, framed.message) {
-        Ok(outcome) => Ok(Answer::Report(report::of_outcome(alloc, &outcome)?)),
-        Err(ScriptError::Fault(fault)) => Ok(Answer::Refusal(report::of_fault(alloc, fault)?)),
+        Ok(outcome) => Ok(Answer::Report(of_outcome(alloc, &outcome)?)),
+        Err(ScriptError::Fault(fault)) => Ok(Answer::Refusal(of_fault(alloc, fault)?)),
         Err(ScriptError::Memory) => Err(Fault::Memory),
     }
 }

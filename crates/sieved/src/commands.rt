@@ -7,13 +7,13 @@ ghost use Rattle.sieved.specs.Faults.{IsFailure};
 ghost use Rattle.sieved.specs.Promise.{Brings, LeavesAll, LeavesAfter, LeavesNew, status_after};
 
 use crate::fault::Fault;
-use crate::report;
 use crate::stream::{read_all, write_all};
 use crate::values::{decimal, envelope_of, first_line, moment_of, salt_of};
 use keepers::Keeper;
 use mailengine::{Envelope, Report, deliver};
 use mailstore::{Folder, Store};
 use octets::{ListOf, Octets, Texts, write_decimal};
+use reportlines::of_report;
 use sievedwords::Place;
 use std::alloc::{AllocError, Global};
 use std::io::{Read, Write};
@@ -165,7 +165,7 @@ fn post<K: Keeper>(
 fn print_report<W: Write>(alloc: Global, report: &Report, output: &mut W) -> Result<(), Fault>
     ensures { IfErr result IsFailure }
 {
-    let text = report::of_report(alloc, report)?;
+    let text = of_report(alloc, report)?;
     write_all(output, text.as_slice())
 }
 

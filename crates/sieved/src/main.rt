@@ -6,7 +6,6 @@ mod commands;
 mod drive;
 mod fault;
 mod framing;
-mod report;
 mod stream;
 #[cfg(test)]
 mod tests;

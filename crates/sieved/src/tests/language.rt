@@ -2,7 +2,7 @@
 mod scripts;
 mod texts;
 
-use crate::report;
+use reportlines as report;
 use mailengine::{Envelope, attempt};
 use octets::Octets;
 use sievelex::ScriptError;

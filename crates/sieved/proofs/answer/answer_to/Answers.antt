@@ -1,7 +1,7 @@
 use Rattle.std.proofs.Common.{rules, ◌≡◌, ap, ◌∙◌}
 use Rattle.sieveexec.specs.Mails.{mail_of}
 use Rattle.sieveexec.specs.Outcomes.{outcome_at}
-use Rattle.sieved.specs.Reports.{report_of}
+use Rattle.reportlines.specs.Reports.{report_of}
 use Rattle.sieved.proofs.answer.answer_to.Goals as goal
 
 pub returns-in_ok-of_outcome-in-Ok-clause-answer :

@@ -1,8 +1,8 @@
 -- The text so far and the lines that are left are all the lines behind the text at first.
 use Rattle.std.proofs.Common.{◌≡◌, ◌++◌, drop, map}
 use Rattle.std.specs.List.{flat_map}
-use Rattle.sieved.specs.Reports.{with_end, file_line}
-use Rattle.sieved.proofs.report.add_mailboxes.Given as goal
+use Rattle.reportlines.specs.Reports.{with_end, file_line}
+use Rattle.reportlines.proofs.report.add_mailboxes.Given as goal
 
 abbrev pub invariant-loop-mailbox : goal.invariant-loop-mailbox
 invariant-loop-mailbox l =
