@@ -18,38 +18,37 @@ use Rattle.mailengine.specs.declared.event.Event.TheVariants.{Deliver}
 use Rattle.mailengine.specs.declared.answer.Answer.TheVariants.{Delivered}
 use Rattle.mailengine.specs.Limits.{cause_of}
 use Rattle.mailengine.specs.Delivered.{Files, active_text, delivered}
-use Rattle.mailengine.specs.World.{World, Next, SaysUnless, SaysTo}
+use Rattle.mailengine.specs.World.{World, Next, SaysDelivery}
 use Rattle.mailengine.specs.Stands.{Stands, Looks, IsEvent, MayLeave, delivery_told}
-use Rattle.mailengine.proofs.StandLemmas.{event_refused, own_refusal}
-use Rattle.mailengine.proofs.StepLemmas.{moved, Steps, event_made, stands_undone, step_crash}
+use Rattle.mailengine.proofs.StandLemmas.{delivery_refused, own_refusal}
+use Rattle.mailengine.proofs.StepLemmas.{turned, Steps, steps_user, event_made, stands_undone, step_crash}
 
 pub delivered_next : (w : World) (user : List ℕ) (envelope : Envelope) (message : List ℕ) (moment : ℕ) (report : Report) (a : Account) → cause_of envelope message moment ≡ None → get w.accounts user ≡ Some a
     → Files (active_text a) envelope message report.filed → Next w (Deliver user envelope message moment) (Delivered report) (record { accounts = with_user w.accounts user (delivered message report) })
 delivered_next w user envelope message moment report a is has files =
-    let event = Deliver user envelope message moment in
     let answer = Delivered report in
-    (inl (subst (λ o. SaysUnless o (get w.accounts user) event answer) (sym is) (subst (λ o. SaysTo o event answer) (sym has) (report, refl, record { filed = files }))), refl)
+    (inl (subst (λ o. SaysDelivery o (get w.accounts user) moment envelope message answer) (sym is) (subst (λ o. SaysDelivery None o moment envelope message answer) (sym has) (report, refl, record { filed = files }))), refl)
 
 module _ (a b c : State) (r : Result (Option (List ℕ)) Refusal) (text : Option (List ℕ)) (is : r ≡ Ok text) (looks : Looks a b r) (user : List ℕ) (envelope : Envelope) (message : List ℕ) (moment : ℕ)
     (none : cause_of envelope message moment ≡ None) (found : HasCleanDisk b → (w : World) → Stands a w → OfUser w.accounts user (λ o. text ≡ active_text o)) (copies : List (List ℕ)) (whole : List ℕ) (report : Report)
     (files : Files text envelope message report.filed) (all : copies ≡ report.filed) (same_message : whole ≡ message) (late : Survives b c (MayShow (HasUser user) (λ accounts. with_user accounts user (files_copies copies whole)) b)) where
-  steps : Steps (Deliver user envelope message moment) (Delivered report) (files_copies copies whole) (λ o. text ≡ active_text o)
-  steps w o has own =
+  steps : Steps (Deliver user envelope message moment) (Delivered report) (λ accounts. with_user accounts user (files_copies copies whole)) (HasUser user) (λ accounts. OfUser accounts user (λ o. text ≡ active_text o))
+  steps = steps_user (Deliver user envelope message moment) user (Delivered report) (files_copies copies whole) (λ o. text ≡ active_text o) (λ w o has own.
       let same : delivered message report ≡ files_copies copies whole = sym (ap (λ l. files_copies l whole) all ∙ ap (files_copies report.filed) same_message) in
-      subst (λ change. Next w (Deliver user envelope message moment) (Delivered report) (moved (Deliver user envelope message moment) change w)) same
-      (delivered_next w user envelope message moment report o none has (subst (λ t. Files t envelope message report.filed) own files))
+      subst (λ f. Next w (Deliver user envelope message moment) (Delivered report) (turned (λ accounts. with_user accounts user f) w)) same
+      (delivered_next w user envelope message moment report o none has (subst (λ t. Files t envelope message report.filed) own files)))
 
   pub event_delivered : (HasCleanDisk c → Turns (HasUser user) (λ accounts. with_user accounts user (files_copies copies whole)) b.now c.now) → IsEvent (Deliver user envelope message moment) (Delivered report) a c
-  event_delivered = event_made a b c r text is looks (Deliver user envelope message moment) (Delivered report) (files_copies copies whole) (λ o. text ≡ active_text o) found steps late
+  event_delivered = event_made a b c r text is looks (Deliver user envelope message moment) (Delivered report) (λ accounts. with_user accounts user (files_copies copies whole)) (HasUser user) (λ accounts. OfUser accounts user (λ o. text ≡ active_text o)) found steps late
 
   pub event_undone : (q : Result Report Refusal) → OnOk q ⊥ → (HasCleanDisk c → (accounts : Accounts) → Presents b.now accounts → StaysSame b c)
       → (HasCleanDisk c → (accounts : Accounts) → Presents b.now accounts → IfErr q (λ e. e ≡ NoUser → IsFree user accounts)) → IfErr q (λ e. (e ≡ NoUser) ⊎ IsPassing e) → IsEvent (Deliver user envelope message moment) (delivery_told q) a c
-  event_undone q undone same no_user named = event_refused a c (Deliver user envelope message moment) q undone none (λ clean w stands.
-      let m = stands_undone a b c r text is looks (Deliver user envelope message moment) (Delivered report) (files_copies copies whole) (λ o. text ≡ active_text o) found steps late same clean w stands in
+  event_undone q undone same no_user named = delivery_refused a c user envelope message moment q undone none (λ clean w stands.
+      let m = stands_undone a b c r text is looks (Deliver user envelope message moment) (Delivered report) (λ accounts. with_user accounts user (files_copies copies whole)) (HasUser user) (λ accounts. OfUser accounts user (λ o. text ≡ active_text o)) found steps late same clean w stands in
       (own_refusal q w.accounts user (no_user clean w.accounts m.0) named, m.1))
 
   pub delivery_crash : Survives a c (MayLeave (Deliver user envelope message moment) a)
-  delivery_crash = step_crash a b c r text is looks (Deliver user envelope message moment) (Delivered report) (files_copies copies whole) (λ o. text ≡ active_text o) found steps late
+  delivery_crash = step_crash a b c r text is looks (Deliver user envelope message moment) (Delivered report) (λ accounts. with_user accounts user (files_copies copies whole)) (HasUser user) (λ accounts. OfUser accounts user (λ o. text ≡ active_text o)) found steps late
 
 -- a text behind a reference is the text
 pub contents_is : (o : Option (Bor (List ℕ))) → contents o ≡ option_copied o

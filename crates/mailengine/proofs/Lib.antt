@@ -5,5 +5,6 @@ pub mod RunLemmas
 pub mod SoundLemmas
 pub mod StandLemmas
 pub mod StepLemmas
+pub mod UserLemmas
 pub mod ViewLemmas
 pub mod WholeLemmas

@@ -3,7 +3,7 @@ use Rattle.std.proofs.Common.{◌≡◌, ◌≢◌, ◌⊎◌, ℕ, ◌+◌, ◌
 use Rattle.std.specs.declared.cmp.Ordering.{Ordering}
 use Rattle.std.specs.declared.cmp.Ordering.TheVariants.{Less, Equal, Greater}
 use Rattle.std.specs.Ordering.{is_eq}
-use Rattle.std.specs.FinMap.{FinMap, get, insert, len, contains_key, get-insert, len-insert}
+use Rattle.std.specs.FinMap.{FinMap, get, insert, len, contains_key, get-empty, get-insert, len-empty, len-insert}
 use Rattle.std.proofs.lemmas.Cmp.{nat_list_cmp_total}
 use Rattle.sqlite.specs.State.{State}
 use Rattle.msproto.specs.declared.commands.Command.{Command}
@@ -13,14 +13,15 @@ use Rattle.msproto.specs.declared.replies.Code.{Code}
 use Rattle.msproto.specs.Replies.{spelled}
 use Rattle.mailstore.specs.Account.{bytes_cmp, Account, Accounts, Folders, keeps_script, activates, messages_in, filed, filed_in, files_copies, in_place, with_user}
 use Rattle.mailstore.proofs.AccountLemmas.{bytes_antisymmetric}
+use Rattle.mailstore.specs.declared.refusal.Refusal.{Refusal}
 use Rattle.mailengine.specs.declared.event.Event.{Event}
-use Rattle.mailengine.specs.declared.event.Event.TheVariants.{Deliver, Whole}
+use Rattle.mailengine.specs.declared.event.Event.TheVariants.{Deliver, AddUser, Whole}
 use Rattle.mailengine.specs.declared.answer.Answer.{Answer}
-use Rattle.mailengine.specs.declared.answer.Answer.TheVariants.{Out, Delivered, Refused}
-use Rattle.mailengine.specs.Limits.{scripts_limit}
+use Rattle.mailengine.specs.declared.answer.Answer.TheVariants.{Out, Delivered, Added, Refused}
+use Rattle.mailengine.specs.Limits.{scripts_limit, IsNewUser}
 use Rattle.mailengine.specs.Delivered.{delivered}
 use Rattle.mailengine.specs.Obeyed.{declined, is_ok, HasRoom, RepliesToPut, RepliesToSet, RepliesTo, chosen, obeyed, whole_of}
-use Rattle.mailengine.specs.World.{World, Says, IsRefused, SaysTo, SaysOwn, after, Next, Runs}
+use Rattle.mailengine.specs.World.{World, Says, SaysCommand, IsRefused, added, after, Next, Runs}
 use Rattle.mailengine.specs.Stands.{IsRun}
 use Rattle.mailengine.specs.Sound.{IsSoundScript, IsSound, AreSound, KeepsSound}
 use Rattle.mailstore.proofs.OneLemmas.{accounts_one}
@@ -69,10 +70,11 @@ filled_in message (name ∷ names) folders full = filled_in message names (filed
 
 module _ (a : Account) (own : IsSound a) where
   pub sound_filed : (message : List ℕ) (names : List (List ℕ)) → IsSound (files_copies names message a)
-  sound_filed message names = record { scripts = own.scripts; few = own.few; active = own.active; filled = filled_in message names a.folders own.filled }
+  sound_filed message names = record { address = own.address; scripts = own.scripts; few = own.few; active = own.active; filled = filled_in message names a.folders own.filled }
 
   pub sound_put : (name text : List ℕ) → IsSoundScript name text → HasRoom a name → IsSound (keeps_script name text a)
   sound_put name text new room = record {
+    address = own.address;
     scripts = λ n t is. each n t (inserted a.scripts name text n t is);
     few = few_more a.scripts name text scripts_limit room own.few;
     active = still a.active own.active;
@@ -88,7 +90,7 @@ module _ (a : Account) (own : IsSound a) where
       still (Some n) h = still_there a.scripts name text n h
 
   pub sound_set : (name : List ℕ) → (name ≡ []) ⊎ IsSome (get a.scripts name) → IsSound (activates (chosen name) a)
-  sound_set name known = record { scripts = own.scripts; few = own.few; active = there name known; filled = own.filled }
+  sound_set name known = record { address = own.address; scripts = own.scripts; few = own.few; active = there name known; filled = own.filled }
     where
       there : (n : List ℕ) → (n ≡ []) ⊎ IsSome (get a.scripts n) → IfSome (chosen n) (λ m. IsSome (get a.scripts m))
       there [] h = tt
@@ -138,16 +140,52 @@ sound_with accounts user change sound keeps = go (get accounts user) refl
     go None has = sound
     go (Some a) has = λ other b is. one a has other b (inserted accounts user (change a) other b is)
 
-sound_after : (w : World) (event : Event) (answer : Answer) → AreSound w.accounts → Says w event answer ⊎ IsRefused w event answer → AreSound (after w event answer).accounts
+-- an account that was just added
+sound_new : (name address salt password : List ℕ) → IsNewUser name address password → IsSound (added address salt password)
+sound_new name address salt password new = record {
+  address = new.addressed;
+  scripts = λ script text is. absurd (none_some text (sym (get-empty bytes_cmp script) ∙ is));
+  few = let none : len (added address salt password).scripts ≡ 0 = len-empty bytes_cmp (List ℕ) in omega arith;
+  active = tt;
+  filled = λ folder is. none_some {X = List (List ℕ)} [] (sym (get-empty bytes_cmp folder) ∙ is);
+}
+  where
+    none_some : {X : Type 0} (x : X) → None ≡ Some x → ⊥
+    none_some x is = cc
+
+-- where an account that is sound is added, or put in place of another, all accounts are
+sound_more : (accounts : Accounts) (user : List ℕ) (a : Account) → AreSound accounts → IsSound a → AreSound (insert accounts user a)
+sound_more accounts user a sound own other b is = go (inserted accounts user a other b is)
+  where
+    go : ((other ≡ user) × (a ≡ b)) ⊎ (get accounts other ≡ Some b) → IsSound b
+    go (inl new) = subst IsSound new.1 own
+    go (inr old) = sound other b old
+
+-- an answer of one kind isn't one of another
+not_added : (refusal : Refusal) → Added ≡ Refused refusal → ⊥
+not_added refusal is = cc
+
+sound_added : (w : World) (name address salt password : List ℕ) → AreSound w.accounts → Says w (AddUser name address salt password) Added ⊎ IsRefused (AddUser name address salt password) Added
+    → AreSound (insert w.accounts name (added address salt password))
+sound_added w name address salt password sound (inl (inl (new, told))) = sound_more w.accounts name (added address salt password) sound (sound_new name address salt password new)
+sound_added w name address salt password sound (inl (inr (bad, told))) = absurd (not_added _ told)
+sound_added w name address salt password sound (inr refused) = absurd (not_added refused.0 refused.1)
+
+sound_after : (w : World) (event : Event) (answer : Answer) → AreSound w.accounts → Says w event answer ⊎ IsRefused event answer → AreSound (after w event answer).accounts
 sound_after w event (Refused refusal) sound told = sound
 sound_after w (Deliver user envelope message moment) (Delivered report) sound told = sound_with w.accounts user (delivered message report) sound (λ a has own. sound_filed a own message report.filed)
-sound_after w (Deliver user envelope message moment) (Out progress octets) sound told = sound_with w.accounts user (λ a. a) sound (λ a has own. own)
-sound_after w (Whole user bytes) (Delivered report) sound told = sound_with w.accounts user (λ a. a) sound (λ a has own. own)
+sound_after w (Deliver user envelope message moment) (Out progress octets) sound told = sound
+sound_after w (Deliver user envelope message moment) Added sound told = sound
+sound_after w (AddUser name address salt password) Added sound told = sound_added w name address salt password sound told
+sound_after w (AddUser name address salt password) (Delivered report) sound told = sound
+sound_after w (AddUser name address salt password) (Out progress octets) sound told = sound
+sound_after w (Whole user bytes) (Delivered report) sound told = sound
+sound_after w (Whole user bytes) Added sound told = sound
 sound_after w (Whole user bytes) (Out progress octets) sound told = sound_with w.accounts user (obeyed (whole_of bytes) (is_ok octets)) sound (λ a has own. go a has own told)
   where
-    go : (a : Account) → get w.accounts user ≡ Some a → IsSound a → Says w (Whole user bytes) (Out progress octets) ⊎ IsRefused w (Whole user bytes) (Out progress octets) → IsSound (obeyed (whole_of bytes) (is_ok octets) a)
+    go : (a : Account) → get w.accounts user ≡ Some a → IsSound a → Says w (Whole user bytes) (Out progress octets) ⊎ IsRefused (Whole user bytes) (Out progress octets) → IsSound (obeyed (whole_of bytes) (is_ok octets) a)
     go a has own (inl says) =
-        let told : SaysOwn a (Whole user bytes) (Out progress octets) = subst (λ o. SaysTo o (Whole user bytes) (Out progress octets)) has says in
+        let told : SaysCommand (Some a) (whole_of bytes) (Out progress octets) = subst (λ o. SaysCommand o (whole_of bytes) (Out progress octets)) has says in
         let is : Out progress octets ≡ Out _ (spelled told.0) = told.1 in
         let same : octets ≡ spelled told.0 = cc in
         subst (λ o. IsSound (obeyed (whole_of bytes) (is_ok o) a)) (sym same) (sound_obeyed a own (whole_of bytes) told.0 told.2)

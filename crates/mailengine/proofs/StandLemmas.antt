@@ -13,9 +13,14 @@ use Rattle.mailstore.specs.Calls.{IsFree, KeepsTables, IsOpenOnOk, LosesNothing}
 use Rattle.mailstore.specs.Refusals.{IsPassing}
 use Rattle.mailstore.proofs.WriteLemmas.{clean_before}
 use Rattle.mailstore.proofs.ResultLemmas.{on_ok}
+use Rattle.sieveexec.specs.declared.envelope.Envelope.{Envelope}
 use Rattle.mailengine.specs.declared.event.Event.{Event}
+use Rattle.mailengine.specs.declared.event.Event.TheVariants.{Deliver, Whole}
+use Rattle.mailengine.specs.declared.answer.Answer.{Answer}
+use Rattle.mailengine.specs.Limits.{cause_of}
+use Rattle.mailengine.specs.Obeyed.{whole_of}
 use Rattle.mailengine.specs.declared.answer.Answer.TheVariants.{Refused}
-use Rattle.mailengine.specs.World.{World, Next, SaysUnless, SaysTo, MayRefuse, refusal_in, user_of}
+use Rattle.mailengine.specs.World.{World, Says, SaysDelivery, SaysCommand, Next, MayLack, MayFail, MayRefuse}
 use Rattle.mailengine.specs.Stands.{Stands, Looks, Reads, IsOwn, IsEvent, MayLeave, delivery_told, command_told}
 
 -- ---- reads
@@ -89,30 +94,50 @@ own_refusal (Err e) accounts user absent (inr passing) = inr passing
 
 -- ---- refused events
 
-pub denied_next : (w : World) (event : Event) (e : Refusal) → refusal_in event ≡ Some e → Next w event (Refused e) w
-denied_next w event e is = (inl (subst (λ o. SaysUnless o (get w.accounts (user_of event)) event (Refused e)) (sym is) refl), refl)
+-- a delivery that a cause of its own stands against
+pub denied_next : (w : World) (user : List ℕ) (envelope : Envelope) (message : List ℕ) (moment : ℕ) (e : Refusal) → cause_of envelope message moment ≡ Some e → Next w (Deliver user envelope message moment) (Refused e) w
+denied_next w user envelope message moment e is = (inl (subst (λ o. SaysDelivery o (get w.accounts user) moment envelope message (Refused e)) (sym is) refl), refl)
 
-pub refused_next : (w : World) (event : Event) (e : Refusal) → refusal_in event ≡ None → IsOwn w.accounts (user_of event) e → Next w event (Refused e) w
-refused_next w event e is (inl none) =
-    (inl (subst (λ o. SaysUnless o (get w.accounts (user_of event)) event (Refused e)) (sym is) (subst (λ o. SaysTo o event (Refused e)) (sym none.1) (ap Refused none.0))), refl)
-refused_next w event e is (inr (inl memory)) =
-    (inr (e, refl, subst (MayRefuse w event) (sym memory) (subst (λ (o : Option Refusal). IsTrue (is_none o)) (sym is) refl)), refl)
-refused_next w event e is (inr (inr store)) =
-    (inr (e, refl, subst (MayRefuse w event) (sym store) (subst (λ (o : Option Refusal). IsTrue (is_none o)) (sym is) refl)), refl)
+pub event_denied : (a : State) (user : List ℕ) (envelope : Envelope) (message : List ℕ) (moment : ℕ) (e : Refusal) → cause_of envelope message moment ≡ Some e → IsEvent (Deliver user envelope message moment) (Refused e) a a
+event_denied a user envelope message moment e is clean w stands = (w, denied_next w user envelope message moment e is, stands)
 
-pub event_denied : (a : State) (event : Event) (e : Refusal) → refusal_in event ≡ Some e → IsEvent event (Refused e) a a
-event_denied a event e is clean w stands = (w, denied_next w event e is, stands)
+-- a refusal for memory, or by the store
+pub passing_next : (w : World) (event : Event) (e : Refusal) → MayLack event → MayFail event → IsPassing e → Next w event (Refused e) w
+passing_next w event e lack fail (inl memory) = (inr (e, refl, subst (MayRefuse event) (sym memory) lack), refl)
+passing_next w event e lack fail (inr store) = (inr (e, refl, subst (MayRefuse event) (sym store) fail), refl)
+
+-- an event of a user who has no account
+abbrev pub LacksUser : Event → List ℕ → Type 0
+LacksUser event user = (w : World) → get w.accounts user ≡ None → Says w event (Refused NoUser)
+
+pub refused_next : (w : World) (event : Event) (user : List ℕ) (e : Refusal) → MayLack event → MayFail event → LacksUser event user → IsOwn w.accounts user e → Next w event (Refused e) w
+refused_next w event user e lack fail lacks (inl none) = (inl (subst (λ f. Says w event (Refused f)) (sym none.0) (lacks w none.1)), refl)
+refused_next w event user e lack fail lacks (inr passing) = passing_next w event e lack fail passing
 
 -- reads alone, and a refusal
-pub event_refused : (a c : State) (event : Event) (q : Result Report Refusal) → OnOk q ⊥ → refusal_in event ≡ None
-    → (HasCleanDisk c → (w : World) → Stands a w → IfErr q (IsOwn w.accounts (user_of event)) × Stands c w) → IsEvent event (delivery_told q) a c
-event_refused a c event (Ok x) none is kept = absurd none
-event_refused a c event (Err e) none is kept = λ clean w stands. let k = kept clean w stands in (w, refused_next w event e is k.0, k.1)
+pub event_refused : {X : Type 0} (told : Result X Refusal → Answer) → ((e : Refusal) → told (Err e) ≡ Refused e) → (a c : State) (event : Event) (user : List ℕ) (q : Result X Refusal) → OnOk q ⊥
+    → MayLack event → MayFail event → LacksUser event user → (HasCleanDisk c → (w : World) → Stands a w → IfErr q (IsOwn w.accounts user) × Stands c w) → IsEvent event (told q) a c
+event_refused told tells a c event user (Ok x) none lack fail lacks kept = absurd none
+event_refused told tells a c event user (Err e) none lack fail lacks kept = λ clean w stands.
+    let k = kept clean w stands in
+    (w, subst (λ o. Next w event o w) (sym (tells e)) (refused_next w event user e lack fail lacks k.0), k.1)
 
-pub command_refused : (a c : State) (event : Event) (q : Result (List ℕ) Refusal) → OnOk q ⊥ → refusal_in event ≡ None
-    → (HasCleanDisk c → (w : World) → Stands a w → IfErr q (IsOwn w.accounts (user_of event)) × Stands c w) → IsEvent event (command_told q) a c
-command_refused a c event (Ok x) none is kept = absurd none
-command_refused a c event (Err e) none is kept = λ clean w stands. let k = kept clean w stands in (w, refused_next w event e is k.0, k.1)
+-- a delivery, and a command, to a user who has no account
+pub delivery_lacks : (user : List ℕ) (envelope : Envelope) (message : List ℕ) (moment : ℕ) → cause_of envelope message moment ≡ None → LacksUser (Deliver user envelope message moment) user
+delivery_lacks user envelope message moment none w free =
+    subst (λ o. SaysDelivery o (get w.accounts user) moment envelope message (Refused NoUser)) (sym none) (subst (λ o. SaysDelivery None o moment envelope message (Refused NoUser)) (sym free) refl)
+
+pub command_lacks : (user bytes : List ℕ) → LacksUser (Whole user bytes) user
+command_lacks user bytes w free = subst (λ o. SaysCommand o (whole_of bytes) (Refused NoUser)) (sym free) refl
+
+-- a refused delivery, and a refused command
+pub delivery_refused : (a c : State) (user : List ℕ) (envelope : Envelope) (message : List ℕ) (moment : ℕ) (q : Result Report Refusal) → OnOk q ⊥ → cause_of envelope message moment ≡ None
+    → (HasCleanDisk c → (w : World) → Stands a w → IfErr q (IsOwn w.accounts user) × Stands c w) → IsEvent (Deliver user envelope message moment) (delivery_told q) a c
+delivery_refused a c user envelope message moment q undone none = event_refused delivery_told (λ e. refl) a c (Deliver user envelope message moment) user q undone none none (delivery_lacks user envelope message moment none)
+
+pub command_refused : (a c : State) (user bytes : List ℕ) (q : Result (List ℕ) Refusal) → OnOk q ⊥
+    → (HasCleanDisk c → (w : World) → Stands a w → IfErr q (IsOwn w.accounts user) × Stands c w) → IsEvent (Whole user bytes) (command_told q) a c
+command_refused a c user bytes q undone = event_refused command_told (λ e. refl) a c (Whole user bytes) user q undone tt tt (command_lacks user bytes)
 
 pub own_passing : {X : Type 0} (q : Result X Refusal) (accounts : Accounts) (user : List ℕ) → IfErr q IsPassing → IfErr q (IsOwn accounts user)
 own_passing (Ok x) accounts user h = tt

@@ -1,5 +1,5 @@
--- An event of one user that is reads, and then one write: or reads alone.
-use Rattle.std.proofs.Common.{◌≡◌, Some, Ok, Result, IsSome, IsTrue, refl, sym, subst}
+-- An event that is reads, and then one write: or reads alone.
+use Rattle.std.proofs.Common.{◌≡◌, ℕ, List, Some, Ok, Result, IsSome, IsTrue, refl, sym, subst}
 use Rattle.std.specs.FinMap.{get}
 use Rattle.sqlite_trees.specs.Tree.{Trees}
 use Rattle.sqlite.specs.State.{State, HasCleanDisk, Survives}
@@ -11,17 +11,25 @@ use Rattle.mailstore.specs.Calls.{HasUser, OfUser, Turns, MayShow}
 use Rattle.mailstore.proofs.WriteLemmas.{clean_before}
 use Rattle.mailengine.specs.declared.event.Event.{Event}
 use Rattle.mailengine.specs.declared.answer.Answer.{Answer}
-use Rattle.mailengine.specs.World.{World, Next, user_of}
+use Rattle.mailengine.specs.World.{World, Next}
 use Rattle.mailengine.specs.Stands.{Stands, Looks, IsEvent, MayLeave}
 use Rattle.mailengine.proofs.StandLemmas.{mid_presents, same_then}
 
--- the world in which the event's user has another account
-abbrev pub moved : Event → (Account → Account) → World → World
-moved event change w = record { accounts = with_user w.accounts (user_of event) change }
+-- the world with the accounts changed
+abbrev pub turned : (Accounts → Accounts) → World → World
+turned change w = record { accounts = change w.accounts }
 
--- what the reads found of the user's account makes the event with this answer a step
-abbrev pub Steps : Event → Answer → (Account → Account) → (Account → Type 0) → Type 0
-Steps event answer change P = (w : World) (a : Account) → get w.accounts (user_of event) ≡ Some a → P a → Next w event answer (moved event change w)
+-- accounts of which this was found fit the write, and the event with this answer makes this of them
+abbrev pub Steps : Event → Answer → (Accounts → Accounts) → (Accounts → Type 0) → (Accounts → Type 0) → Type 0
+Steps event answer change Fit P = (w : World) → P w.accounts → Fit w.accounts × Next w event answer (turned change w)
+
+-- what was found of one user's account makes the event with this answer a change of that account
+abbrev pub StepsUser : Event → List ℕ → Answer → (Account → Account) → (Account → Type 0) → Type 0
+StepsUser event user answer change P = (w : World) (a : Account) → get w.accounts user ≡ Some a → P a → Next w event answer (turned (λ accounts. with_user accounts user change) w)
+
+pub steps_user : (event : Event) (user : List ℕ) (answer : Answer) (change : Account → Account) (P : Account → Type 0) → StepsUser event user answer change P
+    → Steps event answer (λ accounts. with_user accounts user change) (HasUser user) (λ accounts. OfUser accounts user P)
+steps_user event user answer change P steps w own = (subst IsSome (sym own.1) refl, steps w own.0 own.1 own.2)
 
 -- reads, and a write that is undone
 pub undone_then : {X E : Type 0} (a b c : State) (r : Result X E) (x : X) → r ≡ Ok x → Looks a b r → {P : Trees → Type 0} → Survives b c P → (HasCleanDisk c → (accounts : Accounts) → Presents b.now accounts → StaysSame b c)
@@ -31,21 +39,20 @@ undone_then a b c r x is looks late same clean accounts p =
     let shown = mid_presents a b r x is looks before (record { accounts = accounts }) (λ o. p) in
     same_then a b c shown.1 (looks.same before accounts p) (same clean accounts shown.2)
 
-module _ {X E : Type 0} (a b c : State) (r : Result X E) (x : X) (is : r ≡ Ok x) (looks : Looks a b r) (event : Event) (answer : Answer) (change : Account → Account) (P : Account → Type 0)
-    (found : HasCleanDisk b → (w : World) → Stands a w → OfUser w.accounts (user_of event) P) (steps : Steps event answer change P)
-    (late : Survives b c (MayShow (HasUser (user_of event)) (λ accounts. with_user accounts (user_of event) change) b)) where
+module _ {X E : Type 0} (a b c : State) (r : Result X E) (x : X) (is : r ≡ Ok x) (looks : Looks a b r) (event : Event) (answer : Answer) (change : Accounts → Accounts) (Fit P : Accounts → Type 0)
+    (found : HasCleanDisk b → (w : World) → Stands a w → P w.accounts) (steps : Steps event answer change Fit P) (late : Survives b c (MayShow Fit change b)) where
   -- what the tables show between the reads and the write
-  mid : HasCleanDisk c → (w : World) → Stands a w → IsTrue b.is_open × Presents b.now w.accounts × HasUser (user_of event) w.accounts × Next w event answer (moved event change w)
+  mid : HasCleanDisk c → (w : World) → Stands a w → IsTrue b.is_open × Presents b.now w.accounts × Fit w.accounts × Next w event answer (turned change w)
   mid clean w stands =
       let before = clean_before b c _ late clean in
       let shown = mid_presents a b r x is looks before w stands in
-      let own = found before w stands in
-      (shown.1, shown.2, subst IsSome (sym own.1) refl, steps w own.0 own.1 own.2)
+      let step = steps w (found before w stands) in
+      (shown.1, shown.2, step.0, step.1)
 
-  pub event_made : (HasCleanDisk c → Turns (HasUser (user_of event)) (λ accounts. with_user accounts (user_of event) change) b.now c.now) → IsEvent event answer a c
+  pub event_made : (HasCleanDisk c → Turns Fit change b.now c.now) → IsEvent event answer a c
   event_made made clean w stands =
       let m = mid clean w stands in
-      (moved event change w, m.3, λ is_open. made clean w.accounts m.1 m.2)
+      (turned change w, m.3, λ is_open. made clean w.accounts m.1 m.2)
 
   -- where the write is undone, the tables show the world as it was
   pub stands_undone : (HasCleanDisk c → (accounts : Accounts) → Presents b.now accounts → StaysSame b c) → HasCleanDisk c → (w : World) → Stands a w → Presents b.now w.accounts × Stands c w
@@ -58,4 +65,4 @@ module _ {X E : Type 0} (a b c : State) (r : Result X E) (x : X) (is : r ≡ Ok 
       (λ clean db may w p.
       let m = mid clean w (λ o. p) in
       let left = may w.accounts m.1 m.2 in
-      (left.0, answer, moved event change w, m.3, left.1, left.2)) looks.crash late
+      (left.0, answer, turned change w, m.3, left.1, left.2)) looks.crash late

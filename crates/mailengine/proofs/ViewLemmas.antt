@@ -15,7 +15,7 @@ use Rattle.mailengine.specs.World.{World}
 use Rattle.mailengine.specs.Stands.{Stands, Looks, Reads, IsOwn}
 use Rattle.mailengine.proofs.StandLemmas.{mid_presents, own_refusal}
 
-if_is : {X E : Type 0} (r : Result X E) (x : X) → r ≡ Ok x → (P : X → Type 0) → IfOk r P → P x
+pub if_is : {X E : Type 0} (r : Result X E) (x : X) → r ≡ Ok x → (P : X → Type 0) → IfOk r P → P x
 if_is (Ok y) x is P h = let same : y ≡ x = cc in subst P same h
 if_is (Err e) x is P h = absurd (let same = is in cc)
 

@@ -10,17 +10,17 @@ use Rattle.std.proofs.lemmas.Cmp.{nat_list_cmp_total}
 use Rattle.sqlite.specs.State.{State, HasCleanDisk}
 use Rattle.msproto.specs.declared.commands.Command.{Command}
 use Rattle.mailstore.specs.Account.{Account, Accounts, bytes_cmp, with_user, in_place}
-use Rattle.mailstore.specs.Calls.{OfUser}
+use Rattle.mailstore.specs.Calls.{HasUser, OfUser}
 use Rattle.mailstore.proofs.AccountLemmas.{bytes_antisymmetric}
 use Rattle.mailengine.specs.declared.event.Event.TheVariants.{Whole}
 use Rattle.mailengine.specs.declared.answer.Answer.TheVariants.{Out}
 use Rattle.mailengine.specs.declared.answer.Progress.TheVariants.{Done}
 use Rattle.mailengine.specs.declared.obey.Told.{Told}
 use Rattle.mailengine.specs.Obeyed.{RepliesTo, carried_out, obeyed, is_ok, whole_of}
-use Rattle.mailengine.specs.World.{World, Next, SaysTo}
+use Rattle.mailengine.specs.World.{World, Next, SaysCommand}
 use Rattle.mailengine.specs.Stands.{Stands, Looks, IsEvent, command_in}
 use Rattle.mailengine.specs.Told.{AreNames, IsTold}
-use Rattle.mailengine.proofs.StepLemmas.{moved, Steps}
+use Rattle.mailengine.proofs.StepLemmas.{turned, Steps, StepsUser, steps_user}
 
 -- a command behind a reference is the command
 pub command_is : (o : Option (Bor Command)) → command_in o ≡ option_copied o
@@ -41,21 +41,23 @@ untouched accounts user = go (get accounts user) refl
         at q Greater tie = refl
 
 module _ (user bytes : List ℕ) (names : List (List ℕ)) (command : Option Command) (is : whole_of bytes ≡ command) (told : Told) (tells : IsTold names command told) where
-  told_steps : Steps (Whole user bytes) (Out Done told.octets) (obeyed (whole_of bytes) (is_ok told.octets)) (AreNames names)
+  told_steps : StepsUser (Whole user bytes) user (Out Done told.octets) (obeyed (whole_of bytes) (is_ok told.octets)) (AreNames names)
   told_steps w a has are =
       let said = tells.replies a are in
-      (inl (subst (λ o. SaysTo o (Whole user bytes) (Out Done told.octets)) (sym has) (said.0, ap (Out Done) said.1, subst (λ o. RepliesTo a o said.0) (sym is) said.2)), refl)
+      (inl (subst (λ o. SaysCommand o (whole_of bytes) (Out Done told.octets)) (sym has) (said.0, ap (Out Done) said.1, subst (λ o. RepliesTo a o said.0) (sym is) said.2)), refl)
 
-  pub accepted_steps : told.accepted ≡ true → Steps (Whole user bytes) (Out Done told.octets) (carried_out command) (AreNames names)
+  pub accepted_steps : told.accepted ≡ true
+      → Steps (Whole user bytes) (Out Done told.octets) (λ accounts. with_user accounts user (carried_out command)) (HasUser user) (λ accounts. OfUser accounts user (AreNames names))
   accepted_steps accepted =
       let same : obeyed (whole_of bytes) (is_ok told.octets) ≡ carried_out command = ap (obeyed (whole_of bytes)) (sym tells.accepted_is ∙ accepted) ∙ ap carried_out is in
-      subst (λ change. Steps (Whole user bytes) (Out Done told.octets) change (AreNames names)) same told_steps
+      steps_user (Whole user bytes) user (Out Done told.octets) (carried_out command) (AreNames names)
+      (subst (λ change. StepsUser (Whole user bytes) user (Out Done told.octets) change (AreNames names)) same told_steps)
 
   pub declined_event : {X E : Type 0} (a b : State) (r : Result X E) → Looks a b r → (HasCleanDisk b → (w : World) → Stands a w → OfUser w.accounts user (AreNames names)) → told.accepted ≡ false
       → IsEvent (Whole user bytes) (Out Done told.octets) a b
   declined_event a b r looks found declined clean w stands =
       let own = found clean w stands in
-      let same : moved (Whole user bytes) (obeyed (whole_of bytes) (is_ok told.octets)) w ≡ w =
+      let same : turned (λ accounts. with_user accounts user (obeyed (whole_of bytes) (is_ok told.octets))) w ≡ w =
       ap (λ (accounts : Accounts). let next : World = record { accounts = accounts } in next)
       (ap (λ ok. with_user w.accounts user (obeyed (whole_of bytes) ok)) (sym tells.accepted_is ∙ declined) ∙ untouched w.accounts user) in
       (w, subst (Next w (Whole user bytes) (Out Done told.octets)) same (told_steps w own.0 own.1 own.2), looks.stands clean w stands)

@@ -1,7 +1,10 @@
 -- What the engine takes: sizes, names and moments.
-use Rattle.std.specs.Prelude.{◌≡◌, ℕ, ◌≤◌, Bool, false, cond, not, ◌&&◌, ◌||◌, ◌==◌, nat_le, nat_lt, List, length, Option, Some, None}
-use Rattle.std.specs.List.{list_any}
+use Rattle.std.specs.Prelude.{◌≡◌, ℕ, ◌≤◌, Bool, true, false, cond, not, ◌&&◌, ◌||◌, ◌==◌, nat_le, nat_lt, List, length, Option, Some, None}
+use Rattle.std.specs.List.{list_all, list_any}
 use Rattle.std.specs.Str.{IsUtf8, chars}
+use Rattle.octets.specs.Ascii.{is_letter, is_digit}
+use Rattle.addrparts.specs.declared.address.Addr.{Addr}
+use Rattle.addrparts.specs.Outbound.{IsBareAddress}
 use Rattle.mailstore.specs.declared.refusal.Refusal.{Refusal}
 use Rattle.mailstore.specs.declared.refusal.Refusal.TheVariants.{TooLarge, BadEnvelope, BadMoment}
 use Rattle.sieveexec.specs.declared.envelope.Envelope.{Envelope}
@@ -26,6 +29,30 @@ pub record IsScriptName (name : List ℕ) : Type 0 where
   pub present : 1 ≤ length (chars name)
   pub short : length (chars name) ≤ 128
   pub allowed : list_any is_barred (chars name) ≡ false
+
+-- ---- accounts
+
+-- an octet of a user's name: a letter, a digit, or one of `. _ - @`
+abbrev pub is_name_octet : ℕ → Bool
+is_name_octet octet = is_letter octet || is_digit octet || octet == 46 || octet == 95 || octet == 45 || octet == 64
+
+-- a user's name: 1 to 64 of these
+abbrev pub is_user_name : List ℕ → Bool
+is_user_name name = nat_le 1 (length name) && nat_le (length name) 64 && list_all is_name_octet name
+
+-- a password: 1 to 1024 octets without NUL (RFC 4616, 2)
+abbrev pub is_password : List ℕ → Bool
+is_password password = nat_le 1 (length password) && nat_le (length password) 1024 && not (list_any (λ octet. octet == 0) password)
+
+-- a user's own address: an addr-spec without display (RFC 5322, 3.4.1)
+abbrev pub IsOwnAddress : List ℕ → Type 0
+IsOwnAddress text = (address : Addr) × IsBareAddress text address
+
+-- what an account can be made of
+pub record IsNewUser (name address password : List ℕ) : Type 0 where
+  pub named : is_user_name name ≡ true
+  pub addressed : IsOwnAddress address
+  pub guarded : is_password password ≡ true
 
 -- ---- deliveries
 

@@ -4,7 +4,7 @@ use Rattle.std.specs.FinMap.{get, len}
 use Rattle.sqlite.specs.State.{State, HasCleanDisk}
 use Rattle.mailstore.specs.Account.{Account, Accounts}
 use Rattle.mailstore.specs.Shows.{Presents}
-use Rattle.mailengine.specs.Limits.{script_limit, scripts_limit, IsScriptName}
+use Rattle.mailengine.specs.Limits.{script_limit, scripts_limit, IsScriptName, IsOwnAddress}
 use Rattle.mailengine.specs.Obeyed.{IsValid}
 
 -- a script as it may be kept: its name is a script's, its text is within the limit and means some tree
@@ -13,9 +13,10 @@ pub record IsSoundScript (name text : List ℕ) : Type 0 where
   pub short : length text ≤ script_limit
   pub valid : IsValid text
 
--- an account in which each script may be kept, there are no more of them than may be, the active name is one of theirs,
--- and no folder is empty; what its address is like joins this once the engine makes accounts
+-- an account whose address is an addr-spec, in which each script may be kept, there are no more of them than may be, the
+-- active name is one of theirs, and no folder is empty
 pub record IsSound (a : Account) : Type 0 where
+  pub address : IsOwnAddress a.address
   pub scripts : (name text : List ℕ) → get a.scripts name ≡ Some text → IsSoundScript name text
   pub few : len a.scripts ≤ scripts_limit
   pub active : IfSome a.active (λ name. IsSome (get a.scripts name))

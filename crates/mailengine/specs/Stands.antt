@@ -15,7 +15,7 @@ use Rattle.mailstore.specs.declared.refusal.Refusal.TheVariants.{NoUser}
 use Rattle.msproto.specs.declared.commands.Command.{Command}
 use Rattle.mailengine.specs.declared.event.Event.{Event}
 use Rattle.mailengine.specs.declared.answer.Answer.{Answer}
-use Rattle.mailengine.specs.declared.answer.Answer.TheVariants.{Out, Delivered, Refused}
+use Rattle.mailengine.specs.declared.answer.Answer.TheVariants.{Out, Delivered, Added, Refused}
 use Rattle.mailengine.specs.declared.answer.Progress.TheVariants.{Done}
 use Rattle.mailengine.specs.World.{World, Next, Runs}
 
@@ -62,6 +62,11 @@ MayLeave event s trees =
 abbrev pub delivery_told : Result Report Refusal → Answer
 delivery_told (Ok report) = Delivered report
 delivery_told (Err refusal) = Refused refusal
+
+-- the answer to a new user
+abbrev pub addition_told : Result (Unit {0}) Refusal → Answer
+addition_told (Ok done) = Added
+addition_told (Err refusal) = Refused refusal
 
 -- the answer of a command
 abbrev pub command_told : Result (List ℕ) Refusal → Answer

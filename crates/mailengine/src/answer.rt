@@ -16,6 +16,8 @@ pub enum Answer {
     Out(Progress, Octets),
     /// A delivery was made.
     Delivered(Report),
+    /// An account was made.
+    Added,
     /// The event was refused, and changed nothing.
     Refused(Refusal),
 }

@@ -6,7 +6,7 @@ ghost use Rattle.mailstore.specs.Words.{IsSettled, StaysSame};
 ghost use Rattle.mailstore.specs.Account.{Accounts};
 ghost use Rattle.mailstore.specs.Shows.{Presents};
 ghost use Rattle.mailengine.specs.declared.event.Event.TheVariants.{Deliver};
-ghost use Rattle.mailengine.specs.World.{refusal_in};
+ghost use Rattle.mailengine.specs.Limits.{cause_of};
 ghost use Rattle.mailengine.specs.Stands.{IsEvent, MayLeave, delivery_told};
 
 use crate::limits::denied;
@@ -38,7 +38,7 @@ pub fn deliver<S: Alter>(
     moment: u64,
 ) -> Result<Report, Refusal>
     ensures event { IsEvent (Deliver user.now envelope message.now moment) (delivery_told result) (state S.Store store.old) (state S.Store store.new) }
-    ensures early { IfSome (refusal_in (Deliver user.now envelope message.now moment)) (λ refusal. (result ≡ Err refusal) × (store.new ≡ store.old)) }
+    ensures early { IfSome (cause_of envelope message.now moment) (λ refusal. (result ≡ Err refusal) × (store.new ≡ store.old)) }
     ensures settled { HasCleanDisk (state S.Store store.new) → OnOk result (IsSettled (state S.Store store.new)) }
     ensures same { HasCleanDisk (state S.Store store.new) → (accounts : Accounts) → Presents (state S.Store store.old).now accounts → OnErr result (StaysSame (state S.Store store.old) (state S.Store store.new)) }
     ensures crash { Survives (state S.Store store.old) (state S.Store store.new) (MayLeave (Deliver user.now envelope message.now moment) (state S.Store store.old)) }

@@ -15,6 +15,17 @@ pub enum Event {
         /// When, in seconds since 1970-01-01 UTC.
         moment: u64,
     },
+    /// An account is made.
+    AddUser {
+        /// The user's name.
+        name: Octets,
+        /// The user's own address, an addr-spec.
+        address: Octets,
+        /// Octets that no other account has, hashed before the password.
+        salt: [u8; 16],
+        /// The password; its digest is kept.
+        password: Octets,
+    },
     /// A user sends one `PUTSCRIPT` or `SETACTIVE` as a whole (RFC 5804, 2.6 and 2.8).
     Whole {
         /// The user's name; the user counts as logged in.

@@ -3,13 +3,14 @@ ghost use Rattle.std.specs.Prelude.{◌≡◌, IfOk};
 ghost use Rattle.sqlite.specs.Held.{state};
 ghost use Rattle.sqlite.specs.State.{Survives};
 ghost use Rattle.mailengine.specs.declared.event.Event.TheVariants.{Deliver};
-ghost use Rattle.mailengine.specs.Stands.{IsEvent, MayLeave, delivery_told, command_told};
+ghost use Rattle.mailengine.specs.Stands.{IsEvent, MayLeave, delivery_told, addition_told, command_told};
 
 use crate::answer::{Answer, Progress};
 use crate::delivery::deliver;
 use crate::event::Event;
 use crate::limits::denied;
 use crate::one_command::whole;
+use crate::user::add_user;
 use mailstore::{Refusal, Report, Store};
 use octets::Octets;
 use sieveexec::Envelope;
@@ -34,6 +35,19 @@ pub fn happen<S: Alter>(alloc: Global, store: &mut Store<S>, event: &Event) -> A
             envelope,
             message.as_slice(),
             *moment,
+        )),
+        Event::AddUser {
+            name,
+            address,
+            salt,
+            password,
+        } => told_of_addition(add_user(
+            alloc,
+            store,
+            name.as_slice(),
+            address.as_slice(),
+            *salt,
+            password.as_slice(),
         )),
         Event::Whole { user, bytes } => {
             told_of_command(whole(alloc, store, user.as_slice(), bytes.as_slice()))
@@ -76,6 +90,15 @@ fn told_of_delivery(done: Result<Report, Refusal>) -> Answer
 {
     match done {
         Ok(report) => Answer::Delivered(report),
+        Err(refusal) => Answer::Refused(refusal),
+    }
+}
+
+fn told_of_addition(done: Result<(), Refusal>) -> Answer
+    ensures { result ≡ addition_told done }
+{
+    match done {
+        Ok(()) => Answer::Added,
         Err(refusal) => Answer::Refused(refusal),
     }
 }

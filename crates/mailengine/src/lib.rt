@@ -15,6 +15,7 @@ mod reply;
 mod runs;
 mod script_name;
 mod trial;
+mod user;
 mod view;
 mod world;
 
@@ -27,4 +28,5 @@ pub use one_command::whole;
 pub use runs::{Ran, run};
 pub use sieveexec::{Envelope, Failure, Outcome};
 pub use trial::attempt;
+pub use user::add_user;
 pub use world::World;

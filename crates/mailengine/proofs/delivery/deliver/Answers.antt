@@ -8,7 +8,7 @@ use Rattle.mailengine.specs.declared.event.Event.TheVariants.{Deliver}
 use Rattle.mailengine.specs.Limits.{cause_of}
 use Rattle.mailengine.specs.Delivered.{Files}
 use Rattle.mailengine.specs.Stands.{IsOwn}
-use Rattle.mailengine.proofs.StandLemmas.{event_denied, event_refused, own_passing, reads_may}
+use Rattle.mailengine.proofs.StandLemmas.{event_denied, delivery_refused, own_passing, reads_may}
 use Rattle.mailengine.proofs.DeliveryLemmas.{event_delivered, event_undone, delivery_crash, contents_is}
 use Rattle.mailengine.proofs.StepLemmas.{undone_then}
 use Rattle.mailengine.proofs.delivery.deliver.Goals as goal
@@ -16,13 +16,13 @@ use Rattle.mailengine.proofs.delivery.deliver.Goals as goal
 pub returns-in-Some-clause-event : goal.returns-in-Some-clause-event
 returns-in-Some-clause-event g c =
     let is : cause_of c.args.envelope c.args.message.now c.args.moment ≡ Some c.in-Some.refusal = cc in
-    event_denied (state g.S.Store c.args.store.now) (Deliver c.args.user.now c.args.envelope c.args.message.now c.args.moment) c.in-Some.refusal is
+    event_denied (state g.S.Store c.args.store.now) c.args.user.now c.args.envelope c.args.message.now c.args.moment c.in-Some.refusal is
 
 pub returns-in_err-text-clause-event : goal.returns-in_err-text-clause-event
 returns-in_err-text-clause-event g c =
     let none : cause_of c.args.envelope c.args.message.now c.args.moment ≡ None = cc in
     let undone : OnOk c.from_residual.result ⊥ = search rules in
-    event_refused (state g.S.Store c.args.store.now) (state g.S.Store c.active_text.new.store) (Deliver c.args.user.now c.args.envelope c.args.message.now c.args.moment) c.from_residual.result undone none
+    delivery_refused (state g.S.Store c.args.store.now) (state g.S.Store c.active_text.new.store) c.args.user.now c.args.envelope c.args.message.now c.args.moment c.from_residual.result undone none
     (λ clean w stands. let own : IfErr c.from_residual.result (IsOwn w.accounts c.args.user.now) = search (rules, c.in_err-text.ensures.refused clean w stands) in (own, c.active_text.ensures.looks.stands clean w stands))
 
 pub returns-in_err-text-clause-same : goal.returns-in_err-text-clause-same
@@ -36,7 +36,7 @@ returns-in_err-plan-clause-event g c =
     let none : cause_of c.args.envelope c.args.message.now c.args.moment ≡ None = cc in
     let undone : OnOk c.from_residual-in_err-plan.result ⊥ = search rules in
     let passing : IfErr c.from_residual-in_err-plan.result IsPassing = search rules in
-    event_refused (state g.S.Store c.args.store.now) (state g.S.Store c.active_text.new.store) (Deliver c.args.user.now c.args.envelope c.args.message.now c.args.moment) c.from_residual-in_err-plan.result undone none
+    delivery_refused (state g.S.Store c.args.store.now) (state g.S.Store c.active_text.new.store) c.args.user.now c.args.envelope c.args.message.now c.args.moment c.from_residual-in_err-plan.result undone none
     (λ clean w stands. (own_passing c.from_residual-in_err-plan.result w.accounts c.args.user.now passing, c.active_text.ensures.looks.stands clean w stands))
 
 pub returns-in_err-plan-clause-same : goal.returns-in_err-plan-clause-same

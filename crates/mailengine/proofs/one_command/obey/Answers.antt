@@ -1,5 +1,7 @@
 use Rattle.std.proofs.Common.{OnOk, IfErr, refl, subst, rules}
 use Rattle.sqlite.specs.Held.{state}
+use Rattle.mailstore.specs.Account.{with_user}
+use Rattle.mailstore.specs.Calls.{HasUser, OfUser}
 use Rattle.mailstore.specs.Refusals.{IsPassing}
 use Rattle.mailstore.proofs.ResultLemmas.{on_err_any}
 use Rattle.mailengine.specs.declared.event.Event.TheVariants.{Whole}
@@ -16,7 +18,7 @@ use Rattle.mailengine.proofs.one_command.obey.Goals as goal
 pub returns-in_err-names-clause-event : goal.returns-in_err-names-clause-event
 returns-in_err-names-clause-event g c bytes is =
     let undone : OnOk c.from_residual.result ⊥ = search rules in
-    command_refused (state g.S.Store c.args.store.now) (state g.S.Store c.script_names.new.store) (Whole c.args.user.now bytes) c.from_residual.result undone refl
+    command_refused (state g.S.Store c.args.store.now) (state g.S.Store c.script_names.new.store) c.args.user.now bytes c.from_residual.result undone
     (λ clean w stands. let own : IfErr c.from_residual.result (IsOwn w.accounts c.args.user.now) = search (rules, c.in_err-names.ensures.refused clean w stands) in (own, c.script_names.ensures.looks.stands clean w stands))
 
 pub returns-in_err-names-clause-same : goal.returns-in_err-names-clause-same
@@ -29,7 +31,7 @@ pub returns-in_err-octets-clause-event : goal.returns-in_err-octets-clause-event
 returns-in_err-octets-clause-event g c bytes is =
     let undone : OnOk c.from_residual-in_err-octets.result ⊥ = search rules in
     let passing : IfErr c.from_residual-in_err-octets.result IsPassing = search rules in
-    command_refused (state g.S.Store c.args.store.now) (state g.S.Store c.script_names.new.store) (Whole c.args.user.now bytes) c.from_residual-in_err-octets.result undone refl
+    command_refused (state g.S.Store c.args.store.now) (state g.S.Store c.script_names.new.store) c.args.user.now bytes c.from_residual-in_err-octets.result undone
     (λ clean w stands. (own_passing c.from_residual-in_err-octets.result w.accounts c.args.user.now passing, c.script_names.ensures.looks.stands clean w stands))
 
 pub returns-in_err-octets-clause-same : goal.returns-in_err-octets-clause-same
@@ -55,11 +57,11 @@ returns-in_err-carry_out-clause-event g c bytes is =
     let tells = (subst (λ names. IsTold names (command_in c.args.command) c.in_ok-octets.field-0) c.as_slice.ensures c.in_ok-octets.ensures) in
     let undone : OnOk c.from_residual-in_err-carry_out.result ⊥ = search rules in
     let passing : IfErr c.from_residual-in_err-carry_out.result IsPassing = search rules in
-    command_refused (state g.S.Store c.args.store.now) (state g.S.Store c.carry_out.new.store) (Whole c.args.user.now bytes) c.from_residual-in_err-carry_out.result undone refl
+    command_refused (state g.S.Store c.args.store.now) (state g.S.Store c.carry_out.new.store) c.args.user.now bytes c.from_residual-in_err-carry_out.result undone
     (λ clean w stands. (
       own_passing c.from_residual-in_err-carry_out.result w.accounts c.args.user.now passing,
       (stands_undone (state g.S.Store c.args.store.now) (state g.S.Store c.script_names.new.store) (state g.S.Store c.carry_out.new.store) c.script_names.result c.in_ok-names.names c.in_ok-names.was c.script_names.ensures.looks (Whole c.args.user.now bytes)
-          (Out Done c.in_ok-octets.field-0.octets) (carried_out (command_in c.args.command)) (AreNames c.in_ok-names.names) c.in_ok-names.ensures.found
+          (Out Done c.in_ok-octets.field-0.octets) (λ accounts. with_user accounts c.args.user.now (carried_out (command_in c.args.command))) (HasUser c.args.user.now) (λ accounts. OfUser accounts c.args.user.now (AreNames c.in_ok-names.names)) c.in_ok-names.ensures.found
           (accepted_steps c.args.user.now bytes c.in_ok-names.names (command_in c.args.command) is c.in_ok-octets.field-0 tells c.if-not-accepted.false) c.carry_out.ensures.crash
           (λ clean accounts p. c.in_err-carry_out.ensures.same clean) clean w stands).1,
     ))
@@ -74,19 +76,19 @@ pub returns-in_err-carry_out-clause-crash : goal.returns-in_err-carry_out-clause
 returns-in_err-carry_out-clause-crash g c bytes is =
     let tells = (subst (λ names. IsTold names (command_in c.args.command) c.in_ok-octets.field-0) c.as_slice.ensures c.in_ok-octets.ensures) in
     step_crash (state g.S.Store c.args.store.now) (state g.S.Store c.script_names.new.store) (state g.S.Store c.carry_out.new.store) c.script_names.result c.in_ok-names.names c.in_ok-names.was c.script_names.ensures.looks (Whole c.args.user.now bytes)
-    (Out Done c.in_ok-octets.field-0.octets) (carried_out (command_in c.args.command)) (AreNames c.in_ok-names.names) c.in_ok-names.ensures.found
+    (Out Done c.in_ok-octets.field-0.octets) (λ accounts. with_user accounts c.args.user.now (carried_out (command_in c.args.command))) (HasUser c.args.user.now) (λ accounts. OfUser accounts c.args.user.now (AreNames c.in_ok-names.names)) c.in_ok-names.ensures.found
     (accepted_steps c.args.user.now bytes c.in_ok-names.names (command_in c.args.command) is c.in_ok-octets.field-0 tells c.if-not-accepted.false) c.carry_out.ensures.crash
 
 pub returns-clause-event : goal.returns-clause-event
 returns-clause-event g c bytes is =
     let tells = (subst (λ names. IsTold names (command_in c.args.command) c.in_ok-octets.field-0) c.as_slice.ensures c.in_ok-octets.ensures) in
     event_made (state g.S.Store c.args.store.now) (state g.S.Store c.script_names.new.store) (state g.S.Store c.carry_out.new.store) c.script_names.result c.in_ok-names.names c.in_ok-names.was c.script_names.ensures.looks (Whole c.args.user.now bytes)
-    (Out Done c.in_ok-octets.field-0.octets) (carried_out (command_in c.args.command)) (AreNames c.in_ok-names.names) c.in_ok-names.ensures.found
+    (Out Done c.in_ok-octets.field-0.octets) (λ accounts. with_user accounts c.args.user.now (carried_out (command_in c.args.command))) (HasUser c.args.user.now) (λ accounts. OfUser accounts c.args.user.now (AreNames c.in_ok-names.names)) c.in_ok-names.ensures.found
     (accepted_steps c.args.user.now bytes c.in_ok-names.names (command_in c.args.command) is c.in_ok-octets.field-0 tells c.if-not-accepted.false) c.carry_out.ensures.crash c.in_ok-carry_out.ensures.made
 
 pub returns-clause-crash : goal.returns-clause-crash
 returns-clause-crash g c bytes is =
     let tells = (subst (λ names. IsTold names (command_in c.args.command) c.in_ok-octets.field-0) c.as_slice.ensures c.in_ok-octets.ensures) in
     step_crash (state g.S.Store c.args.store.now) (state g.S.Store c.script_names.new.store) (state g.S.Store c.carry_out.new.store) c.script_names.result c.in_ok-names.names c.in_ok-names.was c.script_names.ensures.looks (Whole c.args.user.now bytes)
-    (Out Done c.in_ok-octets.field-0.octets) (carried_out (command_in c.args.command)) (AreNames c.in_ok-names.names) c.in_ok-names.ensures.found
+    (Out Done c.in_ok-octets.field-0.octets) (λ accounts. with_user accounts c.args.user.now (carried_out (command_in c.args.command))) (HasUser c.args.user.now) (λ accounts. OfUser accounts c.args.user.now (AreNames c.in_ok-names.names)) c.in_ok-names.ensures.found
     (accepted_steps c.args.user.now bytes c.in_ok-names.names (command_in c.args.command) is c.in_ok-octets.field-0 tells c.if-not-accepted.false) c.carry_out.ensures.crash

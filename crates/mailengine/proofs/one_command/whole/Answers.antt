@@ -1,7 +1,6 @@
-use Rattle.std.proofs.Common.{◌≡◌, OnOk, IfErr, refl, sym, ◌∙◌, rules}
+use Rattle.std.proofs.Common.{◌≡◌, OnOk, IfErr, sym, ◌∙◌, rules}
 use Rattle.sqlite.specs.Held.{state}
 use Rattle.mailstore.specs.Refusals.{IsPassing}
-use Rattle.mailengine.specs.declared.event.Event.TheVariants.{Whole}
 use Rattle.mailengine.specs.Obeyed.{whole_of}
 use Rattle.mailengine.specs.Stands.{command_in}
 use Rattle.mailengine.proofs.StandLemmas.{command_refused, own_passing}
@@ -12,7 +11,7 @@ pub returns-in_err-command-clause-event : goal.returns-in_err-command-clause-eve
 returns-in_err-command-clause-event g c =
     let undone : OnOk c.from_residual.result ⊥ = search rules in
     let passing : IfErr c.from_residual.result IsPassing = search rules in
-    command_refused (state g.S.Store c.args.store.now) (state g.S.Store c.args.store.now) (Whole c.args.user.now c.args.bytes.now) c.from_residual.result undone refl
+    command_refused (state g.S.Store c.args.store.now) (state g.S.Store c.args.store.now) c.args.user.now c.args.bytes.now c.from_residual.result undone
     (λ clean w stands. (own_passing c.from_residual.result w.accounts c.args.user.now passing, stands))
 
 pub returns-clause-event : goal.returns-clause-event

@@ -1,0 +1,166 @@
+#!/usr/bin/env python3
+"""Times `sieved deliver` as whole processes, and prints the table of docs/PERFORMANCE.md.
+
+  bench/deliver.py [SIEVED]       SIEVED: the program, crates/sieved/out/sieved where none is named
+
+It needs python3 and sqlite3 (the command), which fills the stores and stands beside as `sqlite3 FILE "SELECT 1"`.
+With dovecot-core and dovecot-sieve installed and run as root it also times `dovecot-lda -d` on the same message
+and script. Each figure is the least of some runs, in milliseconds.
+"""
+import os, resource, shutil, subprocess, sys, tempfile, time
+
+HERE = os.path.dirname(os.path.abspath(__file__))
+SIEVED = os.path.abspath(sys.argv[1] if len(sys.argv) > 1 else f"{HERE}/../crates/sieved/out/sieved")
+RUNS = 15
+SALT = "00112233445566778899aabbccddeeff"
+SCRIPT = 'require ["fileinto", "envelope"];\nif header :contains "subject" "[list]" { fileinto "lists"; }\nelsif envelope :domain "from" "example.net" { fileinto "net"; }\n'
+
+
+def message(size):
+    head = b"From: bob@example.net\r\nTo: alice@example.org\r\nSubject: Lunch\r\nMessage-ID: <m1@example.net>\r\n\r\n"
+    line = b"x" * 76 + b"\r\n"
+    return head + line * ((size - len(head)) // len(line))
+
+
+def run(words, data=b"", env=None):
+    began = time.perf_counter()
+    child = subprocess.Popen(words, stdin=subprocess.PIPE, stdout=subprocess.PIPE, stderr=subprocess.PIPE, env=env)
+    try:
+        child.stdin.write(data)
+        child.stdin.close()
+    except BrokenPipeError:
+        pass
+    out, err = child.stdout.read(), child.stderr.read()
+    _, status, used = os.wait4(child.pid, 0)
+    if status:
+        raise SystemExit(f"{words}: {os.waitstatus_to_exitcode(status)}: {err.decode()}")
+    return (time.perf_counter() - began) * 1000, used.ru_maxrss, out
+
+
+def least(words, data=b"", env=None, runs=RUNS, before=None):
+    took, peak = [], 0
+    for _ in range(runs):
+        if before:
+            before()
+        ms, kb, _ = run(words, data, env)
+        took.append(ms)
+        peak = max(peak, kb)
+    return min(took), peak
+
+
+def sql(file, text):
+    subprocess.run(["sqlite3", file], input=text.encode(), check=True, stdout=subprocess.DEVNULL)
+
+
+def store(folder, count):
+    file = f"{folder}/mail-{count}.db"
+    run([SIEVED, "init", "--db", file])
+    run([SIEVED, "adduser", "--db", file, "--salt", SALT, "alice", "alice@example.org"], b"secret\n")
+    text = SCRIPT.replace("'", "''")
+    sql(file, f"INSERT INTO script VALUES (CAST('alice' AS BLOB), CAST('main' AS BLOB), CAST('{text}' AS BLOB)); UPDATE account SET active = CAST('main' AS BLOB);")
+    if count:
+        sql(file, f"""WITH RECURSIVE k(n) AS (SELECT 1 UNION ALL SELECT n + 1 FROM k WHERE n < {count})
+            INSERT INTO copy(owner, folder, n, message) SELECT CAST('alice' AS BLOB), CAST('INBOX' AS BLOB), n, randomblob(8192) FROM k;
+            UPDATE account SET next_copy = {count + 1};""")
+    return file
+
+
+def row(what, took, peak=None):
+    print(f"| {what} | {took:.1f} | {'' if peak is None else f'{peak / 1024:.1f}'} |", flush=True)
+
+
+def deliver(file):
+    return [SIEVED, "deliver", "--db", file, "--from", "bob@example.net", "--to", "alice@example.org", "alice"]
+
+
+def stores(folder):
+    for count in (0, 100, 1_000, 10_000):
+        file = store(folder, count)
+        whole = f"{file}.whole"
+        shutil.copy(file, whole)
+        fresh = lambda: shutil.copy(whole, file)
+        took, peak = least(deliver(file), message(8_192), before=fresh, runs=RUNS if count < 10_000 else 5)
+        row(f"`deliver`, 8 kB, into a store of {count:,} messages ({os.path.getsize(whole) / 1e6:.1f} MB)", took, peak)
+        took, peak = least(["sqlite3", file, "SELECT 1"])
+        row(f"`sqlite3 FILE \"SELECT 1\"` on it", took, peak)
+        if count == 0:
+            took, peak = least([SIEVED, "folders", "--db", file, "alice"])
+            row("`folders` (open, read, close)", took, peak)
+            fresh()
+            size = len(message(30_000_000))
+            took, peak = least(deliver(file), message(30_000_000), before=fresh, runs=5)
+            row(f"`deliver`, {size:,} octets ({peak * 1024 / size:.2f} times its size)", took, peak)
+
+
+CONF = """
+protocols =
+log_path = {0}/log
+base_dir = {0}/run
+state_dir = {0}/state
+mail_location = maildir:{0}/mail/%u
+first_valid_uid = 0
+first_valid_gid = 0
+userdb {{
+  driver = static
+  args = uid={1} gid={2} home={0}/mail/%u allow_all_users=yes
+}}
+passdb {{
+  driver = static
+  args = nopassword=y
+}}
+service auth {{
+  unix_listener auth-userdb {{
+    mode = 0666
+  }}
+}}
+protocol lda {{
+  mail_plugins = sieve
+  postmaster_address = postmaster@example.org
+}}
+plugin {{
+  sieve = file:{0}/alice.sieve
+}}
+"""
+
+
+def dovecot(folder):
+    lda = shutil.which("dovecot-lda") or "/usr/lib/dovecot/dovecot-lda"
+    if not (os.path.exists(lda) and shutil.which("dovecot") and os.geteuid() == 0):
+        return
+    base = f"{folder}/dovecot"
+    for name in ("run", "state", "mail"):
+        os.makedirs(f"{base}/{name}")
+    import pwd
+    who = pwd.getpwnam("mail")
+    subprocess.run(["chmod", "755", folder], check=True)
+    subprocess.run(["chown", "-R", "mail:mail", f"{base}/mail"], check=True)
+    open(f"{base}/alice.sieve", "w").write(SCRIPT.replace('fileinto "', 'fileinto "'))
+    open(f"{base}/conf", "w").write(CONF.format(base, who.pw_uid, who.pw_gid))
+    subprocess.run(["dovecot", "-c", f"{base}/conf"], check=True)
+    try:
+        time.sleep(1)
+        words = [lda, "-c", f"{base}/conf", "-d", "alice", "-f", "bob@example.net", "-a", "alice@example.org", "-m", "INBOX"]
+        for name in ("lists", "net"):
+            os.makedirs(f"{base}/mail/alice/.{name}", exist_ok=True)
+        subprocess.run(["chown", "-R", "mail:mail", f"{base}/mail"], check=True)
+        took, peak = least(words, message(8_192))
+        row("`dovecot-lda -d alice`, the same message and script, a Maildir", took, peak)
+    finally:
+        subprocess.run(["doveadm", "-c", f"{base}/conf", "stop"], check=False)
+
+
+def main():
+    print("| What | Least ms | Memory MB |")
+    print("|---|---|---|")
+    row("`true`", *least(["true"]))
+    row(f"`sieved --version`", *least([SIEVED, "--version"]))
+    folder = tempfile.mkdtemp(prefix="sieved-bench-")
+    try:
+        stores(folder)
+        dovecot(folder)
+    finally:
+        shutil.rmtree(folder)
+
+
+if __name__ == "__main__":
+    main()

@@ -1,0 +1,122 @@
+//! New users.
+ghost use Rattle.std.specs.Prelude.{◌≡◌, ◌==◌, IfOk, IfErr, OnOk, OnErr, MatchBool};
+ghost use Rattle.std.specs.List.{list_all, list_any};
+ghost use Rattle.sqlite.specs.Held.{state};
+ghost use Rattle.sqlite.specs.State.{HasCleanDisk, Survives};
+ghost use Rattle.mailstore.specs.Words.{IsSettled, StaysSame};
+ghost use Rattle.mailstore.specs.Account.{Accounts};
+ghost use Rattle.mailstore.specs.Shows.{Presents};
+ghost use Rattle.mailstore.specs.declared.refusal.Refusal.TheVariants.{Memory, BadUser};
+ghost use Rattle.mailengine.specs.declared.event.Event.TheVariants.{AddUser};
+ghost use Rattle.mailengine.specs.Limits as limits;
+ghost use Rattle.mailengine.specs.Limits.{IsNewUser, IsOwnAddress};
+ghost use Rattle.mailengine.specs.Stands.{IsEvent, MayLeave, addition_told};
+
+use addrparts::bare_address;
+use mailstore::{Refusal, Store};
+use octets::is_letter;
+use saslplain::digest;
+use sqlite::Alter;
+use std::alloc::{AllocError, Global};
+
+/// How many octets a user's name may have: it stands in words and file names of other programs.
+pub const MAX_USER_NAME: usize = 64;
+/// How many octets a password may have: each round of its digest hashes it whole.
+pub const MAX_PASSWORD: usize = 1_024;
+/// How often the digest of a new password is hashed again.
+pub const ROUNDS: u32 = 10_000;
+
+/// Makes an account without scripts, folders and replies, in one transaction, which is its last act.
+///
+/// The password is kept as its digest after 10,000 rounds under the salt, some milliseconds of work. The salt is to be
+/// random, another one for each user.
+///
+/// # Errors
+///
+/// In this order: [`Refusal::BadUser`] for a name that isn't 1 to 64 of letters, digits and `. _ - @`, an address that
+/// isn't an addr-spec alone (RFC 5322, 3.4.1), or a password that isn't 1 to 1,024 octets without NUL: the store isn't
+/// asked then. Then [`Refusal::UserExists`]. [`Refusal::Memory`] may come at any place, [`Refusal::Store`] at any
+/// place behind the first. The store then stays as it was.
+pub fn add_user<S: Alter>(
+    alloc: Global,
+    store: &mut Store<S>,
+    name: &[u8],
+    address: &[u8],
+    salt: [u8; 16],
+    password: &[u8],
+) -> Result<(), Refusal>
+    ensures event { IsEvent (AddUser name.now address.now salt password.now) (addition_told result) (state S.Store store.old) (state S.Store store.new) }
+    ensures early { IfErr result (λ e. e ≡ BadUser → store.new ≡ store.old) }
+    ensures settled { HasCleanDisk (state S.Store store.new) → OnOk result (IsSettled (state S.Store store.new)) }
+    ensures same { HasCleanDisk (state S.Store store.new) → (accounts : Accounts) → Presents (state S.Store store.old).now accounts → OnErr result (StaysSame (state S.Store store.old) (state S.Store store.new)) }
+    ensures crash { Survives (state S.Store store.old) (state S.Store store.new) (MayLeave (AddUser name.now address.now salt password.now) (state S.Store store.old)) }
+{
+    if !is_new_user(alloc, name, address, password)? {
+        return Err(Refusal::BadUser);
+    }
+    if let Some(_) = store.account(name)? {
+        return Err(Refusal::UserExists);
+    }
+    let digest = digest(&salt, ROUNDS, password);
+    store.add_user(name, address, &salt, ROUNDS, &digest)
+}
+
+/// Whether an account can be made of these.
+fn is_new_user(
+    alloc: Global,
+    name: &[u8],
+    address: &[u8],
+    password: &[u8],
+) -> Result<bool, AllocError>
+    ensures { IfOk result (λ holds. MatchBool holds (IsNewUser name.now address.now password.now) (IsNewUser name.now address.now password.now → ⊥)) }
+{
+    if !is_user_name(name) || !is_password(password) {
+        return Ok(false);
+    }
+    is_own_address(alloc, address)
+}
+
+/// Whether a text is an addr-spec alone.
+fn is_own_address(alloc: Global, text: &[u8]) -> Result<bool, AllocError>
+    ensures { IfOk result (λ holds. MatchBool holds (IsOwnAddress text.now) (IsOwnAddress text.now → ⊥)) }
+{
+    if let Some(_) = bare_address(alloc, text)? {
+        return Ok(true);
+    }
+    Ok(false)
+}
+
+fn is_user_name(name: &[u8]) -> bool
+    ensures { result ≡ limits.is_user_name name.now }
+{
+    1 <= name.len() && name.len() <= MAX_USER_NAME && has_name_octets(name)
+}
+
+fn has_name_octets(name: &[u8]) -> bool
+    ensures { result ≡ list_all limits.is_name_octet name.now }
+{
+    name.iter().all(|octet| is_name_octet(*octet))
+}
+
+fn is_name_octet(octet: u8) -> bool
+    ensures { result ≡ limits.is_name_octet octet }
+{
+    is_letter(octet)
+        || octet.is_ascii_digit()
+        || octet == b'.'
+        || octet == b'_'
+        || octet == b'-'
+        || octet == b'@'
+}
+
+fn is_password(password: &[u8]) -> bool
+    ensures { result ≡ limits.is_password password.now }
+{
+    1 <= password.len() && password.len() <= MAX_PASSWORD && !has_nul(password)
+}
+
+fn has_nul(text: &[u8]) -> bool
+    ensures { result ≡ list_any (λ octet. octet == 0) text.now }
+{
+    text.iter().any(|octet| *octet == 0)
+}
