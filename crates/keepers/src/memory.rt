@@ -16,11 +16,16 @@ pub struct MemoryKeeper {
 impl MemoryKeeper {
     /// A keeper of a database without tables.
     pub fn new(alloc: Global) -> Result<MemoryKeeper, AllocError> {
-        Ok(MemoryKeeper {
-            conn: Some(Connection::open_in_memory(alloc)?),
+        Ok(MemoryKeeper::over(alloc, Connection::open_in_memory(alloc)?))
+    }
+
+    /// A keeper of the database that a connection has.
+    pub fn over(alloc: Global, conn: Connection<MemStore>) -> MemoryKeeper {
+        MemoryKeeper {
+            conn: Some(conn),
             alloc,
             busy_after: None,
-        })
+        }
     }
 
     /// The one call of `take` after so many others is Busy.

@@ -28,11 +28,6 @@ pub fn of_outcome(alloc: Global, outcome: &Outcome) -> Result<Octets, AllocError
     }
 }
 
-/// TEMP
-pub fn of_report(alloc: Global, report: &mailengine::Report) -> Result<Octets, AllocError> {
-    of_deeds(alloc, report.filed.as_slice(), &[], false)
-}
-
 /// The report on a delivery that was made: a line for each folder that the message joined, or `discard` where there is
 /// none.
 pub fn of_report(alloc: Global, report: &Report) -> Result<Octets, AllocError>

@@ -1,25 +1,30 @@
 -- What a run leaves of the accounts behind a keeper.
-use Rattle.std.specs.Prelude.{◌≡◌, ◌⊎◌, ℕ, ◌==◌, not, List, take, Option, Result, Ok, Err}
+use Rattle.std.specs.Prelude.{◌≡◌, ◌⊎◌, ℕ, Bool, ◌==◌, not, List, take, Option, Result, Ok, Err}
 use Rattle.std.specs.List.{prefix_len}
 use Rattle.sqlite.specs.Effect.{Database}
 use Rattle.mailstore.specs.Account.{Accounts, no_accounts}
 use Rattle.mailstore.specs.Schema.{no_schema}
 use Rattle.mailstore.specs.Shows.{Presents}
 use Rattle.mailengine.specs.declared.event.Event.{Event}
-use Rattle.mailengine.specs.declared.event.Event.TheVariants.{Deliver, Whole}
+use Rattle.mailengine.specs.declared.event.Event.TheVariants.{Deliver, AddUser, Whole}
 use Rattle.mailengine.specs.declared.answer.Answer.{Answer}
 use Rattle.mailengine.specs.World.{World, Next}
 use Rattle.sieved.specs.declared.fault.Fault.{Fault}
 use Rattle.sieved.specs.Faults.{status_of}
 use Rattle.sieved.specs.Streams.{ReadsAll}
 
+-- an octet that doesn't end a line
+abbrev pub is_in_line : ℕ → Bool
+is_in_line octet = not (octet == 10)
+
 -- the octets before the first LF, or all where there is none
 abbrev pub first_line : List ℕ → List ℕ
-first_line text = take (prefix_len (λ octet. not (octet == 10)) text) text
+first_line text = take (prefix_len is_in_line text) text
 
 -- the event brings what was read: its message is all of it, its password the first line
 abbrev pub Brings : Option (List ℕ) → Event → Type 0
 Brings given (Deliver user envelope message moment) = ReadsAll given message
+Brings given (AddUser name address salt password) = (octets : List ℕ) × ReadsAll given octets × (password ≡ first_line octets)
 Brings given (Whole user bytes) = ⊥
 
 -- the exit status of what was done or went wrong

@@ -1,8 +1,10 @@
 //! The words that work on a store, a function each.
-ghost use Rattle.std.specs.Prelude.{◌≡◌, false, IsTrue, IfOk, OnErr, IfErr};
+ghost use Rattle.std.specs.Prelude.{◌≡◌, false, IsTrue, IfOk, OnOk, OnErr, IfErr};
 ghost use Rattle.sqlite.specs.Held.{state};
+ghost use Rattle.mailstore.specs.Account.{no_accounts};
+ghost use Rattle.mailstore.specs.Shows.{Presents};
 ghost use Rattle.keepers.specs.Taken.{IsTaken};
-ghost use Rattle.mailengine.specs.declared.event.Event.TheVariants.{Deliver};
+ghost use Rattle.mailengine.specs.declared.event.Event.TheVariants.{Deliver, AddUser};
 ghost use Rattle.sieved.specs.Faults.{IsFailure};
 ghost use Rattle.sieved.specs.Promise.{Brings, LeavesAll, LeavesAfter, LeavesNew, status_after};
 
@@ -10,7 +12,7 @@ use crate::fault::Fault;
 use crate::stream::{read_all, write_all};
 use crate::values::{decimal, envelope_of, first_line, moment_of, salt_of};
 use keepers::Keeper;
-use mailengine::{Envelope, Report, deliver};
+use mailengine::{Envelope, Report, add_user, deliver};
 use mailstore::{Folder, Store};
 use octets::{ListOf, Octets, Texts, write_decimal};
 use reportlines::of_report;
@@ -48,6 +50,7 @@ pub fn run_init<W: Write, K: Keeper>(
 ) -> Result<(), Fault>
     ensures back { K.is_out keeper.old ≡ false → K.is_out keeper.new ≡ false }
     ensures leaves { IsTrue K.tells → LeavesNew (K.holds keeper.old) (K.holds keeper.new) }
+    ensures made { IsTrue K.tells → OnOk result (Presents (K.holds keeper.new) no_accounts) }
 {
     let store = taken(place, true, keeper)?;
     keeper.hand_back(store)?;
@@ -69,12 +72,14 @@ pub fn run_adduser<R: Read, W: Write, K: Keeper>(
     let salt = salt_of(user.salt)?;
     let line = added_line(alloc, user.name)?;
     let octets = read_all(alloc, input)?;
+    let password = first_line(octets.as_slice());
     add(
         alloc,
         place,
-        user,
+        user.name.as_bytes(),
+        user.address.as_bytes(),
         salt,
-        first_line(octets.as_slice()),
+        password,
         keeper,
     )?;
     write_all(output, line.as_slice())
@@ -84,17 +89,20 @@ pub fn run_adduser<R: Read, W: Write, K: Keeper>(
 fn add<K: Keeper>(
     alloc: Global,
     place: Place<'_>,
-    user: NewUser<'_>,
+    name: &[u8],
+    address: &[u8],
     salt: [u8; 16],
     password: &[u8],
     keeper: &mut K,
 ) -> Result<(), Fault>
     ensures back { K.is_out keeper.old ≡ false → K.is_out keeper.new ≡ false }
-    ensures leaves { IsTrue K.tells → LeavesAll (K.holds keeper.old) (K.holds keeper.new) }
+    ensures leaves { IsTrue K.tells → LeavesAfter (λ event. event ≡ AddUser name.now address.now salt password.now) (status_after result) (K.holds keeper.old) (K.holds keeper.new) }
 {
-    let store = taken(place, false, keeper)?;
-    let _ = (alloc, user, salt, password);
-    Ok(keeper.hand_back(store)?)
+    let mut store = taken(place, false, keeper)?;
+    let added = add_user(alloc, &mut store, name, address, salt, password);
+    let closed = keeper.hand_back(store);
+    added?;
+    Ok(closed?)
 }
 
 fn added_line(alloc: Global, name: &str) -> Result<Octets, AllocError> {
@@ -125,7 +133,7 @@ pub fn run_deliver<R: Read, W: Write, K: Keeper>(
     let report = post(
         alloc,
         place,
-        posting.user,
+        posting.user.as_bytes(),
         envelope,
         message.as_slice(),
         moment,
@@ -138,7 +146,7 @@ pub fn run_deliver<R: Read, W: Write, K: Keeper>(
 fn post<K: Keeper>(
     alloc: Global,
     place: Place<'_>,
-    user: &str,
+    user: &[u8],
     envelope: Envelope,
     message: &[u8],
     moment: u64,
@@ -148,14 +156,7 @@ fn post<K: Keeper>(
     ensures leaves { IsTrue K.tells → LeavesAfter (λ event. event ≡ Deliver user.now envelope message.now moment) (status_after result) (K.holds keeper.old) (K.holds keeper.new) }
 {
     let mut store = taken(place, false, keeper)?;
-    let delivered = deliver(
-        alloc,
-        &mut store,
-        user.as_bytes(),
-        envelope,
-        message,
-        moment,
-    );
+    let delivered = deliver(alloc, &mut store, user, envelope, message, moment);
     let closed = keeper.hand_back(store);
     let report = delivered?;
     closed?;

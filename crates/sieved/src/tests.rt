@@ -111,7 +111,13 @@ struct Left {
 fn run(alloc: Global, input: &[u8]) -> Left {
     let mut given = input;
     let (mut output, mut faults) = (Vec::new(alloc), Vec::new(alloc));
-    let status = try_run(alloc, unaddressed(alloc), &mut given, &mut output, &mut faults);
+    let status = try_run(
+        alloc,
+        unaddressed(alloc),
+        &mut given,
+        &mut output,
+        &mut faults,
+    );
     Left {
         status,
         output,
@@ -294,7 +300,13 @@ fn tells_of_each_read_that_fails(rt: HostRuntime) -> Result<(), Fail> {
         };
         let (mut output, mut faults) = (Vec::new(alloc), Vec::new(alloc));
         assert_eq!(rt;
-            try_run(alloc, unaddressed(alloc), &mut input, &mut output, &mut faults),
+            try_run(
+                alloc,
+                unaddressed(alloc),
+                &mut input,
+                &mut output,
+                &mut faults
+            ),
             75,
             "{calls}"
         );
@@ -306,7 +318,16 @@ fn tells_of_each_read_that_fails(rt: HostRuntime) -> Result<(), Fail> {
         waits: false,
     };
     let (mut output, mut faults) = (Vec::new(alloc), Vec::new(alloc));
-    assert_eq!(rt; try_run(alloc, unaddressed(alloc), &mut waiting, &mut output, &mut faults), 0);
+    assert_eq!(rt;
+        try_run(
+            alloc,
+            unaddressed(alloc),
+            &mut waiting,
+            &mut output,
+            &mut faults
+        ),
+        0
+    );
     assert_eq!(rt; output.as_slice(), b"file a\nfile b\n".as_slice());
     Ok(())
 }
@@ -321,7 +342,16 @@ fn gives_up_after_forty_million_reads(rt: HostRuntime) {
         fails_as: ErrorKind::Interrupted,
     };
     let (mut output, mut faults) = (Vec::new(alloc), Vec::new(alloc));
-    assert_eq!(rt; try_run(alloc, unaddressed(alloc), &mut input, &mut output, &mut faults), 75);
+    assert_eq!(rt;
+        try_run(
+            alloc,
+            unaddressed(alloc),
+            &mut input,
+            &mut output,
+            &mut faults
+        ),
+        75
+    );
     assert_eq!(rt; faults.as_slice(), FAILED);
 }
 
@@ -342,7 +372,13 @@ fn tells_of_each_write_that_fails(rt: HostRuntime) -> Result<(), Fail> {
             calls,
         };
         assert_eq!(rt;
-            try_run(alloc, unaddressed(alloc), &mut given, &mut output, &mut faults),
+            try_run(
+                alloc,
+                unaddressed(alloc),
+                &mut given,
+                &mut output,
+                &mut faults
+            ),
             75,
             "{calls}"
         );

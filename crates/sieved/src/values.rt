@@ -1,6 +1,8 @@
 //! Values that stand in the words, and the first line of an input.
 ghost use Rattle.std.specs.Prelude.{◌≡◌, IfErr};
+ghost use Rattle.std.specs.List.{prefix_len};
 ghost use Rattle.sieved.specs.Promise as promise;
+ghost use Rattle.sieved.specs.Promise.{is_in_line};
 
 use crate::fault::Fault;
 use hex::FromHex;
@@ -43,8 +45,15 @@ pub fn envelope_of(alloc: Global, from: &str, to: &str) -> Result<Envelope, Allo
 
 /// The octets before the first LF, or all where there is none.
 pub fn first_line(text: &[u8]) -> &[u8]
-    ensures { result.now ≡ promise.first_line text.now text.now }
+    ensures { result.now ≡ promise.first_line text.now }
 {
-    let len = text.iter().take_while(|octet| **octet != b'\n').count();
+    let len = line_len(text);
     text.split_at(len).0
+}
+
+/// How many octets stand before the first LF, or in all.
+fn line_len(text: &[u8]) -> usize
+    ensures { result ≡ prefix_len is_in_line text.now }
+{
+    text.iter().take_while(|octet| **octet != b'\n').count()
 }

@@ -2,9 +2,9 @@
 mod scripts;
 mod texts;
 
-use reportlines as report;
 use mailengine::{Envelope, attempt};
 use octets::Octets;
+use reportlines as report;
 use sievelex::ScriptError;
 use std::alloc::{AllocError, Global};
 use std::test::Fail;
