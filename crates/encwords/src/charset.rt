@@ -17,7 +17,7 @@ pub enum Charset {
 }
 
 /// The character set of a name, in any ASCII case.
-pub fn charset_named(name: &[u8]) -> Option<Charset>
+pub(crate) fn charset_named(name: &[u8]) -> Option<Charset>
     ensures { result ≡ charsets.charset_of name.now }
 {
     if name.eq_ignore_ascii_case(b"utf-8") {
@@ -50,7 +50,7 @@ fn iso_part(number: &[u8]) -> Option<Charset>
 }
 
 /// Octets of a character set as UTF-8, if they are its.
-pub fn converted(
+pub(crate) fn converted(
     alloc: Global,
     charset: Charset,
     octets: Vec<u8>,

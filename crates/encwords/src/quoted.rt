@@ -15,7 +15,7 @@ pub enum Mode {
 }
 
 /// The octets of a text in Q, if it is one.
-pub fn from_quoted(alloc: Global, text: &[u8]) -> Result<Option<Vec<u8>>, AllocError>
+pub(crate) fn from_quoted(alloc: Global, text: &[u8]) -> Result<Option<Vec<u8>>, AllocError>
     ensures { IfOk result (λ octets. option_map (λ v. v.items) octets ≡ quoted.quoted_of text.now) }
 {
     let mut octets = Vec::with_capacity(alloc, text.len())?;

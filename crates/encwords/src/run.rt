@@ -7,7 +7,7 @@ ghost use Rattle.encwords.specs.Runs as runs;
 use octets::is_blank;
 
 /// The blanks at the front of a text, and what follows.
-pub fn blank_run(text: &[u8]) -> (&[u8], &[u8])
+pub(crate) fn blank_run(text: &[u8]) -> (&[u8], &[u8])
     ensures front { result.0.now ≡ take (prefix_len ascii.is_blank text.now) text.now }
     ensures back { result.1.now ≡ drop (prefix_len ascii.is_blank text.now) text.now }
 {
@@ -15,7 +15,7 @@ pub fn blank_run(text: &[u8]) -> (&[u8], &[u8])
 }
 
 /// The octets other than blanks at the front of a text, and what follows.
-pub fn dark_run(text: &[u8]) -> (&[u8], &[u8])
+pub(crate) fn dark_run(text: &[u8]) -> (&[u8], &[u8])
     ensures front { result.0.now ≡ take (prefix_len runs.is_dark text.now) text.now }
     ensures back { result.1.now ≡ drop (prefix_len runs.is_dark text.now) text.now }
 {

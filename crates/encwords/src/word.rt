@@ -13,7 +13,7 @@ use memchr::memchr;
 use std::alloc::{AllocError, Global};
 
 /// The text of a run that is a recognised word. One pass over the run.
-pub fn word_text(alloc: Global, run: &[u8]) -> Result<Option<Vec<u8>>, AllocError>
+pub(crate) fn word_text(alloc: Global, run: &[u8]) -> Result<Option<Vec<u8>>, AllocError>
     ensures { IfOk result (λ text. option_map (λ v. v.items) text ≡ words.word_of run.now) }
 {
     match parts(run) {

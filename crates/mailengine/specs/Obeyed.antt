@@ -15,7 +15,6 @@ use Rattle.msproto.specs.declared.replies.Code.{Code}
 use Rattle.msproto.specs.declared.replies.Code.TheVariants.{MaxSize, MaxScripts, NonExistent}
 use Rattle.msproto.specs.declared.replies.Word.{Word}
 use Rattle.msproto.specs.declared.replies.Word.TheVariants.{Ok, No}
-use Rattle.msproto.specs.Replies.{spelled}
 use Rattle.msproto.specs.Values.{item_of}
 use Rattle.mailstore.specs.Account.{Account, keeps_script, activates}
 use Rattle.mailengine.specs.Limits.{script_limit, scripts_limit, IsScriptName}

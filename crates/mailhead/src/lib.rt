@@ -13,7 +13,6 @@ mod unfolding;
 pub use header::{Field, read_field};
 pub use line::{first_line, logical_line, without_end};
 pub use message::{Head, after_empty_line};
-pub use size::count as message_size;
 pub use unfolding::unfolded;
 
 #[cfg(test)]

@@ -7,13 +7,13 @@ use memchr::memchr;
 use octets::is_blank;
 
 /// Line feed: each line ends with it.
-pub const LF: u8 = b'\n';
+pub(crate) const LF: u8 = b'\n';
 
 /// Carriage return: right before a line feed it belongs to the line end.
-pub const CR: u8 = b'\r';
+pub(crate) const CR: u8 = b'\r';
 
 /// Whether a text begins with a space or a tab.
-pub fn begins_blank(text: &[u8]) -> bool
+pub(crate) fn begins_blank(text: &[u8]) -> bool
     ensures { result ≡ lines.begins_blank text.now }
 {
     match text.first() {

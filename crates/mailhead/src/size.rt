@@ -10,7 +10,7 @@ use crate::line::{CR, LF};
 const STEP: usize = 240;
 
 /// The octets of a message, and one more for each LF without CR right before it.
-pub fn count(message: &[u8]) -> u64
+pub(crate) fn count(message: &[u8]) -> u64
     ensures { result ≡ size_of message.now }
 {
     message.len() as u64 + bare_feeds(message)

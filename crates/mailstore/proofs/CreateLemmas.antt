@@ -16,7 +16,10 @@ use Rattle.sqlite.specs.Does.{Tally, lacks_sequence}
 use Rattle.sqlite.specs.Listing.{understood}
 use Rattle.sqlite.specs.declared.error.Error.{Error}
 use Rattle.sqlite.specs.State.{State, HasCleanDisk, Survives, Writes, Executes, ExecutesInside, KeepsCommit, Shows}
-use Rattle.sqlite.proofs.Callers.{IsPlain, command_of, statement_of, runs_as}
+use Rattle.sqlite.specs.Held.{Held, state}
+use Rattle.sqlite_trees.specs.declared.store.Store.{Ghosts}
+use Rattle.sqlite.proofs.StateLemmas.{survives_then}
+use Rattle.sqlite.proofs.Callers.{IsPlain, command_of, statement_of, runs_as, survives_begin}
 use Rattle.sqlite.proofs.InsideLemmas.{inside_keeps, keeps_then}
 use Rattle.sqlrows.specs.Rows.{Entry, IsHeld, Holds, cells_of, stored}
 use Rattle.sqlrows.proofs.StepLemmas.{went, same_value}
@@ -25,7 +28,7 @@ use Rattle.sqlrows.specs.Rows.{Tables, added}
 use Rattle.mailstore.specs.Schema.{no_schema, mail_schema}
 use Rattle.mailstore.specs.Words.{no_rows, Makes, MakesTable}
 use Rattle.mailstore.specs.Account.{bytes_cmp, no_accounts}
-use Rattle.mailstore.specs.Shows.{version_row, rows_of, IsAbsent, IsShownOrAbsent, ShowsAccounts, Presents}
+use Rattle.mailstore.specs.Shows.{version_row, rows_of, IsAbsent, IsShownOrAbsent, ShowsAccounts, Presents, MayCreate}
 use Rattle.mailstore.proofs.WriteLemmas.{clean_before}
 
 no_entries : (rows : List Row) → IsHeld rows [] → rows ≡ []
@@ -95,14 +98,23 @@ then_makes {X} {Y} a b c s t u r x q ok survives one two clean inside = go q (tw
     go (Err e) h = (keeps_then a b c begun.0 h.0, tt)
     go (Ok y) h = (keeps_then a b c begun.0 h.0, (λ k. h.1.0 (first.0 k), record { was_open = first.1.was_open; is_open = h.1.1.is_open; now_is = refl; committed_is = h.1.1.committed_is ∙ first.1.committed_is; mode = h.1.1.mode }))
 
--- all tables and the row of the version, and the commit
-pub all_made : {X Y Z : Type 0} (old two three new : State) (r : Result X Error) (x : X) (q : Result Y Error) (y : Y) (done : Result Z Error) (P Q : Type 0) (R : Trees → Type 0) → r ≡ Ok x → q ≡ Ok y → IsTrue old.in_transaction
-    → Survives two three (λ _. ⊥) → Survives three new R → MakesTable old two r no_schema mail_schema → Makes two three q (added 0 version_row)
-    → (HasCleanDisk new → OnOk done (IsTrue three.in_transaction × Shows three new three.now three.now false × P × Q)) → HasCleanDisk new → old.now.schema ≡ no_schema → OnOk done (Presents new.now no_accounts)
-all_made old two three new r x q y (Err e) P Q R rok qok inside s1 s2 tables version commit clean blank = tt
-all_made old two three new r x q y (Ok z) P Q R rok qok inside s1 s2 tables version commit clean blank =
-    let late = clean_before three new R s2 clean in
+-- all tables and the row of the version
+pub all_ready : {X Y : Type 0} (old two three : State) (r : Result X Error) (x : X) (q : Result Y Error) (y : Y) → r ≡ Ok x → q ≡ Ok y → IsTrue old.in_transaction → Survives two three (λ _. ⊥)
+    → MakesTable old two r no_schema mail_schema → Makes two three q (added 0 version_row) → HasCleanDisk three → old.now.schema ≡ no_schema → Presents three.now no_accounts
+all_ready old two three r x q y rok qok inside s1 tables version late blank =
     let early = clean_before two three (λ _. ⊥) s1 late in
     let first = subst (λ o. OnOk o ((Holds no_schema old.now no_rows → Holds mail_schema two.now no_rows) × Shows old two two.now old.committed true)) rok (tables early inside).1 in
     let second = subst (λ o. OnOk o (((all : Tables) → Holds mail_schema two.now all → Holds mail_schema three.now (added 0 version_row all)) × Shows two three three.now two.committed true)) qok (version late first.1.mode).1 in
-    (added 0 version_row no_rows, subst (λ d. Holds mail_schema d (added 0 version_row no_rows)) (sym (commit clean).1.now_is) (second.0 no_rows (first.0 (starts_empty old.now blank))), shows_nobody)
+    (added 0 version_row no_rows, second.0 no_rows (first.0 (starts_empty old.now blank)), shows_nobody)
+
+-- and the commit
+pub all_made : {Z : Type 0} (old three new : State) (done : Result Z Error) (P Q : Type 0) (R : Trees → Type 0) → (HasCleanDisk three → old.now.schema ≡ no_schema → Presents three.now no_accounts) → Survives three new R
+    → (HasCleanDisk new → OnOk done (IsTrue three.in_transaction × Shows three new three.now three.now false × P × Q)) → HasCleanDisk new → old.now.schema ≡ no_schema → OnOk done (Presents new.now no_accounts)
+all_made old three new (Err e) P Q R ready s commit clean blank = tt
+all_made old three new (Ok z) P Q R ready s commit clean blank = subst (λ d. Presents d no_accounts) (sym (commit clean).1.now_is) (ready (clean_before three new R s clean) blank)
+
+-- what a crash leaves of the transaction and its commit
+pub creates_all : {S : Type 0} (g : Ghosts S) (old : Held S) (last end : State) → Survives (state g (record old { in_transaction = true })) last (λ _. ⊥) → Survives last end (λ db. db ≡ last.now.trees)
+    → (HasCleanDisk last → (state g old).now.schema ≡ no_schema → Presents last.now no_accounts) → Survives (state g old) end (MayCreate (state g old))
+creates_all g old last end inside commit ready =
+    survives_then (state g old) last end _ _ _ (λ _ db none. absurd none) (λ clean db is blank. (last.now, ready (clean_before last end _ commit clean) blank, is)) (survives_begin g old last _ inside) commit

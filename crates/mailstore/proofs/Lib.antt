@@ -15,3 +15,6 @@ pub mod ChainLemmas
 pub mod TallyLemmas
 pub mod FolderLemmas
 pub mod OneLemmas
+pub mod SchemaLemmas
+pub mod OpenLemmas
+mod Examples

@@ -24,11 +24,11 @@ use Rattle.mailstore.proofs.WriteLemmas.{clean_before}
 use Rattle.mailstore.proofs.ResultLemmas.{on_ok}
 use Rattle.mailstore.proofs.StatementLemmas.{account_index, script_index, account_agrees, script_agrees}
 
-same_unchanged : (old new : State) → IsUnchanged old new → StaysSame old new
+pub same_unchanged : (old new : State) → IsUnchanged old new → StaysSame old new
 same_unchanged old new h = record { now_is = λ _. h.0.now_is; committed_is = λ _. h.0.committed_is }
 
 -- outside a transaction the last commit is what was seen
-same_undone : (old new : State) → (IsTrue old.is_open → old.now ≡ old.committed) → IsRolledBack old new → StaysSame old new
+pub same_undone : (old new : State) → (IsTrue old.is_open → old.now ≡ old.committed) → IsRolledBack old new → StaysSame old new
 same_undone old new settled h = record { now_is = λ open_now. (h.undone open_now).0 ∙ sym (settled (h.was_open open_now)); committed_is = λ open_now. (h.undone open_now).1 }
 
 module _ (sql : List ℕ) (params : Row) (old new : State) (plain : IsPlain (understood mail_schema sql)) where

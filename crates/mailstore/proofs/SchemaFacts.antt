@@ -1,7 +1,9 @@
 -- What is computed of the schema: the texts define its tables, and no foreign key acts.
-use Rattle.std.proofs.Common.{◌≡◌, ◌==◌, ℕ, true, false, cond, List, [], length, Ok, refl}
+use Rattle.std.proofs.Common.{◌≡◌, ◌==◌, ◌+◌, ℕ, true, false, cond, codes, List, [], ◌∷◌, length, Ok, refl}
 use Rattle.std.specs.List.{flat_map, filter_map}
 use Rattle.sqlite_value.specs.Order.{Row}
+use Rattle.sqlite_value.specs.Keys.{plain}
+use Rattle.sqlite_schema.specs.declared.schema.Index.{Index}
 use Rattle.sqlite_schema.specs.declared.schema.Keys.TheVariants.{Enforced}
 use Rattle.sqlite_schema.specs.declared.command.Command.TheVariants.{CreateTable}
 use Rattle.sqlite_schema.specs.Rules.{parent_key}
@@ -11,7 +13,7 @@ use Rattle.sqlite_catalog.specs.Change.{created}
 use Rattle.sqlite_tied.specs.Compute.{everything}
 use Rattle.sqlite.specs.Listing.{understood}
 use Rattle.sqlite.proofs.Callers.{IsPlain, command_of, statement_of}
-use Rattle.mailstore.specs.Schema.{meta, account, script, copy, outgoing, reply, notice, no_schema, mail_schema, schema_1, schema_2, schema_3, schema_4, schema_5, schema_6}
+use Rattle.mailstore.specs.Schema.{meta, account, script, copy, outgoing, reply, notice, no_schema, the_indexes, mail_schema, schema_1, schema_2, schema_3, schema_4, schema_5, schema_6}
 use Rattle.mailstore.specs.Statements.{create_meta, create_account, create_script, create_copy, create_outgoing, create_reply, create_notice}
 
 pub no_works : (depth tree : ℕ) (olds news : List Row) → works mail_schema Enforced depth tree olds news ≡ []
@@ -77,3 +79,16 @@ reply_creates = (refl, refl, (refl, refl))
 pub notice_creates : (command_of (understood schema_6 create_notice) ≡ CreateTable) × (statement_of create_notice (understood schema_6 create_notice) ≡ create_notice) × IsPlain (understood schema_6 create_notice)
 unfolding understood everything
 notice_creates = (refl, refl, (refl, refl))
+
+abbrev index_named : List ℕ → ℕ → List ℕ → Index
+index_named name table places = record { name = name; tree = table + 1; table = table; columns = places; order = plain; is_unique = true }
+
+abbrev pub named_indexes : List Index
+named_indexes =
+    index_named (codes "sqlite_autoindex_meta_1") 0 (1 ∷ []) ∷ index_named (codes "sqlite_autoindex_account_1") 2 (1 ∷ []) ∷ index_named (codes "sqlite_autoindex_script_1") 4 (1 ∷ 2 ∷ [])
+    ∷ index_named (codes "sqlite_autoindex_copy_1") 6 (1 ∷ 2 ∷ 3 ∷ []) ∷ index_named (codes "sqlite_autoindex_outgoing_1") 8 (1 ∷ 2 ∷ [])
+    ∷ index_named (codes "sqlite_autoindex_reply_1") 10 (1 ∷ 2 ∷ 3 ∷ []) ∷ index_named (codes "sqlite_autoindex_notice_1") 12 (1 ∷ 2 ∷ []) ∷ []
+
+pub indexes_are : named_indexes ≡ the_indexes
+unfolding everything
+indexes_are = refl

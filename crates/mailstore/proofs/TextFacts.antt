@@ -11,7 +11,7 @@ use Rattle.sqlite.specs.Listing.{understood, reads_listing}
 use Rattle.sqlite.proofs.Callers.{IsPlain, command_of}
 use Rattle.sqlrows.specs.Forms.{equals, over}
 use Rattle.mailstore.specs.Schema.{mail_schema}
-use Rattle.mailstore.specs.Statements.{insert_version, insert_account, update_active, update_next_copy, insert_script, delete_script, insert_copy, select_account, select_next_copy, select_names, select_script, select_folders, select_folder}
+use Rattle.mailstore.specs.Statements.{insert_version, insert_account, update_active, update_next_copy, insert_script, delete_script, insert_copy, select_version, select_account, select_next_copy, select_names, select_script, select_folders, select_folder}
 
 abbrev pub by_one : List Term
 by_one = equals 1 0 ∷ []
@@ -103,6 +103,14 @@ select_account_is = refl
 pub select_account_plain : IsPlain (understood mail_schema select_account) × (reads_listing mail_schema select_account ≡ false)
 unfolding understood everything
 select_account_plain = ((refl, refl), refl)
+
+pub select_version_is : command_of (understood mail_schema select_version) ≡ Select (over 0 by_one (col 1 2 ∷ []) []) (codes "value" ∷ [])
+unfolding understood everything
+select_version_is = refl
+
+pub select_version_plain : IsPlain (understood mail_schema select_version) × (reads_listing mail_schema select_version ≡ false)
+unfolding understood everything
+select_version_plain = ((refl, refl), refl)
 
 pub select_next_copy_is : command_of (understood mail_schema select_next_copy) ≡ Select (over 2 by_one (col 1 7 ∷ []) []) (codes "next_copy" ∷ [])
 unfolding understood everything

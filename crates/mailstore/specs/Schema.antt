@@ -1,17 +1,26 @@
 -- The tables of version 1, as the texts of their CREATE statements define them.
-use Rattle.std.specs.Prelude.{false, List, [], ◌∷◌, ◌++◌, codes}
+use Rattle.std.specs.Prelude.{◌≡◌, true, false, None, List, [], ◌∷◌, ◌++◌, codes}
 use Rattle.sqlite_schema.specs.declared.schema.Action.TheVariants.{NoAction}
 use Rattle.sqlite_schema.specs.declared.schema.Kind.TheVariants.{Integer, Text, Blob}
 use Rattle.sqlite_schema.specs.declared.schema.Reference.{Reference}
+use Rattle.sqlite_schema.specs.declared.schema.Column.{Column}
 use Rattle.sqlite_schema.specs.declared.schema.Index.{Index}
 use Rattle.sqlite_schema.specs.declared.schema.Table.{Table}
 use Rattle.sqlite_schema.specs.declared.schema.Schema.{Schema}
 use Rattle.sqlite_catalog.specs.Change.{automatics, created}
+use Rattle.sqlite_value.specs.declared.value.Value.TheVariants.{Null}
+use Rattle.sqlite_value.specs.declared.keys.Collation.TheVariants.{Binary}
+use Rattle.sqlite_value.specs.Keys.{plain}
 use Rattle.sqlrows.specs.Forms.{needed, maybe, keyed}
+use Rattle.mailstore.specs.declared.schema.Form.{Form}
+use Rattle.mailstore.specs.declared.schema.KeyForm.{KeyForm}
 
 -- `REFERENCES account (name)` at the first column
+abbrev pub account_reference : Reference
+account_reference = record { columns = 1 ∷ []; parent = codes "account"; parent_columns = codes "name" ∷ []; on_delete = NoAction; on_update = NoAction; is_deferred = false }
+
 abbrev pub to_account : List Reference
-to_account = (record { columns = 1 ∷ []; parent = codes "account"; parent_columns = codes "name" ∷ []; on_delete = NoAction; on_update = NoAction; is_deferred = false }) ∷ []
+to_account = account_reference ∷ []
 
 abbrev pub meta : Table
 meta = keyed (codes "meta") 0 (1 ∷ []) [] (needed (codes "item") Text ∷ needed (codes "value") Integer ∷ [])
@@ -70,3 +79,15 @@ schema_5 = created schema_4 (record outgoing { tree = 0 })
 
 abbrev pub schema_6 : Schema
 schema_6 = created schema_5 (record reply { tree = 0 })
+
+-- the column of this form, without a default
+abbrev pub column_of : Form → Column
+column_of form = record { name = form.name.now; kind = form.kind; is_strict = true; not_null = form.not_null; default = Null; collation = Binary }
+
+-- no INTEGER PRIMARY KEY, CHECK, default that is no literal, or AUTOINCREMENT
+abbrev pub HasNoOtherRule : Table → Type 0
+HasNoOtherRule table = (table.key ≡ None) × (table.checks ≡ []) × (table.computed ≡ []) × (table.stamps ≡ record { places = []; terms = []; formats = [] }) × (table.is_counted ≡ false)
+
+-- the index of this form, of a table's one key
+abbrev pub index_of : KeyForm → Index
+index_of form = record { name = form.name.now; tree = form.tree; table = form.table; columns = form.places.now; order = plain; is_unique = true }

@@ -3,13 +3,14 @@ use Rattle.std.specs.Prelude.{◌≡◌, ◌≢◌, ℕ, pos, ◌<◌, ◌≤◌
 use Rattle.std.specs.FinMap.{empty, get, from_entries}
 use Rattle.std.specs.List.{AllByRecursion}
 use Rattle.sqlite_value.specs.declared.value.Value.TheVariants.{Int, Text, Blob}
-use Rattle.sqlite_value.specs.Order.{Row}
+use Rattle.sqlite_value.specs.Order.{Row, column}
 use Rattle.sqlite_trees.specs.Tree.{Trees, IsAscending}
 use Rattle.sqlite.specs.Effect.{Database}
-use Rattle.sqlrows.specs.Rows.{Tables, Holds, has_key}
-use Rattle.mailstore.specs.Schema.{mail_schema}
+use Rattle.sqlite.specs.State.{State}
+use Rattle.sqlrows.specs.Rows.{Tables, Holds, has_key, has_key_from}
+use Rattle.mailstore.specs.Schema.{no_schema, mail_schema}
 use Rattle.mailstore.specs.Cells.{or_null, script_cells, copy_cells}
-use Rattle.mailstore.specs.Account.{Queued, Noted, Account, Accounts, Folders, filed}
+use Rattle.mailstore.specs.Account.{Queued, Noted, Account, Accounts, Folders, filed, no_accounts}
 
 -- the rows of one user, in each table that has an owner and in the table of accounts
 abbrev pub rows_of : List ℕ → Tables → Tables
@@ -108,10 +109,25 @@ pub record ShowsAccounts (tables : Tables) (accounts : Accounts) : Type 0 where
 abbrev pub Presents : Database → Accounts → Type 0
 Presents db accounts = (tables : Tables) × Holds mail_schema db tables × ShowsAccounts tables accounts
 
--- a database of our tables, whose one row of a version says 1
-abbrev pub IsOurs : Database → Type 0
-IsOurs db = (tables : Tables) × Holds mail_schema db tables × (filter (has_key version_key) (tables 0) ≡ version_row ∷ [])
+-- the rows of the version, each with its rowid
+abbrev pub version_rows : Trees → List Row
+version_rows trees = filter (has_key_from 1 version_key) (trees 0)
+
+-- there is one row, and it begins with 1
+abbrev pub SaysOne : List Row → Type 0
+SaysOne rows = (row : Row) × (rows ≡ row ∷ []) × (column row 0 ≡ Int (pos 1))
+
+-- a database of our tables, whose one row of the version says 1
+pub record IsOurs (db : Database) : Type 0 where
+  pub schema : db.schema ≡ mail_schema
+  pub row : Row
+  pub only : version_rows db.trees ≡ row ∷ []
+  pub says : column row 2 ≡ Int (pos 1)
 
 -- the trees are those of a database that shows the accounts
 abbrev pub ShowsIn : Trees → Accounts → Type 0
 ShowsIn trees accounts = (db : Database) × Presents db accounts × (trees ≡ db.trees)
+
+-- what a crash may leave while the tables are made in an empty database
+abbrev pub MayCreate : State → Trees → Type 0
+MayCreate s trees = s.now.schema ≡ no_schema → ShowsIn trees no_accounts

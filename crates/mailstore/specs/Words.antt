@@ -1,5 +1,5 @@
 -- What a call leaves of a connection: after Ok, after a refusal, and where a crash comes.
-use Rattle.std.specs.Prelude.{◌≡◌, ◌≤◌, ◌||◌, Bool, true, [], codes, is_some, Result, OnOk, IsTrue}
+use Rattle.std.specs.Prelude.{◌≡◌, ◌⊎◌, ◌≤◌, ◌||◌, Bool, true, [], codes, is_some, Result, OnOk, IsTrue}
 use Rattle.sqlite_schema.specs.declared.schema.Schema.{Schema}
 use Rattle.sqlite_schema.specs.Names.{table_named}
 use Rattle.sqlite_trees.specs.Tree.{Trees}
@@ -14,6 +14,11 @@ abbrev pub Makes : {X : Type 0} → State → State → Result X Error → (Tabl
 Makes old new result change =
     HasCleanDisk new → IsTrue old.in_transaction
     → KeepsCommit old new × OnOk result (((tables : Tables) → Holds mail_schema old.now tables → Holds mail_schema new.now (change tables)) × Shows old new new.now old.committed true)
+
+-- the connection is open, and sees its last commit
+pub record SeesCommit (s : State) : Type 0 where
+  pub is_open : IsTrue s.is_open
+  pub same : s.now ≡ s.committed
 
 -- the connection is open, sees its last commit, and a crash leaves that alone
 pub record IsSettled (s : State) : Type 0 where
@@ -30,6 +35,11 @@ pub record StaysSame (old new : State) : Type 0 where
 pub record Leaves (old new : State) : Type 0 where
   pub faults : doubt old.is_clean ≤ doubt new.is_clean
   pub alone : HasCleanDisk new → (db : Trees) → new.may_leave db → old.may_leave db
+
+-- no fault of the disk is forgotten, and a crash leaves what it left before, or such trees
+pub record Outlives (Left : Trees → Type 0) (old new : State) : Type 0 where
+  pub faults : doubt old.is_clean ≤ doubt new.is_clean
+  pub crash : HasCleanDisk new → (db : Trees) → new.may_leave db → old.may_leave db ⊎ Left db
 
 -- no table has a row
 abbrev pub no_rows : Tables

@@ -6,6 +6,7 @@ ghost use Rattle.sqlite_value.specs.Order.{column};
 ghost use Rattle.mailstore.specs.Refusals.{IsPassing};
 ghost use Rattle.mailstore.specs.Cells.{or_null};
 ghost use Rattle.mailstore.specs.Calls.{IsRead};
+ghost use Rattle.mailstore.specs.Shows.{SaysOne};
 
 use crate::folders::{Folder, count};
 use crate::profile::Profile;
@@ -21,16 +22,20 @@ fn text_at(row: &Row, at: usize) -> Result<Octets, Error>
     Ok(Octets::from_vec(items))
 }
 
-/// Whether the first row says version 1.
-pub fn says_version_1(rows: &[Row]) -> Result<bool, Error>
-    ensures { IfOk result (λ is. IsTrue is ↔ (option_map (λ r. column r 0) (slice_get rows.now 0) ≡ Some (Int (pos 1)))) }
+fn says_1(row: &Row) -> Result<bool, Error>
+    ensures { IfOk result (λ is. IsTrue is ↔ (column row.now 0 ≡ Int (pos 1))) }
 {
-    match rows.first() {
-        Some(row) => {
-            let version: i64 = row.get(0)?;
-            Ok(version == 1)
-        }
-        None => Ok(false),
+    let number: i64 = row.get(0)?;
+    Ok(number == 1)
+}
+
+/// Whether there is one row, and it says 1.
+pub fn says_version_1(rows: &[Row]) -> Result<bool, Error>
+    ensures { IfOk result (λ is. IsTrue is ↔ SaysOne rows.now) }
+{
+    match rows {
+        [row] => says_1(row),
+        _ => Ok(false),
     }
 }
 

@@ -1,43 +1,43 @@
 //! The queries.
-ghost use Rattle.std.specs.Prelude.{◌≡◌, ℕ, List, false, [], ◌∷◌, map, slice_get, option_map, filter, ◌↔◌, IsTrue, IfOk, OnOk, IfSome};
+ghost use Rattle.std.specs.Prelude.{◌≡◌, ℕ, List, false, [], ◌∷◌, map, slice_get, option_map, IsPermutation, ◌↔◌, IsTrue, IfOk, OnOk, IfSome};
 ghost use Rattle.std.specs.FinMap.{get, keys};
 ghost use Rattle.sqlite_value.specs.declared.value.Value.TheVariants.{Blob};
 ghost use Rattle.sqlite.specs.Held.{state};
 ghost use Rattle.sqlite.specs.State.{HasCleanDisk, Survives};
 ghost use Rattle.sqlite_value.specs.Order.{column};
-ghost use Rattle.sqlrows.specs.Rows.{Tables, Holds, has_key};
+ghost use Rattle.sqlrows.specs.Rows.{Tables, Holds};
 ghost use Rattle.mailstore.specs.Schema.{mail_schema};
 ghost use Rattle.mailstore.specs.Calls.{profile_row};
-ghost use Rattle.mailstore.specs.Words.{StaysSame, ReadsOnly, IsLiveOnOk, IsQuiet, StaysShut};
-ghost use Rattle.mailstore.specs.Shows.{rows_of, version_key, version_row, Presents};
+ghost use Rattle.mailstore.specs.Words.{StaysSame, SeesCommit, ReadsOnly, IsLiveOnOk, IsQuiet, StaysShut};
+ghost use Rattle.mailstore.specs.Shows.{rows_of, version_rows, IsOurs, Presents};
 ghost use Rattle.mailstore.specs.Account.{Accounts, messages_in};
 ghost use Rattle.mailstore.specs.Tally.{tallied, AreFolders};
 
 use crate::decode::says_version_1;
 use sqlite::{Alter, Connection, Error, Row, params};
 
-/// The number of the version, in the one row that has it.
+/// The numbers in the rows of the version.
 pub fn find_version<S: Alter>(conn: &mut Connection<S>) -> Result<Vec<Row>, Error>
     requires { conn.old.in_transaction ≡ false }
     ensures ended { conn.new.in_transaction ≡ false }
     ensures limit { conn.new.step_limit ≡ conn.old.step_limit }
-    ensures found { HasCleanDisk (state S.Store conn.new) → (tables : Tables) → Holds mail_schema (state S.Store conn.old).now tables → IfOk result (λ rows. rows.items ≡ map (λ c. column c 1 ∷ []) (filter (has_key version_key) (tables 0))) }
+    ensures found { (state S.Store conn.old).now.schema ≡ mail_schema → HasCleanDisk (state S.Store conn.new) → IfOk result (λ rows. IsPermutation (map (λ r. column r 2 ∷ []) (version_rows (state S.Store conn.old).now.trees)) rows.items) }
     ensures same { (state S.Store conn.old).now.schema ≡ mail_schema → HasCleanDisk (state S.Store conn.new) → StaysSame (state S.Store conn.old) (state S.Store conn.new) }
-    ensures live { (state S.Store conn.old).now.schema ≡ mail_schema → HasCleanDisk (state S.Store conn.new) → OnOk result (IsTrue (state S.Store conn.new).is_open) }
+    ensures live { (state S.Store conn.old).now.schema ≡ mail_schema → HasCleanDisk (state S.Store conn.new) → OnOk result (SeesCommit (state S.Store conn.new)) }
     ensures crash { (state S.Store conn.old).now.schema ≡ mail_schema → Survives (state S.Store conn.old) (state S.Store conn.new) (λ _. ⊥) }
 {
     let _settled = conn.is_autocommit();
     conn.query_all("SELECT value FROM meta WHERE item = ?1", params!["version"])
 }
 
-/// Whether the row of the version is there, and says 1.
+/// Whether the row of the version is there once, and says 1.
 pub fn has_version<S: Alter>(conn: &mut Connection<S>) -> Result<bool, Error>
     requires { conn.old.in_transaction ≡ false }
     ensures ended { conn.new.in_transaction ≡ false }
     ensures limit { conn.new.step_limit ≡ conn.old.step_limit }
-    ensures found { HasCleanDisk (state S.Store conn.new) → (tables : Tables) → Holds mail_schema (state S.Store conn.old).now tables → IfOk result (λ is. IsTrue is ↔ (filter (has_key version_key) (tables 0) ≡ version_row ∷ [])) }
+    ensures found { (state S.Store conn.old).now.schema ≡ mail_schema → HasCleanDisk (state S.Store conn.new) → IfOk result (λ is. IsTrue is ↔ IsOurs (state S.Store conn.old).now) }
     ensures same { (state S.Store conn.old).now.schema ≡ mail_schema → HasCleanDisk (state S.Store conn.new) → StaysSame (state S.Store conn.old) (state S.Store conn.new) }
-    ensures live { (state S.Store conn.old).now.schema ≡ mail_schema → HasCleanDisk (state S.Store conn.new) → OnOk result (IsTrue (state S.Store conn.new).is_open) }
+    ensures live { (state S.Store conn.old).now.schema ≡ mail_schema → HasCleanDisk (state S.Store conn.new) → OnOk result (SeesCommit (state S.Store conn.new)) }
     ensures crash { (state S.Store conn.old).now.schema ≡ mail_schema → Survives (state S.Store conn.old) (state S.Store conn.new) (λ _. ⊥) }
 {
     let rows = find_version(conn)?;

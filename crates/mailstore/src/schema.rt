@@ -1,66 +1,135 @@
 //! Whether the tables of a database are ours: those that the texts of `table.rt` make, and no others.
-ghost use Rattle.std.specs.Prelude.{◌≡◌, ◌↔◌, ◌+◌, ◌-◌, ◌<◌, ◌^◌, true, [], ◌∷◌, IsTrue};
+ghost use Rattle.std.specs.Prelude.{◌≡◌, ◌↔◌, true, [], ◌∷◌, map, if◌then◌else◌, IsTrue};
 ghost use Rattle.sqlite_value.specs.Keys.{plain};
-ghost use Rattle.sqlite_value.specs.declared.keys.Collation.TheVariants.{Binary};
-ghost use Rattle.sqlite_value.specs.declared.value.Value.TheVariants.{Null};
-ghost use Rattle.sqlrows.specs.Forms.{keyed};
+ghost use Rattle.sqlrows.specs.Forms.{needed, maybe, keyed};
 ghost use Rattle.mailstore.specs.Schema as spec;
 
+use sqlite_items::Items;
 use sqlite_schema::schema::{Action, Column, Index, Kind, Reference, Schema, Table};
 use sqlite_value::keys::{Collation, Order};
-use sqlite_value::value::Value;
+use sqlite_value::value::{Bytes, Value};
 
-/// Whether the column has the name and the type, no default, and is compared octet by octet.
-fn is_column(column: &Column, name: &[u8], kind: Kind, not_null: bool) -> bool
-    ensures { IsTrue result ↔ (column.now ≡ record { name = name.now; kind = kind; is_strict = true; not_null = not_null; default = Null; collation = Binary }) }
-{
-    column.name.as_slice() == name
-        && column.kind == kind
-        && column.is_strict
-        && column.not_null == not_null
-        && matches!(column.default, Value::Null)
-        && column.collation == Collation::Binary
+/// A column without a default, whose texts compare octet by octet.
+#[derive(Clone, Copy)]
+pub struct Form<'a> {
+    pub name: &'a [u8],
+    pub kind: Kind,
+    pub not_null: bool,
 }
 
-/// Whether the one reference is `REFERENCES account (name)` at the first column.
-fn refer_to_account(references: &[Reference]) -> bool
-    ensures { IsTrue result ↔ (references.now ≡ spec.to_account) }
+fn needed(name: &[u8], kind: Kind) -> Form<'_>
+    ensures { spec.column_of result ≡ needed name.now kind }
 {
-    let [reference] = references else {
+    Form {
+        name,
+        kind,
+        not_null: true,
+    }
+}
+
+fn maybe(name: &[u8], kind: Kind) -> Form<'_>
+    ensures { spec.column_of result ≡ maybe name.now kind }
+{
+    Form {
+        name,
+        kind,
+        not_null: false,
+    }
+}
+
+impl Form<'_> {
+    fn is_of(&self, column: &Column) -> bool
+        ensures { IsTrue result ↔ (column.now ≡ spec.column_of self.now) }
+    {
+        column.name.as_slice() == self.name
+            && column.kind == self.kind
+            && column.is_strict
+            && column.not_null == self.not_null
+            && matches!(column.default, Value::Null)
+            && column.collation == Collation::Binary
+    }
+}
+
+fn are_columns(mut columns: &[Column], mut forms: &[Form<'_>]) -> bool
+    ensures { IsTrue result ↔ (columns.entry.now ≡ map spec.column_of forms.entry.now) }
+{
+    while let [form, others @ ..] = forms {
+        let [column, more @ ..] = columns else {
+            return false;
+        };
+        if !form.is_of(column) {
+            return false;
+        }
+        columns = more;
+        forms = others;
+    }
+    columns.is_empty()
+}
+
+fn is_only_text(texts: &[Bytes], text: &[u8]) -> bool
+    ensures { IsTrue result ↔ (texts.now ≡ text.now ∷ []) }
+{
+    let [only] = texts else {
         return false;
     };
-    let [parent_column] = reference.parent_columns.as_slice() else {
-        return false;
-    };
+    only.as_slice() == text
+}
+
+/// Whether this is `REFERENCES account (name)` at the first column.
+fn is_to_account(reference: &Reference) -> bool
+    ensures { IsTrue result ↔ (reference.now ≡ spec.account_reference) }
+{
     reference.columns.as_slice() == [1].as_slice()
         && reference.parent.as_slice() == b"account".as_slice()
-        && parent_column.as_slice() == b"name".as_slice()
+        && is_only_text(reference.parent_columns.as_slice(), b"name")
         && reference.on_delete == Action::NoAction
         && reference.on_update == Action::NoAction
         && !reference.is_deferred
 }
 
-/// Whether the table's one key is its primary key, of these columns, in the plain order.
-fn has_key(table: &Table, primary: &[usize]) -> bool
-    ensures { IsTrue result ↔ (table.now ≡ record table.now { primary = primary.now; uniques = primary.now ∷ []; orders = plain ∷ [] }) }
+/// Whether the one reference is to the account, or there is none.
+fn refer(references: &[Reference], is_owned: bool) -> bool
+    ensures { IsTrue result ↔ (references.now ≡ (if is_owned then spec.to_account else [])) }
 {
-    let [unique] = table.uniques.as_slice() else {
-        return false;
-    };
-    let [order] = table.orders.as_slice() else {
-        return false;
-    };
-    table.primary.as_slice() == primary && unique.as_slice() == primary && *order == Order::PLAIN
+    match references {
+        [] => !is_owned,
+        [reference] => is_owned && is_to_account(reference),
+        _ => false,
+    }
 }
 
-/// Whether the table has this name, tree and key, and no rule but those of its columns and references.
-fn is_table(table: &Table, name: &[u8], tree: u32, primary: &[usize]) -> bool
-    ensures { IsTrue result ↔ (table.now ≡ keyed name.now tree primary.now table.now.references table.now.columns) }
+fn is_only_key(keys: &[Items<usize>], key: &[usize]) -> bool
+    ensures { IsTrue result ↔ (keys.now ≡ key.now ∷ []) }
 {
-    table.name.as_slice() == name
-        && table.tree == tree
-        && table.key.is_none()
-        && has_key(table, primary)
+    let [only] = keys else {
+        return false;
+    };
+    only.as_slice() == key
+}
+
+fn is_plain(orders: &[Order]) -> bool
+    ensures { IsTrue result ↔ (orders.now ≡ plain ∷ []) }
+{
+    let [only] = orders else {
+        return false;
+    };
+    only.digits == 0
+}
+
+/// Whether the table's one key is its primary key, of these places, in the plain order.
+fn has_one_key(table: &Table, primary: &[usize]) -> bool
+    ensures { IsTrue result ↔ (table.now.primary ≡ primary.now) × (table.now.uniques ≡ primary.now ∷ []) × (table.now.orders ≡ plain ∷ []) }
+{
+    table.primary.as_slice() == primary
+        && is_only_key(table.uniques.as_slice(), primary)
+        && is_plain(table.orders.as_slice())
+}
+
+/// Whether no rule stands at the table but those of its columns, its key and its references.
+fn has_no_other_rule(table: &Table) -> bool
+    ensures { IsTrue result ↔ spec.HasNoOtherRule table.now }
+{
+    table.key.is_none()
         && table.checks.roots.is_empty()
         && table.computed.is_empty()
         && table.stamps.places.is_empty()
@@ -69,160 +138,190 @@ fn is_table(table: &Table, name: &[u8], tree: u32, primary: &[usize]) -> bool
         && !table.is_counted
 }
 
+/// Whether the table has this name, tree, key and columns. One that is owned refers to the account.
+fn is_table(
+    table: &Table,
+    name: &[u8],
+    tree: u32,
+    primary: &[usize],
+    is_owned: bool,
+    forms: &[Form<'_>],
+) -> bool
+    ensures { IsTrue result ↔ (table.now ≡ keyed name.now tree primary.now (if is_owned then spec.to_account else []) (map spec.column_of forms.now)) }
+{
+    table.name.as_slice() == name
+        && table.tree == tree
+        && has_one_key(table, primary)
+        && refer(table.references.as_slice(), is_owned)
+        && are_columns(table.columns.as_slice(), forms)
+        && has_no_other_rule(table)
+}
+
 fn is_meta(table: &Table) -> bool
     ensures { IsTrue result ↔ (table.now ≡ spec.meta) }
 {
-    let [item, value] = table.columns.as_slice() else {
-        return false;
-    };
-    is_table(table, b"meta", 0, &[1])
-        && table.references.is_empty()
-        && is_column(item, b"item", Kind::Text, true)
-        && is_column(value, b"value", Kind::Integer, true)
+    let forms = [needed(b"item", Kind::Text), needed(b"value", Kind::Integer)];
+    is_table(table, b"meta", 0, &[1], false, &forms)
 }
 
 fn is_account(table: &Table) -> bool
     ensures { IsTrue result ↔ (table.now ≡ spec.account) }
 {
-    let [
-        name,
-        address,
-        salt,
-        rounds,
-        digest,
-        active,
-        next_copy,
-        next_out,
-        next_notice,
-    ] = table.columns.as_slice()
-    else {
-        return false;
-    };
-    is_table(table, b"account", 2, &[1])
-        && table.references.is_empty()
-        && is_column(name, b"name", Kind::Blob, true)
-        && is_column(address, b"address", Kind::Blob, true)
-        && is_column(salt, b"salt", Kind::Blob, true)
-        && is_column(rounds, b"rounds", Kind::Integer, true)
-        && is_column(digest, b"digest", Kind::Blob, true)
-        && is_column(active, b"active", Kind::Blob, false)
-        && is_column(next_copy, b"next_copy", Kind::Integer, true)
-        && is_column(next_out, b"next_out", Kind::Integer, true)
-        && is_column(next_notice, b"next_notice", Kind::Integer, true)
+    let forms = [
+        needed(b"name", Kind::Blob),
+        needed(b"address", Kind::Blob),
+        needed(b"salt", Kind::Blob),
+        needed(b"rounds", Kind::Integer),
+        needed(b"digest", Kind::Blob),
+        maybe(b"active", Kind::Blob),
+        needed(b"next_copy", Kind::Integer),
+        needed(b"next_out", Kind::Integer),
+        needed(b"next_notice", Kind::Integer),
+    ];
+    is_table(table, b"account", 2, &[1], false, &forms)
 }
 
 fn is_script(table: &Table) -> bool
     ensures { IsTrue result ↔ (table.now ≡ spec.script) }
 {
-    let [owner, name, text] = table.columns.as_slice() else {
-        return false;
-    };
-    is_table(table, b"script", 4, &[1, 2])
-        && refer_to_account(table.references.as_slice())
-        && is_column(owner, b"owner", Kind::Blob, true)
-        && is_column(name, b"name", Kind::Blob, true)
-        && is_column(text, b"text", Kind::Blob, true)
+    let forms = [
+        needed(b"owner", Kind::Blob),
+        needed(b"name", Kind::Blob),
+        needed(b"text", Kind::Blob),
+    ];
+    is_table(table, b"script", 4, &[1, 2], true, &forms)
 }
 
 fn is_copy(table: &Table) -> bool
     ensures { IsTrue result ↔ (table.now ≡ spec.copy) }
 {
-    let [owner, folder, n, message] = table.columns.as_slice() else {
-        return false;
-    };
-    is_table(table, b"copy", 6, &[1, 2, 3])
-        && refer_to_account(table.references.as_slice())
-        && is_column(owner, b"owner", Kind::Blob, true)
-        && is_column(folder, b"folder", Kind::Blob, true)
-        && is_column(n, b"n", Kind::Integer, true)
-        && is_column(message, b"message", Kind::Blob, true)
+    let forms = [
+        needed(b"owner", Kind::Blob),
+        needed(b"folder", Kind::Blob),
+        needed(b"n", Kind::Integer),
+        needed(b"message", Kind::Blob),
+    ];
+    is_table(table, b"copy", 6, &[1, 2, 3], true, &forms)
 }
 
 fn is_outgoing(table: &Table) -> bool
     ensures { IsTrue result ↔ (table.now ≡ spec.outgoing) }
 {
-    let [owner, id, kind, sender, target, message] = table.columns.as_slice() else {
-        return false;
-    };
-    is_table(table, b"outgoing", 8, &[1, 2])
-        && refer_to_account(table.references.as_slice())
-        && is_column(owner, b"owner", Kind::Blob, true)
-        && is_column(id, b"id", Kind::Integer, true)
-        && is_column(kind, b"kind", Kind::Integer, true)
-        && is_column(sender, b"sender", Kind::Blob, true)
-        && is_column(target, b"target", Kind::Blob, true)
-        && is_column(message, b"message", Kind::Blob, true)
+    let forms = [
+        needed(b"owner", Kind::Blob),
+        needed(b"id", Kind::Integer),
+        needed(b"kind", Kind::Integer),
+        needed(b"sender", Kind::Blob),
+        needed(b"target", Kind::Blob),
+        needed(b"message", Kind::Blob),
+    ];
+    is_table(table, b"outgoing", 8, &[1, 2], true, &forms)
 }
 
 fn is_reply(table: &Table) -> bool
     ensures { IsTrue result ↔ (table.now ≡ spec.reply) }
 {
-    let [owner, handle, sender, moment] = table.columns.as_slice() else {
-        return false;
-    };
-    is_table(table, b"reply", 10, &[1, 2, 3])
-        && refer_to_account(table.references.as_slice())
-        && is_column(owner, b"owner", Kind::Blob, true)
-        && is_column(handle, b"handle", Kind::Blob, true)
-        && is_column(sender, b"sender", Kind::Blob, true)
-        && is_column(moment, b"moment", Kind::Integer, true)
+    let forms = [
+        needed(b"owner", Kind::Blob),
+        needed(b"handle", Kind::Blob),
+        needed(b"sender", Kind::Blob),
+        needed(b"moment", Kind::Integer),
+    ];
+    is_table(table, b"reply", 10, &[1, 2, 3], true, &forms)
 }
 
 fn is_notice(table: &Table) -> bool
     ensures { IsTrue result ↔ (table.now ≡ spec.notice) }
 {
-    let [owner, id, moment, text] = table.columns.as_slice() else {
+    let forms = [
+        needed(b"owner", Kind::Blob),
+        needed(b"id", Kind::Integer),
+        needed(b"moment", Kind::Integer),
+        needed(b"text", Kind::Blob),
+    ];
+    is_table(table, b"notice", 12, &[1, 2], true, &forms)
+}
+
+fn are_last(tables: &[Table]) -> bool
+    ensures { IsTrue result ↔ (tables.now ≡ spec.outgoing ∷ spec.reply ∷ spec.notice ∷ []) }
+{
+    let [outgoing, reply, notice] = tables else {
         return false;
     };
-    is_table(table, b"notice", 12, &[1, 2])
-        && refer_to_account(table.references.as_slice())
-        && is_column(owner, b"owner", Kind::Blob, true)
-        && is_column(id, b"id", Kind::Integer, true)
-        && is_column(moment, b"moment", Kind::Integer, true)
-        && is_column(text, b"text", Kind::Blob, true)
+    is_outgoing(outgoing) && is_reply(reply) && is_notice(notice)
 }
 
 fn are_tables(tables: &[Table]) -> bool
     ensures { IsTrue result ↔ (tables.now ≡ spec.the_tables) }
 {
-    let [meta, account, script, copy, outgoing, reply, notice] = tables else {
+    let [meta, account, script, copy, others @ ..] = tables else {
         return false;
     };
-    is_meta(meta)
-        && is_account(account)
-        && is_script(script)
-        && is_copy(copy)
-        && is_outgoing(outgoing)
-        && is_reply(reply)
-        && is_notice(notice)
+    is_meta(meta) && is_account(account) && is_script(script) && is_copy(copy) && are_last(others)
 }
 
-/// Whether the index is that of the one key of the table with this tree, whose own tree is the next.
-fn is_index(index: &Index, name: &[u8], table: u32, columns: &[usize]) -> bool
-    requires { table < 2 ^ 32 - 1 }
-    ensures { IsTrue result ↔ (index.now ≡ record { name = name.now; tree = table + 1; table = table; columns = columns.now; order = plain; is_unique = true }) }
+/// The index of the one key of a table, by the trees of the two.
+#[derive(Clone, Copy)]
+pub struct KeyForm<'a> {
+    pub name: &'a [u8],
+    pub tree: u32,
+    pub table: u32,
+    pub places: &'a [usize],
+}
+
+fn key_of<'a>(name: &'a [u8], tree: u32, table: u32, places: &'a [usize]) -> KeyForm<'a>
+    ensures { spec.index_of result ≡ record { name = name.now; tree = tree; table = table; columns = places.now; order = plain; is_unique = true } }
 {
-    index.name.as_slice() == name
-        && index.tree == table + 1
-        && index.table == table
-        && index.columns.as_slice() == columns
-        && index.order == Order::PLAIN
-        && index.is_unique
+    KeyForm {
+        name,
+        tree,
+        table,
+        places,
+    }
 }
 
-fn are_indexes(indexes: &[Index]) -> bool
+impl KeyForm<'_> {
+    fn is_of(&self, index: &Index) -> bool
+        ensures { IsTrue result ↔ (index.now ≡ spec.index_of self.now) }
+    {
+        index.name.as_slice() == self.name
+            && index.tree == self.tree
+            && index.table == self.table
+            && index.columns.as_slice() == self.places
+            && index.order == Order::PLAIN
+            && index.is_unique
+    }
+}
+
+fn are_indexes(mut indexes: &[Index], mut forms: &[KeyForm<'_>]) -> bool
+    ensures { IsTrue result ↔ (indexes.entry.now ≡ map spec.index_of forms.entry.now) }
+{
+    while let [form, others @ ..] = forms {
+        let [index, more @ ..] = indexes else {
+            return false;
+        };
+        if !form.is_of(index) {
+            return false;
+        }
+        indexes = more;
+        forms = others;
+    }
+    indexes.is_empty()
+}
+
+fn are_keys(indexes: &[Index]) -> bool
     ensures { IsTrue result ↔ (indexes.now ≡ spec.the_indexes) }
 {
-    let [meta, account, script, copy, outgoing, reply, notice] = indexes else {
-        return false;
-    };
-    is_index(meta, b"sqlite_autoindex_meta_1", 0, &[1])
-        && is_index(account, b"sqlite_autoindex_account_1", 2, &[1])
-        && is_index(script, b"sqlite_autoindex_script_1", 4, &[1, 2])
-        && is_index(copy, b"sqlite_autoindex_copy_1", 6, &[1, 2, 3])
-        && is_index(outgoing, b"sqlite_autoindex_outgoing_1", 8, &[1, 2])
-        && is_index(reply, b"sqlite_autoindex_reply_1", 10, &[1, 2, 3])
-        && is_index(notice, b"sqlite_autoindex_notice_1", 12, &[1, 2])
+    let forms = [
+        key_of(b"sqlite_autoindex_meta_1", 1, 0, &[1]),
+        key_of(b"sqlite_autoindex_account_1", 3, 2, &[1]),
+        key_of(b"sqlite_autoindex_script_1", 5, 4, &[1, 2]),
+        key_of(b"sqlite_autoindex_copy_1", 7, 6, &[1, 2, 3]),
+        key_of(b"sqlite_autoindex_outgoing_1", 9, 8, &[1, 2]),
+        key_of(b"sqlite_autoindex_reply_1", 11, 10, &[1, 2, 3]),
+        key_of(b"sqlite_autoindex_notice_1", 13, 12, &[1, 2]),
+    ];
+    are_indexes(indexes, &forms)
 }
 
 /// Whether these are our tables and indexes, and nothing else.
@@ -230,6 +329,6 @@ pub fn is_ours(schema: &Schema) -> bool
     ensures { IsTrue result ↔ (schema.now ≡ spec.mail_schema) }
 {
     are_tables(schema.tables.as_slice())
-        && are_indexes(schema.indexes.as_slice())
+        && are_keys(schema.indexes.as_slice())
         && schema.views.is_empty()
 }

@@ -1,10 +1,10 @@
 //! The store of accounts.
-ghost use Rattle.std.specs.Prelude.{◌≡◌, ◌⊎◌, ¬◌, false, IsTrue, IfOk, IfErr, OnOk};
+ghost use Rattle.std.specs.Prelude.{◌≡◌, ◌⊎◌, false, IsTrue, IfOk, IfErr, OnOk};
+ghost use Rattle.sqlite_trees.specs.Tree.{Trees};
 ghost use Rattle.sqlite.specs.Held.{state};
 ghost use Rattle.sqlite.specs.State.{HasCleanDisk};
-ghost use Rattle.sqlrows.specs.Rows.{Tables, Holds};
-ghost use Rattle.mailstore.specs.Schema.{mail_schema};
-ghost use Rattle.mailstore.specs.Words.{IsSettled, StaysSame, Leaves, has_our_name};
+ghost use Rattle.mailstore.specs.Schema.{no_schema};
+ghost use Rattle.mailstore.specs.Words.{IsSettled, StaysSame, Leaves, Outlives, has_our_name};
 ghost use Rattle.mailstore.specs.Account.{Accounts, no_accounts};
 ghost use Rattle.mailstore.specs.Shows.{Presents, IsOurs, ShowsIn};
 ghost use Rattle.mailstore.specs.Refusals.{IsPassing};
@@ -57,10 +57,13 @@ impl<S: Alter> Store<S> {
     ) -> Result<Store<S>, (Refusal, Connection<S>)>
         ensures made { IfOk result (λ store. HasCleanDisk (state S.Store store) → Presents (state S.Store store).now no_accounts) }
         ensures settled { IfOk result (λ store. HasCleanDisk (state S.Store store) → IsSettled (state S.Store store)) }
+        ensures left { IfOk result (λ store. HasCleanDisk (state S.Store store) → (db : Trees) → (state S.Store store).may_leave db → ShowsIn db no_accounts) }
+        ensures empty { OnOk result (conn.schema ≡ no_schema) }
         ensures taken { conn.in_transaction ≡ false → IsTrue (has_our_name conn.schema) → IfErr result (λ e. e.0 ≡ Refusal.NotOurs) × OnOk result ⊥ }
         ensures not_ours { IfErr result (λ e. e.0 ≡ Refusal.NotOurs → IsTrue (has_our_name conn.schema)) }
         ensures named { IfErr result (λ e. (e.0 ≡ Refusal.NotOurs) ⊎ IsPassing e.0) }
         ensures same_if_refused { IfErr result (λ e. HasCleanDisk (state S.Store e.1) → StaysSame (state S.Store conn) (state S.Store e.1)) }
+        ensures crash_if_refused { IfErr result (λ e. Outlives (λ trees. ShowsIn trees no_accounts) (state S.Store conn) (state S.Store e.1)) }
     {
         if !conn.is_autocommit() {
             return Err((Refusal::Store, conn));
@@ -87,12 +90,12 @@ impl<S: Alter> Store<S> {
         mut conn: Connection<S>,
     ) -> Result<Store<S>, (Refusal, Connection<S>)>
         ensures shown { IfOk result (λ store. HasCleanDisk (state S.Store store) → (accounts : Accounts) → ShowsIn (state S.Store conn).now.trees accounts → Presents (state S.Store store).now accounts) }
-        ensures schema { IfOk result (λ _. conn.schema ≡ mail_schema) }
-        ensures version { IfOk result (λ store. HasCleanDisk (state S.Store store) → (tables : Tables) → Holds mail_schema (state S.Store conn).now tables → IsOurs (state S.Store conn).now) }
+        ensures ours { IfOk result (λ store. HasCleanDisk (state S.Store store) → IsOurs (state S.Store conn).now) }
         ensures settled { IfOk result (λ store. HasCleanDisk (state S.Store store) → IsSettled (state S.Store store)) }
         ensures same { IfOk result (λ store. HasCleanDisk (state S.Store store) → StaysSame (state S.Store conn) (state S.Store store)) }
         ensures crash { IfOk result (λ store. Leaves (state S.Store conn) (state S.Store store)) }
         ensures not_ours { IfErr result (λ e. HasCleanDisk (state S.Store e.1) → e.0 ≡ Refusal.NotOurs → ¬ IsOurs (state S.Store conn).now) }
+        ensures not_shown { IfErr result (λ e. HasCleanDisk (state S.Store e.1) → e.0 ≡ Refusal.NotOurs → (accounts : Accounts) → ¬ Presents (state S.Store conn).now accounts) }
         ensures named { IfErr result (λ e. (e.0 ≡ Refusal.NotOurs) ⊎ IsPassing e.0) }
         ensures same_if_refused { IfErr result (λ e. HasCleanDisk (state S.Store e.1) → StaysSame (state S.Store conn) (state S.Store e.1)) }
         ensures crash_if_refused { IfErr result (λ e. Leaves (state S.Store conn) (state S.Store e.1)) }

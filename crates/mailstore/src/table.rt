@@ -1,12 +1,12 @@
 //! The statements that make the tables, and the row of their version.
-ghost use Rattle.std.specs.Prelude.{◌≡◌, ◌||◌, false, IsTrue, OnOk, OnErr};
+ghost use Rattle.std.specs.Prelude.{◌≡◌, ◌↔◌, ◌||◌, false, IsTrue, OnOk, OnErr};
 ghost use Rattle.sqlite.specs.Held.{state};
 ghost use Rattle.sqlite.specs.State.{HasCleanDisk, Survives};
 ghost use Rattle.sqlrows.specs.Rows.{added};
 ghost use Rattle.mailstore.specs.Schema.{no_schema, mail_schema, schema_1, schema_2, schema_3, schema_4, schema_5, schema_6};
 ghost use Rattle.mailstore.specs.Words.{Makes, MakesTable, IsSettled, StaysSame, has_our_name};
 ghost use Rattle.mailstore.specs.Account.{no_accounts};
-ghost use Rattle.mailstore.specs.Shows.{version_row, Presents};
+ghost use Rattle.mailstore.specs.Shows.{version_row, Presents, MayCreate};
 
 use sqlite::{Alter, Connection, Error, Transaction};
 use sqlite_schema::schema::Schema;
@@ -24,8 +24,9 @@ pub fn is_taken(schema: &Schema) -> bool
         || schema.table_named(b"notice").is_some()
 }
 
+/// Whether there is no table, index or view.
 pub fn is_blank(schema: &Schema) -> bool
-    ensures { IsTrue result → schema.now ≡ no_schema }
+    ensures { IsTrue result ↔ (schema.now ≡ no_schema) }
 {
     schema.tables.as_slice().is_empty()
         && schema.indexes.as_slice().is_empty()
@@ -146,6 +147,7 @@ pub fn make_tables<S: Alter>(conn: &mut Connection<S>) -> Result<(), Error>
     ensures made { HasCleanDisk (state S.Store conn.new) → (state S.Store conn.old).now.schema ≡ no_schema → OnOk result (Presents (state S.Store conn.new).now no_accounts) }
     ensures settled { HasCleanDisk (state S.Store conn.new) → OnOk result (IsSettled (state S.Store conn.new)) }
     ensures same { HasCleanDisk (state S.Store conn.new) → OnErr result (StaysSame (state S.Store conn.old) (state S.Store conn.new)) }
+    ensures crash { Survives (state S.Store conn.old) (state S.Store conn.new) (MayCreate (state S.Store conn.old)) }
 {
     let _settled = conn.is_autocommit();
     let mut tx = conn.transaction();

@@ -10,7 +10,11 @@ use std::alloc::{AllocError, Global};
 
 /// The command that a text spells; a text that spells none gives some command or none. Each octet is read once,
 /// and a literal's text is copied in one piece.
-pub fn command(alloc: Global, text: &[u8], pending: bool) -> Result<Option<Command>, AllocError>
+pub(crate) fn command(
+    alloc: Global,
+    text: &[u8],
+    pending: bool,
+) -> Result<Option<Command>, AllocError>
     ensures { IfOk result (λ command. command ≡ v.command_in pending text.now) }
 {
     if pending {

@@ -46,7 +46,7 @@ impl Model for Scan {
 
 impl Scan {
     /// Before the first octet; while a challenge is pending the item is one string.
-    pub fn new(pending: bool) -> Scan
+    pub(crate) fn new(pending: bool) -> Scan
         ensures { result ≡ fresh pending }
     {
         Scan {
@@ -58,7 +58,7 @@ impl Scan {
     }
 
     /// Takes one octet more. Nothing may have come first yet: `state` tells.
-    pub fn turn(&mut self, octet: u8)
+    pub(crate) fn turn(&mut self, octet: u8)
         requires { found self.old ≡ Need }
         ensures { self.new ≡ turned self.old octet }
     {
@@ -76,7 +76,7 @@ impl Scan {
     }
 
     /// Takes so many octets of a literal, whatever they are.
-    pub fn pass(&mut self, count: usize)
+    pub(crate) fn pass(&mut self, count: usize)
         requires { count ≤ literal_rest self.old }
         ensures { (piece : List ℕ) → length piece ≡ count → self.new ≡ fold turned self.old piece }
     {
@@ -93,7 +93,7 @@ impl Scan {
     /// Takes the octets in front that end nothing and leave the line where it stands: those of a name, of a literal,
     /// plain ones between quotation marks, and those of a bad line before its LF. Gives how many. Nothing may have
     /// come first yet, and nothing did then.
-    pub fn skim(&mut self, octets: &[u8]) -> usize
+    pub(crate) fn skim(&mut self, octets: &[u8]) -> usize
         requires { found self.old ≡ Need }
         ensures within { result ≤ length octets.now }
         ensures taken { self.new ≡ fold turned self.old (take result octets.now) }
@@ -114,7 +114,7 @@ impl Scan {
     }
 
     /// How many octets of a literal come next.
-    pub fn literal_left(&self) -> usize
+    pub(crate) fn literal_left(&self) -> usize
         ensures { result ≡ literal_rest self.now }
     {
         match (self.reach, self.line) {
@@ -124,7 +124,7 @@ impl Scan {
     }
 
     /// What came first in the octets so far: `Need` where nothing did yet.
-    pub fn state(&self) -> Reach
+    pub(crate) fn state(&self) -> Reach
         ensures { result ≡ found self.now }
     {
         self.reach

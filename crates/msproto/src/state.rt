@@ -42,7 +42,7 @@ pub enum State {
 
 impl State {
     /// The state before a line's first octet; while a challenge is pending the line is one string.
-    pub fn start(pending: bool) -> State
+    pub(crate) fn start(pending: bool) -> State
         ensures { s.shown result ≡ m.start pending }
     {
         if pending {
@@ -53,7 +53,7 @@ impl State {
     }
 
     /// The state behind one octet more.
-    pub fn step(self, octet: u8) -> State
+    pub(crate) fn step(self, octet: u8) -> State
         ensures { s.shown result ≡ m.step (s.shown self) octet }
     {
         match self {
@@ -77,7 +77,7 @@ impl State {
 
     /// The state behind the octets in front that leave the line in the same name, between the same quotation marks or
     /// on the same bad line, and how many they are.
-    pub fn skim(self, octets: &[u8]) -> (State, usize)
+    pub(crate) fn skim(self, octets: &[u8]) -> (State, usize)
         ensures count { result.1 ≡ s.skimmed self octets.now }
         ensures state { s.shown result.0 ≡ s.behind self result.1 }
         ensures within { result.1 ≤ length octets.now }

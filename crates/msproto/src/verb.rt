@@ -59,7 +59,7 @@ const VERBS: [Verb; 13] = [
 
 impl Verb {
     /// The name in upper case.
-    pub fn word(self) -> &'static [u8]
+    pub(crate) fn word(self) -> &'static [u8]
         ensures { result.now ≡ word_of self }
     {
         match self {
@@ -80,7 +80,7 @@ impl Verb {
     }
 
     /// What may stand behind the name.
-    pub fn slots(self) -> Slots
+    pub(crate) fn slots(self) -> Slots
         ensures { slots_shown result ≡ slots_of self }
     {
         match self {
@@ -96,14 +96,14 @@ impl Verb {
     }
 
     /// The verb of a name in upper or lower case.
-    pub fn named(name: &[u8]) -> Option<Verb>
+    pub(crate) fn named(name: &[u8]) -> Option<Verb>
         ensures { result ≡ verb_in verbs (map to_ascii_uppercase name.now) }
     {
         find_named(&VERBS, name)
     }
 
     /// A verb whose name begins with these letters and this one, upper case all: this one, if it does.
-    pub fn further(self, letters: &[u8], letter: u8) -> Option<Verb>
+    pub(crate) fn further(self, letters: &[u8], letter: u8) -> Option<Verb>
         ensures { IsFurther rows letters.now letter result }
     {
         if goes_on(self.word(), letters, letter) {

@@ -59,7 +59,7 @@ impl<'m, 'a> Model for AddressCache<'m, 'a> {
 
 impl<'m, 'a> AddressCache<'m, 'a> {
     /// No test asked for anything yet. Takes no memory.
-    pub fn new(alloc: Global, mail: &'m Mail<'a>) -> AddressCache<'m, 'a>
+    pub(crate) fn new(alloc: Global, mail: &'m Mail<'a>) -> AddressCache<'m, 'a>
         ensures { result ≡ mail.now }
     {
         AddressCache {
@@ -69,7 +69,7 @@ impl<'m, 'a> AddressCache<'m, 'a> {
     }
 
     /// Whether `address` holds (RFC 5228, 5.1). The addresses of a field are read when the first test asks for them.
-    pub fn holds(&mut self, alloc: Global, address: &Address) -> Result<bool, AllocError>
+    pub(crate) fn holds(&mut self, alloc: Global, address: &Address) -> Result<bool, AllocError>
         ensures holds { IfOk result (λ holds. holds ≡ address_holds self.old address.now) }
         ensures kept { self.new ≡ self.old }
     {

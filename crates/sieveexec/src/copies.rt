@@ -7,7 +7,7 @@ use sievesyntax::{ReplyFrom, VacArgs};
 use std::alloc::{AllocError, Global};
 
 /// The same address.
-pub fn copied_address(alloc: Global, address: &Addr) -> Result<Addr, AllocError>
+pub(crate) fn copied_address(alloc: Global, address: &Addr) -> Result<Addr, AllocError>
     ensures { IfOk result (λ copy. copy ≡ address.now) }
 {
     Ok(Addr {
@@ -17,7 +17,7 @@ pub fn copied_address(alloc: Global, address: &Addr) -> Result<Addr, AllocError>
 }
 
 /// The same arguments.
-pub fn copied_args(alloc: Global, args: &VacArgs) -> Result<VacArgs, AllocError>
+pub(crate) fn copied_args(alloc: Global, args: &VacArgs) -> Result<VacArgs, AllocError>
     ensures { IfOk result (λ copy. copy ≡ args.now) }
 {
     Ok(VacArgs {

@@ -12,7 +12,7 @@ use std::collections::BTreeMap;
 /// The raw values of the fields of each name, by the name in lower case.
 ///
 /// For n fields n log n comparisons of names; memory for a slice for each field and a copy of each name.
-pub fn index_of<'a>(
+pub(crate) fn index_of<'a>(
     alloc: Global,
     fields: &[Field<'a>],
 ) -> Result<BTreeMap<Octets, Raws<'a>>, AllocError>

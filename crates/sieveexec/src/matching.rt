@@ -9,7 +9,12 @@ use octets::Octets;
 use sievesyntax::{Collation, Matching};
 
 /// Whether a value matches some key. For each key the time is that of `is`, `contains` or `matches`; no memory.
-pub fn matches_some(collation: Collation, matching: Matching, keys: &[Octets], value: &[u8]) -> bool
+pub(crate) fn matches_some(
+    collation: Collation,
+    matching: Matching,
+    keys: &[Octets],
+    value: &[u8],
+) -> bool
     ensures { result ≡ matches_some collation matching keys.now value.now }
 {
     match collation {

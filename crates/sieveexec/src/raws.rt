@@ -21,7 +21,7 @@ impl<'a> Model for Raws<'a> {
 
 impl<'a> Raws<'a> {
     /// No values. Takes no memory.
-    pub fn new(alloc: Global) -> Raws<'a>
+    pub(crate) fn new(alloc: Global) -> Raws<'a>
         ensures { result ≡ [] }
     {
         Raws {
@@ -30,20 +30,20 @@ impl<'a> Raws<'a> {
     }
 
     /// One value more.
-    pub fn push(&mut self, raw: &'a [u8]) -> Result<(), AllocError>
+    pub(crate) fn push(&mut self, raw: &'a [u8]) -> Result<(), AllocError>
         ensures { OnOk result (self.new ≡ self.old ++ raw.now ∷ []) }
     {
         self.slices.push(raw)?;
         Ok(())
     }
 
-    pub fn is_empty(&self) -> bool
+    pub(crate) fn is_empty(&self) -> bool
         ensures { result ≡ not (is_some_there self.now) }
     {
         self.slices.is_empty()
     }
 
-    pub fn as_slice(&self) -> &[&'a [u8]]
+    pub(crate) fn as_slice(&self) -> &[&'a [u8]]
         ensures { map (λ slice. slice.now) result.now ≡ self.now }
     {
         self.slices.as_slice()

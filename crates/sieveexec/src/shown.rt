@@ -30,7 +30,7 @@ impl Model for Shown {
 
 impl Shown {
     /// Writes an address out.
-    pub fn of(alloc: Global, address: &Addr) -> Result<Shown, AllocError>
+    pub(crate) fn of(alloc: Global, address: &Addr) -> Result<Shown, AllocError>
         ensures { IfOk result (λ shown. shown ≡ address.now) }
     {
         Ok(Shown {
@@ -40,7 +40,7 @@ impl Shown {
     }
 
     /// A part of the address (RFC 5228, 2.7.4).
-    pub fn part(&self, part: AddressPart) -> &[u8]
+    pub(crate) fn part(&self, part: AddressPart) -> &[u8]
         ensures { result.now ≡ part_of part self.now }
     {
         let all = self.all.as_slice();
@@ -53,7 +53,11 @@ impl Shown {
 }
 
 /// Writes out addresses behind those that are there.
-pub fn show(alloc: Global, shown: &mut ListOf<Shown>, addresses: &[Addr]) -> Result<(), AllocError>
+pub(crate) fn show(
+    alloc: Global,
+    shown: &mut ListOf<Shown>,
+    addresses: &[Addr],
+) -> Result<(), AllocError>
     ensures { OnOk result (shown.new ≡ shown.old ++ addresses.now) }
 {
     for address in addresses {

@@ -39,7 +39,7 @@ impl SoFar {
     ghost use Rattle.sieveexec.specs.Runs.{so_far_of, flow_of, outcome_view};
 
     /// Nothing. Takes no memory.
-    pub fn new(alloc: Global) -> SoFar
+    pub(crate) fn new(alloc: Global) -> SoFar
         ensures { so_far_of result ≡ at_first }
     {
         SoFar {
@@ -51,7 +51,11 @@ impl SoFar {
     }
 
     /// Carries out an action, or says why the run fails (RFC 5228, 4; RFC 5230).
-    pub fn act(&mut self, alloc: Global, action: &Action) -> Result<Option<Failure>, AllocError>
+    pub(crate) fn act(
+        &mut self,
+        alloc: Global,
+        action: &Action,
+    ) -> Result<Option<Failure>, AllocError>
         ensures { IfOk result (λ failed. flow_of failed (so_far_of self.new) ≡ acted action.now (so_far_of self.old)) }
     {
         match action {
@@ -67,7 +71,7 @@ impl SoFar {
     }
 
     /// The outcome of a run that is over: the implicit keep comes last.
-    pub fn end(mut self, alloc: Global) -> Result<Outcome, AllocError>
+    pub(crate) fn end(mut self, alloc: Global) -> Result<Outcome, AllocError>
         ensures { IfOk result (λ done. outcome_view done ≡ Done (deeds_of (so_far_of self))) }
     {
         if !self.cancelled {

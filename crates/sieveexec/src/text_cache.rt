@@ -39,7 +39,7 @@ impl<'m, 'a> Model for TextCache<'m, 'a> {
 
 impl<'m, 'a> TextCache<'m, 'a> {
     /// No test asked for anything yet. Takes no memory.
-    pub fn new(alloc: Global, mail: &'m Mail<'a>) -> TextCache<'m, 'a>
+    pub(crate) fn new(alloc: Global, mail: &'m Mail<'a>) -> TextCache<'m, 'a>
         ensures { result ≡ mail.now }
     {
         TextCache {
@@ -49,7 +49,7 @@ impl<'m, 'a> TextCache<'m, 'a> {
     }
 
     /// Whether `header` holds (RFC 5228, 5.7). The texts of a field are read when the first test asks for them.
-    pub fn holds(&mut self, alloc: Global, header: &Header) -> Result<bool, AllocError>
+    pub(crate) fn holds(&mut self, alloc: Global, header: &Header) -> Result<bool, AllocError>
         ensures holds { IfOk result (λ holds. holds ≡ header_holds self.old header.now) }
         ensures kept { self.new ≡ self.old }
     {

@@ -12,8 +12,4 @@ pub mod BlockLemmas
 pub mod OpeningLemmas
 pub mod MeansLemmas
 pub mod Examples
-pub mod FirstTokenLemmas
-pub mod FirstWordLemmas
-pub mod FirstScriptLemmas
 pub mod ScriptExamples
-pub mod FirstExamples

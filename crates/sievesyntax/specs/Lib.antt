@@ -16,5 +16,3 @@ pub mod Valid
 pub mod View
 pub mod Meaning
 pub mod Means
-pub mod FirstTokens
-pub mod FirstScripts

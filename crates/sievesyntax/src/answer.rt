@@ -21,7 +21,7 @@ use sievelex::FaultKind;
 use std::alloc::{AllocError, Global};
 
 /// The address of `redirect`.
-pub fn read_redirect(alloc: Global, args: &[Argument]) -> Result<Addr, ReadError>
+pub(crate) fn read_redirect(alloc: Global, args: &[Argument]) -> Result<Addr, ReadError>
     ensures { Finds (IsRedirect args.now) result }
 {
     let text = read_text(alloc, args)?;
@@ -41,7 +41,7 @@ fn outbound(alloc: Global, text: &[u8]) -> Result<(Octets, Addr), ReadError>
 }
 
 /// The arguments of `vacation`.
-pub fn read_vacation(alloc: Global, args: &[Argument]) -> Result<VacArgs, ReadError>
+pub(crate) fn read_vacation(alloc: Global, args: &[Argument]) -> Result<VacArgs, ReadError>
     ensures { Finds (IsVacation args.now) result }
 {
     let allowed = &[

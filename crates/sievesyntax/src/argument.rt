@@ -28,7 +28,10 @@ pub enum Argument {
 ghost use Rattle.sievesyntax.specs.Arguments.{IsOther, AreStrings, IsArgument, IsEnd, AreArguments};
 
 /// All the arguments at the front.
-pub fn read_arguments(alloc: Global, reader: &mut Reader<'_>) -> Result<Vec<Argument>, ReadError>
+pub(crate) fn read_arguments(
+    alloc: Global,
+    reader: &mut Reader<'_>,
+) -> Result<Vec<Argument>, ReadError>
     ensures { Parses (λ v. v.items) AreArguments reader.old reader.new result }
 {
     let mut arguments = Vec::new(alloc);
@@ -92,7 +95,7 @@ fn read_others(alloc: Global, reader: &mut Reader<'_>, strings: Texts) -> Result
 }
 
 /// Whether a comma stands at the front, and not this closing mark.
-pub fn read_separator(reader: &mut Reader<'_>, close: Kind) -> Result<bool, ReadError>
+pub(crate) fn read_separator(reader: &mut Reader<'_>, close: Kind) -> Result<bool, ReadError>
     ensures comma { result ≡ Ok true → reader.old ≡ mark K.Comma ∷ reader.new }
     ensures closed { result ≡ Ok false → reader.old ≡ mark close ∷ reader.new }
     ensures no_comma { IfFault result ((to : List Lexeme) → reader.old ≡ mark K.Comma ∷ to → ⊥) }

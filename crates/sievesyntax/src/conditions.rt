@@ -21,7 +21,7 @@ use std::alloc::Global;
 
 /// A test that may stand here: so many test lists and so many `not`s may enclose the tests within it.
 #[cycle(ask)]
-pub fn read_test(
+pub(crate) fn read_test(
     alloc: Global,
     reader: &mut Reader<'_>,
     granted: Granted,

@@ -65,7 +65,7 @@ pub enum Seen<'a> {
 }
 
 /// What the grammar sees of this token. Time by the length of a name, no memory.
-pub fn look<'a>(piece: Piece<'a>) -> Seen<'a>
+pub(crate) fn look<'a>(piece: Piece<'a>) -> Seen<'a>
     ensures { lexeme_seen result ≡ lexeme_said (piece_said piece.entry) }
 {
     match piece {
@@ -84,7 +84,7 @@ pub fn look<'a>(piece: Piece<'a>) -> Seen<'a>
 }
 
 /// Names are compared without ASCII case (RFC 5228, 2.1).
-pub fn is_name(name: &[u8], keyword: &[u8]) -> bool
+pub(crate) fn is_name(name: &[u8], keyword: &[u8]) -> bool
     ensures { result ≡ same_name name.now keyword.now }
 {
     name.eq_ignore_ascii_case(keyword)

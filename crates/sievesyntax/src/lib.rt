@@ -6,7 +6,6 @@ mod answer;
 mod argument;
 mod checks;
 mod conditions;
-mod first;
 mod granted;
 mod lexeme;
 mod looks;
@@ -30,7 +29,6 @@ pub use checks::{
     Address, AddressPart, Bound, Check, Collation, EnvelopeParts, EnvelopeTest, Header, Matching,
     Size,
 };
-pub use first::{first_scripts_stay, first_tokens_stay};
 pub use reply::Reply;
 pub use script::{Script, check};
 pub use sievelex::{FaultKind, ScriptError, ScriptFault};

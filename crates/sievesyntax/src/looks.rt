@@ -18,7 +18,7 @@ use sievelex::FaultKind;
 use std::alloc::Global;
 
 /// The arguments of `size`.
-pub fn read_size(alloc: Global, args: &[Argument]) -> Result<Size, ReadError>
+pub(crate) fn read_size(alloc: Global, args: &[Argument]) -> Result<Size, ReadError>
     ensures { Finds (IsSize args.now) result }
 {
     let (settings, positional) = arranged(alloc, args, &[Slot::Bound])?;
@@ -37,7 +37,7 @@ fn size_from(settings: &[Setting], positional: &[Argument]) -> Result<Size, Read
 }
 
 /// The arguments of `header`.
-pub fn read_header(alloc: Global, args: &[Argument]) -> Result<Header, ReadError>
+pub(crate) fn read_header(alloc: Global, args: &[Argument]) -> Result<Header, ReadError>
     ensures { Finds (IsHeader args.now) result }
 {
     let (settings, positional) = arranged(alloc, args, &[Slot::Comparator, Slot::Matching])?;
@@ -62,7 +62,7 @@ fn header_from(
 }
 
 /// The arguments of `address`.
-pub fn read_address(alloc: Global, args: &[Argument]) -> Result<Address, ReadError>
+pub(crate) fn read_address(alloc: Global, args: &[Argument]) -> Result<Address, ReadError>
     ensures { Finds (IsAddress args.now) result }
 {
     let allowed = &[Slot::Comparator, Slot::Part, Slot::Matching];
@@ -89,7 +89,7 @@ fn address_from(
 }
 
 /// The arguments of `envelope`.
-pub fn read_envelope(alloc: Global, args: &[Argument]) -> Result<EnvelopeTest, ReadError>
+pub(crate) fn read_envelope(alloc: Global, args: &[Argument]) -> Result<EnvelopeTest, ReadError>
     ensures { Finds (IsEnvelope args.now) result }
 {
     let allowed = &[Slot::Comparator, Slot::Part, Slot::Matching];

@@ -8,7 +8,7 @@ use octets::Octets;
 use std::alloc::{AllocError, Global};
 
 /// The side of a limit, if one is given.
-pub fn given_bound(settings: &[Setting]) -> Option<Bound>
+pub(crate) fn given_bound(settings: &[Setting]) -> Option<Bound>
     ensures { result ≡ bound_in settings.now }
 {
     for setting in settings {
@@ -20,7 +20,7 @@ pub fn given_bound(settings: &[Setting]) -> Option<Bound>
 }
 
 /// The comparator, or the default.
-pub fn given_comparator(settings: &[Setting]) -> Collation
+pub(crate) fn given_comparator(settings: &[Setting]) -> Collation
     ensures { result ≡ comparator_in settings.now }
 {
     for setting in settings {
@@ -32,7 +32,7 @@ pub fn given_comparator(settings: &[Setting]) -> Collation
 }
 
 /// The way to match, or the default.
-pub fn given_matching(settings: &[Setting]) -> Matching
+pub(crate) fn given_matching(settings: &[Setting]) -> Matching
     ensures { result ≡ matching_in settings.now }
 {
     for setting in settings {
@@ -44,7 +44,7 @@ pub fn given_matching(settings: &[Setting]) -> Matching
 }
 
 /// The part of an address, or the default.
-pub fn given_part(settings: &[Setting]) -> AddressPart
+pub(crate) fn given_part(settings: &[Setting]) -> AddressPart
     ensures { result ≡ part_in settings.now }
 {
     for setting in settings {
@@ -56,7 +56,7 @@ pub fn given_part(settings: &[Setting]) -> AddressPart
 }
 
 /// The days of a `vacation`, if they are given.
-pub fn given_days(settings: &[Setting]) -> Option<u64>
+pub(crate) fn given_days(settings: &[Setting]) -> Option<u64>
     ensures { result ≡ days_in settings.now }
 {
     for setting in settings {
@@ -68,7 +68,7 @@ pub fn given_days(settings: &[Setting]) -> Option<u64>
 }
 
 /// Whether its reason is a MIME entity.
-pub fn given_mime(settings: &[Setting]) -> bool
+pub(crate) fn given_mime(settings: &[Setting]) -> bool
     ensures { result ≡ mime_in settings.now }
 {
     for setting in settings {
@@ -80,7 +80,10 @@ pub fn given_mime(settings: &[Setting]) -> bool
 }
 
 /// Its subject, if one is given.
-pub fn given_subject(alloc: Global, settings: &[Setting]) -> Result<Option<Octets>, AllocError>
+pub(crate) fn given_subject(
+    alloc: Global,
+    settings: &[Setting],
+) -> Result<Option<Octets>, AllocError>
     ensures { IfOk result (λ found. found ≡ subject_in settings.now) }
 {
     for setting in settings {
@@ -92,7 +95,10 @@ pub fn given_subject(alloc: Global, settings: &[Setting]) -> Result<Option<Octet
 }
 
 /// Its handle, if one is given.
-pub fn given_handle(alloc: Global, settings: &[Setting]) -> Result<Option<Octets>, AllocError>
+pub(crate) fn given_handle(
+    alloc: Global,
+    settings: &[Setting],
+) -> Result<Option<Octets>, AllocError>
     ensures { IfOk result (λ found. found ≡ handle_in settings.now) }
 {
     for setting in settings {

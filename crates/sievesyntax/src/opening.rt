@@ -25,7 +25,7 @@ use std::alloc::Global;
 const MAX_DEPTH: usize = 32;
 
 /// The commands of a whole script.
-pub fn read_script(alloc: Global, reader: &mut Reader<'_>) -> Result<Vec<Command>, ReadError>
+pub(crate) fn read_script(alloc: Global, reader: &mut Reader<'_>) -> Result<Vec<Command>, ReadError>
     ensures found { IfOk result (λ all. Reads (commands_view all.items) reader.old × IsValid (commands_view all.items)) }
     ensures only { IfOk result (λ all. (tree : Commands) → Reads tree reader.old → IsValid tree → tree ≡ commands_view all.items) }
     ensures fault { IfFault result ((tree : Commands) → Reads tree reader.old → IsValid tree → ⊥) }

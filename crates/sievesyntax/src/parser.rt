@@ -24,7 +24,7 @@ const MAX_NOTS: usize = 32;
 
 /// Commands behind those read so far, up to the close of a block or the end.
 #[cycle(parse)]
-pub fn read_commands(
+pub(crate) fn read_commands(
     alloc: Global,
     reader: &mut Reader<'_>,
     granted: Granted,

@@ -13,7 +13,7 @@ use sievelex::FaultKind;
 use std::alloc::Global;
 
 /// No arguments at all.
-pub fn no_arguments(args: &[Argument]) -> Result<(), ReadError>
+pub(crate) fn no_arguments(args: &[Argument]) -> Result<(), ReadError>
     ensures found { OnOk result (args.now ≡ []) }
     ensures fault { IfFault result (args.now ≡ [] → ⊥) }
 {
@@ -25,7 +25,7 @@ pub fn no_arguments(args: &[Argument]) -> Result<(), ReadError>
 }
 
 /// One number.
-pub fn number(args: &[Argument]) -> Result<u64, ReadError>
+pub(crate) fn number(args: &[Argument]) -> Result<u64, ReadError>
     ensures found { IfOk result (λ n. one_number args.now ≡ Some n) }
     ensures fault { IfFault result (one_number args.now ≡ None) }
 {
@@ -36,7 +36,7 @@ pub fn number(args: &[Argument]) -> Result<u64, ReadError>
 }
 
 /// One string without brackets.
-pub fn text(alloc: Global, args: &[Argument]) -> Result<Octets, ReadError>
+pub(crate) fn text(alloc: Global, args: &[Argument]) -> Result<Octets, ReadError>
     ensures found { IfOk result (λ s. one_text args.now ≡ Some s) }
     ensures fault { IfFault result (one_text args.now ≡ None) }
 {
@@ -47,7 +47,7 @@ pub fn text(alloc: Global, args: &[Argument]) -> Result<Octets, ReadError>
 }
 
 /// One string without brackets, and no tags.
-pub fn read_text(alloc: Global, args: &[Argument]) -> Result<Octets, ReadError>
+pub(crate) fn read_text(alloc: Global, args: &[Argument]) -> Result<Octets, ReadError>
     ensures { Finds (IsText args.now) result }
 {
     let (_settings, positional) = arranged(alloc, args, &[])?;
@@ -55,7 +55,7 @@ pub fn read_text(alloc: Global, args: &[Argument]) -> Result<Octets, ReadError>
 }
 
 /// One list of strings.
-pub fn list(alloc: Global, args: &[Argument]) -> Result<Texts, ReadError>
+pub(crate) fn list(alloc: Global, args: &[Argument]) -> Result<Texts, ReadError>
     ensures found { IfOk result (λ xs. one_list args.now ≡ Some xs) }
     ensures fault { IfFault result (one_list args.now ≡ None) }
 {
@@ -66,7 +66,7 @@ pub fn list(alloc: Global, args: &[Argument]) -> Result<Texts, ReadError>
 }
 
 /// Two lists of strings.
-pub fn lists(alloc: Global, args: &[Argument]) -> Result<(Texts, Texts), ReadError>
+pub(crate) fn lists(alloc: Global, args: &[Argument]) -> Result<(Texts, Texts), ReadError>
     ensures found { IfOk result (λ both. two_lists args.now ≡ Some (both.0, both.1)) }
     ensures fault { IfFault result (two_lists args.now ≡ None) }
 {

@@ -27,7 +27,7 @@ impl<'a> Model for Reader<'a> {
 
 impl<'a> Reader<'a> {
     /// Before the first of these tokens.
-    pub fn new(tokens: &'a Packed) -> Reader<'a>
+    pub(crate) fn new(tokens: &'a Packed) -> Reader<'a>
         ensures { result ≡ lexemes_said (said tokens.now) }
     {
         Reader {
@@ -36,14 +36,14 @@ impl<'a> Reader<'a> {
     }
 
     /// How many tokens are left.
-    pub fn left(&self) -> usize
+    pub(crate) fn left(&self) -> usize
         ensures { result ≡ length self.now }
     {
         self.rest.left()
     }
 
     /// The next lexeme, and what follows it; none at the end.
-    pub fn split_first(&self) -> Option<(Seen<'a>, Reader<'a>)>
+    pub(crate) fn split_first(&self) -> Option<(Seen<'a>, Reader<'a>)>
         ensures { MatchOption result (self.now ≡ []) (λ found. self.now ≡ lexeme_seen found.0 ∷ found.1) }
     {
         let (first, rest) = self.rest.split_first()?;
@@ -51,7 +51,7 @@ impl<'a> Reader<'a> {
     }
 
     /// Reads this mark.
-    pub fn read_mark(&mut self, wanted: Kind) -> Result<(), ReadError>
+    pub(crate) fn read_mark(&mut self, wanted: Kind) -> Result<(), ReadError>
         ensures found { OnOk result (self.old ≡ mark wanted ∷ self.new) }
         ensures fault { IfFault result ((to : List Lexeme) → self.old ≡ mark wanted ∷ to → ⊥) }
     {
@@ -66,7 +66,7 @@ impl<'a> Reader<'a> {
     }
 
     /// Reads an identifier.
-    pub fn read_word(&mut self) -> Result<Word, ReadError>
+    pub(crate) fn read_word(&mut self) -> Result<Word, ReadError>
         ensures found { IfOk result (λ name. self.old ≡ word name ∷ self.new) }
         ensures fault { IfFault result ((name : Word) (to : List Lexeme) → self.old ≡ word name ∷ to → ⊥) }
     {
@@ -81,7 +81,7 @@ impl<'a> Reader<'a> {
     }
 
     /// Nothing is left.
-    pub fn read_end(&mut self) -> Result<(), ReadError>
+    pub(crate) fn read_end(&mut self) -> Result<(), ReadError>
         ensures found { OnOk result (self.old ≡ []) }
         ensures fault { IfFault result (self.old ≡ [] → ⊥) }
     {

@@ -15,7 +15,7 @@ use sievelex::FaultKind;
 const MAX_LINE: usize = 998;
 
 /// A reason that may stand.
-pub fn check_reason(args: &VacArgs) -> Result<(), ReadError>
+pub(crate) fn check_reason(args: &VacArgs) -> Result<(), ReadError>
     ensures found { OnOk result (spec.IsReason args.now) }
     ensures fault { IfFault result (spec.IsReason args.now → ⊥) }
 {

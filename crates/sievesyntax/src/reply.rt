@@ -22,7 +22,7 @@ impl Model for Reply {
 
 impl Reply {
     /// These arguments, without a copy; without memory they are dropped.
-    pub fn new(alloc: Global, args: VacArgs) -> Result<Reply, AllocError>
+    pub(crate) fn new(alloc: Global, args: VacArgs) -> Result<Reply, AllocError>
         ensures { IfOk result (λ reply. reply ≡ args) }
     {
         Ok(Reply {

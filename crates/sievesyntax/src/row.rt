@@ -26,7 +26,7 @@ use std::alloc::Global;
 const MAX_MAILBOX: usize = 255;
 
 /// The test of this word and these arguments.
-pub fn plain_test(
+pub(crate) fn plain_test(
     alloc: Global,
     word: Word,
     args: &[Argument],
@@ -60,7 +60,7 @@ pub fn plain_test(
 }
 
 /// The command of this word and these arguments, where it may stand.
-pub fn plain_command(
+pub(crate) fn plain_command(
     alloc: Global,
     word: Word,
     args: &[Argument],
@@ -110,7 +110,7 @@ pub fn plain_command(
 }
 
 /// The names of `require`, or the fields of `exists`.
-pub fn read_list(alloc: Global, args: &[Argument]) -> Result<Texts, ReadError>
+pub(crate) fn read_list(alloc: Global, args: &[Argument]) -> Result<Texts, ReadError>
     ensures { Finds (IsList args.now) result }
 {
     let (_settings, positional) = arranged(alloc, args, &[])?;

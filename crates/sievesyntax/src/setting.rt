@@ -73,7 +73,7 @@ impl Setting {
 }
 
 /// The settings at the front, each of an allowed slot and none twice, and the positional arguments behind them.
-pub fn arranged<'a>(
+pub(crate) fn arranged<'a>(
     alloc: Global,
     args: &'a [Argument],
     allowed: &[Slot],

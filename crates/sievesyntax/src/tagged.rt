@@ -25,7 +25,7 @@ fn value_at(args: &[Argument]) -> Result<(&Argument, &[Argument]), ReadError>
 }
 
 /// A number.
-pub fn number_at(args: &[Argument]) -> Result<(u64, &[Argument]), ReadError>
+pub(crate) fn number_at(args: &[Argument]) -> Result<(u64, &[Argument]), ReadError>
     ensures found { IfOk result (λ r. args.now ≡ A.Number r.0 ∷ r.1.now) }
     ensures fault { IfFault result ((n : ℕ) (to : List Argument) → args.now ≡ A.Number n ∷ to → ⊥) }
 {
@@ -37,7 +37,7 @@ pub fn number_at(args: &[Argument]) -> Result<(u64, &[Argument]), ReadError>
 }
 
 /// One string without brackets.
-pub fn text_at<'a>(
+pub(crate) fn text_at<'a>(
     alloc: Global,
     args: &'a [Argument],
 ) -> Result<(Octets, &'a [Argument]), ReadError>
@@ -52,7 +52,7 @@ pub fn text_at<'a>(
 }
 
 /// A string, or strings in brackets.
-pub fn texts_at<'a>(
+pub(crate) fn texts_at<'a>(
     alloc: Global,
     args: &'a [Argument],
 ) -> Result<(Texts, &'a [Argument]), ReadError>
@@ -64,7 +64,7 @@ pub fn texts_at<'a>(
 }
 
 /// The comparator of this name, compared by octets.
-pub fn collation_at(args: &[Argument]) -> Result<(Collation, &[Argument]), ReadError>
+pub(crate) fn collation_at(args: &[Argument]) -> Result<(Collation, &[Argument]), ReadError>
     ensures found { IfOk result (λ r. args.now ≡ A.Text (name_of r.0) ∷ r.1.now) }
     ensures fault { IfFault result ((c : Collation) (to : List Argument) → args.now ≡ A.Text (name_of c) ∷ to → ⊥) }
 {
@@ -89,7 +89,7 @@ fn collation_named(name: &[u8]) -> Result<Collation, ReadError>
 }
 
 /// The strings of an argument: a string stands for the list of it alone (RFC 5228, 2.4.2.1).
-pub fn strings(alloc: Global, value: &Argument) -> Result<Texts, ReadError>
+pub(crate) fn strings(alloc: Global, value: &Argument) -> Result<Texts, ReadError>
     ensures found { IfOk result (λ xs. strings_of value.now ≡ Some xs) }
     ensures fault { IfFault result (strings_of value.now ≡ None) }
 {

@@ -44,7 +44,15 @@ fn leaves<K: Keeper>(
     let words = words_of(alloc, words, path)?;
     let (mut written, mut told) = (Vec::new(alloc), Vec::new(alloc));
     let moment = Some(1_700_000_000);
-    let ended = drive(alloc, &words, &mut input, &mut written, &mut told, keeper, moment);
+    let ended = drive(
+        alloc,
+        &words,
+        &mut input,
+        &mut written,
+        &mut told,
+        keeper,
+        moment,
+    );
     Ok(ended == status && written.as_slice() == output && told.as_slice() == faults)
 }
 
@@ -90,20 +98,73 @@ fn mail_is_filed_and_shown(rt: HostRuntime) -> Result<(), Fail> {
 fn with_alice(alloc: Global) -> Result<MemoryKeeper, AllocError> {
     let mut keeper = MemoryKeeper::new(alloc)?;
     leaves(alloc, &mut keeper, "", (INIT, b"", 0, b"ready\n", b""))?;
-    leaves(alloc, &mut keeper, "", (ADD, b"secret", 0, b"added alice\n", b""))?;
+    leaves(
+        alloc,
+        &mut keeper,
+        "",
+        (ADD, b"secret", 0, b"added alice\n", b""),
+    )?;
     Ok(keeper)
 }
 
 /// Values that are refused, each with its text and status.
 const REFUSED: &[Run<'static>] = &[
-    ("adduser --db F --salt 00 bob bob@example.org", b"secret", 64, b"", b"sieved: bad argument\n"),
-    ("show --db F alice INBOX 1x", b"", 64, b"", b"sieved: bad argument\n"),
-    ("show --db F alice INBOX 0", b"", 65, b"", b"sieved: no such message\n"),
-    ("show --db F alice inbox 1", b"", 65, b"", b"sieved: no such message\n"),
-    ("deliver --db F --at -5 --to a alice", M1, 64, b"", b"sieved: bad argument\n"),
-    ("deliver --db F --at 18446744073709551616 --to a alice", M1, 64, b"", b"sieved: bad argument\n"),
-    ("deliver --db F --at 253402300800 --to a alice", M1, 65, b"", b"sieved: bad moment\n"),
-    ("deliver --db F --at 0 --to a\nb alice", M1, 65, b"", b"sieved: bad envelope address\n"),
+    (
+        "adduser --db F --salt 00 bob bob@example.org",
+        b"secret",
+        64,
+        b"",
+        b"sieved: bad argument\n",
+    ),
+    (
+        "show --db F alice INBOX 1x",
+        b"",
+        64,
+        b"",
+        b"sieved: bad argument\n",
+    ),
+    (
+        "show --db F alice INBOX 0",
+        b"",
+        65,
+        b"",
+        b"sieved: no such message\n",
+    ),
+    (
+        "show --db F alice inbox 1",
+        b"",
+        65,
+        b"",
+        b"sieved: no such message\n",
+    ),
+    (
+        "deliver --db F --at -5 --to a alice",
+        M1,
+        64,
+        b"",
+        b"sieved: bad argument\n",
+    ),
+    (
+        "deliver --db F --at 18446744073709551616 --to a alice",
+        M1,
+        64,
+        b"",
+        b"sieved: bad argument\n",
+    ),
+    (
+        "deliver --db F --at 253402300800 --to a alice",
+        M1,
+        65,
+        b"",
+        b"sieved: bad moment\n",
+    ),
+    (
+        "deliver --db F --at 0 --to a\nb alice",
+        M1,
+        65,
+        b"",
+        b"sieved: bad envelope address\n",
+    ),
     (
         "adduser --db F --salt 000102030405060708090A0B0C0D0E0F a/b a@example.org",
         b"secret",
@@ -120,7 +181,13 @@ const REFUSED: &[Run<'static>] = &[
     ),
     ("try", b"9\nkeep;", 65, b"", b"sieved: bad input\n"),
     ("try", b"5\nkeep", 65, b"", b"sieved: bad input\n"),
-    ("try --from c@d", b"59\nrequire \"envelope\"; if envelope \"from\" \"c@d\" { discard; } ", 0, b"discard\n", b""),
+    (
+        "try --from c@d",
+        b"58\nrequire \"envelope\"; if envelope \"from\" \"c@d\" { discard; } ",
+        0,
+        b"discard\n",
+        b"",
+    ),
 ];
 
 #[test]
@@ -147,7 +214,10 @@ fn a_busy_store_is_told_and_left_alone(rt: HostRuntime) -> Result<(), Fail> {
         keeper.be_busy_after(0);
         let run: Run<'_> = (*words, *input, 75, b"", b"sieved: busy\n");
         assert!(rt; leaves(alloc, &mut keeper, "", run)?, "{words}");
-        assert!(rt; leaves(alloc, &mut keeper, "", (FOLDERS, b"", 0, b"", b""))?, "{words}");
+        assert!(rt;
+            leaves(alloc, &mut keeper, "", (FOLDERS, b"", 0, b"", b""))?,
+            "{words}"
+        );
     }
     Ok(())
 }
@@ -167,8 +237,14 @@ fn activate<K: Keeper>(keeper: &mut K, text: &[u8]) -> Result<(), Refusal> {
 /// Scripts, and the report on M1 by each.
 const BY_SCRIPT: &[(&[u8], &[u8])] = &[
     (b"", b"file INBOX\n"),
-    (b"require \"fileinto\"; fileinto \"inbox\"; keep; discard;", b"file INBOX\n"),
-    (b"require \"fileinto\"; fileinto \"b\"; keep; fileinto \"a\";", b"file b\nfile INBOX\nfile a\n"),
+    (
+        b"require \"fileinto\"; fileinto \"inbox\"; keep; discard;",
+        b"file INBOX\n",
+    ),
+    (
+        b"require \"fileinto\"; fileinto \"b\"; keep; fileinto \"a\";",
+        b"file b\nfile INBOX\nfile a\n",
+    ),
     (b"discard;", b"discard\n"),
 ];
 
@@ -178,9 +254,19 @@ fn a_delivery_is_reported_by_its_script(rt: HostRuntime) -> Result<(), Fail> {
     let mut keeper = with_alice(alloc)?;
     for (script, report) in BY_SCRIPT {
         assert!(rt; activate(&mut keeper, script).is_ok());
-        assert!(rt; leaves(alloc, &mut keeper, "", (DELIVER, M1, 0, *report, b""))?, "{script:?}");
+        assert!(rt;
+            leaves(alloc, &mut keeper, "", (DELIVER, M1, 0, *report, b""))?,
+            "{script:?}"
+        );
     }
-    assert!(rt; leaves(alloc, &mut keeper, "", (FOLDERS, b"", 0, b"INBOX 3\na 1\nb 1\n", b""))?);
+    assert!(rt;
+        leaves(
+            alloc,
+            &mut keeper,
+            "",
+            (FOLDERS, b"", 0, b"INBOX 3\na 1\nb 1\n", b"")
+        )?
+    );
     Ok(())
 }
 
@@ -190,7 +276,13 @@ fn a_message_over_the_limit_is_too_large(rt: HostRuntime) -> Result<(), Fail> {
     let mut keeper = with_alice(alloc)?;
     let mut message = Vec::new(alloc);
     message.resize(33_554_433, b'x')?;
-    let run = (DELIVER, message.as_slice(), 65, b"".as_slice(), b"sieved: message too large\n".as_slice());
+    let run = (
+        DELIVER,
+        message.as_slice(),
+        65,
+        b"".as_slice(),
+        b"sieved: message too large\n".as_slice(),
+    );
     assert!(rt; leaves(alloc, &mut keeper, "", run)?);
     Ok(())
 }
@@ -200,11 +292,28 @@ fn a_message_over_the_limit_is_too_large(rt: HostRuntime) -> Result<(), Fail> {
 fn wrong_words_are_usage(rt: HostRuntime) -> Result<(), Fail> {
     let alloc = rt.alloc();
     let mut keeper = MemoryKeeper::new(alloc)?;
-    for words in ["queue --db F alice", "init", "deliver --db F alice", "--db F init"] {
+    for words in [
+        "queue --db F alice",
+        "init",
+        "deliver --db F alice",
+        "--db F init",
+    ] {
         let words = words_of(alloc, words, "")?;
         let (mut input, mut written, mut told) = (M1, Vec::new(alloc), Vec::new(alloc));
-        let ended = drive(alloc, &words, &mut input, &mut written, &mut told, &mut keeper, None);
-        assert_eq!(rt; (ended, written.len(), input.len()), (64, 0, M1.len()), "{words:?}");
+        let ended = drive(
+            alloc,
+            &words,
+            &mut input,
+            &mut written,
+            &mut told,
+            &mut keeper,
+            None,
+        );
+        assert_eq!(rt;
+            (ended, written.len(), input.len()),
+            (64, 0, M1.len()),
+            "{words:?}"
+        );
         assert!(rt; told.as_slice().starts_with(b"error: "), "{words:?}");
     }
     Ok(())
@@ -230,9 +339,20 @@ fn an_answer_that_cannot_be_written_is_told(rt: HostRuntime) -> Result<(), Fail>
     let mut keeper = with_alice(alloc)?;
     let words = words_of(alloc, DELIVER, "")?;
     let (mut input, mut told) = (M1, Vec::new(alloc));
-    let ended = drive(alloc, &words, &mut input, &mut Full, &mut told, &mut keeper, None);
+    let ended = drive(
+        alloc,
+        &words,
+        &mut input,
+        &mut Full,
+        &mut told,
+        &mut keeper,
+        None,
+    );
     assert_eq!(rt; ended, 75);
-    assert_eq!(rt; told.as_slice(), b"sieved: input or output failed\n".as_slice());
+    assert_eq!(rt;
+        told.as_slice(),
+        b"sieved: input or output failed\n".as_slice()
+    );
     Ok(())
 }
 
@@ -288,7 +408,13 @@ fn the_lock_of_another_one_is_busy(rt: HostRuntime) -> Result<(), Fail> {
         Ok(store) => first.hand_back(store).is_ok(),
         Err(_) => false,
     };
-    let again: Run<'_> = ("folders --wait --db F alice", b"", 67, b"", b"sieved: no such user\n");
+    let again: Run<'_> = (
+        "folders --wait --db F alice",
+        b"",
+        67,
+        b"",
+        b"sieved: no such user\n",
+    );
     let free = leaves(rt.alloc(), &mut FileKeeper::new(&rt), path.as_str(), again)?;
     clear(&rt, path.as_str())?;
     assert!(rt; told && back && free);

@@ -1,4 +1,4 @@
-use Rattle.std.proofs.Common.{OnOk, IfErr, refl, subst, rules}
+use Rattle.std.proofs.Common.{OnOk, IfErr, subst, rules}
 use Rattle.sqlite.specs.Held.{state}
 use Rattle.mailstore.specs.Account.{with_user}
 use Rattle.mailstore.specs.Calls.{HasUser, OfUser}

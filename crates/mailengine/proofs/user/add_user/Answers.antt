@@ -1,4 +1,4 @@
-use Rattle.std.proofs.Common.{◌≡◌, true, false, Ok, Some, None, OnOk, IfErr, MatchBool, subst, rules}
+use Rattle.std.proofs.Common.{◌≡◌, Ok, Some, None, OnOk, IfErr, subst, rules}
 use Rattle.sqlite.specs.Held.{state}
 use Rattle.sqlite.specs.State.{HasCleanDisk, Survives}
 use Rattle.std.specs.FinMap.{insert}

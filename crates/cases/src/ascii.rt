@@ -1,0 +1,16 @@
+//! Words on ASCII, and decimals.
+use octets::{Octets, lowered, parse_decimal, trim_blanks, write_decimal};
+use std::alloc::{AllocError, Global};
+
+/// What a call makes of a text.
+pub fn answer(alloc: Global, out: &mut Octets, call: &[u8], text: &[u8]) -> Result<(), AllocError> {
+    match call {
+        b"trim" => out.extend_from_slice(trim_blanks(text)),
+        b"lowered" => out.extend_from_slice(lowered(alloc, text)?.as_slice()),
+        b"decimal" => match parse_decimal(text) {
+            Some(number) => write_decimal(out, number),
+            None => out.extend_from_slice(b"none"),
+        },
+        _ => out.extend_from_slice(b"no such call"),
+    }
+}

@@ -1,0 +1,91 @@
+//! Answers of ManageSieve as they are spelled (RFC 5804).
+use msproto::{Code, Line, Reply, Word, spell};
+use octets::{ListOf, Octets};
+use std::alloc::{AllocError, Global};
+
+/// The octets of an answer of one line.
+pub fn spelled(alloc: Global, out: &mut Octets, given: &[Octets]) -> Result<(), AllocError> {
+    let Some((kind, given)) = given.split_first() else {
+        return Ok(());
+    };
+    match (kind.as_slice(), given) {
+        (b"last", [word, code, text]) => {
+            let code = code_of(alloc, code.as_slice())?;
+            let text = some(alloc, text)?;
+            spell_last(alloc, out, word_of(word.as_slice()), code, text)
+        }
+        (b"capability", [name, value]) => {
+            let name = name.copied(alloc)?;
+            let value = some(alloc, value)?;
+            spell_line(alloc, out, Line::Capability { name, value })
+        }
+        (b"script", [name, state]) => {
+            let name = name.copied(alloc)?;
+            let active = state.as_slice() == b"active".as_slice();
+            spell_line(alloc, out, Line::Script { name, active })
+        }
+        (b"text", [text]) => spell_line(alloc, out, Line::Text(text.copied(alloc)?)),
+        (b"empty", []) => spell_line(alloc, out, Line::Empty),
+        _ => out.extend_from_slice(b"no such answer"),
+    }
+}
+
+fn spell_line(alloc: Global, out: &mut Octets, line: Line) -> Result<(), AllocError> {
+    let mut lines = ListOf::new(alloc);
+    lines.push(line)?;
+    let reply = Reply {
+        lines,
+        word: Word::Nothing,
+        code: None,
+        text: None,
+    };
+    spell(alloc, &reply, out)
+}
+
+fn spell_last(
+    alloc: Global,
+    out: &mut Octets,
+    word: Word,
+    code: Option<Code>,
+    text: Option<Octets>,
+) -> Result<(), AllocError> {
+    let reply = Reply {
+        lines: ListOf::new(alloc),
+        word,
+        code,
+        text,
+    };
+    spell(alloc, &reply, out)
+}
+
+/// The text, or none where it is empty.
+fn some(alloc: Global, text: &Octets) -> Result<Option<Octets>, AllocError> {
+    if text.is_empty() {
+        return Ok(None);
+    }
+    Ok(Some(text.copied(alloc)?))
+}
+
+fn word_of(word: &[u8]) -> Word {
+    match word {
+        b"ok" => Word::Ok,
+        b"no" => Word::No,
+        b"bye" => Word::Bye,
+        _ => Word::Nothing,
+    }
+}
+
+fn code_of(alloc: Global, code: &[u8]) -> Result<Option<Code>, AllocError> {
+    if let Some(tag) = code.strip_prefix(b"tag:") {
+        return Ok(Some(Code::Tag(Octets::copy(alloc, tag)?)));
+    }
+    Ok(match code {
+        b"maxsize" => Some(Code::MaxSize),
+        b"maxscripts" => Some(Code::MaxScripts),
+        b"nonexistent" => Some(Code::NonExistent),
+        b"active" => Some(Code::Active),
+        b"alreadyexists" => Some(Code::AlreadyExists),
+        b"trylater" => Some(Code::TryLater),
+        _ => None,
+    })
+}

@@ -1,0 +1,125 @@
+-- What opening a database reads of it, and what that leaves.
+use Rattle.std.proofs.Common.{◌≡◌, ◌↔◌, ℕ, pos, Bool, true, false, ◌&&◌, cond, codes, List, [], ◌∷◌, ◌++◌, map, filter, flat_map, length, Ok, Err, Result, Vec, IfOk, IfErr, OnOk, IsTrue, IsPermutation, refl, sym, ap, ◌∙◌, subst, inl, inr, arith}
+use Rattle.std.specs.declared.alloc.Global.{Global}
+use Rattle.sqlite_value.specs.declared.value.Value.TheVariants.{Int, Text}
+use Rattle.sqlite_value.specs.Order.{Row, column}
+use Rattle.std.specs.List.{list_all}
+use Rattle.std.proofs.lemmas.List.Sorted.{length_permutation, IsPermutation-map}
+use Rattle.sqlite_value.specs.declared.keys.Collation.TheVariants.{Binary}
+use Rattle.sqlite_sql.specs.declared.ops.CompareOp.TheVariants.{Eq}
+use Rattle.sqlite_typed.proofs.TestLemmas.{at_texts, bytes_eq_refl}
+use Rattle.sqlite_sql.specs.Term.{col, holds, Env}
+use Rattle.sqlite_sql.specs.Query.{Query, IsAnswer, Output, output}
+use Rattle.sqlite_sql.specs.Program.{overlay}
+use Rattle.sqlite_trees.specs.Tree.{Trees}
+use Rattle.sqlite_schema.specs.Rules.{equal, Fits}
+use Rattle.sqlite.specs.Effect.{Database}
+use Rattle.sqlite.specs.Listing.{understood}
+use Rattle.sqlite.specs.declared.error.Error.{Error}
+use Rattle.sqlite.specs.State.{State, HasCleanDisk, Shown, FailsToQuery}
+use Rattle.sqlite_keyed.proofs.ListLemmas.{map-map}
+use Rattle.sqlite.proofs.Callers.{IsPlain, one_permutation}
+use Rattle.sqlrows.specs.Forms.{over}
+use Rattle.sqlrows.specs.Rows.{Entry, id_of, cells_of, stored, IsHeld, Holds, has_key_from}
+use Rattle.sqlrows.proofs.ReadLemmas.{shown_same, fails_same, answered}
+use Rattle.mailstore.specs.Schema.{mail_schema, meta}
+use Rattle.mailstore.specs.Statements.{select_version}
+use Rattle.mailstore.specs.Words.{StaysSame, SeesCommit}
+use Rattle.mailstore.specs.Account.{Accounts}
+use Rattle.mailstore.specs.Shows.{version_key, version_row, version_rows, SaysOne, IsOurs, ShowsIn, Presents}
+use Rattle.mailstore.proofs.TextFacts.{by_one, select_version_is, select_version_plain}
+use Rattle.mailstore.proofs.QueryLemmas.{same_unchanged, same_undone}
+
+-- a query whose text is plain, where the tables are ours
+module _ (sql : List ℕ) (params : Row) (old new : State) (ours : old.now.schema ≡ mail_schema) (plain : IsPlain (understood mail_schema sql)) where
+  pub keeps_same : (r : Result (Vec Row Global) Error) → (IsTrue old.is_open → old.now ≡ old.committed) → (HasCleanDisk new → IfOk r (λ rows. Shown sql params old new rows.items))
+      → (HasCleanDisk new → IfErr r (FailsToQuery sql params old new)) → HasCleanDisk new → StaysSame old new
+  keeps_same (Ok rows) settled ok err clean = same_unchanged old new (shown_same mail_schema sql params old new ours plain rows.items (ok clean))
+  keeps_same (Err e) settled ok err clean = elim (fails_same mail_schema sql params old new ours plain e (err clean)) [ inl same ↦ same_unchanged old new same | inr undone ↦ same_undone old new settled undone ]
+
+  pub sees_commit : (r : Result (Vec Row Global) Error) → (IsTrue old.is_open → old.now ≡ old.committed) → (HasCleanDisk new → IfOk r (λ rows. Shown sql params old new rows.items)) → HasCleanDisk new → OnOk r (SeesCommit new)
+  sees_commit (Ok rows) settled ok clean =
+      let shows = (shown_same mail_schema sql params old new ours plain rows.items (ok clean)).0 in
+      record { is_open = shows.is_open; same = shows.now_is ∙ settled shows.was_open ∙ sym shows.committed_is }
+  sees_commit (Err e) settled ok clean = tt
+
+abbrev asked : Query
+asked = (over 0 by_one (col 1 2 ∷ []) []).body
+
+abbrev slots : Row → Env
+slots row = version_key ∷ row ∷ []
+
+matches_are : (rows : List Row)
+    → flat_map (λ r. cond (list_all (holds (version_key ∷ r ∷ [])) by_one) ((version_key ∷ r ∷ []) ∷ []) []) rows ≡ map slots (filter (has_key_from 1 version_key) rows)
+matches_are [] = refl
+matches_are (r ∷ rows) =
+    rw (matches_are rows) (elim (has_key_from 1 version_key r) as (λ b. cond b (slots r ∷ []) [] ++ map slots (filter (has_key_from 1 version_key) rows) ≡ map slots (cond b (r ∷ filter (has_key_from 1 version_key) rows) (filter (has_key_from 1 version_key) rows)))
+    [ true ↦ refl | false ↦ refl ])
+
+-- the numbers that the query shows are those of the rows of the version
+numbers_are : (trees : Trees) (rows : List Row) → IsAnswer asked (overlay trees []) version_key rows → IsPermutation (map (λ r. column r 2 ∷ []) (version_rows trees)) rows
+numbers_are trees rows a =
+    let kept : a.kept ≡ map (output asked) (map slots (version_rows trees)) = a.distinct ∙ ap (map (output asked)) (a.grouped ∙ matches_are (trees 0)) in
+    let shown : map (λ (o : Output). o.1) a.kept ≡ map (λ r. column r 2 ∷ []) (version_rows trees) =
+    ap (map (λ (o : Output). o.1)) kept ∙ map-map (λ (o : Output). o.1) (output asked) (map slots (version_rows trees)) ∙ map-map _ slots (version_rows trees) in
+    subst (λ l. IsPermutation l rows) shown (subst (λ l. IsPermutation (map (λ (o : Output). o.1) a.kept) l) (sym a.shown) (IsPermutation-map (λ (o : Output). o.1) a.kept a.ordered a.same))
+
+pub version_found : (old new : State) (rows : List Row) → old.now.schema ≡ mail_schema → Shown select_version version_key old new rows → IsPermutation (map (λ r. column r 2 ∷ []) (version_rows old.now.trees)) rows
+version_found old new rows ours shown =
+    numbers_are old.now.trees rows (answered mail_schema select_version version_key old new ours select_version_plain.0 0 by_one (col 1 2 ∷ []) [] _ select_version_is select_version_plain.1 rows shown)
+
+says_ours : (db : Database) (rows found : List Row) → db.schema ≡ mail_schema → version_rows db.trees ≡ found → IsPermutation (map (λ r. column r 2 ∷ []) found) rows → SaysOne rows ↔ IsOurs db
+says_ours db rows [] ours are same = (
+  λ one. absurd (let none = length_permutation _ _ (subst (IsPermutation []) one.1 same) in omega (arith, none)),
+  λ h. absurd (let none = sym are ∙ h.only in cc),
+)
+says_ours db rows (r ∷ []) ours are same =
+    let alone = one_permutation (column r 2 ∷ []) rows same in (
+      λ one. record { schema = ours; row = r; only = are; says = ap (λ l. column (first_of l) 0) (sym alone ∙ one.1) ∙ one.2 },
+      λ h. (column r 2 ∷ [], alone, ap (λ l. column (first_of l) 2) (sym are ∙ h.only) ∙ h.says),
+    )
+  where
+    first_of : List Row → Row
+    first_of [] = []
+    first_of (x ∷ xs) = x
+says_ours db rows (r ∷ q ∷ more) ours are same = (
+  λ one. absurd (let many = length_permutation _ _ (subst (IsPermutation _) one.1 same) in omega (arith, many)),
+  λ h. absurd (let one = sym are ∙ h.only in let many : length (r ∷ q ∷ more) ≡ 1 = ap length one in omega (arith, many)),
+)
+
+pub row_says : (rows : List Row) (row : Row) → rows ≡ row ∷ [] → (r : Result Bool Error) → IfOk r (λ is. IsTrue is ↔ (column row 0 ≡ Int (pos 1))) → IfOk r (λ is. IsTrue is ↔ SaysOne rows)
+row_says rows row are (Err e) said = tt
+row_says rows row are (Ok is) said = (λ e. (row, are, said.0 e), λ h. let same : row ∷ [] ≡ h.0 ∷ [] = sym are ∙ h.1 in let one : row ≡ h.0 = cc in said.1 (ap (λ (x : Row). column x 0) one ∙ h.2))
+
+pub version_says : (db : Database) (rows : List Row) → db.schema ≡ mail_schema → IsPermutation (map (λ r. column r 2 ∷ []) (version_rows db.trees)) rows → (r : Result Bool Error) → IfOk r (λ is. IsTrue is ↔ SaysOne rows)
+    → IfOk r (λ is. IsTrue is ↔ IsOurs db)
+version_says db rows ours same (Err e) said = tt
+version_says db rows ours same (Ok is) said = let both = says_ours db rows _ ours refl same in (λ e. both.0 (said.0 e), λ h. said.1 (both.1 h))
+
+-- opened on trees that show accounts, a database of our schema shows them
+pub shows_again : (db new : Database) (accounts : Accounts) → db.schema ≡ mail_schema → new ≡ db → ShowsIn db.trees accounts → Presents new accounts
+shows_again db new accounts ours is p =
+    let held = p.1.1 in
+    let again : Holds mail_schema db p.1.0 =
+    record { is = ours; fits = subst (Fits mail_schema) (sym p.2) held.fits; each = λ t listed. subst (λ (trees : Trees). IsHeld (trees t.tree) (p.1.0 t.tree)) (sym p.2) (held.each t listed) } in
+    (p.1.0, subst (λ d. Holds mail_schema d p.1.0) (sym is) again, p.1.2)
+
+itself : equal Binary (Text (codes "version")) (Text (codes "version")) ≡ true
+itself = at_texts false Eq (codes "version") (codes "version") ∙ bytes_eq_refl (codes "version")
+
+-- a database that shows accounts is ours
+pub shown_ours : (db : Database) (accounts : Accounts) → Presents db accounts → IsOurs db
+shown_ours db accounts p = let held = p.1.each meta (inl refl) in go held.entries held.rows_are (sym p.2.version ∙ held.cells_are)
+  where
+    go : (es : List Entry) → db.trees 0 ≡ map stored es → version_row ∷ [] ≡ map cells_of es → IsOurs db
+    go [] rows cells = absurd (let none = cells in cc)
+    go (e ∷ []) rows cells =
+        let is : version_row ≡ cells_of e = cc in
+        let row : Row = Int (id_of e) ∷ version_row in
+        record {
+          schema = p.1.is;
+          row = row;
+          only = ap (filter (has_key_from 1 version_key)) rows ∙ ap (λ c. filter (has_key_from 1 version_key) ((Int (id_of e) ∷ c) ∷ [])) (sym is) ∙ ap (λ b. cond (b && true) (row ∷ []) []) itself;
+          says = refl;
+        }
+    go (e ∷ f ∷ es) rows cells = absurd (let two = cells in cc)
