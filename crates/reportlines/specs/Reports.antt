@@ -4,6 +4,7 @@ use Rattle.std.specs.List.{flat_map}
 use Rattle.addrparts.specs.declared.address.Addr.{Addr}
 use Rattle.addrparts.specs.Spelling.{spelling}
 use Rattle.sievesyntax.specs.Meaning.{Outcome, Done, Failed}
+use Rattle.mailstore.specs.declared.report.Report.{Report}
 use Rattle.mailengine.specs.Notices.{notice_of}
 
 -- a line with its end
@@ -40,3 +41,7 @@ or_discard (line ∷ more) = line ∷ more
 -- the report on an outcome
 abbrev pub report_of : Outcome → List ℕ
 report_of outcome = flat_map with_end (or_discard (deed_lines outcome))
+
+-- the report on a delivery that was made
+abbrev pub delivery_report : Report → List ℕ
+delivery_report report = flat_map with_end (or_discard (map file_line report.filed))

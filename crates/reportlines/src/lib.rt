@@ -3,4 +3,4 @@
 
 pub mod report;
 
-pub use report::{of_fault, of_outcome};
+pub use report::{of_fault, of_outcome, of_report};

@@ -4,10 +4,10 @@ ghost use Rattle.std.specs.List.{flat_map};
 ghost use Rattle.sievelex.specs.Faults.{fault_line};
 ghost use Rattle.sieveexec.specs.Runs.{failure_view, outcome_view};
 ghost use Rattle.mailengine.specs.Notices.{notice_of};
-ghost use Rattle.reportlines.specs.Reports.{file_line, send_line, lines_of, or_discard, reply_lines, with_end, report_of};
+ghost use Rattle.reportlines.specs.Reports.{delivery_report, file_line, send_line, lines_of, or_discard, reply_lines, with_end, report_of};
 
 use addrparts::{Addr, spell};
-use mailengine::{Failure, Outcome, notice_text};
+use mailengine::{Failure, Outcome, Report, notice_text};
 use octets::Octets;
 use sievelex::ScriptFault;
 use std::alloc::{AllocError, Global};
@@ -26,6 +26,19 @@ pub fn of_outcome(alloc: Global, outcome: &Outcome) -> Result<Octets, AllocError
             reply.is_some(),
         ),
     }
+}
+
+/// The report on a delivery that was made: a line for each folder that the message joined, or `discard` where there is
+/// none.
+pub fn of_report(alloc: Global, report: &Report) -> Result<Octets, AllocError>
+    ensures { IfOk result (λ text. text ≡ delivery_report report.now) }
+{
+    let mut text = Octets::new(alloc);
+    add_mailboxes(&mut text, report.filed.as_slice())?;
+    if text.is_empty() {
+        return Octets::copy(alloc, b"discard\n");
+    }
+    Ok(text)
 }
 
 /// The lines of what is done, or `discard`.

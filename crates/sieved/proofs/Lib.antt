@@ -1,3 +1,4 @@
 pub mod FramingLemmas
+mod PromiseLemmas
 pub mod StreamLemmas
 pub mod Examples

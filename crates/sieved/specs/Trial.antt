@@ -10,7 +10,7 @@ use Rattle.sieveexec.specs.declared.envelope.Envelope.{Envelope}
 use Rattle.sieveexec.specs.Mails.{mail_of}
 use Rattle.sieveexec.specs.Outcomes.{outcome_at}
 use Rattle.sieved.specs.declared.fault.Fault.{Fault}
-use Rattle.sieved.specs.declared.fault.Fault.TheVariants.{Memory, Stream, BadInput, BadArgument}
+use Rattle.sieved.specs.declared.fault.Fault.TheVariants.{Memory, Stream, BadInput}
 use Rattle.sieved.specs.declared.answer.Answer.{Answer}
 use Rattle.sieved.specs.declared.answer.Answer.TheVariants.{Report, Refusal}
 use Rattle.sieved.specs.Faults.{status_of, line_of}
@@ -18,18 +18,14 @@ use Rattle.sieved.specs.Framing.{IsFramed}
 use Rattle.sieved.specs.Streams.{AppendsFront}
 use Rattle.reportlines.specs.Reports.{with_end, report_of}
 
--- the envelope that is told of no sender and no recipient
-abbrev pub no_envelope : Envelope
-no_envelope = record { from = []; to = [] }
-
--- the input has a valid script, and the text is the report on what it comes to on the message
-pub record Reports (input text : List ℕ) : Type 0 where
+-- the input has a valid script, and the text is the report on what it comes to on the message with the envelope
+pub record Reports (envelope : Envelope) (input text : List ℕ) : Type 0 where
   pub script : List ℕ
   pub message : List ℕ
   pub framed : IsFramed input script message
   pub tree : Commands
   pub means : Means script tree
-  pub told : text ≡ report_of (outcome_at (mail_of message no_envelope) tree)
+  pub told : text ≡ report_of (outcome_at (mail_of message envelope) tree)
 
 -- the input has a script that is not valid, and the text is the line on a fault within it
 pub record Refuses (input text : List ℕ) : Type 0 where
@@ -53,9 +49,9 @@ OfInput None P = (input : List ℕ) × P input
 OfInput (Some input) P = P input
 
 -- what an answer says is so of this input
-abbrev pub Answers : List ℕ → Answer → Type 0
-Answers input (Report text) = Reports input text
-Answers input (Refusal text) = Refuses input text
+abbrev pub Answers : Envelope → List ℕ → Answer → Type 0
+Answers envelope input (Report text) = Reports envelope input text
+Answers envelope input (Refusal text) = Refuses input text
 
 -- the text of an answer
 abbrev pub text_in : Answer → List ℕ
@@ -69,12 +65,13 @@ status_at (Ok (Refusal _)) = 65
 status_at (Err fault) = status_of fault
 
 -- what is on the output in the end: the answer, or nothing, or where a write failed a front of the answer
-abbrev pub LeavesOutput : Option (List ℕ) → Option (List ℕ) → Option (List ℕ) → Result Answer Fault → Type 0
-LeavesOutput given old new (Ok answer) = OfInput given (λ input. Answers input answer) × Appends old new (text_in answer)
-LeavesOutput given old new (Err BadInput) = OfInput given IsNoInput × Keeps old new
-LeavesOutput given old new (Err Memory) = Keeps old new
-LeavesOutput given old new (Err Stream) = Keeps old new ⊎ ((answer : Answer) × OfInput given (λ input. Answers input answer) × AppendsFront old new (text_in answer))
-LeavesOutput given old new (Err BadArgument) = ⊥
+abbrev pub LeavesOutput : Envelope → Option (List ℕ) → Option (List ℕ) → Option (List ℕ) → Result Answer Fault → Type 0
+LeavesOutput envelope given old new (Ok answer) = OfInput given (λ input. Answers envelope input answer) × Appends old new (text_in answer)
+LeavesOutput envelope given old new (Err BadInput) = OfInput given IsNoInput × Keeps old new
+LeavesOutput envelope given old new (Err Memory) = Keeps old new
+LeavesOutput envelope given old new (Err Stream) =
+    Keeps old new ⊎ ((answer : Answer) × OfInput given (λ input. Answers envelope input answer) × AppendsFront old new (text_in answer))
+LeavesOutput envelope given old new (Err _) = ⊥
 
 -- what is told of a fault, or a front of it where that write failed too
 abbrev pub LeavesFaults : Option (List ℕ) → Option (List ℕ) → Result Answer Fault → Type 0
@@ -82,8 +79,8 @@ LeavesFaults old new (Ok _) = Keeps old new
 LeavesFaults old new (Err fault) = AppendsFront old new (line_of fault)
 
 -- a whole run: how it ended, what status tells of it, and what it left on the output and on the faults
-pub record Runs (given : Option (List ℕ)) (output_old output_new faults_old faults_new : Option (List ℕ)) (status : ℕ) : Type 0 where
+pub record Runs (envelope : Envelope) (given : Option (List ℕ)) (output_old output_new faults_old faults_new : Option (List ℕ)) (status : ℕ) : Type 0 where
   pub ending : Result Answer Fault
   pub told : status ≡ status_at ending
-  pub output : LeavesOutput given output_old output_new ending
+  pub output : LeavesOutput envelope given output_old output_new ending
   pub faults : LeavesFaults faults_old faults_new ending

@@ -1,6 +1,6 @@
 //! What is said of an input.
 ghost use Rattle.std.specs.Prelude.{◌≡◌, IfOk, IfErr};
-ghost use Rattle.sieved.specs.Trial.{Answers, IsNoInput, no_envelope, text_in};
+ghost use Rattle.sieved.specs.Trial.{Answers, IsNoInput, text_in};
 ghost use Rattle.sieved.specs.Faults.{IsUnanswered};
 
 use crate::fault::Fault;
@@ -31,25 +31,15 @@ impl Answer {
     }
 }
 
-/// Tries the script of an input on its message, received with the empty envelope.
-pub fn answer_to(alloc: Global, input: &[u8]) -> Result<Answer, Fault>
-    ensures answer { IfOk result (λ answer. Answers input.now answer) }
+/// Tries the script of an input on its message, received with the envelope.
+pub fn answer_to(alloc: Global, envelope: Envelope, input: &[u8]) -> Result<Answer, Fault>
+    ensures answer { IfOk result (λ answer. Answers envelope input.now answer) }
     ensures none { IfErr result (IsUnanswered (IsNoInput input.now)) }
 {
     let framed = framing::split(input).ok_or(Fault::BadInput)?;
-    match attempt(alloc, framed.script, unaddressed(alloc), framed.message) {
+    match attempt(alloc, framed.script, envelope, framed.message) {
         Ok(outcome) => Ok(Answer::Report(of_outcome(alloc, &outcome)?)),
         Err(ScriptError::Fault(fault)) => Ok(Answer::Refusal(of_fault(alloc, fault)?)),
         Err(ScriptError::Memory) => Err(Fault::Memory),
-    }
-}
-
-/// The envelope that is told of no sender and no recipient. Takes no memory.
-fn unaddressed(alloc: Global) -> Envelope
-    ensures { result ≡ no_envelope }
-{
-    Envelope {
-        from: Octets::new(alloc),
-        to: Octets::new(alloc),
     }
 }

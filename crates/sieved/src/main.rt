@@ -1,34 +1,53 @@
-//! Reads a script and a message from standard input, and prints what the script does with the message.
+//! Files mail by each user's Sieve script: accounts, deliveries and folders from the command line.
 #![tactic(auto)]
 
 mod answer;
+mod commands;
+mod drive;
 mod fault;
 mod framing;
 mod stream;
 #[cfg(test)]
 mod tests;
 mod trial;
+mod values;
 
-use fault::Fault;
+use fault::{Fault, refuse};
+use keepers::FileKeeper;
 use std::env;
 use std::io::ErrorKind;
 use std::process::ExitCode;
+use std::time::SystemTime;
 
 fn main(rt: HostRuntime) -> ExitCode {
     let (mut input, mut output, mut faults) = (rt.stdin(), rt.stdout(), rt.stderr());
-    let status = match env::args(&rt) {
-        Ok(words) if words.len() <= 1 => trial::try_run(
+    let mut keeper = FileKeeper::new(&rt);
+    let status = match words_after_name(&rt) {
+        Ok(words) => drive::drive(
             rt.alloc(),
+            &words,
             &mut input,
             &mut output,
             &mut faults,
+            &mut keeper,
+            clock(&rt),
         ),
-        Ok(_) => trial::refuse(&mut faults, Fault::BadArgument),
-        Err(error) if error.kind() == ErrorKind::OutOfMemory => trial::refuse(
-            &mut faults,
-            Fault::Memory,
-        ),
-        Err(_) => trial::refuse(&mut faults, Fault::BadArgument),
+        Err(fault) => refuse(&mut faults, fault),
     };
     ExitCode::from(status)
+}
+
+/// The words of the command line after the program's name. They are text: other octets are a bad argument.
+fn words_after_name(rt: &HostRuntime) -> Result<Vec<String>, Fault> {
+    match env::args(rt) {
+        Ok(words) => Ok(words.skip(1).collect(rt.alloc())?),
+        Err(error) if error.kind() == ErrorKind::OutOfMemory => Err(Fault::Memory),
+        Err(_) => Err(Fault::BadArgument),
+    }
+}
+
+/// Seconds since 1970, where the clock can be read.
+fn clock(rt: &HostRuntime) -> Option<u64> {
+    let now = SystemTime::now(rt).ok()?;
+    Some(now.duration_since(SystemTime::UNIX_EPOCH).ok()?.as_secs())
 }

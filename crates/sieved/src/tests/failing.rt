@@ -1,4 +1,5 @@
 //! Readers and writers that fail, at each of their calls.
+use crate::tests::unaddressed;
 use crate::trial::try_run;
 use std::alloc::Global;
 use std::io;
@@ -67,7 +68,13 @@ fn read_failing(alloc: Global, calls: u64, fails_as: ErrorKind) -> (u8, Vec<u8>)
         fails_as,
     };
     let (mut output, mut faults) = (Vec::new(alloc), Vec::new(alloc));
-    let status = try_run(alloc, &mut input, &mut output, &mut faults);
+    let status = try_run(
+        alloc,
+        unaddressed(alloc),
+        &mut input,
+        &mut output,
+        &mut faults,
+    );
     if output.is_empty() {
         (status, faults)
     } else {
@@ -98,7 +105,13 @@ fn write_failing(alloc: Global, calls: u64) -> (u8, Vec<u8>) {
         calls,
     };
     let mut faults = Vec::new(alloc);
-    let status = try_run(alloc, &mut input, &mut output, &mut faults);
+    let status = try_run(
+        alloc,
+        unaddressed(alloc),
+        &mut input,
+        &mut output,
+        &mut faults,
+    );
     (status, output.taken)
 }
 

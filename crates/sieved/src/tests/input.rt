@@ -1,4 +1,5 @@
 //! Inputs that are a count, a script and a message, and what is none.
+use crate::tests::unaddressed;
 use crate::trial::try_run;
 use std::alloc::Global;
 use std::test::Fail;
@@ -7,7 +8,13 @@ use std::test::Fail;
 fn run(alloc: Global, input: &[u8]) -> (u8, Vec<u8>) {
     let mut given = input;
     let (mut output, mut faults) = (Vec::new(alloc), Vec::new(alloc));
-    let status = try_run(alloc, &mut given, &mut output, &mut faults);
+    let status = try_run(
+        alloc,
+        unaddressed(alloc),
+        &mut given,
+        &mut output,
+        &mut faults,
+    );
     (status, output)
 }
 

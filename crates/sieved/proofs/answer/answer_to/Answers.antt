@@ -16,5 +16,5 @@ returns-in_ok-of_outcome-in-Ok-clause-answer c =
       tree = tree;
       means = c.in-Ok.ensures.valid.1;
       told = c.in_ok-of_outcome-in-Ok.ensures
-          ∙ ap report_of (c.in-Ok.ensures.done tree c.in-Ok.ensures.valid.1 ∙ ap (λ envelope. outcome_at (mail_of message envelope) tree) c.unaddressed.ensures);
+          ∙ ap report_of (c.in-Ok.ensures.done tree c.in-Ok.ensures.valid.1);
     }

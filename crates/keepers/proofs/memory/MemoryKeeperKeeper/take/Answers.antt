@@ -1,0 +1,24 @@
+-- What a store taken from memory sees is what the connection saw that was held.
+use Rattle.std.proofs.Common.{◌≡◌, Some, refl, ◌∙◌, sym, ap, rules}
+use Rattle.sqlite.proofs.Callers.{memory_is_clean}
+use Rattle.sqlite.specs.Held.{state}
+use Rattle.sqlite.specs.Steps.{over_memory}
+use Rattle.keepers.specs.Memory.{held_by}
+use Rattle.keepers.proofs.TakenLemmas.{is_taken}
+use Rattle.keepers.proofs.memory.MemoryKeeperKeeper.take.Goals as goal
+
+pub returns-in-Ok-clause-taken : goal.returns-in-Ok-clause-taken
+returns-in-Ok-clause-taken c _ =
+    let was : c.args.self.now.conn ≡ Some c.in-Some.conn = cc in
+    let made = c.in-Ok.ensures in
+    let clean = memory_is_clean c.in-Ok.store in
+    is_taken c.args.fresh (held_by c.args.self.now.conn) (state over_memory c.in-Ok.store).now
+    (λ stale. (made.opened clean stale).now_is refl ∙ sym (ap held_by was))
+    (λ stale. ap (λ o. (held_by o).schema) was ∙ made.ours stale)
+    (λ fresh. made.made clean fresh)
+    (λ fresh. ap (λ o. (held_by o).schema) was ∙ made.blank fresh)
+
+pub returns-in-Err-clause-refused : goal.returns-in-Err-clause-refused
+returns-in-Err-clause-refused c _ =
+    let was : c.args.self.now.conn ≡ Some c.in-Some.conn = cc in
+    (c.in-Err.ensures.refused (memory_is_clean c.in-Err.conn)).now_is refl ∙ sym (ap held_by was)

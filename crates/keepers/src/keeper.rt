@@ -1,0 +1,113 @@
+//! What a keeper of a store promises.
+ghost use Rattle.std.specs.Prelude.{◌≡◌, Bool, false, None, is_some, IsTrue, IfOk, IfErr, IfSome, OnOk, OnErr};
+ghost use Rattle.sqlite.specs.Effect.{Database};
+ghost use Rattle.sqlite.specs.Held as sqlite;
+ghost use Rattle.sqlite.specs.Held.{state};
+ghost use Rattle.sqlite.specs.State.{HasCleanDisk};
+ghost use Rattle.mailstore.specs.Words.{StaysSame};
+ghost use Rattle.keepers.specs.Taken.{IsTaken};
+ghost use Rattle.mailstore.specs.Account.{no_accounts};
+ghost use Rattle.mailstore.specs.Shows.{Presents};
+ghost use Rattle.mailstore.specs.Refusals.{IsPassing};
+ghost use Rattle.mailstore.specs.Schema.{no_schema, mail_schema};
+
+use mailstore::{Refusal, Store};
+use sqlite::{Alter, Connection};
+use std::alloc::Global;
+
+/// Why no store is given out.
+#[derive(Clone, Copy, Debug, PartialEq, Eq)]
+pub enum Held {
+    /// Another one has it.
+    Busy,
+    /// It can't be opened or made.
+    Refused(Refusal),
+}
+
+impl From<Refusal> for Held {
+    ghost use Rattle.std.specs.Prelude.{◌≡◌};
+    ghost use Rattle.keepers.specs.declared.keeper.Held.TheVariants.{Refused};
+
+    ghost from_gives = { λ refusal held. held ≡ Refused refusal };
+
+    fn from(refusal: Refusal) -> Held {
+        Held::Refused(refusal)
+    }
+}
+
+/// Gives a store out to one caller at a time, and takes it back.
+pub trait Keeper {
+    /// What the database stands on.
+    type S: Alter + Drop;
+
+    /// Whether it tells its tables. One over memory does, one over a file doesn't.
+    ghost tells: { Bool };
+
+    /// What the tables hold between two calls, where it tells them.
+    ghost holds: { Self → Database };
+
+    /// Whether a store was taken and not handed back yet.
+    ghost is_out: { Self → Bool };
+
+    /// From now on a call of `take` waits for a lock that another process has, or answers Busy.
+    fn wait_for_lock(&mut self, waits: bool)
+        ensures same { IsTrue tells → holds self.new ≡ holds self.old }
+        ensures kept { is_out self.new ≡ is_out self.old };
+
+    /// The store at a path: the one that is there, or with `fresh` a new one. Each one is handed back before the next.
+    ///
+    /// # Errors
+    ///
+    /// `Busy` where another process has the store and there is no waiting; else why it can't be opened, or made. The
+    /// tables stay as they are.
+    fn take(&mut self, path: &str, fresh: bool) -> Result<Store<Self::S>, Held>
+        ensures taken { IfOk result (λ store. IsTrue tells → IsTaken fresh (holds self.old) (state Self.S.Store store).now) }
+        ensures refused { OnErr result (IsTrue tells → holds self.new ≡ holds self.old) }
+        ensures out { OnOk result (IsTrue (is_out self.new)) }
+        ensures kept { OnErr result (is_out self.new ≡ is_out self.old) };
+
+    /// Takes the store back out of the place that it is given in, and closes it.
+    ///
+    /// # Errors
+    ///
+    /// `Store` or `Memory` where it couldn't be closed. What was committed stays, and the next one to take the store
+    /// finds it.
+    fn put_back(&mut self, store: &mut Option<Store<Self::S>>) -> Result<(), Refusal>
+        requires { IsTrue (is_some store.old) }
+        ensures held { IfSome store.old (λ given. IsTrue tells → holds self.new ≡ (state Self.S.Store given).now) }
+        ensures back { is_out self.new ≡ false }
+        ensures emptied { store.new ≡ None }
+        ensures named { IfErr result IsPassing };
+
+    /// Hands a taken store back. Errors are those of `put_back`.
+    final fn hand_back(&mut self, store: Store<Self::S>) -> Result<(), Refusal>
+        ensures held { IsTrue tells → holds self.new ≡ (state Self.S.Store store).now }
+        ensures back { is_out self.new ≡ false }
+        ensures named { IfErr result IsPassing }
+    {
+        let mut given = Some(store);
+        self.put_back(&mut given)
+    }
+
+    // Where it tells them, nothing shuts a store or makes it lie.
+    ghost sure: { (held : sqlite.Held Self.S) → IsTrue tells → HasCleanDisk (state Self.S.Store held) × IsTrue (state Self.S.Store held).is_open };
+}
+
+/// The store of a database: the one that is there, or with `fresh` a new one.
+pub(crate) fn store_of<S: Alter + Drop>(
+    alloc: Global,
+    conn: Connection<S>,
+    fresh: bool,
+) -> Result<Store<S>, (Refusal, Connection<S>)>
+    ensures opened { IfOk result (λ store. HasCleanDisk (state S.Store store) → fresh ≡ false → StaysSame (state S.Store conn) (state S.Store store)) }
+    ensures ours { IfOk result (λ store. fresh ≡ false → conn.schema ≡ mail_schema) }
+    ensures made { IfOk result (λ store. HasCleanDisk (state S.Store store) → IsTrue fresh → Presents (state S.Store store).now no_accounts) }
+    ensures blank { IfOk result (λ store. IsTrue fresh → conn.schema ≡ no_schema) }
+    ensures refused { IfErr result (λ e. HasCleanDisk (state S.Store e.1) → StaysSame (state S.Store conn) (state S.Store e.1)) }
+{
+    if fresh {
+        Store::create(alloc, conn)
+    } else {
+        Store::open(alloc, conn)
+    }
+}

@@ -1,0 +1,125 @@
+//! What the words ask for.
+use crate::command::sieved;
+use clap::{ArgMatches, Error};
+use std::alloc::Global;
+
+/// Where a store is.
+#[derive(Clone, Copy, Debug, PartialEq, Eq)]
+pub struct Place<'a> {
+    /// The path of the database's file.
+    pub path: &'a str,
+    /// Whether to wait for the lock where another process has it.
+    pub waits: bool,
+}
+
+/// What the words ask for, with its values as they were written. An address that was left out is empty.
+#[derive(Clone, Copy, Debug, PartialEq, Eq)]
+pub enum Asked<'a> {
+    /// `try`: what a script does with a message.
+    Try {
+        /// The envelope's sender.
+        from: &'a str,
+        /// The envelope's recipient.
+        to: &'a str,
+    },
+    /// `init`: a new store.
+    Init(Place<'a>),
+    /// `adduser`: a new account.
+    AddUser {
+        place: Place<'a>,
+        /// The salt in hexadecimal digits.
+        salt: &'a str,
+        /// The account's name.
+        name: &'a str,
+        /// The account's address.
+        address: &'a str,
+    },
+    /// `deliver`: a message for a user.
+    Deliver {
+        place: Place<'a>,
+        /// The envelope's sender.
+        from: &'a str,
+        /// The envelope's recipient.
+        to: &'a str,
+        /// The moment in seconds since 1970, in decimal; the clock's where it is left out.
+        at: Option<&'a str>,
+        /// The account's name.
+        user: &'a str,
+    },
+    /// `folders`: a user's folders.
+    Folders {
+        place: Place<'a>,
+        /// The account's name.
+        user: &'a str,
+    },
+    /// `show`: a message of a folder.
+    Show {
+        place: Place<'a>,
+        /// The account's name.
+        user: &'a str,
+        /// The folder's name.
+        folder: &'a str,
+        /// The message's number in the folder, from 1, in decimal.
+        number: &'a str,
+    },
+}
+
+/// What the words ask for. They are those after the program's name; without a word it is `try` with an empty envelope.
+///
+/// # Errors
+///
+/// A usage error, or what `--help` and `--version` ask for, with the text that `clap` has for it; lack of memory.
+pub fn read<'a>(alloc: Global, words: &'a [String]) -> Result<Asked<'a>, Error> {
+    let matches = sieved(alloc)?.try_get_matches_from(words)?;
+    Ok(match matches.subcommand() {
+        None => Asked::Try { from: "", to: "" },
+        Some((word, given)) => asked_by(word, given),
+    })
+}
+
+/// What a word asks for with what was given to it.
+fn asked_by<'a>(word: &str, given: &ArgMatches<'a>) -> Asked<'a> {
+    match word {
+        "init" => Asked::Init(place_in(given)),
+        "adduser" => Asked::AddUser {
+            place: place_in(given),
+            salt: text(given, "salt"),
+            name: text(given, "name"),
+            address: text(given, "address"),
+        },
+        "deliver" => Asked::Deliver {
+            place: place_in(given),
+            from: text(given, "from"),
+            to: text(given, "to"),
+            at: given.get_str("at"),
+            user: text(given, "user"),
+        },
+        "folders" => Asked::Folders {
+            place: place_in(given),
+            user: text(given, "user"),
+        },
+        "show" => Asked::Show {
+            place: place_in(given),
+            user: text(given, "user"),
+            folder: text(given, "folder"),
+            number: text(given, "number"),
+        },
+        _ => Asked::Try {
+            from: text(given, "from"),
+            to: text(given, "to"),
+        },
+    }
+}
+
+/// Where the store is that a word works on.
+fn place_in<'a>(given: &ArgMatches<'a>) -> Place<'a> {
+    Place {
+        path: text(given, "db"),
+        waits: given.get_flag("wait"),
+    }
+}
+
+/// The value of an argument, or the empty one where it was left out.
+fn text<'a>(given: &ArgMatches<'a>, id: &str) -> &'a str {
+    given.get_str(id).unwrap_or("")
+}

@@ -1,0 +1,150 @@
+//! The words that there are, each with its arguments and its help.
+use clap::{Arg, ArgAction, Command};
+use std::alloc::{AllocError, Global};
+
+/// All words.
+pub fn sieved<'a>(alloc: Global) -> Result<Command<'a>, AllocError> {
+    Command::new(alloc, "sieved")
+        .bin_name("sieved")?
+        .version("1.0.0")
+        .about("Files mail by each user's Sieve script")
+        .after_help("Without a command it is `try` with an empty envelope.")
+        .propagate_version(true)
+        .no_binary_name(true)
+        .disable_help_subcommand(true)
+        .subcommand(try_word(alloc)?)?
+        .subcommand(init(alloc)?)?
+        .subcommand(adduser(alloc)?)?
+        .subcommand(deliver(alloc)?)?
+        .subcommand(folders(alloc)?)?
+        .subcommand(show(alloc)?)
+}
+
+fn try_word<'a>(alloc: Global) -> Result<Command<'a>, AllocError> {
+    Command::new(alloc, "try")
+        .about("Says what a script does with a message, and stores nothing")
+        .after_help(
+            "Reads a line with the script's length in decimal, the script, and the message.
+Prints `file NAME`, `send ADDRESS`, `vacation wanted`, or `discard`; or `line N: ..` of a script that isn't valid.
+Status 0: said. 64: wrong words. 65: not valid, or no such input. 75: memory, input or output failed.",
+        )
+        .arg(option(alloc, "from", "A", "The envelope's sender [default: none]"))?
+        .arg(option(alloc, "to", "A", "The envelope's recipient [default: none]"))
+}
+
+fn init<'a>(alloc: Global) -> Result<Command<'a>, AllocError> {
+    stored(
+        alloc,
+        "init",
+        "Makes a store in a file that is absent or empty",
+        "Reads nothing. Prints `ready`.
+Status 0: made. 64: wrong words. 65: there is a store already. 75: try again later.",
+    )
+}
+
+fn adduser<'a>(alloc: Global) -> Result<Command<'a>, AllocError> {
+    stored(
+        alloc,
+        "adduser",
+        "Adds an account",
+        "Reads the password, up to the first line end. Prints `added NAME`.
+Status 0: added. 64: wrong words or salt. 65: such a user is not allowed, or there already. 75: try again later.",
+    )?
+    .arg(option(alloc, "salt", "HEX32", "16 random octets in hexadecimal").required(true))?
+    .arg(operand(
+        alloc,
+        "name",
+        "NAME",
+        "1 to 64 of letters, digits and . _ - @",
+    ))?
+    .arg(operand(
+        alloc,
+        "address",
+        "ADDRESS",
+        "The mail address, without a display name",
+    ))
+}
+
+fn deliver<'a>(alloc: Global) -> Result<Command<'a>, AllocError> {
+    stored(
+        alloc,
+        "deliver",
+        "Delivers a message to a user by the active script",
+        "Reads the message. Prints `file NAME`, `notice TEXT`, or `discard`.
+Status 0: delivered, and on the disk. 64: wrong words or values. 65: refused for good. 67: no such user. 75: try again later.",
+    )?
+    .arg(option(alloc, "from", "A", "The envelope's sender [default: none]"))?
+    .arg(option(alloc, "to", "A", "The envelope's recipient").required(true))?
+    .arg(option(alloc, "at", "N", "Seconds since 1970 [default: the clock]"))?
+    .arg(operand(alloc, "user", "USER", "The account's name"))
+}
+
+fn folders<'a>(alloc: Global) -> Result<Command<'a>, AllocError> {
+    stored(
+        alloc,
+        "folders",
+        "Lists a user's folders",
+        "Reads nothing. Prints `NAME COUNT` for each, in the order of their octets.
+Status 0: listed. 64: wrong words. 65: no such store. 67: no such user. 75: try again later.",
+    )?
+    .arg(operand(alloc, "user", "USER", "The account's name"))
+}
+
+fn show<'a>(alloc: Global) -> Result<Command<'a>, AllocError> {
+    stored(
+        alloc,
+        "show",
+        "Shows a message of a folder",
+        "Reads nothing. Prints the message as it was received.
+Status 0: shown. 64: wrong words or number. 65: no such message or store. 67: no such user. 75: try again later.",
+    )?
+    .arg(operand(alloc, "user", "USER", "The account's name"))?
+    .arg(operand(
+        alloc,
+        "folder",
+        "FOLDER",
+        "The folder's name, as `folders` prints it",
+    ))?
+    .arg(operand(
+        alloc,
+        "number",
+        "N",
+        "The message's number in the folder, from 1",
+    ))
+}
+
+/// A word that works on a store.
+fn stored<'a>(
+    alloc: Global,
+    word: &'a str,
+    about: &'a str,
+    more: &'a str,
+) -> Result<Command<'a>, AllocError> {
+    let wait = Arg::new(alloc, "wait")
+        .long("wait")
+        .action(ArgAction::SetTrue)
+        .help("Waits where another process has the store");
+    Command::new(alloc, word)
+        .about(about)
+        .after_help(more)
+        .arg(option(alloc, "db", "FILE", "The store's file").required(true))?
+        .arg(wait)
+}
+
+/// An option with a value, which may begin with a hyphen.
+fn option<'a>(alloc: Global, name: &'a str, value: &'a str, help: &'a str) -> Arg<'a> {
+    Arg::new(alloc, name)
+        .long(name)
+        .value_name(value)
+        .allow_hyphen_values(true)
+        .help(help)
+}
+
+/// A value that stands by its place.
+fn operand<'a>(alloc: Global, name: &'a str, value: &'a str, help: &'a str) -> Arg<'a> {
+    Arg::new(alloc, name)
+        .action(ArgAction::Set)
+        .required(true)
+        .value_name(value)
+        .help(help)
+}

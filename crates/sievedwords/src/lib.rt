@@ -1,0 +1,9 @@
+//! The words of sieved's command line: what they ask for, and what is told where they ask for nothing.
+#![tactic(auto)]
+
+mod asked;
+mod command;
+#[cfg(test)]
+mod tests;
+
+pub use asked::{Asked, Place, read};
