@@ -63,7 +63,7 @@ struct Talk<'a> {
 impl<'a> Talk<'a> {
     /// Takes a section that is an event or says something of those that follow, and says whether it was one.
     fn take(&mut self, alloc: Global, section: &Section<'a>) -> Result<bool, AllocError> {
-        if section.name == "send" || section.name == "deliver" {
+        if matches!(section.name, "send" | "deliver" | "adduser") {
             self.add(alloc, section)?;
             return Ok(true);
         }
@@ -89,6 +89,9 @@ impl<'a> Talk<'a> {
     }
 
     fn event(&self, alloc: Global, section: &Section<'_>, user: &str) -> Result<Event, AllocError> {
+        if section.name == "adduser" {
+            return new_user(alloc, user, section.text);
+        }
         let octets = with_ends(alloc, decoded(alloc, section.text)?, true)?;
         let user = Octets::copy(alloc, user.as_bytes())?;
         if section.name == "send" {
@@ -129,6 +132,17 @@ impl<'a> Talk<'a> {
         }
         Ok(())
     }
+}
+
+/// A user to be added: the address is the first line, the password the second.
+fn new_user(alloc: Global, name: &str, text: &str) -> Result<Event, AllocError> {
+    let (address, password) = text.split_once('\n').unwrap_or((text, ""));
+    Ok(Event::AddUser {
+        name: decoded(alloc, name)?,
+        address: decoded(alloc, address)?,
+        salt: *b"0123456789abcdef",
+        password: decoded(alloc, password)?,
+    })
 }
 
 fn number(digits: &str) -> u64 {
@@ -204,6 +218,7 @@ fn add_answer(alloc: Global, out: &mut Octets, answer: &Answer) -> Result<(), Al
     match answer {
         Answer::Out(_, octets) => add_sent(out, octets.as_slice()),
         Answer::Delivered(report) => add_report(out, report),
+        Answer::Added => add_line(out, b"", b"added"),
         Answer::Refused(refusal) => add_refusal(alloc, out, *refusal),
     }
 }
