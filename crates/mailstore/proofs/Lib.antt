@@ -17,4 +17,3 @@ pub mod FolderLemmas
 pub mod OneLemmas
 pub mod SchemaLemmas
 pub mod OpenLemmas
-mod Examples
