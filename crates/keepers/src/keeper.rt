@@ -100,7 +100,7 @@ pub(crate) fn store_of<S: Alter + Drop>(
     fresh: bool,
 ) -> Result<Store<S>, (Refusal, Connection<S>)>
     ensures opened { IfOk result (λ store. HasCleanDisk (state S.Store store) → fresh ≡ false → StaysSame (state S.Store conn) (state S.Store store)) }
-    ensures ours { IfOk result (λ store. fresh ≡ false → conn.schema ≡ mail_schema) }
+    ensures ours { IfOk result (λ store. HasCleanDisk (state S.Store store) → fresh ≡ false → conn.schema ≡ mail_schema) }
     ensures made { IfOk result (λ store. HasCleanDisk (state S.Store store) → IsTrue fresh → Presents (state S.Store store).now no_accounts) }
     ensures blank { IfOk result (λ store. IsTrue fresh → conn.schema ≡ no_schema) }
     ensures refused { IfErr result (λ e. HasCleanDisk (state S.Store e.1) → StaysSame (state S.Store conn) (state S.Store e.1)) }

@@ -14,7 +14,7 @@ returns-in-Ok-clause-taken c _ =
     let clean = memory_is_clean c.in-Ok.store in
     is_taken c.args.fresh (held_by c.args.self.now.conn) (state over_memory c.in-Ok.store).now
     (λ stale. (made.opened clean stale).now_is refl ∙ sym (ap held_by was))
-    (λ stale. ap (λ o. (held_by o).schema) was ∙ made.ours stale)
+    (λ stale. ap (λ o. (held_by o).schema) was ∙ made.ours clean stale)
     (λ fresh. made.made clean fresh)
     (λ fresh. ap (λ o. (held_by o).schema) was ∙ made.blank fresh)
 
