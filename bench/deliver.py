@@ -7,7 +7,7 @@ It needs python3 and sqlite3 (the command), which fills the stores and stands be
 With dovecot-core and dovecot-sieve installed and run as root it also times `dovecot-lda -d` on the same message
 and script. Each figure is the least of some runs, in milliseconds.
 """
-import os, resource, shutil, subprocess, sys, tempfile, time
+import os, shutil, subprocess, sys, tempfile, time
 
 HERE = os.path.dirname(os.path.abspath(__file__))
 SIEVED = os.path.abspath(sys.argv[1] if len(sys.argv) > 1 else f"{HERE}/../crates/sieved/out/sieved")
@@ -31,21 +31,28 @@ def run(words, data=b"", env=None):
     except BrokenPipeError:
         pass
     out, err = child.stdout.read(), child.stderr.read()
-    _, status, used = os.wait4(child.pid, 0)
+    status = child.wait()
     if status:
-        raise SystemExit(f"{words}: {os.waitstatus_to_exitcode(status)}: {err.decode()}")
-    return (time.perf_counter() - began) * 1000, used.ru_maxrss, out
+        raise SystemExit(f"{words}: {status}: {err.decode()}")
+    return (time.perf_counter() - began) * 1000, err
 
 
 def least(words, data=b"", env=None, runs=RUNS, before=None):
-    took, peak = [], 0
+    took = []
     for _ in range(runs):
         if before:
             before()
-        ms, kb, _ = run(words, data, env)
-        took.append(ms)
-        peak = max(peak, kb)
-    return min(took), peak
+        took.append(run(words, data, env)[0])
+    if before:
+        before()
+    return min(took), peak(words, data, env)
+
+
+def peak(words, data, env):
+    """The most memory that the process had, in kB, by the command `time`; none where it isn't installed."""
+    if not os.path.exists("/usr/bin/time"):
+        return None
+    return int(run(["/usr/bin/time", "-f", "%M", *words], data, env)[1].split()[-1])
 
 
 def sql(file, text):
@@ -65,8 +72,8 @@ def store(folder, count):
     return file
 
 
-def row(what, took, peak=None):
-    print(f"| {what} | {took:.1f} | {'' if peak is None else f'{peak / 1024:.1f}'} |", flush=True)
+def row(what, took, most=None):
+    print(f"| {what} | {took:.1f} | {'' if most is None else f'{most / 1024:.1f}'} |", flush=True)
 
 
 def deliver(file):
@@ -79,17 +86,17 @@ def stores(folder):
         whole = f"{file}.whole"
         shutil.copy(file, whole)
         fresh = lambda: shutil.copy(whole, file)
-        took, peak = least(deliver(file), message(8_192), before=fresh, runs=RUNS if count < 10_000 else 5)
-        row(f"`deliver`, 8 kB, into a store of {count:,} messages ({os.path.getsize(whole) / 1e6:.1f} MB)", took, peak)
-        took, peak = least(["sqlite3", file, "SELECT 1"])
-        row(f"`sqlite3 FILE \"SELECT 1\"` on it", took, peak)
+        took, most = least(deliver(file), message(8_192), before=fresh, runs=RUNS if count < 10_000 else 5)
+        row(f"`deliver`, 8 kB, into a store of {count:,} messages ({os.path.getsize(whole) / 1e6:.1f} MB)", took, most)
+        took, most = least(["sqlite3", file, "SELECT 1"])
+        row(f"`sqlite3 FILE \"SELECT 1\"` on it", took, most)
         if count == 0:
-            took, peak = least([SIEVED, "folders", "--db", file, "alice"])
-            row("`folders` (open, read, close)", took, peak)
+            took, most = least([SIEVED, "folders", "--db", file, "alice"])
+            row("`folders` (open, read, close)", took, most)
             fresh()
             size = len(message(30_000_000))
-            took, peak = least(deliver(file), message(30_000_000), before=fresh, runs=5)
-            row(f"`deliver`, {size:,} octets ({peak * 1024 / size:.2f} times its size)", took, peak)
+            took, most = least(deliver(file), message(30_000_000), before=fresh, runs=5)
+            row(f"`deliver`, {size:,} octets ({(most or 0) * 1024 / size:.2f} times its size)", took, most)
 
 
 CONF = """
@@ -134,7 +141,7 @@ def dovecot(folder):
     who = pwd.getpwnam("mail")
     subprocess.run(["chmod", "755", folder], check=True)
     subprocess.run(["chown", "-R", "mail:mail", f"{base}/mail"], check=True)
-    open(f"{base}/alice.sieve", "w").write(SCRIPT.replace('fileinto "', 'fileinto "'))
+    open(f"{base}/alice.sieve", "w").write(SCRIPT)
     open(f"{base}/conf", "w").write(CONF.format(base, who.pw_uid, who.pw_gid))
     subprocess.run(["dovecot", "-c", f"{base}/conf"], check=True)
     try:
@@ -143,8 +150,8 @@ def dovecot(folder):
         for name in ("lists", "net"):
             os.makedirs(f"{base}/mail/alice/.{name}", exist_ok=True)
         subprocess.run(["chown", "-R", "mail:mail", f"{base}/mail"], check=True)
-        took, peak = least(words, message(8_192))
-        row("`dovecot-lda -d alice`, the same message and script, a Maildir", took, peak)
+        took, most = least(words, message(8_192))
+        row("`dovecot-lda -d alice`, the same message and script, a Maildir", took, most)
     finally:
         subprocess.run(["doveadm", "-c", f"{base}/conf", "stop"], check=False)
 
