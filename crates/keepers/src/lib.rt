@@ -1,6 +1,7 @@
 //! Who keeps a store between two calls: a file with a lock beside it, or memory.
 #![tactic(auto)]
 
+mod cause;
 mod file;
 mod keeper;
 mod memory;

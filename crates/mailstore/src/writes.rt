@@ -17,7 +17,7 @@ use crate::change::{Change, make_all};
 use crate::delivery::copy_changes;
 use crate::refusal::Refusal;
 use crate::report::Plan;
-use crate::store::Store;
+use crate::store::{Store, code_of};
 use sqlite::Alter;
 
 impl<S: Alter> Store<S> {
@@ -28,7 +28,10 @@ impl<S: Alter> Store<S> {
         ensures crash { Survives (state S.Store self.old) (state S.Store self.new) (MayHave changes.now (state S.Store self.old)) }
         ensures named { IfErr result IsPassing }
     {
-        make_all(&mut self.conn, changes)?;
+        if let Err(error) = make_all(&mut self.conn, changes) {
+            self.cause = code_of(&error);
+            return Err(Refusal::from(error));
+        }
         Ok(())
     }
 

@@ -1,5 +1,5 @@
 //! The words that work on a store, a function each.
-ghost use Rattle.std.specs.Prelude.{◌≡◌, false, IsTrue, IfOk, OnOk, OnErr, IfErr};
+ghost use Rattle.std.specs.Prelude.{◌≡◌, ◌≢◌, false, IsTrue, IfOk, OnOk, OnErr, IfErr};
 ghost use Rattle.sqlite.specs.Held.{state};
 ghost use Rattle.mailstore.specs.Account.{no_accounts};
 ghost use Rattle.mailstore.specs.Shows.{Presents};
@@ -66,6 +66,7 @@ pub fn run_adduser<R: Read, W: Write, K: Keeper>(
     output: &mut W,
     keeper: &mut K,
 ) -> Result<(), Fault>
+    ensures unread { status_after result ≡ 64 → input.new ≡ input.old }
     ensures back { K.is_out keeper.old ≡ false → K.is_out keeper.new ≡ false }
     ensures leaves { IsTrue K.tells → LeavesAfter (Brings (R.remaining input.old)) (status_after result) (K.holds keeper.old) (K.holds keeper.new) }
 {
@@ -95,6 +96,7 @@ fn add<K: Keeper>(
     password: &[u8],
     keeper: &mut K,
 ) -> Result<(), Fault>
+    ensures late { status_after result ≢ 64 }
     ensures back { K.is_out keeper.old ≡ false → K.is_out keeper.new ≡ false }
     ensures leaves { IsTrue K.tells → LeavesAfter (λ event. event ≡ AddUser name.now address.now salt password.now) (status_after result) (K.holds keeper.old) (K.holds keeper.new) }
 {
@@ -124,6 +126,7 @@ pub fn run_deliver<R: Read, W: Write, K: Keeper>(
     output: &mut W,
     keeper: &mut K,
 ) -> Result<(), Fault>
+    ensures unread { status_after result ≡ 64 → input.new ≡ input.old }
     ensures back { K.is_out keeper.old ≡ false → K.is_out keeper.new ≡ false }
     ensures leaves { IsTrue K.tells → LeavesAfter (Brings (R.remaining input.old)) (status_after result) (K.holds keeper.old) (K.holds keeper.new) }
 {
@@ -152,6 +155,7 @@ fn post<K: Keeper>(
     moment: u64,
     keeper: &mut K,
 ) -> Result<Report, Fault>
+    ensures late { status_after result ≢ 64 }
     ensures back { K.is_out keeper.old ≡ false → K.is_out keeper.new ≡ false }
     ensures leaves { IsTrue K.tells → LeavesAfter (λ event. event ≡ Deliver user.now envelope message.now moment) (status_after result) (K.holds keeper.old) (K.holds keeper.new) }
 {
@@ -258,6 +262,7 @@ fn numbered(messages: &[Octets], number: u64) -> Option<&[u8]> {
 
 /// The store at a place: the one that is there, or with `fresh` a new one.
 fn taken<K: Keeper>(place: Place<'_>, fresh: bool, keeper: &mut K) -> Result<Store<K::S>, Fault>
+    ensures late { status_after result ≢ 64 }
     ensures taken { IfOk result (λ store. IsTrue K.tells → IsTaken fresh (K.holds keeper.old) (state K.S.Store store).now) }
     ensures refused { OnErr result (IsTrue K.tells → K.holds keeper.new ≡ K.holds keeper.old) }
     ensures kept { OnErr result (K.is_out keeper.new ≡ K.is_out keeper.old) }

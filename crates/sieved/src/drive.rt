@@ -23,8 +23,8 @@ const USAGE: u8 = 64;
 /// Does what the words after the program's name ask for, and answers the exit status. The message, the password or the
 /// script is read from the input, the answer is written to the output, and what goes wrong to the faults.
 ///
-/// `clock` is the moment in seconds since 1970, where the clock could be read. The store is taken at most once, and
-/// handed back before the answer is written.
+/// `clock` is the moment in seconds since 1970, where the clock could be read. Where words or values are wrong nothing is
+/// read. The store is taken at most once, and handed back before the answer is written.
 pub fn drive<R: Read, W: Write, F: Write, K: Keeper>(
     alloc: Global,
     words: &[String],
@@ -34,6 +34,7 @@ pub fn drive<R: Read, W: Write, F: Write, K: Keeper>(
     keeper: &mut K,
     clock: Option<u64>,
 ) -> u8
+    ensures unread { result ≡ 64 → input.new ≡ input.old }
     ensures back { K.is_out keeper.old ≡ false → K.is_out keeper.new ≡ false }
     ensures leaves { IsTrue K.tells → LeavesSound (R.remaining input.old) result (K.holds keeper.old) (K.holds keeper.new) }
 {
@@ -52,6 +53,7 @@ fn run<R: Read, W: Write, F: Write, K: Keeper>(
     keeper: &mut K,
     clock: Option<u64>,
 ) -> u8
+    ensures unread { result ≡ 64 → input.new ≡ input.old }
     ensures back { K.is_out keeper.old ≡ false → K.is_out keeper.new ≡ false }
     ensures leaves { IsTrue K.tells → LeavesSound (R.remaining input.old) result (K.holds keeper.old) (K.holds keeper.new) }
 {
@@ -60,7 +62,7 @@ fn run<R: Read, W: Write, F: Write, K: Keeper>(
             Ok(envelope) => try_run(alloc, envelope, input, output, faults),
             Err(_) => refuse(faults, Fault::Memory),
         },
-        Asked::Init(place) => ended(run_init(place, output, keeper), faults),
+        Asked::Init(place) => ended(run_init(place, output, keeper), faults, keeper),
         Asked::AddUser {
             place,
             salt,
@@ -75,6 +77,7 @@ fn run<R: Read, W: Write, F: Write, K: Keeper>(
             ended(
                 run_adduser(alloc, place, user, input, output, keeper),
                 faults,
+                keeper,
             )
         }
         Asked::Deliver {
@@ -88,11 +91,14 @@ fn run<R: Read, W: Write, F: Write, K: Keeper>(
             ended(
                 run_deliver(alloc, place, posting, clock, input, output, keeper),
                 faults,
+                keeper,
             )
         }
-        Asked::Folders { place, user } => {
-            ended(run_folders(alloc, place, user, output, keeper), faults)
-        }
+        Asked::Folders { place, user } => ended(
+            run_folders(alloc, place, user, output, keeper),
+            faults,
+            keeper,
+        ),
         Asked::Show {
             place,
             user,
@@ -101,17 +107,31 @@ fn run<R: Read, W: Write, F: Write, K: Keeper>(
         } => ended(
             run_show(place, user, folder, number, output, keeper),
             faults,
+            keeper,
         ),
     }
 }
 
-/// The status of what was done, or of the fault, which is told.
-fn ended<F: Write>(done: Result<(), Fault>, faults: &mut F) -> u8
+/// The status of what was done in a store, or of the fault. It is told, and what the keeper knows of it.
+fn ended<F: Write, K: Keeper>(done: Result<(), Fault>, faults: &mut F, keeper: &K) -> u8
     ensures { result ≡ status_after done }
 {
-    match done {
-        Ok(()) => 0,
-        Err(fault) => refuse(faults, fault),
+    let Err(fault) = done else {
+        return 0;
+    };
+    let status = refuse(faults, fault);
+    if fault == Fault::Store {
+        tell_cause(faults, keeper.cause());
+    }
+    status
+}
+
+/// A second line on why the store failed, for who runs it. Where it can't be written the first one has told.
+fn tell_cause<F: Write>(faults: &mut F, cause: Option<&'static str>) {
+    if let Some(text) = cause {
+        let _ = write_all(faults, b"sieved: ");
+        let _ = write_all(faults, text.as_bytes());
+        let _ = write_all(faults, b"\n");
     }
 }
 
@@ -127,7 +147,10 @@ fn tell<W: Write, F: Write>(alloc: Global, error: &Error, output: &mut W, faults
         let _ = write_all(faults, text.as_bytes());
         return USAGE;
     }
-    ended(write_all(output, text.as_bytes()), faults)
+    match write_all(output, text.as_bytes()) {
+        Ok(()) => 0,
+        Err(fault) => refuse(faults, fault),
+    }
 }
 
 fn shown(alloc: Global, error: &Error) -> Result<String, AllocError> {

@@ -43,7 +43,7 @@ fn delivers(alloc: Global) -> Result<Event, AllocError> {
 fn created<S: Alter + Drop>(alloc: Global, conn: Connection<S>) -> Result<Store<S>, Refusal> {
     match Store::create(alloc, conn) {
         Ok(store) => Ok(store),
-        Err((refusal, _)) => Err(refusal),
+        Err((refusal, _, _)) => Err(refusal),
     }
 }
 
