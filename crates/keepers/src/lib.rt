@@ -4,8 +4,6 @@
 mod file;
 mod keeper;
 mod memory;
-#[cfg(test)]
-mod tests;
 
 pub use file::FileKeeper;
 pub use keeper::{Held, Keeper};
