@@ -13,8 +13,6 @@ pub mod laws;
 pub mod list;
 pub mod outbound;
 mod scanner;
-#[cfg(test)]
-mod tests;
 
 pub use address::{Addr, spell};
 pub use list::addresses;

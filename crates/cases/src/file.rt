@@ -3,16 +3,18 @@ use crate::run::{add_run, answer, text_in};
 use crate::table::{Answers, try_rows};
 use crate::tally::Tally;
 use keepers::{FileKeeper, Keeper};
+use mailstore::Store;
 use octets::Octets;
-use sqlite::{Connection, Error};
+use sqlite::{Alter, Connection, Error};
 use std::alloc::{AllocError, Global};
 use std::{env, format, fs, io, process};
 
-/// Runs on the store of a file.
+/// Runs on the store of a file, by one keeper, while the other one may have it.
 #[derive(Drop)]
-struct FileRuns<'a> {
-    rt: &'a HostRuntime,
-    path: &'a str,
+struct FileRuns<K: Drop> {
+    keeper: K,
+    other: K,
+    path: String,
 }
 
 /// Tries each case of the file, on a store of this process alone, which is taken away behind them.
@@ -20,11 +22,12 @@ pub fn try_all(rt: &HostRuntime, tally: &mut Tally, file: &str) -> io::Result<()
     let path = path_for(rt)?;
     clear(rt, path.as_str())?;
     let mut runs = FileRuns {
-        rt,
-        path: path.as_str(),
+        keeper: FileKeeper::new(rt),
+        other: FileKeeper::new(rt),
+        path,
     };
     try_rows(rt.alloc(), tally, &mut runs, file)?;
-    Ok(clear(rt, path.as_str())?)
+    Ok(clear(rt, runs.path.as_str())?)
 }
 
 fn path_for(rt: &HostRuntime) -> io::Result<String> {
@@ -41,40 +44,61 @@ fn clear(rt: &HostRuntime, path: &str) -> Result<(), AllocError> {
     Ok(())
 }
 
-impl Answers for FileRuns<'_> {
+impl<K: Keeper + Drop> Answers for FileRuns<K> {
     fn answer(
         &mut self,
         alloc: Global,
         out: &mut Octets,
         given: &[Octets],
     ) -> Result<(), AllocError> {
-        let mut keeper = FileKeeper::new(self.rt);
         match given {
             [call, query] if call.as_slice() == b"sql".as_slice() => {
-                self.add_number(alloc, out, text_in(query))
+                add_number(
+                    alloc,
+                    out,
+                    &mut self.other,
+                    self.path.as_str(),
+                    text_in(query),
+                )
             }
-            [call, words, input] if call.as_slice() == b"locked".as_slice() => {
-                let mut other = FileKeeper::new(self.rt);
-                let (words, input) = (text_in(words), input.as_slice());
-                add_locked(alloc, out, &mut other, &mut keeper, self.path, words, input)
-            }
-            _ => answer(alloc, out, &mut keeper, self.path, given),
+            [call, words, input] if call.as_slice() == b"locked".as_slice() => add_locked(
+                alloc,
+                out,
+                &mut self.other,
+                &mut self.keeper,
+                self.path.as_str(),
+                text_in(words),
+                input.as_slice(),
+            ),
+            _ => answer(alloc, out, &mut self.keeper, self.path.as_str(), given),
         }
     }
 }
 
-impl FileRuns<'_> {
-    /// Appends the number that a query gives another connection.
-    fn add_number(&self, alloc: Global, out: &mut Octets, query: &str) -> Result<(), AllocError> {
-        match number(self.rt, self.path, query) {
-            Ok(number) => out.extend_from_slice(format!(in alloc; "{number}")?.as_bytes()),
-            Err(_) => out.extend_from_slice(b"refused"),
-        }
+/// Appends the number that a query gives another connection.
+fn add_number<K: Keeper>(
+    alloc: Global,
+    out: &mut Octets,
+    keeper: &mut K,
+    path: &str,
+    query: &str,
+) -> Result<(), AllocError> {
+    let Ok(store) = keeper.take(path, false) else {
+        return out.extend_from_slice(b"not taken");
+    };
+    let mut conn = store.release();
+    let found = number(&mut conn, query);
+    let Ok(store) = Store::open(alloc, conn) else {
+        return out.extend_from_slice(b"not opened");
+    };
+    let closed = keeper.hand_back(store).is_ok();
+    match found {
+        Ok(number) if closed => out.extend_from_slice(format!(in alloc; "{number}")?.as_bytes()),
+        _ => out.extend_from_slice(b"refused"),
     }
 }
 
-fn number(rt: &HostRuntime, path: &str, query: &str) -> Result<i64, Error> {
-    let mut conn = Connection::open(rt, path)?;
+fn number<S: Alter + Drop>(conn: &mut Connection<S>, query: &str) -> Result<i64, Error> {
     conn.query_row(query, &[])?.get(0)
 }
 

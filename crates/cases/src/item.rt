@@ -11,20 +11,36 @@ pub fn told(
     state: &[u8],
 ) -> Result<(), AllocError> {
     let pending = state == b"challenged".as_slice();
-    let reached = extent(octets, pending);
-    match (first(alloc, octets, pending)?, reached) {
-        (Item::Need, Reach::Need) => out.extend_from_slice(b"need more"),
-        (Item::TooBig, Reach::TooBig) => out.extend_from_slice(b"too big"),
-        (Item::Bad(used), Reach::Bad(reach)) if used == reach => {
-            write_decimal(out, used as u64)?;
+    let item = first(alloc, octets, pending)?;
+    if !reaches(&item, extent(octets, pending)) {
+        return out.extend_from_slice(b"extent says another");
+    }
+    add_item(out, &item)
+}
+
+/// Whether this is how far an item goes.
+fn reaches(item: &Item, reach: Reach) -> bool {
+    match item {
+        Item::Need => reach == Reach::Need,
+        Item::TooBig => reach == Reach::TooBig,
+        Item::Bad(used) => reach == Reach::Bad(*used),
+        Item::Command(_, used) => reach == Reach::Command(*used),
+    }
+}
+
+fn add_item(out: &mut Octets, item: &Item) -> Result<(), AllocError> {
+    match item {
+        Item::Need => out.extend_from_slice(b"need more"),
+        Item::TooBig => out.extend_from_slice(b"too big"),
+        Item::Bad(used) => {
+            write_decimal(out, *used as u64)?;
             out.extend_from_slice(b" bad")
         }
-        (Item::Command(command, used), Reach::Command(reach)) if used == reach => {
-            write_decimal(out, used as u64)?;
+        Item::Command(command, used) => {
+            write_decimal(out, *used as u64)?;
             out.push(b' ')?;
-            add(out, &command)
+            add(out, command)
         }
-        _ => out.extend_from_slice(b"extent says another"),
     }
 }
 

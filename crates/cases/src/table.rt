@@ -1,10 +1,10 @@
 //! The files of cases.
+use crate::run::MemoryRuns;
 use crate::tally::Tally;
 use crate::text::columns;
-use crate::run::MemoryRuns;
 use crate::{
-    address, ascii, asked, comparison, fault, file, head, item, line, login, reply, script, session,
-    stream, token, word,
+    address, ascii, asked, comparison, fault, file, head, item, line, login, reply, script,
+    session, stream, token, word,
 };
 use octets::Octets;
 use std::alloc::{AllocError, Global};

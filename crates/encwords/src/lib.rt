@@ -12,5 +12,3 @@ mod word;
 pub use decoding::decoded;
 pub use encoding::header_text;
 
-#[cfg(test)]
-mod tests;

@@ -5,8 +5,6 @@ mod cause;
 mod file;
 mod keeper;
 mod memory;
-#[cfg(test)]
-mod tests;
 
 pub use file::FileKeeper;
 pub use keeper::{Held, Keeper};

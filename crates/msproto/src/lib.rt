@@ -15,5 +15,3 @@ pub use items::{Item, Reach, extent, first};
 pub use replies::{Code, Line, Reply, Word};
 pub use spelling::spell;
 
-#[cfg(test)]
-mod tests;

@@ -13,5 +13,3 @@ pub use decimal::{parse_decimal, write_decimal};
 pub use list::{ListOf, Texts};
 pub use string::Octets;
 
-#[cfg(test)]
-mod tests;

@@ -22,5 +22,3 @@ pub use machine::run;
 pub use mail::Mail;
 pub use outcome::{Failure, Outcome};
 
-#[cfg(test)]
-mod tests;

@@ -35,5 +35,3 @@ pub use sievelex::{FaultKind, ScriptError, ScriptFault};
 pub use tree::{Branch, Command, Test};
 pub use vacation::{ReplyFrom, VacArgs};
 
-#[cfg(test)]
-mod tests;
