@@ -7,12 +7,12 @@ use Rattle.sqlite.specs.State.{State, HasCleanDisk, Survives}
 use Rattle.mailstore.specs.declared.refusal.Refusal.{Refusal}
 use Rattle.mailstore.specs.declared.refusal.Refusal.TheVariants.{NoUser}
 use Rattle.mailstore.specs.declared.report.Report.{Report}
-use Rattle.mailstore.specs.Words.{StaysSame}
+use Rattle.mailstore.specs.Connection.{StaysSame}
 use Rattle.mailstore.specs.Cells.{contents}
 use Rattle.mailstore.specs.Account.{Account, Accounts, with_user, files_copies}
+use Rattle.mailstore.specs.Refusals.{IsPassing}
 use Rattle.mailstore.specs.Shows.{Presents}
 use Rattle.mailstore.specs.Calls.{HasUser, IsFree, OfUser, Turns, MayShow}
-use Rattle.mailstore.specs.Refusals.{IsPassing}
 use Rattle.sieveexec.specs.declared.envelope.Envelope.{Envelope}
 use Rattle.mailengine.specs.declared.event.Event.TheVariants.{Deliver}
 use Rattle.mailengine.specs.declared.answer.Answer.TheVariants.{Delivered}

@@ -6,11 +6,11 @@ use Rattle.sqlite.proofs.StateLemmas.{survives_then, survives_weaker}
 use Rattle.mailstore.specs.declared.refusal.Refusal.{Refusal}
 use Rattle.mailstore.specs.declared.refusal.Refusal.TheVariants.{NoUser}
 use Rattle.mailstore.specs.declared.report.Report.{Report}
-use Rattle.mailstore.specs.Words.{StaysSame, StaysShut}
+use Rattle.mailstore.specs.Connection.{StaysSame, StaysShut}
 use Rattle.mailstore.specs.Account.{Accounts}
+use Rattle.mailstore.specs.Refusals.{IsPassing}
 use Rattle.mailstore.specs.Shows.{Presents}
 use Rattle.mailstore.specs.Calls.{IsFree, KeepsTables, IsOpenOnOk, LosesNothing}
-use Rattle.mailstore.specs.Refusals.{IsPassing}
 use Rattle.mailstore.proofs.WriteLemmas.{clean_before}
 use Rattle.mailstore.proofs.ResultLemmas.{on_ok}
 use Rattle.sieveexec.specs.declared.envelope.Envelope.{Envelope}

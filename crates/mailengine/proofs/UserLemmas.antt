@@ -5,11 +5,12 @@ use Rattle.sqlite.specs.State.{State, HasCleanDisk, Survives}
 use Rattle.mailstore.specs.declared.profile.Profile.{Profile}
 use Rattle.mailstore.specs.declared.refusal.Refusal.{Refusal}
 use Rattle.mailstore.specs.declared.refusal.Refusal.TheVariants.{Memory, UserExists, BadUser}
-use Rattle.mailstore.specs.Words.{StaysSame}
+use Rattle.mailstore.specs.Connection.{StaysSame}
 use Rattle.mailstore.specs.Account.{Account, Accounts}
-use Rattle.mailstore.specs.Shows.{Presents}
-use Rattle.mailstore.specs.Calls.{IsFree, Turns, MayShow, profile_of}
 use Rattle.mailstore.specs.Refusals.{IsPassing}
+use Rattle.mailstore.specs.AccountTable.{profile_of}
+use Rattle.mailstore.specs.Shows.{Presents}
+use Rattle.mailstore.specs.Calls.{IsFree, Turns, MayShow}
 use Rattle.mailengine.specs.declared.event.Event.TheVariants.{AddUser}
 use Rattle.mailengine.specs.declared.answer.Answer.TheVariants.{Added, Refused}
 use Rattle.mailengine.specs.Limits.{IsNewUser}

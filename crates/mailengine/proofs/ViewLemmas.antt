@@ -6,9 +6,10 @@ use Rattle.mailstore.specs.declared.profile.Profile.{Profile}
 use Rattle.mailstore.specs.declared.refusal.Refusal.{Refusal}
 use Rattle.mailstore.specs.declared.refusal.Refusal.TheVariants.{NoUser}
 use Rattle.mailstore.specs.Account.{Account, Accounts}
-use Rattle.mailstore.specs.Shows.{Presents}
-use Rattle.mailstore.specs.Calls.{IsFree, OfUser, profile_of}
 use Rattle.mailstore.specs.Refusals.{IsPassing}
+use Rattle.mailstore.specs.AccountTable.{profile_of}
+use Rattle.mailstore.specs.Shows.{Presents}
+use Rattle.mailstore.specs.Calls.{IsFree, OfUser}
 use Rattle.mailstore.proofs.WriteLemmas.{clean_before}
 use Rattle.mailengine.specs.Delivered.{text_named, active_text}
 use Rattle.mailengine.specs.World.{World}

@@ -9,28 +9,29 @@ use Rattle.sqlite.proofs.StateLemmas.{survives_weaker}
 use Rattle.sqlrows.specs.Rows.{Tables, Holds}
 use Rattle.mailstore.specs.declared.refusal.Refusal.{Refusal}
 use Rattle.mailstore.specs.Schema.{mail_schema}
-use Rattle.mailstore.specs.Words.{ReadsOnly, IsLiveOnOk, IsQuiet}
+use Rattle.mailstore.specs.Connection.{ReadsOnly, IsLiveOnOk, IsQuiet}
 use Rattle.mailstore.specs.Account.{Account, Accounts}
 use Rattle.mailstore.specs.Shows.{rows_of, IsShownOrAbsent, ShowsAccounts, Presents}
 use Rattle.mailstore.specs.Calls.{OfUser, LosesNothing}
-use Rattle.mailstore.specs.declared.folders.Folder.{Folder}
 use Rattle.mailstore.specs.Tally.{tallied, AreFolders}
+use Rattle.mailstore.specs.declared.folders.Folder.{Folder}
 use Rattle.mailstore.proofs.WriteLemmas.{clean_before}
 use Rattle.mailstore.proofs.QueryLemmas.{then_holds}
+use Rattle.mailstore.specs.AccountTable.{account_tree, next_copy_column}
 
 pub loses_nothing : (a b : State) → IsQuiet a b → LosesNothing a b
 loses_nothing a b = survives_weaker a b _ (λ _. (accounts : Accounts) → Presents a.now accounts → ⊥) (λ clean db none accounts p. none p.0 p.1)
 
-of_user : (accounts : Accounts) (user : List ℕ) (tables : Tables) → ShowsAccounts tables accounts → (n : ℕ) → option_map (λ cells. column cells 6) (slice_get (rows_of user tables 2) 0) ≡ Some (Int (pos n)) → (P : Account → Type 0)
+of_user : (accounts : Accounts) (user : List ℕ) (tables : Tables) → ShowsAccounts tables accounts → (n : ℕ) → option_map (λ cells. column cells next_copy_column) (slice_get (rows_of user tables account_tree) 0) ≡ Some (Int (pos n)) → (P : Account → Type 0)
     → IfSome (get accounts user) P → OfUser accounts user P
 of_user accounts user tables shows n told P some = go (get accounts user) refl (shows.users user) some
   where
     go : (o : Option Account) → get accounts user ≡ o → IsShownOrAbsent user (rows_of user tables) o → IfSome o P → OfUser accounts user P
-    go None is h k = absurd (let none = sym told ∙ ap (λ l. option_map (λ (cells : Row). column cells 6) (slice_get l 0)) h.accounts in cc)
+    go None is h k = absurd (let none = sym told ∙ ap (λ l. option_map (λ (cells : Row). column cells next_copy_column) (slice_get l 0)) h.accounts in cc)
     go (Some a) is h k = (a, is, k)
 
 module _ (a b c : State) (r : Result ℕ Refusal) (n : ℕ) (ok : r ≡ Ok n) (same : ReadsOnly a b) (live : IsLiveOnOk a b r) (quiet : IsQuiet a b) (late : IsQuiet b c) (user : List ℕ)
-    (told : HasCleanDisk b → (tables : Tables) → Holds mail_schema a.now tables → option_map (λ cells. column cells 6) (slice_get (rows_of user tables 2) 0) ≡ Some (Int (pos n))) where
+    (told : HasCleanDisk b → (tables : Tables) → Holds mail_schema a.now tables → option_map (λ cells. column cells next_copy_column) (slice_get (rows_of user tables account_tree) 0) ≡ Some (Int (pos n))) where
   pub found_then : (P : Accounts → Account → Type 0) → (HasCleanDisk c → (accounts : Accounts) → Presents b.now accounts → IfSome (get accounts user) (P accounts)) → HasCleanDisk c → (accounts : Accounts) → Presents a.now accounts
       → OfUser accounts user (P accounts)
   found_then P found clean accounts p =

@@ -14,11 +14,12 @@ use Rattle.mailstore.specs.declared.change.Change.{Change}
 use Rattle.mailstore.specs.declared.change.Change.TheVariants.{AddCopy}
 use Rattle.mailstore.specs.declared.refusal.Refusal.{Refusal}
 use Rattle.mailstore.specs.Schema.{mail_schema}
-use Rattle.mailstore.specs.Words.{StaysSame, ReadsOnly, IsLiveOnOk, IsQuiet}
-use Rattle.mailstore.specs.Cells.{copy_cells, with_next_copy}
+use Rattle.mailstore.specs.Connection.{StaysSame, ReadsOnly, IsLiveOnOk, IsQuiet}
 use Rattle.mailstore.specs.Changes.{made, owner_of, AreOf, copied, AreCopies, MayHave}
 use Rattle.mailstore.specs.Account.{Account, Accounts, with_user, in_place, files_copies}
-use Rattle.mailstore.specs.Shows.{Copy, rows_of, IsShown, IsShownOrAbsent, ShowsAccounts, Presents}
+use Rattle.mailstore.specs.AccountTable.{with_next_copy, account_tree, next_copy_column}
+use Rattle.mailstore.specs.CopyTable.{copy_cells, Copy, copy_tree}
+use Rattle.mailstore.specs.Shows.{rows_of, IsShown, IsShownOrAbsent, ShowsAccounts, Presents}
 use Rattle.mailstore.specs.Calls.{HasUser, Turns, MayShow}
 use Rattle.mailstore.proofs.ResultLemmas.{on_ok}
 use Rattle.mailstore.proofs.WriteLemmas.{made_push, clean_before}
@@ -26,24 +27,24 @@ use Rattle.mailstore.proofs.ShowLemmas.{shows_after}
 use Rattle.mailstore.proofs.AccountLemmas.{counter_put, copies_put}
 
 copied_push : (user message : List ℕ) (names : List (List ℕ)) (n : ℕ) (name : List ℕ) (own : Tables)
-    → copied user message n (names ++ name ∷ []) own ≡ added 6 (copy_cells user name (pos (n + length names)) message) (copied user message n names own)
-copied_push user message [] n name own = let same : n ≡ n + 0 = omega arith in ap (λ k. added 6 (copy_cells user name (pos k) message) own) same
+    → copied user message n (names ++ name ∷ []) own ≡ added copy_tree (copy_cells user name (pos (n + length names)) message) (copied user message n names own)
+copied_push user message [] n name own = let same : n ≡ n + 0 = omega arith in ap (λ k. added copy_tree (copy_cells user name (pos k) message) own) same
 copied_push user message (other ∷ names) n name own =
     let same : suc n + length names ≡ n + suc (length names) = omega arith in
-    let inner = added 6 (copy_cells user other (pos n) message) own in
-    copied_push user message names (suc n) name inner ∙ ap (λ k. added 6 (copy_cells user name (pos k) message) (copied user message (suc n) names inner)) same
+    let inner = added copy_tree (copy_cells user other (pos n) message) own in
+    copied_push user message names (suc n) name inner ∙ ap (λ k. added copy_tree (copy_cells user name (pos k) message) (copied user message (suc n) names inner)) same
 
 pub copies_more : (user message : Bor (List ℕ)) (folders : List (List ℕ)) (n last i : ℕ) (ds next : List Change) (folder : Bor (List ℕ)) (name : List ℕ) (k : ℤ) → i < length folders → folder.now ≡ get_or folders i name → k ≡ pos (n + i)
     → next ≡ ds ++ AddCopy user folder k message ∷ [] → AreCopies user.now message.now (take i folders) n last ds → AreCopies user.now message.now (take (i + 1) folders) n last next
 copies_more user message folders n last i ds next folder name k within is number joined was = record {
   owned = subst (AreOf user.now) (sym joined) (all-append (λ d. owner_of d ≡ user.now) ds (AddCopy user folder k message ∷ []) was.owned (refl, tt));
   makes = λ own.
-      let start = set_in 2 (Blob user.now ∷ []) (with_next_copy (pos last)) own in
+      let start = set_in account_tree (Blob user.now ∷ []) (with_next_copy (pos last)) own in
       let so_far : length (take i folders) ≡ i = length_taken i folders within in
       ap (made own) joined ∙ made_push ds (AddCopy user folder k message) own
-      ∙ ap (λ t. added 6 (copy_cells user.now folder.now k message.now) t) (was.makes own)
-      ∙ ap (λ f. added 6 (copy_cells user.now f k message.now) (copied user.now message.now n (take i folders) start)) is
-      ∙ ap (λ x. added 6 (copy_cells user.now (get_or folders i name) x message.now) (copied user.now message.now n (take i folders) start)) (number ∙ ap (λ l. pos (n + l)) (sym so_far))
+      ∙ ap (λ t. added copy_tree (copy_cells user.now folder.now k message.now) t) (was.makes own)
+      ∙ ap (λ f. added copy_tree (copy_cells user.now f k message.now) (copied user.now message.now n (take i folders) start)) is
+      ∙ ap (λ x. added copy_tree (copy_cells user.now (get_or folders i name) x message.now) (copied user.now message.now n (take i folders) start)) (number ∙ ap (λ l. pos (n + l)) (sym so_far))
       ∙ sym (copied_push user.now message.now (take i folders) n (get_or folders i name) start)
       ∙ ap (λ l. copied user.now message.now n l start) (sym (take_more folders i name within));
 }
@@ -53,18 +54,18 @@ copies_more user message folders n last i ds next folder name k within is number
 
 -- the rows of a user, once the changes of a delivery are made from the counter that they had
 own_delivered : (user message : List ℕ) (names : List (List ℕ)) (n : ℕ) (ds : List Change) (own : Tables) (a : Account) → AreCopies user message names n (n + length names) ds → IsShown user own a
-    → option_map (λ cells. column cells 6) (slice_get (own 2) 0) ≡ Some (Int (pos n)) → IsShown user (made own ds) (files_copies names message a)
+    → option_map (λ cells. column cells next_copy_column) (slice_get (own account_tree) 0) ≡ Some (Int (pos n)) → IsShown user (made own ds) (files_copies names message a)
 own_delivered user message names n ds own a copies s next =
-    let told : Some (Int (pos s.next_copy)) ≡ Some (Int (pos n)) = sym (ap (λ rows. option_map (λ cells. column cells 6) (slice_get rows 0)) s.account_is) ∙ next in
+    let told : Some (Int (pos s.next_copy)) ≡ Some (Int (pos n)) = sym (ap (λ rows. option_map (λ cells. column cells next_copy_column) (slice_get rows 0)) s.account_is) ∙ next in
     let same : s.next_copy ≡ n = cc in
     let raised = counter_put user own a s (n + length names) (omega arith) in
-    let below = subst (λ k. AllByRecursion (λ m. m < k) (map (λ c. c.n) s.copies)) same s.copies_numbered.below in
-    let one : 1 ≤ n = let first = s.copies_numbered.counter in omega arith in
-    let above = subst (λ cs. AllByRecursion (λ m. m < n) (map (λ (c : Copy). c.n) cs)) (sym raised.2) below in
+    let below = subst (λ k. AllByRecursion (λ c. c.n < k) s.copies.entries) same s.copies.numbered.below in
+    let one : 1 ≤ n = let first = s.copies.numbered.counter in omega arith in
+    let above = subst (AllByRecursion (λ (c : Copy). c.n < n)) (sym raised.2) below in
     subst (λ t. IsShown user t (files_copies names message a)) (sym (copies.makes own)) (copies_put user message names n _ a raised.0 above one (omega (arith, raised.1)))
 
 pub delivery_shows : (user message : List ℕ) (names : List (List ℕ)) (n : ℕ) (ds : List Change) → AreCopies user message names n (n + length names) ds → (tables : Tables) (accounts : Accounts) → ShowsAccounts tables accounts
-    → HasUser user accounts → option_map (λ cells. column cells 6) (slice_get (rows_of user tables 2) 0) ≡ Some (Int (pos n)) → ShowsAccounts (made tables ds) (with_user accounts user (files_copies names message))
+    → HasUser user accounts → option_map (λ cells. column cells next_copy_column) (slice_get (rows_of user tables account_tree) 0) ≡ Some (Int (pos n)) → ShowsAccounts (made tables ds) (with_user accounts user (files_copies names message))
 delivery_shows user message names n ds copies tables accounts shows has next = go (get accounts user) refl has
   where
     go : (o : Option Account) → get accounts user ≡ o → IsSome o → ShowsAccounts (made tables ds) (in_place accounts user (files_copies names message) (get accounts user))
@@ -76,7 +77,7 @@ delivery_shows user message names n ds copies tables accounts shows has next = g
 -- a read of the counter, and then the write
 module _ {X Y : Type 0} (a b c : State) (r : Result ℕ X) (n : ℕ) (ok : r ≡ Ok n) (same : ReadsOnly a b) (live : IsLiveOnOk a b r) (quiet : IsQuiet a b) (user message : List ℕ) (names : List (List ℕ)) (ds : List Change)
     (copies : AreCopies user message names n (n + length names) ds) (late : Survives b c (MayHave ds b))
-    (found : HasCleanDisk b → (tables : Tables) → Holds mail_schema a.now tables → option_map (λ cells. column cells 6) (slice_get (rows_of user tables 2) 0) ≡ Some (Int (pos n))) (q : Result Y Refusal) where
+    (found : HasCleanDisk b → (tables : Tables) → Holds mail_schema a.now tables → option_map (λ cells. column cells next_copy_column) (slice_get (rows_of user tables account_tree) 0) ≡ Some (Int (pos n))) (q : Result Y Refusal) where
   abbrev delivers : Accounts → Accounts
   delivers all = with_user all user (files_copies names message)
 

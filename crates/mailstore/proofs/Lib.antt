@@ -14,6 +14,7 @@ pub mod ReadLemmas
 pub mod ChainLemmas
 pub mod TallyLemmas
 pub mod FolderLemmas
+pub mod NumberLemmas
 pub mod OneLemmas
 pub mod SchemaLemmas
 pub mod OpenLemmas

@@ -22,13 +22,14 @@ use Rattle.sqlite.proofs.Callers.{IsPlain, one_permutation}
 use Rattle.sqlrows.specs.Forms.{over}
 use Rattle.sqlrows.specs.Rows.{Entry, id_of, cells_of, stored, IsHeld, Holds, has_key_from}
 use Rattle.sqlrows.proofs.ReadLemmas.{shown_same, fails_same, answered}
-use Rattle.mailstore.specs.Schema.{mail_schema, meta}
-use Rattle.mailstore.specs.Statements.{select_version}
-use Rattle.mailstore.specs.Words.{StaysSame, SeesCommit}
+use Rattle.mailstore.specs.Schema.{mail_schema}
+use Rattle.mailstore.specs.Connection.{StaysSame, SeesCommit}
 use Rattle.mailstore.specs.Account.{Accounts}
-use Rattle.mailstore.specs.Shows.{version_key, version_row, version_rows, SaysOne, IsOurs, ShowsIn, Presents}
+use Rattle.mailstore.specs.MetaTable.{meta, select_version, version_key, version_row, version_rows, SaysOne, meta_tree, stored_value_column}
+use Rattle.mailstore.specs.Shows.{IsOurs, ShowsIn, Presents}
 use Rattle.mailstore.proofs.TextFacts.{by_one, select_version_is, select_version_plain}
 use Rattle.mailstore.proofs.QueryLemmas.{same_unchanged, same_undone}
+use Rattle.mailstore.proofs.SchemaFacts.{meta_listed}
 
 -- a query whose text is plain, where the tables are ours
 module _ (sql : List ℕ) (params : Row) (old new : State) (ours : old.now.schema ≡ mail_schema) (plain : IsPlain (understood mail_schema sql)) where
@@ -44,7 +45,7 @@ module _ (sql : List ℕ) (params : Row) (old new : State) (ours : old.now.schem
   sees_commit (Err e) settled ok clean = tt
 
 abbrev asked : Query
-asked = (over 0 by_one (col 1 2 ∷ []) []).body
+asked = (over meta_tree by_one (col 1 2 ∷ []) []).body
 
 abbrev slots : Row → Env
 slots row = version_key ∷ row ∷ []
@@ -57,26 +58,26 @@ matches_are (r ∷ rows) =
     [ true ↦ refl | false ↦ refl ])
 
 -- the numbers that the query shows are those of the rows of the version
-numbers_are : (trees : Trees) (rows : List Row) → IsAnswer asked (overlay trees []) version_key rows → IsPermutation (map (λ r. column r 2 ∷ []) (version_rows trees)) rows
+numbers_are : (trees : Trees) (rows : List Row) → IsAnswer asked (overlay trees []) version_key rows → IsPermutation (map (λ r. column r stored_value_column ∷ []) (version_rows trees)) rows
 numbers_are trees rows a =
-    let kept : a.kept ≡ map (output asked) (map slots (version_rows trees)) = a.distinct ∙ ap (map (output asked)) (a.grouped ∙ matches_are (trees 0)) in
-    let shown : map (λ (o : Output). o.1) a.kept ≡ map (λ r. column r 2 ∷ []) (version_rows trees) =
+    let kept : a.kept ≡ map (output asked) (map slots (version_rows trees)) = a.distinct ∙ ap (map (output asked)) (a.grouped ∙ matches_are (trees meta_tree)) in
+    let shown : map (λ (o : Output). o.1) a.kept ≡ map (λ r. column r stored_value_column ∷ []) (version_rows trees) =
     ap (map (λ (o : Output). o.1)) kept ∙ map-map (λ (o : Output). o.1) (output asked) (map slots (version_rows trees)) ∙ map-map _ slots (version_rows trees) in
     subst (λ l. IsPermutation l rows) shown (subst (λ l. IsPermutation (map (λ (o : Output). o.1) a.kept) l) (sym a.shown) (IsPermutation-map (λ (o : Output). o.1) a.kept a.ordered a.same))
 
-pub version_found : (old new : State) (rows : List Row) → old.now.schema ≡ mail_schema → Shown select_version version_key old new rows → IsPermutation (map (λ r. column r 2 ∷ []) (version_rows old.now.trees)) rows
+pub version_found : (old new : State) (rows : List Row) → old.now.schema ≡ mail_schema → Shown select_version version_key old new rows → IsPermutation (map (λ r. column r stored_value_column ∷ []) (version_rows old.now.trees)) rows
 version_found old new rows ours shown =
-    numbers_are old.now.trees rows (answered mail_schema select_version version_key old new ours select_version_plain.0 0 by_one (col 1 2 ∷ []) [] _ select_version_is select_version_plain.1 rows shown)
+    numbers_are old.now.trees rows (answered mail_schema select_version version_key old new ours select_version_plain.0 meta_tree by_one (col 1 2 ∷ []) [] _ select_version_is select_version_plain.1 rows shown)
 
-says_ours : (db : Database) (rows found : List Row) → db.schema ≡ mail_schema → version_rows db.trees ≡ found → IsPermutation (map (λ r. column r 2 ∷ []) found) rows → SaysOne rows ↔ IsOurs db
+says_ours : (db : Database) (rows found : List Row) → db.schema ≡ mail_schema → version_rows db.trees ≡ found → IsPermutation (map (λ r. column r stored_value_column ∷ []) found) rows → SaysOne rows ↔ IsOurs db
 says_ours db rows [] ours are same = (
   λ one. absurd (let none = length_permutation _ _ (subst (IsPermutation []) one.1 same) in omega (arith, none)),
   λ h. absurd (let none = sym are ∙ h.only in cc),
 )
 says_ours db rows (r ∷ []) ours are same =
-    let alone = one_permutation (column r 2 ∷ []) rows same in (
+    let alone = one_permutation (column r stored_value_column ∷ []) rows same in (
       λ one. record { schema = ours; row = r; only = are; says = ap (λ l. column (first_of l) 0) (sym alone ∙ one.1) ∙ one.2 },
-      λ h. (column r 2 ∷ [], alone, ap (λ l. column (first_of l) 2) (sym are ∙ h.only) ∙ h.says),
+      λ h. (column r stored_value_column ∷ [], alone, ap (λ l. column (first_of l) stored_value_column) (sym are ∙ h.only) ∙ h.says),
     )
   where
     first_of : List Row → Row
@@ -91,7 +92,7 @@ pub row_says : (rows : List Row) (row : Row) → rows ≡ row ∷ [] → (r : Re
 row_says rows row are (Err e) said = tt
 row_says rows row are (Ok is) said = (λ e. (row, are, said.0 e), λ h. let same : row ∷ [] ≡ h.0 ∷ [] = sym are ∙ h.1 in let one : row ≡ h.0 = cc in said.1 (ap (λ (x : Row). column x 0) one ∙ h.2))
 
-pub version_says : (db : Database) (rows : List Row) → db.schema ≡ mail_schema → IsPermutation (map (λ r. column r 2 ∷ []) (version_rows db.trees)) rows → (r : Result Bool Error) → IfOk r (λ is. IsTrue is ↔ SaysOne rows)
+pub version_says : (db : Database) (rows : List Row) → db.schema ≡ mail_schema → IsPermutation (map (λ r. column r stored_value_column ∷ []) (version_rows db.trees)) rows → (r : Result Bool Error) → IfOk r (λ is. IsTrue is ↔ SaysOne rows)
     → IfOk r (λ is. IsTrue is ↔ IsOurs db)
 version_says db rows ours same (Err e) said = tt
 version_says db rows ours same (Ok is) said = let both = says_ours db rows _ ours refl same in (λ e. both.0 (said.0 e), λ h. said.1 (both.1 h))
@@ -109,9 +110,9 @@ itself = at_texts false Eq (codes "version") (codes "version") ∙ bytes_eq_refl
 
 -- a database that shows accounts is ours
 pub shown_ours : (db : Database) (accounts : Accounts) → Presents db accounts → IsOurs db
-shown_ours db accounts p = let held = p.1.each meta (inl refl) in go held.entries held.rows_are (sym p.2.version ∙ held.cells_are)
+shown_ours db accounts p = let held = p.1.each meta meta_listed in go held.entries held.rows_are (sym p.2.version ∙ held.cells_are)
   where
-    go : (es : List Entry) → db.trees 0 ≡ map stored es → version_row ∷ [] ≡ map cells_of es → IsOurs db
+    go : (es : List Entry) → db.trees meta_tree ≡ map stored es → version_row ∷ [] ≡ map cells_of es → IsOurs db
     go [] rows cells = absurd (let none = cells in cc)
     go (e ∷ []) rows cells =
         let is : version_row ≡ cells_of e = cc in

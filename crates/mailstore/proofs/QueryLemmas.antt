@@ -14,10 +14,10 @@ use Rattle.sqlrows.specs.Rows.{Tables, Holds, has_key}
 use Rattle.sqlrows.proofs.AnswerLemmas.{cells_by_key}
 use Rattle.sqlrows.proofs.ReadLemmas.{shown_same, fails_same, answered}
 use Rattle.sqlrows.proofs.ListLemmas.{owner_key, pair_key}
-use Rattle.mailstore.specs.Schema.{mail_schema, account, script}
-use Rattle.mailstore.specs.Statements.{select_account, select_next_copy, select_script}
-use Rattle.mailstore.specs.Cells.{shown_account}
-use Rattle.mailstore.specs.Words.{StaysSame, ReadsOnly, IsLiveOnOk, IsQuiet, StaysShut}
+use Rattle.mailstore.specs.Schema.{mail_schema}
+use Rattle.mailstore.specs.Connection.{StaysSame, ReadsOnly, IsLiveOnOk, IsQuiet, StaysShut}
+use Rattle.mailstore.specs.AccountTable.{account, select_account, select_next_copy, shown_account, account_tree, next_copy_column}
+use Rattle.mailstore.specs.ScriptTable.{script, select_script, script_tree, text_column}
 use Rattle.mailstore.specs.Shows.{rows_of}
 use Rattle.mailstore.proofs.TextFacts.{by_one, by_two, account_shown, select_account_is, select_account_plain, select_next_copy_is, select_next_copy_plain, select_script_is, select_script_plain}
 use Rattle.mailstore.proofs.WriteLemmas.{clean_before}
@@ -71,23 +71,23 @@ stays_shut sql params old new (Ok rows) ok err clean = let shown = open_shown sq
 stays_shut sql params old new (Err e) ok err clean = (open_failed sql params old new e (err clean), tt)
 
 module _ (old new : State) (rows : List Row) (tables : Tables) (h : Holds mail_schema old.now tables) where
-  pub account_found : (name : List ℕ) → Shown select_account (owner_key name) old new rows → rows ≡ map shown_account (rows_of name tables 2)
+  pub account_found : (name : List ℕ) → Shown select_account (owner_key name) old new rows → rows ≡ map shown_account (rows_of name tables account_tree)
   account_found name shown =
-      cells_by_key mail_schema account (inr (inl refl)) account_index (inr (inl refl)) refl (owner_key name) (0 ∷ []) (account_agrees name) old.now.trees h.fits (tables 2) (h.each account (inr (inl refl)))
+      cells_by_key mail_schema account (inr (inl refl)) account_index (inr (inl refl)) refl (owner_key name) (0 ∷ []) (account_agrees name) old.now.trees h.fits (tables account_tree) (h.each account (inr (inl refl)))
       by_one (owner_key name) (λ n cells. refl) account_shown shown_account (λ n cells. refl) [] rows
-      (answered mail_schema select_account (owner_key name) old new h.is select_account_plain.0 2 by_one account_shown [] _ select_account_is select_account_plain.1 rows shown)
+      (answered mail_schema select_account (owner_key name) old new h.is select_account_plain.0 account_tree by_one account_shown [] _ select_account_is select_account_plain.1 rows shown)
 
-  pub next_copy_found : (name : List ℕ) → Shown select_next_copy (owner_key name) old new rows → rows ≡ map (λ c. column c 6 ∷ []) (rows_of name tables 2)
+  pub next_copy_found : (name : List ℕ) → Shown select_next_copy (owner_key name) old new rows → rows ≡ map (λ c. column c next_copy_column ∷ []) (rows_of name tables account_tree)
   next_copy_found name shown =
-      cells_by_key mail_schema account (inr (inl refl)) account_index (inr (inl refl)) refl (owner_key name) (0 ∷ []) (account_agrees name) old.now.trees h.fits (tables 2) (h.each account (inr (inl refl)))
-      by_one (owner_key name) (λ n cells. refl) (col 1 7 ∷ []) (λ c. column c 6 ∷ []) (λ n cells. refl) [] rows
-      (answered mail_schema select_next_copy (owner_key name) old new h.is select_next_copy_plain.0 2 by_one (col 1 7 ∷ []) [] _ select_next_copy_is select_next_copy_plain.1 rows shown)
+      cells_by_key mail_schema account (inr (inl refl)) account_index (inr (inl refl)) refl (owner_key name) (0 ∷ []) (account_agrees name) old.now.trees h.fits (tables account_tree) (h.each account (inr (inl refl)))
+      by_one (owner_key name) (λ n cells. refl) (col 1 7 ∷ []) (λ c. column c next_copy_column ∷ []) (λ n cells. refl) [] rows
+      (answered mail_schema select_next_copy (owner_key name) old new h.is select_next_copy_plain.0 account_tree by_one (col 1 7 ∷ []) [] _ select_next_copy_is select_next_copy_plain.1 rows shown)
 
-  pub script_found : (owner name : List ℕ) → Shown select_script (pair_key owner name) old new rows → rows ≡ map (λ c. column c 2 ∷ []) (filter (has_key (pair_key owner name)) (tables 4))
+  pub script_found : (owner name : List ℕ) → Shown select_script (pair_key owner name) old new rows → rows ≡ map (λ c. column c text_column ∷ []) (filter (has_key (pair_key owner name)) (tables script_tree))
   script_found owner name shown =
-      cells_by_key mail_schema script (inr (inr (inl refl))) script_index (inr (inr (inl refl))) refl (pair_key owner name) (0 ∷ 1 ∷ []) (script_agrees owner name) old.now.trees h.fits (tables 4)
-      (h.each script (inr (inr (inl refl)))) by_two (pair_key owner name) (λ n cells. refl) (col 1 3 ∷ []) (λ c. column c 2 ∷ []) (λ n cells. refl) [] rows
-      (answered mail_schema select_script (pair_key owner name) old new h.is select_script_plain.0 4 by_two (col 1 3 ∷ []) [] _ select_script_is select_script_plain.1 rows shown)
+      cells_by_key mail_schema script (inr (inr (inl refl))) script_index (inr (inr (inl refl))) refl (pair_key owner name) (0 ∷ 1 ∷ []) (script_agrees owner name) old.now.trees h.fits (tables script_tree)
+      (h.each script (inr (inr (inl refl)))) by_two (pair_key owner name) (λ n cells. refl) (col 1 3 ∷ []) (λ c. column c text_column ∷ []) (λ n cells. refl) [] rows
+      (answered mail_schema select_script (pair_key owner name) old new h.is select_script_plain.0 script_tree by_two (col 1 3 ∷ []) [] _ select_script_is select_script_plain.1 rows shown)
 
 -- under a clause on Ok
 pub if_shown : (r : Result (Vec Row Global) Error) (P Q : List Row → Type 0) → ((rows : List Row) → P rows → Q rows) → IfOk r (λ rows. P rows.items) → IfOk r (λ rows. Q rows.items)

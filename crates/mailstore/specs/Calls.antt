@@ -7,7 +7,7 @@ use Rattle.sqlite_trees.specs.Tree.{Trees}
 use Rattle.sqlite.specs.Effect.{Database}
 use Rattle.sqlite.specs.State.{State, HasCleanDisk, Survives}
 use Rattle.mailstore.specs.declared.profile.Profile.{Profile}
-use Rattle.mailstore.specs.Words.{StaysSame}
+use Rattle.mailstore.specs.Connection.{StaysSame}
 use Rattle.mailstore.specs.Cells.{or_null}
 use Rattle.mailstore.specs.Account.{Account, Accounts}
 use Rattle.mailstore.specs.Shows.{Presents}
@@ -41,18 +41,3 @@ LosesNothing old new = Survives old new (λ _. (accounts : Accounts) → Present
 -- the user has an account, of which this holds
 abbrev pub OfUser : Accounts → List ℕ → (Account → Type 0) → Type 0
 OfUser accounts user P = (a : Account) × (get accounts user ≡ Some a) × P a
-
--- what the store answers of an account
-abbrev pub profile_of : Account → Profile
-profile_of a = record { address = a.address; salt = a.password.salt; rounds = a.password.rounds; digest = a.password.digest; active = a.active }
-
--- what the query for an account shows
-abbrev pub profile_row : Account → Row
-profile_row a = Blob a.address ∷ Blob a.password.salt ∷ Int (pos a.password.rounds) ∷ Blob a.password.digest ∷ or_null a.active ∷ []
-
--- the profile is what the row says, and there is one where there is a row
-abbrev pub IsRead : Option Profile → Option Row → Type 0
-IsRead None None = Unit {0}
-IsRead None (Some row) = ⊥
-IsRead (Some p) None = ⊥
-IsRead (Some p) (Some row) = (column row 0 ≡ Blob p.address) × (column row 1 ≡ Blob p.salt) × (column row 2 ≡ Int (pos p.rounds)) × (column row 3 ≡ Blob p.digest) × (column row 4 ≡ or_null p.active)

@@ -4,7 +4,7 @@ ghost use Rattle.sqlite.specs.Held.{state};
 ghost use Rattle.sqlite.specs.State.{HasCleanDisk, Survives};
 ghost use Rattle.sqlrows.specs.Rows.{Tables, Holds};
 ghost use Rattle.mailstore.specs.Schema.{mail_schema};
-ghost use Rattle.mailstore.specs.Words.{Makes, IsSettled, StaysSame};
+ghost use Rattle.mailstore.specs.Connection.{Makes, IsSettled, StaysSame};
 ghost use Rattle.mailstore.specs.Changes.{made_one, made, MayHave};
 
 use crate::statement::{

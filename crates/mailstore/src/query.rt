@@ -7,10 +7,11 @@ ghost use Rattle.sqlite.specs.State.{HasCleanDisk, Survives};
 ghost use Rattle.sqlite_value.specs.Order.{column};
 ghost use Rattle.sqlrows.specs.Rows.{Tables, Holds};
 ghost use Rattle.mailstore.specs.Schema.{mail_schema};
-ghost use Rattle.mailstore.specs.Calls.{profile_row};
-ghost use Rattle.mailstore.specs.Words.{StaysSame, SeesCommit, ReadsOnly, IsLiveOnOk, IsQuiet, StaysShut};
-ghost use Rattle.mailstore.specs.Shows.{rows_of, version_rows, IsOurs, Presents};
+ghost use Rattle.mailstore.specs.Connection.{StaysSame, SeesCommit, ReadsOnly, IsLiveOnOk, IsQuiet, StaysShut};
 ghost use Rattle.mailstore.specs.Account.{Accounts, messages_in};
+ghost use Rattle.mailstore.specs.MetaTable.{version_rows, stored_value_column};
+ghost use Rattle.mailstore.specs.AccountTable.{profile_row, account_tree, next_copy_column};
+ghost use Rattle.mailstore.specs.Shows.{rows_of, IsOurs, Presents};
 ghost use Rattle.mailstore.specs.Tally.{tallied, AreFolders};
 
 use crate::decode::says_version_1;
@@ -21,7 +22,7 @@ pub fn find_version<S: Alter>(conn: &mut Connection<S>) -> Result<Vec<Row>, Erro
     requires { conn.old.in_transaction ≡ false }
     ensures ended { conn.new.in_transaction ≡ false }
     ensures limit { conn.new.step_limit ≡ conn.old.step_limit }
-    ensures found { (state S.Store conn.old).now.schema ≡ mail_schema → HasCleanDisk (state S.Store conn.new) → IfOk result (λ rows. IsPermutation (map (λ r. column r 2 ∷ []) (version_rows (state S.Store conn.old).now.trees)) rows.items) }
+    ensures found { (state S.Store conn.old).now.schema ≡ mail_schema → HasCleanDisk (state S.Store conn.new) → IfOk result (λ rows. IsPermutation (map (λ r. column r stored_value_column ∷ []) (version_rows (state S.Store conn.old).now.trees)) rows.items) }
     ensures same { (state S.Store conn.old).now.schema ≡ mail_schema → HasCleanDisk (state S.Store conn.new) → StaysSame (state S.Store conn.old) (state S.Store conn.new) }
     ensures live { (state S.Store conn.old).now.schema ≡ mail_schema → HasCleanDisk (state S.Store conn.new) → OnOk result (SeesCommit (state S.Store conn.new)) }
     ensures crash { (state S.Store conn.old).now.schema ≡ mail_schema → Survives (state S.Store conn.old) (state S.Store conn.new) (λ _. ⊥) }
@@ -67,7 +68,7 @@ pub fn find_next_copy<S: Alter>(conn: &mut Connection<S>, name: &[u8]) -> Result
     requires { conn.old.in_transaction ≡ false }
     ensures ended { conn.new.in_transaction ≡ false }
     ensures limit { conn.new.step_limit ≡ conn.old.step_limit }
-    ensures found { HasCleanDisk (state S.Store conn.new) → (tables : Tables) → Holds mail_schema (state S.Store conn.old).now tables → IfOk result (λ rows. rows.items ≡ map (λ c. column c 6 ∷ []) (rows_of name.now tables 2)) }
+    ensures found { HasCleanDisk (state S.Store conn.new) → (tables : Tables) → Holds mail_schema (state S.Store conn.old).now tables → IfOk result (λ rows. rows.items ≡ map (λ c. column c next_copy_column ∷ []) (rows_of name.now tables account_tree)) }
     ensures same { ReadsOnly (state S.Store conn.old) (state S.Store conn.new) }
     ensures live { IsLiveOnOk (state S.Store conn.old) (state S.Store conn.new) result }
     ensures crash { IsQuiet (state S.Store conn.old) (state S.Store conn.new) }

@@ -7,12 +7,13 @@ ghost use Rattle.sqlite.specs.Held.{state};
 ghost use Rattle.sqlite.specs.State.{HasCleanDisk};
 ghost use Rattle.sqlrows.specs.Rows.{Tables, Holds};
 ghost use Rattle.mailstore.specs.Schema.{mail_schema};
-ghost use Rattle.mailstore.specs.Words.{ReadsOnly, IsLiveOnOk, IsQuiet, StaysShut};
-ghost use Rattle.mailstore.specs.Shows.{rows_of, Presents};
+ghost use Rattle.mailstore.specs.Connection.{ReadsOnly, IsLiveOnOk, IsQuiet, StaysShut};
 ghost use Rattle.mailstore.specs.Account.{Accounts, messages_in};
-ghost use Rattle.mailstore.specs.Tally.{tallied, AreFolders};
-ghost use Rattle.mailstore.specs.Calls.{IsFree, OfUser, profile_of, KeepsTables, IsOpenOnOk, LosesNothing};
 ghost use Rattle.mailstore.specs.Refusals.{IsPassing};
+ghost use Rattle.mailstore.specs.AccountTable.{profile_of, account_tree, next_copy_column};
+ghost use Rattle.mailstore.specs.Shows.{rows_of, Presents};
+ghost use Rattle.mailstore.specs.Calls.{IsFree, OfUser, KeepsTables, IsOpenOnOk, LosesNothing};
+ghost use Rattle.mailstore.specs.Tally.{tallied, AreFolders};
 
 use crate::decode::{first_profile, first_text, only_number, tally, texts};
 use crate::folders::Folder;
@@ -28,8 +29,8 @@ use sqlite::{Alter, Row};
 impl<S: Alter> Store<S> {
     /// The number of the user's next copy.
     pub(crate) fn next_copy(&mut self, user: &[u8]) -> Result<u64, Refusal>
-        ensures found { HasCleanDisk (state S.Store self.new) → (tables : Tables) → Holds mail_schema (state S.Store self.old).now tables → IfOk result (λ n. option_map (λ c. column c 6) (slice_get (rows_of user.now tables 2) 0) ≡ Some (Int (pos n))) }
-        ensures absent { HasCleanDisk (state S.Store self.new) → (tables : Tables) → Holds mail_schema (state S.Store self.old).now tables → IfErr result (λ e. e ≡ Refusal.NoUser → rows_of user.now tables 2 ≡ []) }
+        ensures found { HasCleanDisk (state S.Store self.new) → (tables : Tables) → Holds mail_schema (state S.Store self.old).now tables → IfOk result (λ n. option_map (λ c. column c next_copy_column) (slice_get (rows_of user.now tables account_tree) 0) ≡ Some (Int (pos n))) }
+        ensures absent { HasCleanDisk (state S.Store self.new) → (tables : Tables) → Holds mail_schema (state S.Store self.old).now tables → IfErr result (λ e. e ≡ Refusal.NoUser → rows_of user.now tables account_tree ≡ []) }
         ensures same { ReadsOnly (state S.Store self.old) (state S.Store self.new) }
         ensures live { IsLiveOnOk (state S.Store self.old) (state S.Store self.new) result }
         ensures crash { IsQuiet (state S.Store self.old) (state S.Store self.new) }

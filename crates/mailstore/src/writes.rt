@@ -5,13 +5,13 @@ ghost use Rattle.sqlite.specs.Held.{state};
 ghost use Rattle.sqlite.specs.State.{HasCleanDisk, Survives};
 ghost use Rattle.sqlrows.specs.Rows.{Tables, Holds};
 ghost use Rattle.mailstore.specs.Schema.{mail_schema};
-ghost use Rattle.mailstore.specs.Words.{IsSettled, StaysSame};
-ghost use Rattle.mailstore.specs.Changes.{made, MayHave};
+ghost use Rattle.mailstore.specs.Connection.{IsSettled, StaysSame};
 ghost use Rattle.mailstore.specs.Cells.{contents};
+ghost use Rattle.mailstore.specs.Changes.{made, MayHave};
 ghost use Rattle.mailstore.specs.Account.{Accounts, with_user, new_account, keeps_script, activates, files_copies};
+ghost use Rattle.mailstore.specs.Refusals.{IsPassing};
 ghost use Rattle.mailstore.specs.Shows.{Presents};
 ghost use Rattle.mailstore.specs.Calls.{HasUser, IsFree, Turns, MayShow};
-ghost use Rattle.mailstore.specs.Refusals.{IsPassing};
 
 use crate::change::{Change, make_all};
 use crate::delivery::copy_changes;

@@ -3,8 +3,7 @@ use Rattle.std.specs.FinMap.{get}
 use Rattle.sqlite.specs.Held.{state}
 use Rattle.sqlite.specs.State.{Shown}
 use Rattle.sqlrows.proofs.ListLemmas.{owner_key}
-use Rattle.mailstore.specs.Statements.{select_account}
-use Rattle.mailstore.specs.Calls.{profile_row}
+use Rattle.mailstore.specs.AccountTable.{select_account, profile_row}
 use Rattle.mailstore.proofs.TextFacts.{select_account_plain}
 use Rattle.mailstore.proofs.QueryLemmas.{reads_only, is_live, is_quiet, stays_shut, if_shown}
 use Rattle.mailstore.proofs.ReadLemmas.{account_read}

@@ -4,7 +4,7 @@ use Rattle.sqlite_value.specs.declared.value.Value.TheVariants.{Blob}
 use Rattle.sqlite.specs.Held.{state}
 use Rattle.sqlite.specs.State.{Shown}
 use Rattle.sqlrows.proofs.ListLemmas.{owner_key}
-use Rattle.mailstore.specs.Statements.{select_folders}
+use Rattle.mailstore.specs.CopyTable.{select_folders}
 use Rattle.mailstore.specs.Tally.{tallied, AreFolders}
 use Rattle.mailstore.proofs.TextFacts.{select_folders_plain}
 use Rattle.mailstore.proofs.QueryLemmas.{reads_only, is_live, is_quiet, if_shown}

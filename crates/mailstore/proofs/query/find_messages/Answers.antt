@@ -5,7 +5,7 @@ use Rattle.sqlite.specs.Held.{state}
 use Rattle.sqlite.specs.State.{Shown}
 use Rattle.sqlrows.proofs.ListLemmas.{pair_key}
 use Rattle.mailstore.specs.Account.{messages_in}
-use Rattle.mailstore.specs.Statements.{select_folder}
+use Rattle.mailstore.specs.CopyTable.{select_folder}
 use Rattle.mailstore.proofs.TextFacts.{select_folder_plain}
 use Rattle.mailstore.proofs.QueryLemmas.{reads_only, is_live, is_quiet, if_shown}
 use Rattle.mailstore.proofs.ReadLemmas.{messages_read}

@@ -3,7 +3,7 @@ use Rattle.sqlite_value.specs.Order.{column}
 use Rattle.sqlite.specs.Held.{state}
 use Rattle.sqlite.specs.State.{Shown}
 use Rattle.sqlrows.proofs.ListLemmas.{owner_key}
-use Rattle.mailstore.specs.Statements.{select_next_copy}
+use Rattle.mailstore.specs.AccountTable.{select_next_copy, account_tree, next_copy_column}
 use Rattle.mailstore.specs.Shows.{rows_of}
 use Rattle.mailstore.proofs.TextFacts.{select_next_copy_plain}
 use Rattle.mailstore.proofs.QueryLemmas.{reads_only, is_live, is_quiet, if_shown, next_copy_found}
@@ -14,7 +14,7 @@ returns-clause-found g c clean tables h =
     let old = state g.S.Store c.args.conn.now in
     let new = state g.S.Store c.query_all.new.self in
     let ok = rw (c.params-to_sql.ensures) at (c.query_all.ensures.ok clean) in
-    if_shown c.query_all.result (Shown select_next_copy (owner_key c.args.name.now) old new) (λ rows. rows ≡ map (λ cells. column cells 6 ∷ []) (rows_of c.args.name.now tables 2)) (λ rows shown. next_copy_found old new rows tables h c.args.name.now shown) ok
+    if_shown c.query_all.result (Shown select_next_copy (owner_key c.args.name.now) old new) (λ rows. rows ≡ map (λ cells. column cells next_copy_column ∷ []) (rows_of c.args.name.now tables account_tree)) (λ rows shown. next_copy_found old new rows tables h c.args.name.now shown) ok
 
 pub returns-clause-same : goal.returns-clause-same
 returns-clause-same g c =

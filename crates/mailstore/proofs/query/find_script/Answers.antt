@@ -4,7 +4,7 @@ use Rattle.sqlite_value.specs.declared.value.Value.TheVariants.{Blob}
 use Rattle.sqlite.specs.Held.{state}
 use Rattle.sqlite.specs.State.{Shown}
 use Rattle.sqlrows.proofs.ListLemmas.{pair_key}
-use Rattle.mailstore.specs.Statements.{select_script}
+use Rattle.mailstore.specs.ScriptTable.{select_script}
 use Rattle.mailstore.proofs.TextFacts.{select_script_plain}
 use Rattle.mailstore.proofs.QueryLemmas.{reads_only, is_live, is_quiet, if_shown}
 use Rattle.mailstore.proofs.ReadLemmas.{script_read}

@@ -4,8 +4,7 @@ use Rattle.sqlite.specs.Held.{state}
 use Rattle.sqlite.specs.State.{Shown}
 use Rattle.sqlrows.proofs.ReadLemmas.{quiet}
 use Rattle.mailstore.specs.Schema.{mail_schema}
-use Rattle.mailstore.specs.Statements.{select_version}
-use Rattle.mailstore.specs.Shows.{version_key, version_rows}
+use Rattle.mailstore.specs.MetaTable.{select_version, version_key, version_rows, stored_value_column}
 use Rattle.mailstore.proofs.TextFacts.{select_version_plain}
 use Rattle.mailstore.proofs.QueryLemmas.{if_shown}
 use Rattle.mailstore.proofs.OpenLemmas.{version_found, keeps_same, sees_commit}
@@ -16,7 +15,7 @@ returns-clause-found g c ours clean =
     let old = state g.S.Store c.args.conn.now in
     let new = state g.S.Store c.query_all.new.self in
     let ok = rw (c.params-to_sql.ensures) at (c.query_all.ensures.ok clean) in
-    if_shown c.query_all.result (Shown select_version version_key old new) (IsPermutation (map (λ r. column r 2 ∷ []) (version_rows old.now.trees))) (λ rows shown. version_found old new rows ours shown) ok
+    if_shown c.query_all.result (Shown select_version version_key old new) (IsPermutation (map (λ r. column r stored_value_column ∷ []) (version_rows old.now.trees))) (λ rows shown. version_found old new rows ours shown) ok
 
 pub returns-clause-same : goal.returns-clause-same
 returns-clause-same g c ours =
