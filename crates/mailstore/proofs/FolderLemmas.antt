@@ -27,7 +27,7 @@ use Rattle.mailstore.specs.Schema.{mail_schema}
 use Rattle.mailstore.specs.Account.{bytes_cmp, Account, Accounts}
 use Rattle.mailstore.specs.CopyTable.{copy, select_folders, Copy, copy_row, copy_tree}
 use Rattle.mailstore.specs.Shows.{rows_of, IsShown, IsShownOrAbsent, Presents}
-use Rattle.mailstore.specs.Tally.{tallied, count_of, size_of, AreFolders}
+use Rattle.mailstore.specs.Tally.{tallied, count_of, size_of, AreFolders, AreFolderRows}
 use Rattle.mailstore.proofs.TextFacts.{by_one, select_folders_is, select_folders_plain}
 use Rattle.mailstore.proofs.TallyLemmas.{InOrder, tally_is}
 use Rattle.mailstore.proofs.SchemaFacts.{copy_listed}
@@ -67,10 +67,10 @@ shown_again [] h = refl
 shown_again (o ∷ outs) h = ap₂ ◌∷◌ h.0 (shown_again outs h.1)
 
 module _ (old new : State) (rows : List Row) (accounts : Accounts) (p : Presents old.now accounts) (user : List ℕ) where
-  pub folders_read : Shown select_folders (owner_key user) old new rows → IfSome (get accounts user) (λ a. (names : List (List ℕ)) × (rows ≡ map (λ n. Blob n ∷ []) names) × AreFolders (tallied names) a)
+  pub folders_read : Shown select_folders (owner_key user) old new rows → IfSome (get accounts user) (AreFolderRows rows)
   folders_read shown = go (get accounts user) (p.2.users user)
     where
-      at : (a : Account) → IsShown user (rows_of user p.0) a → (names : List (List ℕ)) × (rows ≡ map (λ n. Blob n ∷ []) names) × AreFolders (tallied names) a
+      at : (a : Account) → IsShown user (rows_of user p.0) a → AreFolderRows rows a
       at a s =
           let mine = has_key (owner_key user) in
           let listed = map (λ (c : Copy). c.folder) s.copies.entries in
@@ -90,6 +90,6 @@ module _ (old new : State) (rows : List Row) (accounts : Accounts) (p : Presents
             subst (λ m. map count_of (tallied names) ≡ map size_of (entries m)) (sym s.copies.shown) (tally_is s.copies.entries names permuted (names_in_order found.0 names image_again found.2)),
           )
 
-      go : (o : Option Account) → IsShownOrAbsent user (rows_of user p.0) o → IfSome o (λ a. (names : List (List ℕ)) × (rows ≡ map (λ n. Blob n ∷ []) names) × AreFolders (tallied names) a)
+      go : (o : Option Account) → IsShownOrAbsent user (rows_of user p.0) o → IfSome o (AreFolderRows rows)
       go None h = tt
       go (Some a) h = at a h

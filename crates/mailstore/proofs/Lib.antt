@@ -11,7 +11,8 @@ pub mod QueryLemmas
 pub mod DeliveryLemmas
 pub mod OrderLemmas
 pub mod ReadLemmas
-pub mod ChainLemmas
+pub mod KeepLemmas
+pub mod DecodeLemmas
 pub mod TallyLemmas
 pub mod FolderLemmas
 pub mod NumberLemmas

@@ -83,7 +83,7 @@ own_alike user a b same = record {
 
 -- ---- what one row tells
 
-or_null_one : (x y : Option (List ℕ)) → or_null x ≡ or_null y → x ≡ y
+pub or_null_one : (x y : Option (List ℕ)) → or_null x ≡ or_null y → x ≡ y
 or_null_one None None e = refl
 or_null_one None (Some n) e = absurd (let no : Null ≡ Blob n = e in cc)
 or_null_one (Some m) None e = absurd (let no : Blob m ≡ Null = e in cc)

@@ -16,20 +16,22 @@ use Rattle.sqlite_schema.specs.Rules.{equal, Fits}
 use Rattle.sqlite.specs.Effect.{Database}
 use Rattle.sqlite.specs.Listing.{understood}
 use Rattle.sqlite.specs.declared.error.Error.{Error}
-use Rattle.sqlite.specs.State.{State, HasCleanDisk, Shown, FailsToQuery}
+use Rattle.sqlite.specs.State.{State, HasCleanDisk, Survives, CommitsShowing, Shown, FailsToQuery}
 use Rattle.sqlite_keyed.proofs.ListLemmas.{map-map}
 use Rattle.sqlite.proofs.Callers.{IsPlain, one_permutation}
 use Rattle.sqlrows.specs.Forms.{over}
 use Rattle.sqlrows.specs.Rows.{Entry, id_of, cells_of, stored, IsHeld, Holds, has_key_from}
-use Rattle.sqlrows.proofs.ReadLemmas.{shown_same, fails_same, answered}
+use Rattle.sqlrows.proofs.ReadLemmas.{shown_same, fails_same, answered, quiet}
 use Rattle.mailstore.specs.Schema.{mail_schema}
 use Rattle.mailstore.specs.Connection.{StaysSame, SeesCommit}
 use Rattle.mailstore.specs.Account.{Accounts}
-use Rattle.mailstore.specs.MetaTable.{meta, select_version, version_key, version_row, version_rows, SaysOne, meta_tree, stored_value_column}
+use Rattle.mailstore.specs.MetaTable.{meta, select_version, version_key, version_row, version_rows, SaysOne, meta_tree, stored_value_column, AreVersions}
 use Rattle.mailstore.specs.Shows.{IsOurs, ShowsIn, Presents}
 use Rattle.mailstore.proofs.TextFacts.{by_one, select_version_is, select_version_plain}
 use Rattle.mailstore.proofs.QueryLemmas.{same_unchanged, same_undone}
 use Rattle.mailstore.proofs.SchemaFacts.{meta_listed}
+use Rattle.mailstore.specs.Promises.{Asks}
+use Rattle.mailstore.proofs.ResultLemmas.{on_any, on_ok}
 
 -- a query whose text is plain, where the tables are ours
 module _ (sql : List ℕ) (params : Row) (old new : State) (ours : old.now.schema ≡ mail_schema) (plain : IsPlain (understood mail_schema sql)) where
@@ -96,6 +98,39 @@ pub version_says : (db : Database) (rows : List Row) → db.schema ≡ mail_sche
     → IfOk r (λ is. IsTrue is ↔ IsOurs db)
 version_says db rows ours same (Err e) said = tt
 version_says db rows ours same (Ok is) said = let both = says_ours db rows _ ours refl same in (λ e. both.0 (said.0 e), λ h. said.1 (both.1 h))
+
+-- the query for the version
+pub asks_version : (old new : State) (r : Result (Vec Row Global) Error) → (IsTrue old.is_open → old.now ≡ old.committed) → (HasCleanDisk new → IfOk r (λ rows. Shown select_version version_key old new rows.items))
+    → (HasCleanDisk new → IfErr r (FailsToQuery select_version version_key old new)) → Survives old new (CommitsShowing select_version version_key old) → Asks (AreVersions old.now.trees) old new r
+asks_version old new r settled ok err survives = record {
+  found = λ ours clean. found r ours (ok clean);
+  same = λ ours. keeps_same select_version version_key old new ours select_version_plain.0 r settled ok err;
+  live = λ ours. sees_commit select_version version_key old new ours select_version_plain.0 r settled ok;
+  crash = λ ours. quiet mail_schema select_version version_key old new ours select_version_plain.0 survives;
+}
+  where
+    found : (o : Result (Vec Row Global) Error) → old.now.schema ≡ mail_schema → IfOk o (λ rows. Shown select_version version_key old new rows.items) → IfOk o (AreVersions old.now.trees)
+    found (Err e) ours shown = tt
+    found (Ok rows) ours shown = version_found old new rows.items ours shown
+
+-- with a refusal as the answer
+pub asks_refused : {X Y E F : Type 0} {P : X → Type 0} {Q : Y → Type 0} (old new : State) (r : Result X E) (e : F) (q : Result Y F) → q ≡ Err e → Asks P old new r → Asks Q old new q
+asks_refused {Q = Q} old new r e q is h = record {
+  found = λ ours clean. subst (λ o. IfOk o Q) (sym is) tt;
+  same = h.same;
+  live = λ ours clean. subst (λ o. OnOk o (SeesCommit new)) (sym is) tt;
+  crash = h.crash;
+}
+
+-- and what its rows say
+pub says_version : (old new : State) (r : Result (Vec Row Global) Error) (rows : Vec Row Global) → r ≡ Ok rows → Asks (AreVersions old.now.trees) old new r → (q : Result Bool Error) → IfOk q (λ is. IsTrue is ↔ SaysOne rows.items)
+    → Asks (λ is. IsTrue is ↔ IsOurs old.now) old new q
+says_version old new r rows was h q said = record {
+  found = λ ours clean. version_says old.now rows.items ours (subst (λ o. IfOk o (AreVersions old.now.trees)) was (h.found ours clean)) q said;
+  same = h.same;
+  live = λ ours clean. on_any q (SeesCommit new) (on_ok r rows was (SeesCommit new) (h.live ours clean));
+  crash = h.crash;
+}
 
 -- opened on trees that show accounts, a database of our schema shows them
 pub shows_again : (db new : Database) (accounts : Accounts) → db.schema ≡ mail_schema → new ≡ db → ShowsIn db.trees accounts → Presents new accounts

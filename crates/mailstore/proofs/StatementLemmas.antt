@@ -51,9 +51,9 @@ pub script_agrees : (owner name : List ℕ) (n : ℤ) (cells : Row) → has_key 
 unfolding first_key
 script_agrees owner name n cells h = h
 
-pub script_removed : (old new : State) (owner name : List ℕ) (r : Result ℕ Error) → ExecutesInside 0 delete_script (pair_key owner name) old new r → MakesNow old new r (removed script_tree (pair_key owner name))
-script_removed old new owner name (Err e) ran = (kept _ _ old new (Err e) ran, tt)
-script_removed old new owner name (Ok count) ran = (
+pub removes_script : (old new : State) (owner name : List ℕ) (r : Result ℕ Error) → ExecutesInside 0 delete_script (pair_key owner name) old new r → MakesNow old new r (removed script_tree (pair_key owner name))
+removes_script old new owner name (Err e) ran = (kept _ _ old new (Err e) ran, tt)
+removes_script old new owner name (Ok count) ran = (
   kept _ _ old new (Ok count) ran,
   (
     λ tables h.
@@ -65,10 +65,10 @@ script_removed old new owner name (Ok count) ran = (
   ),
 )
 
-pub script_inserted : (old new : State) (owner name text : List ℕ) (r : Result ℕ Error) → ExecutesInside 0 insert_script (script_cells owner name text) old new r
+pub inserts_script : (old new : State) (owner name text : List ℕ) (r : Result ℕ Error) → ExecutesInside 0 insert_script (script_cells owner name text) old new r
     → MakesNow old new r (added script_tree (script_cells owner name text))
-script_inserted old new owner name text (Err e) ran = (kept _ _ old new (Err e) ran, tt)
-script_inserted old new owner name text (Ok count) ran = (
+inserts_script old new owner name text (Err e) ran = (kept _ _ old new (Err e) ran, tt)
+inserts_script old new owner name text (Ok count) ran = (
   kept _ _ old new (Ok count) ran,
   (
     λ tables h.
@@ -79,10 +79,10 @@ script_inserted old new owner name text (Ok count) ran = (
   ),
 )
 
-pub copy_inserted : (old new : State) (owner folder : List ℕ) (n : ℤ) (message : List ℕ) (r : Result ℕ Error) → ExecutesInside 0 insert_copy (copy_cells owner folder n message) old new r
+pub inserts_copy : (old new : State) (owner folder : List ℕ) (n : ℤ) (message : List ℕ) (r : Result ℕ Error) → ExecutesInside 0 insert_copy (copy_cells owner folder n message) old new r
     → MakesNow old new r (added copy_tree (copy_cells owner folder n message))
-copy_inserted old new owner folder n message (Err e) ran = (kept _ _ old new (Err e) ran, tt)
-copy_inserted old new owner folder n message (Ok count) ran = (
+inserts_copy old new owner folder n message (Err e) ran = (kept _ _ old new (Err e) ran, tt)
+inserts_copy old new owner folder n message (Ok count) ran = (
   kept _ _ old new (Ok count) ran,
   (
     λ tables h.
@@ -93,10 +93,10 @@ copy_inserted old new owner folder n message (Ok count) ran = (
   ),
 )
 
-pub account_inserted : (old new : State) (name address salt : List ℕ) (rounds : ℕ) (digest : List ℕ) (r : Result ℕ Error)
+pub inserts_account : (old new : State) (name address salt : List ℕ) (rounds : ℕ) (digest : List ℕ) (r : Result ℕ Error)
     → ExecutesInside 0 insert_account (Blob name ∷ Blob address ∷ Blob salt ∷ Int (pos rounds) ∷ Blob digest ∷ []) old new r → MakesNow old new r (added account_tree (account_cells name address salt rounds digest))
-account_inserted old new name address salt rounds digest (Err e) ran = (kept _ _ old new (Err e) ran, tt)
-account_inserted old new name address salt rounds digest (Ok count) ran = (
+inserts_account old new name address salt rounds digest (Err e) ran = (kept _ _ old new (Err e) ran, tt)
+inserts_account old new name address salt rounds digest (Ok count) ran = (
   kept _ _ old new (Ok count) ran,
   (
     λ tables h.
@@ -108,9 +108,9 @@ account_inserted old new name address salt rounds digest (Ok count) ran = (
   ),
 )
 
-pub version_inserted : (old new : State) (r : Result ℕ Error) → ExecutesInside 0 insert_version [] old new r → MakesNow old new r (added meta_tree (Text (codes "version") ∷ Int (pos 1) ∷ []))
-version_inserted old new (Err e) ran = (kept _ _ old new (Err e) ran, tt)
-version_inserted old new (Ok count) ran = (
+pub inserts_version : (old new : State) (r : Result ℕ Error) → ExecutesInside 0 insert_version [] old new r → MakesNow old new r (added meta_tree (Text (codes "version") ∷ Int (pos 1) ∷ []))
+inserts_version old new (Err e) ran = (kept _ _ old new (Err e) ran, tt)
+inserts_version old new (Ok count) ran = (
   kept _ _ old new (Ok count) ran,
   (
     λ tables h.
@@ -133,9 +133,9 @@ module _ (old : State) (tables : Tables) (h : Holds mail_schema old.now tables) 
   next_copy_fits : (n : ℤ) → cast_all account.columns (with_next_copy n cells) ≡ with_next_copy n cells
   next_copy_fits n = rw (whole rounds_column _ refl, cast_int n, whole next_out_column _ refl, whole next_notice_column _ refl)
 
-pub active_set : (old new : State) (name : List ℕ) (v : Value) (r : Result ℕ Error) → ExecutesInside 0 update_active (Blob name ∷ v ∷ []) old new r → MakesNow old new r (set_in account_tree (owner_key name) (with_active v))
-active_set old new name v (Err e) ran = (kept _ _ old new (Err e) ran, tt)
-active_set old new name v (Ok count) ran = (
+pub sets_active : (old new : State) (name : List ℕ) (v : Value) (r : Result ℕ Error) → ExecutesInside 0 update_active (Blob name ∷ v ∷ []) old new r → MakesNow old new r (set_in account_tree (owner_key name) (with_active v))
+sets_active old new name v (Err e) ran = (kept _ _ old new (Err e) ran, tt)
+sets_active old new name v (Ok count) ran = (
   kept _ _ old new (Ok count) ran,
   (
     λ tables h.
@@ -147,10 +147,10 @@ active_set old new name v (Ok count) ran = (
   ),
 )
 
-pub next_copy_set : (old new : State) (name : List ℕ) (next : ℤ) (r : Result ℕ Error) → ExecutesInside 0 update_next_copy (Blob name ∷ Int next ∷ []) old new r
+pub sets_next_copy : (old new : State) (name : List ℕ) (next : ℤ) (r : Result ℕ Error) → ExecutesInside 0 update_next_copy (Blob name ∷ Int next ∷ []) old new r
     → MakesNow old new r (set_in account_tree (owner_key name) (with_next_copy next))
-next_copy_set old new name next (Err e) ran = (kept _ _ old new (Err e) ran, tt)
-next_copy_set old new name next (Ok count) ran = (
+sets_next_copy old new name next (Err e) ran = (kept _ _ old new (Err e) ran, tt)
+sets_next_copy old new name next (Ok count) ran = (
   kept _ _ old new (Ok count) ran,
   (
     λ tables h.

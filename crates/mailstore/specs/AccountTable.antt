@@ -1,5 +1,5 @@
 -- The table of accounts, and the reference to it.
-use Rattle.std.specs.Prelude.{◌≡◌, false, ℕ, ℤ, pos, List, [], ◌∷◌, codes, Option, Some, None}
+use Rattle.std.specs.Prelude.{◌≡◌, false, ℕ, ℤ, pos, List, [], ◌∷◌, codes, Option, Some, None, option_map, slice_get}
 use Rattle.sqlite_schema.specs.declared.schema.Action.TheVariants.{NoAction}
 use Rattle.sqlite_schema.specs.declared.schema.Kind.TheVariants as kind
 use Rattle.sqlite_schema.specs.declared.schema.Reference.{Reference}
@@ -103,6 +103,10 @@ with_next_copy next cells =
 abbrev pub shown_account : Row → Row
 shown_account cells = column cells address_column ∷ column cells salt_column ∷ column cells rounds_column ∷ column cells digest_column ∷ column cells active_column ∷ []
 
+-- what the query for the counter of copies shows of a row
+abbrev pub shown_next_copy : Row → Row
+shown_next_copy cells = column cells next_copy_column ∷ []
+
 -- what the query for an account shows of an account
 abbrev pub profile_row : Account → Row
 profile_row a = Blob a.address ∷ Blob a.password.salt ∷ Int (pos a.password.rounds) ∷ Blob a.password.digest ∷ or_null a.active ∷ []
@@ -117,3 +121,7 @@ IsRead None None = Unit {0}
 IsRead None (Some row) = ⊥
 IsRead (Some p) None = ⊥
 IsRead (Some p) (Some row) = (column row 0 ≡ Blob p.address) × (column row 1 ≡ Blob p.salt) × (column row 2 ≡ Int (pos p.rounds)) × (column row 3 ≡ Blob p.digest) × (column row 4 ≡ or_null p.active)
+
+-- the first of the rows has this counter of copies
+abbrev pub CountsCopies : List Row → ℕ → Type 0
+CountsCopies rows n = option_map (λ cells. column cells next_copy_column) (slice_get rows 0) ≡ Some (Int (pos n))

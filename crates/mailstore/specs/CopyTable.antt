@@ -1,12 +1,12 @@
 -- The table of the copies of messages, which are the folders.
-use Rattle.std.specs.Prelude.{◌≡◌, ℕ, ℤ, pos, List, [], ◌∷◌, fold, codes}
+use Rattle.std.specs.Prelude.{◌≡◌, ℕ, ℤ, pos, List, [], ◌∷◌, fold, map, codes}
 use Rattle.std.specs.FinMap.{empty}
 use Rattle.sqlite_schema.specs.declared.schema.Kind.TheVariants as kind
 use Rattle.sqlite_schema.specs.declared.schema.Table.{Table}
 use Rattle.sqlite_value.specs.declared.value.Value.TheVariants.{Int, Blob}
 use Rattle.sqlite_value.specs.Order.{Row}
 use Rattle.sqlrows.specs.Forms.{needed, keyed}
-use Rattle.mailstore.specs.Account.{Folders, filed}
+use Rattle.mailstore.specs.Account.{Account, Folders, messages_in, filed}
 use Rattle.mailstore.specs.AccountTable.{to_account}
 use Rattle.mailstore.specs.Numbers.{AreNumbered}
 
@@ -65,3 +65,9 @@ pub record ShowsCopies (user : List ℕ) (rows : List Row) (folders : Folders) (
   pub entries : List Copy
   pub numbered : AreNumbered (λ c. c.n) (copy_row user) rows entries next
   pub shown : folders ≡ folders_from entries
+
+-- ---- what is read of them
+
+-- the rows are the messages of the folder, in the order in which they came
+abbrev pub AreMessageRows : List ℕ → List Row → Account → Type 0
+AreMessageRows folder rows a = rows ≡ map (λ message. Blob message ∷ []) (messages_in a.folders folder)

@@ -1,6 +1,5 @@
 pub mod Account
 pub mod AccountTable
-pub mod Calls
 pub mod Cells
 pub mod Changes
 pub mod Connection
@@ -8,6 +7,7 @@ pub mod CopyTable
 pub mod MetaTable
 pub mod NoticeTable
 pub mod Numbers
+pub mod Promises
 pub mod QueueTable
 pub mod Refusals
 pub mod ReplyTable

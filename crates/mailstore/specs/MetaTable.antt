@@ -1,5 +1,6 @@
 -- The table of the version.
-use Rattle.std.specs.Prelude.{◌≡◌, ℕ, pos, List, [], ◌∷◌, filter, codes}
+use Rattle.std.specs.Prelude.{◌≡◌, ℕ, pos, List, [], ◌∷◌, filter, map, codes, Vec, IsPermutation}
+use Rattle.std.specs.declared.alloc.Global.{Global}
 use Rattle.sqlite_schema.specs.declared.schema.Kind.TheVariants.{Integer, Text}
 use Rattle.sqlite_schema.specs.declared.schema.Table.{Table}
 use Rattle.sqlite_value.specs.declared.value.Value.TheVariants as value
@@ -40,3 +41,7 @@ version_rows trees = filter (has_key_from 1 version_key) (trees meta_tree)
 -- there is one row, and it begins with 1
 abbrev pub SaysOne : List Row → Type 0
 SaysOne rows = (row : Row) × (rows ≡ row ∷ []) × (column row 0 ≡ value.Int (pos 1))
+
+-- the rows are the numbers of the version, in any order
+abbrev pub AreVersions : Trees → Vec Row Global → Type 0
+AreVersions trees rows = IsPermutation (map (λ row. column row stored_value_column ∷ []) (version_rows trees)) rows.items

@@ -1,13 +1,13 @@
 -- The table of scripts.
-use Rattle.std.specs.Prelude.{◌≡◌, ◌≢◌, ℕ, List, [], ◌∷◌, map, codes}
-use Rattle.std.specs.FinMap.{from_entries}
+use Rattle.std.specs.Prelude.{◌≡◌, ◌≢◌, ℕ, List, [], ◌∷◌, map, codes, slice_get, option_map}
+use Rattle.std.specs.FinMap.{get, keys, from_entries}
 use Rattle.sqlite_schema.specs.declared.schema.Kind.TheVariants as kind
 use Rattle.sqlite_schema.specs.declared.schema.Table.{Table}
 use Rattle.sqlite_value.specs.declared.value.Value.TheVariants.{Blob}
 use Rattle.sqlite_value.specs.Order.{Row}
 use Rattle.sqlite_trees.specs.Tree.{IsAscending}
 use Rattle.sqlrows.specs.Forms.{needed, keyed}
-use Rattle.mailstore.specs.Account.{Scripts}
+use Rattle.mailstore.specs.Account.{Account, Scripts}
 use Rattle.mailstore.specs.AccountTable.{to_account}
 
 abbrev pub script_tree : ℕ
@@ -55,3 +55,13 @@ pub record ShowsScripts (user : List ℕ) (rows : List Row) (scripts : Scripts) 
   pub rows_are : rows ≡ map (script_row user) entries
   pub shown : scripts ≡ from_entries entries
   pub apart : AreApart entries
+
+-- ---- what is read of them
+
+-- the first row is the text of the name's script, if there is one
+abbrev pub HasTextRow : List ℕ → List Row → Account → Type 0
+HasTextRow name rows a = slice_get rows 0 ≡ option_map (λ text. Blob text ∷ []) (get a.scripts name)
+
+-- the rows are the names of the scripts, in the order of their octets
+abbrev pub AreNameRows : List Row → Account → Type 0
+AreNameRows rows a = rows ≡ map (λ name. Blob name ∷ []) (keys a.scripts)
