@@ -4,12 +4,12 @@ ghost use Rattle.sqlite.specs.Effect.{Database};
 ghost use Rattle.sqlite.specs.Held as sqlite;
 ghost use Rattle.sqlite.specs.Held.{state};
 ghost use Rattle.sqlite.specs.State.{HasCleanDisk};
-ghost use Rattle.mailstore.specs.Words.{StaysSame};
-ghost use Rattle.keepers.specs.Taken.{IsTaken};
-ghost use Rattle.mailstore.specs.Account.{no_accounts};
-ghost use Rattle.mailstore.specs.Shows.{Presents};
-ghost use Rattle.mailstore.specs.Refusals.{IsPassing};
 ghost use Rattle.mailstore.specs.Schema.{no_schema, mail_schema};
+ghost use Rattle.mailstore.specs.Connection.{StaysSame};
+ghost use Rattle.mailstore.specs.Account.{no_accounts};
+ghost use Rattle.mailstore.specs.Refusals.{IsPassing};
+ghost use Rattle.mailstore.specs.Shows.{Presents};
+ghost use Rattle.keepers.specs.Taken.{IsTaken};
 
 use mailstore::{Refusal, Store};
 use sqlite::{Alter, Connection, ErrorCode};

@@ -7,19 +7,19 @@ use Rattle.sqlite.specs.State.{State, HasCleanDisk, Survives}
 use Rattle.mailstore.specs.declared.refusal.Refusal.{Refusal}
 use Rattle.mailstore.specs.declared.refusal.Refusal.TheVariants.{NoUser}
 use Rattle.mailstore.specs.declared.report.Report.{Report}
-use Rattle.mailstore.specs.Words.{StaysSame}
+use Rattle.mailstore.specs.Connection.{StaysSame}
 use Rattle.mailstore.specs.Cells.{contents}
 use Rattle.mailstore.specs.Account.{Account, Accounts, with_user, files_copies}
-use Rattle.mailstore.specs.Shows.{Presents}
-use Rattle.mailstore.specs.Calls.{HasUser, IsFree, OfUser, Turns, MayShow}
 use Rattle.mailstore.specs.Refusals.{IsPassing}
+use Rattle.mailstore.specs.Shows.{Presents}
+use Rattle.mailstore.specs.Promises.{HasUser, IsFree, OfUser, Turns, MayShow, Keeps}
 use Rattle.sieveexec.specs.declared.envelope.Envelope.{Envelope}
 use Rattle.mailengine.specs.declared.event.Event.TheVariants.{Deliver}
 use Rattle.mailengine.specs.declared.answer.Answer.TheVariants.{Delivered}
 use Rattle.mailengine.specs.Limits.{cause_of}
 use Rattle.mailengine.specs.Delivered.{Files, active_text, delivered}
 use Rattle.mailengine.specs.World.{World, Next, SaysDelivery}
-use Rattle.mailengine.specs.Stands.{Stands, Looks, IsEvent, MayLeave, delivery_told}
+use Rattle.mailengine.specs.Stands.{Stands, IsEvent, MayLeave, delivery_told}
 use Rattle.mailengine.proofs.StandLemmas.{delivery_refused, own_refusal}
 use Rattle.mailengine.proofs.StepLemmas.{turned, Steps, steps_user, event_made, stands_undone, step_crash}
 
@@ -29,7 +29,7 @@ delivered_next w user envelope message moment report a is has files =
     let answer = Delivered report in
     (inl (subst (λ o. SaysDelivery o (get w.accounts user) moment envelope message answer) (sym is) (subst (λ o. SaysDelivery None o moment envelope message answer) (sym has) (report, refl, record { filed = files }))), refl)
 
-module _ (a b c : State) (r : Result (Option (List ℕ)) Refusal) (text : Option (List ℕ)) (is : r ≡ Ok text) (looks : Looks a b r) (user : List ℕ) (envelope : Envelope) (message : List ℕ) (moment : ℕ)
+module _ (a b c : State) (r : Result (Option (List ℕ)) Refusal) (text : Option (List ℕ)) (is : r ≡ Ok text) (looks : Keeps a b r) (user : List ℕ) (envelope : Envelope) (message : List ℕ) (moment : ℕ)
     (none : cause_of envelope message moment ≡ None) (found : HasCleanDisk b → (w : World) → Stands a w → OfUser w.accounts user (λ o. text ≡ active_text o)) (copies : List (List ℕ)) (whole : List ℕ) (report : Report)
     (files : Files text envelope message report.filed) (all : copies ≡ report.filed) (same_message : whole ≡ message) (late : Survives b c (MayShow (HasUser user) (λ accounts. with_user accounts user (files_copies copies whole)) b)) where
   steps : Steps (Deliver user envelope message moment) (Delivered report) (λ accounts. with_user accounts user (files_copies copies whole)) (HasUser user) (λ accounts. OfUser accounts user (λ o. text ≡ active_text o))

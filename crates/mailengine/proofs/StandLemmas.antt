@@ -2,16 +2,15 @@
 use Rattle.std.proofs.Common.{◌≡◌, ◌⊎◌, ℕ, List, Some, None, Ok, Err, Result, OnOk, IfErr, IsTrue, refl, sym, ◌∙◌, subst, inl, inr}
 use Rattle.std.specs.FinMap.{get}
 use Rattle.sqlite.specs.State.{State, HasCleanDisk, Survives}
-use Rattle.sqlite.proofs.StateLemmas.{survives_then, survives_weaker}
+use Rattle.sqlite.proofs.StateLemmas.{survives_weaker}
 use Rattle.mailstore.specs.declared.refusal.Refusal.{Refusal}
 use Rattle.mailstore.specs.declared.refusal.Refusal.TheVariants.{NoUser}
 use Rattle.mailstore.specs.declared.report.Report.{Report}
-use Rattle.mailstore.specs.Words.{StaysSame, StaysShut}
+use Rattle.mailstore.specs.Connection.{StaysSame}
 use Rattle.mailstore.specs.Account.{Accounts}
-use Rattle.mailstore.specs.Shows.{Presents}
-use Rattle.mailstore.specs.Calls.{IsFree, KeepsTables, IsOpenOnOk, LosesNothing}
 use Rattle.mailstore.specs.Refusals.{IsPassing}
-use Rattle.mailstore.proofs.WriteLemmas.{clean_before}
+use Rattle.mailstore.specs.Shows.{Presents}
+use Rattle.mailstore.specs.Promises.{HasOurTables, IsFree, Keeps}
 use Rattle.mailstore.proofs.ResultLemmas.{on_ok}
 use Rattle.sieveexec.specs.declared.envelope.Envelope.{Envelope}
 use Rattle.mailengine.specs.declared.event.Event.{Event}
@@ -21,70 +20,24 @@ use Rattle.mailengine.specs.Limits.{cause_of}
 use Rattle.mailengine.specs.Obeyed.{whole_of}
 use Rattle.mailengine.specs.declared.answer.Answer.TheVariants.{Refused}
 use Rattle.mailengine.specs.World.{World, Says, SaysDelivery, SaysCommand, Next, MayLack, MayFail, MayRefuse}
-use Rattle.mailengine.specs.Stands.{Stands, Looks, Reads, IsOwn, IsEvent, MayLeave, delivery_told, command_told}
+use Rattle.mailengine.specs.Stands.{Stands, IsOwn, IsEvent, MayLeave, delivery_told, command_told}
 
 -- ---- reads
 
--- the first read
-pub looks_first : {X E : Type 0} (a b : State) (r : Result X E) → KeepsTables a b → StaysShut a b r → LosesNothing a b → Looks a b r
-looks_first {X} {E} a b r same shut crash = record {
-  stands = λ clean w stands is_open. let kept = same clean w.accounts (stands ((shut clean).0 is_open)) in subst (λ db. Presents db w.accounts) (sym (kept.now_is is_open)) (stands ((shut clean).0 is_open));
-  live = λ clean w stands. go r (shut clean);
-  same = same;
-  crash = crash;
-}
-  where
-    go : (o : Result X E) → (IsTrue b.is_open → IsTrue a.is_open) × OnOk o (IsTrue b.is_open) → OnOk o (IsTrue a.is_open × IsTrue b.is_open)
-    go (Ok x) h = (h.0 h.1, h.1)
-    go (Err e) h = tt
+-- the world that stands
+pub stands_kept : {X E : Type 0} (a b : State) (r : Result X E) → Keeps a b r → HasCleanDisk b → (w : World) → Stands a w → Stands b w
+stands_kept a b r k clean w stands is_open =
+    let p = stands (k.shut clean is_open) in
+    subst (λ db. Presents db w.accounts) (sym ((k.same clean (p.0, p.1)).now_is is_open)) p
 
--- the same reads with a refusal as their answer
-pub looks_refused : {X Y E F : Type 0} (a b : State) (r : Result X E) (q : Result Y F) → OnOk q ⊥ → Looks a b r → Looks a b q
-looks_refused {X} {Y} {E} {F} a b r q none l = record { stands = l.stands; live = λ clean w stands. go q none; same = l.same; crash = l.crash }
-  where
-    go : (o : Result Y F) → OnOk o ⊥ → OnOk o (IsTrue a.is_open × IsTrue b.is_open)
-    go (Ok y) h = absurd h
-    go (Err e) h = tt
-
--- the same reads with another answer
-pub looks_ok : {X Y E F : Type 0} (a b : State) (r : Result X E) (x : X) (y : Y) → r ≡ Ok x → Looks a b r → Looks {E = F} a b (Ok y)
-looks_ok a b r x y is l = record { stands = l.stands; live = λ clean w stands. on_ok r x is _ (l.live clean w stands); same = l.same; crash = l.crash }
-
--- what the tables show once the first reads are over
-pub mid_presents : {X E : Type 0} (a b : State) (r : Result X E) (x : X) → r ≡ Ok x → Looks a b r → HasCleanDisk b → (w : World) → Stands a w → IsTrue a.is_open × IsTrue b.is_open × Presents b.now w.accounts
-mid_presents a b r x is l clean w stands = let live = on_ok r x is _ (l.live clean w stands) in (live.0, live.1, l.stands clean w stands live.1)
+-- what the tables show once reads that answered Ok are over
+pub mid_presents : {X E : Type 0} (a b : State) (r : Result X E) (x : X) → r ≡ Ok x → Keeps a b r → HasCleanDisk b → (w : World) → Stands a w → IsTrue a.is_open × IsTrue b.is_open × Presents b.now w.accounts
+mid_presents a b r x is k clean w stands =
+    let live = on_ok r x is (IsTrue b.is_open) (k.live clean) in
+    (k.shut clean live, live, stands_kept a b r k clean w stands live)
 
 pub same_then : (a b c : State) → IsTrue b.is_open → StaysSame a b → StaysSame b c → StaysSame a c
 same_then a b c mid one two = record { now_is = λ o. two.now_is o ∙ one.now_is mid; committed_is = λ o. two.committed_is o ∙ one.committed_is mid }
-
--- one more read
-module _ {X E Y F : Type 0} (a b c : State) (r : Result X E) (x : X) (is : r ≡ Ok x) (early : Looks a b r) (q : Result Y F) where
-  pub loses_then : LosesNothing b c → LosesNothing a c
-  loses_then crash = survives_then a b c _ _ _ (λ clean db none. none)
-      (λ clean db none accounts p. none accounts (mid_presents a b r x is early (clean_before b c _ crash clean) (record { accounts = accounts }) (λ o. p)).2) early.crash crash
-
-  pub looks_then : Reads b c q → Looks a c q
-  looks_then later = record {
-    stands = λ clean w stands is_open.
-        let mid = mid_presents a b r x is early (clean_before b c _ later.crash clean) w stands in
-        subst (λ db. Presents db w.accounts) (sym ((later.same clean w.accounts mid.2).now_is is_open)) mid.2;
-    live = λ clean w stands.
-        let mid = mid_presents a b r x is early (clean_before b c _ later.crash clean) w stands in
-        go q mid.0 (later.live clean w.accounts mid.2 mid.1);
-    same = λ clean accounts p.
-        let before = clean_before b c _ later.crash clean in
-        let mid = mid_presents a b r x is early before (record { accounts = accounts }) (λ o. p) in
-        same_then a b c mid.1 (early.same before accounts p) (later.same clean accounts mid.2);
-    crash = loses_then later.crash;
-  }
-    where
-      go : (o : Result Y F) → IsTrue a.is_open → OnOk o (IsTrue c.is_open) → OnOk o (IsTrue a.is_open × IsTrue c.is_open)
-      go (Ok y) was h = (was, h)
-      go (Err e) was h = tt
-
--- one read of the store
-pub reads_one : {X E : Type 0} (a b : State) (r : Result X E) → KeepsTables a b → IsOpenOnOk a b r → LosesNothing a b → Reads a b r
-reads_one a b r same live crash = record { same = same; live = λ clean accounts p was. live clean accounts p; crash = crash }
 
 -- a refusal that is NoUser only where there is no account
 pub own_refusal : {X : Type 0} (q : Result X Refusal) (accounts : Accounts) (user : List ℕ) → IfErr q (λ e. e ≡ NoUser → IsFree user accounts) → IfErr q (λ e. (e ≡ NoUser) ⊎ IsPassing e) → IfErr q (IsOwn accounts user)
@@ -144,5 +97,5 @@ own_passing (Ok x) accounts user h = tt
 own_passing (Err e) accounts user h = inr h
 
 -- after reads alone a crash leaves what it left before
-pub reads_may : (a b : State) (event : Event) → LosesNothing a b → Survives a b (MayLeave event a)
-reads_may a b event = survives_weaker a b _ (MayLeave event a) (λ clean db none w p. absurd (none w.accounts p))
+pub reads_may : (a b : State) (event : Event) → Survives a b (λ _. HasOurTables a.now → ⊥) → Survives a b (MayLeave event a)
+reads_may a b event = survives_weaker a b _ (MayLeave event a) (λ clean db none w p. absurd (none (p.0, p.1)))

@@ -4,15 +4,15 @@ use Rattle.std.specs.FinMap.{get}
 use Rattle.sqlite_trees.specs.Tree.{Trees}
 use Rattle.sqlite.specs.State.{State, HasCleanDisk, Survives}
 use Rattle.sqlite.proofs.StateLemmas.{survives_then}
-use Rattle.mailstore.specs.Words.{StaysSame}
+use Rattle.mailstore.specs.Connection.{StaysSame}
 use Rattle.mailstore.specs.Account.{Account, Accounts, with_user}
 use Rattle.mailstore.specs.Shows.{Presents}
-use Rattle.mailstore.specs.Calls.{HasUser, OfUser, Turns, MayShow}
+use Rattle.mailstore.specs.Promises.{HasUser, OfUser, Turns, MayShow, Keeps}
 use Rattle.mailstore.proofs.WriteLemmas.{clean_before}
 use Rattle.mailengine.specs.declared.event.Event.{Event}
 use Rattle.mailengine.specs.declared.answer.Answer.{Answer}
 use Rattle.mailengine.specs.World.{World, Next}
-use Rattle.mailengine.specs.Stands.{Stands, Looks, IsEvent, MayLeave}
+use Rattle.mailengine.specs.Stands.{Stands, IsEvent, MayLeave}
 use Rattle.mailengine.proofs.StandLemmas.{mid_presents, same_then}
 
 -- the world with the accounts changed
@@ -32,14 +32,14 @@ pub steps_user : (event : Event) (user : List ℕ) (answer : Answer) (change : A
 steps_user event user answer change P steps w own = (subst IsSome (sym own.1) refl, steps w own.0 own.1 own.2)
 
 -- reads, and a write that is undone
-pub undone_then : {X E : Type 0} (a b c : State) (r : Result X E) (x : X) → r ≡ Ok x → Looks a b r → {P : Trees → Type 0} → Survives b c P → (HasCleanDisk c → (accounts : Accounts) → Presents b.now accounts → StaysSame b c)
+pub undone_then : {X E : Type 0} (a b c : State) (r : Result X E) (x : X) → r ≡ Ok x → Keeps a b r → {P : Trees → Type 0} → Survives b c P → (HasCleanDisk c → (accounts : Accounts) → Presents b.now accounts → StaysSame b c)
     → HasCleanDisk c → (accounts : Accounts) → Presents a.now accounts → StaysSame a c
 undone_then a b c r x is looks late same clean accounts p =
     let before = clean_before b c _ late clean in
     let shown = mid_presents a b r x is looks before (record { accounts = accounts }) (λ o. p) in
-    same_then a b c shown.1 (looks.same before accounts p) (same clean accounts shown.2)
+    same_then a b c shown.1 (looks.same before (p.0, p.1)) (same clean accounts shown.2)
 
-module _ {X E : Type 0} (a b c : State) (r : Result X E) (x : X) (is : r ≡ Ok x) (looks : Looks a b r) (event : Event) (answer : Answer) (change : Accounts → Accounts) (Fit P : Accounts → Type 0)
+module _ {X E : Type 0} (a b c : State) (r : Result X E) (x : X) (is : r ≡ Ok x) (looks : Keeps a b r) (event : Event) (answer : Answer) (change : Accounts → Accounts) (Fit P : Accounts → Type 0)
     (found : HasCleanDisk b → (w : World) → Stands a w → P w.accounts) (steps : Steps event answer change Fit P) (late : Survives b c (MayShow Fit change b)) where
   -- what the tables show between the reads and the write
   mid : HasCleanDisk c → (w : World) → Stands a w → IsTrue b.is_open × Presents b.now w.accounts × Fit w.accounts × Next w event answer (turned change w)
@@ -61,7 +61,7 @@ module _ {X E : Type 0} (a b c : State) (r : Result X E) (x : X) (is : r ≡ Ok 
       (m.1, λ is_open. subst (λ db. Presents db w.accounts) (sym ((same clean w.accounts m.1).now_is is_open)) m.1)
 
   pub step_crash : Survives a c (MayLeave event a)
-  step_crash = survives_then a b c _ _ _ (λ clean db lost w p. absurd (lost w.accounts p))
+  step_crash = survives_then a b c _ _ _ (λ clean db lost w p. absurd (lost (p.0, p.1)))
       (λ clean db may w p.
       let m = mid clean w (λ o. p) in
       let left = may w.accounts m.1 m.2 in

@@ -5,17 +5,18 @@ use Rattle.sqlite.specs.State.{State, HasCleanDisk, Survives}
 use Rattle.mailstore.specs.declared.profile.Profile.{Profile}
 use Rattle.mailstore.specs.declared.refusal.Refusal.{Refusal}
 use Rattle.mailstore.specs.declared.refusal.Refusal.TheVariants.{Memory, UserExists, BadUser}
-use Rattle.mailstore.specs.Words.{StaysSame}
+use Rattle.mailstore.specs.Connection.{StaysSame}
 use Rattle.mailstore.specs.Account.{Account, Accounts}
-use Rattle.mailstore.specs.Shows.{Presents}
-use Rattle.mailstore.specs.Calls.{IsFree, Turns, MayShow, profile_of}
 use Rattle.mailstore.specs.Refusals.{IsPassing}
+use Rattle.mailstore.specs.AccountTable.{profile_of}
+use Rattle.mailstore.specs.Shows.{Presents}
+use Rattle.mailstore.specs.Promises.{IsFree, Turns, MayShow, Keeps}
 use Rattle.mailengine.specs.declared.event.Event.TheVariants.{AddUser}
 use Rattle.mailengine.specs.declared.answer.Answer.TheVariants.{Added, Refused}
 use Rattle.mailengine.specs.Limits.{IsNewUser}
 use Rattle.mailengine.specs.World.{World, SaysNew, MayRefuse, added}
-use Rattle.mailengine.specs.Stands.{Stands, Looks, IsEvent, MayLeave, addition_told}
-use Rattle.mailengine.proofs.StandLemmas.{mid_presents, passing_next}
+use Rattle.mailengine.specs.Stands.{Stands, IsEvent, MayLeave, addition_told}
+use Rattle.mailengine.proofs.StandLemmas.{mid_presents, stands_kept, passing_next}
 use Rattle.mailengine.proofs.StepLemmas.{Steps, undone_then, event_made, stands_undone, step_crash}
 use Rattle.mailengine.proofs.ViewLemmas.{if_is, free_of}
 
@@ -43,7 +44,7 @@ module _ (name address salt password : List ℕ) where
   passing_event a c (Ok done) none new passing kept = absurd none
   passing_event a c (Err e) none new passing kept = λ clean w stands. (w, passing_next w (AddUser name address salt password) e tt new passing, kept clean w stands)
 
-  module _ (a b : State) (r : Result (Option Profile) Refusal) (looks : Looks a b r)
+  module _ (a b : State) (r : Result (Option Profile) Refusal) (looks : Keeps a b r)
       (found : HasCleanDisk b → (accounts : Accounts) → Presents a.now accounts → IfOk r (λ profile. profile ≡ option_map profile_of (get accounts name))) (new : IsNewUser name address password) where
     seen : (found_is : Option Profile) → r ≡ Ok found_is → HasCleanDisk b → (w : World) → Stands a w → found_is ≡ option_map profile_of (get w.accounts name)
     seen profile is clean w stands =
@@ -54,7 +55,7 @@ module _ (name address salt password : List ℕ) where
     pub exists_event : (profile : Profile) → r ≡ Ok (Some profile) → IsEvent (AddUser name address salt password) (Refused UserExists) a b
     exists_event profile is clean w stands =
         let there = some_there w.accounts name profile (seen (Some profile) is clean w stands) in
-        (w, (inl (inl (new, subst (λ o. SaysNew o (Refused UserExists)) (sym there.1) refl)), refl), looks.stands clean w stands)
+        (w, (inl (inl (new, subst (λ o. SaysNew o (Refused UserExists)) (sym there.1) refl)), refl), stands_kept a b r looks clean w stands)
 
     -- the name has none
     pub found_free : r ≡ Ok None → HasCleanDisk b → (w : World) → Stands a w → IsFree name w.accounts
@@ -65,7 +66,7 @@ module _ (name address salt password : List ℕ) where
   new_steps new w free = (free, (inl (inl (new, subst (λ o. SaysNew o Added) (sym free) refl)), refl))
 
 -- what the write leaves of the accounts
-module _ (name address salt password : List ℕ) (a b c : State) (r : Result (Option Profile) Refusal) (looks : Looks a b r) (is : r ≡ Ok None)
+module _ (name address salt password : List ℕ) (a b c : State) (r : Result (Option Profile) Refusal) (looks : Keeps a b r) (is : r ≡ Ok None)
     (found : HasCleanDisk b → (accounts : Accounts) → Presents a.now accounts → IfOk r (λ profile. profile ≡ option_map profile_of (get accounts name))) (new : IsNewUser name address password)
     (late : Survives b c (MayShow (IsFree name) (λ accounts. insert accounts name (added address salt password)) b)) where
   pub add_event : (q : Result (Unit {0}) Refusal) → (HasCleanDisk c → OnOk q (Turns (IsFree name) (λ accounts. insert accounts name (added address salt password)) b.now c.now)) → (HasCleanDisk c → OnErr q (StaysSame b c))

@@ -6,13 +6,14 @@ use Rattle.mailstore.specs.declared.profile.Profile.{Profile}
 use Rattle.mailstore.specs.declared.refusal.Refusal.{Refusal}
 use Rattle.mailstore.specs.declared.refusal.Refusal.TheVariants.{NoUser}
 use Rattle.mailstore.specs.Account.{Account, Accounts}
-use Rattle.mailstore.specs.Shows.{Presents}
-use Rattle.mailstore.specs.Calls.{IsFree, OfUser, profile_of}
 use Rattle.mailstore.specs.Refusals.{IsPassing}
+use Rattle.mailstore.specs.AccountTable.{profile_of}
+use Rattle.mailstore.specs.Shows.{Presents}
+use Rattle.mailstore.specs.Promises.{IsFree, OfUser, Keeps}
 use Rattle.mailstore.proofs.WriteLemmas.{clean_before}
 use Rattle.mailengine.specs.Delivered.{text_named, active_text}
 use Rattle.mailengine.specs.World.{World}
-use Rattle.mailengine.specs.Stands.{Stands, Looks, Reads, IsOwn}
+use Rattle.mailengine.specs.Stands.{Stands, IsOwn}
 use Rattle.mailengine.proofs.StandLemmas.{mid_presents, own_refusal}
 
 pub if_is : {X E : Type 0} (r : Result X E) (x : X) → r ≡ Ok x → (P : X → Type 0) → IfOk r P → P x
@@ -36,7 +37,7 @@ owned_by accounts user p is = go (get accounts user) refl is
     go (Some a) has e = let same : p ≡ profile_of a = cc in (a, has, same)
 
 module _ (a b : State) (r : Result (Option Profile) Refusal) (user : List ℕ) (found : HasCleanDisk b → (accounts : Accounts) → Presents a.now accounts → IfOk r (λ profile. profile ≡ option_map profile_of (get accounts user)))
-    (looks : Looks a b r) where
+    (looks : Keeps a b r) where
   pub free_seen : r ≡ Ok None → HasCleanDisk b → (w : World) → Stands a w → IsFree user w.accounts
   free_seen is clean w stands =
       let mid = mid_presents a b r None is looks clean w stands in
@@ -53,7 +54,7 @@ module _ (a b : State) (r : Result (Option Profile) Refusal) (user : List ℕ) (
       let same : own.0.active ≡ None = sym (ap (λ (q : Profile). q.active) own.2) ∙ none in
       (own.0, own.1, sym (ap (text_named own.0.scripts) same))
 
-  module _ {X : Type 0} (c : State) (p : Profile) (is : r ≡ Ok (Some p)) (q : Result X Refusal) (reads : Reads b c q) where
+  module _ {X : Type 0} (c : State) (p : Profile) (is : r ≡ Ok (Some p)) (q : Result X Refusal) (reads : Keeps b c q) where
     -- what a second read finds of the account
     pub found_then : (P : X → Account → Type 0) → (HasCleanDisk c → (accounts : Accounts) → Presents b.now accounts → IfOk q (λ x. OfUser accounts user (P x))) → HasCleanDisk c → (w : World) → Stands a w
         → IfOk q (λ x. OfUser w.accounts user (P x))
@@ -66,7 +67,7 @@ module _ (a b : State) (r : Result (Option Profile) Refusal) (user : List ℕ) (
         let mid = mid_presents a b r (Some p) is looks before w stands in
         own_refusal q w.accounts user (absent clean w.accounts mid.2) named
 
-  module _ (c : State) (p : Profile) (is : r ≡ Ok (Some p)) (name : List ℕ) (active : p.active ≡ Some name) (q : Result (Option (List ℕ)) Refusal) (reads : Reads b c q) where
+  module _ (c : State) (p : Profile) (is : r ≡ Ok (Some p)) (name : List ℕ) (active : p.active ≡ Some name) (q : Result (Option (List ℕ)) Refusal) (reads : Keeps b c q) where
     pub text_seen : (HasCleanDisk c → (accounts : Accounts) → Presents b.now accounts → IfOk q (λ text. OfUser accounts user (λ a. text ≡ get a.scripts name))) → HasCleanDisk c → (w : World) → Stands a w
         → IfOk q (λ text. OfUser w.accounts user (λ a. text ≡ active_text a))
     text_seen read clean w stands =

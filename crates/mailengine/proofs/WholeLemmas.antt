@@ -10,7 +10,7 @@ use Rattle.std.proofs.lemmas.Cmp.{nat_list_cmp_total}
 use Rattle.sqlite.specs.State.{State, HasCleanDisk}
 use Rattle.msproto.specs.declared.commands.Command.{Command}
 use Rattle.mailstore.specs.Account.{Account, Accounts, bytes_cmp, with_user, in_place}
-use Rattle.mailstore.specs.Calls.{HasUser, OfUser}
+use Rattle.mailstore.specs.Promises.{HasUser, OfUser, Keeps}
 use Rattle.mailstore.proofs.AccountLemmas.{bytes_antisymmetric}
 use Rattle.mailengine.specs.declared.event.Event.TheVariants.{Whole}
 use Rattle.mailengine.specs.declared.answer.Answer.TheVariants.{Out}
@@ -18,8 +18,9 @@ use Rattle.mailengine.specs.declared.answer.Progress.TheVariants.{Done}
 use Rattle.mailengine.specs.declared.obey.Told.{Told}
 use Rattle.mailengine.specs.Obeyed.{RepliesTo, carried_out, obeyed, is_ok, whole_of}
 use Rattle.mailengine.specs.World.{World, Next, SaysCommand}
-use Rattle.mailengine.specs.Stands.{Stands, Looks, IsEvent, command_in}
+use Rattle.mailengine.specs.Stands.{Stands, IsEvent, command_in}
 use Rattle.mailengine.specs.Told.{AreNames, IsTold}
+use Rattle.mailengine.proofs.StandLemmas.{stands_kept}
 use Rattle.mailengine.proofs.StepLemmas.{turned, Steps, StepsUser, steps_user}
 
 -- a command behind a reference is the command
@@ -53,11 +54,11 @@ module _ (user bytes : List ℕ) (names : List (List ℕ)) (command : Option Com
       steps_user (Whole user bytes) user (Out Done told.octets) (carried_out command) (AreNames names)
       (subst (λ change. StepsUser (Whole user bytes) user (Out Done told.octets) change (AreNames names)) same told_steps)
 
-  pub declined_event : {X E : Type 0} (a b : State) (r : Result X E) → Looks a b r → (HasCleanDisk b → (w : World) → Stands a w → OfUser w.accounts user (AreNames names)) → told.accepted ≡ false
+  pub declined_event : {X E : Type 0} (a b : State) (r : Result X E) → Keeps a b r → (HasCleanDisk b → (w : World) → Stands a w → OfUser w.accounts user (AreNames names)) → told.accepted ≡ false
       → IsEvent (Whole user bytes) (Out Done told.octets) a b
   declined_event a b r looks found declined clean w stands =
       let own = found clean w stands in
       let same : turned (λ accounts. with_user accounts user (obeyed (whole_of bytes) (is_ok told.octets))) w ≡ w =
       ap (λ (accounts : Accounts). let next : World = record { accounts = accounts } in next)
       (ap (λ ok. with_user w.accounts user (obeyed (whole_of bytes) ok)) (sym tells.accepted_is ∙ declined) ∙ untouched w.accounts user) in
-      (w, subst (Next w (Whole user bytes) (Out Done told.octets)) same (told_steps w own.0 own.1 own.2), looks.stands clean w stands)
+      (w, subst (Next w (Whole user bytes) (Out Done told.octets)) same (told_steps w own.0 own.1 own.2), stands_kept a b r looks clean w stands)

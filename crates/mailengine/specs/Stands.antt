@@ -1,14 +1,13 @@
 -- What a store has of the machine.
-use Rattle.std.specs.Prelude.{◌≡◌, ◌⊎◌, ℕ, List, Option, Some, None, Ok, Err, Result, OnOk, IsTrue}
+use Rattle.std.specs.Prelude.{◌≡◌, ◌⊎◌, ℕ, List, Option, Some, None, Ok, Err, Result, IsTrue}
 use Rattle.std.specs.Borrow.{Bor}
 use Rattle.sqlite_trees.specs.Tree.{Trees}
 use Rattle.sqlite.specs.Effect.{Database}
 use Rattle.sqlite.specs.State.{State, HasCleanDisk}
-use Rattle.mailstore.specs.Words.{StaysSame}
 use Rattle.mailstore.specs.Account.{Accounts}
-use Rattle.mailstore.specs.Shows.{Presents}
-use Rattle.mailstore.specs.Calls.{IsFree, KeepsTables, LosesNothing}
 use Rattle.mailstore.specs.Refusals.{IsPassing}
+use Rattle.mailstore.specs.Shows.{Presents}
+use Rattle.mailstore.specs.Promises.{IsFree}
 use Rattle.mailstore.specs.declared.report.Report.{Report}
 use Rattle.mailstore.specs.declared.refusal.Refusal.{Refusal}
 use Rattle.mailstore.specs.declared.refusal.Refusal.TheVariants.{NoUser}
@@ -22,19 +21,6 @@ use Rattle.mailengine.specs.World.{World, Next, Runs}
 -- the tables show the world's accounts; of a connection that a fault of the disk has shut nothing is said
 abbrev pub Stands : State → World → Type 0
 Stands s w = IsTrue s.is_open → Presents s.now w.accounts
-
--- reads: what the connection sees stays, nothing is read over one that is shut, and a crash leaves what it left before
-pub record Looks {X E : Type 0} (old new : State) (result : Result X E) : Type 0 where
-  pub stands : HasCleanDisk new → (w : World) → Stands old w → Stands new w
-  pub live : HasCleanDisk new → (w : World) → Stands old w → OnOk result (IsTrue old.is_open × IsTrue new.is_open)
-  pub same : HasCleanDisk new → (accounts : Accounts) → Presents old.now accounts → StaysSame old new
-  pub crash : LosesNothing old new
-
--- one more read over a connection that is open
-pub record Reads {X E : Type 0} (old new : State) (result : Result X E) : Type 0 where
-  pub same : KeepsTables old new
-  pub live : HasCleanDisk new → (accounts : Accounts) → Presents old.now accounts → IsTrue old.is_open → OnOk result (IsTrue new.is_open)
-  pub crash : LosesNothing old new
 
 -- a refusal of the machine's own, or one that may come without a cause
 abbrev pub IsOwn : Accounts → List ℕ → Refusal → Type 0

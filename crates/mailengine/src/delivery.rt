@@ -2,7 +2,7 @@
 ghost use Rattle.std.specs.Prelude.{◌≡◌, OnOk, OnErr, IfSome, Err};
 ghost use Rattle.sqlite.specs.Held.{state};
 ghost use Rattle.sqlite.specs.State.{HasCleanDisk, Survives};
-ghost use Rattle.mailstore.specs.Words.{IsSettled, StaysSame};
+ghost use Rattle.mailstore.specs.Connection.{IsSettled, StaysSame};
 ghost use Rattle.mailstore.specs.Account.{Accounts};
 ghost use Rattle.mailstore.specs.Shows.{Presents};
 ghost use Rattle.mailengine.specs.declared.event.Event.TheVariants.{Deliver};

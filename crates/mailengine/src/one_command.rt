@@ -2,12 +2,12 @@
 ghost use Rattle.std.specs.Prelude.{◌≡◌, ℕ, List, false, IsTrue, IfOk, IfErr, OnOk, OnErr};
 ghost use Rattle.sqlite.specs.Held.{state};
 ghost use Rattle.sqlite.specs.State.{HasCleanDisk, Survives};
-ghost use Rattle.mailstore.specs.Words.{IsSettled, StaysSame};
+ghost use Rattle.mailstore.specs.Connection.{IsSettled, StaysSame};
 ghost use Rattle.mailstore.specs.Cells.{contents};
 ghost use Rattle.mailstore.specs.Account.{Accounts, with_user};
-ghost use Rattle.mailstore.specs.Shows.{Presents};
-ghost use Rattle.mailstore.specs.Calls.{HasUser, Turns, MayShow};
 ghost use Rattle.mailstore.specs.Refusals.{IsPassing};
+ghost use Rattle.mailstore.specs.Shows.{Presents};
+ghost use Rattle.mailstore.specs.Promises.{HasUser, Turns, MayShow};
 ghost use Rattle.mailengine.specs.declared.event.Event.TheVariants.{Whole};
 ghost use Rattle.mailengine.specs.Obeyed.{whole_of, carried_out, chosen as chosen_by, is_ok};
 ghost use Rattle.mailengine.specs.Stands.{IsEvent, MayLeave, command_in, command_told};

@@ -3,7 +3,7 @@ ghost use Rattle.std.specs.Prelude.{◌≡◌, ◌==◌, IfOk, IfErr, OnOk, OnEr
 ghost use Rattle.std.specs.List.{list_all, list_any};
 ghost use Rattle.sqlite.specs.Held.{state};
 ghost use Rattle.sqlite.specs.State.{HasCleanDisk, Survives};
-ghost use Rattle.mailstore.specs.Words.{IsSettled, StaysSame};
+ghost use Rattle.mailstore.specs.Connection.{IsSettled, StaysSame};
 ghost use Rattle.mailstore.specs.Account.{Accounts};
 ghost use Rattle.mailstore.specs.Shows.{Presents};
 ghost use Rattle.mailstore.specs.declared.refusal.Refusal.TheVariants.{Memory, BadUser};

@@ -12,10 +12,17 @@ use Rattle.sqlite_keyed.proofs.ListLemmas.{filter-map, filter_same, ascending-fi
 use Rattle.sqlite_typed.proofs.TestLemmas.{at_blobs, last_term, same_bytes, bytes_eq_refl}
 use Rattle.sqlrows.specs.Rows.{Tables, has_key, added, removed, set_in}
 use Rattle.sqlrows.proofs.ListLemmas.{owner_key, pair_key, equal_itself}
-use Rattle.mailstore.specs.Cells.{account_cells, script_cells, copy_cells, with_active, with_next_copy, or_null}
-use Rattle.mailstore.specs.Account.{bytes_cmp, Account, Folders, new_account, keeps_script, activates, filed, files_copies}
+use Rattle.mailstore.specs.Cells.{or_null}
 use Rattle.mailstore.specs.Changes.{copied}
-use Rattle.mailstore.specs.Shows.{Copy, script_row, copy_row, AreNumbered, IsShown, IsAbsent}
+use Rattle.mailstore.specs.Account.{bytes_cmp, Account, Folders, new_account, keeps_script, activates, filed, files_copies}
+use Rattle.mailstore.specs.AccountTable.{account_cells, with_active, with_next_copy, account_tree}
+use Rattle.mailstore.specs.ScriptTable.{script_cells, script_row, script_tree}
+use Rattle.mailstore.specs.CopyTable.{copy_cells, Copy, copy_row, copy_tree}
+use Rattle.mailstore.specs.Numbers.{AreNumbered}
+use Rattle.mailstore.specs.Shows.{IsShown, IsAbsent}
+use Rattle.mailstore.proofs.NumberLemmas.{numbered_none, numbered_push, numbered_up}
+use Rattle.mailstore.specs.NoticeTable.{notice_row, notice_tree}
+use Rattle.mailstore.specs.QueueTable.{outgoing_tree, queue_row}
 
 pub bytes_antisymmetric : IsAntisymmetric bytes_cmp
 bytes_antisymmetric = slice_cmp-IsAntisymmetric nat_cmp-IsAntisymmetric
@@ -59,179 +66,113 @@ left_apart name (e ∷ es) = go (is_named name e) refl (left_apart name es)
     go false apart more = ((λ same. true≢false (sym (ap (λ k. is_eq (bytes_cmp k name)) same ∙ bytes_eq_refl name) ∙ apart)), more)
 
 module _ (user : List ℕ) (own : Tables) (a : Account) (s : IsShown user own a) where
-  pub script_put : (name text : List ℕ) → IsShown user (added 4 (script_cells user name text) (removed 4 (pair_key user name) own)) (keeps_script name text a)
+  pub script_put : (name text : List ℕ) → IsShown user (added script_tree (script_cells user name text) (removed script_tree (pair_key user name) own)) (keeps_script name text a)
   script_put name text =
-      let left = delete_where (is_named name) s.scripts in
-      let rows : delete_where (has_key (pair_key user name)) (own 4) ≡ map (script_row user) left =
-      ap (delete_where (has_key (pair_key user name))) s.script_rows ∙ filter-map (λ r. not (has_key (pair_key user name) r)) (script_row user) s.scripts
-      ∙ ap (map (script_row user)) (filter_same _ (λ e. not (is_named name e)) (λ e. ap not (pair_is user name e.0 (Blob e.1 ∷ []))) s.scripts) in
+      let was = s.scripts in
+      let left = delete_where (is_named name) was.entries in
+      let rows : delete_where (has_key (pair_key user name)) (own script_tree) ≡ map (script_row user) left =
+      ap (delete_where (has_key (pair_key user name))) was.rows_are ∙ filter-map (λ r. not (has_key (pair_key user name) r)) (script_row user) was.entries
+      ∙ ap (map (script_row user)) (filter_same _ (λ e. not (is_named name e)) (λ e. ap not (pair_is user name e.0 (Blob e.1 ∷ []))) was.entries) in
       record {
         next_copy = s.next_copy;
         next_notice = s.next_notice;
         account_is = s.account_is;
-        scripts = left ++ (name, text) ∷ [];
-        script_rows = ap (λ l. l ++ script_cells user name text ∷ []) rows ∙ sym (map-append (script_row user) left ((name, text) ∷ []));
-        scripts_are = same_map nat_list_cmp_total bytes_antisymmetric _ _ (λ q.
-            ap (λ m. get (insert m name text) q) s.scripts_are ∙ get-insert nat_list_cmp_total (from_entries s.scripts) name text q
-            ∙ ap (cond (is_eq (bytes_cmp q name)) (Some text)) (get-from_entries nat_list_cmp_total s.scripts q)
-            ∙ sym (get-from_entries nat_list_cmp_total (left ++ (name, text) ∷ []) q ∙ find_replaced name text s.scripts q));
-        scripts_apart = ascending-append (λ x y. x.0 ≢ y.0) left ((name, text) ∷ []) (ascending-filter (λ x y. x.0 ≢ y.0) (λ e. not (is_named name e)) s.scripts s.scripts_apart) (tt, tt)
-            (all_weaker (λ e. e.0 ≢ name) (λ e. AllByRecursion (λ (y : List ℕ × List ℕ). e.0 ≢ y.0) ((name, text) ∷ [])) (λ e other. (other, tt)) left (left_apart name s.scripts));
-        copies = s.copies;
-        copy_rows = s.copy_rows;
-        folders_are = s.folders_are;
-        copies_numbered = s.copies_numbered;
-        queue_rows = s.queue_rows;
-        queue_numbered = s.queue_numbered;
+        scripts = record {
+          entries = left ++ (name, text) ∷ [];
+          rows_are = ap (λ l. l ++ script_cells user name text ∷ []) rows ∙ sym (map-append (script_row user) left ((name, text) ∷ []));
+          shown = same_map nat_list_cmp_total bytes_antisymmetric _ _ (λ q.
+              ap (λ m. get (insert m name text) q) was.shown ∙ get-insert nat_list_cmp_total (from_entries was.entries) name text q
+              ∙ ap (cond (is_eq (bytes_cmp q name)) (Some text)) (get-from_entries nat_list_cmp_total was.entries q)
+              ∙ sym (get-from_entries nat_list_cmp_total (left ++ (name, text) ∷ []) q ∙ find_replaced name text was.entries q));
+          apart = ascending-append (λ x y. x.0 ≢ y.0) left ((name, text) ∷ []) (ascending-filter (λ x y. x.0 ≢ y.0) (λ e. not (is_named name e)) was.entries was.apart) (tt, tt)
+              (all_weaker (λ e. e.0 ≢ name) (λ e. AllByRecursion (λ (y : List ℕ × List ℕ). e.0 ≢ y.0) ((name, text) ∷ [])) (λ e other. (other, tt)) left (left_apart name was.entries));
+        };
+        queue = s.queue;
         replies = s.replies;
-        reply_rows = s.reply_rows;
-        replies_are = s.replies_are;
-        replies_apart = s.replies_apart;
         notices = s.notices;
-        notice_rows = s.notice_rows;
-        notices_are = s.notices_are;
-        notices_numbered = s.notices_numbered;
+        copies = s.copies;
       }
 
-  pub active_put : (active : Option (List ℕ)) → IsShown user (set_in 2 (owner_key user) (with_active (or_null active)) own) (activates active a)
+  pub active_put : (active : Option (List ℕ)) → IsShown user (set_in account_tree (owner_key user) (with_active (or_null active)) own) (activates active a)
   active_put active = record {
     next_copy = s.next_copy;
     next_notice = s.next_notice;
     account_is = ap (update_where (has_key (owner_key user)) (with_active (or_null active))) s.account_is ∙ rw (equal_itself user) refl;
     scripts = s.scripts;
-    script_rows = s.script_rows;
-    scripts_are = s.scripts_are;
-    scripts_apart = s.scripts_apart;
-    copies = s.copies;
-    copy_rows = s.copy_rows;
-    folders_are = s.folders_are;
-    copies_numbered = s.copies_numbered;
-    queue_rows = s.queue_rows;
-    queue_numbered = s.queue_numbered;
+    queue = s.queue;
     replies = s.replies;
-    reply_rows = s.reply_rows;
-    replies_are = s.replies_are;
-    replies_apart = s.replies_apart;
     notices = s.notices;
-    notice_rows = s.notice_rows;
-    notices_are = s.notices_are;
-    notices_numbered = s.notices_numbered;
+    copies = s.copies;
   }
 
   -- the counter of copies goes up before they join
-  pub counter_put : (next : ℕ) → s.next_copy ≤ next → (t : IsShown user (set_in 2 (owner_key user) (with_next_copy (pos next)) own) a) × (t.next_copy ≡ next) × (t.copies ≡ s.copies)
+  pub counter_put : (next : ℕ) → s.next_copy ≤ next → (t : IsShown user (set_in account_tree (owner_key user) (with_next_copy (pos next)) own) a) × (t.next_copy ≡ next) × (t.copies.entries ≡ s.copies.entries)
   counter_put next up = (
     record {
       next_copy = next;
       next_notice = s.next_notice;
       account_is = ap (update_where (has_key (owner_key user)) (with_next_copy (pos next))) s.account_is ∙ rw (equal_itself user) refl;
       scripts = s.scripts;
-      script_rows = s.script_rows;
-      scripts_are = s.scripts_are;
-      scripts_apart = s.scripts_apart;
-      copies = s.copies;
-      copy_rows = s.copy_rows;
-      folders_are = s.folders_are;
-      copies_numbered = record {
-        rise = s.copies_numbered.rise;
-        from_one = s.copies_numbered.from_one;
-        below = all_weaker (λ n. n < s.next_copy) (λ n. n < next) (λ n h. omega arith) (map (λ c. c.n) s.copies) s.copies_numbered.below;
-        counter = let one = s.copies_numbered.counter in omega arith;
-      };
-      queue_rows = s.queue_rows;
-      queue_numbered = s.queue_numbered;
+      queue = s.queue;
       replies = s.replies;
-      reply_rows = s.reply_rows;
-      replies_are = s.replies_are;
-      replies_apart = s.replies_apart;
       notices = s.notices;
-      notice_rows = s.notice_rows;
-      notices_are = s.notices_are;
-      notices_numbered = s.notices_numbered;
+      copies = record {
+        entries = s.copies.entries;
+        numbered = numbered_up (λ c. c.n) (copy_row user) (own copy_tree) s.copies.entries s.next_copy next up s.copies.numbered;
+        shown = s.copies.shown;
+      };
     },
     refl,
     refl,
   )
 
-  abbrev numbers : List ℕ
-  numbers = map (λ c. c.n) s.copies
-
   -- a copy with a number above those that are there
-  pub copy_put : (name message : List ℕ) (n : ℕ) → AllByRecursion (λ m. m < n) numbers → 1 ≤ n → n < s.next_copy
-      → (t : IsShown user (added 6 (copy_cells user name (pos n) message) own) (record a { folders = filed a.folders name message })) × (t.next_copy ≡ s.next_copy) × (map (λ c. c.n) t.copies ≡ numbers ++ n ∷ [])
+  pub copy_put : (name message : List ℕ) (n : ℕ) → AllByRecursion (λ c. c.n < n) s.copies.entries → 1 ≤ n → n < s.next_copy
+      → (t : IsShown user (added copy_tree (copy_cells user name (pos n) message) own) (record a { folders = filed a.folders name message })) × (t.next_copy ≡ s.next_copy)
+      × (t.copies.entries ≡ s.copies.entries ++ record { folder = name; n = n; message = message } ∷ [])
   copy_put name message n above one low =
-      let c : Copy = record { folder = name; n = n; message = message } in
-      let joined : map (λ x. x.n) (s.copies ++ c ∷ []) ≡ numbers ++ n ∷ [] = map-append (λ x. x.n) s.copies (c ∷ []) in (
+      let c : Copy = record { folder = name; n = n; message = message } in (
         record {
           next_copy = s.next_copy;
           next_notice = s.next_notice;
           account_is = s.account_is;
           scripts = s.scripts;
-          script_rows = s.script_rows;
-          scripts_are = s.scripts_are;
-          scripts_apart = s.scripts_apart;
-          copies = s.copies ++ c ∷ [];
-          copy_rows = ap (λ l. l ++ copy_cells user name (pos n) message ∷ []) s.copy_rows ∙ sym (map-append (copy_row user) s.copies (c ∷ []));
-          folders_are = ap (λ m. filed m name message) s.folders_are ∙ sym (folded s.copies empty c);
-          copies_numbered = subst (λ l. AreNumbered l s.next_copy) (sym joined) (record {
-            rise = ascending-append (λ x y. x < y) numbers (n ∷ []) s.copies_numbered.rise (tt, tt) (all_weaker (λ m. m < n) (λ m. AllByRecursion (λ y. m < y) (n ∷ [])) (λ m h. (h, tt)) numbers above);
-            from_one = all-append _ numbers (n ∷ []) s.copies_numbered.from_one (one, tt);
-            below = all-append _ numbers (n ∷ []) s.copies_numbered.below (low, tt);
-            counter = s.copies_numbered.counter;
-          });
-          queue_rows = s.queue_rows;
-          queue_numbered = s.queue_numbered;
+          queue = s.queue;
           replies = s.replies;
-          reply_rows = s.reply_rows;
-          replies_are = s.replies_are;
-          replies_apart = s.replies_apart;
           notices = s.notices;
-          notice_rows = s.notice_rows;
-          notices_are = s.notices_are;
-          notices_numbered = s.notices_numbered;
+          copies = record {
+            entries = s.copies.entries ++ c ∷ [];
+            numbered = numbered_push (λ c. c.n) (copy_row user) (own copy_tree) s.copies.entries s.next_copy c above one low s.copies.numbered;
+            shown = ap (λ m. filed m name message) s.copies.shown ∙ sym (folded s.copies.entries empty c);
+          };
         },
         refl,
-        joined,
+        refl,
       )
     where
       folded : (cs : List Copy) (from : Folders) (c : Copy) → fold (λ folders copy. filed folders copy.folder copy.message) from (cs ++ c ∷ []) ≡ filed (fold (λ folders copy. filed folders copy.folder copy.message) from cs) c.folder c.message
       folded [] from c = refl
       folded (d ∷ cs) from c = folded cs (filed from d.folder d.message) c
 
-pub copies_put : (user message : List ℕ) (names : List (List ℕ)) (n : ℕ) (own : Tables) (a : Account) (s : IsShown user own a) → AllByRecursion (λ m. m < n) (map (λ c. c.n) s.copies) → 1 ≤ n → n + length names ≤ s.next_copy
+pub copies_put : (user message : List ℕ) (names : List (List ℕ)) (n : ℕ) (own : Tables) (a : Account) (s : IsShown user own a) → AllByRecursion (λ c. c.n < n) s.copies.entries → 1 ≤ n → n + length names ≤ s.next_copy
     → IsShown user (copied user message n names own) (files_copies names message a)
 copies_put user message [] n own a s above one fits = s
 copies_put user message (name ∷ names) n own a s above one fits =
     let first = copy_put user own a s name message n above one (omega arith) in
-    let higher = subst (AllByRecursion (λ m. m < suc n)) (sym first.2) (all-append (λ m. m < suc n) (map (λ c. c.n) s.copies) (n ∷ []) (all_weaker (λ m. m < n) (λ m. m < suc n) (λ m h. omega arith) _ above) (omega arith, tt)) in
+    let c : Copy = record { folder = name; n = n; message = message } in
+    let higher = subst (AllByRecursion (λ d. d.n < suc n)) (sym first.2) (all-append (λ d. d.n < suc n) s.copies.entries (c ∷ []) (all_weaker (λ d. d.n < n) (λ d. d.n < suc n) (λ d h. omega arith) _ above) (omega arith, tt)) in
     copies_put user message names (suc n) _ _ first.0 higher (omega arith) (omega (arith, first.1))
 
 -- from no rows to a new account
 pub account_put : (user address salt : List ℕ) (rounds : ℕ) (digest : List ℕ) (own : Tables) → IsAbsent own
-    → IsShown user (added 2 (account_cells user address salt rounds digest) own) (new_account address (record { salt = salt; rounds = rounds; digest = digest }))
+    → IsShown user (added account_tree (account_cells user address salt rounds digest) own) (new_account address (record { salt = salt; rounds = rounds; digest = digest }))
 account_put user address salt rounds digest own s = record {
   next_copy = 1;
   next_notice = 1;
   account_is = ap (λ l. l ++ account_cells user address salt rounds digest ∷ []) s.accounts;
-  scripts = [];
-  script_rows = s.scripts;
-  scripts_are = refl;
-  scripts_apart = tt;
-  copies = [];
-  copy_rows = s.copies;
-  folders_are = refl;
-  copies_numbered = first;
-  queue_rows = s.queue;
-  queue_numbered = first;
-  replies = [];
-  reply_rows = s.replies;
-  replies_are = refl;
-  replies_apart = tt;
-  notices = [];
-  notice_rows = s.notices;
-  notices_are = refl;
-  notices_numbered = first;
+  scripts = record { entries = []; rows_are = s.scripts; shown = refl; apart = tt };
+  queue = numbered_none (λ q. q.id) (queue_row user) (own outgoing_tree) s.queue;
+  replies = record { entries = []; rows_are = s.replies; shown = refl; apart = tt };
+  notices = record { entries = []; numbered = numbered_none (λ e. e.0) (notice_row user) (own notice_tree) s.notices; shown = refl };
+  copies = record { entries = []; numbered = numbered_none (λ c. c.n) (copy_row user) (own copy_tree) s.copies; shown = refl };
 }
-  where
-    first : AreNumbered [] 1
-    first = record { rise = tt; from_one = tt; below = tt; counter = omega arith }

@@ -14,7 +14,7 @@ use Rattle.mailstore.specs.Cells.{contents}
 use Rattle.mailstore.specs.Changes.{made, MayHave, AreOf}
 use Rattle.mailstore.specs.Account.{Account, Accounts, with_user, in_place, new_account, keeps_script, activates}
 use Rattle.mailstore.specs.Shows.{rows_of, IsShown, IsShownOrAbsent, ShowsAccounts}
-use Rattle.mailstore.specs.Calls.{HasUser, IsFree, Turns, MayShow}
+use Rattle.mailstore.specs.Promises.{HasUser, IsFree, Turns, MayShow}
 use Rattle.mailstore.proofs.ShowLemmas.{shows_after}
 use Rattle.mailstore.proofs.AccountLemmas.{script_put, active_put, account_put}
 

@@ -26,9 +26,10 @@ use Rattle.sqlrows.proofs.StepLemmas.{went, same_value}
 use Rattle.std.specs.FinMap.{get-empty}
 use Rattle.sqlrows.specs.Rows.{Tables, added}
 use Rattle.mailstore.specs.Schema.{no_schema, mail_schema}
-use Rattle.mailstore.specs.Words.{no_rows, Makes, MakesTable}
+use Rattle.mailstore.specs.Connection.{no_rows, Makes, MakesTable}
 use Rattle.mailstore.specs.Account.{bytes_cmp, no_accounts}
-use Rattle.mailstore.specs.Shows.{version_row, rows_of, IsAbsent, IsShownOrAbsent, ShowsAccounts, Presents, MayCreate}
+use Rattle.mailstore.specs.MetaTable.{version_row, meta_tree}
+use Rattle.mailstore.specs.Shows.{rows_of, IsAbsent, IsShownOrAbsent, ShowsAccounts, Presents, MayCreate}
 use Rattle.mailstore.proofs.WriteLemmas.{clean_before}
 
 no_entries : (rows : List Row) → IsHeld rows [] → rows ≡ []
@@ -73,10 +74,10 @@ module _ (schema : Schema) (sql : List ℕ) (table : Table) (defined : table_def
   table_made old new (Ok count) ran = (inside_keeps old new 0 false sql [] (Ok count) ran, (creates old new count ran.0, ran.1))
 
 -- the tables without a user, and with the row of their version
-pub shows_nobody : ShowsAccounts (added 0 version_row no_rows) no_accounts
-shows_nobody = record { version = refl; users = λ user. subst (IsShownOrAbsent user (rows_of user (added 0 version_row no_rows))) (sym (get-empty bytes_cmp user)) (absent user) }
+pub shows_nobody : ShowsAccounts (added meta_tree version_row no_rows) no_accounts
+shows_nobody = record { version = refl; users = λ user. subst (IsShownOrAbsent user (rows_of user (added meta_tree version_row no_rows))) (sym (get-empty bytes_cmp user)) (absent user) }
   where
-    absent : (user : List ℕ) → IsAbsent (rows_of user (added 0 version_row no_rows))
+    absent : (user : List ℕ) → IsAbsent (rows_of user (added meta_tree version_row no_rows))
     absent user = record { accounts = refl; scripts = refl; copies = refl; queue = refl; replies = refl; notices = refl }
 
 -- an empty database holds no rows
@@ -100,12 +101,12 @@ then_makes {X} {Y} a b c s t u r x q ok survives one two clean inside = go q (tw
 
 -- all tables and the row of the version
 pub all_ready : {X Y : Type 0} (old two three : State) (r : Result X Error) (x : X) (q : Result Y Error) (y : Y) → r ≡ Ok x → q ≡ Ok y → IsTrue old.in_transaction → Survives two three (λ _. ⊥)
-    → MakesTable old two r no_schema mail_schema → Makes two three q (added 0 version_row) → HasCleanDisk three → old.now.schema ≡ no_schema → Presents three.now no_accounts
+    → MakesTable old two r no_schema mail_schema → Makes two three q (added meta_tree version_row) → HasCleanDisk three → old.now.schema ≡ no_schema → Presents three.now no_accounts
 all_ready old two three r x q y rok qok inside s1 tables version late blank =
     let early = clean_before two three (λ _. ⊥) s1 late in
     let first = subst (λ o. OnOk o ((Holds no_schema old.now no_rows → Holds mail_schema two.now no_rows) × Shows old two two.now old.committed true)) rok (tables early inside).1 in
-    let second = subst (λ o. OnOk o (((all : Tables) → Holds mail_schema two.now all → Holds mail_schema three.now (added 0 version_row all)) × Shows two three three.now two.committed true)) qok (version late first.1.mode).1 in
-    (added 0 version_row no_rows, second.0 no_rows (first.0 (starts_empty old.now blank)), shows_nobody)
+    let second = subst (λ o. OnOk o (((all : Tables) → Holds mail_schema two.now all → Holds mail_schema three.now (added meta_tree version_row all)) × Shows two three three.now two.committed true)) qok (version late first.1.mode).1 in
+    (added meta_tree version_row no_rows, second.0 no_rows (first.0 (starts_empty old.now blank)), shows_nobody)
 
 -- and the commit
 pub all_made : {Z : Type 0} (old three new : State) (done : Result Z Error) (P Q : Type 0) (R : Trees → Type 0) → (HasCleanDisk three → old.now.schema ≡ no_schema → Presents three.now no_accounts) → Survives three new R

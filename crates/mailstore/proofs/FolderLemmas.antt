@@ -5,7 +5,7 @@ use Rattle.std.specs.FinMap.{get, entries}
 use Rattle.std.specs.Ordering.{ordering_reverse}
 use Rattle.std.proofs.lemmas.Cmp.{nat_list_cmp_total}
 use Rattle.std.proofs.lemmas.List.Elements.{recursion_from_All, All-from_recursion}
-use Rattle.std.proofs.lemmas.List.Sorted.{sorted_far, ranks_by, All-permutation, IsPermutation-map}
+use Rattle.std.proofs.lemmas.List.Sorted.{sorted_far, ranks_by, All-permutation, IsPermutation-map, IsPermutation-trans}
 use Rattle.sqlite_value.specs.declared.value.Value.TheVariants.{Blob}
 use Rattle.sqlite_value.specs.declared.keys.Collation.TheVariants.{Binary}
 use Rattle.sqlite_value.specs.Keys.{ascending}
@@ -23,13 +23,14 @@ use Rattle.sqlrows.specs.Rows.{has_key}
 use Rattle.sqlrows.proofs.AnswerLemmas.{cells_in_order}
 use Rattle.sqlrows.proofs.ReadLemmas.{answered}
 use Rattle.sqlrows.proofs.ListLemmas.{owner_key}
-use Rattle.mailstore.specs.Schema.{mail_schema, copy}
-use Rattle.mailstore.specs.Statements.{select_folders}
+use Rattle.mailstore.specs.Schema.{mail_schema}
 use Rattle.mailstore.specs.Account.{bytes_cmp, Account, Accounts}
-use Rattle.mailstore.specs.Shows.{Copy, rows_of, copy_row, IsShown, IsShownOrAbsent, Presents}
-use Rattle.mailstore.specs.Tally.{tallied, count_of, size_of, AreFolders}
+use Rattle.mailstore.specs.CopyTable.{copy, select_folders, Copy, copy_row, copy_tree}
+use Rattle.mailstore.specs.Shows.{rows_of, IsShown, IsShownOrAbsent, Presents}
+use Rattle.mailstore.specs.Tally.{tallied, count_of, size_of, AreFolders, AreFolderRows}
 use Rattle.mailstore.proofs.TextFacts.{by_one, select_folders_is, select_folders_plain}
 use Rattle.mailstore.proofs.TallyLemmas.{InOrder, tally_is}
+use Rattle.mailstore.proofs.SchemaFacts.{copy_listed}
 
 each_at : {X : Type 0} (P : X → Type 0) (ys : List X) → ((j : ℕ) (d : X) → j < length ys → P (get_or ys j d)) → AllByRecursion P ys
 each_at P [] h = tt
@@ -40,7 +41,7 @@ ascending_at R [] h = tt
 ascending_at R (x ∷ xs) h = (each_at (R x) xs (λ j d low. h 0 (suc j) d (omega arith) (omega arith)), ascending_at R xs (λ i j d p q. h (suc i) (suc j) d (omega arith) (omega arith)))
 
 abbrev by_folder : Query
-by_folder = (over 6 by_one (col 1 2 ∷ []) ((col 1 2, ascending Binary) ∷ [])).body
+by_folder = (over copy_tree by_one (col 1 2 ∷ []) ((col 1 2, ascending Binary) ∷ [])).body
 
 abbrev folder_output : List ℕ → Output
 folder_output n = (Blob n ∷ [], Blob n ∷ [])
@@ -66,27 +67,29 @@ shown_again [] h = refl
 shown_again (o ∷ outs) h = ap₂ ◌∷◌ h.0 (shown_again outs h.1)
 
 module _ (old new : State) (rows : List Row) (accounts : Accounts) (p : Presents old.now accounts) (user : List ℕ) where
-  pub folders_read : Shown select_folders (owner_key user) old new rows → IfSome (get accounts user) (λ a. (names : List (List ℕ)) × (rows ≡ map (λ n. Blob n ∷ []) names) × AreFolders (tallied names) a)
+  pub folders_read : Shown select_folders (owner_key user) old new rows → IfSome (get accounts user) (AreFolderRows rows)
   folders_read shown = go (get accounts user) (p.2.users user)
     where
-      at : (a : Account) → IsShown user (rows_of user p.0) a → (names : List (List ℕ)) × (rows ≡ map (λ n. Blob n ∷ []) names) × AreFolders (tallied names) a
+      at : (a : Account) → IsShown user (rows_of user p.0) a → AreFolderRows rows a
       at a s =
           let mine = has_key (owner_key user) in
-          let listed = map (λ (c : Copy). c.folder) s.copies in
+          let listed = map (λ (c : Copy). c.folder) s.copies.entries in
           let show = λ (cells : Row). let o : Output = (column cells 1 ∷ [], column cells 1 ∷ []) in o in
-          let found = cells_in_order old.now.trees 6 by_one (col 1 2 ∷ []) ((col 1 2, ascending Binary) ∷ []) (owner_key user) (p.0 6) (p.1.each copy (inr (inr (inr (inl refl))))) mine (λ n cells. refl) show (λ n cells. refl) rows
-          (answered mail_schema select_folders (owner_key user) old new p.1.is select_folders_plain.0 6 by_one (col 1 2 ∷ []) _ _ select_folders_is select_folders_plain.1 rows shown) in
-          let outs : map show (filter mine (p.0 6)) ≡ map folder_output listed = ap (map show) s.copy_rows ∙ map-map show (copy_row user) s.copies ∙ sym (map-map folder_output (λ (c : Copy). c.folder) s.copies) in
-          let same = subst (λ l. IsPermutation l found.0) outs found.1 in
+          let found = cells_in_order old.now.trees copy_tree by_one (col 1 2 ∷ []) ((col 1 2, ascending Binary) ∷ []) (owner_key user) (p.0 copy_tree) (p.1.each copy copy_listed) mine (λ n cells. refl) show (λ n cells. refl) rows
+          (answered mail_schema select_folders (owner_key user) old new p.1.is select_folders_plain.0 copy_tree by_one (col 1 2 ∷ []) _ _ select_folders_is select_folders_plain.1 rows shown) in
+          let again : map show (map (copy_row user) s.copies.entries) ≡ map folder_output listed = map-map show (copy_row user) s.copies.entries ∙ sym (map-map folder_output (λ (c : Copy). c.folder) s.copies.entries) in
+          let outs : IsPermutation (map folder_output listed) (map show (filter mine (p.0 copy_tree))) =
+          subst (λ l. IsPermutation l (map show (filter mine (p.0 copy_tree)))) again (IsPermutation-map show _ _ s.copies.numbered.rows_are) in
+          let same = IsPermutation-trans _ _ _ outs found.1 in
           let image = All-permutation (λ o. o ≡ folder_output (folder_in o)) (map folder_output listed) found.0 same (All-from_recursion (λ o. o ≡ folder_output (folder_in o)) (map folder_output listed) (all-map _ folder_output (λ n. refl) listed)) in
           let names = map folder_in found.0 in
-          let again = shown_again found.0 (recursion_from_All (λ o. o ≡ folder_output (folder_in o)) found.0 image) in
+          let image_again = shown_again found.0 (recursion_from_All (λ o. o ≡ folder_output (folder_in o)) found.0 image) in
           let permuted = subst (λ l. IsPermutation l names) (map_back folder_output folder_in (λ n. refl) listed) (IsPermutation-map folder_in _ _ same) in (
             names,
-            found.3 ∙ ap (map (λ (o : Output). o.1)) again ∙ map-map (λ (o : Output). o.1) folder_output names,
-            subst (λ m. map count_of (tallied names) ≡ map size_of (entries m)) (sym s.folders_are) (tally_is s.copies names permuted (names_in_order found.0 names again found.2)),
+            found.3 ∙ ap (map (λ (o : Output). o.1)) image_again ∙ map-map (λ (o : Output). o.1) folder_output names,
+            subst (λ m. map count_of (tallied names) ≡ map size_of (entries m)) (sym s.copies.shown) (tally_is s.copies.entries names permuted (names_in_order found.0 names image_again found.2)),
           )
 
-      go : (o : Option Account) → IsShownOrAbsent user (rows_of user p.0) o → IfSome o (λ a. (names : List (List ℕ)) × (rows ≡ map (λ n. Blob n ∷ []) names) × AreFolders (tallied names) a)
+      go : (o : Option Account) → IsShownOrAbsent user (rows_of user p.0) o → IfSome o (AreFolderRows rows)
       go None h = tt
       go (Some a) h = at a h

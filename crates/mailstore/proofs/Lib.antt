@@ -11,9 +11,11 @@ pub mod QueryLemmas
 pub mod DeliveryLemmas
 pub mod OrderLemmas
 pub mod ReadLemmas
-pub mod ChainLemmas
+pub mod KeepLemmas
+pub mod DecodeLemmas
 pub mod TallyLemmas
 pub mod FolderLemmas
+pub mod NumberLemmas
 pub mod OneLemmas
 pub mod SchemaLemmas
 pub mod OpenLemmas

@@ -4,16 +4,25 @@ use Rattle.std.specs.FinMap.{get, from_entries, same_map}
 use Rattle.std.proofs.lemmas.Cmp.{nat_list_cmp_total}
 use Rattle.sqlite_value.specs.declared.value.Value.{Value}
 use Rattle.sqlite_value.specs.declared.value.Value.TheVariants.{Null, Int, Blob}
-use Rattle.sqlite_value.specs.Order.{Row}
+use Rattle.sqlite_value.specs.Order.{Row, bytes, column}
 use Rattle.sqlite_schema.specs.declared.schema.Table.{Table}
 use Rattle.sqlite_rules.specs.Lists.{Has}
 use Rattle.sqlite.specs.Effect.{Database}
 use Rattle.sqlrows.specs.Rows.{Entry, cells_of, stored, IsHeld, Tables, Holds, has_key}
-use Rattle.mailstore.specs.Schema.{account, script, copy, outgoing, reply, notice, mail_schema}
+use Rattle.mailstore.specs.Schema.{mail_schema}
 use Rattle.mailstore.specs.Cells.{or_null}
 use Rattle.mailstore.specs.Account.{bytes_cmp, Password, Queued, Noted, Account, Accounts}
-use Rattle.mailstore.specs.Shows.{rows_of, Copy, script_row, copy_row, queue_row, reply_row, notice_row, folders_from, IsShown, IsAbsent, IsShownOrAbsent, Presents}
+use Rattle.mailstore.specs.AccountTable.{account, account_tree}
+use Rattle.mailstore.specs.ScriptTable.{script, script_row, script_tree}
+use Rattle.mailstore.specs.QueueTable.{outgoing, queue_row, outgoing_tree}
+use Rattle.mailstore.specs.ReplyTable.{reply, reply_row, reply_tree}
+use Rattle.mailstore.specs.NoticeTable.{notice, notice_row, notice_tree}
+use Rattle.mailstore.specs.CopyTable.{copy, Copy, copy_row, folders_from, copy_tree, folder_column, message_column, n_column}
+use Rattle.mailstore.specs.Shows.{rows_of, IsShown, IsAbsent, IsShownOrAbsent, Presents}
 use Rattle.mailstore.proofs.AccountLemmas.{bytes_antisymmetric}
+use Rattle.mailstore.proofs.SchemaFacts.{account_listed, copy_listed, notice_listed, outgoing_listed, reply_listed, script_listed}
+use Rattle.std.proofs.Math.IntN.{nat_abs}
+use Rattle.mailstore.proofs.NumberLemmas.{numbered_one}
 
 map_one : {X Y : Type 0} (f : X → Y) → ((x y : X) → f x ≡ f y → x ≡ y) → (xs ys : List X) → map f xs ≡ map f ys → xs ≡ ys
 map_one f one [] [] e = refl
@@ -39,21 +48,21 @@ held_one rows a b h k = h.cells_are ∙ ap (map cells_of) (map_one stored stored
 
 -- the rows are the same in each table that has owners, and in that of accounts
 record AreAlike (a b : Tables) : Type 0 where
-  accounts : a 2 ≡ b 2
-  scripts : a 4 ≡ b 4
-  copies : a 6 ≡ b 6
-  queue : a 8 ≡ b 8
-  replies : a 10 ≡ b 10
-  notices : a 12 ≡ b 12
+  accounts : a account_tree ≡ b account_tree
+  scripts : a script_tree ≡ b script_tree
+  copies : a copy_tree ≡ b copy_tree
+  queue : a outgoing_tree ≡ b outgoing_tree
+  replies : a reply_tree ≡ b reply_tree
+  notices : a notice_tree ≡ b notice_tree
 
 tables_one : (db : Database) (a b : Tables) → Holds mail_schema db a → Holds mail_schema db b → AreAlike a b
 tables_one db a b h k = record {
-  accounts = both account (inr (inl refl));
-  scripts = both script (inr (inr (inl refl)));
-  copies = both copy (inr (inr (inr (inl refl))));
-  queue = both outgoing (inr (inr (inr (inr (inl refl)))));
-  replies = both reply (inr (inr (inr (inr (inr (inl refl))))));
-  notices = both notice (inr (inr (inr (inr (inr (inr (inl refl)))))));
+  accounts = both account account_listed;
+  scripts = both script script_listed;
+  copies = both copy copy_listed;
+  queue = both outgoing outgoing_listed;
+  replies = both reply reply_listed;
+  notices = both notice notice_listed;
 }
   where
     both : (t : Table) → Has mail_schema.tables t → a t.tree ≡ b t.tree
@@ -74,7 +83,7 @@ own_alike user a b same = record {
 
 -- ---- what one row tells
 
-or_null_one : (x y : Option (List ℕ)) → or_null x ≡ or_null y → x ≡ y
+pub or_null_one : (x y : Option (List ℕ)) → or_null x ≡ or_null y → x ≡ y
 or_null_one None None e = refl
 or_null_one None (Some n) e = absurd (let no : Null ≡ Blob n = e in cc)
 or_null_one (Some m) None e = absurd (let no : Blob m ≡ Null = e in cc)
@@ -86,21 +95,38 @@ script_one user x y e =
     let text : x.1 ≡ y.1 = cc in
     λ i. (name i, text i)
 
-copy_one : (user : List ℕ) (x y : Copy) → copy_row user x ≡ copy_row user y → x ≡ y
-copy_one user x y e =
-    let folder : x.folder ≡ y.folder = cc in
-    let n : x.n ≡ y.n = cc in
-    let message : x.message ≡ y.message = cc in
-    λ i. record { folder = folder i; n = n i; message = message i }
+-- what a row of a numbered table tells of its entry
+int_in : Value → ℤ
+int_in (Int n) = n
+int_in other = pos 0
 
-queue_one : (user : List ℕ) (x y : Queued) → queue_row user x ≡ queue_row user y → x ≡ y
-queue_one user x y e =
-    let id : x.id ≡ y.id = cc in
-    let kind : x.kind ≡ y.kind = cc in
-    let sender : x.sender ≡ y.sender = cc in
-    let target : x.target ≡ y.target = cc in
-    let message : x.message ≡ y.message = cc in
-    λ i. record { id = id i; kind = kind i; sender = sender i; target = target i; message = message i }
+number_in : Row → ℕ → ℕ
+unfolding int_in
+number_in row place = nat_abs (int_in (column row place))
+
+copy_in : Row → Copy
+unfolding number_in
+copy_in row = record { folder = bytes (column row folder_column); n = number_in row n_column; message = bytes (column row message_column) }
+
+copy_back : (user : List ℕ) (c : Copy) → copy_in (copy_row user c) ≡ c
+unfolding copy_in
+copy_back user c = refl
+
+queued_in : Row → Queued
+unfolding number_in
+queued_in row = record { id = number_in row 1; kind = number_in row 2; sender = bytes (column row 3); target = bytes (column row 4); message = bytes (column row 5) }
+
+queued_back : (user : List ℕ) (q : Queued) → queued_in (queue_row user q) ≡ q
+unfolding queued_in
+queued_back user q = refl
+
+notice_in : Row → ℕ × Noted
+unfolding number_in
+notice_in row = (number_in row 1, record { moment = number_in row 2; text = bytes (column row 3) })
+
+notice_back : (user : List ℕ) (e : ℕ × Noted) → notice_in (notice_row user e) ≡ e
+unfolding notice_in
+notice_back user e = refl
 
 reply_one : (user : List ℕ) (x y : (List ℕ × List ℕ) × ℕ) → reply_row user x ≡ reply_row user y → x ≡ y
 reply_one user x y e =
@@ -109,19 +135,12 @@ reply_one user x y e =
     let moment : x.1 ≡ y.1 = cc in
     λ i. ((handle i, sender i), moment i)
 
-notice_one : (user : List ℕ) (x y : ℕ × Noted) → notice_row user x ≡ notice_row user y → x ≡ y
-notice_one user x y e =
-    let id : x.0 ≡ y.0 = cc in
-    let moment : x.1.moment ≡ y.1.moment = cc in
-    let text : x.1.text ≡ y.1.text = cc in
-    λ i. (id i, record { moment = moment i; text = text i })
-
 -- ---- one account
 
 module _ (user : List ℕ) (own other : Tables) (alike : AreAlike own other) where
   account_one : (a b : Account) → IsShown user own a → IsShown user other b → a ≡ b
   account_one a b s t =
-      let row : own 2 ≡ other 2 = alike.accounts in
+      let row : own account_tree ≡ other account_tree = alike.accounts in
       let one = sym s.account_is ∙ row ∙ t.account_is in
       let address : a.address ≡ b.address = cc in
       let salt : a.password.salt ≡ b.password.salt = cc in
@@ -130,11 +149,15 @@ module _ (user : List ℕ) (own other : Tables) (alike : AreAlike own other) whe
       let null : or_null a.active ≡ or_null b.active = cc in
       let active : a.active ≡ b.active = or_null_one a.active b.active null in
       let next_out : a.next_out ≡ b.next_out = cc in
-      let scripts : a.scripts ≡ b.scripts = s.scripts_are ∙ ap from_entries (map_one (script_row user) (script_one user) s.scripts t.scripts (sym s.script_rows ∙ alike.scripts ∙ t.script_rows)) ∙ sym t.scripts_are in
-      let folders : a.folders ≡ b.folders = s.folders_are ∙ ap folders_from (map_one (copy_row user) (copy_one user) s.copies t.copies (sym s.copy_rows ∙ alike.copies ∙ t.copy_rows)) ∙ sym t.folders_are in
-      let queue : a.queue ≡ b.queue = map_one (queue_row user) (queue_one user) a.queue b.queue (sym s.queue_rows ∙ alike.queue ∙ t.queue_rows) in
-      let replies : a.replies ≡ b.replies = s.replies_are ∙ ap from_entries (map_one (reply_row user) (reply_one user) s.replies t.replies (sym s.reply_rows ∙ alike.replies ∙ t.reply_rows)) ∙ sym t.replies_are in
-      let notices : a.notices ≡ b.notices = s.notices_are ∙ ap (map (λ n. n.1)) (map_one (notice_row user) (notice_one user) s.notices t.notices (sym s.notice_rows ∙ alike.notices ∙ t.notice_rows)) ∙ sym t.notices_are in
+      let scripts : a.scripts ≡ b.scripts =
+      s.scripts.shown ∙ ap from_entries (map_one (script_row user) (script_one user) s.scripts.entries t.scripts.entries (sym s.scripts.rows_are ∙ alike.scripts ∙ t.scripts.rows_are)) ∙ sym t.scripts.shown in
+      let copies = numbered_one (λ c. c.n) (copy_row user) copy_in (copy_back user) _ _ alike.copies s.copies.entries t.copies.entries _ _ s.copies.numbered t.copies.numbered in
+      let folders : a.folders ≡ b.folders = s.copies.shown ∙ ap folders_from copies ∙ sym t.copies.shown in
+      let queue : a.queue ≡ b.queue = numbered_one (λ q. q.id) (queue_row user) queued_in (queued_back user) _ _ alike.queue a.queue b.queue _ _ s.queue t.queue in
+      let replies : a.replies ≡ b.replies =
+      s.replies.shown ∙ ap from_entries (map_one (reply_row user) (reply_one user) s.replies.entries t.replies.entries (sym s.replies.rows_are ∙ alike.replies ∙ t.replies.rows_are)) ∙ sym t.replies.shown in
+      let told = numbered_one (λ e. e.0) (notice_row user) notice_in (notice_back user) _ _ alike.notices s.notices.entries t.notices.entries _ _ s.notices.numbered t.notices.numbered in
+      let notices : a.notices ≡ b.notices = s.notices.shown ∙ ap (map (λ e. e.1)) told ∙ sym t.notices.shown in
       λ i. record {
         address = address i;
         password = record { salt = salt i; rounds = rounds i; digest = digest i };

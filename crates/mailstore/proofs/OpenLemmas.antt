@@ -16,19 +16,22 @@ use Rattle.sqlite_schema.specs.Rules.{equal, Fits}
 use Rattle.sqlite.specs.Effect.{Database}
 use Rattle.sqlite.specs.Listing.{understood}
 use Rattle.sqlite.specs.declared.error.Error.{Error}
-use Rattle.sqlite.specs.State.{State, HasCleanDisk, Shown, FailsToQuery}
+use Rattle.sqlite.specs.State.{State, HasCleanDisk, Survives, CommitsShowing, Shown, FailsToQuery}
 use Rattle.sqlite_keyed.proofs.ListLemmas.{map-map}
 use Rattle.sqlite.proofs.Callers.{IsPlain, one_permutation}
 use Rattle.sqlrows.specs.Forms.{over}
 use Rattle.sqlrows.specs.Rows.{Entry, id_of, cells_of, stored, IsHeld, Holds, has_key_from}
-use Rattle.sqlrows.proofs.ReadLemmas.{shown_same, fails_same, answered}
-use Rattle.mailstore.specs.Schema.{mail_schema, meta}
-use Rattle.mailstore.specs.Statements.{select_version}
-use Rattle.mailstore.specs.Words.{StaysSame, SeesCommit}
+use Rattle.sqlrows.proofs.ReadLemmas.{shown_same, fails_same, answered, quiet}
+use Rattle.mailstore.specs.Schema.{mail_schema}
+use Rattle.mailstore.specs.Connection.{StaysSame, SeesCommit}
 use Rattle.mailstore.specs.Account.{Accounts}
-use Rattle.mailstore.specs.Shows.{version_key, version_row, version_rows, SaysOne, IsOurs, ShowsIn, Presents}
+use Rattle.mailstore.specs.MetaTable.{meta, select_version, version_key, version_row, version_rows, SaysOne, meta_tree, stored_value_column, AreVersions}
+use Rattle.mailstore.specs.Shows.{IsOurs, ShowsIn, Presents}
 use Rattle.mailstore.proofs.TextFacts.{by_one, select_version_is, select_version_plain}
 use Rattle.mailstore.proofs.QueryLemmas.{same_unchanged, same_undone}
+use Rattle.mailstore.proofs.SchemaFacts.{meta_listed}
+use Rattle.mailstore.specs.Promises.{Asks}
+use Rattle.mailstore.proofs.ResultLemmas.{on_any, on_ok}
 
 -- a query whose text is plain, where the tables are ours
 module _ (sql : List ℕ) (params : Row) (old new : State) (ours : old.now.schema ≡ mail_schema) (plain : IsPlain (understood mail_schema sql)) where
@@ -44,7 +47,7 @@ module _ (sql : List ℕ) (params : Row) (old new : State) (ours : old.now.schem
   sees_commit (Err e) settled ok clean = tt
 
 abbrev asked : Query
-asked = (over 0 by_one (col 1 2 ∷ []) []).body
+asked = (over meta_tree by_one (col 1 2 ∷ []) []).body
 
 abbrev slots : Row → Env
 slots row = version_key ∷ row ∷ []
@@ -57,26 +60,26 @@ matches_are (r ∷ rows) =
     [ true ↦ refl | false ↦ refl ])
 
 -- the numbers that the query shows are those of the rows of the version
-numbers_are : (trees : Trees) (rows : List Row) → IsAnswer asked (overlay trees []) version_key rows → IsPermutation (map (λ r. column r 2 ∷ []) (version_rows trees)) rows
+numbers_are : (trees : Trees) (rows : List Row) → IsAnswer asked (overlay trees []) version_key rows → IsPermutation (map (λ r. column r stored_value_column ∷ []) (version_rows trees)) rows
 numbers_are trees rows a =
-    let kept : a.kept ≡ map (output asked) (map slots (version_rows trees)) = a.distinct ∙ ap (map (output asked)) (a.grouped ∙ matches_are (trees 0)) in
-    let shown : map (λ (o : Output). o.1) a.kept ≡ map (λ r. column r 2 ∷ []) (version_rows trees) =
+    let kept : a.kept ≡ map (output asked) (map slots (version_rows trees)) = a.distinct ∙ ap (map (output asked)) (a.grouped ∙ matches_are (trees meta_tree)) in
+    let shown : map (λ (o : Output). o.1) a.kept ≡ map (λ r. column r stored_value_column ∷ []) (version_rows trees) =
     ap (map (λ (o : Output). o.1)) kept ∙ map-map (λ (o : Output). o.1) (output asked) (map slots (version_rows trees)) ∙ map-map _ slots (version_rows trees) in
     subst (λ l. IsPermutation l rows) shown (subst (λ l. IsPermutation (map (λ (o : Output). o.1) a.kept) l) (sym a.shown) (IsPermutation-map (λ (o : Output). o.1) a.kept a.ordered a.same))
 
-pub version_found : (old new : State) (rows : List Row) → old.now.schema ≡ mail_schema → Shown select_version version_key old new rows → IsPermutation (map (λ r. column r 2 ∷ []) (version_rows old.now.trees)) rows
+pub version_found : (old new : State) (rows : List Row) → old.now.schema ≡ mail_schema → Shown select_version version_key old new rows → IsPermutation (map (λ r. column r stored_value_column ∷ []) (version_rows old.now.trees)) rows
 version_found old new rows ours shown =
-    numbers_are old.now.trees rows (answered mail_schema select_version version_key old new ours select_version_plain.0 0 by_one (col 1 2 ∷ []) [] _ select_version_is select_version_plain.1 rows shown)
+    numbers_are old.now.trees rows (answered mail_schema select_version version_key old new ours select_version_plain.0 meta_tree by_one (col 1 2 ∷ []) [] _ select_version_is select_version_plain.1 rows shown)
 
-says_ours : (db : Database) (rows found : List Row) → db.schema ≡ mail_schema → version_rows db.trees ≡ found → IsPermutation (map (λ r. column r 2 ∷ []) found) rows → SaysOne rows ↔ IsOurs db
+says_ours : (db : Database) (rows found : List Row) → db.schema ≡ mail_schema → version_rows db.trees ≡ found → IsPermutation (map (λ r. column r stored_value_column ∷ []) found) rows → SaysOne rows ↔ IsOurs db
 says_ours db rows [] ours are same = (
   λ one. absurd (let none = length_permutation _ _ (subst (IsPermutation []) one.1 same) in omega (arith, none)),
   λ h. absurd (let none = sym are ∙ h.only in cc),
 )
 says_ours db rows (r ∷ []) ours are same =
-    let alone = one_permutation (column r 2 ∷ []) rows same in (
+    let alone = one_permutation (column r stored_value_column ∷ []) rows same in (
       λ one. record { schema = ours; row = r; only = are; says = ap (λ l. column (first_of l) 0) (sym alone ∙ one.1) ∙ one.2 },
-      λ h. (column r 2 ∷ [], alone, ap (λ l. column (first_of l) 2) (sym are ∙ h.only) ∙ h.says),
+      λ h. (column r stored_value_column ∷ [], alone, ap (λ l. column (first_of l) stored_value_column) (sym are ∙ h.only) ∙ h.says),
     )
   where
     first_of : List Row → Row
@@ -91,10 +94,43 @@ pub row_says : (rows : List Row) (row : Row) → rows ≡ row ∷ [] → (r : Re
 row_says rows row are (Err e) said = tt
 row_says rows row are (Ok is) said = (λ e. (row, are, said.0 e), λ h. let same : row ∷ [] ≡ h.0 ∷ [] = sym are ∙ h.1 in let one : row ≡ h.0 = cc in said.1 (ap (λ (x : Row). column x 0) one ∙ h.2))
 
-pub version_says : (db : Database) (rows : List Row) → db.schema ≡ mail_schema → IsPermutation (map (λ r. column r 2 ∷ []) (version_rows db.trees)) rows → (r : Result Bool Error) → IfOk r (λ is. IsTrue is ↔ SaysOne rows)
+pub version_says : (db : Database) (rows : List Row) → db.schema ≡ mail_schema → IsPermutation (map (λ r. column r stored_value_column ∷ []) (version_rows db.trees)) rows → (r : Result Bool Error) → IfOk r (λ is. IsTrue is ↔ SaysOne rows)
     → IfOk r (λ is. IsTrue is ↔ IsOurs db)
 version_says db rows ours same (Err e) said = tt
 version_says db rows ours same (Ok is) said = let both = says_ours db rows _ ours refl same in (λ e. both.0 (said.0 e), λ h. said.1 (both.1 h))
+
+-- the query for the version
+pub asks_version : (old new : State) (r : Result (Vec Row Global) Error) → (IsTrue old.is_open → old.now ≡ old.committed) → (HasCleanDisk new → IfOk r (λ rows. Shown select_version version_key old new rows.items))
+    → (HasCleanDisk new → IfErr r (FailsToQuery select_version version_key old new)) → Survives old new (CommitsShowing select_version version_key old) → Asks (AreVersions old.now.trees) old new r
+asks_version old new r settled ok err survives = record {
+  found = λ ours clean. found r ours (ok clean);
+  same = λ ours. keeps_same select_version version_key old new ours select_version_plain.0 r settled ok err;
+  live = λ ours. sees_commit select_version version_key old new ours select_version_plain.0 r settled ok;
+  crash = λ ours. quiet mail_schema select_version version_key old new ours select_version_plain.0 survives;
+}
+  where
+    found : (o : Result (Vec Row Global) Error) → old.now.schema ≡ mail_schema → IfOk o (λ rows. Shown select_version version_key old new rows.items) → IfOk o (AreVersions old.now.trees)
+    found (Err e) ours shown = tt
+    found (Ok rows) ours shown = version_found old new rows.items ours shown
+
+-- with a refusal as the answer
+pub asks_refused : {X Y E F : Type 0} {P : X → Type 0} {Q : Y → Type 0} (old new : State) (r : Result X E) (e : F) (q : Result Y F) → q ≡ Err e → Asks P old new r → Asks Q old new q
+asks_refused {Q = Q} old new r e q is h = record {
+  found = λ ours clean. subst (λ o. IfOk o Q) (sym is) tt;
+  same = h.same;
+  live = λ ours clean. subst (λ o. OnOk o (SeesCommit new)) (sym is) tt;
+  crash = h.crash;
+}
+
+-- and what its rows say
+pub says_version : (old new : State) (r : Result (Vec Row Global) Error) (rows : Vec Row Global) → r ≡ Ok rows → Asks (AreVersions old.now.trees) old new r → (q : Result Bool Error) → IfOk q (λ is. IsTrue is ↔ SaysOne rows.items)
+    → Asks (λ is. IsTrue is ↔ IsOurs old.now) old new q
+says_version old new r rows was h q said = record {
+  found = λ ours clean. version_says old.now rows.items ours (subst (λ o. IfOk o (AreVersions old.now.trees)) was (h.found ours clean)) q said;
+  same = h.same;
+  live = λ ours clean. on_any q (SeesCommit new) (on_ok r rows was (SeesCommit new) (h.live ours clean));
+  crash = h.crash;
+}
 
 -- opened on trees that show accounts, a database of our schema shows them
 pub shows_again : (db new : Database) (accounts : Accounts) → db.schema ≡ mail_schema → new ≡ db → ShowsIn db.trees accounts → Presents new accounts
@@ -109,9 +145,9 @@ itself = at_texts false Eq (codes "version") (codes "version") ∙ bytes_eq_refl
 
 -- a database that shows accounts is ours
 pub shown_ours : (db : Database) (accounts : Accounts) → Presents db accounts → IsOurs db
-shown_ours db accounts p = let held = p.1.each meta (inl refl) in go held.entries held.rows_are (sym p.2.version ∙ held.cells_are)
+shown_ours db accounts p = let held = p.1.each meta meta_listed in go held.entries held.rows_are (sym p.2.version ∙ held.cells_are)
   where
-    go : (es : List Entry) → db.trees 0 ≡ map stored es → version_row ∷ [] ≡ map cells_of es → IsOurs db
+    go : (es : List Entry) → db.trees meta_tree ≡ map stored es → version_row ∷ [] ≡ map cells_of es → IsOurs db
     go [] rows cells = absurd (let none = cells in cc)
     go (e ∷ []) rows cells =
         let is : version_row ≡ cells_of e = cc in

@@ -16,7 +16,7 @@ use Rattle.sqlite_trees.specs.Tree.{IsAscending}
 use Rattle.sqlite_sql.specs.Term.{col}
 use Rattle.sqlite_sql.specs.Query.{Query, Output, output_cmp}
 use Rattle.sqlite_sql.proofs.QueryLemmas.{output_cmp_total}
-use Rattle.sqlite_keyed.proofs.ListLemmas.{map-map, filter-map, filter_same, filter-filter, ascending-map, ascending_from_map, ascending-filter, ascending_weaker}
+use Rattle.sqlite_keyed.proofs.ListLemmas.{map-map, filter-map, filter_same, filter-filter, ascending-map, ascending_from_map, ascending-filter, ascending_weaker, IsPermutation-filter}
 use Rattle.sqlite_keyed.proofs.KeyedLemmas.{Less-from_lt}
 use Rattle.sqlite_keyed.proofs.SortLemmas.{sorted_unique}
 use Rattle.sqlite_typed.proofs.TestLemmas.{last_key, same_bytes, bytes_eq_refl}
@@ -26,19 +26,21 @@ use Rattle.sqlrows.specs.Rows.{Tables, Holds, has_key}
 use Rattle.sqlrows.proofs.AnswerLemmas.{cells_in_order}
 use Rattle.sqlrows.proofs.ReadLemmas.{answered}
 use Rattle.sqlrows.proofs.ListLemmas.{owner_key, pair_key, pair_owned}
-use Rattle.mailstore.specs.Schema.{mail_schema, script, copy}
-use Rattle.mailstore.specs.Statements.{select_names, select_folder}
+use Rattle.mailstore.specs.Schema.{mail_schema}
 use Rattle.mailstore.specs.Account.{bytes_cmp, Folders, messages_in, filed}
-use Rattle.mailstore.specs.Shows.{Copy, rows_of, script_row, copy_row, AreApart, folders_from}
+use Rattle.mailstore.specs.ScriptTable.{script, select_names, script_row, AreApart, script_tree}
+use Rattle.mailstore.specs.CopyTable.{copy, select_folder, Copy, copy_row, folders_from, copy_tree}
+use Rattle.mailstore.specs.Shows.{rows_of}
 use Rattle.mailstore.proofs.TextFacts.{by_one, by_two, select_names_is, select_names_plain, select_folder_is, select_folder_plain}
 use Rattle.mailstore.proofs.AccountLemmas.{pair_is}
+use Rattle.mailstore.proofs.SchemaFacts.{copy_listed, script_listed}
 
 -- the rows with a key of two are among the owner's
 pub of_owner : (owner name : List ℕ) (tables : Tables) (tree : ℕ) → filter (has_key (pair_key owner name)) (tables tree) ≡ filter (has_key (pair_key owner name)) (rows_of owner tables tree)
 of_owner owner name tables tree = sym (filter-filter (has_key (pair_key owner name)) (has_key (owner_key owner)) (pair_owned owner name) (tables tree))
 
 abbrev by_number : Query
-by_number = (over 6 by_two (col 1 4 ∷ []) ((col 1 3, ascending Binary) ∷ [])).body
+by_number = (over copy_tree by_two (col 1 4 ∷ []) ((col 1 3, ascending Binary) ∷ [])).body
 
 number_output : Copy → Output
 number_output c = (Int (pos c.n) ∷ [], Blob c.message ∷ [])
@@ -51,7 +53,7 @@ abbrev pub is_in : List ℕ → Copy → Bool
 is_in folder c = is_eq (bytes_cmp c.folder folder)
 
 module _ (old new : State) (rows : List Row) (tables : Tables) (h : Holds mail_schema old.now tables) where
-  pub folder_found : (owner folder : List ℕ) (copies : List Copy) → rows_of owner tables 6 ≡ map (copy_row owner) copies → IsAscending (λ m n. m < n) (map (λ c. c.n) copies)
+  pub folder_found : (owner folder : List ℕ) (copies : List Copy) → IsPermutation (map (copy_row owner) copies) (rows_of owner tables copy_tree) → IsAscending (λ c d. c.n < d.n) copies
       → Shown select_folder (pair_key owner folder) old new rows → rows ≡ map (λ c. Blob c.message ∷ []) (filter (is_in folder) copies)
   unfolding number_output
   folder_found owner folder copies are rise shown =
@@ -59,14 +61,17 @@ module _ (old new : State) (rows : List Row) (tables : Tables) (h : Holds mail_s
       let p = has_key key in
       let few = filter (is_in folder) copies in
       let show = λ (cells : Row). let o : Output = (column cells 2 ∷ [], column cells 3 ∷ []) in o in
-      let found = cells_in_order old.now.trees 6 by_two (col 1 4 ∷ []) ((col 1 3, ascending Binary) ∷ []) key (tables 6) (h.each copy (inr (inr (inr (inl refl))))) p (λ n cells. refl) show (λ n cells. refl) rows
-      (answered mail_schema select_folder key old new h.is select_folder_plain.0 6 by_two (col 1 4 ∷ []) _ _ select_folder_is select_folder_plain.1 rows shown) in
-      let cells : filter p (tables 6) ≡ map (copy_row owner) few =
-      of_owner owner folder tables 6 ∙ ap (filter p) are ∙ filter-map p (copy_row owner) copies ∙ ap (map (copy_row owner)) (filter_same _ (is_in folder) (λ c. pair_is owner folder c.folder (Int (pos c.n) ∷ Blob c.message ∷ [])) copies) in
-      let outs : map show (filter p (tables 6)) ≡ map number_output few = ap (map show) cells ∙ map-map show (copy_row owner) few in
+      let found = cells_in_order old.now.trees copy_tree by_two (col 1 4 ∷ []) ((col 1 3, ascending Binary) ∷ []) key (tables copy_tree) (h.each copy copy_listed) p (λ n cells. refl) show (λ n cells. refl) rows
+      (answered mail_schema select_folder key old new h.is select_folder_plain.0 copy_tree by_two (col 1 4 ∷ []) _ _ select_folder_is select_folder_plain.1 rows shown) in
+      let mine : filter p (map (copy_row owner) copies) ≡ map (copy_row owner) few =
+      filter-map p (copy_row owner) copies ∙ ap (map (copy_row owner)) (filter_same _ (is_in folder) (λ c. pair_is owner folder c.folder (Int (pos c.n) ∷ Blob c.message ∷ [])) copies) in
+      let cells : IsPermutation (map (copy_row owner) few) (filter p (tables copy_tree)) =
+      subst (λ l. IsPermutation l (filter p (tables copy_tree))) mine (subst (IsPermutation _) (sym (of_owner owner folder tables copy_tree)) (IsPermutation-filter p _ _ are)) in
+      let outs : IsPermutation (map number_output few) (map show (filter p (tables copy_tree))) =
+      subst (λ l. IsPermutation l (map show (filter p (tables copy_tree)))) (map-map show (copy_row owner) few) (IsPermutation-map show _ _ cells) in
       let rising = ascending-map (λ x y. output_cmp by_number x y ≡ Less) number_output few
-      (ascending-filter (λ c d. output_cmp by_number (number_output c) (number_output d) ≡ Less) (is_in folder) copies (ascending_weaker _ (λ c d. output_cmp by_number (number_output c) (number_output d) ≡ Less) numbers_rise copies (ascending_from_map (λ m n. m < n) (λ (c : Copy). c.n) copies rise))) in
-      let is = sorted_unique (output_cmp by_number) (output_cmp_total by_number) (map number_output few) found.0 rising (subst (λ l. IsPermutation l found.0) outs found.1) found.2 in
+      (ascending-filter (λ c d. output_cmp by_number (number_output c) (number_output d) ≡ Less) (is_in folder) copies (ascending_weaker _ (λ c d. output_cmp by_number (number_output c) (number_output d) ≡ Less) numbers_rise copies rise)) in
+      let is = sorted_unique (output_cmp by_number) (output_cmp_total by_number) (map number_output few) found.0 rising (IsPermutation-trans _ _ _ outs found.1) found.2 in
       found.3 ∙ ap (map (λ (o : Output). o.1)) is ∙ map-map (λ (o : Output). o.1) number_output few
 
 -- the messages of a folder are those of its copies, in turn
@@ -146,7 +151,7 @@ entries_rise m = rises (entries m) (from_T _ (entries_sorted m))
 -- ---- names in order
 
 abbrev by_name : Query
-by_name = (over 4 by_one (col 1 2 ∷ []) ((col 1 2, ascending Binary) ∷ [])).body
+by_name = (over script_tree by_one (col 1 2 ∷ []) ((col 1 2, ascending Binary) ∷ [])).body
 
 name_output : {X : Type 0} → List ℕ × X → Output
 name_output e = (Blob e.0 ∷ [], Blob e.0 ∷ [])
@@ -156,16 +161,16 @@ unfolding name_output
 names_rise a b low = last_key (value_cmp-Blob a.0 b.0 ∙ low)
 
 module _ (old new : State) (rows : List Row) (tables : Tables) (h : Holds mail_schema old.now tables) where
-  pub names_found : (owner : List ℕ) (scripts : List (List ℕ × List ℕ)) → rows_of owner tables 4 ≡ map (script_row owner) scripts → AreApart scripts → Shown select_names (owner_key owner) old new rows
+  pub names_found : (owner : List ℕ) (scripts : List (List ℕ × List ℕ)) → rows_of owner tables script_tree ≡ map (script_row owner) scripts → AreApart scripts → Shown select_names (owner_key owner) old new rows
       → rows ≡ map (λ n. Blob n ∷ []) (keys (from_entries {R = bytes_cmp} scripts))
   unfolding name_output
   names_found owner scripts are apart shown =
       let p = has_key (owner_key owner) in
       let m : FinMap bytes_cmp (List ℕ) = from_entries scripts in
       let show = λ (cells : Row). let o : Output = (column cells 1 ∷ [], column cells 1 ∷ []) in o in
-      let found = cells_in_order old.now.trees 4 by_one (col 1 2 ∷ []) ((col 1 2, ascending Binary) ∷ []) (owner_key owner) (tables 4) (h.each script (inr (inr (inl refl)))) p (λ n cells. refl) show (λ n cells. refl) rows
-      (answered mail_schema select_names (owner_key owner) old new h.is select_names_plain.0 4 by_one (col 1 2 ∷ []) _ _ select_names_is select_names_plain.1 rows shown) in
-      let outs : map show (filter p (tables 4)) ≡ map name_output scripts = ap (map show) are ∙ map-map show (script_row owner) scripts in
+      let found = cells_in_order old.now.trees script_tree by_one (col 1 2 ∷ []) ((col 1 2, ascending Binary) ∷ []) (owner_key owner) (tables script_tree) (h.each script script_listed) p (λ n cells. refl) show (λ n cells. refl) rows
+      (answered mail_schema select_names (owner_key owner) old new h.is select_names_plain.0 script_tree by_one (col 1 2 ∷ []) _ _ select_names_is select_names_plain.1 rows shown) in
+      let outs : map show (filter p (tables script_tree)) ≡ map name_output scripts = ap (map show) are ∙ map-map show (script_row owner) scripts in
       let same = IsPermutation-trans _ _ _ (IsPermutation-map name_output _ _ (IsPermutation-sym _ _ (entries_permutation scripts apart))) (subst (λ l. IsPermutation l found.0) outs found.1) in
       let rising = ascending-map (λ x y. output_cmp by_name x y ≡ Less) name_output (entries m) (ascending_weaker _ (λ a b. output_cmp by_name (name_output a) (name_output b) ≡ Less) names_rise (entries m) (entries_rise m)) in
       let is = sorted_unique (output_cmp by_name) (output_cmp_total by_name) (map name_output (entries m)) found.0 rising same found.2 in

@@ -1,5 +1,5 @@
 -- What each query finds, and that it changes nothing.
-use Rattle.std.proofs.Common.{◌≡◌, ℕ, List, [], ◌∷◌, map, filter, Ok, Err, Result, Vec, Option, Some, None, IfOk, IfErr, IsTrue, refl, sym, ◌∙◌, subst, inl, inr}
+use Rattle.std.proofs.Common.{◌≡◌, ℕ, List, [], ◌∷◌, map, filter, Ok, Err, Result, Vec, Option, Some, None, IfOk, IfErr, OnOk, IsTrue, refl, sym, ◌∙◌, subst, inl, inr}
 use Rattle.std.specs.declared.alloc.Global.{Global}
 use Rattle.sqlite_value.specs.Order.{Row, column}
 use Rattle.sqlite_sql.specs.Term.{col}
@@ -14,15 +14,16 @@ use Rattle.sqlrows.specs.Rows.{Tables, Holds, has_key}
 use Rattle.sqlrows.proofs.AnswerLemmas.{cells_by_key}
 use Rattle.sqlrows.proofs.ReadLemmas.{shown_same, fails_same, answered}
 use Rattle.sqlrows.proofs.ListLemmas.{owner_key, pair_key}
-use Rattle.mailstore.specs.Schema.{mail_schema, account, script}
-use Rattle.mailstore.specs.Statements.{select_account, select_next_copy, select_script}
-use Rattle.mailstore.specs.Cells.{shown_account}
-use Rattle.mailstore.specs.Words.{StaysSame, ReadsOnly, IsLiveOnOk, IsQuiet, StaysShut}
+use Rattle.mailstore.specs.Schema.{mail_schema}
+use Rattle.mailstore.specs.Connection.{StaysSame}
+use Rattle.mailstore.specs.AccountTable.{account, select_account, select_next_copy, shown_account, account_tree, next_copy_column, shown_next_copy}
+use Rattle.mailstore.specs.ScriptTable.{script, select_script, script_tree, text_column}
 use Rattle.mailstore.specs.Shows.{rows_of}
 use Rattle.mailstore.proofs.TextFacts.{by_one, by_two, account_shown, select_account_is, select_account_plain, select_next_copy_is, select_next_copy_plain, select_script_is, select_script_plain}
 use Rattle.mailstore.proofs.WriteLemmas.{clean_before}
 use Rattle.mailstore.proofs.ResultLemmas.{on_ok}
 use Rattle.mailstore.proofs.StatementLemmas.{account_index, script_index, account_agrees, script_agrees}
+use Rattle.mailstore.specs.Promises.{HasOurTables}
 
 pub same_unchanged : (old new : State) → IsUnchanged old new → StaysSame old new
 same_unchanged old new h = record { now_is = λ _. h.0.now_is; committed_is = λ _. h.0.committed_is }
@@ -32,17 +33,13 @@ pub same_undone : (old new : State) → (IsTrue old.is_open → old.now ≡ old.
 same_undone old new settled h = record { now_is = λ open_now. (h.undone open_now).0 ∙ sym (settled (h.was_open open_now)); committed_is = λ open_now. (h.undone open_now).1 }
 
 module _ (sql : List ℕ) (params : Row) (old new : State) (plain : IsPlain (understood mail_schema sql)) where
-  pub reads_only : (r : Result (Vec Row Global) Error) → (IsTrue old.is_open → old.now ≡ old.committed) → (HasCleanDisk new → IfOk r (λ rows. Shown sql params old new rows.items))
-      → (HasCleanDisk new → IfErr r (FailsToQuery sql params old new)) → ReadsOnly old new
-  reads_only (Ok rows) settled ok err clean tables h = same_unchanged old new (shown_same mail_schema sql params old new h.is plain rows.items (ok clean))
-  reads_only (Err e) settled ok err clean tables h = elim (fails_same mail_schema sql params old new h.is plain e (err clean)) [ inl same ↦ same_unchanged old new same | inr undone ↦ same_undone old new settled undone ]
+  pub query_same : (r : Result (Vec Row Global) Error) → (IsTrue old.is_open → old.now ≡ old.committed) → (HasCleanDisk new → IfOk r (λ rows. Shown sql params old new rows.items))
+      → (HasCleanDisk new → IfErr r (FailsToQuery sql params old new)) → HasCleanDisk new → HasOurTables old.now → StaysSame old new
+  query_same (Ok rows) settled ok err clean h = same_unchanged old new (shown_same mail_schema sql params old new h.1.is plain rows.items (ok clean))
+  query_same (Err e) settled ok err clean h = elim (fails_same mail_schema sql params old new h.1.is plain e (err clean)) [ inl same ↦ same_unchanged old new same | inr undone ↦ same_undone old new settled undone ]
 
-  pub is_live : (r : Result (Vec Row Global) Error) → (HasCleanDisk new → IfOk r (λ rows. Shown sql params old new rows.items)) → IsLiveOnOk old new r
-  is_live (Ok rows) ok clean tables h = (shown_same mail_schema sql params old new h.is plain rows.items (ok clean)).0.is_open
-  is_live (Err e) ok clean tables h = tt
-
-  pub is_quiet : Survives old new (CommitsShowing sql params old) → IsQuiet old new
-  is_quiet survives = survives_weaker old new _ (λ _. (tables : Tables) → Holds mail_schema old.now tables → ⊥) (λ clean db commits tables h. never_commits sql params old db (subst (λ s. IsPlain (understood s sql)) (sym h.is) plain) commits) survives
+  pub query_quiet : Survives old new (CommitsShowing sql params old) → Survives old new (λ _. HasOurTables old.now → ⊥)
+  query_quiet survives = survives_weaker old new _ (λ _. HasOurTables old.now → ⊥) (λ clean db commits h. never_commits sql params old db (subst (λ s. IsPlain (understood s sql)) (sym h.1.is) plain) commits) survives
 
 -- rows are shown over an open connection alone, which stays open
 open_shown : (sql : List ℕ) (params : Row) (old new : State) (rows : List Row) → Shown sql params old new rows → IsTrue old.is_open × IsTrue new.is_open
@@ -66,52 +63,30 @@ open_failed sql params old new e (inr h) is_open = go h.0.returning h.2
     go (Some what) (inr k) = k.3.was_open is_open
 
 pub stays_shut : (sql : List ℕ) (params : Row) (old new : State) (r : Result (Vec Row Global) Error) → (HasCleanDisk new → IfOk r (λ rows. Shown sql params old new rows.items))
-    → (HasCleanDisk new → IfErr r (FailsToQuery sql params old new)) → StaysShut old new r
+    → (HasCleanDisk new → IfErr r (FailsToQuery sql params old new)) → HasCleanDisk new → (IsTrue new.is_open → IsTrue old.is_open) × OnOk r (IsTrue new.is_open)
 stays_shut sql params old new (Ok rows) ok err clean = let shown = open_shown sql params old new rows.items (ok clean) in (λ is_open. shown.0, shown.1)
 stays_shut sql params old new (Err e) ok err clean = (open_failed sql params old new e (err clean), tt)
 
 module _ (old new : State) (rows : List Row) (tables : Tables) (h : Holds mail_schema old.now tables) where
-  pub account_found : (name : List ℕ) → Shown select_account (owner_key name) old new rows → rows ≡ map shown_account (rows_of name tables 2)
+  pub account_found : (name : List ℕ) → Shown select_account (owner_key name) old new rows → rows ≡ map shown_account (rows_of name tables account_tree)
   account_found name shown =
-      cells_by_key mail_schema account (inr (inl refl)) account_index (inr (inl refl)) refl (owner_key name) (0 ∷ []) (account_agrees name) old.now.trees h.fits (tables 2) (h.each account (inr (inl refl)))
+      cells_by_key mail_schema account (inr (inl refl)) account_index (inr (inl refl)) refl (owner_key name) (0 ∷ []) (account_agrees name) old.now.trees h.fits (tables account_tree) (h.each account (inr (inl refl)))
       by_one (owner_key name) (λ n cells. refl) account_shown shown_account (λ n cells. refl) [] rows
-      (answered mail_schema select_account (owner_key name) old new h.is select_account_plain.0 2 by_one account_shown [] _ select_account_is select_account_plain.1 rows shown)
+      (answered mail_schema select_account (owner_key name) old new h.is select_account_plain.0 account_tree by_one account_shown [] _ select_account_is select_account_plain.1 rows shown)
 
-  pub next_copy_found : (name : List ℕ) → Shown select_next_copy (owner_key name) old new rows → rows ≡ map (λ c. column c 6 ∷ []) (rows_of name tables 2)
+  pub next_copy_found : (name : List ℕ) → Shown select_next_copy (owner_key name) old new rows → rows ≡ map shown_next_copy (rows_of name tables account_tree)
   next_copy_found name shown =
-      cells_by_key mail_schema account (inr (inl refl)) account_index (inr (inl refl)) refl (owner_key name) (0 ∷ []) (account_agrees name) old.now.trees h.fits (tables 2) (h.each account (inr (inl refl)))
-      by_one (owner_key name) (λ n cells. refl) (col 1 7 ∷ []) (λ c. column c 6 ∷ []) (λ n cells. refl) [] rows
-      (answered mail_schema select_next_copy (owner_key name) old new h.is select_next_copy_plain.0 2 by_one (col 1 7 ∷ []) [] _ select_next_copy_is select_next_copy_plain.1 rows shown)
+      cells_by_key mail_schema account (inr (inl refl)) account_index (inr (inl refl)) refl (owner_key name) (0 ∷ []) (account_agrees name) old.now.trees h.fits (tables account_tree) (h.each account (inr (inl refl)))
+      by_one (owner_key name) (λ n cells. refl) (col 1 7 ∷ []) shown_next_copy (λ n cells. refl) [] rows
+      (answered mail_schema select_next_copy (owner_key name) old new h.is select_next_copy_plain.0 account_tree by_one (col 1 7 ∷ []) [] _ select_next_copy_is select_next_copy_plain.1 rows shown)
 
-  pub script_found : (owner name : List ℕ) → Shown select_script (pair_key owner name) old new rows → rows ≡ map (λ c. column c 2 ∷ []) (filter (has_key (pair_key owner name)) (tables 4))
+  pub script_found : (owner name : List ℕ) → Shown select_script (pair_key owner name) old new rows → rows ≡ map (λ c. column c text_column ∷ []) (filter (has_key (pair_key owner name)) (tables script_tree))
   script_found owner name shown =
-      cells_by_key mail_schema script (inr (inr (inl refl))) script_index (inr (inr (inl refl))) refl (pair_key owner name) (0 ∷ 1 ∷ []) (script_agrees owner name) old.now.trees h.fits (tables 4)
-      (h.each script (inr (inr (inl refl)))) by_two (pair_key owner name) (λ n cells. refl) (col 1 3 ∷ []) (λ c. column c 2 ∷ []) (λ n cells. refl) [] rows
-      (answered mail_schema select_script (pair_key owner name) old new h.is select_script_plain.0 4 by_two (col 1 3 ∷ []) [] _ select_script_is select_script_plain.1 rows shown)
+      cells_by_key mail_schema script (inr (inr (inl refl))) script_index (inr (inr (inl refl))) refl (pair_key owner name) (0 ∷ 1 ∷ []) (script_agrees owner name) old.now.trees h.fits (tables script_tree)
+      (h.each script (inr (inr (inl refl)))) by_two (pair_key owner name) (λ n cells. refl) (col 1 3 ∷ []) (λ c. column c text_column ∷ []) (λ n cells. refl) [] rows
+      (answered mail_schema select_script (pair_key owner name) old new h.is select_script_plain.0 script_tree by_two (col 1 3 ∷ []) [] _ select_script_is select_script_plain.1 rows shown)
 
 -- under a clause on Ok
 pub if_shown : (r : Result (Vec Row Global) Error) (P Q : List Row → Type 0) → ((rows : List Row) → P rows → Q rows) → IfOk r (λ rows. P rows.items) → IfOk r (λ rows. Q rows.items)
 if_shown (Err e) P Q f h = tt
 if_shown (Ok rows) P Q f h = f rows.items h
-
--- one query after another that answered Ok
-module _ {X E : Type 0} (a b c : State) (r : Result X E) (x : X) (ok : r ≡ Ok x) (same : ReadsOnly a b) (live : IsLiveOnOk a b r) (quiet : IsQuiet a b) (late : IsQuiet b c) where
-  pub then_holds : HasCleanDisk c → (tables : Tables) → Holds mail_schema a.now tables → (b.now ≡ a.now) × Holds mail_schema b.now tables
-  then_holds clean tables h =
-      let early = clean_before b c _ late clean in
-      let is = (same early tables h).now_is (on_ok r x ok (IsTrue b.is_open) (live early tables h)) in
-      (is, subst (λ d. Holds mail_schema d tables) (sym is) h)
-
-  pub quiet_then : IsQuiet a c
-  quiet_then = survives_then a b c _ _ _ (λ clean db none. none) (λ clean db none tables h. none tables (then_holds clean tables h).1) quiet late
-
-  pub same_then : ReadsOnly b c → ReadsOnly a c
-  same_then next clean tables h =
-      let early = clean_before b c _ late clean in
-      let is_open = on_ok r x ok (IsTrue b.is_open) (live early tables h) in
-      let one = same early tables h in
-      let two = next clean tables (then_holds clean tables h).1 in
-      record { now_is = λ o. two.now_is o ∙ one.now_is is_open; committed_is = λ o. two.committed_is o ∙ one.committed_is is_open }
-
-  pub live_then : {Y F : Type 0} (q : Result Y F) → IsLiveOnOk b c q → IsLiveOnOk a c q
-  live_then q next clean tables h = next clean tables (then_holds clean tables h).1

@@ -1,32 +1,41 @@
 -- From the rows that a query finds to what a read answers.
-use Rattle.std.proofs.Common.{◌≡◌, ℕ, pos, Bool, true, false, cond, List, [], ◌∷◌, map, filter, Option, Some, None, option_map, slice_get, Ok, Err, Result, IfOk, IfSome, is_eq, refl, sym, ap, ◌∙◌}
+use Rattle.std.proofs.Common.{◌≡◌, ℕ, pos, Bool, true, false, cond, List, [], ◌∷◌, map, filter, Option, Some, None, option_map, slice_get, Ok, Err, Result, IfOk, IfErr, IfSome, is_eq, refl, sym, ap, ◌∙◌}
 use Rattle.std.specs.FinMap.{get, keys, find, get-from_entries}
 use Rattle.std.proofs.lemmas.Cmp.{nat_list_cmp_total}
 use Rattle.sqlite_value.specs.declared.value.Value.TheVariants.{Int, Blob}
 use Rattle.sqlite_value.specs.Order.{Row, column}
 use Rattle.sqlite_keyed.proofs.ListLemmas.{map-map, filter-map, filter_same}
 use Rattle.sqlite_typed.proofs.TestLemmas.{same_bytes, bytes_eq_refl, turn_eq}
+use Rattle.sqlite.specs.Effect.{Database}
 use Rattle.sqlite.specs.State.{State, Shown}
 use Rattle.sqlrows.specs.Rows.{Tables, has_key}
 use Rattle.sqlrows.proofs.ListLemmas.{owner_key, pair_key}
 use Rattle.mailstore.specs.declared.refusal.Refusal.{Refusal}
-use Rattle.mailstore.specs.Statements.{select_account, select_names, select_script, select_folder}
-use Rattle.mailstore.specs.Cells.{shown_account}
+use Rattle.mailstore.specs.declared.refusal.Refusal.TheVariants.{NoUser}
 use Rattle.mailstore.specs.Account.{bytes_cmp, Account, Accounts, messages_in}
-use Rattle.mailstore.specs.Shows.{Copy, rows_of, script_row, IsShown, IsShownOrAbsent, ShowsAccounts, Presents}
-use Rattle.mailstore.specs.Calls.{profile_row}
+use Rattle.mailstore.specs.AccountTable.{select_account, shown_account, profile_row, account_tree, next_copy_column, CountsCopies, shown_next_copy}
+use Rattle.mailstore.specs.ScriptTable.{select_names, select_script, script_row, script_tree, text_column, AreNameRows, HasTextRow}
+use Rattle.mailstore.specs.CopyTable.{select_folder, Copy, AreMessageRows}
+use Rattle.mailstore.specs.Shows.{rows_of, IsShown, IsShownOrAbsent, ShowsAccounts, Presents}
 use Rattle.mailstore.proofs.AccountLemmas.{pair_is, is_named}
 use Rattle.mailstore.proofs.QueryLemmas.{account_found, script_found}
 use Rattle.mailstore.proofs.OrderLemmas.{of_owner, is_in, folder_found, names_found, messages_are}
 
-first_mapped : (own : List Row) → option_map (λ r. column r 0) (slice_get (map (λ cells. column cells 6 ∷ []) own) 0) ≡ option_map (λ cells. column cells 6) (slice_get own 0)
+first_mapped : (own : List Row) → option_map (λ r. column r 0) (slice_get (map shown_next_copy own) 0) ≡ option_map (λ cells. column cells next_copy_column) (slice_get own 0)
 first_mapped [] = refl
 first_mapped (r ∷ own) = refl
 
-pub number_is : (r : Result ℕ Refusal) (rows own : List Row) → rows ≡ map (λ cells. column cells 6 ∷ []) own → IfOk r (λ n. option_map (λ r. column r 0) (slice_get rows 0) ≡ Some (Int (pos n)))
-    → IfOk r (λ n. option_map (λ cells. column cells 6) (slice_get own 0) ≡ Some (Int (pos n)))
+pub number_is : (r : Result ℕ Refusal) (rows own : List Row) → rows ≡ map shown_next_copy own → IfOk r (λ n. option_map (λ r. column r 0) (slice_get rows 0) ≡ Some (Int (pos n))) → IfOk r (CountsCopies own)
 number_is (Err e) rows own are h = tt
 number_is (Ok n) rows own are h = sym (first_mapped own) ∙ ap (λ l. option_map (λ r. column r 0) (slice_get l 0)) (sym are) ∙ h
+
+no_rows_mapped : (own : List Row) → map shown_next_copy own ≡ [] → own ≡ []
+no_rows_mapped [] e = refl
+no_rows_mapped (r ∷ own) e = absurd (let no = e in cc)
+
+pub none_counted : (r : Result ℕ Refusal) (rows own : List Row) → rows ≡ map shown_next_copy own → IfErr r (λ e. e ≡ NoUser → rows ≡ []) → IfErr r (λ e. e ≡ NoUser → own ≡ [])
+none_counted (Ok n) rows own are h = tt
+none_counted (Err e) rows own are h = λ none. no_rows_mapped own (sym are ∙ h none)
 
 -- ---- what a query shows of an account
 
@@ -41,34 +50,35 @@ at_user accounts user tables shows P each = go (get accounts user) (shows.users 
     go None h = tt
     go (Some a) h = each a h
 
+-- the first of the rows that were found is the account's, if there is one
+pub profile_first : (db : Database) (rows : List Row) (accounts : Accounts) (p : Presents db accounts) (user : List ℕ) → rows ≡ map shown_account (rows_of user p.0 account_tree) → slice_get rows 0 ≡ option_map profile_row (get accounts user)
+profile_first db rows accounts p user are = ap (λ l. slice_get l 0) are ∙ go (get accounts user) (p.2.users user)
+  where
+    go : (o : Option Account) → IsShownOrAbsent user (rows_of user p.0) o → slice_get (map shown_account (rows_of user p.0 account_tree)) 0 ≡ option_map profile_row o
+    go None h = ap (λ l. slice_get (map shown_account l) 0) h.accounts
+    go (Some a) h = ap (λ l. slice_get (map shown_account l) 0) h.account_is
+
 module _ (old new : State) (rows : List Row) (accounts : Accounts) (p : Presents old.now accounts) (user : List ℕ) where
-  pub account_read : Shown select_account (owner_key user) old new rows → slice_get rows 0 ≡ option_map profile_row (get accounts user)
-  account_read shown = ap (λ l. slice_get l 0) (account_found old new rows p.0 p.1 user shown) ∙ go (get accounts user) (p.2.users user)
-    where
-      go : (o : Option Account) → IsShownOrAbsent user (rows_of user p.0) o → slice_get (map shown_account (rows_of user p.0 2)) 0 ≡ option_map profile_row o
-      go None h = ap (λ l. slice_get (map shown_account l) 0) h.accounts
-      go (Some a) h = ap (λ l. slice_get (map shown_account l) 0) h.account_is
+  pub names_read : Shown select_names (owner_key user) old new rows → IfSome (get accounts user) (AreNameRows rows)
+  names_read shown = at_user accounts user p.0 p.2 _ (λ a s. names_found old new rows p.0 p.1 user s.scripts.entries s.scripts.rows_are s.scripts.apart shown ∙ ap (λ m. map (λ n. Blob n ∷ []) (keys m)) (sym s.scripts.shown))
 
-  pub names_read : Shown select_names (owner_key user) old new rows → IfSome (get accounts user) (λ a. rows ≡ map (λ n. Blob n ∷ []) (keys a.scripts))
-  names_read shown = at_user accounts user p.0 p.2 _ (λ a s. names_found old new rows p.0 p.1 user s.scripts s.script_rows s.scripts_apart shown ∙ ap (λ m. map (λ n. Blob n ∷ []) (keys m)) (sym s.scripts_are))
-
-  pub messages_read : (folder : List ℕ) → Shown select_folder (pair_key user folder) old new rows → IfSome (get accounts user) (λ a. rows ≡ map (λ m. Blob m ∷ []) (messages_in a.folders folder))
+  pub messages_read : (folder : List ℕ) → Shown select_folder (pair_key user folder) old new rows → IfSome (get accounts user) (AreMessageRows folder rows)
   messages_read folder shown = at_user accounts user p.0 p.2 _ (λ a s.
-      folder_found old new rows p.0 p.1 user folder s.copies s.copy_rows s.copies_numbered.rise shown ∙ sym (map-map (λ (m : List ℕ). Blob m ∷ []) (λ (c : Copy). c.message) (filter (is_in folder) s.copies))
-      ∙ ap (map (λ m. Blob m ∷ [])) (sym (messages_are s.copies folder)) ∙ ap (λ m. map (λ t. Blob t ∷ []) (messages_in m folder)) (sym s.folders_are))
+      folder_found old new rows p.0 p.1 user folder s.copies.entries s.copies.numbered.rows_are s.copies.numbered.rise shown ∙ sym (map-map (λ (m : List ℕ). Blob m ∷ []) (λ (c : Copy). c.message) (filter (is_in folder) s.copies.entries))
+      ∙ ap (map (λ m. Blob m ∷ [])) (sym (messages_are s.copies.entries folder)) ∙ ap (λ m. map (λ t. Blob t ∷ []) (messages_in m folder)) (sym s.copies.shown))
 
-  pub script_read : (name : List ℕ) → Shown select_script (pair_key user name) old new rows → IfSome (get accounts user) (λ a. slice_get rows 0 ≡ option_map (λ t. Blob t ∷ []) (get a.scripts name))
+  pub script_read : (name : List ℕ) → Shown select_script (pair_key user name) old new rows → IfSome (get accounts user) (HasTextRow name rows)
   script_read name shown = at_user accounts user p.0 p.2 _ (λ a s.
-      let mine = of_owner user name p.0 4 ∙ ap (filter (has_key (pair_key user name))) s.script_rows ∙ filter-map (has_key (pair_key user name)) (script_row user) s.scripts
-      ∙ ap (map (script_row user)) (filter_same _ (is_named name) (λ e. pair_is user name e.0 (Blob e.1 ∷ [])) s.scripts) in
-      ap (λ l. slice_get l 0) (script_found old new rows p.0 p.1 user name shown ∙ ap (map (λ cells. column cells 2 ∷ [])) mine) ∙ first s.scripts
-      ∙ ap (option_map (λ t. Blob t ∷ [])) (sym (ap (λ m. get m name) s.scripts_are ∙ get-from_entries nat_list_cmp_total s.scripts name)))
+      let mine = of_owner user name p.0 script_tree ∙ ap (filter (has_key (pair_key user name))) s.scripts.rows_are ∙ filter-map (has_key (pair_key user name)) (script_row user) s.scripts.entries
+      ∙ ap (map (script_row user)) (filter_same _ (is_named name) (λ e. pair_is user name e.0 (Blob e.1 ∷ [])) s.scripts.entries) in
+      ap (λ l. slice_get l 0) (script_found old new rows p.0 p.1 user name shown ∙ ap (map (λ cells. column cells text_column ∷ [])) mine) ∙ first s.scripts.entries
+      ∙ ap (option_map (λ t. Blob t ∷ [])) (sym (ap (λ m. get m name) s.scripts.shown ∙ get-from_entries nat_list_cmp_total s.scripts.entries name)))
     where
-      first : (es : List (List ℕ × List ℕ)) → slice_get (map (λ cells. column cells 2 ∷ []) (map (script_row user) (filter (is_named name) es))) 0 ≡ option_map (λ t. Blob t ∷ []) (find bytes_cmp name es)
+      first : (es : List (List ℕ × List ℕ)) → slice_get (map (λ cells. column cells text_column ∷ []) (map (script_row user) (filter (is_named name) es))) 0 ≡ option_map (λ t. Blob t ∷ []) (find bytes_cmp name es)
       first [] = refl
       first (e ∷ es) = go (is_named name e) refl (first es)
         where
-          go : (b : Bool) → is_named name e ≡ b → slice_get (map (λ cells. column cells 2 ∷ []) (map (script_row user) (filter (is_named name) es))) 0 ≡ option_map (λ t. Blob t ∷ []) (find bytes_cmp name es)
-              → slice_get (map (λ cells. column cells 2 ∷ []) (map (script_row user) (cond b (e ∷ filter (is_named name) es) (filter (is_named name) es)))) 0 ≡ option_map (λ t. Blob t ∷ []) (cond (is_eq (bytes_cmp name e.0)) (Some e.1) (find bytes_cmp name es))
+          go : (b : Bool) → is_named name e ≡ b → slice_get (map (λ cells. column cells text_column ∷ []) (map (script_row user) (filter (is_named name) es))) 0 ≡ option_map (λ t. Blob t ∷ []) (find bytes_cmp name es)
+              → slice_get (map (λ cells. column cells text_column ∷ []) (map (script_row user) (cond b (e ∷ filter (is_named name) es) (filter (is_named name) es)))) 0 ≡ option_map (λ t. Blob t ∷ []) (cond (is_eq (bytes_cmp name e.0)) (Some e.1) (find bytes_cmp name es))
           go true same more = rw (ap (λ k. is_eq (bytes_cmp name k)) (same_bytes e.0 name same) ∙ bytes_eq_refl name)
           go false apart more = rw (turn_eq bytes_cmp nat_list_cmp_total name e.0 ∙ apart) more

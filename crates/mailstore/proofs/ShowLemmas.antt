@@ -12,10 +12,14 @@ use Rattle.sqlrows.specs.Rows.{Tables, has_key}
 use Rattle.sqlrows.proofs.ListLemmas.{owner_key, pair_key, owned_by, owners_apart, pair_apart, filter_pushed, filter_beside, filter_kept, filter_unset}
 use Rattle.mailstore.specs.declared.change.Change.{Change}
 use Rattle.mailstore.specs.declared.change.Change.TheVariants.{AddAccount, SetActive, SetNextCopy, AddScript, RemoveScript, AddCopy}
-use Rattle.mailstore.specs.Cells.{account_cells, script_cells, copy_cells, with_active, with_next_copy, or_null, contents}
+use Rattle.mailstore.specs.Cells.{or_null, contents}
 use Rattle.mailstore.specs.Changes.{made_one, made, owner_of, AreOf}
 use Rattle.mailstore.specs.Account.{bytes_cmp, Account, Accounts}
+use Rattle.mailstore.specs.AccountTable.{account_cells, with_active, with_next_copy, account_tree}
+use Rattle.mailstore.specs.ScriptTable.{script_cells, script_tree}
+use Rattle.mailstore.specs.CopyTable.{copy_cells, copy_tree}
 use Rattle.mailstore.specs.Shows.{rows_of, IsShown, IsShownOrAbsent, ShowsAccounts}
+use Rattle.mailstore.specs.MetaTable.{meta_tree}
 
 -- the filter of a user, after one tree got other rows
 filter_tree : (p : Row → Bool) (tables : Tables) (tree : ℕ) (rows : List Row) (t : ℕ) → filter p (with_tree tables tree rows t) ≡ with_tree (λ s. filter p (tables s)) tree (filter p rows) t
@@ -66,28 +70,28 @@ begins_apart a b differ rest = owners_apart a b differ (Blob b ∷ rest) (owned_
 
 -- a change leaves the rows of other users
 others_one : (d : Change) (user : List ℕ) (tables : Tables) → user ≢ owner_of d → rows_of user (made_one d tables) ≡ rows_of user tables
-others_one (AddAccount name address salt rounds digest) user tables differ = same_trees user tables 2 _ (filter_beside (has_key (owner_key user)) (tables 2) _ (begins_apart user name.now differ (drop 1 (account_cells name.now address.now salt.now rounds digest.now))))
+others_one (AddAccount name address salt rounds digest) user tables differ = same_trees user tables account_tree _ (filter_beside (has_key (owner_key user)) (tables account_tree) _ (begins_apart user name.now differ (drop 1 (account_cells name.now address.now salt.now rounds digest.now))))
 others_one (SetActive name active) user tables differ =
-    same_trees user tables 2 _ (filter_unset (has_key (owner_key user)) (has_key (owner_key name.now)) (owners_apart user name.now differ) (with_active (or_null (contents active))) (owners_apart user name.now differ) (tables 2))
+    same_trees user tables account_tree _ (filter_unset (has_key (owner_key user)) (has_key (owner_key name.now)) (owners_apart user name.now differ) (with_active (or_null (contents active))) (owners_apart user name.now differ) (tables account_tree))
 others_one (SetNextCopy name next) user tables differ =
-    same_trees user tables 2 _ (filter_unset (has_key (owner_key user)) (has_key (owner_key name.now)) (owners_apart user name.now differ) (with_next_copy next) (owners_apart user name.now differ) (tables 2))
-others_one (AddScript owner name text) user tables differ = same_trees user tables 4 _ (filter_beside (has_key (owner_key user)) (tables 4) _ (begins_apart user owner.now differ (drop 1 (script_cells owner.now name.now text.now))))
+    same_trees user tables account_tree _ (filter_unset (has_key (owner_key user)) (has_key (owner_key name.now)) (owners_apart user name.now differ) (with_next_copy next) (owners_apart user name.now differ) (tables account_tree))
+others_one (AddScript owner name text) user tables differ = same_trees user tables script_tree _ (filter_beside (has_key (owner_key user)) (tables script_tree) _ (begins_apart user owner.now differ (drop 1 (script_cells owner.now name.now text.now))))
 others_one (RemoveScript owner name) user tables differ =
-    same_trees user tables 4 _ (filter_kept (has_key (owner_key user)) (has_key (pair_key owner.now name.now)) (pair_apart user name.now owner.now differ) (tables 4))
-others_one (AddCopy owner folder n message) user tables differ = same_trees user tables 6 _ (filter_beside (has_key (owner_key user)) (tables 6) _ (begins_apart user owner.now differ (drop 1 (copy_cells owner.now folder.now n message.now))))
+    same_trees user tables script_tree _ (filter_kept (has_key (owner_key user)) (has_key (pair_key owner.now name.now)) (pair_apart user name.now owner.now differ) (tables script_tree))
+others_one (AddCopy owner folder n message) user tables differ = same_trees user tables copy_tree _ (filter_beside (has_key (owner_key user)) (tables copy_tree) _ (begins_apart user owner.now differ (drop 1 (copy_cells owner.now folder.now n message.now))))
 
 -- and is made in those of its owner
 own_one : (d : Change) (tables : Tables) → rows_of (owner_of d) (made_one d tables) ≡ made_one d (rows_of (owner_of d) tables)
-own_one (AddAccount name address salt rounds digest) tables = own_trees name.now tables 2 _ _ (filter_pushed (has_key (owner_key name.now)) (tables 2) _ (owned_by name.now (drop 1 (account_cells name.now address.now salt.now rounds digest.now))))
+own_one (AddAccount name address salt rounds digest) tables = own_trees name.now tables account_tree _ _ (filter_pushed (has_key (owner_key name.now)) (tables account_tree) _ (owned_by name.now (drop 1 (account_cells name.now address.now salt.now rounds digest.now))))
 own_one (SetActive name active) tables =
-    own_trees name.now tables 2 _ _ (update_swapped (has_key (owner_key name.now)) (has_key (owner_key name.now)) (with_active (or_null (contents active))) (λ r h. (h, h)) (tables 2))
+    own_trees name.now tables account_tree _ _ (update_swapped (has_key (owner_key name.now)) (has_key (owner_key name.now)) (with_active (or_null (contents active))) (λ r h. (h, h)) (tables account_tree))
 own_one (SetNextCopy name next) tables =
-    own_trees name.now tables 2 _ _ (update_swapped (has_key (owner_key name.now)) (has_key (owner_key name.now)) (with_next_copy next) (λ r h. (h, h)) (tables 2))
-own_one (AddScript owner name text) tables = own_trees owner.now tables 4 _ _ (filter_pushed (has_key (owner_key owner.now)) (tables 4) _ (owned_by owner.now (drop 1 (script_cells owner.now name.now text.now))))
-own_one (RemoveScript owner name) tables = own_trees owner.now tables 4 _ _ (filter_swapped (has_key (owner_key owner.now)) (has_key (pair_key owner.now name.now)) (tables 4))
-own_one (AddCopy owner folder n message) tables = own_trees owner.now tables 6 _ _ (filter_pushed (has_key (owner_key owner.now)) (tables 6) _ (owned_by owner.now (drop 1 (copy_cells owner.now folder.now n message.now))))
+    own_trees name.now tables account_tree _ _ (update_swapped (has_key (owner_key name.now)) (has_key (owner_key name.now)) (with_next_copy next) (λ r h. (h, h)) (tables account_tree))
+own_one (AddScript owner name text) tables = own_trees owner.now tables script_tree _ _ (filter_pushed (has_key (owner_key owner.now)) (tables script_tree) _ (owned_by owner.now (drop 1 (script_cells owner.now name.now text.now))))
+own_one (RemoveScript owner name) tables = own_trees owner.now tables script_tree _ _ (filter_swapped (has_key (owner_key owner.now)) (has_key (pair_key owner.now name.now)) (tables script_tree))
+own_one (AddCopy owner folder n message) tables = own_trees owner.now tables copy_tree _ _ (filter_pushed (has_key (owner_key owner.now)) (tables copy_tree) _ (owned_by owner.now (drop 1 (copy_cells owner.now folder.now n message.now))))
 
-version_one : (d : Change) (tables : Tables) → made_one d tables 0 ≡ tables 0
+version_one : (d : Change) (tables : Tables) → made_one d tables meta_tree ≡ tables meta_tree
 version_one (AddAccount name address salt rounds digest) tables = refl
 version_one (SetActive name active) tables = refl
 version_one (SetNextCopy name next) tables = refl
@@ -105,7 +109,7 @@ own_all user (d ∷ ds) tables are =
     own_all user ds (made_one d tables) are.1
     ∙ ap (λ own. made own ds) (subst (λ u. rows_of u (made_one d tables) ≡ made_one d (rows_of u tables)) are.0 (own_one d tables))
 
-version_all : (ds : List Change) (tables : Tables) → made tables ds 0 ≡ tables 0
+version_all : (ds : List Change) (tables : Tables) → made tables ds meta_tree ≡ tables meta_tree
 version_all [] tables = refl
 version_all (d ∷ ds) tables = version_all ds (made_one d tables) ∙ version_one d tables
 

@@ -1,5 +1,5 @@
 -- What each statement makes of the tables.
-use Rattle.std.proofs.Common.{◌≡◌, ℕ, ℤ, pos, true, false, codes, slice_get, List, [], ◌∷◌, Option, Some, None, Ok, Err, Result, OnOk, refl, inl, inr}
+use Rattle.std.proofs.Common.{◌≡◌, ◌+◌, ℕ, ℤ, pos, true, false, codes, slice_get, List, [], ◌∷◌, Option, Some, None, Ok, Err, Result, OnOk, refl, inl, inr}
 use Rattle.std.specs.Borrow.{Bor}
 use Rattle.sqlite_value.specs.declared.value.Value.{Value}
 use Rattle.sqlite_value.specs.declared.value.Value.TheVariants.{Int, Text, Blob}
@@ -21,10 +21,13 @@ use Rattle.sqlrows.proofs.CellLemmas.{cast_int}
 use Rattle.sqlrows.proofs.ListLemmas.{owner_key, pair_key}
 use Rattle.sqlrows.proofs.StepLemmas.{on_insert, on_update, on_delete, insert_holds, update_holds, delete_holds}
 use Rattle.sqlrows.proofs.ColumnLemmas.{column_is_of, cast_integer}
-use Rattle.mailstore.specs.Schema.{mail_schema, meta, account, script, copy}
-use Rattle.mailstore.specs.Statements.{insert_version, insert_account, update_active, update_next_copy, insert_script, delete_script, insert_copy}
-use Rattle.mailstore.specs.Cells.{account_cells, script_cells, copy_cells, with_active, with_next_copy, or_null, contents}
-use Rattle.mailstore.proofs.SchemaFacts.{no_works}
+use Rattle.mailstore.specs.Schema.{mail_schema}
+use Rattle.mailstore.specs.Cells.{or_null, contents}
+use Rattle.mailstore.specs.MetaTable.{meta, insert_version, meta_tree}
+use Rattle.mailstore.specs.AccountTable.{account, insert_account, update_active, update_next_copy, account_cells, with_active, with_next_copy, account_tree, next_copy_column, next_notice_column, next_out_column, rounds_column}
+use Rattle.mailstore.specs.ScriptTable.{script, insert_script, delete_script, script_cells, script_tree}
+use Rattle.mailstore.specs.CopyTable.{copy, insert_copy, copy_cells, copy_tree}
+use Rattle.mailstore.proofs.SchemaFacts.{no_works, copy_listed, script_listed}
 use Rattle.mailstore.proofs.TextFacts.{by_one, by_two, version_terms, account_terms, active_columns, next_copy_columns, three_terms, four_terms, insert_version_is, insert_version_plain, insert_account_is, insert_account_plain, update_active_is, update_active_plain, update_next_copy_is, update_next_copy_plain, insert_script_is, insert_script_plain, delete_script_is, delete_script_plain, insert_copy_is, insert_copy_plain}
 
 -- what a statement that ran, or failed, leaves of the tables and of the last commit
@@ -35,10 +38,10 @@ kept : (sql : List ℕ) (params : Row) (old new : State) (r : Result ℕ Error) 
 kept sql params old new r ran = inside_keeps old new 0 false sql params r ran
 
 abbrev pub account_index : Index
-account_index = automatic account 0 (1 ∷ []) 3
+account_index = automatic account 0 (1 ∷ []) (account_tree + 1)
 
 abbrev pub script_index : Index
-script_index = automatic script 0 (1 ∷ 2 ∷ []) 5
+script_index = automatic script 0 (1 ∷ 2 ∷ []) (script_tree + 1)
 
 pub account_agrees : (name : List ℕ) (n : ℤ) (cells : Row) → has_key (owner_key name) cells ≡ true → agree account_index.order account_index.columns (Int n ∷ cells) (0 ∷ []) (owner_key name) ≡ true
 unfolding first_key
@@ -48,112 +51,112 @@ pub script_agrees : (owner name : List ℕ) (n : ℤ) (cells : Row) → has_key 
 unfolding first_key
 script_agrees owner name n cells h = h
 
-pub script_removed : (old new : State) (owner name : List ℕ) (r : Result ℕ Error) → ExecutesInside 0 delete_script (pair_key owner name) old new r → MakesNow old new r (removed 4 (pair_key owner name))
-script_removed old new owner name (Err e) ran = (kept _ _ old new (Err e) ran, tt)
-script_removed old new owner name (Ok count) ran = (
+pub removes_script : (old new : State) (owner name : List ℕ) (r : Result ℕ Error) → ExecutesInside 0 delete_script (pair_key owner name) old new r → MakesNow old new r (removed script_tree (pair_key owner name))
+removes_script old new owner name (Err e) ran = (kept _ _ old new (Err e) ran, tt)
+removes_script old new owner name (Ok count) ran = (
   kept _ _ old new (Ok count) ran,
   (
     λ tables h.
         let params = pair_key owner name in
         let on = on_delete mail_schema delete_script params old new tables h delete_script_plain count ran.0 2 script refl _ delete_script_is in
-        delete_holds mail_schema no_works script.name 4 script.primary script.references script.columns params old new tables h (inr (inr (inl refl))) script_index (inr (inr (inl refl))) refl params (0 ∷ 1 ∷ [])
+        delete_holds mail_schema no_works script.name script_tree script.primary script.references script.columns params old new tables h script_listed script_index (inr (inr (inl refl))) refl params (0 ∷ 1 ∷ [])
         (script_agrees owner name) by_two (λ n cells. refl) 2 on.0 on.1,
     ran.1,
   ),
 )
 
-pub script_inserted : (old new : State) (owner name text : List ℕ) (r : Result ℕ Error) → ExecutesInside 0 insert_script (script_cells owner name text) old new r
-    → MakesNow old new r (added 4 (script_cells owner name text))
-script_inserted old new owner name text (Err e) ran = (kept _ _ old new (Err e) ran, tt)
-script_inserted old new owner name text (Ok count) ran = (
+pub inserts_script : (old new : State) (owner name text : List ℕ) (r : Result ℕ Error) → ExecutesInside 0 insert_script (script_cells owner name text) old new r
+    → MakesNow old new r (added script_tree (script_cells owner name text))
+inserts_script old new owner name text (Err e) ran = (kept _ _ old new (Err e) ran, tt)
+inserts_script old new owner name text (Ok count) ran = (
   kept _ _ old new (Ok count) ran,
   (
     λ tables h.
         let params = script_cells owner name text in
         let on = on_insert mail_schema insert_script params old new tables h insert_script_plain count ran.0 2 script refl _ insert_script_is in
-        insert_holds mail_schema no_works script.name 4 script.primary script.references script.columns params old new tables h (inr (inr (inl refl))) 2 three_terms 4 params on.0 refl refl on.1,
+        insert_holds mail_schema no_works script.name script_tree script.primary script.references script.columns params old new tables h script_listed 2 three_terms 4 params on.0 refl refl on.1,
     ran.1,
   ),
 )
 
-pub copy_inserted : (old new : State) (owner folder : List ℕ) (n : ℤ) (message : List ℕ) (r : Result ℕ Error) → ExecutesInside 0 insert_copy (copy_cells owner folder n message) old new r
-    → MakesNow old new r (added 6 (copy_cells owner folder n message))
-copy_inserted old new owner folder n message (Err e) ran = (kept _ _ old new (Err e) ran, tt)
-copy_inserted old new owner folder n message (Ok count) ran = (
+pub inserts_copy : (old new : State) (owner folder : List ℕ) (n : ℤ) (message : List ℕ) (r : Result ℕ Error) → ExecutesInside 0 insert_copy (copy_cells owner folder n message) old new r
+    → MakesNow old new r (added copy_tree (copy_cells owner folder n message))
+inserts_copy old new owner folder n message (Err e) ran = (kept _ _ old new (Err e) ran, tt)
+inserts_copy old new owner folder n message (Ok count) ran = (
   kept _ _ old new (Ok count) ran,
   (
     λ tables h.
         let params = copy_cells owner folder n message in
-        let on = on_insert mail_schema insert_copy params old new tables h insert_copy_plain count ran.0 3 copy refl _ insert_copy_is in
-        insert_holds mail_schema no_works copy.name 6 copy.primary copy.references copy.columns params old new tables h (inr (inr (inr (inl refl)))) 3 four_terms 5 params on.0 refl (rw cast_int) on.1,
+        let on = on_insert mail_schema insert_copy params old new tables h insert_copy_plain count ran.0 6 copy refl _ insert_copy_is in
+        insert_holds mail_schema no_works copy.name copy_tree copy.primary copy.references copy.columns params old new tables h copy_listed 6 four_terms 5 params on.0 refl (rw cast_int) on.1,
     ran.1,
   ),
 )
 
-pub account_inserted : (old new : State) (name address salt : List ℕ) (rounds : ℕ) (digest : List ℕ) (r : Result ℕ Error)
-    → ExecutesInside 0 insert_account (Blob name ∷ Blob address ∷ Blob salt ∷ Int (pos rounds) ∷ Blob digest ∷ []) old new r → MakesNow old new r (added 2 (account_cells name address salt rounds digest))
-account_inserted old new name address salt rounds digest (Err e) ran = (kept _ _ old new (Err e) ran, tt)
-account_inserted old new name address salt rounds digest (Ok count) ran = (
+pub inserts_account : (old new : State) (name address salt : List ℕ) (rounds : ℕ) (digest : List ℕ) (r : Result ℕ Error)
+    → ExecutesInside 0 insert_account (Blob name ∷ Blob address ∷ Blob salt ∷ Int (pos rounds) ∷ Blob digest ∷ []) old new r → MakesNow old new r (added account_tree (account_cells name address salt rounds digest))
+inserts_account old new name address salt rounds digest (Err e) ran = (kept _ _ old new (Err e) ran, tt)
+inserts_account old new name address salt rounds digest (Ok count) ran = (
   kept _ _ old new (Ok count) ran,
   (
     λ tables h.
         let params : Row = Blob name ∷ Blob address ∷ Blob salt ∷ Int (pos rounds) ∷ Blob digest ∷ [] in
         let on = on_insert mail_schema insert_account params old new tables h insert_account_plain count ran.0 1 account refl _ insert_account_is in
-        insert_holds mail_schema no_works account.name 2 account.primary account.references account.columns params old new tables h (inr (inl refl)) 1 account_terms 10 (account_cells name address salt rounds digest) on.0 refl
+        insert_holds mail_schema no_works account.name account_tree account.primary account.references account.columns params old new tables h (inr (inl refl)) 1 account_terms 10 (account_cells name address salt rounds digest) on.0 refl
         (rw (cast_int (pos rounds), cast_int (pos 1))) on.1,
     ran.1,
   ),
 )
 
-pub version_inserted : (old new : State) (r : Result ℕ Error) → ExecutesInside 0 insert_version [] old new r → MakesNow old new r (added 0 (Text (codes "version") ∷ Int (pos 1) ∷ []))
-version_inserted old new (Err e) ran = (kept _ _ old new (Err e) ran, tt)
-version_inserted old new (Ok count) ran = (
+pub inserts_version : (old new : State) (r : Result ℕ Error) → ExecutesInside 0 insert_version [] old new r → MakesNow old new r (added meta_tree (Text (codes "version") ∷ Int (pos 1) ∷ []))
+inserts_version old new (Err e) ran = (kept _ _ old new (Err e) ran, tt)
+inserts_version old new (Ok count) ran = (
   kept _ _ old new (Ok count) ran,
   (
     λ tables h.
         let on = on_insert mail_schema insert_version [] old new tables h insert_version_plain count ran.0 0 meta refl _ insert_version_is in
-        insert_holds mail_schema no_works meta.name 0 meta.primary meta.references meta.columns [] old new tables h (inl refl) 0 version_terms 3 (Text (codes "version") ∷ Int (pos 1) ∷ []) on.0 refl
+        insert_holds mail_schema no_works meta.name meta_tree meta.primary meta.references meta.columns [] old new tables h (inl refl) 0 version_terms 3 (Text (codes "version") ∷ Int (pos 1) ∷ []) on.0 refl
         (rw (cast_int (pos 1))) on.1,
     ran.1,
   ),
 )
 
 -- the INTEGER columns of an account's row are stored as they are
-module _ (old : State) (tables : Tables) (h : Holds mail_schema old.now tables) (cells : Row) (there : Has (tables 2) cells) where
+module _ (old : State) (tables : Tables) (h : Holds mail_schema old.now tables) (cells : Row) (there : Has (tables account_tree) cells) where
   whole : (place : ℕ) (name : List ℕ) → slice_get account.columns place ≡ Some (needed name Integer) → cast Integer (column cells place) ≡ column cells place
   whole place name at = cast_integer (column cells place)
-      (column_is_of mail_schema account.name 2 account.primary account.references account.columns (inr (inl refl)) old.now.trees h.fits (tables 2) (h.each account (inr (inl refl))) cells there place (needed name Integer) at refl)
+      (column_is_of mail_schema account.name account_tree account.primary account.references account.columns (inr (inl refl)) old.now.trees h.fits (tables account_tree) (h.each account (inr (inl refl))) cells there place (needed name Integer) at refl)
 
   active_fits : (v : Value) → cast_all account.columns (with_active v cells) ≡ with_active v cells
-  active_fits v = rw (whole 3 _ refl, whole 6 _ refl, whole 7 _ refl, whole 8 _ refl)
+  active_fits v = rw (whole rounds_column _ refl, whole next_copy_column _ refl, whole next_out_column _ refl, whole next_notice_column _ refl)
 
   next_copy_fits : (n : ℤ) → cast_all account.columns (with_next_copy n cells) ≡ with_next_copy n cells
-  next_copy_fits n = rw (whole 3 _ refl, cast_int n, whole 7 _ refl, whole 8 _ refl)
+  next_copy_fits n = rw (whole rounds_column _ refl, cast_int n, whole next_out_column _ refl, whole next_notice_column _ refl)
 
-pub active_set : (old new : State) (name : List ℕ) (v : Value) (r : Result ℕ Error) → ExecutesInside 0 update_active (Blob name ∷ v ∷ []) old new r → MakesNow old new r (set_in 2 (owner_key name) (with_active v))
-active_set old new name v (Err e) ran = (kept _ _ old new (Err e) ran, tt)
-active_set old new name v (Ok count) ran = (
+pub sets_active : (old new : State) (name : List ℕ) (v : Value) (r : Result ℕ Error) → ExecutesInside 0 update_active (Blob name ∷ v ∷ []) old new r → MakesNow old new r (set_in account_tree (owner_key name) (with_active v))
+sets_active old new name v (Err e) ran = (kept _ _ old new (Err e) ran, tt)
+sets_active old new name v (Ok count) ran = (
   kept _ _ old new (Ok count) ran,
   (
     λ tables h.
         let params : Row = Blob name ∷ v ∷ [] in
         let on = on_update mail_schema update_active params old new tables h update_active_plain count ran.0 1 account refl _ update_active_is in
-        update_holds mail_schema no_works account.name 2 account.primary account.references account.columns params old new tables h (inr (inl refl)) account_index (inr (inl refl)) refl (owner_key name) (0 ∷ [])
+        update_holds mail_schema no_works account.name account_tree account.primary account.references account.columns params old new tables h (inr (inl refl)) account_index (inr (inl refl)) refl (owner_key name) (0 ∷ [])
         (account_agrees name) by_one (λ n cells. refl) (with_active v) (λ cells there. active_fits old tables h cells there v) active_columns (λ n cells. refl) 1 on.0 on.1,
     ran.1,
   ),
 )
 
-pub next_copy_set : (old new : State) (name : List ℕ) (next : ℤ) (r : Result ℕ Error) → ExecutesInside 0 update_next_copy (Blob name ∷ Int next ∷ []) old new r
-    → MakesNow old new r (set_in 2 (owner_key name) (with_next_copy next))
-next_copy_set old new name next (Err e) ran = (kept _ _ old new (Err e) ran, tt)
-next_copy_set old new name next (Ok count) ran = (
+pub sets_next_copy : (old new : State) (name : List ℕ) (next : ℤ) (r : Result ℕ Error) → ExecutesInside 0 update_next_copy (Blob name ∷ Int next ∷ []) old new r
+    → MakesNow old new r (set_in account_tree (owner_key name) (with_next_copy next))
+sets_next_copy old new name next (Err e) ran = (kept _ _ old new (Err e) ran, tt)
+sets_next_copy old new name next (Ok count) ran = (
   kept _ _ old new (Ok count) ran,
   (
     λ tables h.
         let params : Row = Blob name ∷ Int next ∷ [] in
         let on = on_update mail_schema update_next_copy params old new tables h update_next_copy_plain count ran.0 1 account refl _ update_next_copy_is in
-        update_holds mail_schema no_works account.name 2 account.primary account.references account.columns params old new tables h (inr (inl refl)) account_index (inr (inl refl)) refl (owner_key name) (0 ∷ [])
+        update_holds mail_schema no_works account.name account_tree account.primary account.references account.columns params old new tables h (inr (inl refl)) account_index (inr (inl refl)) refl (owner_key name) (0 ∷ [])
         (account_agrees name) by_one (λ n cells. refl) (with_next_copy next) (λ cells there. next_copy_fits old tables h cells there next) next_copy_columns (λ n cells. refl) 1 on.0 on.1,
     ran.1,
   ),

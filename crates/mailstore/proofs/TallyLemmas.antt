@@ -8,14 +8,14 @@ use Rattle.std.proofs.lemmas.Cmp.{nat_list_cmp_total, nat_cmp_total, tied_itself
 use Rattle.std.specs.Cmp.Lexicographic.{pointwise}
 use Rattle.std.proofs.lemmas.List.Sums.{sum_by-cons}
 use Rattle.std.proofs.lemmas.List.Sorted.{sum_by-IsPermutation}
-use Rattle.mailstore.specs.Shows.{Copy, folders_from}
+use Rattle.mailstore.specs.Account.{bytes_cmp, Folders, messages_in, filed}
+use Rattle.mailstore.specs.CopyTable.{Copy, folders_from}
+use Rattle.mailstore.specs.Tally.{counted, tallied, count_of, size_of}
 use Rattle.mailstore.proofs.OrderLemmas.{entries_rise}
 use Rattle.sqlite_trees.specs.Tree.{IsAscending}
 use Rattle.sqlite_keyed.proofs.ListLemmas.{all_weaker, ascending-map}
 use Rattle.sqlite_typed.proofs.TestLemmas.{same_bytes}
 use Rattle.mailstore.specs.declared.folders.Folder.{Folder}
-use Rattle.mailstore.specs.Account.{bytes_cmp, Folders, messages_in, filed}
-use Rattle.mailstore.specs.Tally.{counted, tallied, count_of, size_of}
 use Rattle.mailstore.proofs.AccountLemmas.{bytes_antisymmetric}
 
 abbrev Below : List ℕ → List ℕ → Type 0

@@ -11,7 +11,10 @@ use Rattle.sqlite.specs.Listing.{understood, reads_listing}
 use Rattle.sqlite.proofs.Callers.{IsPlain, command_of}
 use Rattle.sqlrows.specs.Forms.{equals, over}
 use Rattle.mailstore.specs.Schema.{mail_schema}
-use Rattle.mailstore.specs.Statements.{insert_version, insert_account, update_active, update_next_copy, insert_script, delete_script, insert_copy, select_version, select_account, select_next_copy, select_names, select_script, select_folders, select_folder}
+use Rattle.mailstore.specs.MetaTable.{insert_version, select_version, meta_tree}
+use Rattle.mailstore.specs.AccountTable.{insert_account, update_active, update_next_copy, select_account, select_next_copy, account_tree}
+use Rattle.mailstore.specs.ScriptTable.{insert_script, delete_script, select_names, select_script, script_tree}
+use Rattle.mailstore.specs.CopyTable.{insert_copy, select_folders, select_folder, copy_tree}
 
 abbrev pub by_one : List Term
 by_one = equals 1 0 ∷ []
@@ -44,7 +47,7 @@ insert_account_plain = (refl, refl)
 abbrev pub active_columns : List Term
 active_columns = col 1 0 ∷ col 1 0 ∷ col 1 1 ∷ col 1 2 ∷ col 1 3 ∷ col 1 4 ∷ col 1 5 ∷ col 0 1 ∷ col 1 7 ∷ col 1 8 ∷ col 1 9 ∷ []
 
-pub update_active_is : command_of (understood mail_schema update_active) ≡ Update 1 (over 2 by_one active_columns [])
+pub update_active_is : command_of (understood mail_schema update_active) ≡ Update 1 (over account_tree by_one active_columns [])
 unfolding understood everything
 update_active_is = refl
 
@@ -55,7 +58,7 @@ update_active_plain = (refl, refl)
 abbrev pub next_copy_columns : List Term
 next_copy_columns = col 1 0 ∷ col 1 0 ∷ col 1 1 ∷ col 1 2 ∷ col 1 3 ∷ col 1 4 ∷ col 1 5 ∷ col 1 6 ∷ col 0 1 ∷ col 1 8 ∷ col 1 9 ∷ []
 
-pub update_next_copy_is : command_of (understood mail_schema update_next_copy) ≡ Update 1 (over 2 by_one next_copy_columns [])
+pub update_next_copy_is : command_of (understood mail_schema update_next_copy) ≡ Update 1 (over account_tree by_one next_copy_columns [])
 unfolding understood everything
 update_next_copy_is = refl
 
@@ -74,7 +77,7 @@ pub insert_script_plain : IsPlain (understood mail_schema insert_script)
 unfolding understood everything
 insert_script_plain = (refl, refl)
 
-pub delete_script_is : command_of (understood mail_schema delete_script) ≡ Delete 2 (over 4 by_two (col 1 0 ∷ []) [])
+pub delete_script_is : command_of (understood mail_schema delete_script) ≡ Delete 2 (over script_tree by_two (col 1 0 ∷ []) [])
 unfolding understood everything
 delete_script_is = refl
 
@@ -85,7 +88,7 @@ delete_script_plain = (refl, refl)
 abbrev pub four_terms : List Term
 four_terms = col 0 0 ∷ col 0 1 ∷ col 0 2 ∷ col 0 3 ∷ []
 
-pub insert_copy_is : command_of (understood mail_schema insert_copy) ≡ Insert 3 (Values (lit Null ∷ four_terms) 5)
+pub insert_copy_is : command_of (understood mail_schema insert_copy) ≡ Insert 6 (Values (lit Null ∷ four_terms) 5)
 unfolding understood everything
 insert_copy_is = refl
 
@@ -96,7 +99,7 @@ insert_copy_plain = (refl, refl)
 abbrev pub account_shown : List Term
 account_shown = col 1 2 ∷ col 1 3 ∷ col 1 4 ∷ col 1 5 ∷ col 1 6 ∷ []
 
-pub select_account_is : command_of (understood mail_schema select_account) ≡ Select (over 2 by_one account_shown []) (codes "address" ∷ codes "salt" ∷ codes "rounds" ∷ codes "digest" ∷ codes "active" ∷ [])
+pub select_account_is : command_of (understood mail_schema select_account) ≡ Select (over account_tree by_one account_shown []) (codes "address" ∷ codes "salt" ∷ codes "rounds" ∷ codes "digest" ∷ codes "active" ∷ [])
 unfolding understood everything
 select_account_is = refl
 
@@ -104,7 +107,7 @@ pub select_account_plain : IsPlain (understood mail_schema select_account) × (r
 unfolding understood everything
 select_account_plain = ((refl, refl), refl)
 
-pub select_version_is : command_of (understood mail_schema select_version) ≡ Select (over 0 by_one (col 1 2 ∷ []) []) (codes "value" ∷ [])
+pub select_version_is : command_of (understood mail_schema select_version) ≡ Select (over meta_tree by_one (col 1 2 ∷ []) []) (codes "value" ∷ [])
 unfolding understood everything
 select_version_is = refl
 
@@ -112,7 +115,7 @@ pub select_version_plain : IsPlain (understood mail_schema select_version) × (r
 unfolding understood everything
 select_version_plain = ((refl, refl), refl)
 
-pub select_next_copy_is : command_of (understood mail_schema select_next_copy) ≡ Select (over 2 by_one (col 1 7 ∷ []) []) (codes "next_copy" ∷ [])
+pub select_next_copy_is : command_of (understood mail_schema select_next_copy) ≡ Select (over account_tree by_one (col 1 7 ∷ []) []) (codes "next_copy" ∷ [])
 unfolding understood everything
 select_next_copy_is = refl
 
@@ -120,7 +123,7 @@ pub select_next_copy_plain : IsPlain (understood mail_schema select_next_copy) �
 unfolding understood everything
 select_next_copy_plain = ((refl, refl), refl)
 
-pub select_names_is : command_of (understood mail_schema select_names) ≡ Select (over 4 by_one (col 1 2 ∷ []) ((col 1 2, ascending Binary) ∷ [])) (codes "name" ∷ [])
+pub select_names_is : command_of (understood mail_schema select_names) ≡ Select (over script_tree by_one (col 1 2 ∷ []) ((col 1 2, ascending Binary) ∷ [])) (codes "name" ∷ [])
 unfolding understood everything
 select_names_is = refl
 
@@ -128,7 +131,7 @@ pub select_names_plain : IsPlain (understood mail_schema select_names) × (reads
 unfolding understood everything
 select_names_plain = ((refl, refl), refl)
 
-pub select_script_is : command_of (understood mail_schema select_script) ≡ Select (over 4 by_two (col 1 3 ∷ []) []) (codes "text" ∷ [])
+pub select_script_is : command_of (understood mail_schema select_script) ≡ Select (over script_tree by_two (col 1 3 ∷ []) []) (codes "text" ∷ [])
 unfolding understood everything
 select_script_is = refl
 
@@ -136,7 +139,7 @@ pub select_script_plain : IsPlain (understood mail_schema select_script) × (rea
 unfolding understood everything
 select_script_plain = ((refl, refl), refl)
 
-pub select_folders_is : command_of (understood mail_schema select_folders) ≡ Select (over 6 by_one (col 1 2 ∷ []) ((col 1 2, ascending Binary) ∷ [])) (codes "folder" ∷ [])
+pub select_folders_is : command_of (understood mail_schema select_folders) ≡ Select (over copy_tree by_one (col 1 2 ∷ []) ((col 1 2, ascending Binary) ∷ [])) (codes "folder" ∷ [])
 unfolding understood everything
 select_folders_is = refl
 
@@ -144,7 +147,7 @@ pub select_folders_plain : IsPlain (understood mail_schema select_folders) × (r
 unfolding understood everything
 select_folders_plain = ((refl, refl), refl)
 
-pub select_folder_is : command_of (understood mail_schema select_folder) ≡ Select (over 6 by_two (col 1 4 ∷ []) ((col 1 3, ascending Binary) ∷ [])) (codes "message" ∷ [])
+pub select_folder_is : command_of (understood mail_schema select_folder) ≡ Select (over copy_tree by_two (col 1 4 ∷ []) ((col 1 3, ascending Binary) ∷ [])) (codes "message" ∷ [])
 unfolding understood everything
 select_folder_is = refl
 

@@ -12,7 +12,7 @@ use Rattle.sqlite.proofs.Callers.{survives_begin}
 use Rattle.sqlrows.specs.Rows.{Tables, Holds}
 use Rattle.mailstore.specs.declared.change.Change.{Change}
 use Rattle.mailstore.specs.Schema.{mail_schema}
-use Rattle.mailstore.specs.Words.{Makes}
+use Rattle.mailstore.specs.Connection.{Makes}
 use Rattle.mailstore.specs.Changes.{made_one, made, MayHave}
 
 -- what a loop over the changes keeps

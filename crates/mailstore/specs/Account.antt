@@ -103,6 +103,10 @@ files_copies names message a = record a { folders = filed_in message a.folders n
 
 -- ---- accounts by name
 
+-- an account that was just made joins the others
+abbrev pub new_user : List ℕ → List ℕ → List ℕ → ℕ → List ℕ → Accounts → Accounts
+new_user name address salt rounds digest accounts = insert accounts name (new_account address (record { salt = salt; rounds = rounds; digest = digest }))
+
 abbrev pub in_place : Accounts → List ℕ → (Account → Account) → Option Account → Accounts
 in_place accounts user change None = accounts
 in_place accounts user change (Some a) = insert accounts user (change a)

@@ -1,5 +1,5 @@
 -- What row changes make of the tables.
-use Rattle.std.specs.Prelude.{◌≡◌, ℕ, suc, pos, List, [], ◌∷◌, fold}
+use Rattle.std.specs.Prelude.{◌≡◌, ℕ, suc, ℤ, pos, Option, List, [], ◌∷◌, fold}
 use Rattle.std.specs.List.{AllByRecursion}
 use Rattle.sqlite_value.specs.declared.value.Value.TheVariants.{Blob}
 use Rattle.sqlite_trees.specs.Tree.{Trees}
@@ -9,15 +9,40 @@ use Rattle.sqlrows.specs.Rows.{Tables, Holds, added, removed, set_in}
 use Rattle.mailstore.specs.declared.change.Change.{Change}
 use Rattle.mailstore.specs.declared.change.Change.TheVariants.{AddAccount, SetActive, SetNextCopy, AddScript, RemoveScript, AddCopy}
 use Rattle.mailstore.specs.Schema.{mail_schema}
-use Rattle.mailstore.specs.Cells.{account_cells, script_cells, copy_cells, with_active, with_next_copy, or_null, contents}
+use Rattle.mailstore.specs.Cells.{or_null, contents}
+use Rattle.mailstore.specs.AccountTable.{account_cells, with_active, with_next_copy, account_tree}
+use Rattle.mailstore.specs.ScriptTable.{script_cells, script_tree}
+use Rattle.mailstore.specs.CopyTable.{copy_cells, copy_tree}
+
+-- ---- one row change
+
+abbrev pub account_added : List ℕ → List ℕ → List ℕ → ℕ → List ℕ → Tables → Tables
+account_added name address salt rounds digest = added account_tree (account_cells name address salt rounds digest)
+
+abbrev pub active_set : List ℕ → Option (List ℕ) → Tables → Tables
+active_set name active = set_in account_tree (Blob name ∷ []) (with_active (or_null active))
+
+abbrev pub next_copy_set : List ℕ → ℤ → Tables → Tables
+next_copy_set name next = set_in account_tree (Blob name ∷ []) (with_next_copy next)
+
+abbrev pub script_added : List ℕ → List ℕ → List ℕ → Tables → Tables
+script_added owner name text = added script_tree (script_cells owner name text)
+
+abbrev pub script_removed : List ℕ → List ℕ → Tables → Tables
+script_removed owner name = removed script_tree (Blob owner ∷ Blob name ∷ [])
+
+abbrev pub copy_added : List ℕ → List ℕ → ℤ → List ℕ → Tables → Tables
+copy_added owner folder n message = added copy_tree (copy_cells owner folder n message)
 
 abbrev pub made_one : Change → Tables → Tables
-made_one (AddAccount name address salt rounds digest) tables = added 2 (account_cells name.now address.now salt.now rounds digest.now) tables
-made_one (SetActive name active) tables = set_in 2 (Blob name.now ∷ []) (with_active (or_null (contents active))) tables
-made_one (SetNextCopy name next) tables = set_in 2 (Blob name.now ∷ []) (with_next_copy next) tables
-made_one (AddScript owner name text) tables = added 4 (script_cells owner.now name.now text.now) tables
-made_one (RemoveScript owner name) tables = removed 4 (Blob owner.now ∷ Blob name.now ∷ []) tables
-made_one (AddCopy owner folder n message) tables = added 6 (copy_cells owner.now folder.now n message.now) tables
+made_one (AddAccount name address salt rounds digest) = account_added name.now address.now salt.now rounds digest.now
+made_one (SetActive name active) = active_set name.now (contents active)
+made_one (SetNextCopy name next) = next_copy_set name.now next
+made_one (AddScript owner name text) = script_added owner.now name.now text.now
+made_one (RemoveScript owner name) = script_removed owner.now name.now
+made_one (AddCopy owner folder n message) = copy_added owner.now folder.now n message.now
+
+-- ---- several
 
 -- the changes one after another
 abbrev pub made : Tables → List Change → Tables
@@ -43,9 +68,9 @@ AreOf user = AllByRecursion (λ d. owner_of d ≡ user)
 -- one row after another, numbered from n on
 abbrev pub copied : List ℕ → List ℕ → ℕ → List (List ℕ) → Tables → Tables
 copied user message n [] own = own
-copied user message n (name ∷ names) own = copied user message (suc n) names (added 6 (copy_cells user name (pos n) message) own)
+copied user message n (name ∷ names) own = copied user message (suc n) names (copy_added user name (pos n) message own)
 
 -- the changes raise the counter of copies past these, and then file the message in each folder, numbered from n on
 pub record AreCopies (user message : List ℕ) (names : List (List ℕ)) (n last : ℕ) (changes : List Change) : Type 0 where
   pub owned : AreOf user changes
-  pub makes : (own : Tables) → made own changes ≡ copied user message n names (set_in 2 (Blob user ∷ []) (with_next_copy (pos last)) own)
+  pub makes : (own : Tables) → made own changes ≡ copied user message n names (next_copy_set user (pos last) own)

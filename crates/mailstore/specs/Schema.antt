@@ -1,8 +1,5 @@
 -- The tables of version 1, as the texts of their CREATE statements define them.
-use Rattle.std.specs.Prelude.{◌≡◌, true, false, None, List, [], ◌∷◌, ◌++◌, codes}
-use Rattle.sqlite_schema.specs.declared.schema.Action.TheVariants.{NoAction}
-use Rattle.sqlite_schema.specs.declared.schema.Kind.TheVariants.{Integer, Text, Blob}
-use Rattle.sqlite_schema.specs.declared.schema.Reference.{Reference}
+use Rattle.std.specs.Prelude.{◌≡◌, ◌+◌, true, false, None, List, [], ◌∷◌, ◌++◌}
 use Rattle.sqlite_schema.specs.declared.schema.Column.{Column}
 use Rattle.sqlite_schema.specs.declared.schema.Index.{Index}
 use Rattle.sqlite_schema.specs.declared.schema.Table.{Table}
@@ -11,52 +8,28 @@ use Rattle.sqlite_catalog.specs.Change.{automatics, created}
 use Rattle.sqlite_value.specs.declared.value.Value.TheVariants.{Null}
 use Rattle.sqlite_value.specs.declared.keys.Collation.TheVariants.{Binary}
 use Rattle.sqlite_value.specs.Keys.{plain}
-use Rattle.sqlrows.specs.Forms.{needed, maybe, keyed}
 use Rattle.mailstore.specs.declared.schema.Form.{Form}
 use Rattle.mailstore.specs.declared.schema.KeyForm.{KeyForm}
-
--- `REFERENCES account (name)` at the first column
-abbrev pub account_reference : Reference
-account_reference = record { columns = 1 ∷ []; parent = codes "account"; parent_columns = codes "name" ∷ []; on_delete = NoAction; on_update = NoAction; is_deferred = false }
-
-abbrev pub to_account : List Reference
-to_account = account_reference ∷ []
-
-abbrev pub meta : Table
-meta = keyed (codes "meta") 0 (1 ∷ []) [] (needed (codes "item") Text ∷ needed (codes "value") Integer ∷ [])
-
-abbrev pub account : Table
-account = keyed (codes "account") 2 (1 ∷ []) []
-    (needed (codes "name") Blob ∷ needed (codes "address") Blob ∷ needed (codes "salt") Blob ∷ needed (codes "rounds") Integer ∷ needed (codes "digest") Blob ∷ maybe (codes "active") Blob
-    ∷ needed (codes "next_copy") Integer ∷ needed (codes "next_out") Integer ∷ needed (codes "next_notice") Integer ∷ [])
-
-abbrev pub script : Table
-script = keyed (codes "script") 4 (1 ∷ 2 ∷ []) to_account (needed (codes "owner") Blob ∷ needed (codes "name") Blob ∷ needed (codes "text") Blob ∷ [])
-
-abbrev pub copy : Table
-copy = keyed (codes "copy") 6 (1 ∷ 2 ∷ 3 ∷ []) to_account (needed (codes "owner") Blob ∷ needed (codes "folder") Blob ∷ needed (codes "n") Integer ∷ needed (codes "message") Blob ∷ [])
-
-abbrev pub outgoing : Table
-outgoing = keyed (codes "outgoing") 8 (1 ∷ 2 ∷ []) to_account
-    (needed (codes "owner") Blob ∷ needed (codes "id") Integer ∷ needed (codes "kind") Integer ∷ needed (codes "sender") Blob ∷ needed (codes "target") Blob ∷ needed (codes "message") Blob ∷ [])
-
-abbrev pub reply : Table
-reply = keyed (codes "reply") 10 (1 ∷ 2 ∷ 3 ∷ []) to_account (needed (codes "owner") Blob ∷ needed (codes "handle") Blob ∷ needed (codes "sender") Blob ∷ needed (codes "moment") Integer ∷ [])
-
-abbrev pub notice : Table
-notice = keyed (codes "notice") 12 (1 ∷ 2 ∷ []) to_account (needed (codes "owner") Blob ∷ needed (codes "id") Integer ∷ needed (codes "moment") Integer ∷ needed (codes "text") Blob ∷ [])
+use Rattle.mailstore.specs.MetaTable.{meta_tree, meta}
+use Rattle.mailstore.specs.AccountTable.{account_tree, account}
+use Rattle.mailstore.specs.ScriptTable.{script_tree, script}
+use Rattle.mailstore.specs.QueueTable.{outgoing_tree, outgoing}
+use Rattle.mailstore.specs.ReplyTable.{reply_tree, reply}
+use Rattle.mailstore.specs.NoticeTable.{notice_tree, notice}
+use Rattle.mailstore.specs.CopyTable.{copy_tree, copy}
 
 abbrev pub the_tables : List Table
-the_tables = meta ∷ account ∷ script ∷ copy ∷ outgoing ∷ reply ∷ notice ∷ []
+the_tables = meta ∷ account ∷ script ∷ outgoing ∷ reply ∷ notice ∷ copy ∷ []
 
 abbrev pub no_schema : Schema
 no_schema = record { tables = []; indexes = []; views = [] }
 
--- the index of each table's key
+-- the index of each table's key: its tree is the one after the table's
 abbrev pub the_indexes : List Index
 the_indexes =
-    automatics meta 0 1 meta.uniques ++ automatics account 0 3 account.uniques ++ automatics script 0 5 script.uniques ++ automatics copy 0 7 copy.uniques
-    ++ automatics outgoing 0 9 outgoing.uniques ++ automatics reply 0 11 reply.uniques ++ automatics notice 0 13 notice.uniques
+    automatics meta 0 (meta_tree + 1) meta.uniques ++ automatics account 0 (account_tree + 1) account.uniques ++ automatics script 0 (script_tree + 1) script.uniques
+    ++ automatics outgoing 0 (outgoing_tree + 1) outgoing.uniques ++ automatics reply 0 (reply_tree + 1) reply.uniques ++ automatics notice 0 (notice_tree + 1) notice.uniques
+    ++ automatics copy 0 (copy_tree + 1) copy.uniques
 
 abbrev pub mail_schema : Schema
 mail_schema = record { tables = the_tables; indexes = the_indexes; views = [] }
@@ -72,13 +45,13 @@ abbrev pub schema_3 : Schema
 schema_3 = created schema_2 (record script { tree = 0 })
 
 abbrev pub schema_4 : Schema
-schema_4 = created schema_3 (record copy { tree = 0 })
+schema_4 = created schema_3 (record outgoing { tree = 0 })
 
 abbrev pub schema_5 : Schema
-schema_5 = created schema_4 (record outgoing { tree = 0 })
+schema_5 = created schema_4 (record reply { tree = 0 })
 
 abbrev pub schema_6 : Schema
-schema_6 = created schema_5 (record reply { tree = 0 })
+schema_6 = created schema_5 (record notice { tree = 0 })
 
 -- the column of this form, without a default
 abbrev pub column_of : Form → Column

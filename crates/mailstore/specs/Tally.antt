@@ -2,6 +2,8 @@
 use Rattle.std.specs.Prelude.{◌≡◌, ◌+◌, ℕ, List, [], ◌∷◌, map, fold, length, if◌then◌else◌}
 use Rattle.std.specs.FinMap.{entries}
 use Rattle.std.specs.Ordering.{is_eq}
+use Rattle.sqlite_value.specs.declared.value.Value.TheVariants.{Blob}
+use Rattle.sqlite_value.specs.Order.{Row}
 use Rattle.mailstore.specs.declared.folders.Folder.{Folder}
 use Rattle.mailstore.specs.Account.{bytes_cmp, Account}
 
@@ -23,3 +25,7 @@ size_of e = (e.0, length e.1)
 -- the folders of the account, each with the number of its messages, in the order of their names
 abbrev pub AreFolders : List Folder → Account → Type 0
 AreFolders folders a = map count_of folders ≡ map size_of (entries a.folders)
+
+-- the rows are the folder of each copy, in order
+abbrev pub AreFolderRows : List Row → Account → Type 0
+AreFolderRows rows a = (names : List (List ℕ)) × (rows ≡ map (λ name. Blob name ∷ []) names) × AreFolders (tallied names) a

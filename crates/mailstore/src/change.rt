@@ -2,10 +2,9 @@
 ghost use Rattle.std.specs.Prelude.{◌≡◌, false, OnOk, OnErr};
 ghost use Rattle.sqlite.specs.Held.{state};
 ghost use Rattle.sqlite.specs.State.{HasCleanDisk, Survives};
-ghost use Rattle.sqlrows.specs.Rows.{Tables, Holds};
-ghost use Rattle.mailstore.specs.Schema.{mail_schema};
-ghost use Rattle.mailstore.specs.Words.{Makes, IsSettled, StaysSame};
-ghost use Rattle.mailstore.specs.Changes.{made_one, made, MayHave};
+ghost use Rattle.mailstore.specs.Connection.{Makes, IsSettled, StaysSame};
+ghost use Rattle.mailstore.specs.Changes.{made_one, MayHave};
+ghost use Rattle.mailstore.specs.Promises.{MakesAll};
 
 use crate::statement::{
     add_account, add_copy, add_script, remove_script, set_active, set_next_copy,
@@ -77,7 +76,7 @@ fn make<S: Alter>(tx: &mut Transaction<'_, S>, change: &Change<'_>) -> Result<us
 pub fn make_all<S: Alter>(conn: &mut Connection<S>, changes: &[Change<'_>]) -> Result<(), Error>
     requires { conn.old.in_transaction ≡ false }
     ensures ended { conn.new.in_transaction ≡ false }
-    ensures made { HasCleanDisk (state S.Store conn.new) → (tables : Tables) → Holds mail_schema (state S.Store conn.old).now tables → OnOk result (Holds mail_schema (state S.Store conn.new).now (made tables changes.now)) }
+    ensures made { MakesAll changes.now (state S.Store conn.old) (state S.Store conn.new) result }
     ensures settled { HasCleanDisk (state S.Store conn.new) → OnOk result (IsSettled (state S.Store conn.new)) }
     ensures same { HasCleanDisk (state S.Store conn.new) → OnErr result (StaysSame (state S.Store conn.old) (state S.Store conn.new)) }
     ensures crash { Survives (state S.Store conn.old) (state S.Store conn.new) (MayHave changes.now (state S.Store conn.old)) }

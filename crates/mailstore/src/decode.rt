@@ -1,12 +1,12 @@
 //! From the rows of a query to what a call answers.
+ghost use Rattle.mailstore.specs.Cells.{or_null};
+ghost use Rattle.mailstore.specs.Refusals.{IsPassing};
+ghost use Rattle.mailstore.specs.MetaTable.{SaysOne};
+ghost use Rattle.mailstore.specs.AccountTable.{IsRead};
 ghost use Rattle.mailstore.specs.Tally.{tallied};
 ghost use Rattle.std.specs.Prelude.{◌≡◌, ◌⊎◌, ℕ, List, [], pos, Some, option_map, map, slice_get, ◌↔◌, IsTrue, IfOk, IfErr};
 ghost use Rattle.sqlite_value.specs.declared.value.Value.TheVariants.{Int, Blob};
 ghost use Rattle.sqlite_value.specs.Order.{column};
-ghost use Rattle.mailstore.specs.Refusals.{IsPassing};
-ghost use Rattle.mailstore.specs.Cells.{or_null};
-ghost use Rattle.mailstore.specs.Calls.{IsRead};
-ghost use Rattle.mailstore.specs.Shows.{SaysOne};
 
 use crate::folders::{Folder, count};
 use crate::profile::Profile;

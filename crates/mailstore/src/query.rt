@@ -1,17 +1,13 @@
 //! The queries.
-ghost use Rattle.std.specs.Prelude.{◌≡◌, ℕ, List, false, [], ◌∷◌, map, slice_get, option_map, IsPermutation, ◌↔◌, IsTrue, IfOk, OnOk, IfSome};
-ghost use Rattle.std.specs.FinMap.{get, keys};
-ghost use Rattle.sqlite_value.specs.declared.value.Value.TheVariants.{Blob};
+ghost use Rattle.std.specs.Prelude.{◌≡◌, false, ◌↔◌, IsTrue};
 ghost use Rattle.sqlite.specs.Held.{state};
-ghost use Rattle.sqlite.specs.State.{HasCleanDisk, Survives};
-ghost use Rattle.sqlite_value.specs.Order.{column};
-ghost use Rattle.sqlrows.specs.Rows.{Tables, Holds};
-ghost use Rattle.mailstore.specs.Schema.{mail_schema};
-ghost use Rattle.mailstore.specs.Calls.{profile_row};
-ghost use Rattle.mailstore.specs.Words.{StaysSame, SeesCommit, ReadsOnly, IsLiveOnOk, IsQuiet, StaysShut};
-ghost use Rattle.mailstore.specs.Shows.{rows_of, version_rows, IsOurs, Presents};
-ghost use Rattle.mailstore.specs.Account.{Accounts, messages_in};
-ghost use Rattle.mailstore.specs.Tally.{tallied, AreFolders};
+ghost use Rattle.mailstore.specs.AccountTable.{account_tree, shown_account, shown_next_copy};
+ghost use Rattle.mailstore.specs.Shows.{IsOurs};
+ghost use Rattle.mailstore.specs.CopyTable.{AreMessageRows};
+ghost use Rattle.mailstore.specs.MetaTable.{AreVersions};
+ghost use Rattle.mailstore.specs.Promises.{Asks, Finds, FindsOwn};
+ghost use Rattle.mailstore.specs.ScriptTable.{AreNameRows, HasTextRow};
+ghost use Rattle.mailstore.specs.Tally.{AreFolderRows};
 
 use crate::decode::says_version_1;
 use sqlite::{Alter, Connection, Error, Row, params};
@@ -21,10 +17,7 @@ pub fn find_version<S: Alter>(conn: &mut Connection<S>) -> Result<Vec<Row>, Erro
     requires { conn.old.in_transaction ≡ false }
     ensures ended { conn.new.in_transaction ≡ false }
     ensures limit { conn.new.step_limit ≡ conn.old.step_limit }
-    ensures found { (state S.Store conn.old).now.schema ≡ mail_schema → HasCleanDisk (state S.Store conn.new) → IfOk result (λ rows. IsPermutation (map (λ r. column r 2 ∷ []) (version_rows (state S.Store conn.old).now.trees)) rows.items) }
-    ensures same { (state S.Store conn.old).now.schema ≡ mail_schema → HasCleanDisk (state S.Store conn.new) → StaysSame (state S.Store conn.old) (state S.Store conn.new) }
-    ensures live { (state S.Store conn.old).now.schema ≡ mail_schema → HasCleanDisk (state S.Store conn.new) → OnOk result (SeesCommit (state S.Store conn.new)) }
-    ensures crash { (state S.Store conn.old).now.schema ≡ mail_schema → Survives (state S.Store conn.old) (state S.Store conn.new) (λ _. ⊥) }
+    ensures asks { Asks (AreVersions (state S.Store conn.old).now.trees) (state S.Store conn.old) (state S.Store conn.new) result }
 {
     let _settled = conn.is_autocommit();
     conn.query_all("SELECT value FROM meta WHERE item = ?1", params!["version"])
@@ -35,10 +28,7 @@ pub fn has_version<S: Alter>(conn: &mut Connection<S>) -> Result<bool, Error>
     requires { conn.old.in_transaction ≡ false }
     ensures ended { conn.new.in_transaction ≡ false }
     ensures limit { conn.new.step_limit ≡ conn.old.step_limit }
-    ensures found { (state S.Store conn.old).now.schema ≡ mail_schema → HasCleanDisk (state S.Store conn.new) → IfOk result (λ is. IsTrue is ↔ IsOurs (state S.Store conn.old).now) }
-    ensures same { (state S.Store conn.old).now.schema ≡ mail_schema → HasCleanDisk (state S.Store conn.new) → StaysSame (state S.Store conn.old) (state S.Store conn.new) }
-    ensures live { (state S.Store conn.old).now.schema ≡ mail_schema → HasCleanDisk (state S.Store conn.new) → OnOk result (SeesCommit (state S.Store conn.new)) }
-    ensures crash { (state S.Store conn.old).now.schema ≡ mail_schema → Survives (state S.Store conn.old) (state S.Store conn.new) (λ _. ⊥) }
+    ensures asks { Asks (λ is. IsTrue is ↔ IsOurs (state S.Store conn.old).now) (state S.Store conn.old) (state S.Store conn.new) result }
 {
     let rows = find_version(conn)?;
     says_version_1(&rows)
@@ -49,11 +39,7 @@ pub fn find_account<S: Alter>(conn: &mut Connection<S>, name: &[u8]) -> Result<V
     requires { conn.old.in_transaction ≡ false }
     ensures ended { conn.new.in_transaction ≡ false }
     ensures limit { conn.new.step_limit ≡ conn.old.step_limit }
-    ensures found { HasCleanDisk (state S.Store conn.new) → (accounts : Accounts) → Presents (state S.Store conn.old).now accounts → IfOk result (λ rows. slice_get rows.items 0 ≡ option_map profile_row (get accounts name.now)) }
-    ensures same { ReadsOnly (state S.Store conn.old) (state S.Store conn.new) }
-    ensures live { IsLiveOnOk (state S.Store conn.old) (state S.Store conn.new) result }
-    ensures shut { StaysShut (state S.Store conn.old) (state S.Store conn.new) result }
-    ensures crash { IsQuiet (state S.Store conn.old) (state S.Store conn.new) }
+    ensures finds { FindsOwn name.now account_tree shown_account (state S.Store conn.old) (state S.Store conn.new) result }
 {
     let _settled = conn.is_autocommit();
     conn.query_all(
@@ -67,10 +53,7 @@ pub fn find_next_copy<S: Alter>(conn: &mut Connection<S>, name: &[u8]) -> Result
     requires { conn.old.in_transaction ≡ false }
     ensures ended { conn.new.in_transaction ≡ false }
     ensures limit { conn.new.step_limit ≡ conn.old.step_limit }
-    ensures found { HasCleanDisk (state S.Store conn.new) → (tables : Tables) → Holds mail_schema (state S.Store conn.old).now tables → IfOk result (λ rows. rows.items ≡ map (λ c. column c 6 ∷ []) (rows_of name.now tables 2)) }
-    ensures same { ReadsOnly (state S.Store conn.old) (state S.Store conn.new) }
-    ensures live { IsLiveOnOk (state S.Store conn.old) (state S.Store conn.new) result }
-    ensures crash { IsQuiet (state S.Store conn.old) (state S.Store conn.new) }
+    ensures finds { FindsOwn name.now account_tree shown_next_copy (state S.Store conn.old) (state S.Store conn.new) result }
 {
     let _settled = conn.is_autocommit();
     conn.query_all(
@@ -88,10 +71,7 @@ pub fn find_script<S: Alter>(
     requires { conn.old.in_transaction ≡ false }
     ensures ended { conn.new.in_transaction ≡ false }
     ensures limit { conn.new.step_limit ≡ conn.old.step_limit }
-    ensures found { HasCleanDisk (state S.Store conn.new) → (accounts : Accounts) → Presents (state S.Store conn.old).now accounts → IfOk result (λ rows. IfSome (get accounts owner.now) (λ a. slice_get rows.items 0 ≡ option_map (λ t. Blob t ∷ []) (get a.scripts name.now))) }
-    ensures same { ReadsOnly (state S.Store conn.old) (state S.Store conn.new) }
-    ensures live { IsLiveOnOk (state S.Store conn.old) (state S.Store conn.new) result }
-    ensures crash { IsQuiet (state S.Store conn.old) (state S.Store conn.new) }
+    ensures finds { Finds owner.now (HasTextRow name.now) (state S.Store conn.old) (state S.Store conn.new) result }
 {
     let _settled = conn.is_autocommit();
     conn.query_all(
@@ -105,10 +85,7 @@ pub fn find_names<S: Alter>(conn: &mut Connection<S>, owner: &[u8]) -> Result<Ve
     requires { conn.old.in_transaction ≡ false }
     ensures ended { conn.new.in_transaction ≡ false }
     ensures limit { conn.new.step_limit ≡ conn.old.step_limit }
-    ensures found { HasCleanDisk (state S.Store conn.new) → (accounts : Accounts) → Presents (state S.Store conn.old).now accounts → IfOk result (λ rows. IfSome (get accounts owner.now) (λ a. rows.items ≡ map (λ n. Blob n ∷ []) (keys a.scripts))) }
-    ensures same { ReadsOnly (state S.Store conn.old) (state S.Store conn.new) }
-    ensures live { IsLiveOnOk (state S.Store conn.old) (state S.Store conn.new) result }
-    ensures crash { IsQuiet (state S.Store conn.old) (state S.Store conn.new) }
+    ensures finds { Finds owner.now AreNameRows (state S.Store conn.old) (state S.Store conn.new) result }
 {
     let _settled = conn.is_autocommit();
     conn.query_all(
@@ -126,10 +103,7 @@ pub fn find_messages<S: Alter>(
     requires { conn.old.in_transaction ≡ false }
     ensures ended { conn.new.in_transaction ≡ false }
     ensures limit { conn.new.step_limit ≡ conn.old.step_limit }
-    ensures found { HasCleanDisk (state S.Store conn.new) → (accounts : Accounts) → Presents (state S.Store conn.old).now accounts → IfOk result (λ rows. IfSome (get accounts owner.now) (λ a. rows.items ≡ map (λ m. Blob m ∷ []) (messages_in a.folders folder.now))) }
-    ensures same { ReadsOnly (state S.Store conn.old) (state S.Store conn.new) }
-    ensures live { IsLiveOnOk (state S.Store conn.old) (state S.Store conn.new) result }
-    ensures crash { IsQuiet (state S.Store conn.old) (state S.Store conn.new) }
+    ensures finds { Finds owner.now (AreMessageRows folder.now) (state S.Store conn.old) (state S.Store conn.new) result }
 {
     let _settled = conn.is_autocommit();
     conn.query_all(
@@ -143,10 +117,7 @@ pub fn find_folders<S: Alter>(conn: &mut Connection<S>, owner: &[u8]) -> Result<
     requires { conn.old.in_transaction ≡ false }
     ensures ended { conn.new.in_transaction ≡ false }
     ensures limit { conn.new.step_limit ≡ conn.old.step_limit }
-    ensures found { HasCleanDisk (state S.Store conn.new) → (accounts : Accounts) → Presents (state S.Store conn.old).now accounts → IfOk result (λ rows. IfSome (get accounts owner.now) (λ a. (names : List (List ℕ)) × (rows.items ≡ map (λ n. Blob n ∷ []) names) × AreFolders (tallied names) a)) }
-    ensures same { ReadsOnly (state S.Store conn.old) (state S.Store conn.new) }
-    ensures live { IsLiveOnOk (state S.Store conn.old) (state S.Store conn.new) result }
-    ensures crash { IsQuiet (state S.Store conn.old) (state S.Store conn.new) }
+    ensures finds { Finds owner.now AreFolderRows (state S.Store conn.old) (state S.Store conn.new) result }
 {
     let _settled = conn.is_autocommit();
     conn.query_all(

@@ -3,6 +3,13 @@ ghost use Rattle.std.specs.Prelude.{◌≡◌, ◌↔◌, true, [], ◌∷◌, m
 ghost use Rattle.sqlite_value.specs.Keys.{plain};
 ghost use Rattle.sqlrows.specs.Forms.{needed, maybe, keyed};
 ghost use Rattle.mailstore.specs.Schema as spec;
+ghost use Rattle.mailstore.specs.MetaTable as meta_table;
+ghost use Rattle.mailstore.specs.AccountTable as account_table;
+ghost use Rattle.mailstore.specs.ScriptTable as script_table;
+ghost use Rattle.mailstore.specs.QueueTable as queue_table;
+ghost use Rattle.mailstore.specs.ReplyTable as reply_table;
+ghost use Rattle.mailstore.specs.NoticeTable as notice_table;
+ghost use Rattle.mailstore.specs.CopyTable as copy_table;
 
 use sqlite_items::Items;
 use sqlite_schema::schema::{Action, Column, Index, Kind, Reference, Schema, Table};
@@ -77,7 +84,7 @@ fn is_only_text(texts: &[Bytes], text: &[u8]) -> bool
 
 /// Whether this is `REFERENCES account (name)` at the first column.
 fn is_to_account(reference: &Reference) -> bool
-    ensures { IsTrue result ↔ (reference.now ≡ spec.account_reference) }
+    ensures { IsTrue result ↔ (reference.now ≡ account_table.account_reference) }
 {
     reference.columns.as_slice() == [1].as_slice()
         && reference.parent.as_slice() == b"account".as_slice()
@@ -89,7 +96,7 @@ fn is_to_account(reference: &Reference) -> bool
 
 /// Whether the one reference is to the account, or there is none.
 fn refer(references: &[Reference], is_owned: bool) -> bool
-    ensures { IsTrue result ↔ (references.now ≡ (if is_owned then spec.to_account else [])) }
+    ensures { IsTrue result ↔ (references.now ≡ (if is_owned then account_table.to_account else [])) }
 {
     match references {
         [] => !is_owned,
@@ -147,7 +154,7 @@ fn is_table(
     is_owned: bool,
     forms: &[Form<'_>],
 ) -> bool
-    ensures { IsTrue result ↔ (table.now ≡ keyed name.now tree primary.now (if is_owned then spec.to_account else []) (map spec.column_of forms.now)) }
+    ensures { IsTrue result ↔ (table.now ≡ keyed name.now tree primary.now (if is_owned then account_table.to_account else []) (map spec.column_of forms.now)) }
 {
     table.name.as_slice() == name
         && table.tree == tree
@@ -158,14 +165,14 @@ fn is_table(
 }
 
 fn is_meta(table: &Table) -> bool
-    ensures { IsTrue result ↔ (table.now ≡ spec.meta) }
+    ensures { IsTrue result ↔ (table.now ≡ meta_table.meta) }
 {
     let forms = [needed(b"item", Kind::Text), needed(b"value", Kind::Integer)];
     is_table(table, b"meta", 0, &[1], false, &forms)
 }
 
 fn is_account(table: &Table) -> bool
-    ensures { IsTrue result ↔ (table.now ≡ spec.account) }
+    ensures { IsTrue result ↔ (table.now ≡ account_table.account) }
 {
     let forms = [
         needed(b"name", Kind::Blob),
@@ -182,7 +189,7 @@ fn is_account(table: &Table) -> bool
 }
 
 fn is_script(table: &Table) -> bool
-    ensures { IsTrue result ↔ (table.now ≡ spec.script) }
+    ensures { IsTrue result ↔ (table.now ≡ script_table.script) }
 {
     let forms = [
         needed(b"owner", Kind::Blob),
@@ -192,20 +199,8 @@ fn is_script(table: &Table) -> bool
     is_table(table, b"script", 4, &[1, 2], true, &forms)
 }
 
-fn is_copy(table: &Table) -> bool
-    ensures { IsTrue result ↔ (table.now ≡ spec.copy) }
-{
-    let forms = [
-        needed(b"owner", Kind::Blob),
-        needed(b"folder", Kind::Blob),
-        needed(b"n", Kind::Integer),
-        needed(b"message", Kind::Blob),
-    ];
-    is_table(table, b"copy", 6, &[1, 2, 3], true, &forms)
-}
-
 fn is_outgoing(table: &Table) -> bool
-    ensures { IsTrue result ↔ (table.now ≡ spec.outgoing) }
+    ensures { IsTrue result ↔ (table.now ≡ queue_table.outgoing) }
 {
     let forms = [
         needed(b"owner", Kind::Blob),
@@ -215,11 +210,11 @@ fn is_outgoing(table: &Table) -> bool
         needed(b"target", Kind::Blob),
         needed(b"message", Kind::Blob),
     ];
-    is_table(table, b"outgoing", 8, &[1, 2], true, &forms)
+    is_table(table, b"outgoing", 6, &[1, 2], true, &forms)
 }
 
 fn is_reply(table: &Table) -> bool
-    ensures { IsTrue result ↔ (table.now ≡ spec.reply) }
+    ensures { IsTrue result ↔ (table.now ≡ reply_table.reply) }
 {
     let forms = [
         needed(b"owner", Kind::Blob),
@@ -227,11 +222,11 @@ fn is_reply(table: &Table) -> bool
         needed(b"sender", Kind::Blob),
         needed(b"moment", Kind::Integer),
     ];
-    is_table(table, b"reply", 10, &[1, 2, 3], true, &forms)
+    is_table(table, b"reply", 8, &[1, 2, 3], true, &forms)
 }
 
 fn is_notice(table: &Table) -> bool
-    ensures { IsTrue result ↔ (table.now ≡ spec.notice) }
+    ensures { IsTrue result ↔ (table.now ≡ notice_table.notice) }
 {
     let forms = [
         needed(b"owner", Kind::Blob),
@@ -239,25 +234,37 @@ fn is_notice(table: &Table) -> bool
         needed(b"moment", Kind::Integer),
         needed(b"text", Kind::Blob),
     ];
-    is_table(table, b"notice", 12, &[1, 2], true, &forms)
+    is_table(table, b"notice", 10, &[1, 2], true, &forms)
+}
+
+fn is_copy(table: &Table) -> bool
+    ensures { IsTrue result ↔ (table.now ≡ copy_table.copy) }
+{
+    let forms = [
+        needed(b"owner", Kind::Blob),
+        needed(b"folder", Kind::Blob),
+        needed(b"n", Kind::Integer),
+        needed(b"message", Kind::Blob),
+    ];
+    is_table(table, b"copy", 12, &[1, 2, 3], true, &forms)
 }
 
 fn are_last(tables: &[Table]) -> bool
-    ensures { IsTrue result ↔ (tables.now ≡ spec.outgoing ∷ spec.reply ∷ spec.notice ∷ []) }
+    ensures { IsTrue result ↔ (tables.now ≡ queue_table.outgoing ∷ reply_table.reply ∷ notice_table.notice ∷ copy_table.copy ∷ []) }
 {
-    let [outgoing, reply, notice] = tables else {
+    let [outgoing, reply, notice, copy] = tables else {
         return false;
     };
-    is_outgoing(outgoing) && is_reply(reply) && is_notice(notice)
+    is_outgoing(outgoing) && is_reply(reply) && is_notice(notice) && is_copy(copy)
 }
 
 fn are_tables(tables: &[Table]) -> bool
     ensures { IsTrue result ↔ (tables.now ≡ spec.the_tables) }
 {
-    let [meta, account, script, copy, others @ ..] = tables else {
+    let [meta, account, script, others @ ..] = tables else {
         return false;
     };
-    is_meta(meta) && is_account(account) && is_script(script) && is_copy(copy) && are_last(others)
+    is_meta(meta) && is_account(account) && is_script(script) && are_last(others)
 }
 
 /// The index of the one key of a table, by the trees of the two.
@@ -316,10 +323,10 @@ fn are_keys(indexes: &[Index]) -> bool
         key_of(b"sqlite_autoindex_meta_1", 1, 0, &[1]),
         key_of(b"sqlite_autoindex_account_1", 3, 2, &[1]),
         key_of(b"sqlite_autoindex_script_1", 5, 4, &[1, 2]),
-        key_of(b"sqlite_autoindex_copy_1", 7, 6, &[1, 2, 3]),
-        key_of(b"sqlite_autoindex_outgoing_1", 9, 8, &[1, 2]),
-        key_of(b"sqlite_autoindex_reply_1", 11, 10, &[1, 2, 3]),
-        key_of(b"sqlite_autoindex_notice_1", 13, 12, &[1, 2]),
+        key_of(b"sqlite_autoindex_outgoing_1", 7, 6, &[1, 2]),
+        key_of(b"sqlite_autoindex_reply_1", 9, 8, &[1, 2, 3]),
+        key_of(b"sqlite_autoindex_notice_1", 11, 10, &[1, 2]),
+        key_of(b"sqlite_autoindex_copy_1", 13, 12, &[1, 2, 3]),
     ];
     are_indexes(indexes, &forms)
 }

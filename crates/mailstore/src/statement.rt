@@ -1,11 +1,10 @@
 //! The statements that change one row. Each runs inside a transaction.
-ghost use Rattle.std.specs.Prelude.{◌≡◌, [], ◌∷◌};
-ghost use Rattle.sqlite_value.specs.declared.value.Value.TheVariants.{Blob};
+ghost use Rattle.std.specs.Prelude.{◌≡◌};
 ghost use Rattle.sqlite.specs.Held.{state};
 ghost use Rattle.sqlite.specs.State.{Survives};
-ghost use Rattle.sqlrows.specs.Rows.{added, removed, set_in};
-ghost use Rattle.mailstore.specs.Words.{Makes};
-ghost use Rattle.mailstore.specs.Cells.{account_cells, script_cells, copy_cells, with_active, with_next_copy, or_null, contents};
+ghost use Rattle.mailstore.specs.Connection.{Makes};
+ghost use Rattle.mailstore.specs.Cells.{contents};
+ghost use Rattle.mailstore.specs.Changes.{account_added, active_set, copy_added, next_copy_set, script_added, script_removed};
 
 use sqlite::{Alter, Error, Transaction, params};
 
@@ -19,7 +18,7 @@ pub fn add_account<S: Alter>(
     digest: &[u8],
 ) -> Result<usize, Error>
     ensures same_reference { tx.new.conn.ghost_name ≡ tx.old.conn.ghost_name }
-    ensures made { Makes (state S.Store tx.old.conn.now) (state S.Store tx.new.conn.now) result (added 2 (account_cells name.now address.now salt.now rounds digest.now)) }
+    ensures made { Makes (state S.Store tx.old.conn.now) (state S.Store tx.new.conn.now) result (account_added name.now address.now salt.now rounds digest.now) }
     ensures survives { Survives (state S.Store tx.old.conn.now) (state S.Store tx.new.conn.now) (λ _. ⊥) }
 {
     tx.execute(
@@ -34,7 +33,7 @@ pub fn set_active<S: Alter>(
     active: Option<&[u8]>,
 ) -> Result<usize, Error>
     ensures same_reference { tx.new.conn.ghost_name ≡ tx.old.conn.ghost_name }
-    ensures made { Makes (state S.Store tx.old.conn.now) (state S.Store tx.new.conn.now) result (set_in 2 (Blob name.now ∷ []) (with_active (or_null (contents active.entry)))) }
+    ensures made { Makes (state S.Store tx.old.conn.now) (state S.Store tx.new.conn.now) result (active_set name.now (contents active.entry)) }
     ensures survives { Survives (state S.Store tx.old.conn.now) (state S.Store tx.new.conn.now) (λ _. ⊥) }
 {
     tx.execute(
@@ -49,7 +48,7 @@ pub fn set_next_copy<S: Alter>(
     next: &i64,
 ) -> Result<usize, Error>
     ensures same_reference { tx.new.conn.ghost_name ≡ tx.old.conn.ghost_name }
-    ensures made { Makes (state S.Store tx.old.conn.now) (state S.Store tx.new.conn.now) result (set_in 2 (Blob name.now ∷ []) (with_next_copy next.now)) }
+    ensures made { Makes (state S.Store tx.old.conn.now) (state S.Store tx.new.conn.now) result (next_copy_set name.now next.now) }
     ensures survives { Survives (state S.Store tx.old.conn.now) (state S.Store tx.new.conn.now) (λ _. ⊥) }
 {
     tx.execute(
@@ -65,7 +64,7 @@ pub fn add_script<S: Alter>(
     text: &[u8],
 ) -> Result<usize, Error>
     ensures same_reference { tx.new.conn.ghost_name ≡ tx.old.conn.ghost_name }
-    ensures made { Makes (state S.Store tx.old.conn.now) (state S.Store tx.new.conn.now) result (added 4 (script_cells owner.now name.now text.now)) }
+    ensures made { Makes (state S.Store tx.old.conn.now) (state S.Store tx.new.conn.now) result (script_added owner.now name.now text.now) }
     ensures survives { Survives (state S.Store tx.old.conn.now) (state S.Store tx.new.conn.now) (λ _. ⊥) }
 {
     tx.execute(
@@ -80,7 +79,7 @@ pub fn remove_script<S: Alter>(
     name: &[u8],
 ) -> Result<usize, Error>
     ensures same_reference { tx.new.conn.ghost_name ≡ tx.old.conn.ghost_name }
-    ensures made { Makes (state S.Store tx.old.conn.now) (state S.Store tx.new.conn.now) result (removed 4 (Blob owner.now ∷ Blob name.now ∷ [])) }
+    ensures made { Makes (state S.Store tx.old.conn.now) (state S.Store tx.new.conn.now) result (script_removed owner.now name.now) }
     ensures survives { Survives (state S.Store tx.old.conn.now) (state S.Store tx.new.conn.now) (λ _. ⊥) }
 {
     tx.execute(
@@ -97,7 +96,7 @@ pub fn add_copy<S: Alter>(
     message: &[u8],
 ) -> Result<usize, Error>
     ensures same_reference { tx.new.conn.ghost_name ≡ tx.old.conn.ghost_name }
-    ensures made { Makes (state S.Store tx.old.conn.now) (state S.Store tx.new.conn.now) result (added 6 (copy_cells owner.now folder.now n.now message.now)) }
+    ensures made { Makes (state S.Store tx.old.conn.now) (state S.Store tx.new.conn.now) result (copy_added owner.now folder.now n.now message.now) }
     ensures survives { Survives (state S.Store tx.old.conn.now) (state S.Store tx.new.conn.now) (λ _. ⊥) }
 {
     tx.execute(

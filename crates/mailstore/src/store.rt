@@ -4,10 +4,10 @@ ghost use Rattle.sqlite_trees.specs.Tree.{Trees};
 ghost use Rattle.sqlite.specs.Held.{state};
 ghost use Rattle.sqlite.specs.State.{HasCleanDisk};
 ghost use Rattle.mailstore.specs.Schema.{no_schema};
-ghost use Rattle.mailstore.specs.Words.{IsSettled, StaysSame, Leaves, Outlives, has_our_name};
+ghost use Rattle.mailstore.specs.Connection.{IsSettled, StaysSame, Leaves, Outlives, has_our_name};
 ghost use Rattle.mailstore.specs.Account.{Accounts, no_accounts};
-ghost use Rattle.mailstore.specs.Shows.{Presents, IsOurs, ShowsIn};
 ghost use Rattle.mailstore.specs.Refusals.{IsPassing};
+ghost use Rattle.mailstore.specs.Shows.{Presents, IsOurs, ShowsIn};
 
 use crate::query::has_version;
 use crate::refusal::Refusal;

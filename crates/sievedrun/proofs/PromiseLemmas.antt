@@ -6,7 +6,7 @@ use Rattle.sqlite.specs.State.{State, HasCleanDisk}
 use Rattle.mailstore.specs.Account.{Accounts, no_accounts}
 use Rattle.mailstore.specs.Schema.{no_schema, mail_schema}
 use Rattle.mailstore.specs.Shows.{Presents}
-use Rattle.mailstore.specs.Calls.{KeepsTables}
+use Rattle.mailstore.specs.Promises.{Keeps}
 use Rattle.mailstore.specs.Refusals.{IsPassing}
 use Rattle.mailstore.specs.declared.refusal.Refusal.{Refusal}
 use Rattle.mailengine.specs.declared.event.Event.{Event}
@@ -82,10 +82,10 @@ module _ (held new : Database) (taken given : State) (seen : taken.now ≡ held)
     none = λ blank. absurd (ours_not_none held ours blank);
   }
 
-  pub only_read : KeepsTables taken given → LeavesAll held new
-  only_read keeps = record {
+  pub only_read : {X E : Type 0} (r : Result X E) → Keeps taken given r → LeavesAll held new
+  only_read r keeps = record {
     accounts = λ accounts p.
-        let same = (keeps clean accounts (stood accounts p)).now_is live in
+        let same = (keeps.same clean ((stood accounts p).0, (stood accounts p).1)).now_is live in
         inl (told accounts (subst (λ db. Presents db accounts) (sym same) (stood accounts p)));
     none = λ blank. absurd (ours_not_none held ours blank);
   }

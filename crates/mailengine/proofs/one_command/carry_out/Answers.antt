@@ -3,7 +3,7 @@ use Rattle.sqlite.specs.Held.{state}
 use Rattle.sqlite.specs.State.{Survives}
 use Rattle.msproto.specs.declared.commands.Command.TheVariants.{PutScript, SetActive}
 use Rattle.mailstore.specs.Account.{Account, with_user, activates}
-use Rattle.mailstore.specs.Calls.{HasUser, MayShow}
+use Rattle.mailstore.specs.Promises.{HasUser, MayShow}
 use Rattle.mailengine.specs.Obeyed.{carried_out}
 use Rattle.mailengine.specs.Stands.{command_in}
 use Rattle.mailengine.proofs.CommandLemmas.{put_is, set_is}

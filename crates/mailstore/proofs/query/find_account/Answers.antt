@@ -1,37 +1,16 @@
-use Rattle.std.proofs.Common.{◌≡◌, slice_get, option_map, rules, IsTrue}
-use Rattle.std.specs.FinMap.{get}
+use Rattle.std.proofs.Common.{◌≡◌, rules, IsTrue}
 use Rattle.sqlite.specs.Held.{state}
-use Rattle.sqlite.specs.State.{Shown}
 use Rattle.sqlrows.proofs.ListLemmas.{owner_key}
-use Rattle.mailstore.specs.Statements.{select_account}
-use Rattle.mailstore.specs.Calls.{profile_row}
+use Rattle.mailstore.specs.AccountTable.{account_tree, select_account, shown_account}
 use Rattle.mailstore.proofs.TextFacts.{select_account_plain}
-use Rattle.mailstore.proofs.QueryLemmas.{reads_only, is_live, is_quiet, stays_shut, if_shown}
-use Rattle.mailstore.proofs.ReadLemmas.{account_read}
+use Rattle.mailstore.proofs.QueryLemmas.{account_found}
+use Rattle.mailstore.proofs.KeepLemmas.{finds_own}
 use Rattle.mailstore.proofs.query.find_account.Goals as goal
 
-pub returns-clause-found : goal.returns-clause-found
-returns-clause-found g c clean accounts p =
-    let old = state g.S.Store c.args.conn.now in
-    let new = state g.S.Store c.query_all.new.self in
-    let ok = rw (c.params-to_sql.ensures) at (c.query_all.ensures.ok clean) in
-    if_shown c.query_all.result (Shown select_account (owner_key c.args.name.now) old new) (λ rows. slice_get rows 0 ≡ option_map profile_row (get accounts c.args.name.now)) (λ rows shown. account_read old new rows accounts p c.args.name.now shown) ok
-
-pub returns-clause-same : goal.returns-clause-same
-returns-clause-same g c =
+pub returns-clause-finds : goal.returns-clause-finds
+returns-clause-finds g c =
     let old = state g.S.Store c.args.conn.now in
     let new = state g.S.Store c.query_all.new.self in
     let settled : IsTrue old.is_open → old.now ≡ old.committed = search rules in
-    reads_only select_account (owner_key c.args.name.now) old new select_account_plain.0 c.query_all.result settled (rw (c.params-to_sql.ensures) at c.query_all.ensures.ok) (rw (c.params-to_sql.ensures) at c.query_all.ensures.err)
-
-pub returns-clause-crash : goal.returns-clause-crash
-returns-clause-crash g c =
-    is_quiet select_account (owner_key c.args.name.now) (state g.S.Store c.args.conn.now) (state g.S.Store c.query_all.new.self) select_account_plain.0 (rw (c.params-to_sql.ensures) at c.query_all.ensures.survives)
-
-pub returns-clause-live : goal.returns-clause-live
-returns-clause-live g c =
-    is_live select_account (owner_key c.args.name.now) (state g.S.Store c.args.conn.now) (state g.S.Store c.query_all.new.self) select_account_plain.0 c.query_all.result (rw (c.params-to_sql.ensures) at c.query_all.ensures.ok)
-
-pub returns-clause-shut : goal.returns-clause-shut
-returns-clause-shut g c =
-    stays_shut select_account (owner_key c.args.name.now) (state g.S.Store c.args.conn.now) (state g.S.Store c.query_all.new.self) c.query_all.result (rw (c.params-to_sql.ensures) at c.query_all.ensures.ok) (rw (c.params-to_sql.ensures) at c.query_all.ensures.err)
+    finds_own select_account (owner_key c.args.name.now) old new select_account_plain.0 c.query_all.result settled (rw (c.params-to_sql.ensures) at c.query_all.ensures.ok) (rw (c.params-to_sql.ensures) at c.query_all.ensures.err) (rw (c.params-to_sql.ensures) at c.query_all.ensures.survives)
+    c.args.name.now account_tree shown_account (λ rows tables h. account_found old new rows tables h c.args.name.now)

@@ -1,33 +1,16 @@
-use Rattle.std.proofs.Common.{◌≡◌, [], ◌∷◌, map, IfSome, rules, IsTrue}
-use Rattle.std.specs.FinMap.{get, keys}
-use Rattle.sqlite_value.specs.declared.value.Value.TheVariants.{Blob}
+use Rattle.std.proofs.Common.{◌≡◌, rules, IsTrue}
 use Rattle.sqlite.specs.Held.{state}
-use Rattle.sqlite.specs.State.{Shown}
 use Rattle.sqlrows.proofs.ListLemmas.{owner_key}
-use Rattle.mailstore.specs.Statements.{select_names}
+use Rattle.mailstore.specs.ScriptTable.{select_names, AreNameRows}
 use Rattle.mailstore.proofs.TextFacts.{select_names_plain}
-use Rattle.mailstore.proofs.QueryLemmas.{reads_only, is_live, is_quiet, if_shown}
 use Rattle.mailstore.proofs.ReadLemmas.{names_read}
+use Rattle.mailstore.proofs.KeepLemmas.{finds}
 use Rattle.mailstore.proofs.query.find_names.Goals as goal
 
-pub returns-clause-found : goal.returns-clause-found
-returns-clause-found g c clean accounts p =
-    let old = state g.S.Store c.args.conn.now in
-    let new = state g.S.Store c.query_all.new.self in
-    let ok = rw (c.params-to_sql.ensures) at (c.query_all.ensures.ok clean) in
-    if_shown c.query_all.result (Shown select_names (owner_key c.args.owner.now) old new) (λ rows. IfSome (get accounts c.args.owner.now) (λ a. rows ≡ map (λ n. Blob n ∷ []) (keys a.scripts))) (λ rows shown. names_read old new rows accounts p c.args.owner.now shown) ok
-
-pub returns-clause-same : goal.returns-clause-same
-returns-clause-same g c =
+pub returns-clause-finds : goal.returns-clause-finds
+returns-clause-finds g c =
     let old = state g.S.Store c.args.conn.now in
     let new = state g.S.Store c.query_all.new.self in
     let settled : IsTrue old.is_open → old.now ≡ old.committed = search rules in
-    reads_only select_names (owner_key c.args.owner.now) old new select_names_plain.0 c.query_all.result settled (rw (c.params-to_sql.ensures) at c.query_all.ensures.ok) (rw (c.params-to_sql.ensures) at c.query_all.ensures.err)
-
-pub returns-clause-crash : goal.returns-clause-crash
-returns-clause-crash g c =
-    is_quiet select_names (owner_key c.args.owner.now) (state g.S.Store c.args.conn.now) (state g.S.Store c.query_all.new.self) select_names_plain.0 (rw (c.params-to_sql.ensures) at c.query_all.ensures.survives)
-
-pub returns-clause-live : goal.returns-clause-live
-returns-clause-live g c =
-    is_live select_names (owner_key c.args.owner.now) (state g.S.Store c.args.conn.now) (state g.S.Store c.query_all.new.self) select_names_plain.0 c.query_all.result (rw (c.params-to_sql.ensures) at c.query_all.ensures.ok)
+    finds select_names (owner_key c.args.owner.now) old new select_names_plain.0 c.query_all.result settled (rw (c.params-to_sql.ensures) at c.query_all.ensures.ok) (rw (c.params-to_sql.ensures) at c.query_all.ensures.err) (rw (c.params-to_sql.ensures) at c.query_all.ensures.survives)
+    c.args.owner.now AreNameRows (λ rows accounts p. names_read old new rows accounts p c.args.owner.now)

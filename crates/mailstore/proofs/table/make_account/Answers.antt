@@ -1,7 +1,7 @@
 use Rattle.std.proofs.Common.{refl}
 use Rattle.sqlite.specs.Held.{state}
-use Rattle.mailstore.specs.Schema.{account, schema_1}
-use Rattle.mailstore.specs.Statements.{create_account}
+use Rattle.mailstore.specs.Schema.{schema_1}
+use Rattle.mailstore.specs.AccountTable.{account, create_account}
 use Rattle.mailstore.proofs.SchemaFacts.{account_defined, account_creates}
 use Rattle.mailstore.proofs.CreateLemmas.{table_made}
 use Rattle.mailstore.proofs.table.make_account.Goals as goal

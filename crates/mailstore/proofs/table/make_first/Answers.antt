@@ -1,5 +1,5 @@
 use Rattle.sqlite.specs.Held.{state}
-use Rattle.mailstore.specs.Schema.{no_schema, schema_1, schema_2, schema_3, schema_4}
+use Rattle.mailstore.specs.Schema.{no_schema, schema_1, schema_2, schema_3}
 use Rattle.mailstore.proofs.CreateLemmas.{then_makes}
 use Rattle.mailstore.proofs.table.make_first.Goals as goal
 
@@ -9,7 +9,5 @@ returns-clause-made g c =
     let one = state g.S.Store c.make_meta.new.tx.conn.now in
     let two = state g.S.Store c.make_account.new.tx.conn.now in
     let three = state g.S.Store c.make_script.new.tx.conn.now in
-    let four = state g.S.Store c.make_copy.new.tx.conn.now in
     let both = then_makes start one two no_schema schema_1 schema_2 c.make_meta.result _ c.make_account.result c.in_ok-make_meta.was c.make_account.ensures.survives c.make_meta.ensures.made c.make_account.ensures.made in
-    let more = then_makes start two three no_schema schema_2 schema_3 c.make_account.result _ c.make_script.result c.in_ok-make_account.was c.make_script.ensures.survives both c.make_script.ensures.made in
-    then_makes start three four no_schema schema_3 schema_4 c.make_script.result _ c.make_copy.result c.in_ok-make_script.was c.make_copy.ensures.survives more c.make_copy.ensures.made
+    then_makes start two three no_schema schema_2 schema_3 c.make_account.result _ c.make_script.result c.in_ok-make_account.was c.make_script.ensures.survives both c.make_script.ensures.made

@@ -1,7 +1,7 @@
 use Rattle.std.proofs.Common.{refl}
 use Rattle.sqlite.specs.Held.{state}
-use Rattle.mailstore.specs.Schema.{meta, no_schema}
-use Rattle.mailstore.specs.Statements.{create_meta}
+use Rattle.mailstore.specs.Schema.{no_schema}
+use Rattle.mailstore.specs.MetaTable.{meta, create_meta}
 use Rattle.mailstore.proofs.SchemaFacts.{meta_defined, meta_creates}
 use Rattle.mailstore.proofs.CreateLemmas.{table_made}
 use Rattle.mailstore.proofs.table.make_meta.Goals as goal

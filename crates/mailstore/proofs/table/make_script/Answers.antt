@@ -1,7 +1,7 @@
 use Rattle.std.proofs.Common.{refl}
 use Rattle.sqlite.specs.Held.{state}
-use Rattle.mailstore.specs.Schema.{script, schema_2}
-use Rattle.mailstore.specs.Statements.{create_script}
+use Rattle.mailstore.specs.Schema.{schema_2}
+use Rattle.mailstore.specs.ScriptTable.{script, create_script}
 use Rattle.mailstore.proofs.SchemaFacts.{script_defined, script_creates}
 use Rattle.mailstore.proofs.CreateLemmas.{table_made}
 use Rattle.mailstore.proofs.table.make_script.Goals as goal

@@ -1,45 +1,25 @@
-use Rattle.std.proofs.Common.{◌≡◌, [], ◌∷◌, map, rules}
-use Rattle.std.specs.FinMap.{keys}
-use Rattle.sqlite_value.specs.declared.value.Value.TheVariants.{Blob}
+use Rattle.std.proofs.Common.{◌≡◌, Err, OnOk, IfErr, rules}
 use Rattle.sqlite.specs.Held.{state}
-use Rattle.mailstore.proofs.ResultLemmas.{on_ok}
-use Rattle.mailstore.proofs.QueryLemmas.{same_then, quiet_then, live_then}
-use Rattle.mailstore.proofs.ChainLemmas.{found_then}
+use Rattle.mailstore.specs.Refusals.{IsPassing}
+use Rattle.mailstore.specs.ScriptTable.{AreNameRows}
+use Rattle.mailstore.proofs.KeepLemmas.{reads_refused, query_read, query_refused}
 use Rattle.mailstore.proofs.store.Store.name_rows.Goals as goal
 
-pub returns-in_err-find_names-clause-same : goal.returns-in_err-find_names-clause-same
-returns-in_err-find_names-clause-same g c =
-    let here : c.self.inside.conn ≡ c.next_copy.new.self = search rules in
-    same_then (state g.S.Store c.args.self.now) (state g.S.Store c.next_copy.new.self) (state g.S.Store c.find_names.new.conn) c.next_copy.result c.in_ok-next_copy.field-0 c.in_ok-next_copy.was c.next_copy.ensures.same c.next_copy.ensures.live
-    c.next_copy.ensures.crash (rw here at c.find_names.ensures.crash) (rw here at c.find_names.ensures.same)
+pub returns-in_err-require_account : goal.returns-in_err-require_account
+returns-in_err-require_account g c =
+    let is : c.from_residual.result ≡ Err c.in_err-require_account.field-0.0 = search rules in
+    reads_refused c.args.user.now _ _ (state g.S.Store c.args.self.now) (state g.S.Store c.require_account.new.self) c.in_err-require_account.field-0.0 c.from_residual.result is c.in_err-require_account.ensures
 
-pub returns-in_err-find_names-clause-crash : goal.returns-in_err-find_names-clause-crash
-returns-in_err-find_names-clause-crash g c =
-    let here : c.self.inside.conn ≡ c.next_copy.new.self = search rules in
-    quiet_then (state g.S.Store c.args.self.now) (state g.S.Store c.next_copy.new.self) (state g.S.Store c.find_names.new.conn) c.next_copy.result c.in_ok-next_copy.field-0 c.in_ok-next_copy.was c.next_copy.ensures.same c.next_copy.ensures.live
-    c.next_copy.ensures.crash (rw here at c.find_names.ensures.crash)
+pub returns-in_err-find_names : goal.returns-in_err-find_names
+returns-in_err-find_names g c =
+    let here : c.self.inside.conn ≡ c.require_account.new.self = search rules in
+    let none : OnOk c.from_residual-in_err-find_names.result ⊥ = search rules in
+    let passing : IfErr c.from_residual-in_err-find_names.result IsPassing = search rules in
+    query_refused c.args.user.now _ AreNameRows (state g.S.Store c.args.self.now) (state g.S.Store c.require_account.new.self) (state g.S.Store c.find_names.new.conn) c.require_account.result c.in_ok-require_account.field-0 c.in_ok-require_account.was
+    c.require_account.ensures c.find_names.result (rw here at c.find_names.ensures.finds) c.from_residual-in_err-find_names.result none passing
 
-pub returns-clause-found : goal.returns-clause-found
-returns-clause-found g c =
-    let here : c.self.inside.conn ≡ c.next_copy.new.self = search rules in
-    found_then (state g.S.Store c.args.self.now) (state g.S.Store c.next_copy.new.self) (state g.S.Store c.find_names.new.conn) c.next_copy.result c.in_ok-next_copy.field-0 c.in_ok-next_copy.was c.next_copy.ensures.same c.next_copy.ensures.live
-    c.next_copy.ensures.crash (rw here at c.find_names.ensures.crash) c.args.user.now c.in_ok-next_copy.ensures.found (λ accounts a. c.in_ok-find_names.field-0.items ≡ map (λ n. Blob n ∷ []) (keys a.scripts)) (rw here at c.in_ok-find_names.ensures.found)
-
-pub returns-clause-same : goal.returns-clause-same
-returns-clause-same g c =
-    let here : c.self.inside.conn ≡ c.next_copy.new.self = search rules in
-    same_then (state g.S.Store c.args.self.now) (state g.S.Store c.next_copy.new.self) (state g.S.Store c.find_names.new.conn) c.next_copy.result c.in_ok-next_copy.field-0 c.in_ok-next_copy.was c.next_copy.ensures.same c.next_copy.ensures.live
-    c.next_copy.ensures.crash (rw here at c.find_names.ensures.crash) (rw here at c.find_names.ensures.same)
-
-pub returns-clause-live : goal.returns-clause-live
-returns-clause-live g c clean tables h =
-    let here : c.self.inside.conn ≡ c.next_copy.new.self = search rules in
-    on_ok c.find_names.result c.in_ok-find_names.field-0 c.in_ok-find_names.was _
-    (live_then (state g.S.Store c.args.self.now) (state g.S.Store c.next_copy.new.self) (state g.S.Store c.find_names.new.conn) c.next_copy.result c.in_ok-next_copy.field-0 c.in_ok-next_copy.was c.next_copy.ensures.same c.next_copy.ensures.live
-    c.next_copy.ensures.crash (rw here at c.find_names.ensures.crash) c.find_names.result (rw here at c.find_names.ensures.live) clean tables h)
-
-pub returns-clause-crash : goal.returns-clause-crash
-returns-clause-crash g c =
-    let here : c.self.inside.conn ≡ c.next_copy.new.self = search rules in
-    quiet_then (state g.S.Store c.args.self.now) (state g.S.Store c.next_copy.new.self) (state g.S.Store c.find_names.new.conn) c.next_copy.result c.in_ok-next_copy.field-0 c.in_ok-next_copy.was c.next_copy.ensures.same c.next_copy.ensures.live
-    c.next_copy.ensures.crash (rw here at c.find_names.ensures.crash)
+pub returns : goal.returns
+returns g c =
+    let here : c.self.inside.conn ≡ c.require_account.new.self = search rules in
+    query_read c.args.user.now _ AreNameRows (state g.S.Store c.args.self.now) (state g.S.Store c.require_account.new.self) (state g.S.Store c.find_names.new.conn) c.require_account.result c.in_ok-require_account.field-0 c.in_ok-require_account.was
+    c.require_account.ensures c.find_names.result c.in_ok-find_names.field-0 c.in_ok-find_names.was (rw here at c.find_names.ensures.finds)

@@ -1,25 +1,20 @@
-use Rattle.std.proofs.Common.{◌≡◌, ◌∙◌, rules}
-use Rattle.mailstore.specs.Shows.{rows_of}
-use Rattle.mailstore.proofs.ResultLemmas.{on_any}
-use Rattle.mailstore.proofs.ReadLemmas.{number_is}
+use Rattle.std.proofs.Common.{◌≡◌, OnOk, IfErr, rules}
+use Rattle.sqlite.specs.Held.{state}
+use Rattle.mailstore.specs.Refusals.{IsPassing}
+use Rattle.mailstore.proofs.KeepLemmas.{counter_read, counter_refused}
 use Rattle.mailstore.proofs.store.Store.next_copy.Goals as goal
 
-pub returns-in_err-rows-clause-same : goal.returns-in_err-rows-clause-same
-returns-in_err-rows-clause-same g c =
+pub returns-in_err-rows : goal.returns-in_err-rows
+returns-in_err-rows g c =
+    let old = state g.S.Store c.args.self.now in
     let same : c.self.inside.conn ≡ c.args.self.now = search rules in
-    rw same at c.find_next_copy.ensures.same
+    let none : OnOk c.from_residual.result ⊥ = search rules in
+    let passing : IfErr c.from_residual.result IsPassing = search rules in
+    counter_refused c.args.user.now old (state g.S.Store c.find_next_copy.new.conn) c.find_next_copy.result (rw same at c.find_next_copy.ensures.finds) c.from_residual.result none passing
 
-pub returns-clause-found : goal.returns-clause-found
-returns-clause-found g c clean tables h =
+pub returns : goal.returns
+returns g c =
+    let old = state g.S.Store c.args.self.now in
     let same : c.self.inside.conn ≡ c.args.self.now = search rules in
-    number_is c.only_number.result c.deref.result.now (rows_of c.args.user.now tables 2) (c.deref.ensures.value ∙ (rw same at c.in_ok-rows.ensures.found) clean tables h) c.only_number.ensures.ok
-
-pub returns-clause-same : goal.returns-clause-same
-returns-clause-same g c =
-    let same : c.self.inside.conn ≡ c.args.self.now = search rules in
-    rw same at c.find_next_copy.ensures.same
-
-pub returns-clause-live : goal.returns-clause-live
-returns-clause-live g c clean tables h =
-    let same : c.self.inside.conn ≡ c.args.self.now = search rules in
-    on_any c.only_number.result _ ((rw same at c.in_ok-rows.ensures.live) clean tables h)
+    counter_read c.args.user.now old (state g.S.Store c.find_next_copy.new.conn) c.find_next_copy.result c.in_ok-rows.rows c.in_ok-rows.was (rw same at c.find_next_copy.ensures.finds) c.only_number.result
+    (rw c.deref.ensures.value at c.only_number.ensures.ok) (rw c.deref.ensures.value at c.only_number.ensures.absent) c.only_number.ensures.named

@@ -55,19 +55,3 @@ abbrev pub has_our_name : Schema → Bool
 has_our_name schema =
     is_some (table_named schema (codes "meta")) || is_some (table_named schema (codes "account")) || is_some (table_named schema (codes "script")) || is_some (table_named schema (codes "copy"))
     || is_some (table_named schema (codes "outgoing")) || is_some (table_named schema (codes "reply")) || is_some (table_named schema (codes "notice"))
-
--- a query keeps what the connection sees, whatever it answers
-abbrev pub ReadsOnly : State → State → Type 0
-ReadsOnly old new = HasCleanDisk new → (tables : Tables) → Holds mail_schema old.now tables → StaysSame old new
-
--- after Ok the connection is open
-abbrev pub IsLiveOnOk : {X E : Type 0} → State → State → Result X E → Type 0
-IsLiveOnOk old new result = HasCleanDisk new → (tables : Tables) → Holds mail_schema old.now tables → OnOk result (IsTrue new.is_open)
-
--- a crash leaves what it left before, where the tables are ours
-abbrev pub IsQuiet : State → State → Type 0
-IsQuiet old new = Survives old new (λ _. (tables : Tables) → Holds mail_schema old.now tables → ⊥)
-
--- a connection that a fault of the disk has shut stays shut, and none answers over one that is shut
-abbrev pub StaysShut : {X E : Type 0} → State → State → Result X E → Type 0
-StaysShut old new result = HasCleanDisk new → (IsTrue new.is_open → IsTrue old.is_open) × OnOk result (IsTrue new.is_open)

@@ -1,0 +1,51 @@
+-- From the cells of rows to what a call answers.
+use Rattle.std.proofs.Common.{◌≡◌, ℕ, pos, List, [], ◌∷◌, map, Option, Some, None, option_map, slice_get, Ok, Err, Result, IfOk, IfSome, refl, sym, ap, ap₂, ◌∙◌, subst}
+use Rattle.std.specs.FinMap.{get}
+use Rattle.sqlite_value.specs.declared.value.Value.TheVariants.{Int, Blob}
+use Rattle.sqlite_value.specs.Order.{Row, column}
+use Rattle.sqlite_keyed.proofs.ListLemmas.{map-map}
+use Rattle.sqlite.specs.State.{State, HasCleanDisk}
+use Rattle.sqlite.proofs.StateLemmas.{survives_weaker}
+use Rattle.sqlrows.specs.Rows.{Tables, Holds}
+use Rattle.mailstore.specs.declared.refusal.Refusal.{Refusal}
+use Rattle.mailstore.specs.Schema.{mail_schema}
+use Rattle.mailstore.specs.Account.{Account, Accounts}
+use Rattle.mailstore.specs.AccountTable.{account_tree, next_copy_column}
+use Rattle.mailstore.specs.Shows.{rows_of, IsShownOrAbsent, ShowsAccounts, Presents}
+use Rattle.mailstore.specs.Promises.{OfUser}
+use Rattle.mailstore.specs.Tally.{tallied, AreFolders, AreFolderRows}
+use Rattle.mailstore.specs.declared.folders.Folder.{Folder}
+use Rattle.mailstore.proofs.WriteLemmas.{clean_before}
+
+same_blobs : (xs ys : List (List ℕ)) → map (λ t. Blob t) xs ≡ map (λ t. Blob t) ys → xs ≡ ys
+same_blobs [] [] e = refl
+same_blobs [] (y ∷ ys) e = cc
+same_blobs (x ∷ xs) [] e = cc
+same_blobs (x ∷ xs) (y ∷ ys) e = let head : x ≡ y = cc in let tail : map (λ t. Blob t) xs ≡ map (λ t. Blob t) ys = cc in ap₂ ◌∷◌ head (same_blobs xs ys tail)
+
+-- texts that were read from rows of one column
+pub texts_are : {E : Type 0} (r : Result (List (List ℕ)) E) (rows : List Row) (wanted : List (List ℕ)) → rows ≡ map (λ t. Blob t ∷ []) wanted → IfOk r (λ all. map (λ t. Blob t) all ≡ map (λ row. column row 0) rows) → IfOk r (λ all. all ≡ wanted)
+texts_are (Err e) rows wanted are h = tt
+texts_are (Ok all) rows wanted are h = same_blobs all wanted (h ∙ ap (map (λ row. column row 0)) are ∙ map-map (λ (row : Row). column row 0) (λ (t : List ℕ). Blob t ∷ []) wanted)
+
+same_text : (x y : Option (List ℕ)) → option_map (λ t. Blob t) x ≡ option_map (λ t. Blob t) y → x ≡ y
+same_text None None e = refl
+same_text None (Some y) e = cc
+same_text (Some x) None e = cc
+same_text (Some x) (Some y) e = let same : x ≡ y = cc in ap Some same
+
+first_column : (o : Option (List ℕ)) → option_map (λ row. column row 0) (option_map (λ t. Blob t ∷ []) o) ≡ option_map (λ t. Blob t) o
+first_column None = refl
+first_column (Some t) = refl
+
+pub text_is : {E : Type 0} (r : Result (Option (List ℕ)) E) (rows : List Row) (wanted : Option (List ℕ)) → slice_get rows 0 ≡ option_map (λ t. Blob t ∷ []) wanted
+    → IfOk r (λ text. option_map (λ t. Blob t) text ≡ option_map (λ row. column row 0) (slice_get rows 0)) → IfOk r (λ text. text ≡ wanted)
+text_is (Err e) rows wanted are h = tt
+text_is (Ok text) rows wanted are h = same_text text wanted (h ∙ ap (option_map (λ row. column row 0)) are ∙ first_column wanted)
+
+-- the folders that were counted from rows of names
+pub tally_of : {E : Type 0} (r : Result (List Folder) E) (rows : List Row) (a : Account) → AreFolderRows rows a
+    → IfOk r (λ all. (names : List (List ℕ)) → map (λ row. column row 0) rows ≡ map (λ n. Blob n) names → all ≡ tallied names) → IfOk r (λ all. AreFolders all a)
+tally_of (Err e) rows a told h = tt
+tally_of (Ok all) rows a told h =
+    subst (λ fs. AreFolders fs a) (sym (h told.0 (ap (map (λ row. column row 0)) told.1 ∙ map-map (λ (row : Row). column row 0) (λ (n : List ℕ). Blob n ∷ []) told.0))) told.2

@@ -1,0 +1,272 @@
+-- Reads and writes as one promise each: from a query, after an earlier read, with another answer.
+use Rattle.std.proofs.Common.{◌≡◌, ◌⊎◌, ℕ, pos, List, [], ◌∷◌, map, Option, Some, None, option_map, slice_get, Ok, Err, Result, Vec, OnOk, OnErr, IfOk, IfErr, IfSome, IsTrue, refl, sym, ap, ◌∙◌, subst, inl, inr}
+use Rattle.std.specs.declared.alloc.Global.{Global}
+use Rattle.std.specs.FinMap.{get}
+use Rattle.sqlite_value.specs.declared.value.Value.TheVariants.{Int}
+use Rattle.sqlite_value.specs.Order.{Row, column}
+use Rattle.sqlite.specs.Listing.{understood}
+use Rattle.sqlite.specs.declared.error.Error.{Error}
+use Rattle.sqlite.specs.State.{State, HasCleanDisk, Survives, CommitsShowing, Shown, FailsToQuery}
+use Rattle.sqlite.proofs.Callers.{IsPlain}
+use Rattle.sqlite.proofs.StateLemmas.{survives_then}
+use Rattle.sqlrows.specs.Rows.{Tables, Holds}
+use Rattle.mailstore.specs.declared.change.Change.{Change}
+use Rattle.mailstore.specs.declared.profile.Profile.{Profile}
+use Rattle.mailstore.specs.declared.refusal.Refusal.{Refusal}
+use Rattle.mailstore.specs.declared.refusal.Refusal.TheVariants.{NoUser}
+use Rattle.mailstore.specs.Schema.{mail_schema}
+use Rattle.mailstore.specs.Connection.{StaysSame, IsSettled}
+use Rattle.mailstore.specs.Changes.{MayHave}
+use Rattle.mailstore.specs.Account.{Account, Accounts}
+use Rattle.mailstore.specs.Refusals.{IsPassing}
+use Rattle.mailstore.specs.AccountTable.{account_tree, next_copy_column, shown_account, shown_next_copy, profile_row, profile_of, IsRead, CountsCopies}
+use Rattle.mailstore.specs.Shows.{rows_of, IsShownOrAbsent, ShowsAccounts, Presents}
+use Rattle.mailstore.specs.Promises.{HasOurTables, IsFree, OfUser, MakesAll, Keeps, FindsOwn, Finds, Reads, ReadsRows, Requires, ReadsCounter, ReadsProfile, Writes}
+use Rattle.mailstore.proofs.ResultLemmas.{on_ok, on_any}
+use Rattle.mailstore.proofs.WriteLemmas.{clean_before}
+use Rattle.mailstore.proofs.QueryLemmas.{query_same, query_quiet, stays_shut, if_shown}
+use Rattle.mailstore.proofs.ReadLemmas.{number_is, none_counted, profile_first}
+use Rattle.mailstore.proofs.OneLemmas.{or_null_one}
+use Rattle.mailstore.proofs.CallLemmas.{Carries, applied, crashed}
+
+-- ---- what is kept
+
+-- a query of a plain text, outside a transaction
+pub query_keeps : (sql : List ℕ) (params : Row) (old new : State) → IsPlain (understood mail_schema sql) → (r : Result (Vec Row Global) Error) → (IsTrue old.is_open → old.now ≡ old.committed)
+    → (HasCleanDisk new → IfOk r (λ rows. Shown sql params old new rows.items)) → (HasCleanDisk new → IfErr r (FailsToQuery sql params old new)) → Survives old new (CommitsShowing sql params old) → Keeps old new r
+query_keeps sql params old new plain r settled ok err survives = record {
+  same = query_same sql params old new plain r settled ok err;
+  live = λ clean. (stays_shut sql params old new r ok err clean).1;
+  shut = λ clean. (stays_shut sql params old new r ok err clean).0;
+  crash = query_quiet sql params old new plain survives;
+}
+
+-- a query of a plain text, outside a transaction, that shows this
+module _ (sql : List ℕ) (params : Row) (old new : State) (plain : IsPlain (understood mail_schema sql)) (r : Result (Vec Row Global) Error) (settled : IsTrue old.is_open → old.now ≡ old.committed)
+    (ok : HasCleanDisk new → IfOk r (λ rows. Shown sql params old new rows.items)) (err : HasCleanDisk new → IfErr r (FailsToQuery sql params old new)) (survives : Survives old new (CommitsShowing sql params old)) where
+  pub finds_own : (user : List ℕ) (tree : ℕ) (show : Row → Row) → ((rows : List Row) (tables : Tables) → Holds mail_schema old.now tables → Shown sql params old new rows → rows ≡ map show (rows_of user tables tree))
+      → FindsOwn user tree show old new r
+  finds_own user tree show shows = record {
+    found = λ clean tables h. if_shown r (Shown sql params old new) (λ rows. rows ≡ map show (rows_of user tables tree)) (λ rows. shows rows tables h) (ok clean);
+    keeps = query_keeps sql params old new plain r settled ok err survives;
+  }
+
+  pub finds : (user : List ℕ) (Part : List Row → Account → Type 0) → ((rows : List Row) (accounts : Accounts) → Presents old.now accounts → Shown sql params old new rows → IfSome (get accounts user) (Part rows))
+      → Finds user Part old new r
+  finds user Part shows = record {
+    found = λ clean accounts p. if_shown r (Shown sql params old new) (λ rows. IfSome (get accounts user) (Part rows)) (λ rows. shows rows accounts p) (ok clean);
+    keeps = query_keeps sql params old new plain r settled ok err survives;
+  }
+
+-- with another answer, once Ok was answered
+pub keeps_ok : {X Y E F : Type 0} (a b : State) (r : Result X E) (x : X) (q : Result Y F) → r ≡ Ok x → Keeps a b r → Keeps a b q
+keeps_ok a b r x q was k = record { same = k.same; live = λ clean. on_any q (IsTrue b.is_open) (on_ok r x was (IsTrue b.is_open) (k.live clean)); shut = k.shut; crash = k.crash }
+
+-- with a refusal as the answer
+pub keeps_refused : {X Y E F : Type 0} (a b : State) (r : Result X E) (e : F) (q : Result Y F) → q ≡ Err e → Keeps a b r → Keeps a b q
+keeps_refused a b r e q is k = record { same = k.same; live = λ clean. subst (λ o. OnOk o (IsTrue b.is_open)) (sym is) tt; shut = k.shut; crash = k.crash }
+
+none_ok : {Y E : Type 0} (q : Result Y E) (P : Type 0) → OnOk q ⊥ → OnOk q P
+none_ok (Ok y) P none = absurd none
+none_ok (Err e) P none = tt
+
+none_if : {Y E : Type 0} (q : Result Y E) (P : Y → Type 0) → OnOk q ⊥ → IfOk q P
+none_if (Ok y) P none = absurd none
+none_if (Err e) P none = tt
+
+pub keeps_failed : {X Y E F : Type 0} (a b : State) (r : Result X E) (q : Result Y F) → OnOk q ⊥ → Keeps a b r → Keeps a b q
+keeps_failed a b r q none k = record { same = k.same; live = λ clean. none_ok q (IsTrue b.is_open) none; shut = k.shut; crash = k.crash }
+
+-- what the connection sees after a read that answered Ok
+module _ {X Y E F : Type 0} (a b c : State) (r : Result X E) (x : X) (was : r ≡ Ok x) (q : Result Y F) (early : Keeps a b r) (late : Keeps b c q) where
+  clean_mid : HasCleanDisk c → HasCleanDisk b
+  clean_mid = clean_before b c _ late.crash
+
+  mid_open : HasCleanDisk c → IsTrue b.is_open
+  mid_open clean = on_ok r x was (IsTrue b.is_open) (early.live (clean_mid clean))
+
+  mid_now : HasCleanDisk c → HasOurTables a.now → b.now ≡ a.now
+  mid_now clean h = (early.same (clean_mid clean) h).now_is (mid_open clean)
+
+  mid_tables : HasCleanDisk c → HasOurTables a.now → HasOurTables b.now
+  mid_tables clean h = subst HasOurTables (sym (mid_now clean h)) h
+
+  pub mid_shows : HasCleanDisk c → (accounts : Accounts) → Presents a.now accounts → Presents b.now accounts
+  mid_shows clean accounts p = subst (λ d. Presents d accounts) (sym (mid_now clean (p.0, p.1))) p
+
+  -- one read after another that answered Ok
+  pub keeps_then : Keeps a c q
+  keeps_then = record {
+    same = λ clean h.
+        let one = early.same (clean_mid clean) h in
+        let two = late.same clean (mid_tables clean h) in
+        record { now_is = λ o. two.now_is o ∙ one.now_is (mid_open clean); committed_is = λ o. two.committed_is o ∙ one.committed_is (mid_open clean) };
+    live = late.live;
+    shut = λ clean is_open. early.shut (clean_mid clean) (late.shut clean is_open);
+    crash = survives_then a b c _ _ _ (λ clean db none. none) (λ clean db none h. none (mid_tables clean h)) early.crash late.crash;
+  }
+
+-- ---- reads of one user's account
+
+-- with the refusal of an inner read
+pub reads_refused : {X Y : Type 0} (user : List ℕ) (P : X → Account → Type 0) (Q : Y → Account → Type 0) (a b : State) (e : Refusal) (q : Result Y Refusal) → q ≡ Err e → Reads user P a b (Err e) → Reads user Q a b q
+reads_refused user P Q a b e q is r = record {
+  found = λ clean accounts p. subst (λ o. IfOk o (λ y. OfUser accounts user (Q y))) (sym is) tt;
+  absent = λ clean accounts p. subst (λ o. IfErr o (λ f. f ≡ NoUser → IsFree user accounts)) (sym is) (r.absent clean accounts p);
+  keeps = keeps_refused a b (Err e) e q is r.keeps;
+  named = subst (λ o. IfErr o (λ f. (f ≡ NoUser) ⊎ IsPassing f)) (sym is) r.named;
+}
+
+pub passing_other : {Y : Type 0} (q : Result Y Refusal) (P : Type 0) → IfErr q IsPassing → IfErr q (λ e. e ≡ NoUser → P)
+passing_other (Ok y) P h = tt
+passing_other (Err e) P (inl memory) = λ none. absurd (let other = sym memory ∙ none in cc)
+passing_other (Err e) P (inr store) = λ none. absurd (let other = sym store ∙ none in cc)
+
+pub passing_named : {Y : Type 0} (q : Result Y Refusal) → IfErr q IsPassing → IfErr q (λ e. (e ≡ NoUser) ⊎ IsPassing e)
+passing_named (Ok y) h = tt
+passing_named (Err e) h = inr h
+
+of_answer : {Y E : Type 0} (q : Result Y E) (accounts : Accounts) (user : List ℕ) (P : Account → Type 0) (Q : Y → Account → Type 0) → ((a : Account) → P a → IfOk q (λ y. Q y a)) → OfUser accounts user P
+    → IfOk q (λ y. OfUser accounts user (Q y))
+of_answer (Err e) accounts user P Q f h = tt
+of_answer (Ok y) accounts user P Q f h = (h.0, h.1, f h.0 h.2)
+
+-- with an answer that is made of what was read
+pub reads_answer : {X Y : Type 0} (user : List ℕ) (P : X → Account → Type 0) (Q : Y → Account → Type 0) (a b : State) (r : Result X Refusal) (x : X) → r ≡ Ok x → (q : Result Y Refusal) → IfErr q IsPassing
+    → ((account : Account) → P x account → IfOk q (λ y. Q y account)) → Reads user P a b r → Reads user Q a b q
+reads_answer user P Q a b r x was q named made h = record {
+  found = λ clean accounts p. of_answer q accounts user (P x) Q made (subst (λ o. IfOk o (λ z. OfUser accounts user (P z))) was (h.found clean accounts p));
+  absent = λ clean accounts p. passing_other q (IsFree user accounts) named;
+  keeps = keeps_ok a b r x q was h.keeps;
+  named = passing_named q named;
+}
+
+-- what holds of the account, if there is one, holds of the one that is there
+pub of_there : (accounts : Accounts) (user : List ℕ) (P Q : Account → Type 0) → OfUser accounts user P → IfSome (get accounts user) Q → OfUser accounts user Q
+of_there accounts user P Q there some = (there.0, there.1, subst (λ o. IfSome o Q) there.1 some)
+
+-- a query, after the account was asked for
+module _ {X : Type 0} (user : List ℕ) (P : X → Account → Type 0) (Part : List Row → Account → Type 0) (a b c : State) (r : Result X Refusal) (x : X) (was : r ≡ Ok x) (early : Reads user P a b r) where
+  pub query_read : (q : Result (Vec Row Global) Error) (rows : Vec Row Global) → q ≡ Ok rows → Finds user Part b c q → ReadsRows user Part a c (Ok rows)
+  query_read q rows is late = record {
+    found = λ clean accounts p.
+        let there = subst (λ o. IfOk o (λ z. OfUser accounts user (P z))) was (early.found (clean_before b c _ late.keeps.crash clean) accounts p) in
+        of_there accounts user (P x) (Part rows.items) there
+        (subst (λ o. IfOk o (λ found. IfSome (get accounts user) (Part found.items))) is (late.found clean accounts (mid_shows a b c r x was q early.keeps late.keeps clean accounts p)));
+    absent = λ clean accounts p. tt;
+    keeps = keeps_ok a c q rows (Ok rows) is (keeps_then a b c r x was q early.keeps late.keeps);
+    named = tt;
+  }
+
+  pub query_refused : (q : Result (Vec Row Global) Error) → Finds user Part b c q → (end : Result (Vec Row Global) Refusal) → OnOk end ⊥ → IfErr end IsPassing → ReadsRows user Part a c end
+  query_refused q late end none passing = record {
+    found = λ clean accounts p. none_if end (λ found. OfUser accounts user (Part found.items)) none;
+    absent = λ clean accounts p. passing_other end (IsFree user accounts) passing;
+    keeps = keeps_failed a c q end none (keeps_then a b c r x was q early.keeps late.keeps);
+    named = passing_named end passing;
+  }
+
+-- ---- the counter of copies, and the test for an account
+
+-- what was read of the row of the account
+pub counter_read : (user : List ℕ) (a b : State) (r : Result (Vec Row Global) Error) (rows : Vec Row Global) → r ≡ Ok rows → FindsOwn user account_tree shown_next_copy a b r → (q : Result ℕ Refusal)
+    → IfOk q (λ n. option_map (λ row. column row 0) (slice_get rows.items 0) ≡ Some (Int (pos n))) → IfErr q (λ e. e ≡ NoUser → rows.items ≡ []) → IfErr q (λ e. (e ≡ NoUser) ⊎ IsPassing e) → ReadsCounter user a b q
+counter_read user a b r rows was h q told none named = record {
+  found = λ clean tables held. number_is q rows.items (rows_of user tables account_tree) (found clean tables held) told;
+  absent = λ clean tables held. none_counted q rows.items (rows_of user tables account_tree) (found clean tables held) none;
+  keeps = keeps_ok a b r rows q was h.keeps;
+  named = named;
+}
+  where
+    found : HasCleanDisk b → (tables : Tables) → Holds mail_schema a.now tables → rows.items ≡ map shown_next_copy (rows_of user tables account_tree)
+    found clean tables held = subst (λ o. IfOk o (λ all. all.items ≡ map shown_next_copy (rows_of user tables account_tree))) was (h.found clean tables held)
+
+pub counter_refused : (user : List ℕ) (a b : State) (r : Result (Vec Row Global) Error) → FindsOwn user account_tree shown_next_copy a b r → (q : Result ℕ Refusal) → OnOk q ⊥ → IfErr q IsPassing → ReadsCounter user a b q
+counter_refused user a b r h q none passing = record {
+  found = λ clean tables held. none_if q (CountsCopies (rows_of user tables account_tree)) none;
+  absent = λ clean tables held. passing_other q (rows_of user tables account_tree ≡ []) passing;
+  keeps = keeps_failed a b r q none h.keeps;
+  named = passing_named q passing;
+}
+
+account_there : (accounts : Accounts) (user : List ℕ) (tables : Tables) (n : ℕ) → ShowsAccounts tables accounts → CountsCopies (rows_of user tables account_tree) n → OfUser accounts user (λ _. Unit {0})
+account_there accounts user tables n shows told = go (get accounts user) refl (shows.users user)
+  where
+    go : (o : Option Account) → get accounts user ≡ o → IsShownOrAbsent user (rows_of user tables) o → OfUser accounts user (λ _. Unit {0})
+    go None is h = absurd (let none = sym told ∙ ap (λ l. option_map (λ (cells : Row). column cells next_copy_column) (slice_get l 0)) h.accounts in cc)
+    go (Some a) is h = (a, is, tt)
+
+pub account_absent : (accounts : Accounts) (user : List ℕ) (tables : Tables) → ShowsAccounts tables accounts → rows_of user tables account_tree ≡ [] → IsFree user accounts
+account_absent accounts user tables shows none = go (get accounts user) refl (shows.users user)
+  where
+    go : (o : Option Account) → get accounts user ≡ o → IsShownOrAbsent user (rows_of user tables) o → IsFree user accounts
+    go None is h = is
+    go (Some a) is h = absurd (let row = sym none ∙ h.account_is in cc)
+
+pub account_required : (user : List ℕ) (a b : State) (r : Result ℕ Refusal) (n : ℕ) → r ≡ Ok n → ReadsCounter user a b r → (done : Unit {0}) → Requires user a b (Ok done)
+account_required user a b r n was h done = record {
+  found = λ clean accounts p. account_there accounts user p.0 n p.2 (subst (λ o. IfOk o (CountsCopies (rows_of user p.0 account_tree))) was (h.found clean p.0 p.1));
+  absent = λ clean accounts p. tt;
+  keeps = keeps_ok a b r n (Ok done) was h.keeps;
+  named = tt;
+}
+
+pub account_refused : (user : List ℕ) (a b : State) (e : Refusal) (q : Result (Unit {0}) Refusal) → q ≡ Err e → ReadsCounter user a b (Err e) → Requires user a b q
+account_refused user a b e q is h = record {
+  found = λ clean accounts p. subst (λ o. IfOk o (λ done. OfUser accounts user (λ account. Unit {0}))) (sym is) tt;
+  absent = λ clean accounts p. subst (λ o. IfErr o (λ f. f ≡ NoUser → IsFree user accounts)) (sym is) (λ none. account_absent accounts user p.0 p.2 (h.absent clean p.0 p.1 none));
+  keeps = keeps_refused a b (Err e) e q is h.keeps;
+  named = subst (λ o. IfErr o (λ f. (f ≡ NoUser) ⊎ IsPassing f)) (sym is) h.named;
+}
+
+-- ---- what the store keeps of an account
+
+profile_one : (p : Profile) (a : Account) → IsRead (Some p) (Some (profile_row a)) → p ≡ profile_of a
+profile_one p a told =
+    let address : p.address ≡ a.address = let e = told.0 in cc in
+    let salt : p.salt ≡ a.password.salt = let e = told.1 in cc in
+    let rounds : p.rounds ≡ a.password.rounds = let e = told.2 in cc in
+    let digest : p.digest ≡ a.password.digest = let e = told.3 in cc in
+    let active : p.active ≡ a.active = or_null_one p.active a.active (sym told.4) in
+    λ i. record { address = address i; salt = salt i; rounds = rounds i; digest = digest i; active = active i }
+
+profile_is : (o : Option Profile) (a : Option Account) → IsRead o (option_map profile_row a) → o ≡ option_map profile_of a
+profile_is None None told = refl
+profile_is None (Some a) told = absurd told
+profile_is (Some p) None told = absurd told
+profile_is (Some p) (Some a) told = ap Some (profile_one p a told)
+
+pub profile_read : (user : List ℕ) (a b : State) (r : Result (Vec Row Global) Error) (rows : Vec Row Global) → r ≡ Ok rows → FindsOwn user account_tree shown_account a b r → (q : Result (Option Profile) Refusal)
+    → IfOk q (λ profile. IsRead profile (slice_get rows.items 0)) → IfErr q IsPassing → ReadsProfile user a b q
+profile_read user a b r rows was h q told named = record {
+  found = λ clean accounts p.
+      let own = subst (λ o. IfOk o (λ all. all.items ≡ map shown_account (rows_of user p.0 account_tree))) was (h.found clean p.0 p.1) in
+      go accounts q (profile_first a.now rows.items accounts p user own) told;
+  keeps = keeps_ok a b r rows q was h.keeps;
+  named = named;
+}
+  where
+    go : (accounts : Accounts) (o : Result (Option Profile) Refusal) → slice_get rows.items 0 ≡ option_map profile_row (get accounts user) → IfOk o (λ profile. IsRead profile (slice_get rows.items 0))
+        → IfOk o (λ profile. profile ≡ option_map profile_of (get accounts user))
+    go accounts (Err e) is h = tt
+    go accounts (Ok profile) is h = profile_is profile (get accounts user) (subst (IsRead profile) is h)
+
+pub profile_refused : (user : List ℕ) (a b : State) (r : Result (Vec Row Global) Error) → FindsOwn user account_tree shown_account a b r → (q : Result (Option Profile) Refusal) → OnOk q ⊥ → IfErr q IsPassing → ReadsProfile user a b q
+profile_refused user a b r h q none passing = record {
+  found = λ clean accounts p. none_if q (λ profile. profile ≡ option_map profile_of (get accounts user)) none;
+  keeps = keeps_failed a b r q none h.keeps;
+  named = passing;
+}
+
+-- ---- writes
+
+-- the changes make of the tables what the write makes of the accounts
+pub writes : {X : Type 0} (r : Result X Refusal) (a b : State) (changes : List Change) (Fit : Accounts → Type 0) (change : Accounts → Accounts) → Carries changes Fit change → MakesAll changes a b r
+    → (HasCleanDisk b → OnOk r (IsSettled b)) → (HasCleanDisk b → OnErr r (StaysSame a b)) → Survives a b (MayHave changes a) → IfErr r IsPassing → Writes Fit change a b r
+writes r a b changes Fit change carries made settled same crash named = record {
+  made = λ clean. applied r a.now b.now changes Fit change carries (made clean);
+  settled = settled;
+  same = same;
+  crash = crashed a b changes Fit change carries crash;
+  named = named;
+}

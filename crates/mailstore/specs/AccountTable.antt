@@ -1,0 +1,127 @@
+-- The table of accounts, and the reference to it.
+use Rattle.std.specs.Prelude.{◌≡◌, false, ℕ, ℤ, pos, List, [], ◌∷◌, codes, Option, Some, None, option_map, slice_get}
+use Rattle.sqlite_schema.specs.declared.schema.Action.TheVariants.{NoAction}
+use Rattle.sqlite_schema.specs.declared.schema.Kind.TheVariants as kind
+use Rattle.sqlite_schema.specs.declared.schema.Reference.{Reference}
+use Rattle.sqlite_schema.specs.declared.schema.Table.{Table}
+use Rattle.sqlite_value.specs.declared.value.Value.{Value}
+use Rattle.sqlite_value.specs.declared.value.Value.TheVariants.{Null, Int, Blob}
+use Rattle.sqlite_value.specs.Order.{Row, column}
+use Rattle.sqlrows.specs.Forms.{needed, maybe, keyed}
+use Rattle.mailstore.specs.declared.profile.Profile.{Profile}
+use Rattle.mailstore.specs.Cells.{or_null}
+use Rattle.mailstore.specs.Account.{Account}
+
+abbrev pub account_tree : ℕ
+account_tree = 2
+
+-- ---- the columns
+
+abbrev pub address_column : ℕ
+address_column = 1
+
+abbrev pub salt_column : ℕ
+salt_column = 2
+
+abbrev pub rounds_column : ℕ
+rounds_column = 3
+
+abbrev pub digest_column : ℕ
+digest_column = 4
+
+abbrev pub active_column : ℕ
+active_column = 5
+
+abbrev pub next_copy_column : ℕ
+next_copy_column = 6
+
+abbrev pub next_out_column : ℕ
+next_out_column = 7
+
+abbrev pub next_notice_column : ℕ
+next_notice_column = 8
+
+abbrev pub account : Table
+account = keyed (codes "account") account_tree (1 ∷ []) []
+    (needed (codes "name") kind.Blob ∷ needed (codes "address") kind.Blob ∷ needed (codes "salt") kind.Blob ∷ needed (codes "rounds") kind.Integer ∷ needed (codes "digest") kind.Blob
+    ∷ maybe (codes "active") kind.Blob ∷ needed (codes "next_copy") kind.Integer ∷ needed (codes "next_out") kind.Integer ∷ needed (codes "next_notice") kind.Integer ∷ [])
+
+-- `REFERENCES account (name)` at the first column
+abbrev pub account_reference : Reference
+account_reference = record { columns = 1 ∷ []; parent = codes "account"; parent_columns = codes "name" ∷ []; on_delete = NoAction; on_update = NoAction; is_deferred = false }
+
+abbrev pub to_account : List Reference
+to_account = account_reference ∷ []
+
+-- ---- its statements
+
+abbrev pub create_account : List ℕ
+create_account =
+    codes "CREATE TABLE account (name BLOB NOT NULL PRIMARY KEY, address BLOB NOT NULL, salt BLOB NOT NULL, rounds INTEGER NOT NULL, digest BLOB NOT NULL, active BLOB, next_copy INTEGER NOT NULL, next_out INTEGER NOT NULL, next_notice INTEGER NOT NULL) STRICT"
+
+abbrev pub insert_account : List ℕ
+insert_account = codes "INSERT INTO account (name, address, salt, rounds, digest, active, next_copy, next_out, next_notice) VALUES (?1, ?2, ?3, ?4, ?5, NULL, 1, 1, 1)"
+
+abbrev pub update_active : List ℕ
+update_active = codes "UPDATE account SET active = ?2 WHERE name = ?1"
+
+abbrev pub update_next_copy : List ℕ
+update_next_copy = codes "UPDATE account SET next_copy = ?2 WHERE name = ?1"
+
+abbrev pub select_account : List ℕ
+select_account = codes "SELECT address, salt, rounds, digest, active FROM account WHERE name = ?1"
+
+abbrev pub select_next_copy : List ℕ
+select_next_copy = codes "SELECT next_copy FROM account WHERE name = ?1"
+
+-- ---- its rows
+
+-- a new account has no active script, and counts from 1
+abbrev pub account_cells : List ℕ → List ℕ → List ℕ → ℕ → List ℕ → Row
+account_cells name address salt rounds digest = Blob name ∷ Blob address ∷ Blob salt ∷ Int (pos rounds) ∷ Blob digest ∷ Null ∷ Int (pos 1) ∷ Int (pos 1) ∷ Int (pos 1) ∷ []
+
+-- the row of an account; the counters of copies and of notices no account tells
+abbrev pub account_row : List ℕ → Account → ℕ → ℕ → Row
+account_row user a next_copy next_notice =
+    Blob user ∷ Blob a.address ∷ Blob a.password.salt ∷ Int (pos a.password.rounds) ∷ Blob a.password.digest ∷ or_null a.active ∷ Int (pos next_copy) ∷ Int (pos a.next_out) ∷ Int (pos next_notice) ∷ []
+
+-- the account's row with another active script
+abbrev pub with_active : Value → Row → Row
+with_active active cells =
+    column cells 0 ∷ column cells address_column ∷ column cells salt_column ∷ column cells rounds_column ∷ column cells digest_column
+    ∷ active ∷ column cells next_copy_column ∷ column cells next_out_column ∷ column cells next_notice_column ∷ []
+
+-- the account's row with another counter of copies
+abbrev pub with_next_copy : ℤ → Row → Row
+with_next_copy next cells =
+    column cells 0 ∷ column cells address_column ∷ column cells salt_column ∷ column cells rounds_column ∷ column cells digest_column
+    ∷ column cells active_column ∷ Int next ∷ column cells next_out_column ∷ column cells next_notice_column ∷ []
+
+-- ---- what is read of them
+
+-- what the query for an account shows of a row
+abbrev pub shown_account : Row → Row
+shown_account cells = column cells address_column ∷ column cells salt_column ∷ column cells rounds_column ∷ column cells digest_column ∷ column cells active_column ∷ []
+
+-- what the query for the counter of copies shows of a row
+abbrev pub shown_next_copy : Row → Row
+shown_next_copy cells = column cells next_copy_column ∷ []
+
+-- what the query for an account shows of an account
+abbrev pub profile_row : Account → Row
+profile_row a = Blob a.address ∷ Blob a.password.salt ∷ Int (pos a.password.rounds) ∷ Blob a.password.digest ∷ or_null a.active ∷ []
+
+-- what the store answers of an account
+abbrev pub profile_of : Account → Profile
+profile_of a = record { address = a.address; salt = a.password.salt; rounds = a.password.rounds; digest = a.password.digest; active = a.active }
+
+-- the profile is what the row shows, and there is one where there is a row
+abbrev pub IsRead : Option Profile → Option Row → Type 0
+IsRead None None = Unit {0}
+IsRead None (Some row) = ⊥
+IsRead (Some p) None = ⊥
+IsRead (Some p) (Some row) = (column row 0 ≡ Blob p.address) × (column row 1 ≡ Blob p.salt) × (column row 2 ≡ Int (pos p.rounds)) × (column row 3 ≡ Blob p.digest) × (column row 4 ≡ or_null p.active)
+
+-- the first of the rows has this counter of copies
+abbrev pub CountsCopies : List Row → ℕ → Type 0
+CountsCopies rows n = option_map (λ cells. column cells next_copy_column) (slice_get rows 0) ≡ Some (Int (pos n))

@@ -1,0 +1,33 @@
+-- The table of the moments of the last replies.
+use Rattle.std.specs.Prelude.{◌≡◌, ℕ, pos, List, [], ◌∷◌, map, codes}
+use Rattle.std.specs.FinMap.{from_entries}
+use Rattle.sqlite_schema.specs.declared.schema.Kind.TheVariants as kind
+use Rattle.sqlite_schema.specs.declared.schema.Table.{Table}
+use Rattle.sqlite_value.specs.declared.value.Value.TheVariants.{Int, Blob}
+use Rattle.sqlite_value.specs.Order.{Row}
+use Rattle.sqlrows.specs.Forms.{needed, keyed}
+use Rattle.mailstore.specs.Account.{Replies}
+use Rattle.mailstore.specs.AccountTable.{to_account}
+use Rattle.mailstore.specs.ScriptTable.{AreApart}
+
+abbrev pub reply_tree : ℕ
+reply_tree = 8
+
+abbrev pub reply : Table
+reply = keyed (codes "reply") reply_tree (1 ∷ 2 ∷ 3 ∷ []) to_account
+    (needed (codes "owner") kind.Blob ∷ needed (codes "handle") kind.Blob ∷ needed (codes "sender") kind.Blob ∷ needed (codes "moment") kind.Integer ∷ [])
+
+abbrev pub create_reply : List ℕ
+create_reply =
+    codes "CREATE TABLE reply (owner BLOB NOT NULL REFERENCES account (name), handle BLOB NOT NULL, sender BLOB NOT NULL, moment INTEGER NOT NULL, PRIMARY KEY (owner, handle, sender)) STRICT"
+
+-- the row of a handle's key, a sender and the moment
+abbrev pub reply_row : List ℕ → (List ℕ × List ℕ) × ℕ → Row
+reply_row user entry = Blob user ∷ Blob entry.0.0 ∷ Blob entry.0.1 ∷ Int (pos entry.1) ∷ []
+
+-- the rows are those of the moments that the user's account keeps, in any order
+pub record ShowsReplies (user : List ℕ) (rows : List Row) (replies : Replies) : Type 0 where
+  pub entries : List ((List ℕ × List ℕ) × ℕ)
+  pub rows_are : rows ≡ map (reply_row user) entries
+  pub shown : replies ≡ from_entries entries
+  pub apart : AreApart entries

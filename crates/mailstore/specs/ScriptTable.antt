@@ -1,0 +1,67 @@
+-- The table of scripts.
+use Rattle.std.specs.Prelude.{◌≡◌, ◌≢◌, ℕ, List, [], ◌∷◌, map, codes, slice_get, option_map}
+use Rattle.std.specs.FinMap.{get, keys, from_entries}
+use Rattle.sqlite_schema.specs.declared.schema.Kind.TheVariants as kind
+use Rattle.sqlite_schema.specs.declared.schema.Table.{Table}
+use Rattle.sqlite_value.specs.declared.value.Value.TheVariants.{Blob}
+use Rattle.sqlite_value.specs.Order.{Row}
+use Rattle.sqlite_trees.specs.Tree.{IsAscending}
+use Rattle.sqlrows.specs.Forms.{needed, keyed}
+use Rattle.mailstore.specs.Account.{Account, Scripts}
+use Rattle.mailstore.specs.AccountTable.{to_account}
+
+abbrev pub script_tree : ℕ
+script_tree = 4
+
+abbrev pub text_column : ℕ
+text_column = 2
+
+abbrev pub script : Table
+script = keyed (codes "script") script_tree (1 ∷ 2 ∷ []) to_account (needed (codes "owner") kind.Blob ∷ needed (codes "name") kind.Blob ∷ needed (codes "text") kind.Blob ∷ [])
+
+-- ---- its statements
+
+abbrev pub create_script : List ℕ
+create_script = codes "CREATE TABLE script (owner BLOB NOT NULL REFERENCES account (name), name BLOB NOT NULL, text BLOB NOT NULL, PRIMARY KEY (owner, name)) STRICT"
+
+abbrev pub insert_script : List ℕ
+insert_script = codes "INSERT INTO script (owner, name, text) VALUES (?1, ?2, ?3)"
+
+abbrev pub delete_script : List ℕ
+delete_script = codes "DELETE FROM script WHERE owner = ?1 AND name = ?2"
+
+abbrev pub select_names : List ℕ
+select_names = codes "SELECT name FROM script WHERE owner = ?1 ORDER BY name"
+
+abbrev pub select_script : List ℕ
+select_script = codes "SELECT text FROM script WHERE owner = ?1 AND name = ?2"
+
+-- ---- its rows
+
+abbrev pub script_cells : List ℕ → List ℕ → List ℕ → Row
+script_cells owner name text = Blob owner ∷ Blob name ∷ Blob text ∷ []
+
+-- the row of a name and its text
+abbrev pub script_row : List ℕ → List ℕ × List ℕ → Row
+script_row user entry = script_cells user entry.0 entry.1
+
+-- no two keys are the same
+abbrev pub AreApart : {K X : Type 0} → List (K × X) → Type 0
+AreApart = IsAscending (λ a b. a.0 ≢ b.0)
+
+-- the rows are those of the user's scripts, in any order
+pub record ShowsScripts (user : List ℕ) (rows : List Row) (scripts : Scripts) : Type 0 where
+  pub entries : List (List ℕ × List ℕ)
+  pub rows_are : rows ≡ map (script_row user) entries
+  pub shown : scripts ≡ from_entries entries
+  pub apart : AreApart entries
+
+-- ---- what is read of them
+
+-- the first row is the text of the name's script, if there is one
+abbrev pub HasTextRow : List ℕ → List Row → Account → Type 0
+HasTextRow name rows a = slice_get rows 0 ≡ option_map (λ text. Blob text ∷ []) (get a.scripts name)
+
+-- the rows are the names of the scripts, in the order of their octets
+abbrev pub AreNameRows : List Row → Account → Type 0
+AreNameRows rows a = rows ≡ map (λ name. Blob name ∷ []) (keys a.scripts)
