@@ -1,4 +1,7 @@
 //! A keeper over a file.
+ghost use Rattle.std.specs.Prelude.{◌≡◌, IfErr};
+ghost use Rattle.mailstore.specs.Refusals.{IsPassing};
+
 use crate::cause::{of_file, of_sqlite};
 use crate::keeper::{Held, Keeper, store_of};
 use mailstore::{Refusal, Store};
@@ -35,6 +38,16 @@ impl<'a> FileKeeper<'a> {
             cause: None,
         }
     }
+
+    fn close(&mut self, store: Store<FileStore<Database>>) -> Result<(), Refusal>
+        ensures named { IfErr result IsPassing }
+        ensures kept { self.new.lock ≡ self.old.lock }
+    {
+        let said = store.cause();
+        let closed = store.release().close();
+        self.cause = cause_at_end(said, &closed);
+        Ok(closed?)
+    }
 }
 
 impl Keeper for FileKeeper<'_> {
@@ -69,14 +82,13 @@ impl Keeper for FileKeeper<'_> {
     }
 
     fn put_back(&mut self, store: &mut Option<Store<FileStore<Database>>>) -> Result<(), Refusal> {
-        self.lock = None;
-        let Some(store) = store.take() else {
-            return Ok(());
+        let closed = match store.take() {
+            Some(store) => self.close(store),
+            None => Ok(()),
         };
-        let said = store.cause();
-        let closed = store.release().close();
-        self.cause = cause_at_end(said, &closed);
-        Ok(closed?)
+        // The lock goes last: until the file is closed no other one may open it.
+        self.lock = None;
+        closed
     }
 
     fn cause(&self) -> Option<&'static str> {
