@@ -21,7 +21,7 @@ use crate::store::Store;
 use sqlite::{Alter, Connection, Error, Row, Transaction, params};
 
 /// Makes the table `account`, inside a transaction.
-pub fn make_account<S: Alter>(tx: &mut Transaction<'_, S>) -> Result<usize, Error>
+pub fn make_account<S: Alter>(tx: &mut Transaction<'_, S>) -> Result<(), Error>
     ensures same_reference { tx.new.conn.ghost_name ≡ tx.old.conn.ghost_name }
     ensures made { MakesTable (state S.Store tx.old.conn.now) (state S.Store tx.new.conn.now) result schema_1 schema_2 }
     ensures survives { Survives (state S.Store tx.old.conn.now) (state S.Store tx.new.conn.now) (λ _. ⊥) }
@@ -29,7 +29,8 @@ pub fn make_account<S: Alter>(tx: &mut Transaction<'_, S>) -> Result<usize, Erro
     tx.execute(
         "CREATE TABLE account (name BLOB NOT NULL PRIMARY KEY, address BLOB NOT NULL, salt BLOB NOT NULL, rounds INTEGER NOT NULL, digest BLOB NOT NULL, active BLOB, next_copy INTEGER NOT NULL, next_out INTEGER NOT NULL, next_notice INTEGER NOT NULL) STRICT",
         &[],
-    )
+    )?;
+    Ok(())
 }
 
 /// A new account without an active script, whose counters begin at 1. Inside a transaction.
@@ -40,7 +41,7 @@ pub fn add_account<S: Alter>(
     salt: &[u8],
     rounds: u32,
     digest: &[u8],
-) -> Result<usize, Error>
+) -> Result<(), Error>
     ensures same_reference { tx.new.conn.ghost_name ≡ tx.old.conn.ghost_name }
     ensures made { Makes (state S.Store tx.old.conn.now) (state S.Store tx.new.conn.now) result (account_added name.now address.now salt.now rounds digest.now) }
     ensures survives { Survives (state S.Store tx.old.conn.now) (state S.Store tx.new.conn.now) (λ _. ⊥) }
@@ -48,7 +49,8 @@ pub fn add_account<S: Alter>(
     tx.execute(
         "INSERT INTO account (name, address, salt, rounds, digest, active, next_copy, next_out, next_notice) VALUES (?1, ?2, ?3, ?4, ?5, NULL, 1, 1, 1)",
         params![name, address, salt, rounds, digest],
-    )
+    )?;
+    Ok(())
 }
 
 /// Another script is active, or none. Inside a transaction.
@@ -56,7 +58,7 @@ pub fn set_active<S: Alter>(
     tx: &mut Transaction<'_, S>,
     name: &[u8],
     active: Option<&[u8]>,
-) -> Result<usize, Error>
+) -> Result<(), Error>
     ensures same_reference { tx.new.conn.ghost_name ≡ tx.old.conn.ghost_name }
     ensures made { Makes (state S.Store tx.old.conn.now) (state S.Store tx.new.conn.now) result (active_set name.now (contents active.entry)) }
     ensures survives { Survives (state S.Store tx.old.conn.now) (state S.Store tx.new.conn.now) (λ _. ⊥) }
@@ -64,7 +66,8 @@ pub fn set_active<S: Alter>(
     tx.execute(
         "UPDATE account SET active = ?2 WHERE name = ?1",
         params![name, active],
-    )
+    )?;
+    Ok(())
 }
 
 /// Another counter of copies. Inside a transaction.
@@ -72,7 +75,7 @@ pub fn set_next_copy<S: Alter>(
     tx: &mut Transaction<'_, S>,
     name: &[u8],
     next: &i64,
-) -> Result<usize, Error>
+) -> Result<(), Error>
     ensures same_reference { tx.new.conn.ghost_name ≡ tx.old.conn.ghost_name }
     ensures made { Makes (state S.Store tx.old.conn.now) (state S.Store tx.new.conn.now) result (next_copy_set name.now next.now) }
     ensures survives { Survives (state S.Store tx.old.conn.now) (state S.Store tx.new.conn.now) (λ _. ⊥) }
@@ -80,7 +83,8 @@ pub fn set_next_copy<S: Alter>(
     tx.execute(
         "UPDATE account SET next_copy = ?2 WHERE name = ?1",
         params![name, next],
-    )
+    )?;
+    Ok(())
 }
 
 /// The address, salt, rounds, digest and active script of the account.

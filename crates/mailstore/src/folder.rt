@@ -28,7 +28,7 @@ pub struct Folder {
 }
 
 /// Makes the table `copy`, inside a transaction.
-pub fn make_copy<S: Alter>(tx: &mut Transaction<'_, S>) -> Result<usize, Error>
+pub fn make_copy<S: Alter>(tx: &mut Transaction<'_, S>) -> Result<(), Error>
     ensures same_reference { tx.new.conn.ghost_name ≡ tx.old.conn.ghost_name }
     ensures made { MakesTable (state S.Store tx.old.conn.now) (state S.Store tx.new.conn.now) result schema_6 mail_schema }
     ensures survives { Survives (state S.Store tx.old.conn.now) (state S.Store tx.new.conn.now) (λ _. ⊥) }
@@ -36,7 +36,8 @@ pub fn make_copy<S: Alter>(tx: &mut Transaction<'_, S>) -> Result<usize, Error>
     tx.execute(
         "CREATE TABLE copy (owner BLOB NOT NULL REFERENCES account (name), folder BLOB NOT NULL, n INTEGER NOT NULL, message BLOB NOT NULL, PRIMARY KEY (owner, folder, n)) STRICT",
         &[],
-    )
+    )?;
+    Ok(())
 }
 
 /// A copy of a message in a folder, with its number. Inside a transaction.
@@ -46,7 +47,7 @@ pub fn add_copy<S: Alter>(
     folder: &[u8],
     n: &i64,
     message: &[u8],
-) -> Result<usize, Error>
+) -> Result<(), Error>
     ensures same_reference { tx.new.conn.ghost_name ≡ tx.old.conn.ghost_name }
     ensures made { Makes (state S.Store tx.old.conn.now) (state S.Store tx.new.conn.now) result (copy_added owner.now folder.now n.now message.now) }
     ensures survives { Survives (state S.Store tx.old.conn.now) (state S.Store tx.new.conn.now) (λ _. ⊥) }
@@ -54,7 +55,8 @@ pub fn add_copy<S: Alter>(
     tx.execute(
         "INSERT INTO copy (owner, folder, n, message) VALUES (?1, ?2, ?3, ?4)",
         params![owner, folder, n, message],
-    )
+    )?;
+    Ok(())
 }
 
 /// The messages of the folder, in the order of their numbers.

@@ -18,7 +18,7 @@ use octets::{Octets, Texts};
 use sqlite::{Alter, Connection, Error, Row, Transaction, params};
 
 /// Makes the table `script`, inside a transaction.
-pub fn make_script<S: Alter>(tx: &mut Transaction<'_, S>) -> Result<usize, Error>
+pub fn make_script<S: Alter>(tx: &mut Transaction<'_, S>) -> Result<(), Error>
     ensures same_reference { tx.new.conn.ghost_name ≡ tx.old.conn.ghost_name }
     ensures made { MakesTable (state S.Store tx.old.conn.now) (state S.Store tx.new.conn.now) result schema_2 schema_3 }
     ensures survives { Survives (state S.Store tx.old.conn.now) (state S.Store tx.new.conn.now) (λ _. ⊥) }
@@ -26,7 +26,8 @@ pub fn make_script<S: Alter>(tx: &mut Transaction<'_, S>) -> Result<usize, Error
     tx.execute(
         "CREATE TABLE script (owner BLOB NOT NULL REFERENCES account (name), name BLOB NOT NULL, text BLOB NOT NULL, PRIMARY KEY (owner, name)) STRICT",
         &[],
-    )
+    )?;
+    Ok(())
 }
 
 /// A script that has no row of its name yet. Inside a transaction.
@@ -35,7 +36,7 @@ pub fn add_script<S: Alter>(
     owner: &[u8],
     name: &[u8],
     text: &[u8],
-) -> Result<usize, Error>
+) -> Result<(), Error>
     ensures same_reference { tx.new.conn.ghost_name ≡ tx.old.conn.ghost_name }
     ensures made { Makes (state S.Store tx.old.conn.now) (state S.Store tx.new.conn.now) result (script_added owner.now name.now text.now) }
     ensures survives { Survives (state S.Store tx.old.conn.now) (state S.Store tx.new.conn.now) (λ _. ⊥) }
@@ -43,7 +44,8 @@ pub fn add_script<S: Alter>(
     tx.execute(
         "INSERT INTO script (owner, name, text) VALUES (?1, ?2, ?3)",
         params![owner, name, text],
-    )
+    )?;
+    Ok(())
 }
 
 /// The row of the name goes, if there is one. Inside a transaction.
@@ -51,7 +53,7 @@ pub fn remove_script<S: Alter>(
     tx: &mut Transaction<'_, S>,
     owner: &[u8],
     name: &[u8],
-) -> Result<usize, Error>
+) -> Result<(), Error>
     ensures same_reference { tx.new.conn.ghost_name ≡ tx.old.conn.ghost_name }
     ensures made { Makes (state S.Store tx.old.conn.now) (state S.Store tx.new.conn.now) result (script_removed owner.now name.now) }
     ensures survives { Survives (state S.Store tx.old.conn.now) (state S.Store tx.new.conn.now) (λ _. ⊥) }
@@ -59,7 +61,8 @@ pub fn remove_script<S: Alter>(
     tx.execute(
         "DELETE FROM script WHERE owner = ?1 AND name = ?2",
         params![owner, name],
-    )
+    )?;
+    Ok(())
 }
 
 /// The text of the script.

@@ -40,7 +40,7 @@ pub fn is_blank(schema: &Schema) -> bool
 }
 
 /// The first three tables, inside a transaction.
-fn make_first<S: Alter>(tx: &mut Transaction<'_, S>) -> Result<usize, Error>
+fn make_first<S: Alter>(tx: &mut Transaction<'_, S>) -> Result<(), Error>
     ensures same_reference { tx.new.conn.ghost_name ≡ tx.old.conn.ghost_name }
     ensures made { MakesTable (state S.Store tx.old.conn.now) (state S.Store tx.new.conn.now) result no_schema schema_3 }
     ensures survives { Survives (state S.Store tx.old.conn.now) (state S.Store tx.new.conn.now) (λ _. ⊥) }
@@ -51,7 +51,7 @@ fn make_first<S: Alter>(tx: &mut Transaction<'_, S>) -> Result<usize, Error>
 }
 
 /// The other four, inside a transaction.
-fn make_others<S: Alter>(tx: &mut Transaction<'_, S>) -> Result<usize, Error>
+fn make_others<S: Alter>(tx: &mut Transaction<'_, S>) -> Result<(), Error>
     ensures same_reference { tx.new.conn.ghost_name ≡ tx.old.conn.ghost_name }
     ensures made { MakesTable (state S.Store tx.old.conn.now) (state S.Store tx.new.conn.now) result schema_3 mail_schema }
     ensures survives { Survives (state S.Store tx.old.conn.now) (state S.Store tx.new.conn.now) (λ _. ⊥) }
