@@ -14,7 +14,7 @@ use Rattle.mailstore.specs.AccountTable.{account_tree, next_copy_column}
 use Rattle.mailstore.specs.Shows.{rows_of, IsShownOrAbsent, ShowsAccounts, Presents}
 use Rattle.mailstore.specs.Promises.{OfUser}
 use Rattle.mailstore.specs.Tally.{tallied, AreFolders, AreFolderRows}
-use Rattle.mailstore.specs.declared.folders.Folder.{Folder}
+use Rattle.mailstore.specs.declared.folder.Folder.{Folder}
 use Rattle.mailstore.proofs.WriteLemmas.{clean_before}
 
 same_blobs : (xs ys : List (List ℕ)) → map (λ t. Blob t) xs ≡ map (λ t. Blob t) ys → xs ≡ ys

@@ -19,3 +19,4 @@ pub mod NumberLemmas
 pub mod OneLemmas
 pub mod SchemaLemmas
 pub mod OpenLemmas
+pub mod ShowExamples

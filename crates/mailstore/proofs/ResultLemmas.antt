@@ -17,3 +17,11 @@ if_ok (Ok x) P Q f h = f x h
 pub on_err_any : {X E : Type 0} (r : Result X E) (P : Type 0) → P → OnErr r P
 on_err_any (Err e) P h = h
 on_err_any (Ok x) P h = tt
+
+-- a fact, and one more where Ok was answered: with a refusal, and once the answer was Ok
+pub beside_none : {X E K : Type 0} (P : Type 0) (q : Result X E) → OnOk q ⊥ → K → K × OnOk q P
+beside_none P (Ok x) none k = absurd none
+beside_none P (Err e) none k = (k, tt)
+
+pub beside_ok : {X E K P : Type 0} (r : Result X E) (x : X) → r ≡ Ok x → K × OnOk r P → K × P
+beside_ok r x was h = (h.0, on_ok r x was _ h.1)

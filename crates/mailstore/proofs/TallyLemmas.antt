@@ -15,7 +15,7 @@ use Rattle.mailstore.proofs.OrderLemmas.{entries_rise}
 use Rattle.sqlite_trees.specs.Tree.{IsAscending}
 use Rattle.sqlite_keyed.proofs.ListLemmas.{all_weaker, ascending-map}
 use Rattle.sqlite_typed.proofs.TestLemmas.{same_bytes}
-use Rattle.mailstore.specs.declared.folders.Folder.{Folder}
+use Rattle.mailstore.specs.declared.folder.Folder.{Folder}
 use Rattle.mailstore.proofs.AccountLemmas.{bytes_antisymmetric}
 
 abbrev Below : List ℕ → List ℕ → Type 0

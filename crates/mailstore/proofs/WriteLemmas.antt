@@ -28,12 +28,12 @@ made_push (c ∷ changes) change tables = made_push changes change (made_one c t
 pub clean_before : (mid new : State) (P : Trees → Type 0) → Survives mid new P → HasCleanDisk new → HasCleanDisk mid
 clean_before mid new P s clean = let low = s.clean in omega arith
 
-pub one_more : (old mid new : State) (changes : List Change) (at : ℕ) (d : Change) (r : Result ℕ Error) (n : ℕ) → r ≡ Ok n → at < length changes → (HasCleanDisk mid → HasMade old mid (take at changes))
+pub one_more : {X : Type 0} (old mid new : State) (changes : List Change) (at : ℕ) (d : Change) (r : Result X Error) (x : X) → r ≡ Ok x → at < length changes → (HasCleanDisk mid → HasMade old mid (take at changes))
     → Survives mid new (λ _. ⊥) → Makes mid new r (made_one (get_or changes at d)) → HasCleanDisk new → HasMade old new (take (at + 1) changes)
-one_more old mid new changes at d r n ok within was survives makes clean =
+one_more old mid new changes at d r x ok within was survives makes clean =
     let before = was (clean_before mid new _ survives clean) in
     let done = makes clean before.inside in
-    let went = subst (λ x. OnOk x (((tables : Tables) → Holds mail_schema mid.now tables → Holds mail_schema new.now (made_one (get_or changes at d) tables)) × Shows mid new new.now mid.committed true)) ok done.1 in
+    let went = subst (λ o. OnOk o (((tables : Tables) → Holds mail_schema mid.now tables → Holds mail_schema new.now (made_one (get_or changes at d) tables)) × Shows mid new new.now mid.committed true)) ok done.1 in
     record {
       inside = went.1.mode;
       kept = keeps_then old mid new before.kept done.0;

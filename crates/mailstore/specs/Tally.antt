@@ -4,7 +4,7 @@ use Rattle.std.specs.FinMap.{entries}
 use Rattle.std.specs.Ordering.{is_eq}
 use Rattle.sqlite_value.specs.declared.value.Value.TheVariants.{Blob}
 use Rattle.sqlite_value.specs.Order.{Row}
-use Rattle.mailstore.specs.declared.folders.Folder.{Folder}
+use Rattle.mailstore.specs.declared.folder.Folder.{Folder}
 use Rattle.mailstore.specs.Account.{bytes_cmp, Account}
 
 -- one more of the last name, or the first of a new one

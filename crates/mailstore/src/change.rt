@@ -1,14 +1,17 @@
 //! One row change, and a list of them in one transaction.
-ghost use Rattle.std.specs.Prelude.{◌≡◌, false, OnOk, OnErr};
+ghost use Rattle.std.specs.Prelude.{◌≡◌, false, OnOk, OnErr, IfErr};
 ghost use Rattle.sqlite.specs.Held.{state};
-ghost use Rattle.sqlite.specs.State.{HasCleanDisk, Survives};
-ghost use Rattle.mailstore.specs.Connection.{Makes, IsSettled, StaysSame};
-ghost use Rattle.mailstore.specs.Changes.{made_one, MayHave};
 ghost use Rattle.mailstore.specs.Promises.{MakesAll};
+ghost use Rattle.sqlite.specs.State.{Survives, HasCleanDisk};
+ghost use Rattle.mailstore.specs.Connection.{Makes, IsSettled, StaysSame};
+ghost use Rattle.mailstore.specs.Changes.{MayHave, made_one};
+ghost use Rattle.mailstore.specs.Refusals.{IsPassing};
 
-use crate::statement::{
-    add_account, add_copy, add_script, remove_script, set_active, set_next_copy,
-};
+use crate::account::{add_account, set_active, set_next_copy};
+use crate::folder::add_copy;
+use crate::refusal::Refusal;
+use crate::script::{add_script, remove_script};
+use crate::store::{Store, code_of};
 use sqlite::{Alter, Connection, Error, Transaction};
 
 /// A change of one row by its key. Names, texts and messages are borrowed.
@@ -46,7 +49,8 @@ pub enum Change<'a> {
     },
 }
 
-fn make<S: Alter>(tx: &mut Transaction<'_, S>, change: &Change<'_>) -> Result<usize, Error>
+/// Makes the change, inside a transaction.
+fn make<S: Alter>(tx: &mut Transaction<'_, S>, change: &Change<'_>) -> Result<(), Error>
     ensures same_reference { tx.new.conn.ghost_name ≡ tx.old.conn.ghost_name }
     ensures made { Makes (state S.Store tx.old.conn.now) (state S.Store tx.new.conn.now) result (made_one change.now) }
     ensures survives { Survives (state S.Store tx.old.conn.now) (state S.Store tx.new.conn.now) (λ _. ⊥) }
@@ -87,4 +91,21 @@ pub fn make_all<S: Alter>(conn: &mut Connection<S>, changes: &[Change<'_>]) -> R
         make(&mut tx, change)?;
     }
     tx.commit()
+}
+
+impl<S: Alter> Store<S> {
+    /// Makes the changes in turn, in one transaction: all of them, or none.
+    pub(crate) fn apply(&mut self, changes: &[Change<'_>]) -> Result<(), Refusal>
+        ensures made { MakesAll changes.now (state S.Store self.old) (state S.Store self.new) result }
+        ensures settled { HasCleanDisk (state S.Store self.new) → OnOk result (IsSettled (state S.Store self.new)) }
+        ensures same { HasCleanDisk (state S.Store self.new) → OnErr result (StaysSame (state S.Store self.old) (state S.Store self.new)) }
+        ensures crash { Survives (state S.Store self.old) (state S.Store self.new) (MayHave changes.now (state S.Store self.old)) }
+        ensures named { IfErr result IsPassing }
+    {
+        if let Err(error) = make_all(&mut self.conn, changes) {
+            self.cause = code_of(&error);
+            return Err(Refusal::from(error));
+        }
+        Ok(())
+    }
 }

@@ -1,11 +1,17 @@
-//! The row changes of a delivery.
-ghost use Rattle.std.specs.Prelude.{◌≡◌, ◌+◌, ◌<◌, ◌^◌, pos, length, IfOk, IfErr};
+//! What a delivery writes.
+ghost use Rattle.std.specs.Prelude.{◌≡◌, pos, IfOk, IfErr, ◌+◌, ◌<◌, ◌^◌, length};
+ghost use Rattle.sqlite.specs.Held.{state};
+ghost use Rattle.mailstore.specs.Promises.{WritesAccount};
 ghost use Rattle.mailstore.specs.Changes.{AreCopies};
+ghost use Rattle.mailstore.specs.Account.{files_copies};
 ghost use Rattle.mailstore.specs.Refusals.{IsPassing};
 
 use crate::change::Change;
 use crate::refusal::Refusal;
+use crate::report::Plan;
+use crate::store::Store;
 use octets::Octets;
+use sqlite::Alter;
 use std::alloc::Global;
 
 /// The number as the database keeps it; past 2^63 - 1 it is refused.
@@ -21,7 +27,7 @@ fn number(n: u64) -> Result<i64, Refusal>
 }
 
 /// The counter goes up first, and then a copy joins each folder in turn, numbered from `next` on.
-pub fn copy_changes<'a>(
+fn copy_changes<'a>(
     alloc: Global,
     user: &'a [u8],
     folders: &'a [Octets],
@@ -49,4 +55,15 @@ pub fn copy_changes<'a>(
         })?;
     }
     Ok(changes)
+}
+
+impl<S: Alter> Store<S> {
+    /// Writes the delivery: the message joins each folder of the plan, in turn.
+    pub fn commit_delivery(&mut self, user: &[u8], plan: &Plan<'_>) -> Result<(), Refusal>
+        ensures { WritesAccount user.now (files_copies plan.now.copies plan.now.message.now) (state S.Store self.old) (state S.Store self.new) result }
+    {
+        let next = self.next_copy(user)?;
+        let changes = copy_changes(self.alloc, user, plan.copies.as_slice(), plan.message, next)?;
+        self.apply(&changes)
+    }
 }

@@ -1,22 +1,24 @@
 //! The tables of accounts, scripts and messages in an SQL database.
 #![tactic(auto)]
 
+mod account;
+mod cell;
 mod change;
-mod decode;
 mod delivery;
-mod folders;
+mod folder;
+mod notice;
 mod profile;
-mod query;
-mod reads;
+mod queue;
 mod refusal;
+mod reply;
 mod report;
 mod schema;
-mod statement;
+mod script;
 pub mod store;
 mod table;
-mod writes;
+mod version;
 
-pub use folders::Folder;
+pub use folder::Folder;
 pub use profile::Profile;
 pub use refusal::Refusal;
 pub use report::{Plan, Report};

@@ -9,10 +9,10 @@ ghost use Rattle.mailstore.specs.Account.{Accounts, no_accounts};
 ghost use Rattle.mailstore.specs.Refusals.{IsPassing};
 ghost use Rattle.mailstore.specs.Shows.{Presents, IsOurs, ShowsIn};
 
-use crate::query::has_version;
 use crate::refusal::Refusal;
 use crate::schema::is_ours;
 use crate::table::{is_blank, is_taken, make_tables};
+use crate::version::has_version;
 use sqlite::{Alter, Connection, Error, ErrorCode};
 use std::alloc::Global;
 use std::marker::Model;

@@ -1,8 +1,0 @@
-use Rattle.sqlite.specs.Held.{state}
-use Rattle.mailstore.proofs.StatementLemmas.{inserts_account}
-use Rattle.mailstore.proofs.statement.add_account.Goals as goal
-
-pub returns-clause-made : goal.returns-clause-made
-returns-clause-made g c clean inside =
-    inserts_account (state g.S.Store c.args.tx.now.conn.now) (state g.S.Store c.execute.new.self.conn.now) c.args.name.now c.args.address.now c.args.salt.now c.args.rounds c.args.digest.now c.execute.result
-    (rw (c.params-to_sql.ensures, c.params-to_sql-2.ensures, c.params-to_sql-3.ensures, c.params-to_sql-4.ensures, c.params-to_sql-5.ensures) at (c.execute.ensures.runs clean inside))

@@ -1,8 +1,0 @@
-use Rattle.sqlite.specs.Held.{state}
-use Rattle.mailstore.proofs.StatementLemmas.{inserts_script}
-use Rattle.mailstore.proofs.statement.add_script.Goals as goal
-
-pub returns-clause-made : goal.returns-clause-made
-returns-clause-made g c clean inside =
-    inserts_script (state g.S.Store c.args.tx.now.conn.now) (state g.S.Store c.execute.new.self.conn.now) c.args.owner.now c.args.name.now c.args.text.now c.execute.result
-    (rw (c.params-to_sql.ensures, c.params-to_sql-2.ensures, c.params-to_sql-3.ensures) at (c.execute.ensures.runs clean inside))

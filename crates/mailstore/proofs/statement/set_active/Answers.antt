@@ -1,9 +1,0 @@
-use Rattle.sqlite.specs.Held.{state}
-use Rattle.mailstore.specs.Cells.{or_null, contents}
-use Rattle.mailstore.proofs.StatementLemmas.{sets_active, active_bound}
-use Rattle.mailstore.proofs.statement.set_active.Goals as goal
-
-pub returns-clause-made : goal.returns-clause-made
-returns-clause-made g c clean inside =
-    sets_active (state g.S.Store c.args.tx.now.conn.now) (state g.S.Store c.execute.new.self.conn.now) c.args.name.now (or_null (contents c.args.active)) c.execute.result
-    (rw (c.params-to_sql.ensures, c.params-to_sql-2.ensures, active_bound c.args.active) at (c.execute.ensures.runs clean inside))

@@ -1,0 +1,220 @@
+//! The table of accounts: its rows are the users.
+ghost use Rattle.std.specs.Prelude.{◌≡◌, false, ◌⊎◌, [], pos, Some, option_map, slice_get, IfOk, IfErr};
+ghost use Rattle.sqlite.specs.Held.{state};
+ghost use Rattle.mailstore.specs.AccountTable.{account_tree, shown_account, shown_next_copy, IsRead};
+ghost use Rattle.mailstore.specs.Promises.{FindsOwn, ReadsCounter, ReadsProfile, Requires, IsFree, Writes, WritesUser};
+ghost use Rattle.sqlite.specs.State.{Survives};
+ghost use Rattle.mailstore.specs.Connection.{Makes, MakesTable};
+ghost use Rattle.mailstore.specs.Cells.{contents, or_null};
+ghost use Rattle.mailstore.specs.Changes.{account_added, active_set, next_copy_set};
+ghost use Rattle.mailstore.specs.Schema.{schema_1, schema_2};
+ghost use Rattle.mailstore.specs.Account.{activates, new_user};
+ghost use Rattle.mailstore.specs.Refusals.{IsPassing};
+ghost use Rattle.sqlite_value.specs.declared.value.Value.TheVariants.{Int, Blob};
+ghost use Rattle.sqlite_value.specs.Order.{column};
+
+use crate::cell::{optional_text_at, text_at};
+use crate::change::Change;
+use crate::profile::Profile;
+use crate::refusal::Refusal;
+use crate::store::Store;
+use sqlite::{Alter, Connection, Error, Row, Transaction, params};
+
+/// Makes the table `account`, inside a transaction.
+pub fn make_account<S: Alter>(tx: &mut Transaction<'_, S>) -> Result<(), Error>
+    ensures same_reference { tx.new.conn.ghost_name ≡ tx.old.conn.ghost_name }
+    ensures made { MakesTable (state S.Store tx.old.conn.now) (state S.Store tx.new.conn.now) result schema_1 schema_2 }
+    ensures survives { Survives (state S.Store tx.old.conn.now) (state S.Store tx.new.conn.now) (λ _. ⊥) }
+{
+    tx.execute(
+        "CREATE TABLE account (name BLOB NOT NULL PRIMARY KEY, address BLOB NOT NULL, salt BLOB NOT NULL, rounds INTEGER NOT NULL, digest BLOB NOT NULL, active BLOB, next_copy INTEGER NOT NULL, next_out INTEGER NOT NULL, next_notice INTEGER NOT NULL) STRICT",
+        &[],
+    )?;
+    Ok(())
+}
+
+/// A new account without an active script, whose counters begin at 1. Inside a transaction.
+pub fn add_account<S: Alter>(
+    tx: &mut Transaction<'_, S>,
+    name: &[u8],
+    address: &[u8],
+    salt: &[u8],
+    rounds: u32,
+    digest: &[u8],
+) -> Result<(), Error>
+    ensures same_reference { tx.new.conn.ghost_name ≡ tx.old.conn.ghost_name }
+    ensures made { Makes (state S.Store tx.old.conn.now) (state S.Store tx.new.conn.now) result (account_added name.now address.now salt.now rounds digest.now) }
+    ensures survives { Survives (state S.Store tx.old.conn.now) (state S.Store tx.new.conn.now) (λ _. ⊥) }
+{
+    tx.execute(
+        "INSERT INTO account (name, address, salt, rounds, digest, active, next_copy, next_out, next_notice) VALUES (?1, ?2, ?3, ?4, ?5, NULL, 1, 1, 1)",
+        params![name, address, salt, rounds, digest],
+    )?;
+    Ok(())
+}
+
+/// Another script is active, or none. Inside a transaction.
+pub fn set_active<S: Alter>(
+    tx: &mut Transaction<'_, S>,
+    name: &[u8],
+    active: Option<&[u8]>,
+) -> Result<(), Error>
+    ensures same_reference { tx.new.conn.ghost_name ≡ tx.old.conn.ghost_name }
+    ensures made { Makes (state S.Store tx.old.conn.now) (state S.Store tx.new.conn.now) result (active_set name.now (contents active.entry)) }
+    ensures survives { Survives (state S.Store tx.old.conn.now) (state S.Store tx.new.conn.now) (λ _. ⊥) }
+{
+    tx.execute(
+        "UPDATE account SET active = ?2 WHERE name = ?1",
+        params![name, active],
+    )?;
+    Ok(())
+}
+
+/// Another counter of copies. Inside a transaction.
+pub fn set_next_copy<S: Alter>(
+    tx: &mut Transaction<'_, S>,
+    name: &[u8],
+    next: &i64,
+) -> Result<(), Error>
+    ensures same_reference { tx.new.conn.ghost_name ≡ tx.old.conn.ghost_name }
+    ensures made { Makes (state S.Store tx.old.conn.now) (state S.Store tx.new.conn.now) result (next_copy_set name.now next.now) }
+    ensures survives { Survives (state S.Store tx.old.conn.now) (state S.Store tx.new.conn.now) (λ _. ⊥) }
+{
+    tx.execute(
+        "UPDATE account SET next_copy = ?2 WHERE name = ?1",
+        params![name, next],
+    )?;
+    Ok(())
+}
+
+/// The address, salt, rounds, digest and active script of the account.
+fn find_account<S: Alter>(conn: &mut Connection<S>, name: &[u8]) -> Result<Vec<Row>, Error>
+    requires { conn.old.in_transaction ≡ false }
+    ensures ended { conn.new.in_transaction ≡ false }
+    ensures limit { conn.new.step_limit ≡ conn.old.step_limit }
+    ensures finds { FindsOwn name.now account_tree shown_account (state S.Store conn.old) (state S.Store conn.new) result }
+{
+    let _settled = conn.is_autocommit();
+    conn.query_all(
+        "SELECT address, salt, rounds, digest, active FROM account WHERE name = ?1",
+        params![name],
+    )
+}
+
+/// The number of the account's next copy.
+fn find_next_copy<S: Alter>(conn: &mut Connection<S>, name: &[u8]) -> Result<Vec<Row>, Error>
+    requires { conn.old.in_transaction ≡ false }
+    ensures ended { conn.new.in_transaction ≡ false }
+    ensures limit { conn.new.step_limit ≡ conn.old.step_limit }
+    ensures finds { FindsOwn name.now account_tree shown_next_copy (state S.Store conn.old) (state S.Store conn.new) result }
+{
+    let _settled = conn.is_autocommit();
+    conn.query_all(
+        "SELECT next_copy FROM account WHERE name = ?1",
+        params![name],
+    )
+}
+
+/// The number in the first row; without a row the user has no account.
+fn only_number(rows: &[Row]) -> Result<u64, Refusal>
+    ensures ok { IfOk result (λ n. option_map (λ r. column r 0) (slice_get rows.now 0) ≡ Some (Int (pos n))) }
+    ensures absent { IfErr result (λ e. e ≡ Refusal.NoUser → rows.now ≡ []) }
+    ensures named { IfErr result (λ e. (e ≡ Refusal.NoUser) ⊎ IsPassing e) }
+{
+    match rows.first() {
+        Some(row) => {
+            let number: u64 = row.get(0)?;
+            Ok(number)
+        }
+        None => Err(Refusal::NoUser),
+    }
+}
+
+/// The account that the row shows.
+fn profile_in(row: &Row) -> Result<Profile, Error>
+    ensures address { IfOk result (λ p. column row.now 0 ≡ Blob p.address) }
+    ensures salt { IfOk result (λ p. column row.now 1 ≡ Blob p.salt) }
+    ensures rounds { IfOk result (λ p. column row.now 2 ≡ Int (pos p.rounds)) }
+    ensures digest { IfOk result (λ p. column row.now 3 ≡ Blob p.digest) }
+    ensures active { IfOk result (λ p. column row.now 4 ≡ or_null p.active) }
+{
+    Ok(Profile {
+        address: text_at(row, 0)?,
+        salt: text_at(row, 1)?,
+        rounds: row.get(2)?,
+        digest: text_at(row, 3)?,
+        active: optional_text_at(row, 4)?,
+    })
+}
+
+/// The account in the first row, if there is a row.
+fn first_profile(rows: &[Row]) -> Result<Option<Profile>, Refusal>
+    ensures ok { IfOk result (λ profile. IsRead profile (slice_get rows.now 0)) }
+    ensures named { IfErr result IsPassing }
+{
+    match rows.first() {
+        Some(row) => {
+            let profile = profile_in(row)?;
+            Ok(Some(profile))
+        }
+        None => Ok(None),
+    }
+}
+
+impl<S: Alter> Store<S> {
+    /// The number of the user's next copy.
+    pub(crate) fn next_copy(&mut self, user: &[u8]) -> Result<u64, Refusal>
+        ensures { ReadsCounter user.now (state S.Store self.old) (state S.Store self.new) result }
+    {
+        let rows = find_next_copy(&mut self.conn, user)?;
+        only_number(&rows)
+    }
+
+    /// Asks whether the user has an account.
+    pub(crate) fn require_account(&mut self, user: &[u8]) -> Result<(), Refusal>
+        ensures { Requires user.now (state S.Store self.old) (state S.Store self.new) result }
+    {
+        self.next_copy(user)?;
+        Ok(())
+    }
+
+    /// What the store keeps of the account; none without an account.
+    pub fn account(&mut self, user: &[u8]) -> Result<Option<Profile>, Refusal>
+        ensures { ReadsProfile user.now (state S.Store self.old) (state S.Store self.new) result }
+    {
+        let rows = find_account(&mut self.conn, user)?;
+        first_profile(&rows)
+    }
+
+    /// Adds an account without scripts, messages and replies. `rounds` is how often the password is
+    /// digested. What comes of a name that has an account is left open but for the table's key, which SQLite keeps.
+    pub fn add_user(
+        &mut self,
+        name: &[u8],
+        address: &[u8],
+        salt: &[u8],
+        rounds: u32,
+        digest: &[u8],
+    ) -> Result<(), Refusal>
+        ensures { Writes (IsFree name.now) (new_user name.now address.now salt.now rounds digest.now) (state S.Store self.old) (state S.Store self.new) result }
+    {
+        self.apply(&[Change::AddAccount {
+            name,
+            address,
+            salt,
+            rounds,
+            digest,
+        }])
+    }
+
+    /// Makes the script with the name the active one, or none. That a script has the name is for
+    /// the caller to see.
+    pub fn set_active(&mut self, user: &[u8], name: Option<&[u8]>) -> Result<(), Refusal>
+        ensures { WritesUser user.now (activates (contents name.entry)) (state S.Store self.old) (state S.Store self.new) result }
+    {
+        self.apply(&[Change::SetActive {
+            name: user,
+            active: name,
+        }])
+    }
+}

@@ -1,0 +1,56 @@
+//! The texts in the cells of rows.
+ghost use Rattle.std.specs.Prelude.{◌≡◌, option_map, map, slice_get, IfOk, IfErr};
+ghost use Rattle.mailstore.specs.Cells.{or_null};
+ghost use Rattle.mailstore.specs.Refusals.{IsPassing};
+ghost use Rattle.sqlite_value.specs.declared.value.Value.TheVariants.{Blob};
+ghost use Rattle.sqlite_value.specs.Order.{column};
+
+use crate::refusal::Refusal;
+use octets::{Octets, Texts};
+use sqlite::{Error, Row};
+use std::alloc::Global;
+
+/// The text in the cell.
+pub fn text_at(row: &Row, at: usize) -> Result<Octets, Error>
+    ensures { IfOk result (λ text. column row.now at ≡ Blob text) }
+{
+    let items: Vec<u8> = row.get(at)?;
+    Ok(Octets::from_vec(items))
+}
+
+/// The text in the cell; none where it is NULL.
+pub fn optional_text_at(row: &Row, at: usize) -> Result<Option<Octets>, Error>
+    ensures { IfOk result (λ text. column row.now at ≡ or_null text) }
+{
+    let items: Option<Vec<u8>> = row.get(at)?;
+    match items {
+        Some(items) => Ok(Some(Octets::from_vec(items))),
+        None => Ok(None),
+    }
+}
+
+/// The text in the first row, if there is a row.
+pub fn first_text(rows: &[Row]) -> Result<Option<Octets>, Refusal>
+    ensures ok { IfOk result (λ text. option_map (λ t. Blob t) text ≡ option_map (λ r. column r 0) (slice_get rows.now 0)) }
+    ensures named { IfErr result IsPassing }
+{
+    match rows.first() {
+        Some(row) => {
+            let text = text_at(row, 0)?;
+            Ok(Some(text))
+        }
+        None => Ok(None),
+    }
+}
+
+/// The texts in the rows, in their order.
+pub fn texts(alloc: Global, rows: &[Row]) -> Result<Texts, Refusal>
+    ensures ok { IfOk result (λ all. map (λ t. Blob t) all ≡ map (λ r. column r 0) rows.now) }
+    ensures named { IfErr result IsPassing }
+{
+    let mut all = Texts::new(alloc);
+    for row in rows {
+        all.push(text_at(row, 0)?)?;
+    }
+    Ok(all)
+}

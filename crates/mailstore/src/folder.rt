@@ -1,0 +1,161 @@
+//! The table of the copies of messages, which are the folders.
+ghost use Rattle.std.specs.Prelude.{◌≡◌, ℕ, false, OnOk, List, map, IfOk, IfErr};
+ghost use Rattle.sqlite.specs.Held.{state};
+ghost use Rattle.mailstore.specs.CopyTable.{AreMessageRows};
+ghost use Rattle.mailstore.specs.Promises.{Finds, Reads, ReadsRows};
+ghost use Rattle.mailstore.specs.Tally.{AreFolderRows, tallied, AreFolders, counted};
+ghost use Rattle.sqlite.specs.State.{Survives};
+ghost use Rattle.mailstore.specs.Connection.{Makes, MakesTable};
+ghost use Rattle.mailstore.specs.Changes.{copy_added};
+ghost use Rattle.mailstore.specs.Schema.{mail_schema, schema_6};
+ghost use Rattle.mailstore.specs.Account.{messages_in};
+ghost use Rattle.mailstore.specs.Refusals.{IsPassing};
+ghost use Rattle.sqlite_value.specs.declared.value.Value.TheVariants.{Blob};
+ghost use Rattle.sqlite_value.specs.Order.{column};
+
+use crate::cell::{text_at, texts};
+use crate::refusal::Refusal;
+use crate::store::Store;
+use octets::{ListOf, Octets, Texts};
+use sqlite::{Alter, Connection, Error, Row, Transaction, params};
+use std::alloc::Global;
+
+/// A folder and the number of its messages.
+#[derive(Debug, Drop)]
+pub struct Folder {
+    pub name: Octets,
+    pub count: u64,
+}
+
+/// Makes the table `copy`, inside a transaction.
+pub fn make_copy<S: Alter>(tx: &mut Transaction<'_, S>) -> Result<(), Error>
+    ensures same_reference { tx.new.conn.ghost_name ≡ tx.old.conn.ghost_name }
+    ensures made { MakesTable (state S.Store tx.old.conn.now) (state S.Store tx.new.conn.now) result schema_6 mail_schema }
+    ensures survives { Survives (state S.Store tx.old.conn.now) (state S.Store tx.new.conn.now) (λ _. ⊥) }
+{
+    tx.execute(
+        "CREATE TABLE copy (owner BLOB NOT NULL REFERENCES account (name), folder BLOB NOT NULL, n INTEGER NOT NULL, message BLOB NOT NULL, PRIMARY KEY (owner, folder, n)) STRICT",
+        &[],
+    )?;
+    Ok(())
+}
+
+/// A copy of a message in a folder, with its number. Inside a transaction.
+pub fn add_copy<S: Alter>(
+    tx: &mut Transaction<'_, S>,
+    owner: &[u8],
+    folder: &[u8],
+    n: &i64,
+    message: &[u8],
+) -> Result<(), Error>
+    ensures same_reference { tx.new.conn.ghost_name ≡ tx.old.conn.ghost_name }
+    ensures made { Makes (state S.Store tx.old.conn.now) (state S.Store tx.new.conn.now) result (copy_added owner.now folder.now n.now message.now) }
+    ensures survives { Survives (state S.Store tx.old.conn.now) (state S.Store tx.new.conn.now) (λ _. ⊥) }
+{
+    tx.execute(
+        "INSERT INTO copy (owner, folder, n, message) VALUES (?1, ?2, ?3, ?4)",
+        params![owner, folder, n, message],
+    )?;
+    Ok(())
+}
+
+/// The messages of the folder, in the order of their numbers.
+fn find_messages<S: Alter>(
+    conn: &mut Connection<S>,
+    owner: &[u8],
+    folder: &[u8],
+) -> Result<Vec<Row>, Error>
+    requires { conn.old.in_transaction ≡ false }
+    ensures ended { conn.new.in_transaction ≡ false }
+    ensures limit { conn.new.step_limit ≡ conn.old.step_limit }
+    ensures finds { Finds owner.now (AreMessageRows folder.now) (state S.Store conn.old) (state S.Store conn.new) result }
+{
+    let _settled = conn.is_autocommit();
+    conn.query_all(
+        "SELECT message FROM copy WHERE owner = ?1 AND folder = ?2 ORDER BY n",
+        params![owner, folder],
+    )
+}
+
+/// The folder of each copy, in the order of their octets.
+fn find_folders<S: Alter>(conn: &mut Connection<S>, owner: &[u8]) -> Result<Vec<Row>, Error>
+    requires { conn.old.in_transaction ≡ false }
+    ensures ended { conn.new.in_transaction ≡ false }
+    ensures limit { conn.new.step_limit ≡ conn.old.step_limit }
+    ensures finds { Finds owner.now AreFolderRows (state S.Store conn.old) (state S.Store conn.new) result }
+{
+    let _settled = conn.is_autocommit();
+    conn.query_all(
+        "SELECT folder FROM copy WHERE owner = ?1 ORDER BY folder",
+        params![owner],
+    )
+}
+
+/// Counts one message more in the last folder, if it has the name, else in a new one.
+/// After a refusal the folders may lack their last one.
+fn count(folders: &mut Vec<Folder>, name: Octets) -> Result<(), Refusal>
+    ensures counted { OnOk result (folders.new.items ≡ counted folders.old.items name) }
+    ensures named { IfErr result IsPassing }
+{
+    let Some(last) = folders.pop() else {
+        folders.push(Folder { name, count: 1 })?;
+        return Ok(());
+    };
+    if last.name == name {
+        let Some(count) = last.count.checked_add(1) else {
+            return Err(Refusal::Store);
+        };
+        folders.push(Folder { name, count })?;
+        return Ok(());
+    }
+    folders.push(last)?;
+    folders.push(Folder { name, count: 1 })?;
+    Ok(())
+}
+
+/// The folders whose names are in the rows, in order, each with how often it stands there.
+fn tally(alloc: Global, rows: &[Row]) -> Result<ListOf<Folder>, Refusal>
+    ensures ok { IfOk result (λ all. (names : List (List ℕ)) → map (λ r. column r 0) rows.now ≡ map (λ n. Blob n) names → all ≡ tallied names) }
+    ensures named { IfErr result IsPassing }
+{
+    let mut all = Vec::new(alloc);
+    for row in rows {
+        count(&mut all, text_at(row, 0)?)?;
+    }
+    Ok(ListOf::from_vec(all))
+}
+
+impl<S: Alter> Store<S> {
+    /// The rows with the messages of the folder, in the order of their numbers.
+    fn message_rows(&mut self, user: &[u8], folder: &[u8]) -> Result<Vec<Row>, Refusal>
+        ensures { ReadsRows user.now (AreMessageRows folder.now) (state S.Store self.old) (state S.Store self.new) result }
+    {
+        self.require_account(user)?;
+        Ok(find_messages(&mut self.conn, user, folder)?)
+    }
+
+    /// The messages of the folder, in the order in which they came; none where it is absent.
+    pub fn folder(&mut self, user: &[u8], folder: &[u8]) -> Result<Texts, Refusal>
+        ensures { Reads user.now (λ messages a. messages ≡ messages_in a.folders folder.now) (state S.Store self.old) (state S.Store self.new) result }
+    {
+        let rows = self.message_rows(user, folder)?;
+        texts(self.alloc, &rows)
+    }
+
+    /// The rows with the folder of each copy, in the order of their octets.
+    fn folder_rows(&mut self, user: &[u8]) -> Result<Vec<Row>, Refusal>
+        ensures { ReadsRows user.now AreFolderRows (state S.Store self.old) (state S.Store self.new) result }
+    {
+        self.require_account(user)?;
+        Ok(find_folders(&mut self.conn, user)?)
+    }
+
+    /// The user's folders in the order of the octets of their names, with how many messages they
+    /// have. No message is read.
+    pub fn folders(&mut self, user: &[u8]) -> Result<ListOf<Folder>, Refusal>
+        ensures { Reads user.now AreFolders (state S.Store self.old) (state S.Store self.new) result }
+    {
+        let rows = self.folder_rows(user)?;
+        tally(self.alloc, &rows)
+    }
+}

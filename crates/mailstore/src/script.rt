@@ -1,0 +1,147 @@
+//! The table of scripts.
+ghost use Rattle.std.specs.Prelude.{◌≡◌, false};
+ghost use Rattle.sqlite.specs.Held.{state};
+ghost use Rattle.mailstore.specs.Promises.{Finds, Reads, ReadsRows, WritesUser};
+ghost use Rattle.mailstore.specs.ScriptTable.{AreNameRows, HasTextRow};
+ghost use Rattle.sqlite.specs.State.{Survives};
+ghost use Rattle.mailstore.specs.Connection.{Makes, MakesTable};
+ghost use Rattle.mailstore.specs.Changes.{script_added, script_removed};
+ghost use Rattle.mailstore.specs.Schema.{schema_2, schema_3};
+ghost use Rattle.mailstore.specs.Account.{keeps_script};
+ghost use Rattle.std.specs.FinMap.{get, keys};
+
+use crate::cell::{first_text, texts};
+use crate::change::Change;
+use crate::refusal::Refusal;
+use crate::store::Store;
+use octets::{Octets, Texts};
+use sqlite::{Alter, Connection, Error, Row, Transaction, params};
+
+/// Makes the table `script`, inside a transaction.
+pub fn make_script<S: Alter>(tx: &mut Transaction<'_, S>) -> Result<(), Error>
+    ensures same_reference { tx.new.conn.ghost_name ≡ tx.old.conn.ghost_name }
+    ensures made { MakesTable (state S.Store tx.old.conn.now) (state S.Store tx.new.conn.now) result schema_2 schema_3 }
+    ensures survives { Survives (state S.Store tx.old.conn.now) (state S.Store tx.new.conn.now) (λ _. ⊥) }
+{
+    tx.execute(
+        "CREATE TABLE script (owner BLOB NOT NULL REFERENCES account (name), name BLOB NOT NULL, text BLOB NOT NULL, PRIMARY KEY (owner, name)) STRICT",
+        &[],
+    )?;
+    Ok(())
+}
+
+/// A script that has no row of its name yet. Inside a transaction.
+pub fn add_script<S: Alter>(
+    tx: &mut Transaction<'_, S>,
+    owner: &[u8],
+    name: &[u8],
+    text: &[u8],
+) -> Result<(), Error>
+    ensures same_reference { tx.new.conn.ghost_name ≡ tx.old.conn.ghost_name }
+    ensures made { Makes (state S.Store tx.old.conn.now) (state S.Store tx.new.conn.now) result (script_added owner.now name.now text.now) }
+    ensures survives { Survives (state S.Store tx.old.conn.now) (state S.Store tx.new.conn.now) (λ _. ⊥) }
+{
+    tx.execute(
+        "INSERT INTO script (owner, name, text) VALUES (?1, ?2, ?3)",
+        params![owner, name, text],
+    )?;
+    Ok(())
+}
+
+/// The row of the name goes, if there is one. Inside a transaction.
+pub fn remove_script<S: Alter>(
+    tx: &mut Transaction<'_, S>,
+    owner: &[u8],
+    name: &[u8],
+) -> Result<(), Error>
+    ensures same_reference { tx.new.conn.ghost_name ≡ tx.old.conn.ghost_name }
+    ensures made { Makes (state S.Store tx.old.conn.now) (state S.Store tx.new.conn.now) result (script_removed owner.now name.now) }
+    ensures survives { Survives (state S.Store tx.old.conn.now) (state S.Store tx.new.conn.now) (λ _. ⊥) }
+{
+    tx.execute(
+        "DELETE FROM script WHERE owner = ?1 AND name = ?2",
+        params![owner, name],
+    )?;
+    Ok(())
+}
+
+/// The text of the script.
+fn find_script<S: Alter>(
+    conn: &mut Connection<S>,
+    owner: &[u8],
+    name: &[u8],
+) -> Result<Vec<Row>, Error>
+    requires { conn.old.in_transaction ≡ false }
+    ensures ended { conn.new.in_transaction ≡ false }
+    ensures limit { conn.new.step_limit ≡ conn.old.step_limit }
+    ensures finds { Finds owner.now (HasTextRow name.now) (state S.Store conn.old) (state S.Store conn.new) result }
+{
+    let _settled = conn.is_autocommit();
+    conn.query_all(
+        "SELECT text FROM script WHERE owner = ?1 AND name = ?2",
+        params![owner, name],
+    )
+}
+
+/// The names of the scripts, in the order of their octets.
+fn find_names<S: Alter>(conn: &mut Connection<S>, owner: &[u8]) -> Result<Vec<Row>, Error>
+    requires { conn.old.in_transaction ≡ false }
+    ensures ended { conn.new.in_transaction ≡ false }
+    ensures limit { conn.new.step_limit ≡ conn.old.step_limit }
+    ensures finds { Finds owner.now AreNameRows (state S.Store conn.old) (state S.Store conn.new) result }
+{
+    let _settled = conn.is_autocommit();
+    conn.query_all(
+        "SELECT name FROM script WHERE owner = ?1 ORDER BY name",
+        params![owner],
+    )
+}
+
+impl<S: Alter> Store<S> {
+    /// The row with the text of the script, if there is one.
+    fn script_rows(&mut self, user: &[u8], name: &[u8]) -> Result<Vec<Row>, Refusal>
+        ensures { ReadsRows user.now (HasTextRow name.now) (state S.Store self.old) (state S.Store self.new) result }
+    {
+        self.require_account(user)?;
+        Ok(find_script(&mut self.conn, user, name)?)
+    }
+
+    /// The text of the script; none where no script has the name.
+    pub fn script(&mut self, user: &[u8], name: &[u8]) -> Result<Option<Octets>, Refusal>
+        ensures { Reads user.now (λ text a. text ≡ get a.scripts name.now) (state S.Store self.old) (state S.Store self.new) result }
+    {
+        let rows = self.script_rows(user, name)?;
+        first_text(&rows)
+    }
+
+    /// The rows with the names of the scripts, in their order.
+    fn name_rows(&mut self, user: &[u8]) -> Result<Vec<Row>, Refusal>
+        ensures { ReadsRows user.now AreNameRows (state S.Store self.old) (state S.Store self.new) result }
+    {
+        self.require_account(user)?;
+        Ok(find_names(&mut self.conn, user)?)
+    }
+
+    /// The names of the user's scripts, in the order of their octets.
+    pub fn scripts(&mut self, user: &[u8]) -> Result<Texts, Refusal>
+        ensures { Reads user.now (λ names a. names ≡ keys a.scripts) (state S.Store self.old) (state S.Store self.new) result }
+    {
+        let rows = self.name_rows(user)?;
+        texts(self.alloc, &rows)
+    }
+
+    /// Keeps the script under the name, in place of one that has it. What comes of a user without an
+    /// account is left open but for the tables' rules, which SQLite keeps.
+    pub fn put_script(&mut self, user: &[u8], name: &[u8], text: &[u8]) -> Result<(), Refusal>
+        ensures { WritesUser user.now (keeps_script name.now text.now) (state S.Store self.old) (state S.Store self.new) result }
+    {
+        self.apply(&[
+            Change::RemoveScript { owner: user, name },
+            Change::AddScript {
+                owner: user,
+                name,
+                text,
+            },
+        ])
+    }
+}

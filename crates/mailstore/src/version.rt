@@ -1,0 +1,77 @@
+//! The table of the version.
+ghost use Rattle.std.specs.Prelude.{◌≡◌, false, ◌↔◌, IsTrue, pos, IfOk};
+ghost use Rattle.sqlite.specs.Held.{state};
+ghost use Rattle.mailstore.specs.Shows.{IsOurs};
+ghost use Rattle.mailstore.specs.MetaTable.{AreVersions, version_row, meta_tree, SaysOne};
+ghost use Rattle.mailstore.specs.Promises.{Asks};
+ghost use Rattle.sqlite.specs.State.{Survives};
+ghost use Rattle.mailstore.specs.Connection.{Makes, MakesTable};
+ghost use Rattle.sqlrows.specs.Rows.{added};
+ghost use Rattle.mailstore.specs.Schema.{no_schema, schema_1};
+ghost use Rattle.sqlite_value.specs.declared.value.Value.TheVariants.{Int};
+ghost use Rattle.sqlite_value.specs.Order.{column};
+
+use sqlite::{Alter, Connection, Error, Row, Transaction, params};
+
+/// Makes the table `meta`, inside a transaction.
+pub fn make_meta<S: Alter>(tx: &mut Transaction<'_, S>) -> Result<(), Error>
+    ensures same_reference { tx.new.conn.ghost_name ≡ tx.old.conn.ghost_name }
+    ensures made { MakesTable (state S.Store tx.old.conn.now) (state S.Store tx.new.conn.now) result no_schema schema_1 }
+    ensures survives { Survives (state S.Store tx.old.conn.now) (state S.Store tx.new.conn.now) (λ _. ⊥) }
+{
+    tx.execute(
+        "CREATE TABLE meta (item TEXT NOT NULL PRIMARY KEY, value INTEGER NOT NULL) STRICT",
+        &[],
+    )?;
+    Ok(())
+}
+
+/// The row of the version, inside a transaction.
+pub fn add_version<S: Alter>(tx: &mut Transaction<'_, S>) -> Result<(), Error>
+    ensures same_reference { tx.new.conn.ghost_name ≡ tx.old.conn.ghost_name }
+    ensures made { Makes (state S.Store tx.old.conn.now) (state S.Store tx.new.conn.now) result (added meta_tree version_row) }
+    ensures survives { Survives (state S.Store tx.old.conn.now) (state S.Store tx.new.conn.now) (λ _. ⊥) }
+{
+    tx.execute("INSERT INTO meta (item, value) VALUES ('version', 1)", &[])?;
+    Ok(())
+}
+
+/// The numbers in the rows of the version.
+fn find_version<S: Alter>(conn: &mut Connection<S>) -> Result<Vec<Row>, Error>
+    requires { conn.old.in_transaction ≡ false }
+    ensures ended { conn.new.in_transaction ≡ false }
+    ensures limit { conn.new.step_limit ≡ conn.old.step_limit }
+    ensures asks { Asks (AreVersions (state S.Store conn.old).now.trees) (state S.Store conn.old) (state S.Store conn.new) result }
+{
+    let _settled = conn.is_autocommit();
+    conn.query_all("SELECT value FROM meta WHERE item = ?1", params!["version"])
+}
+
+/// Whether the row of the version is there once, and says 1.
+pub fn has_version<S: Alter>(conn: &mut Connection<S>) -> Result<bool, Error>
+    requires { conn.old.in_transaction ≡ false }
+    ensures ended { conn.new.in_transaction ≡ false }
+    ensures limit { conn.new.step_limit ≡ conn.old.step_limit }
+    ensures asks { Asks (λ is. IsTrue is ↔ IsOurs (state S.Store conn.old).now) (state S.Store conn.old) (state S.Store conn.new) result }
+{
+    let rows = find_version(conn)?;
+    says_version_1(&rows)
+}
+
+/// Whether the first number of the row is 1.
+fn says_1(row: &Row) -> Result<bool, Error>
+    ensures { IfOk result (λ is. IsTrue is ↔ (column row.now 0 ≡ Int (pos 1))) }
+{
+    let number: i64 = row.get(0)?;
+    Ok(number == 1)
+}
+
+/// Whether there is one row, and it says 1.
+fn says_version_1(rows: &[Row]) -> Result<bool, Error>
+    ensures { IfOk result (λ is. IsTrue is ↔ SaysOne rows.now) }
+{
+    match rows {
+        [row] => says_1(row),
+        _ => Ok(false),
+    }
+}
