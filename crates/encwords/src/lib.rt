@@ -11,4 +11,3 @@ mod word;
 
 pub use decoding::decoded;
 pub use encoding::header_text;
-

@@ -14,4 +14,3 @@ pub use commands::Command;
 pub use items::{Item, Reach, extent, first};
 pub use replies::{Code, Line, Reply, Word};
 pub use spelling::spell;
-

@@ -11,4 +11,3 @@ mod instr;
 
 pub use code::{Code, compile};
 pub use instr::Instr;
-

@@ -21,4 +21,3 @@ pub use looked::Looked;
 pub use machine::run;
 pub use mail::Mail;
 pub use outcome::{Failure, Outcome};
-
