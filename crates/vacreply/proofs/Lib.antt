@@ -4,3 +4,8 @@ pub mod Appends
 pub mod DayLemmas
 pub mod DateLaws
 pub mod DateExamples
+pub mod FoldLaws
+pub mod WordLaws
+pub mod FieldLemmas
+pub mod AddressLemmas
+pub mod ReasonExamples

@@ -1,2 +1,5 @@
 pub mod Handles
+pub mod Cases
+pub mod Reasons
+pub mod Folds
 pub mod Dates
