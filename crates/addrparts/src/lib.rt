@@ -16,6 +16,6 @@ mod scanner;
 #[cfg(test)]
 mod tests;
 
-pub use address::{Addr, spell};
+pub use address::{Addr, quote, spell};
 pub use list::addresses;
 pub use outbound::{bare_address, sieve_address};
