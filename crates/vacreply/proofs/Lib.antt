@@ -9,3 +9,6 @@ pub mod WordLaws
 pub mod FieldLemmas
 pub mod AddressLemmas
 pub mod ReasonExamples
+pub mod TextLemmas
+pub mod ReplyLemmas
+pub mod ReplyLaws

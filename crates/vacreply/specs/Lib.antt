@@ -3,3 +3,4 @@ pub mod Cases
 pub mod Reasons
 pub mod Folds
 pub mod Dates
+pub mod Layout

@@ -1,9 +1,10 @@
 //! Fields that say what sort of mail it is.
-ghost use Rattle.std.specs.Prelude.{◌≡◌, [], ◌∷◌, true, codes};
+ghost use Rattle.std.specs.Prelude.{◌≡◌, [], ◌∷◌, true, codes, option_map};
 ghost use Rattle.std.specs.List.{list_any};
-ghost use Rattle.mailhead.specs.Fields.{text_of};
+ghost use Rattle.mailhead.specs.Fields.{text_of, texts_of};
 ghost use Rattle.mailhead.specs.Heads.{unfold_of};
 ghost use Rattle.vacreply.specs.Cases as cases;
+ghost use Rattle.vacreply.specs.Layout.{first_raw};
 
 use crate::text::{is_one_of, is_same};
 use crate::value::{is_word, is_word_before_parameters};
@@ -103,4 +104,16 @@ fn is_bulk_value(raw: &[u8]) -> bool
     ensures { result ≡ cases.is_bulk (unfold_of raw.now) }
 {
     is_word(raw, b"bulk") || is_word(raw, b"list") || is_word(raw, b"junk")
+}
+
+/// The raw value of the first field with this name, case ignored.
+pub(crate) fn first_raw<'a>(name: &[u8], fields: &[Field<'a>]) -> Option<&'a [u8]>
+    ensures { option_map (λ raw. raw.now) result ≡ first_raw name.now (texts_of fields.now) }
+{
+    for field in fields {
+        if is_same(name, field.name) {
+            return Some(field.raw);
+        }
+    }
+    None
 }

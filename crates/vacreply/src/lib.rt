@@ -2,13 +2,17 @@
 #![tactic(auto)]
 
 pub mod addressed;
+mod body;
 pub mod date;
 pub mod decision;
 mod fields;
+mod from;
 pub mod handle;
 pub mod laws;
+pub mod layout;
 pub mod reason;
 mod sender;
+mod subject;
 mod text;
 mod value;
 
@@ -16,4 +20,5 @@ pub use addressed::AddressedMail;
 pub use date::write_date;
 pub use decision::decide;
 pub use handle::handle_key;
+pub use layout::reply_bytes;
 pub use reason::{Decision, Reason};

@@ -1,7 +1,8 @@
-//! Texts whose ASCII case is ignored.
-ghost use Rattle.std.specs.Prelude.{◌≡◌};
+//! Texts whose ASCII case is ignored, and texts of UTF-8.
+ghost use Rattle.std.specs.Prelude.{◌≡◌, Some, option_copied};
 ghost use Rattle.std.specs.List.{list_any};
 ghost use Rattle.vacreply.specs.Cases as cases;
+ghost use Rattle.vacreply.specs.Layout.{usable};
 
 /// Whether two texts are the same, case ignored.
 pub(crate) fn is_same(one: &[u8], two: &[u8]) -> bool
@@ -35,4 +36,14 @@ pub(crate) fn ends_with(end: &[u8], text: &[u8]) -> bool
         return false;
     }
     is_same(end, text.split_at(text.len() - end.len()).1)
+}
+
+/// The text, if it is one of UTF-8.
+pub(crate) fn usable(text: &[u8]) -> Option<&str>
+    ensures { option_copied result ≡ usable (Some text.now) }
+{
+    match str::from_utf8(text) {
+        Ok(text) => Some(text),
+        Err(_) => None,
+    }
 }
