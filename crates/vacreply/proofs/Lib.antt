@@ -12,3 +12,4 @@ pub mod ReasonExamples
 pub mod TextLemmas
 pub mod ReplyLemmas
 pub mod ReplyLaws
+pub mod ReplyExamples
