@@ -10,14 +10,17 @@ use jiff::civil::{Date, Weekday, date};
 use octets::{Octets, write_decimal};
 use std::alloc::AllocError;
 
+/// The last moment that a date is written of: the last second of the year 9999, since a year has four digits (RFC 5322, 3.3).
+pub const MAX_MOMENT: u64 = 253_402_300_799;
+
 /// How many seconds a day has.
 const DAY_LEN: u64 = 86_400;
 
 /// Appends the date and time of a moment in UTC, as `Tue, 14 Nov 2023 22:13:20 +0000`.
 ///
-/// A moment is in seconds since 1 January 1970, and ends with the year 9999. Constant time; lack of memory is the only error.
+/// A moment is in seconds since 1 January 1970, up to [`MAX_MOMENT`]. Constant time; lack of memory is the only error.
 pub fn write_date(out: &mut Octets, moment: u64) -> Result<(), AllocError>
-    requires { moment ≤ 253_402_300_799 }
+    requires { moment ≤ MAX_MOMENT }
     ensures { OnOk result (WritesDate moment out.old out.new) }
 {
     write_day(out, moment / DAY_LEN)?;

@@ -4,7 +4,7 @@ ghost use Rattle.vacreply.specs.Dates.{IsDateText};
 ghost use Rattle.vacreply.specs.Layout as layout;
 
 use crate::body::write_body;
-use crate::date::write_date;
+use crate::date::{MAX_MOMENT, write_date};
 use crate::from::write_from;
 use crate::subject::write_subject;
 use addrparts::Addr;
@@ -15,7 +15,7 @@ use std::alloc::{AllocError, Global};
 
 /// The response to a mail, of the user with this address, at this moment: a header of eight lines at most, and a body.
 ///
-/// A moment is in seconds since 1 January 1970, and ends with the year 9999. Linear in the arguments and in the mail's header;
+/// A moment is in seconds since 1 January 1970, up to [`MAX_MOMENT`]. Linear in the arguments and in the mail's header;
 /// lack of memory is the only error.
 pub fn reply_bytes(
     alloc: Global,
@@ -24,7 +24,7 @@ pub fn reply_bytes(
     own: &Addr,
     moment: u64,
 ) -> Result<Octets, AllocError>
-    requires { moment ≤ 253_402_300_799 }
+    requires { moment ≤ MAX_MOMENT }
     ensures { IfOk result (layout.IsReply args.now mail.now own.now moment) }
 {
     let mut reply = Octets::new(alloc);
@@ -59,7 +59,7 @@ fn write_to(out: &mut Octets, sender: &[u8]) -> Result<(), AllocError>
 
 /// Appends the line Date.
 fn write_date_line(out: &mut Octets, moment: u64) -> Result<(), AllocError>
-    requires { moment ≤ 253_402_300_799 }
+    requires { moment ≤ MAX_MOMENT }
     ensures { OnOk result (layout.WritesLine (codes "Date: ") (IsDateText moment) out.old out.new) }
 {
     out.extend_from_slice(b"Date: ")?;

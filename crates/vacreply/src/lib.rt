@@ -17,8 +17,8 @@ mod text;
 mod value;
 
 pub use addressed::AddressedMail;
-pub use date::write_date;
+pub use date::{MAX_MOMENT, write_date};
 pub use decision::decide;
-pub use handle::handle_key;
+pub use handle::{handle_key, has_short_texts};
 pub use layout::reply_bytes;
 pub use reason::{Decision, Reason};
