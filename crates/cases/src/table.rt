@@ -2,7 +2,8 @@
 use crate::tally::Tally;
 use crate::text::columns;
 use crate::{
-    address, ascii, comparison, fault, head, item, line, login, reply, script, session, token, word,
+    address, ascii, comparison, fault, head, item, line, login, reply, script, session, token,
+    vacation, word,
 };
 use octets::Octets;
 use std::alloc::{AllocError, Global};
@@ -29,10 +30,11 @@ pub enum Table {
     Scripts,
     Tests,
     Sessions,
+    Vacations,
 }
 
 /// All of them, in the order in which they are tried.
-pub const TABLES: [Table; 19] = [
+pub const TABLES: [Table; 20] = [
     Table::Ascii,
     Table::Addresses,
     Table::Targets,
@@ -52,6 +54,7 @@ pub const TABLES: [Table; 19] = [
     Table::Scripts,
     Table::Tests,
     Table::Sessions,
+    Table::Vacations,
 ];
 
 impl Table {
@@ -77,6 +80,7 @@ impl Table {
             Table::Scripts => "scripts.cases",
             Table::Tests => "tests.cases",
             Table::Sessions => "sessions.cases",
+            Table::Vacations => "vacations.cases",
         }
     }
 
@@ -86,6 +90,7 @@ impl Table {
             Table::Heads => head::try_all(alloc, tally, file),
             Table::Scripts | Table::Tests => script::try_all(alloc, tally, file),
             Table::Sessions => session::try_all(alloc, tally, file),
+            Table::Vacations => vacation::try_all(alloc, tally, file),
             _ => self.try_rows(alloc, tally, file),
         }
     }
