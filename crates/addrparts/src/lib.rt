@@ -14,6 +14,6 @@ pub mod list;
 pub mod outbound;
 mod scanner;
 
-pub use address::{Addr, spell};
+pub use address::{Addr, quote, spell};
 pub use list::addresses;
 pub use outbound::{bare_address, sieve_address};

@@ -24,6 +24,7 @@ mod table;
 mod tally;
 mod text;
 mod token;
+mod vacation;
 mod word;
 
 use std::process::ExitCode;

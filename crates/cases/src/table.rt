@@ -4,7 +4,7 @@ use crate::tally::Tally;
 use crate::text::columns;
 use crate::{
     address, ascii, asked, comparison, fault, file, head, item, line, login, reply, script,
-    session, stream, token, word,
+    session, stream, token, vacation, word,
 };
 use octets::Octets;
 use std::alloc::{AllocError, Global};
@@ -36,10 +36,11 @@ pub enum Table {
     Streams,
     Runs,
     Files,
+    Vacations,
 }
 
 /// All of them, in the order in which they are tried.
-pub const TABLES: [Table; 23] = [
+pub const TABLES: [Table; 24] = [
     Table::Ascii,
     Table::Addresses,
     Table::Targets,
@@ -63,6 +64,7 @@ pub const TABLES: [Table; 23] = [
     Table::Streams,
     Table::Runs,
     Table::Files,
+    Table::Vacations,
 ];
 
 impl Table {
@@ -92,6 +94,7 @@ impl Table {
             Table::Streams => "streams.cases",
             Table::Runs => "runs.cases",
             Table::Files => "files.cases",
+            Table::Vacations => "vacations.cases",
         }
     }
 
@@ -108,6 +111,7 @@ impl Table {
             Table::Heads => head::try_all(alloc, tally, file),
             Table::Scripts | Table::Tests => script::try_all(alloc, tally, file),
             Table::Sessions => session::try_all(alloc, tally, file),
+            Table::Vacations => vacation::try_all(alloc, tally, file),
             Table::Runs => try_rows(alloc, tally, &mut MemoryRuns::new(alloc)?, file),
             _ => try_rows(alloc, tally, &mut Rows(self), file),
         }

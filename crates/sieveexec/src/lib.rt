@@ -16,7 +16,7 @@ mod shown;
 mod so_far;
 mod text_cache;
 
-pub use envelope::Envelope;
+pub use envelope::{Envelope, part_in};
 pub use looked::Looked;
 pub use machine::run;
 pub use mail::Mail;
