@@ -1,9 +1,9 @@
 //! What stands first in the octets of a ManageSieve client (RFC 5804).
-use msproto::{Command, Item, Reach, extent, first};
+use msproto::{Command, Item, Reach, Scan, extent, first};
 use octets::{Octets, write_decimal};
 use std::alloc::{AllocError, Global};
 
-/// How many octets the first item takes, and what it says. `extent` has to reach as far.
+/// How many octets the first item takes, and what it says. `extent` has to reach as far, and a scan octet by octet too.
 pub fn told(
     alloc: Global,
     out: &mut Octets,
@@ -12,6 +12,9 @@ pub fn told(
 ) -> Result<(), AllocError> {
     let pending = state == b"challenged".as_slice();
     let reached = extent(octets, pending);
+    if octet_by_octet(octets, pending) != reached {
+        return out.extend_from_slice(b"a scan says another");
+    }
     match (first(alloc, octets, pending)?, reached) {
         (Item::Need, Reach::Need) => out.extend_from_slice(b"need more"),
         (Item::TooBig, Reach::TooBig) => out.extend_from_slice(b"too big"),
@@ -26,6 +29,17 @@ pub fn told(
         }
         _ => out.extend_from_slice(b"extent says another"),
     }
+}
+
+fn octet_by_octet(octets: &[u8], pending: bool) -> Reach {
+    let mut scan = Scan::new(pending);
+    for octet in octets {
+        let Reach::Need = scan.state() else {
+            break;
+        };
+        scan.turn(*octet);
+    }
+    scan.state()
 }
 
 fn add(out: &mut Octets, command: &Command) -> Result<(), AllocError> {

@@ -1,5 +1,5 @@
 //! Answers of ManageSieve as they are spelled (RFC 5804).
-use msproto::{Code, Line, Reply, Word, spell};
+use msproto::{Code, Line, Reply, Status, spell};
 use octets::{ListOf, Octets};
 use std::alloc::{AllocError, Global};
 
@@ -35,7 +35,7 @@ fn spell_line(alloc: Global, out: &mut Octets, line: Line) -> Result<(), AllocEr
     lines.push(line)?;
     let reply = Reply {
         lines,
-        word: Word::Nothing,
+        word: None,
         code: None,
         text: None,
     };
@@ -45,7 +45,7 @@ fn spell_line(alloc: Global, out: &mut Octets, line: Line) -> Result<(), AllocEr
 fn spell_last(
     alloc: Global,
     out: &mut Octets,
-    word: Word,
+    word: Option<Status>,
     code: Option<Code>,
     text: Option<Octets>,
 ) -> Result<(), AllocError> {
@@ -66,12 +66,12 @@ fn some(alloc: Global, text: &Octets) -> Result<Option<Octets>, AllocError> {
     Ok(Some(text.copied(alloc)?))
 }
 
-fn word_of(word: &[u8]) -> Word {
+fn word_of(word: &[u8]) -> Option<Status> {
     match word {
-        b"ok" => Word::Ok,
-        b"no" => Word::No,
-        b"bye" => Word::Bye,
-        _ => Word::Nothing,
+        b"ok" => Some(Status::Ok),
+        b"no" => Some(Status::No),
+        b"bye" => Some(Status::Bye),
+        _ => None,
     }
 }
 

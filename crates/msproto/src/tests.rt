@@ -1,5 +1,5 @@
 //! Items and answers; commands, streams and the spellings of answers are cases of crates/cases.
-use crate::{Line, Reach, Reply, Word, extent, spell};
+use crate::{Line, Reach, Reply, Scan, Status, extent, spell};
 use octets::{ListOf, Octets};
 use std::alloc::{AllocError, Global};
 use std::test::Fail;
@@ -17,12 +17,26 @@ fn a_command_is_found_at_its_last_octet(rt: HostRuntime) {
     }
 }
 
+// A literal cut between two pieces is no bad line, and what follows the command is not looked at.
+#[test]
+fn a_scan_goes_on_over_pieces_up_to_the_end_of_the_item(rt: HostRuntime) {
+    let mut scan = Scan::new(false);
+    for (piece, taken, reach) in [
+        (b"NOOP {2+}\r\na".as_slice(), 12, Reach::Need),
+        (b"b\r\nNOOP\r\n", 3, Reach::Command(15)),
+        (b"NOOP\r\n", 0, Reach::Command(15)),
+    ] {
+        assert!(rt; scan.feed(piece) == taken && scan.state() == reach);
+    }
+    assert_eq!(rt; scan.looked(), 15);
+}
+
 fn challenge(alloc: Global) -> Result<Octets, AllocError> {
     let mut lines = ListOf::new(alloc);
     lines.push(Line::Empty)?;
     let reply = Reply {
         lines,
-        word: Word::Ok,
+        word: Some(Status::Ok),
         code: None,
         text: None,
     };

@@ -2,8 +2,8 @@ use Rattle.std.proofs.Common.{◌≡◌, ℕ, [], ◌∷◌, ◌++◌, false, sy
 use Rattle.msproto.specs.Machine.{rows, begins_row}
 use Rattle.msproto.proofs.Names.{no_space, no_return}
 use Rattle.msproto.proofs.Verbs.{rows_are}
-use Rattle.msproto.proofs.verb.Verb.further.Goals as goal
-use Rattle.msproto.proofs.verb.Verb.further.Goals.{then-letter-eq32-via-then-letter-eq32, then-letter-eq32-via-else-letter-eq32+then-letter-eq13}
+use Rattle.msproto.proofs.verb.Verb.extend.Goals as goal
+use Rattle.msproto.proofs.verb.Verb.extend.Goals.{then-letter-eq32-via-then-letter-eq32, then-letter-eq32-via-else-letter-eq32+then-letter-eq13}
 
 pub returns-then-letter-eq32 : goal.returns-then-letter-eq32
 returns-then-letter-eq32 c =
@@ -13,4 +13,4 @@ returns-then-letter-eq32 c =
     ]
 
 pub returns : goal.returns
-returns c = rw rows_are c.find_further.ensures
+returns c = rw rows_are c.find_extending.ensures

@@ -10,11 +10,11 @@ use Rattle.msproto.specs.declared.items.Reach.TheVariants.{Need}
 use Rattle.msproto.specs.Arguments.{is_quotable}
 use Rattle.msproto.specs.declared.state.State as code
 use Rattle.msproto.specs.declared.state.State.TheVariants as code_state
-use Rattle.msproto.specs.declared.verb.Slots as code_slots
+use Rattle.msproto.specs.declared.verb.Params as code_params
 use Rattle.msproto.specs.declared.verb.Verb.{Verb}
-use Rattle.msproto.specs.Machine.{Slots, State, Word, Quoted, Body, Dead, word_of, begins, step, room}
+use Rattle.msproto.specs.Machine.{Params, State, Word, Quoted, Body, Dead, word_of, begins, step, room}
 use Rattle.msproto.specs.Scanning.{Scanned, Open, turned, found, literal_rest}
-use Rattle.msproto.specs.Shown.{shown, slots_shown, scan_shown, is_plain, is_inner, passing, spelling, letters_read, skimmed, behind}
+use Rattle.msproto.specs.Shown.{shown, params_shown, scan_shown, is_plain, is_inner, passing, spelling, letters_read, skimmed, behind}
 use Rattle.msproto.proofs.Names.{begins-append}
 use Rattle.msproto.proofs.Verbs.{word_more}
 use Rattle.msproto.proofs.Turning.{is_open, passed, body_is}
@@ -43,18 +43,18 @@ front_passes test (x ∷ t) = go (test x) refl (front_passes test t)
 
 -- ---- one octet
 
-quoted-step : (x left : ℕ) (slots : Slots) → is_plain x ≡ true → step (Quoted (suc left) slots) x ≡ Quoted left slots
-quoted-step x left slots e =
+quoted-step : (x left : ℕ) (params : Params) → is_plain x ≡ true → step (Quoted (suc left) params) x ≡ Quoted left params
+quoted-step x left params e =
     let parts = and_parts (is_quotable x) (not (x == 34 || x == 92)) e in
     let others = or_parts (x == 34) (x == 92) (not-true (x == 34 || x == 92) parts.1) in
     let less : suc left - 1 ≡ left = omega arith in
     let some : nat_lt 0 (suc left) ≡ true = lt-ltb 0 (suc left) (omega arith) in
     rw (others.0, others.1, parts.0, some, less) refl
 
-quoted_turned : (x left n k : ℕ) (slots : Slots) → is_plain x ≡ true → n + 1 ≤ 8192 → turned (Open (Quoted (suc left) slots) n k) x ≡ Open (Quoted left slots) (n + 1) (k + 1)
-quoted_turned x left n k slots e low =
+quoted_turned : (x left n k : ℕ) (params : Params) → is_plain x ≡ true → n + 1 ≤ 8192 → turned (Open (Quoted (suc left) params) n k) x ≡ Open (Quoted left params) (n + 1) (k + 1)
+quoted_turned x left n k params e low =
     let small : nat_lt 8192 (n + 1) ≡ false = le-ltb 8192 (n + 1) low in
-    let next = quoted-step x left slots e in
+    let next = quoted-step x left params e in
     rw (small, next) refl
 
 dead_turned : (x n k : ℕ) → is_inner x ≡ true → n + 1 ≤ 8192 → turned (Open Dead n k) x ≡ Open Dead (n + 1) (k + 1)
@@ -71,19 +71,19 @@ further s m n k c =
     let b : k + 1 + c ≡ k + suc c = omega arith in
     rw (a, b) refl
 
-quoted_passed : (piece : List ℕ) (left n k : ℕ) (slots : Slots) → Pass is_plain piece → length piece ≤ left → n + length piece ≤ 8192 → fold turned (Open (Quoted left slots) n k) piece ≡ Open (Quoted (left - length piece) slots) (n + length piece) (k + length piece)
-quoted_passed [] left n k slots h le low =
+quoted_passed : (piece : List ℕ) (left n k : ℕ) (params : Params) → Pass is_plain piece → length piece ≤ left → n + length piece ≤ 8192 → fold turned (Open (Quoted left params) n k) piece ≡ Open (Quoted (left - length piece) params) (n + length piece) (k + length piece)
+quoted_passed [] left n k params h le low =
     let a : left - 0 ≡ left = omega arith in
     let b : n + 0 ≡ n = omega arith in
     let d : k + 0 ≡ k = omega arith in
     rw (a, b, d) refl
-quoted_passed (x ∷ piece) zero n k slots h le low = absurd (omega (arith, le))
-quoted_passed (x ∷ piece) (suc left) n k slots h le low =
+quoted_passed (x ∷ piece) zero n k params h le low = absurd (omega (arith, le))
+quoted_passed (x ∷ piece) (suc left) n k params h le low =
     let a : left - length piece ≡ suc left - suc (length piece) = omega arith in
-    ap (λ (sc : Scanned). fold turned sc piece) (quoted_turned x left n k slots h.0 (omega (arith, low)))
-    ∙ quoted_passed piece left (n + 1) (k + 1) slots h.1 (omega (arith, le)) (omega (arith, low))
-    ∙ further (Quoted (left - length piece) slots) 0 n k (length piece)
-    ∙ ap (λ (m : ℕ). Open (Quoted m slots) (n + suc (length piece)) (k + suc (length piece))) a
+    ap (λ (sc : Scanned). fold turned sc piece) (quoted_turned x left n k params h.0 (omega (arith, low)))
+    ∙ quoted_passed piece left (n + 1) (k + 1) params h.1 (omega (arith, le)) (omega (arith, low))
+    ∙ further (Quoted (left - length piece) params) 0 n k (length piece)
+    ∙ ap (λ (m : ℕ). Open (Quoted m params) (n + suc (length piece)) (k + suc (length piece))) a
 
 dead_passed : (piece : List ℕ) (n k : ℕ) → Pass is_inner piece → n + length piece ≤ 8192 → fold turned (Open Dead n k) piece ≡ Open Dead (n + length piece) (k + length piece)
 dead_passed [] n k h low =
@@ -194,16 +194,16 @@ skims_name v count n k m t low =
     ∙ ap (λ (d : ℕ). Open (Word (take read w ++ take d (drop read w))) (n + d) (k + d)) len
     ∙ ap (λ (f : List ℕ). Open (Word f) (n + c) (k + c)) (sym (take-add read c w))
 
-skims_quoted : (left : ℕ) (slots : code_slots.Slots) (n k m : ℕ) (t : List ℕ) → n + m ≤ 8192 → Skims (code_state.Quoted left slots) n k (skimmed (code_state.Quoted left slots) (take m t)) t
-skims_quoted left slots n k m t low =
+skims_quoted : (left : ℕ) (params : code_params.Params) (n k m : ℕ) (t : List ℕ) → n + m ≤ 8192 → Skims (code_state.Quoted left params) n k (skimmed (code_state.Quoted left params) (take m t)) t
+skims_quoted left params n k m t low =
     let u = take left (take m t) in
     let c = passing is_plain u in
     let small : c ≤ length u = passing_small is_plain u in
     let within : c ≤ length (take m t) = front_small left (take m t) c small in
     let len : length (take c u) ≡ c = length-take-le c u small in
-    ap (fold turned (Open (Quoted left (slots_shown slots)) n k)) (fronts c m t within ∙ fronts c left (take m t) small)
-    ∙ quoted_passed (take c u) left n k (slots_shown slots) (front_passes is_plain u) (omega (arith, len, small, take_small left (take m t))) (omega (arith, len, within, take_small m t, low))
-    ∙ ap (λ (d : ℕ). Open (Quoted (left - d) (slots_shown slots)) (n + d) (k + d)) len
+    ap (fold turned (Open (Quoted left (params_shown params)) n k)) (fronts c m t within ∙ fronts c left (take m t) small)
+    ∙ quoted_passed (take c u) left n k (params_shown params) (front_passes is_plain u) (omega (arith, len, small, take_small left (take m t))) (omega (arith, len, within, take_small m t, low))
+    ∙ ap (λ (d : ℕ). Open (Quoted (left - d) (params_shown params)) (n + d) (k + d)) len
 
 skims_dead : (n k m : ℕ) (t : List ℕ) → n + m ≤ 8192 → Skims code_state.Dead n k (skimmed code_state.Dead (take m t)) t
 skims_dead n k m t low =
@@ -217,12 +217,12 @@ skims_dead n k m t low =
 
 pub skims : (st : code.State) (n k m : ℕ) (t : List ℕ) → n + m ≤ 8192 → Skims st n k (skimmed st (take m t)) t
 skims (code_state.Word v count) n k m t low = skims_name v count n k m t low
-skims (code_state.Quoted left slots) n k m t low = skims_quoted left slots n k m t low
+skims (code_state.Quoted left params) n k m t low = skims_quoted left params n k m t low
 skims code_state.Dead n k m t low = skims_dead n k m t low
 skims st n k m t low = nothing_taken (shown st) n k
 
 pub room_behind : (st : code.State) (c : ℕ) → room (behind st c) ≡ room (shown st)
-room_behind (code_state.Quoted left slots) c = refl
+room_behind (code_state.Quoted left params) c = refl
 room_behind st c = refl
 
 pub skim_takes : (st next : code.State) (o u m c : ℕ) (r : Reach) (sc : Scanned) (t : List ℕ) → scan_shown st o u r ≡ sc → found sc ≡ Need → o ≤ 8192 → m ≡ min (8192 - o) (length t) → c ≡ skimmed st (take m t) → shown next ≡ behind st c → scan_shown next (o + c) (u + c) r ≡ fold turned sc (take c t)
@@ -238,8 +238,8 @@ skim_takes st next o u m c r sc t is need low cut count to =
 
 -- nothing ends inside a literal
 still_open : (s : State) (o u : ℕ) (piece : List ℕ) → o ≤ 8192 → length piece ≤ literal_rest (Open s o u) → found (fold turned (Open s o u) piece) ≡ Need
-still_open (Body left slots) o u piece low le =
-    ap (λ (s : State). found (fold turned (Open s o u) piece)) (body_is left slots) ∙ ap found (passed piece (left + 1) o u slots le low)
+still_open (Body left params) o u piece low le =
+    ap (λ (s : State). found (fold turned (Open s o u) piece)) (body_is left params) ∙ ap found (passed piece (left + 1) o u params le low)
 still_open s o u [] low le = refl
 still_open s o u (x ∷ piece) low le = absurd (omega (arith, le))
 
