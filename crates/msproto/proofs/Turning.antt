@@ -9,7 +9,7 @@ use Rattle.msproto.specs.declared.state.State as code
 use Rattle.msproto.specs.declared.state.State.TheVariants as code_state
 use Rattle.msproto.specs.declared.verb.Params as code_params
 use Rattle.msproto.specs.Machine.{Params, State, Between, Body, literal_left, step, is_large, is_whole, is_dead, weight, room}
-use Rattle.msproto.specs.Scanning.{Scanned, Open, Found, turned, found, literal_rest}
+use Rattle.msproto.specs.Scanning.{Scanned, Open, Found, turned, found, literal_rest, EndsAt}
 use Rattle.msproto.specs.Shown.{shown, params_shown, scan_shown, ending}
 use Rattle.msproto.proofs.Runs.{left-suc}
 use Rattle.msproto.proofs.Rooms.{room-step}
@@ -29,6 +29,22 @@ turned_open s n k x r e =
 nothing_big : (a : Bool) (b d : Bool) (k : ℕ) → cond a TooBig (cond b (Command k) (cond d (Bad k) Need)) ≡ Need → a ≡ false
 nothing_big true b d k e = absurd (let both : TooBig ≡ Need = e in cc)
 nothing_big false b d k e = refl
+
+-- what ends, ends with the octet
+pub ends_here : (s : State) (n k x : ℕ) (r : Reach) → r ≡ ending s n k x → EndsAt r k
+ends_here s n k x r e =
+    subst (λ (q : Reach). EndsAt q k) (sym e)
+    (one_of (nat_lt 8192 n || (is_large s && x == 10)) (is_whole (step s x)) (is_dead (step s x) && x == 10))
+  where
+    one_of : (a b d : Bool) → EndsAt (cond a TooBig (cond b (Command k) (cond d (Bad k) Need))) k
+    one_of true b d = tt
+    one_of false true d = refl
+    one_of false false true = refl
+    one_of false false false = tt
+
+-- where nothing came first, nothing ended
+pub nothing_ends : (r : Reach) (k : ℕ) → r ≡ Need → EndsAt r k
+nothing_ends r k e = subst (λ (q : Reach). EndsAt q k) (sym e) tt
 
 -- where nothing ends, the bounds stay
 pub bounds_stay : (s t : State) (n w m k x : ℕ) (r : Reach) → w ≡ weight s → t ≡ step s x → r ≡ ending s (n + w) m x → r ≡ Need → k + room s ≤ n + 2097152 → (n + w ≤ 8192) × (k + 1 + room t ≤ n + w + 2097152)

@@ -59,6 +59,12 @@ fed scan octet = record { known = turned scan.known octet; looked = scan.looked 
 abbrev pub reached : ScanView → Reach
 reached scan = found scan.known
 
+-- an item that came first ends with the last octet that was taken
+abbrev pub EndsAt : Reach → ℕ → Type 0
+EndsAt (Command used) looked = used ≡ looked
+EndsAt (Bad used) looked = used ≡ looked
+EndsAt _ looked = Unit {0}
+
 -- the scan stands for the octets: a new one for none, and one that took an octet more for those before and that octet
 abbrev pub StandsFor : Bool → ScanView → List ℕ → Type 0
 StandsFor pending scan text = scan ≡ fold fed (new_scan pending) text

@@ -3,7 +3,7 @@ ghost use Rattle.std.specs.Prelude.{◌≡◌, ℕ, ◌+◌, ◌-◌, ◌<◌, �
 ghost use Rattle.msproto.specs.declared.items.Reach.TheVariants.{Need};
 ghost use Rattle.msproto.specs.Items.{Reaches};
 ghost use Rattle.msproto.specs.Machine as m;
-ghost use Rattle.msproto.specs.Scanning.{reached, fed, literal_rest, reach_of, StandsFor};
+ghost use Rattle.msproto.specs.Scanning.{reached, fed, literal_rest, reach_of, EndsAt, StandsFor};
 ghost use Rattle.msproto.specs.Shown as s;
 
 use crate::items::Reach;
@@ -31,7 +31,7 @@ pub struct Scan {
 impl Model for Scan {
     ghost use Rattle.std.specs.Prelude.{◌≡◌, ◌+◌, ◌≤◌};
     ghost use Rattle.msproto.specs.declared.items.Reach.TheVariants.{Need};
-    ghost use Rattle.msproto.specs.Scanning.{ScanView};
+    ghost use Rattle.msproto.specs.Scanning.{ScanView, EndsAt};
     ghost use Rattle.msproto.specs.Machine.{room};
     ghost use Rattle.msproto.specs.Shown.{shown, scan_shown};
 
@@ -45,7 +45,8 @@ impl Model for Scan {
     ghost view = { λ scan. record { known = scan_shown scan.line scan.outside scan.looked scan.reach; looked = scan.looked } };
 
     ghost invariant = { λ scan. (scan.outside ≤ 8192) × (scan.looked ≤ 2105345)
-        × (scan.reach ≡ Need → scan.looked + room (shown scan.line) ≤ scan.outside + 2097152) };
+        × (scan.reach ≡ Need → scan.looked + room (shown scan.line) ≤ scan.outside + 2097152)
+        × EndsAt scan.reach scan.looked };
 }
 
 impl Scan {
@@ -111,6 +112,7 @@ impl Scan {
         ensures reached { result ≡ reached self.now }
         ensures value { (pending : Bool) (text : List ℕ) → StandsFor pending self.now text → result ≡ reach_of pending text }
         ensures item { (pending : Bool) (text : List ℕ) → StandsFor pending self.now text → Reaches pending result text }
+        ensures ends { EndsAt result self.now.looked }
     {
         self.reach
     }

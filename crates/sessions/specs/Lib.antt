@@ -1,0 +1,9 @@
+pub mod Clients
+pub mod Counts
+pub mod GivenUp
+pub mod Limits
+pub mod Logins
+pub mod Replies
+pub mod Scripts
+pub mod Steps
+pub mod Table
