@@ -1,3 +1,4 @@
 pub mod ScanLemmas
 pub mod ReachLemmas
+pub mod ScriptLemmas
 pub mod Examples

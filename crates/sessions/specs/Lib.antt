@@ -1,5 +1,6 @@
 pub mod Clients
 pub mod Counts
+pub mod Decisions
 pub mod GivenUp
 pub mod Limits
 pub mod Logins

@@ -3,6 +3,7 @@ use Rattle.std.specs.Prelude.{◌≡◌, ◌≢◌, ℕ, ◌+◌, ◌<◌, ◌�
 use Rattle.std.specs.Cmp.Lexicographic.{pointwise}
 use Rattle.std.specs.FinMap.{get, insert, remove, len, keys}
 use Rattle.sievelex.specs.declared.fault.FaultKind.{FaultKind}
+use Rattle.sievelex.specs.declared.fault.ScriptFault.{ScriptFault}
 use Rattle.sievelex.specs.Faults.{fault_line}
 use Rattle.sievelex.specs.Text.{line_ends}
 use Rattle.sievesyntax.specs.Tree.{Commands}
@@ -58,6 +59,11 @@ absent = declined (Some NonExistent) (codes "No such script.")
 abbrev pub TellsFault : List ℕ → Reply → Type 0
 TellsFault text reply =
     (line : ℕ) × (kind : FaultKind) × (1 ≤ line) × (line ≤ 1 + line_ends text) × (reply ≡ declined None (fault_line line kind))
+
+-- what is wrong with a text as a script: nothing, or a fault on one of its lines
+abbrev pub IsVerdict : List ℕ → Option ScriptFault → Type 0
+IsVerdict text None = IsValid text
+IsVerdict text (Some fault) = (IsValid text → ⊥) × (1 ≤ fault.line) × (fault.line ≤ 1 + line_ends text)
 
 -- to a text that is looked at as a script: this reply where it is one, else its fault
 abbrev pub RepliesToText : List ℕ → Reply → Reply → Type 0

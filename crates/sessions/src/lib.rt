@@ -1,10 +1,14 @@
 //! One client's session of ManageSieve (RFC 5804): octets come in pieces, and items are taken off and answered.
 #![tactic(auto)]
 
+pub mod decision;
 pub mod progress;
 pub mod replies;
+pub mod script_name;
+pub mod scripts;
 pub mod session;
 mod unread;
 
+pub use decision::{Change, Decision};
 pub use progress::Progress;
 pub use session::Session;
