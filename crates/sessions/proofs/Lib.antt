@@ -1,4 +1,5 @@
 pub mod ScanLemmas
 pub mod ReachLemmas
 pub mod ScriptLemmas
+pub mod TurnLemmas
 pub mod Examples

@@ -8,3 +8,4 @@ pub mod Replies
 pub mod Scripts
 pub mod Steps
 pub mod Table
+pub mod Turns

@@ -2,13 +2,17 @@
 #![tactic(auto)]
 
 pub mod decision;
+pub mod free;
+pub mod login;
 pub mod progress;
 pub mod replies;
 pub mod script_name;
 pub mod scripts;
 pub mod session;
+pub mod turn;
 mod unread;
 
 pub use decision::{Change, Decision};
 pub use progress::Progress;
 pub use session::Session;
+pub use turn::{Sequel, Turn};

@@ -86,7 +86,12 @@ pub fn capabilities(alloc: Global, user: &Option<Octets>) -> Result<Reply, Alloc
     let mut lines = ListOf::new(alloc);
     add_capability(alloc, &mut lines, b"IMPLEMENTATION", Some(b"sieved 1"))?;
     add_capability(alloc, &mut lines, b"SASL", Some(b"PLAIN"))?;
-    add_capability(alloc, &mut lines, b"SIEVE", Some(b"fileinto envelope vacation"))?;
+    add_capability(
+        alloc,
+        &mut lines,
+        b"SIEVE",
+        Some(b"fileinto envelope vacation"),
+    )?;
     add_capability(alloc, &mut lines, b"MAXREDIRECTS", Some(b"16"))?;
     add_capability(alloc, &mut lines, b"UNAUTHENTICATE", None)?;
     add_capability(alloc, &mut lines, b"VERSION", Some(b"1.0"))?;

@@ -209,11 +209,7 @@ fn rename_script<'a>(
 }
 
 // `NO`, and nothing changes.
-fn refuse<'a>(
-    alloc: Global,
-    code: Option<Code>,
-    text: &[u8],
-) -> Result<Decision<'a>, AllocError>
+fn refuse<'a>(alloc: Global, code: Option<Code>, text: &[u8]) -> Result<Decision<'a>, AllocError>
     ensures { IfOk result (λ decision. decision ≡ record { reply = r.declined code text.now; change = None }) }
 {
     Ok(Decision {

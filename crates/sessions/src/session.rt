@@ -44,9 +44,10 @@ impl Model for Session {
     ghost Value = { SessionView };
 
     ghost view = { λ s. record {
-        client = record { user = s.user; failures = s.failures; unread = s.unread; pending = s.pending; closed = s.closed };
-        given = s.given;
-        looked = min (s.scanned + s.scan.looked) greatest } };
+      client = record { user = s.user; failures = s.failures; unread = s.unread; pending = s.pending; closed = s.closed };
+      given = s.given;
+      looked = min (s.scanned + s.scan.looked) greatest;
+    } };
 
     ghost invariant = { λ s. IsScanned s.pending s.scan s.unread s.scanned s.given };
 }

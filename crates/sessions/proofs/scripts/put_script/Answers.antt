@@ -12,8 +12,16 @@ returns-in-Some c =
     let verdict = rw c.in-Some.is at c.in_ok-fault.ensures in
     decided _ _ _ c.tell.result c.tell.ensures
     (record {
-      replies = λ a fits. inl (c.if-not-is_script_name.ensures, inl (c.if-script-gt-MAX_SCRIPT.false, inl (c.if-not-has_room.ensures a fits,
-      inr (verdict.0, (c.in-Some.fault.line, c.in-Some.fault.kind, verdict.1, verdict.2, refl)))));
+      replies = λ a fits. inl (
+        c.if-not-is_script_name.ensures,
+        inl (
+          c.if-script-gt-MAX_SCRIPT.false,
+          inl (
+            c.if-not-has_room.ensures a fits,
+            inr (verdict.0, (c.in-Some.fault.line, c.in-Some.fault.kind, verdict.1, verdict.2, refl)),
+          ),
+        ),
+      );
       changes = λ a. refl;
     })
 
