@@ -1,14 +1,14 @@
 -- A scan that takes a stream in pieces.
-use Rattle.std.proofs.Common.{◌≡◌, ℕ, ◌+◌, ◌-◌, ◌<◌, ◌≤◌, inl, inr, Bool, List, [], ◌∷◌, ◌++◌, length, take, drop, refl, sym, ap, ◌∙◌, subst, arith}
+use Rattle.std.proofs.Common.{◌≡◌, ℕ, zero, suc, ◌+◌, ◌-◌, ◌<◌, ◌≤◌, inl, inr, Bool, true, false, cond, List, [], ◌∷◌, ◌++◌, length, take, drop, refl, sym, ap, ◌∙◌, subst, arith}
 use Rattle.std.specs.Prelude.{fold}
 use Rattle.std.proofs.lemmas.Grind.{fold-append}
 use Rattle.std.proofs.lemmas.Bool.{cases_order}
 use Rattle.std.proofs.lemmas.List.{length-drop, take-append-drop, nil_from_length}
 use Rattle.std.proofs.Math.Seq.{take-add}
 use Rattle.msproto.specs.declared.items.Reach.{Reach}
-use Rattle.msproto.specs.declared.items.Reach.TheVariants.{Need}
+use Rattle.msproto.specs.declared.items.Reach.TheVariants.{Need, Command, Bad, TooBig}
 use Rattle.msproto.specs.Items.{Reaches}
-use Rattle.msproto.specs.Scanning.{Scanned, Open, Found, fresh, turned, found, reach_of, ScanView, new_scan, fed, reached, StandsFor}
+use Rattle.msproto.specs.Scanning.{Scanned, Open, Found, fresh, turned, found, reach_of, ScanView, new_scan, fed, fed_until, is_reached, reached, StandsFor}
 use Rattle.msproto.proofs.Scans.{reaches}
 use Rattle.msproto.proofs.Turning.{found_stays}
 
@@ -90,6 +90,40 @@ none_before_on scan mid t n m one front rest k lt = elim (cases_order k n) [
         let parts : n + (k - n) ≡ k = omega arith in
         ap reached (ap (λ (j : ℕ). fold fed scan (take j t)) (sym parts) ∙ sym (fed_on scan mid (fold fed mid (take (k - n) (drop n t))) t n (k - n) one refl))
         ∙ rest (k - n) (omega arith)
+
+-- ---- octets are taken as long as nothing came first
+
+reached_some : (r : Reach) → (r ≡ Need → ⊥) → is_reached r ≡ true
+reached_some Need some = absurd (some refl)
+reached_some (Command count) some = refl
+reached_some (Bad count) some = refl
+reached_some TooBig some = refl
+
+-- the octets up to which nothing came first, where that is all of them or something did behind them
+pub fed_up_to : (scan : ScanView) (t : List ℕ) (n : ℕ) → n ≤ length t → NoneBefore scan t n → (reached (fold fed scan (take n t)) ≡ Need → n ≡ length t) → fold fed scan (take n t) ≡ fed_until scan t
+fed_up_to scan [] zero le before all = refl
+fed_up_to scan [] (suc n) le before all = absurd (omega (arith, le))
+fed_up_to scan (x ∷ t) zero le before all =
+    let some : is_reached (reached scan) ≡ true = reached_some (reached scan) (λ need. omega (arith, all need)) in
+    sym (ap (λ (b : Bool). cond b scan (fed_until (fed scan x) t)) some)
+fed_up_to scan (x ∷ t) (suc n) le before all =
+    let none : is_reached (reached scan) ≡ false = ap is_reached (before 0 (omega arith)) in
+    fed_up_to (fed scan x) t n (omega (arith, le)) (λ k lt. before (suc k) (omega (arith, lt))) (λ need. omega (arith, all need))
+    ∙ sym (ap (λ (b : Bool). cond b scan (fed_until (fed scan x) t)) none)
+
+-- behind two pieces
+pub fed_until-append : (scan : ScanView) (t u : List ℕ) → fed_until scan (t ++ u) ≡ fed_until (fed_until scan t) u
+fed_until-append scan [] u = refl
+fed_until-append scan (x ∷ t) u = go (is_reached (reached scan)) refl (fed_until-append (fed scan x) t u)
+  where
+    stays : (u : List ℕ) → is_reached (reached scan) ≡ true → scan ≡ fed_until scan u
+    stays [] some = refl
+    stays (y ∷ u) some = sym (ap (λ (b : Bool). cond b scan (fed_until (fed scan y) u)) some)
+
+    go : (b : Bool) → is_reached (reached scan) ≡ b → fed_until (fed scan x) (t ++ u) ≡ fed_until (fed_until (fed scan x) t) u
+        → cond b scan (fed_until (fed scan x) (t ++ u)) ≡ fed_until (cond b scan (fed_until (fed scan x) t)) u
+    go true is rest = stays u is
+    go false is rest = rest
 
 -- what came first stays where all that is left is nothing
 settled : (known : Scanned) (rest : List ℕ) → (found known ≡ Need → length rest ≡ 0) → found known ≡ found (fold turned known rest)

@@ -1,5 +1,5 @@
 -- The first item of a stream as a function of the stream, for those who compute with it.
-use Rattle.std.specs.Prelude.{◌≡◌, ℕ, ◌+◌, Bool, ◌||◌, ◌&&◌, ◌==◌, cond, nat_lt, List, fold}
+use Rattle.std.specs.Prelude.{◌≡◌, ℕ, ◌+◌, Bool, true, false, ◌||◌, ◌&&◌, ◌==◌, cond, nat_lt, List, [], ◌∷◌, fold}
 use Rattle.msproto.specs.Machine.{State, start, step, weight, is_large, is_whole, is_dead, Body}
 use Rattle.msproto.specs.declared.items.Reach.{Reach}
 use Rattle.msproto.specs.declared.items.Reach.TheVariants.{Need, Command, Bad, TooBig}
@@ -58,6 +58,16 @@ fed scan octet = record { known = turned scan.known octet; looked = scan.looked 
 -- what came first in the octets so far
 abbrev pub reached : ScanView → Reach
 reached scan = found scan.known
+
+-- whether something came first
+abbrev pub is_reached : Reach → Bool
+is_reached Need = false
+is_reached _ = true
+
+-- behind the octets of a piece, which are taken as long as nothing came first
+abbrev pub fed_until : ScanView → List ℕ → ScanView
+fed_until scan [] = scan
+fed_until scan (octet ∷ rest) = cond (is_reached (reached scan)) scan (fed_until (fed scan octet) rest)
 
 -- an item that came first ends with the last octet that was taken
 abbrev pub EndsAt : Reach → ℕ → Type 0

@@ -3,7 +3,7 @@ ghost use Rattle.std.specs.Prelude.{◌≡◌, ℕ, ◌+◌, ◌-◌, ◌<◌, �
 ghost use Rattle.msproto.specs.declared.items.Reach.TheVariants.{Need};
 ghost use Rattle.msproto.specs.Items.{Reaches};
 ghost use Rattle.msproto.specs.Machine as m;
-ghost use Rattle.msproto.specs.Scanning.{reached, fed, literal_rest, reach_of, EndsAt, StandsFor};
+ghost use Rattle.msproto.specs.Scanning.{reached, fed, fed_until, literal_rest, reach_of, EndsAt, StandsFor};
 ghost use Rattle.msproto.specs.Shown as s;
 
 use crate::items::Reach;
@@ -91,6 +91,7 @@ impl Scan {
     /// it ends a run that is taken in one step; those inside literals are counted alone.
     pub fn feed(&mut self, octets: &[u8]) -> usize
         ensures within { result ≤ length octets.now }
+        ensures until { self.new ≡ fed_until self.old octets.now }
         ensures taken { self.new ≡ fold fed self.old (take result octets.now) }
         ensures whole { reached self.new ≡ Need → result ≡ length octets.now }
         ensures before { (count : ℕ) → count < result → reached (fold fed self.old (take count octets.now)) ≡ Need }

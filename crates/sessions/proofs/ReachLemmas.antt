@@ -3,8 +3,9 @@ use Rattle.std.proofs.Common.{◌≡◌, ℕ, Bool, true, false, not, ◌&&◌, 
 use Rattle.msproto.specs.declared.items.Reach.{Reach}
 use Rattle.msproto.specs.declared.items.Reach.TheVariants.{Need, Command, Bad, TooBig}
 use Rattle.msproto.specs.Replies.{spelled}
-use Rattle.msproto.specs.Scanning.{EndsAt}
-use Rattle.sessions.specs.Clients.{Client, reach_in, is_reached, is_ready, without_first}
+use Rattle.msproto.specs.Scanning.{EndsAt, is_reached}
+use Rattle.sessions.specs.Clients.{Client, reach_in, is_item, is_ready, without_first}
+use Rattle.sessions.specs.Counts.{SessionView, looked_in, scanned_past}
 use Rattle.sessions.specs.GivenUp.{text_by, client_by, text_given_up, client_given_up}
 use Rattle.sessions.specs.Replies.{try_later}
 
@@ -45,6 +46,26 @@ none_off pending r c is command bad = subst (λ (q : Reach). c ≡ without_first
     by (Command count) f g = absurd (f count refl)
     by (Bad count) f g = absurd (g count refl)
     by TooBig f g = refl
+
+-- ---- the count of the scans before
+
+pub no_item : (r : Reach) → ((count : ℕ) → r ≡ Command count → ⊥) → ((count : ℕ) → r ≡ Bad count → ⊥) → is_item r ≡ false
+no_item Need f g = refl
+no_item (Command count) f g = absurd (f count refl)
+no_item (Bad count) f g = absurd (g count refl)
+no_item TooBig f g = refl
+
+pub some_item : (r : Reach) (used : ℕ) → IsItem used r → is_item r ≡ true
+some_item Need used i = absurd i
+some_item (Command count) used i = refl
+some_item (Bad count) used i = refl
+some_item TooBig used i = absurd i
+
+pub scanned_same : (s : SessionView) (r : Reach) → r ≡ reach_in s.client → is_item r ≡ false → s.scanned ≡ scanned_past s
+scanned_same s r is none = sym (ap (λ (b : Bool). cond b (looked_in s) s.scanned) (ap is_item (sym is) ∙ none))
+
+pub scanned_more : (s : SessionView) (r : Reach) → r ≡ reach_in s.client → is_item r ≡ true → looked_in s ≡ scanned_past s
+scanned_more s r is some = sym (ap (λ (b : Bool). cond b (looked_in s) s.scanned) (ap is_item (sym is) ∙ some))
 
 -- ---- ready, and giving up
 

@@ -5,8 +5,8 @@ use Rattle.std.proofs.lemmas.List.{length-take-le, length-drop, length-append, t
 use Rattle.std.proofs.Math.Seq.{take-length}
 use Rattle.msproto.specs.declared.items.Reach.{Reach}
 use Rattle.msproto.specs.declared.items.Reach.TheVariants.{Need, Command, Bad, TooBig}
-use Rattle.msproto.specs.Scanning.{ScanView, StandsFor, EndsAt, new_scan, fed, reached, reach_of}
-use Rattle.msproto.proofs.Feeding.{fed_looked, needs_before, stands_more, stands_count, whole_reach}
+use Rattle.msproto.specs.Scanning.{ScanView, StandsFor, EndsAt, new_scan, fed, fed_until, reached, reach_of}
+use Rattle.msproto.proofs.Feeding.{fed_looked, needs_before, stands_more, stands_count, whole_reach, fed_until-append}
 use Rattle.sessions.specs.Counts.{IsScanned, greatest}
 
 -- what the scan reached is what comes first in the unread octets
@@ -35,9 +35,10 @@ stood scan unread piece (suc n) seen waits le =
     ∙ sym (ap (λ (m : ℕ). take (m + suc n) (unread ++ piece)) all ∙ front_on unread piece (suc n) le)
 
 pub piece_scanned : (pending : Bool) (scan new : ScanView) (unread piece after : List ℕ) (scanned given more n : ℕ) → IsScanned pending scan unread scanned given
-    → n ≤ length piece → new ≡ fold fed scan (take n piece) → (reached new ≡ Need → n ≡ length piece) → (0 < n → reached scan ≡ Need)
+    → new ≡ fed_until scan piece → n ≤ length piece → new ≡ fold fed scan (take n piece) → (reached new ≡ Need → n ≡ length piece) → (0 < n → reached scan ≡ Need)
     → after ≡ unread ++ piece → more ≡ min (given + length piece) greatest → IsScanned pending new after scanned more
-piece_scanned pending scan new unread piece after scanned given more n i le by whole before joins counts = record {
+piece_scanned pending scan new unread piece after scanned given more n i until le by whole before joins counts = record {
+  until = until ∙ ap (λ (s : ScanView). fed_until s piece) i.until ∙ sym (fed_until-append (new_scan pending) unread piece) ∙ ap (fed_until (new_scan pending)) (sym joins);
   seen = omega (arith, looked, length_after, i.seen, le);
   stands = subst (StandsFor pending new) (front ∙ ap (λ (m : ℕ). take m after) (sym looked)) (stands_more pending scan new (take scan.looked unread) (take n piece) by i.stands);
   waits = λ need. omega (arith, looked, length_after, whole need, all need);
@@ -61,8 +62,9 @@ piece_scanned pending scan new unread piece after scanned given more n i le by w
 
 pub rest_scanned : (pending other : Bool) (scan new : ScanView) (unread rest : List ℕ) (scanned given later used n : ℕ) → IsScanned other scan unread scanned given
     → used ≡ scan.looked → rest ≡ drop used unread → later ≡ min (scanned + scan.looked) greatest
-    → n ≤ length rest → new ≡ fold fed (new_scan pending) (take n rest) → (reached new ≡ Need → n ≡ length rest) → IsScanned pending new rest later given
-rest_scanned pending other scan new unread rest scanned given later used n i ends off counts le by whole = record {
+    → new ≡ fed_until (new_scan pending) rest → n ≤ length rest → new ≡ fold fed (new_scan pending) (take n rest) → (reached new ≡ Need → n ≡ length rest) → IsScanned pending new rest later given
+rest_scanned pending other scan new unread rest scanned given later used n i ends off counts until le by whole = record {
+  until = until;
   seen = omega (arith, looked, le);
   stands = by ∙ ap (λ (m : ℕ). fold fed (new_scan pending) (take m rest)) (sym looked);
   waits = λ need. looked ∙ whole need;

@@ -3,7 +3,7 @@ use Rattle.std.specs.Prelude.{ℕ, ◌+◌, Bool, true, false, cond, not, ◌&&�
 use Rattle.msproto.specs.declared.items.Item.{Item}
 use Rattle.msproto.specs.declared.items.Reach.{Reach}
 use Rattle.msproto.specs.declared.items.Reach.TheVariants as reach
-use Rattle.msproto.specs.Scanning.{reach_of}
+use Rattle.msproto.specs.Scanning.{reach_of, is_reached}
 use Rattle.msproto.specs.Values.{item_of}
 
 pub record Client : Type 0 where
@@ -31,13 +31,15 @@ item_in c = item_of c.pending c.unread
 abbrev pub reach_in : Client → Reach
 reach_in c = reach_of c.pending c.unread
 
-abbrev pub is_reached : Reach → Bool
-is_reached reach.Need = false
-is_reached _ = true
-
 -- an item stands there, or they are too big; never in a closed session
 abbrev pub is_ready : Client → Bool
 is_ready c = not c.closed && is_reached (reach_in c)
+
+-- whether it is an item: a command or a bad line
+abbrev pub is_item : Reach → Bool
+is_item (reach.Command used) = true
+is_item (reach.Bad used) = true
+is_item _ = false
 
 -- ---- how a session changes
 

@@ -1,8 +1,8 @@
 //! One client's session.
-ghost use Rattle.std.specs.Prelude.{◌≡◌, ◌≤◌, ◌++◌, None, IfOk, OnOk, OnErr};
+ghost use Rattle.std.specs.Prelude.{◌≡◌, ◌≤◌, ◌++◌, cond, None, IfOk, OnOk, OnErr};
 ghost use Rattle.msproto.specs.Replies.{spelled};
 ghost use Rattle.sessions.specs.Clients.{client_given, is_ready, reach_in, without_first};
-ghost use Rattle.sessions.specs.Counts.{new_session, given_more};
+ghost use Rattle.sessions.specs.Counts.{new_session, given_more, looked_in, scanned_past};
 ghost use Rattle.sessions.specs.GivenUp.{text_given_up, client_given_up};
 ghost use Rattle.sessions.specs.Replies as r;
 
@@ -20,7 +20,8 @@ const TRY_LATER: &[u8] = b"NO (TRYLATER) \"Try later.\"\r\n";
 const TOO_BIG: &[u8] = b"BYE \"Too big.\"\r\n";
 
 /// A client's session: who is logged in, how many logins failed, the octets that came and are not yet taken off, whether
-/// a challenge waits for its answer, and whether the session has ended. Contracts see that, and two counts.
+/// a challenge waits for its answer, and whether the session has ended. Contracts see that, and two counts of octets: of
+/// those that came, and of those that the scans looked at whose items are taken off.
 ///
 /// Each octet that comes is looked at once, by a scan for the end of the first item. A session holds at most what may stand
 /// unread: what is too big ends it.
@@ -38,15 +39,14 @@ pub struct Session {
 }
 
 impl Model for Session {
-    ghost use Rattle.std.specs.Prelude.{◌+◌, min};
-    ghost use Rattle.sessions.specs.Counts.{SessionView, IsScanned, greatest};
+    ghost use Rattle.sessions.specs.Counts.{SessionView, IsScanned};
 
     ghost Value = { SessionView };
 
     ghost view = { λ s. record {
       client = record { user = s.user; failures = s.failures; unread = s.unread; pending = s.pending; closed = s.closed };
       given = s.given;
-      looked = min (s.scanned + s.scan.looked) greatest;
+      scanned = s.scanned;
     } };
 
     ghost invariant = { λ s. IsScanned s.pending s.scan s.unread s.scanned s.given };
@@ -81,6 +81,7 @@ impl Session {
     pub fn give(&mut self, piece: &[u8]) -> Result<(), AllocError>
         ensures joins { OnOk result (self.new.client ≡ client_given piece.now self.old.client) }
         ensures counts { OnOk result (self.new.given ≡ given_more piece.now self.old) }
+        ensures scans { OnOk result (self.new.scanned ≡ self.old.scanned) }
         ensures err { OnErr result (self.new ≡ self.old) }
     {
         if self.closed {
@@ -107,6 +108,7 @@ impl Session {
         ensures text { result.now ≡ text_given_up self.old.client }
         ensures client { self.new.client ≡ client_given_up self.old.client }
         ensures counts { self.new.given ≡ self.old.given }
+        ensures scans { self.new.scanned ≡ cond self.old.client.closed self.old.scanned (scanned_past self.old) }
     {
         if self.closed {
             return b"";
@@ -127,7 +129,7 @@ impl Session {
     /// How many octets the scans for items looked at since the session began, up to the greatest number of 64 bits: never
     /// more than came. Takes no memory.
     pub fn looked(&self) -> u64
-        ensures value { result ≡ self.now.looked }
+        ensures value { result ≡ looked_in self.now }
         ensures bound { result ≤ self.now.given }
     {
         self.scanned.saturating_add(self.scan.looked())
@@ -144,6 +146,7 @@ impl Session {
     fn take_off(&mut self, pending: bool)
         ensures client { self.new.client ≡ without_first pending (reach_in self.old.client) self.old.client }
         ensures counts { self.new.given ≡ self.old.given }
+        ensures scans { self.new.scanned ≡ scanned_past self.old }
     {
         let (Reach::Command(used) | Reach::Bad(used)) = self.scan.state() else {
             return;
