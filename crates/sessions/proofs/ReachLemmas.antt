@@ -1,5 +1,5 @@
 -- What becomes of a session, by what comes first in its unread octets.
-use Rattle.std.proofs.Common.{◌≡◌, ℕ, Bool, true, false, not, ◌&&◌, cond, ◌⊎◌, List, [], drop, refl, sym, ap, ◌∙◌, subst, inl, inr}
+use Rattle.std.proofs.Common.{◌≡◌, ℕ, Bool, true, false, not, cond, ◌⊎◌, List, [], drop, refl, sym, ap, ◌∙◌, subst, inl, inr}
 use Rattle.msproto.specs.declared.items.Reach.{Reach}
 use Rattle.msproto.specs.declared.items.Reach.TheVariants.{Need, Command, Bad, TooBig}
 use Rattle.msproto.specs.Replies.{spelled}

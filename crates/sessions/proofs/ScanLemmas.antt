@@ -1,11 +1,10 @@
 -- A session's scan: what it says of the unread octets, and that it goes on with them.
-use Rattle.std.proofs.Common.{◌≡◌, ℕ, zero, suc, ◌+◌, ◌-◌, ◌<◌, ◌≤◌, min, Bool, List, [], ◌∷◌, ◌++◌, length, take, drop, append_assoc, refl, sym, ap, ◌∙◌, subst, arith}
+use Rattle.std.proofs.Common.{◌≡◌, ℕ, zero, suc, ◌+◌, ◌-◌, ◌<◌, ◌≤◌, min, Bool, List, ◌++◌, length, take, drop, append_assoc, sym, ap, ◌∙◌, subst, arith}
 use Rattle.std.specs.Prelude.{fold}
 use Rattle.std.proofs.lemmas.List.{length-take-le, length-drop, length-append, take-append-le, append-nil, take-append-drop, take_at}
 use Rattle.std.proofs.Math.Seq.{take-length}
-use Rattle.msproto.specs.declared.items.Reach.{Reach}
-use Rattle.msproto.specs.declared.items.Reach.TheVariants.{Need, Command, Bad, TooBig}
-use Rattle.msproto.specs.Scanning.{ScanView, StandsFor, EndsAt, new_scan, fed, fed_until, reached, reach_of}
+use Rattle.msproto.specs.declared.items.Reach.TheVariants.{Need}
+use Rattle.msproto.specs.Scanning.{ScanView, StandsFor, new_scan, fed, fed_until, reached, reach_of}
 use Rattle.msproto.proofs.Feeding.{fed_looked, needs_before, stands_more, stands_count, whole_reach, fed_until-append}
 use Rattle.sessions.specs.Counts.{IsScanned, greatest}
 

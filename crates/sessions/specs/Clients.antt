@@ -1,5 +1,5 @@
 -- What a session is of one client: who is logged in, and what came and is not yet taken off (RFC 5804).
-use Rattle.std.specs.Prelude.{ℕ, ◌+◌, Bool, true, false, cond, not, ◌&&◌, List, [], ◌++◌, drop, Option, Some, None}
+use Rattle.std.specs.Prelude.{ℕ, Bool, true, false, cond, not, ◌&&◌, List, [], ◌++◌, drop, Option, None}
 use Rattle.msproto.specs.declared.items.Item.{Item}
 use Rattle.msproto.specs.declared.items.Reach.{Reach}
 use Rattle.msproto.specs.declared.items.Reach.TheVariants as reach

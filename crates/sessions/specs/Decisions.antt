@@ -1,6 +1,5 @@
 -- What a command comes to, decided from what its account has.
 use Rattle.std.specs.Prelude.{◌≡◌, ℕ, Bool, true, false, List, Option, Some, None}
-use Rattle.std.specs.Borrow.{Bor}
 use Rattle.std.specs.FinMap.{keys}
 use Rattle.msproto.specs.declared.commands.Command.{Command}
 use Rattle.msproto.specs.declared.commands.Command.TheVariants.{HaveSpace, PutScript, ListScripts, SetActive, DeleteScript, RenameScript}

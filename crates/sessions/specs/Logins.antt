@@ -1,5 +1,5 @@
 -- Logins: whom a text logs in, what is answered, and what becomes of the session (RFC 5804, 2.1; RFC 4616).
-use Rattle.std.specs.Prelude.{ℕ, ◌+◌, Bool, cond, not, ◌&&◌, nat_eq, nat_lt, is_some, List, map, Option, Some, None, codes}
+use Rattle.std.specs.Prelude.{ℕ, ◌+◌, Bool, cond, not, nat_eq, nat_lt, is_some, List, map, Option, Some, None, codes}
 use Rattle.std.specs.Char.{to_ascii_lowercase}
 use Rattle.std.specs.Cmp.Lexicographic.{pointwise}
 use Rattle.std.specs.FinMap.{get}

@@ -1,5 +1,5 @@
 -- What a command about scripts answers, and what it makes of an account (RFC 5804, sections 2.5 to 2.12).
-use Rattle.std.specs.Prelude.{◌≡◌, ◌≢◌, ℕ, ◌+◌, ◌<◌, ◌≤◌, ◌⊎◌, Bool, true, false, cond, nat_eq, List, [], ◌∷◌, length, map, codes, Option, Some, None, IsSome}
+use Rattle.std.specs.Prelude.{◌≡◌, ℕ, ◌+◌, ◌<◌, ◌≤◌, ◌⊎◌, Bool, false, cond, nat_eq, List, [], ◌∷◌, length, map, codes, Option, Some, None, IsSome}
 use Rattle.std.specs.Cmp.Lexicographic.{pointwise}
 use Rattle.std.specs.FinMap.{get, insert, remove, len, keys}
 use Rattle.sievelex.specs.declared.fault.FaultKind.{FaultKind}

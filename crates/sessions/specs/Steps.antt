@@ -1,5 +1,5 @@
 -- One step of a session: the first item is taken off and answered.
-use Rattle.std.specs.Prelude.{◌≡◌, ℕ, Bool, true, false, cond, not, ◌&&◌, List, [], Option, Some, None, MatchBool, IsTrue}
+use Rattle.std.specs.Prelude.{◌≡◌, ℕ, Bool, true, false, cond, not, ◌&&◌, List, [], Option, Some, None, MatchBool}
 use Rattle.msproto.specs.declared.commands.Command.{Command}
 use Rattle.msproto.specs.declared.commands.Command.TheVariants.{Capability, Noop, Logout, Unauthenticate, CheckScript}
 use Rattle.msproto.specs.declared.items.Item.{Item}

@@ -2,7 +2,7 @@
 use Rattle.std.specs.Prelude.{◌≡◌, Bool, true, false, cond, ◌&&◌, is_none, List, ℕ, Option, Some, None, MatchBool, codes}
 use Rattle.std.specs.FinMap.{get}
 use Rattle.msproto.specs.declared.commands.Command.{Command}
-use Rattle.msproto.specs.declared.commands.Command.TheVariants.{Capability, Noop, Logout, Authenticate, Unauthenticate, HaveSpace, PutScript, CheckScript, ListScripts, SetActive, GetScript, DeleteScript, RenameScript, Response}
+use Rattle.msproto.specs.declared.commands.Command.TheVariants.{Capability, Noop, Logout, Authenticate, Unauthenticate, CheckScript, Response}
 use Rattle.msproto.specs.declared.replies.Reply.{Reply}
 use Rattle.mailstore.specs.Account.{Account, Accounts}
 use Rattle.sessions.specs.Clients.{Client, shut, left}

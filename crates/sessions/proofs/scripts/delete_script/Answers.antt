@@ -1,4 +1,4 @@
-use Rattle.std.proofs.Common.{refl, sym, ap, ◌∙◌, inl, inr}
+use Rattle.std.proofs.Common.{refl, sym, ◌∙◌, inl, inr}
 use Rattle.sessions.proofs.ScriptLemmas.{decided, active_is, active_not}
 use Rattle.sessions.proofs.scripts.delete_script.Goals as goal
 
