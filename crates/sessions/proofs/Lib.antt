@@ -2,4 +2,5 @@ pub mod ScanLemmas
 pub mod ReachLemmas
 pub mod ScriptLemmas
 pub mod TurnLemmas
+pub mod StepLemmas
 pub mod Examples

@@ -5,12 +5,20 @@ use Rattle.std.proofs.lemmas.List.{length-take-le, length-drop, length-append, t
 use Rattle.std.proofs.Math.Seq.{take-length}
 use Rattle.msproto.specs.declared.items.Reach.TheVariants.{Need}
 use Rattle.msproto.specs.Scanning.{ScanView, StandsFor, new_scan, fed, fed_until, reached, reach_of}
+use Rattle.msproto.specs.declared.items.Reach.{Reach}
+use Rattle.msproto.specs.Items.{Reaches}
+use Rattle.msproto.proofs.Scans.{reaches}
 use Rattle.msproto.proofs.Feeding.{fed_looked, needs_before, stands_more, stands_count, whole_reach, fed_until-append}
 use Rattle.sessions.specs.Counts.{IsScanned, greatest}
 
 -- what the scan reached is what comes first in the unread octets
 pub scan_reach : (pending : Bool) (scan : ScanView) (unread : List ℕ) (scanned given : ℕ) → IsScanned pending scan unread scanned given → reached scan ≡ reach_of pending unread
 scan_reach pending scan unread scanned given i = whole_reach pending scan unread scan.looked i.stands i.waits
+
+-- and so says the grammar
+pub unread_reaches : (pending : Bool) (r : Reach) (unread octets : List ℕ) → r ≡ reach_of pending unread → octets ≡ unread → Reaches pending r octets
+unread_reaches pending r unread octets is same =
+    subst (Reaches pending r) (sym same) (subst (λ (q : Reach). Reaches pending q unread) (sym is) (reaches pending unread))
 
 -- ---- a piece comes
 

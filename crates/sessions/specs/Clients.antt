@@ -35,6 +35,10 @@ reach_in c = reach_of c.pending c.unread
 abbrev pub is_ready : Client → Bool
 is_ready c = not c.closed && is_reached (reach_in c)
 
+abbrev pub is_command : Reach → Bool
+is_command (reach.Command used) = true
+is_command _ = false
+
 -- whether it is an item: a command or a bad line
 abbrev pub is_item : Reach → Bool
 is_item (reach.Command used) = true

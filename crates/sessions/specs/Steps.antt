@@ -1,5 +1,5 @@
 -- One step of a session: the first item is taken off and answered.
-use Rattle.std.specs.Prelude.{◌≡◌, ℕ, Bool, true, false, cond, not, ◌&&◌, List, [], Option, Some, None, MatchBool}
+use Rattle.std.specs.Prelude.{◌≡◌, ℕ, Bool, true, false, cond, not, ◌&&◌, List, [], ◌++◌, Option, Some, None, MatchBool}
 use Rattle.msproto.specs.declared.commands.Command.{Command}
 use Rattle.msproto.specs.declared.commands.Command.TheVariants.{Capability, Noop, Logout, Unauthenticate, CheckScript}
 use Rattle.msproto.specs.declared.items.Item.{Item}
@@ -9,7 +9,7 @@ use Rattle.msproto.specs.Replies as octets_of
 use Rattle.mailstore.specs.Account.{Account, Accounts, with_user}
 use Rattle.sessions.specs.declared.progress.Progress.{Progress}
 use Rattle.sessions.specs.declared.progress.Progress.TheVariants.{Need, Done, Close}
-use Rattle.sessions.specs.Clients.{Client, item_in, past, shut}
+use Rattle.sessions.specs.Clients.{Client, item_in, reach_in, is_command, past, shut}
 use Rattle.sessions.specs.Replies.{syntax, too_big}
 use Rattle.sessions.specs.Scripts.{obeyed}
 use Rattle.sessions.specs.Table.{is_early, RepliesIn, client_in}
@@ -47,6 +47,16 @@ StepsAt accounts c item.TooBig progress octets d later = Answers accounts Close 
 abbrev pub IsStep : Accounts → Client → Progress → List ℕ → Client → Accounts → Type 0
 IsStep accounts c progress octets d later =
     MatchBool c.closed (Answers accounts Close [] c progress octets d later) (StepsAt accounts c (item_in c) progress octets d later)
+
+-- what was written between two outputs answers a step that leaves the session so, and all accounts as they are
+pub record StepsOver (c d : Client) (progress : Progress) (before later : List ℕ) : Type 0 where
+  pub octets : List ℕ
+  pub written : later ≡ before ++ octets
+  pub step : (accounts : Accounts) → IsStep accounts c progress octets d accounts
+
+-- a command stands first, in a session that hasn't ended
+abbrev pub has_command : Client → Bool
+has_command c = not c.closed && is_command (reach_in c)
 
 -- ---- which steps may be refused
 

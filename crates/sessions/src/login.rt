@@ -13,7 +13,7 @@ use saslplain::{Login, Record, accepts};
 use std::alloc::{AllocError, Global};
 
 /// How many logins may fail before a further failure ends the session: this project's own limit.
-const MAX_FAILURES: u32 = 2;
+pub(crate) const MAX_FAILURES: u32 = 2;
 
 /// The text that decides a login, where the command has one and it is looked at: not where somebody is logged in already,
 /// the mechanism isn't PLAIN, or the exchange is cancelled. Takes no memory.

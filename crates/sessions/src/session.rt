@@ -1,20 +1,29 @@
 //! One client's session.
-ghost use Rattle.std.specs.Prelude.{◌≡◌, ◌≤◌, ◌++◌, cond, None, IfOk, OnOk, OnErr};
+ghost use Rattle.std.specs.Prelude.{◌≡◌, ◌≤◌, ◌++◌, cond, true, false, None, Some, is_none, IfSome, IfNone, IfOk, OnOk, OnErr};
 ghost use Rattle.msproto.specs.Replies.{spelled};
-ghost use Rattle.sessions.specs.Clients.{client_given, is_ready, reach_in, without_first};
+ghost use Rattle.sessions.specs.Clients.{client_given, is_item, is_ready, item_in, reach_in, without_first, left};
 ghost use Rattle.sessions.specs.Counts.{new_session, given_more, looked_in, scanned_past};
 ghost use Rattle.sessions.specs.GivenUp.{text_given_up, client_given_up};
+ghost use Rattle.sessions.specs.Logins.{login_client};
 ghost use Rattle.sessions.specs.Replies as r;
+ghost use Rattle.sessions.specs.Steps.{progress_of, StepsOver, has_command, may_lack};
+ghost use Rattle.sessions.specs.Turns.{followed};
 
+use crate::login::MAX_FAILURES;
+use crate::progress::Progress;
 use crate::replies::capabilities;
+use crate::turn::{Sequel, Turn};
 use crate::unread::Unread;
-use msproto::{Reach, Scan, spell};
+use msproto::{Item, Reach, Scan, item_at, spell};
 use octets::Octets;
 use std::alloc::{AllocError, Global};
 use std::marker::Model;
 
 /// What is answered where an item can't be answered now (RFC 5804, section 1.3).
 const TRY_LATER: &[u8] = b"NO (TRYLATER) \"Try later.\"\r\n";
+
+/// What is answered to a line that is no command.
+const SYNTAX: &[u8] = b"NO \"Syntax error.\"\r\n";
 
 /// What is answered to more than is read.
 const TOO_BIG: &[u8] = b"BYE \"Too big.\"\r\n";
@@ -126,6 +135,69 @@ impl Session {
         }
     }
 
+    /// A step where no command comes first: a bad line is answered and taken off, what is too big ends the session, and
+    /// where no item is whole, or the session has ended, nothing is answered. None where a command comes first, and nothing
+    /// changes then. Lack of memory is the only error, where something is to be answered; nothing changes then.
+    pub fn step_over(&mut self, out: &mut Octets) -> Result<Option<Progress>, AllocError>
+        ensures step { IfOk result (λ told. IfSome told (λ progress. StepsOver self.old.client self.new.client progress out.old out.new)) }
+        ensures command { IfOk result (λ told. is_none told ≡ has_command self.old.client) }
+        ensures counts { OnOk result (self.new.given ≡ self.old.given) }
+        ensures scans { IfOk result (λ told. IfSome told (λ _. self.new.scanned ≡ cond self.old.client.closed self.old.scanned (scanned_past self.old))) }
+        ensures same { IfOk result (λ told. IfNone told ((self.new ≡ self.old) × (out.new ≡ out.old))) }
+        ensures err { OnErr result ((self.new ≡ self.old) × (out.new ≡ out.old)) }
+        ensures lacks { OnErr result (may_lack self.old.client ≡ true) }
+    {
+        if self.closed {
+            return Ok(Some(Progress::Close));
+        }
+        match self.scan.state() {
+            Reach::Need => Ok(Some(Progress::Need)),
+            Reach::Command(_) => Ok(None),
+            Reach::Bad(_) => {
+                out.extend_from_slice(SYNTAX)?;
+                self.take_off(false);
+                Ok(Some(Progress::Done))
+            }
+            Reach::TooBig => {
+                out.extend_from_slice(TOO_BIG)?;
+                self.closed = true;
+                Ok(Some(Progress::Close))
+            }
+        }
+    }
+
+    /// What comes first in the octets that are not yet taken off, with a command's value. Takes memory for a command's
+    /// strings alone, and lack of it is the only error. Nothing is scanned: a command's octets are read for its value.
+    pub fn item(&self) -> Result<Item, AllocError>
+        ensures { IfOk result (λ item. item ≡ item_in self.now.client) }
+    {
+        item_at(
+            self.alloc,
+            self.unread.as_slice(),
+            self.pending,
+            self.scan.state(),
+        )
+    }
+
+    /// Takes a command off that came to this: the answer joins the output, and then the session goes on so. The command
+    /// stands first in the octets that are not yet taken off.
+    ///
+    /// Lack of memory is the only error; nothing changes then, and the output stays.
+    pub fn take_turn(&mut self, turn: Turn, out: &mut Octets) -> Result<Progress, AllocError>
+        requires { is_item (reach_in self.old.client) ≡ true }
+        ensures told { OnOk result (out.new ≡ out.old ++ spelled turn.reply) }
+        ensures session { OnOk result (self.new.client ≡ followed turn.sequel (without_first false (reach_in self.old.client) self.old.client)) }
+        ensures goes_on { IfOk result (λ progress. progress ≡ progress_of self.new.client) }
+        ensures counts { OnOk result (self.new.given ≡ self.old.given) }
+        ensures scans { OnOk result (self.new.scanned ≡ scanned_past self.old) }
+        ensures err { OnErr result ((self.new ≡ self.old) × (out.new ≡ out.old)) }
+    {
+        let Turn { reply, sequel } = turn;
+        spell(self.alloc, &reply, out)?;
+        self.follow(sequel);
+        Ok(self.progress())
+    }
+
     /// How many octets the scans for items looked at since the session began, up to the greatest number of 64 bits: never
     /// more than came. Takes no memory.
     pub fn looked(&self) -> u64
@@ -140,6 +212,74 @@ impl Session {
         ensures { result ≡ self.now.given }
     {
         self.given
+    }
+
+    // How the session goes on.
+    fn progress(&self) -> Progress
+        ensures { result ≡ progress_of self.now.client }
+    {
+        if self.closed {
+            Progress::Close
+        } else {
+            Progress::Done
+        }
+    }
+
+    // Takes off the first item, and makes of the session what follows. Takes no memory.
+    fn follow(&mut self, sequel: Sequel)
+        requires { is_item (reach_in self.old.client) ≡ true }
+        ensures session { self.new.client ≡ followed sequel (without_first false (reach_in self.old.client) self.old.client) }
+        ensures counts { self.new.given ≡ self.old.given }
+        ensures scans { self.new.scanned ≡ scanned_past self.old }
+    {
+        match sequel {
+            Sequel::Stay => self.take_off(false),
+            Sequel::Challenge => self.take_off(true),
+            Sequel::Close => {
+                self.take_off(false);
+                self.closed = true;
+            }
+            Sequel::LogIn(user) => {
+                self.take_off(false);
+                self.log_in(user);
+            }
+            Sequel::LogOut => {
+                self.take_off(false);
+                self.log_out();
+            }
+            Sequel::Fail => {
+                self.take_off(false);
+                self.fail();
+            }
+        }
+    }
+
+    fn log_in(&mut self, user: Octets)
+        ensures client { self.new.client ≡ login_client (Some user) self.old.client }
+        ensures counts { (self.new.given ≡ self.old.given) × (self.new.scanned ≡ self.old.scanned) }
+    {
+        self.user = Some(user);
+        self.failures = 0;
+    }
+
+    fn log_out(&mut self)
+        ensures client { self.new.client ≡ left self.old.client }
+        ensures counts { (self.new.given ≡ self.old.given) × (self.new.scanned ≡ self.old.scanned) }
+    {
+        self.user = None;
+        self.failures = 0;
+    }
+
+    // The third failure ends the session.
+    fn fail(&mut self)
+        ensures client { self.new.client ≡ login_client None self.old.client }
+        ensures counts { (self.new.given ≡ self.old.given) × (self.new.scanned ≡ self.old.scanned) }
+    {
+        if self.failures < MAX_FAILURES {
+            self.failures += 1;
+        } else {
+            self.closed = true;
+        }
     }
 
     // Takes off the first item, if one is whole, and looks for the next; a challenge waits then, or none.
