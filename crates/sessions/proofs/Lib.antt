@@ -3,4 +3,5 @@ pub mod ReachLemmas
 pub mod ScriptLemmas
 pub mod TurnLemmas
 pub mod StepLemmas
+pub mod LawLemmas
 pub mod Examples

@@ -2,6 +2,7 @@ pub mod Clients
 pub mod Counts
 pub mod Decisions
 pub mod GivenUp
+pub mod Laws
 pub mod Limits
 pub mod Logins
 pub mod Replies

@@ -2,7 +2,7 @@
 use Rattle.std.specs.Prelude.{◌≡◌, Bool, true, false, cond, ◌&&◌, is_none, List, ℕ, Option, Some, None, MatchBool, codes}
 use Rattle.std.specs.FinMap.{get}
 use Rattle.msproto.specs.declared.commands.Command.{Command}
-use Rattle.msproto.specs.declared.commands.Command.TheVariants.{Capability, Noop, Logout, Authenticate, Unauthenticate, CheckScript, Response}
+use Rattle.msproto.specs.declared.commands.Command.TheVariants.{Capability, Noop, Logout, Authenticate, Unauthenticate, HaveSpace, PutScript, CheckScript, ListScripts, SetActive, GetScript, DeleteScript, RenameScript, Response}
 use Rattle.msproto.specs.declared.replies.Reply.{Reply}
 use Rattle.mailstore.specs.Account.{Account, Accounts}
 use Rattle.sessions.specs.Clients.{Client, shut, left}
@@ -18,6 +18,21 @@ needs_login Logout = false
 needs_login (Authenticate mechanism response) = false
 needs_login (Response text) = false
 needs_login _ = true
+
+-- a command about the scripts of an account
+abbrev pub is_about_scripts : Command → Bool
+is_about_scripts (HaveSpace name size) = true
+is_about_scripts (PutScript name script) = true
+is_about_scripts ListScripts = true
+is_about_scripts (SetActive name) = true
+is_about_scripts (GetScript name) = true
+is_about_scripts (DeleteScript name) = true
+is_about_scripts (RenameScript old new) = true
+is_about_scripts _ = false
+
+-- what is answered to a command that is early
+abbrev pub early_reply : Reply
+early_reply = declined None (codes "Log in first.")
 
 -- such a command before anybody is logged in
 abbrev pub is_early : Client → Command → Bool
@@ -46,7 +61,7 @@ RepliesTaken accounts c command reply = RepliesOf (account_of accounts c.user) c
 
 -- what is answered to a command in a session; of one that is early nothing else is looked at
 abbrev pub RepliesIn : Accounts → Client → Command → Reply → Type 0
-RepliesIn accounts c command reply = MatchBool (is_early c command) (reply ≡ declined None (codes "Log in first.")) (RepliesTaken accounts c command reply)
+RepliesIn accounts c command reply = MatchBool (is_early c command) (reply ≡ early_reply) (RepliesTaken accounts c command reply)
 
 abbrev pub taken_client : Accounts → Command → Client → Client
 taken_client accounts Logout c = shut c

@@ -3,6 +3,7 @@
 
 pub mod decision;
 pub mod free;
+pub mod laws;
 pub mod login;
 pub mod progress;
 pub mod replies;
