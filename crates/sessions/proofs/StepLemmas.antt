@@ -40,7 +40,7 @@ bad_over c d r used before later live is bad off written = record {
   octets = spelled syntax;
   written = written;
   step = λ accounts. step_at accounts c _ Done (spelled syntax) d accounts live (item_of_reach c (reach.Bad used) (sym bad ∙ is))
-  (refl, refl, off ∙ ap (λ (q : Reach). without_first false q c) (sym is ∙ bad), refl);
+      (refl, refl, off ∙ ap (λ (q : Reach). without_first false q c) (sym is ∙ bad), refl);
 }
 
 pub big_over : (c d : Client) (r : Reach) (before later : List ℕ) → c.closed ≡ false → r ≡ reach_in c → r ≡ reach.TooBig
