@@ -1,9 +1,9 @@
 //! What stands first in the octets of a ManageSieve client (RFC 5804).
-use msproto::{Command, Item, Reach, extent, first};
+use msproto::{Command, Item, Reach, Scan, extent, first};
 use octets::{Octets, write_decimal};
 use std::alloc::{AllocError, Global};
 
-/// How many octets the first item takes, and what it says. `extent` has to reach as far.
+/// How many octets the first item takes, and what it says. `extent` has to reach as far, and a scan too, octet by octet and in two pieces.
 pub fn told(
     alloc: Global,
     out: &mut Octets,
@@ -12,8 +12,12 @@ pub fn told(
 ) -> Result<(), AllocError> {
     let pending = state == b"challenged".as_slice();
     let item = first(alloc, octets, pending)?;
-    if !reaches(&item, extent(octets, pending)) {
+    let reached = extent(octets, pending);
+    if !reaches(&item, reached) {
         return out.extend_from_slice(b"extent says another");
+    }
+    if octet_by_octet(octets, pending) != reached || in_two_pieces(octets, pending) != reached {
+        return out.extend_from_slice(b"a scan says another");
     }
     add_item(out, &item)
 }
@@ -42,6 +46,26 @@ fn add_item(out: &mut Octets, item: &Item) -> Result<(), AllocError> {
             add(out, command)
         }
     }
+}
+
+fn octet_by_octet(octets: &[u8], pending: bool) -> Reach {
+    let mut scan = Scan::new(pending);
+    for octet in octets {
+        let Reach::Need = scan.state() else {
+            break;
+        };
+        scan.turn(*octet);
+    }
+    scan.state()
+}
+
+fn in_two_pieces(octets: &[u8], pending: bool) -> Reach {
+    let (front, rest) = octets.split_at(octets.len() / 2);
+    let mut scan = Scan::new(pending);
+    if scan.feed(front) == front.len() {
+        let _taken = scan.feed(rest);
+    }
+    scan.state()
 }
 
 fn add(out: &mut Octets, command: &Command) -> Result<(), AllocError> {

@@ -1,5 +1,5 @@
 //! Answers of ManageSieve as they are spelled (RFC 5804).
-use msproto::{Code, Line, Reply, Word, spell};
+use msproto::{Code, Line, Reply, Status, spell};
 use octets::{ListOf, Octets};
 use std::alloc::{AllocError, Global};
 
@@ -12,9 +12,9 @@ pub fn spelled(alloc: Global, out: &mut Octets, given: &[Octets]) -> Result<(), 
         (b"last", [word, code, text]) => {
             spell_last(alloc, out, word_of(word.as_slice()), code.as_slice(), text)
         }
-        (b"challenge", []) => spell_line(alloc, out, Line::Empty, Word::Ok),
+        (b"challenge", []) => spell_line(alloc, out, Line::Empty, Some(Status::Ok)),
         (kind, _) => match line_of(alloc, kind, given)? {
-            Some(line) => spell_line(alloc, out, line, Word::Nothing),
+            Some(line) => spell_line(alloc, out, line, None),
             None => out.extend_from_slice(b"no such answer"),
         },
     }
@@ -43,7 +43,12 @@ fn script(alloc: Global, name: &Octets, state: &[u8]) -> Result<Option<Line>, Al
     Ok(Some(Line::Script { name, active }))
 }
 
-fn spell_line(alloc: Global, out: &mut Octets, line: Line, word: Word) -> Result<(), AllocError> {
+fn spell_line(
+    alloc: Global,
+    out: &mut Octets,
+    line: Line,
+    word: Option<Status>,
+) -> Result<(), AllocError> {
     let mut lines = ListOf::new(alloc);
     lines.push(line)?;
     let reply = Reply {
@@ -58,7 +63,7 @@ fn spell_line(alloc: Global, out: &mut Octets, line: Line, word: Word) -> Result
 fn spell_last(
     alloc: Global,
     out: &mut Octets,
-    word: Word,
+    word: Option<Status>,
     code: &[u8],
     text: &Octets,
 ) -> Result<(), AllocError> {
@@ -81,12 +86,12 @@ fn some(alloc: Global, text: &Octets) -> Result<Option<Octets>, AllocError> {
     Ok(Some(text.copied(alloc)?))
 }
 
-fn word_of(word: &[u8]) -> Word {
+fn word_of(word: &[u8]) -> Option<Status> {
     match word {
-        b"ok" => Word::Ok,
-        b"no" => Word::No,
-        b"bye" => Word::Bye,
-        _ => Word::Nothing,
+        b"ok" => Some(Status::Ok),
+        b"no" => Some(Status::No),
+        b"bye" => Some(Status::Bye),
+        _ => None,
     }
 }
 
