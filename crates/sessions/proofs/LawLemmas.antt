@@ -124,7 +124,7 @@ replies_late accounts c command reply e r = subst (λ (b : Bool). MatchBool b (r
 client_late : (accounts : Accounts) (c : Client) (command : Command) → is_early c command ≡ false → taken_client accounts command c ≡ client_in accounts command c
 client_late accounts c command e = sym (ap (λ (b : Bool). cond b c (taken_client accounts command c)) e)
 
-still_open : (c : Client) → c.closed ≡ false → Done ≡ progress_of c
+pub still_open : (c : Client) → c.closed ≡ false → Done ≡ progress_of c
 still_open c live = sym (ap (λ (b : Bool). cond b Close Done) live)
 
 pub early : EarlySteps
