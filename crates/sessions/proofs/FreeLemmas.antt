@@ -13,7 +13,6 @@ use Rattle.msproto.proofs.Scans.{reaches}
 use Rattle.msproto.proofs.Unique.{some_read}
 use Rattle.mailstore.specs.Account.{Accounts}
 use Rattle.sessions.specs.declared.progress.Progress.{Progress}
-use Rattle.sessions.specs.declared.progress.Progress.TheVariants.{Done}
 use Rattle.sessions.specs.declared.turn.Turn.{Turn}
 use Rattle.sessions.specs.declared.turn.Sequel.TheVariants.{Stay}
 use Rattle.sessions.specs.Clients.{Client, reach_in, item_in, is_command, past, without_first}
@@ -66,8 +65,8 @@ turn_over c first d command used turn progress out before later same outs is ses
       octets = spelled turn.reply;
       written = told ∙ ap (λ (o : List ℕ). o ++ spelled turn.reply) outs;
       step = λ accounts.
-      subst (λ (p : Progress). IsStep accounts first p (spelled turn.reply) d accounts) (sym goes)
-      (subst (λ (e : Client). IsStep accounts first (progress_of e) (spelled turn.reply) e accounts) (sym left) (step accounts));
+          subst (λ (p : Progress). IsStep accounts first p (spelled turn.reply) d accounts) (sym goes)
+          (subst (λ (e : Client). IsStep accounts first (progress_of e) (spelled turn.reply) e accounts) (sym left) (step accounts));
     })
   where
     left : d ≡ followed turn.sequel (past used first)

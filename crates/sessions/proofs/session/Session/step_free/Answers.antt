@@ -1,6 +1,6 @@
-use Rattle.std.proofs.Common.{◌≡◌, ℕ, List, Bool, Option, true, false, is_none, sym, ap, ◌∙◌}
+use Rattle.std.proofs.Common.{◌≡◌, ℕ, List, Option, true, false, is_none, sym, ap, ◌∙◌}
 use Rattle.msproto.specs.declared.items.Item.TheVariants as item
-use Rattle.sessions.specs.Clients.{Client, item_in, past}
+use Rattle.sessions.specs.Clients.{item_in, past}
 use Rattle.sessions.specs.Counts.{SessionView}
 use Rattle.sessions.specs.Steps.{has_command}
 use Rattle.sessions.specs.Table.{needs_login, is_early}
