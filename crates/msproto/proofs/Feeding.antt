@@ -80,10 +80,10 @@ NoneBefore scan t n = (k : ℕ) → k < n → reached (fold fed scan (take k t))
 
 pub none_before_on : (scan mid : ScanView) (t : List ℕ) (n m : ℕ) → mid ≡ fold fed scan (take n t) → NoneBefore scan t n → NoneBefore mid (drop n t) m → NoneBefore scan t (n + m)
 none_before_on scan mid t n m one front rest k lt = elim (cases_order k n) [
-    | inl same ↦ later (omega arith)
-    | inr (inl below) ↦ front k below
-    | inr (inr above) ↦ later (omega arith)
-  ]
+  | inl same ↦ later (omega arith)
+  | inr (inl below) ↦ front k below
+  | inr (inr above) ↦ later (omega arith)
+]
   where
     later : n ≤ k → reached (fold fed scan (take k t)) ≡ Need
     later le =

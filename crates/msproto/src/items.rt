@@ -79,12 +79,7 @@ pub fn item_at(
     read_at(alloc, buffer, pending, reach)
 }
 
-fn read_at(
-    alloc: Global,
-    buffer: &[u8],
-    pending: bool,
-    reach: Reach,
-) -> Result<Item, AllocError>
+fn read_at(alloc: Global, buffer: &[u8], pending: bool, reach: Reach) -> Result<Item, AllocError>
     requires { Reaches pending reach buffer.now }
     ensures { IfOk result (λ item. item ≡ item_at_of pending buffer.now reach) }
 {

@@ -13,9 +13,9 @@ loop-self-preserved c =
     record {
       within = omega (arith, c.feed_some-count.ensures.within, count, length-drop c.loop-self.taken c.args.octets.now, i.within);
       by = fed_on c.args.self.now c.loop-self.self c.feed_some-count.new.self c.args.octets.now c.loop-self.taken c.feed_some-count.result i.by
-      (c.feed_some-count.ensures.taken ∙ ap (λ (piece : List ℕ). fold fed c.loop-self.self (take c.feed_some-count.result piece)) rest);
+          (c.feed_some-count.ensures.taken ∙ ap (λ (piece : List ℕ). fold fed c.loop-self.self (take c.feed_some-count.result piece)) rest);
       before = none_before_on c.args.self.now c.loop-self.self c.args.octets.now c.loop-self.taken c.feed_some-count.result i.by i.before
-      (subst (λ (piece : List ℕ). NoneBefore c.loop-self.self piece c.feed_some-count.result) rest c.feed_some-count.ensures.before);
+          (subst (λ (piece : List ℕ). NoneBefore c.loop-self.self piece c.feed_some-count.result) rest c.feed_some-count.ensures.before);
     }
 
 pub returns-clause-until : goal.returns-clause-until

@@ -16,9 +16,12 @@ invariant_of-self c =
 pub invariant_of-self-in_default : goal.invariant_of-self-in_default
 invariant_of-self-in_default c =
     let at = is_open c.self.inside.line c.self.inside.outside c.self.inside.looked c.self.inside.reach c.args.self.now.known (ap (λ (v : ScanView). v.known) c.self.view_is) c.requires in
-    let bound = c.self.invariant.2 at.0 in
-    (c.self.invariant.0, omega arith, (λ e. absurd (c.in_default.not-Need e)),
-    ends_here (s.shown c.self.inside.line) (c.self.inside.outside + c.weight.result) (c.self.inside.looked + 1) c.args.octet c.ending.result c.ending.ensures)
+    let bound = c.self.invariant.2 at.0 in (
+      c.self.invariant.0,
+      omega arith,
+      (λ e. absurd (c.in_default.not-Need e)),
+      ends_here (s.shown c.self.inside.line) (c.self.inside.outside + c.weight.result) (c.self.inside.looked + 1) c.args.octet c.ending.result c.ending.ensures,
+    )
 
 pub returns-in-Need-clause-taken : goal.returns-in-Need-clause-taken
 returns-in-Need-clause-taken c =
