@@ -1,6 +1,6 @@
 -- From what a command comes to, to the step that it makes.
 use Rattle.std.proofs.Common.{◌≡◌, ℕ, Bool, true, false, ◌&&◌, cond, List, Option, Some, None, MatchBool, refl, sym, ap, ◌∙◌, subst}
-use Rattle.std.specs.Prelude.{is_none, codes}
+use Rattle.std.specs.Prelude.{is_none}
 use Rattle.std.proofs.lemmas.Bool.{false≢true}
 use Rattle.std.proofs.lemmas.Cmp.{nat_list_cmp_total}
 use Rattle.std.specs.declared.cmp.Ordering.{Ordering}
@@ -16,11 +16,10 @@ use Rattle.msproto.specs.Replies as octets_of
 use Rattle.mailstore.specs.Account.{Account, Accounts, bytes_cmp, with_user, in_place}
 use Rattle.mailstore.proofs.AccountLemmas.{bytes_antisymmetric}
 use Rattle.sessions.specs.declared.progress.Progress.TheVariants.{Close, Done}
-use Rattle.sessions.specs.declared.turn.Turn.{Turn}
 use Rattle.sessions.specs.Clients.{Client, past}
 use Rattle.sessions.specs.Laws.{EarlySteps, TurnSteps, ScriptSteps}
 use Rattle.sessions.specs.Replies.{is_ok}
-use Rattle.sessions.specs.Scripts.{RepliesTo, carried_out, obeyed}
+use Rattle.sessions.specs.Scripts.{carried_out, obeyed}
 use Rattle.sessions.specs.Steps.{changed_for, progress_of}
 use Rattle.sessions.specs.Table.{needs_login, is_early, is_about_scripts, early_reply, account_of, RepliesOf, RepliesTaken, RepliesIn, taken_client, client_in}
 use Rattle.sessions.specs.Turns.{followed}
@@ -124,7 +123,7 @@ replies_late accounts c command reply e r = subst (λ (b : Bool). MatchBool b (r
 client_late : (accounts : Accounts) (c : Client) (command : Command) → is_early c command ≡ false → taken_client accounts command c ≡ client_in accounts command c
 client_late accounts c command e = sym (ap (λ (b : Bool). cond b c (taken_client accounts command c)) e)
 
-still_open : (c : Client) → c.closed ≡ false → Done ≡ progress_of c
+pub still_open : (c : Client) → c.closed ≡ false → Done ≡ progress_of c
 still_open c live = sym (ap (λ (b : Bool). cond b Close Done) live)
 
 pub early : EarlySteps

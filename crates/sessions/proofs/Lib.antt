@@ -4,4 +4,5 @@ pub mod ScriptLemmas
 pub mod TurnLemmas
 pub mod StepLemmas
 pub mod LawLemmas
+pub mod FreeLemmas
 pub mod Examples

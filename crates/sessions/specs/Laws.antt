@@ -1,5 +1,5 @@
 -- From what a command comes to, to the step that it makes: for those who answer one over a store.
-use Rattle.std.specs.Prelude.{◌≡◌, ℕ, Bool, true, false, List, Some}
+use Rattle.std.specs.Prelude.{◌≡◌, ℕ, true, false, List, Some}
 use Rattle.std.specs.FinMap.{get}
 use Rattle.msproto.specs.declared.commands.Command.{Command}
 use Rattle.msproto.specs.declared.items.Item.TheVariants as item

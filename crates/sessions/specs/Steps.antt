@@ -8,6 +8,8 @@ use Rattle.msproto.specs.declared.replies.Reply.{Reply}
 use Rattle.msproto.specs.Replies as octets_of
 use Rattle.mailstore.specs.Account.{Account, Accounts, with_user}
 use Rattle.sessions.specs.declared.progress.Progress.{Progress}
+use Rattle.sessions.specs.declared.progress.Stepped.{Stepped}
+use Rattle.sessions.specs.declared.progress.Stepped.TheVariants.{Made, Asks}
 use Rattle.sessions.specs.declared.progress.Progress.TheVariants.{Need, Done, Close}
 use Rattle.sessions.specs.Clients.{Client, item_in, reach_in, is_command, past, shut}
 use Rattle.sessions.specs.Replies.{syntax, too_big}
@@ -58,8 +60,6 @@ pub record StepsOver (c d : Client) (progress : Progress) (before later : List �
 abbrev pub has_command : Client → Bool
 has_command c = not c.closed && is_command (reach_in c)
 
--- ---- which steps may be refused
-
 -- a command that is answered without the store
 abbrev pub is_free : Command → Bool
 is_free Capability = true
@@ -68,6 +68,21 @@ is_free Logout = true
 is_free Unauthenticate = true
 is_free (CheckScript text) = true
 is_free _ = false
+
+-- a command comes first that is answered over the store, in a session that hasn't ended, and nothing changed
+pub record AsksFor (c d : Client) (command : Command) (before later : List ℕ) : Type 0 where
+  pub live : c.closed ≡ false
+  pub used : ℕ
+  pub first : item_in c ≡ item.Command command used
+  pub late : is_early c command ≡ false
+  pub asks : is_free command ≡ false
+  pub stays : d ≡ c
+  pub silent : later ≡ before
+
+-- the step was made, or a command comes first that asks the store
+abbrev pub StepsFree : Client → Client → Stepped → List ℕ → List ℕ → Type 0
+StepsFree c d (Made progress) before later = StepsOver c d progress before later
+StepsFree c d (Asks command) before later = AsksFor c d command before later
 
 -- whether the store is asked about the item
 abbrev pub asks_store : Client → Item → Bool

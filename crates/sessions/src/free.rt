@@ -1,9 +1,11 @@
 //! What the commands that look at no account are answered.
 ghost use Rattle.std.specs.Prelude.{◌≡◌, true, IfOk};
-ghost use Rattle.sessions.specs.Steps.{is_free};
+ghost use Rattle.sessions.specs.declared.turn.Sequel.TheVariants.{Stay};
+ghost use Rattle.sessions.specs.Steps.{is_free as is_free_of};
+ghost use Rattle.sessions.specs.Table.{needs_login as needs_login_of, early_reply};
 ghost use Rattle.sessions.specs.Turns.{IsTurn, HasUser};
 
-use crate::replies::{accepted, capabilities, done_with};
+use crate::replies::{accepted, capabilities, declined, done_with};
 use crate::scripts::check_script;
 use crate::turn::{Sequel, Turn};
 use msproto::{Command, Reply};
@@ -13,7 +15,7 @@ use std::alloc::{AllocError, Global};
 /// What `CAPABILITY`, `NOOP`, `LOGOUT`, `UNAUTHENTICATE` and `CHECKSCRIPT` come to (RFC 5804, 2.3, 2.4, 2.12 to 2.14), in a
 /// session where this user is logged in, or nobody. Lack of memory is the only error.
 pub fn free(alloc: Global, user: &Option<Octets>, command: &Command) -> Result<Turn, AllocError>
-    requires { is_free command.now ≡ true }
+    requires { is_free_of command.now ≡ true }
     ensures { IfOk result (IsTurn (HasUser user.now) command.now) }
 {
     match command {
@@ -27,6 +29,41 @@ pub fn free(alloc: Global, user: &Option<Octets>, command: &Command) -> Result<T
         )),
         _ => unreachable!(),
     }
+}
+
+/// What a command comes to that is sent before anybody is logged in, and needs a login.
+pub fn early(alloc: Global) -> Result<Turn, AllocError>
+    ensures { IfOk result (λ turn. turn ≡ record { reply = early_reply; sequel = Stay }) }
+{
+    Ok(with_sequel(declined(alloc, None, b"Log in first.")?, Sequel::Stay))
+}
+
+/// Whether the command is of a user who is logged in. Takes no memory.
+pub fn needs_login(command: &Command) -> bool
+    ensures { result ≡ needs_login_of command.now }
+{
+    !matches!(
+        command,
+        Command::Capability
+            | Command::Noop(_)
+            | Command::Logout
+            | Command::Authenticate { .. }
+            | Command::Response(_)
+    )
+}
+
+/// Whether the command is answered without the store. Takes no memory.
+pub fn is_free(command: &Command) -> bool
+    ensures { result ≡ is_free_of command.now }
+{
+    matches!(
+        command,
+        Command::Capability
+            | Command::Noop(_)
+            | Command::Logout
+            | Command::Unauthenticate
+            | Command::CheckScript(_)
+    )
 }
 
 fn with_sequel(reply: Reply, sequel: Sequel) -> Turn

@@ -14,6 +14,9 @@ pub mod turn;
 mod unread;
 
 pub use decision::{Change, Decision};
-pub use progress::Progress;
+pub use progress::{Progress, Stepped};
 pub use session::Session;
 pub use turn::{Sequel, Turn};
+
+#[cfg(test)]
+mod tests;

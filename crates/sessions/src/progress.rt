@@ -1,4 +1,5 @@
 //! How a session goes on.
+use msproto::Command;
 
 /// How a session goes on after a step.
 #[derive(Clone, Copy, Debug, PartialEq, Eq)]
@@ -9,4 +10,13 @@ pub enum Progress {
     Done,
     /// The session has ended: the connection is to be closed.
     Close,
+}
+
+/// What a step came to that asks no store.
+#[derive(Drop)]
+pub enum Stepped {
+    /// The step was made.
+    Made(Progress),
+    /// This command comes first, and the store is to be asked about it.
+    Asks(Command),
 }

@@ -6,11 +6,12 @@ ghost use Rattle.sessions.specs.Counts.{new_session, given_more, looked_in, scan
 ghost use Rattle.sessions.specs.GivenUp.{text_given_up, client_given_up};
 ghost use Rattle.sessions.specs.Logins.{login_client};
 ghost use Rattle.sessions.specs.Replies as r;
-ghost use Rattle.sessions.specs.Steps.{progress_of, StepsOver, has_command, may_lack};
+ghost use Rattle.sessions.specs.Steps.{progress_of, StepsOver, StepsFree, has_command, may_lack};
 ghost use Rattle.sessions.specs.Turns.{followed};
 
+use crate::free::{early, free, is_free, needs_login};
 use crate::login::MAX_FAILURES;
-use crate::progress::Progress;
+use crate::progress::{Progress, Stepped};
 use crate::replies::capabilities;
 use crate::turn::{Sequel, Turn};
 use crate::unread::Unread;
@@ -164,6 +165,31 @@ impl Session {
                 Ok(Some(Progress::Close))
             }
         }
+    }
+
+    /// A step that asks no store: all of `step_over`, a command that is sent before a login and needs one, and the commands
+    /// of `free`. Any other command is given out, and nothing changes then.
+    ///
+    /// Lack of memory is the only error; nothing changes then.
+    pub fn step_free(&mut self, out: &mut Octets) -> Result<Stepped, AllocError>
+        ensures step { IfOk result (λ stepped. StepsFree self.old.client self.new.client stepped out.old out.new) }
+        ensures err { OnErr result ((self.new ≡ self.old) × (out.new ≡ out.old)) }
+    {
+        if let Some(progress) = self.step_over(out)? {
+            return Ok(Stepped::Made(progress));
+        }
+        let Item::Command(command, _) = self.item()? else {
+            unreachable!();
+        };
+        if self.user.is_none() && needs_login(&command) {
+            let turn = early(self.alloc)?;
+            return Ok(Stepped::Made(self.take_turn(turn, out)?));
+        }
+        if !is_free(&command) {
+            return Ok(Stepped::Asks(command));
+        }
+        let turn = free(self.alloc, &self.user, &command)?;
+        Ok(Stepped::Made(self.take_turn(turn, out)?))
     }
 
     /// What comes first in the octets that are not yet taken off, with a command's value. Takes memory for a command's
