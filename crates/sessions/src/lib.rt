@@ -18,5 +18,3 @@ pub use progress::{Progress, Stepped};
 pub use session::Session;
 pub use turn::{Sequel, Turn};
 
-#[cfg(test)]
-mod tests;
