@@ -17,4 +17,3 @@ pub use decision::{Change, Decision};
 pub use progress::{Progress, Stepped};
 pub use session::Session;
 pub use turn::{Sequel, Turn};
-
