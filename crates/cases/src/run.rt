@@ -5,6 +5,7 @@ use keepers::{Keeper, MemoryKeeper};
 use mailengine::whole;
 use octets::{Octets, parse_decimal, write_decimal};
 use sievedrun::drive::drive;
+use sievedrun::fault::Fault;
 use sqlite::{Connection, Error};
 use std::alloc::{AllocError, Global};
 use std::io::{ErrorKind, Write};
@@ -12,6 +13,25 @@ use std::{format, io, str};
 
 /// What the clock says, in seconds since 1970-01-01 UTC.
 const CLOCK: Option<u64> = Some(1_700_000_000);
+
+/// What a run may tell, those too that no case can bring about.
+const FAULTS: [Fault; 15] = [
+    Fault::Memory,
+    Fault::Store,
+    Fault::Busy,
+    Fault::Stream,
+    Fault::NotOurs,
+    Fault::NoUser,
+    Fault::TooLarge,
+    Fault::BadEnvelope,
+    Fault::BadMoment,
+    Fault::UserExists,
+    Fault::BadUser,
+    Fault::NoRow,
+    Fault::NoMessage,
+    Fault::BadInput,
+    Fault::BadArgument,
+];
 
 /// Runs on a store in memory.
 #[derive(Drop)]
@@ -72,6 +92,7 @@ pub fn answer<K: Keeper>(
     match call.as_slice() {
         b"run" => add_run(alloc, out, keeper, path, text_in(text), input.as_slice()),
         b"full" => add_full(alloc, out, keeper, path, text_in(text), input.as_slice()),
+        b"told" => add_told(alloc, out, text_in(text)),
         b"send" => add_sent(alloc, out, keeper, path, text.as_slice(), input.as_slice()),
         _ => out.extend_from_slice(b"no such call"),
     }
@@ -127,6 +148,18 @@ fn add_full<K: Keeper>(
         CLOCK,
     );
     add_left(out, status, b"", faults.as_slice())
+}
+
+/// Appends `STATUS|LINE` of the fault with this text.
+fn add_told(alloc: Global, out: &mut Octets, text: &str) -> Result<(), AllocError> {
+    for fault in FAULTS {
+        if format!(in alloc; "{fault}")?.as_str() == text {
+            write_decimal(out, u64::from(fault.status()))?;
+            out.push(b'|')?;
+            return out.extend_from_slice(fault.line());
+        }
+    }
+    out.extend_from_slice(b"no such fault")
 }
 
 /// Appends `STATUS|OUTPUT|FAULTS`. Of a fault of the words only its beginning, `error: `, is shown.

@@ -29,7 +29,7 @@ pub struct Branch {
 }
 
 /// A test (RFC 5228, 5).
-#[cycle(test)]
+#[cycle(tests)]
 #[derive(Drop)]
 pub enum Test {
     /// `true` (RFC 5228, 5.10).
