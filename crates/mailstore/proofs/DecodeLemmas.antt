@@ -1,25 +1,15 @@
 -- From the cells of rows to what a call answers.
-use Rattle.std.proofs.Common.{◌≡◌, ℕ, pos, List, [], ◌∷◌, map, Option, Some, None, option_map, slice_get, Ok, Err, Result, IfOk, IfSome, refl, sym, ap, ap₂, ◌∙◌, subst, arith}
-use Rattle.std.specs.FinMap.{get}
-use Rattle.sqlite_value.specs.declared.value.Value.TheVariants.{Int, Blob}
+use Rattle.std.proofs.Common.{◌≡◌, ℕ, List, [], ◌∷◌, map, Option, Some, None, option_map, slice_get, Ok, Err, Result, IfOk, refl, sym, ap, ap₂, ◌∙◌, subst, arith}
+use Rattle.sqlite_value.specs.declared.value.Value.TheVariants.{Blob}
 use Rattle.sqlite_value.specs.Order.{Row, column}
 use Rattle.sqlite_keyed.proofs.ListLemmas.{map-map}
-use Rattle.sqlite.specs.State.{State, HasCleanDisk}
-use Rattle.sqlite.proofs.StateLemmas.{survives_weaker}
-use Rattle.sqlrows.specs.Rows.{Tables, Holds}
-use Rattle.mailstore.specs.declared.refusal.Refusal.{Refusal}
-use Rattle.mailstore.specs.Schema.{mail_schema}
-use Rattle.mailstore.specs.Account.{Account, Accounts}
-use Rattle.mailstore.specs.AccountTable.{account_tree, next_copy_column}
-use Rattle.mailstore.specs.Shows.{rows_of, IsShownOrAbsent, ShowsAccounts, Presents}
-use Rattle.mailstore.specs.Promises.{OfUser}
+use Rattle.mailstore.specs.Account.{Account}
 use Rattle.mailstore.specs.Tally.{tallied, AreFolders, AreFolderRows}
 use Rattle.mailstore.specs.declared.folder.Folder.{Folder}
 use Rattle.mailstore.specs.declared.queue.Kind.{Kind}
 use Rattle.mailstore.specs.declared.queue.Kind.TheVariants.{Redirect, Reply}
 use Rattle.mailstore.specs.declared.queue.Outgoing.{Outgoing}
 use Rattle.mailstore.specs.declared.notice.Notice.{Notice}
-use Rattle.mailstore.proofs.WriteLemmas.{clean_before}
 use Rattle.mailstore.specs.NoticeTable.{AreNoticeRows, notice_cells}
 use Rattle.mailstore.specs.Cells.{first_five, first_two}
 use Rattle.mailstore.specs.QueueTable.{AreQueueRows, kind_number, outgoing_cells}

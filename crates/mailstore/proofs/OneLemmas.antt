@@ -1,5 +1,5 @@
 -- The tables show one map of accounts alone.
-use Rattle.std.proofs.Common.{◌≡◌, ℕ, ℤ, pos, List, [], ◌∷◌, map, filter, Option, Some, None, refl, sym, ◌∙◌, ap, inl, inr, ◌==◌, cond}
+use Rattle.std.proofs.Common.{◌≡◌, ℕ, ℤ, pos, List, [], ◌∷◌, map, filter, Option, Some, None, refl, sym, ◌∙◌, ap, ◌==◌, cond}
 use Rattle.std.specs.FinMap.{get, from_entries, same_map}
 use Rattle.std.proofs.lemmas.Cmp.{nat_list_cmp_total}
 use Rattle.sqlite_value.specs.declared.value.Value.{Value}
@@ -15,14 +15,14 @@ use Rattle.mailstore.specs.declared.queue.Outgoing.{Outgoing}
 use Rattle.mailstore.specs.declared.notice.Notice.{Notice}
 use Rattle.mailstore.specs.Schema.{mail_schema}
 use Rattle.mailstore.specs.Cells.{or_null}
-use Rattle.mailstore.specs.Account.{bytes_cmp, Password, Account, Accounts}
+use Rattle.mailstore.specs.Account.{Account, Accounts}
 use Rattle.mailstore.specs.AccountTable.{account, account_tree}
 use Rattle.mailstore.specs.ScriptTable.{script, script_row, script_tree}
 use Rattle.mailstore.specs.QueueTable.{outgoing, queue_row, outgoing_tree, kind_number}
 use Rattle.mailstore.specs.ReplyTable.{reply, reply_row, reply_tree}
 use Rattle.mailstore.specs.NoticeTable.{notice, notice_row, notice_tree}
 use Rattle.mailstore.specs.CopyTable.{copy, Copy, copy_row, folders_from, copy_tree, folder_column, message_column, n_column}
-use Rattle.mailstore.specs.Shows.{rows_of, IsShown, IsAbsent, IsShownOrAbsent, Presents}
+use Rattle.mailstore.specs.Shows.{rows_of, IsShown, IsShownOrAbsent, Presents}
 use Rattle.mailstore.proofs.AccountLemmas.{bytes_antisymmetric}
 use Rattle.mailstore.proofs.SchemaFacts.{account_listed, copy_listed, notice_listed, outgoing_listed, reply_listed, script_listed}
 use Rattle.std.proofs.Math.IntN.{nat_abs}

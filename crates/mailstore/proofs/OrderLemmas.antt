@@ -1,5 +1,5 @@
 -- What the queries that are in order find.
-use Rattle.std.proofs.Common.{◌≡◌, ◌≢◌, ℕ, pos, ◌<◌, Bool, true, false, cond, T, List, [], ◌∷◌, ◌++◌, map, filter, fold, length, append-nil, append_assoc, Some, None, unwrap_or, refl, sym, ap, ◌∙◌, subst, inl, inr, arith, true≢false, is_eq, is_lt, Ordering, Less, Equal, Greater, IsPermutation}
+use Rattle.std.proofs.Common.{◌≡◌, ◌≢◌, ℕ, pos, ◌<◌, Bool, true, false, cond, T, List, [], ◌∷◌, ◌++◌, map, filter, fold, length, append-nil, append_assoc, Some, None, unwrap_or, refl, sym, ap, ◌∙◌, subst, arith, true≢false, is_eq, is_lt, Ordering, Less, Equal, Greater, IsPermutation}
 use Rattle.std.specs.List.{AllByRecursion}
 use Rattle.std.specs.FinMap.{FinMap, empty, get, entries, keys, from_entries, find, put, is_sorted, len-entries, len-empty, get-entries, get-from_entries, entries_sorted, entries-insert, get-insert, get-empty}
 use Rattle.std.specs.FinMap.Entries.{by_order, below_all}
@@ -16,7 +16,7 @@ use Rattle.sqlite_trees.specs.Tree.{IsAscending}
 use Rattle.sqlite_sql.specs.Term.{col}
 use Rattle.sqlite_sql.specs.Query.{Query, Output, output_cmp}
 use Rattle.sqlite_sql.proofs.QueryLemmas.{output_cmp_total}
-use Rattle.sqlite_keyed.proofs.ListLemmas.{map-map, filter-map, filter_same, filter-filter, ascending-map, ascending_from_map, ascending-filter, ascending_weaker, IsPermutation-filter}
+use Rattle.sqlite_keyed.proofs.ListLemmas.{map-map, filter-map, filter_same, filter-filter, ascending-map, ascending-filter, ascending_weaker, IsPermutation-filter}
 use Rattle.sqlite_keyed.proofs.KeyedLemmas.{Less-from_lt}
 use Rattle.sqlite_keyed.proofs.SortLemmas.{sorted_unique}
 use Rattle.sqlite_typed.proofs.TestLemmas.{last_key, same_bytes, bytes_eq_refl}
