@@ -53,8 +53,10 @@ fn is_dot_atom(text: &[u8]) -> bool
     !due
 }
 
-/// Appends the text between quotation marks, with a backslash before each quotation mark and backslash.
-fn quote(out: &mut Octets, text: &[u8]) -> Result<(), AllocError>
+/// Appends the text between quotation marks, with a backslash before each quotation mark and backslash (RFC 5322, 3.2.4).
+///
+/// Linear in the text; lack of memory is the only error.
+pub fn quote(out: &mut Octets, text: &[u8]) -> Result<(), AllocError>
     ensures { OnOk result (out.new ≡ out.old ++ spec.quoted text.now) }
 {
     out.push(b'"')?;

@@ -13,9 +13,7 @@ pub mod laws;
 pub mod list;
 pub mod outbound;
 mod scanner;
-#[cfg(test)]
-mod tests;
 
-pub use address::{Addr, spell};
+pub use address::{Addr, quote, spell};
 pub use list::addresses;
 pub use outbound::{bare_address, sieve_address};

@@ -1,9 +1,9 @@
 //! What stands first in the octets of a ManageSieve client (RFC 5804).
-use msproto::{Command, Item, Reach, extent, first};
+use msproto::{Command, Item, Reach, Scan, extent, first};
 use octets::{Octets, write_decimal};
 use std::alloc::{AllocError, Global};
 
-/// How many octets the first item takes, and what it says. `extent` has to reach as far.
+/// How many octets the first item takes, and what it says. `extent` has to reach as far, and a scan too, octet by octet and in two pieces.
 pub fn told(
     alloc: Global,
     out: &mut Octets,
@@ -11,21 +11,61 @@ pub fn told(
     state: &[u8],
 ) -> Result<(), AllocError> {
     let pending = state == b"challenged".as_slice();
+    let item = first(alloc, octets, pending)?;
     let reached = extent(octets, pending);
-    match (first(alloc, octets, pending)?, reached) {
-        (Item::Need, Reach::Need) => out.extend_from_slice(b"need more"),
-        (Item::TooBig, Reach::TooBig) => out.extend_from_slice(b"too big"),
-        (Item::Bad(used), Reach::Bad(reach)) if used == reach => {
-            write_decimal(out, used as u64)?;
+    if !reaches(&item, reached) {
+        return out.extend_from_slice(b"extent says another");
+    }
+    if octet_by_octet(octets, pending) != reached || in_two_pieces(octets, pending) != reached {
+        return out.extend_from_slice(b"a scan says another");
+    }
+    add_item(out, &item)
+}
+
+/// Whether this is how far an item goes.
+fn reaches(item: &Item, reach: Reach) -> bool {
+    match item {
+        Item::Need => reach == Reach::Need,
+        Item::TooBig => reach == Reach::TooBig,
+        Item::Bad(used) => reach == Reach::Bad(*used),
+        Item::Command(_, used) => reach == Reach::Command(*used),
+    }
+}
+
+fn add_item(out: &mut Octets, item: &Item) -> Result<(), AllocError> {
+    match item {
+        Item::Need => out.extend_from_slice(b"need more"),
+        Item::TooBig => out.extend_from_slice(b"too big"),
+        Item::Bad(used) => {
+            write_decimal(out, *used as u64)?;
             out.extend_from_slice(b" bad")
         }
-        (Item::Command(command, used), Reach::Command(reach)) if used == reach => {
-            write_decimal(out, used as u64)?;
+        Item::Command(command, used) => {
+            write_decimal(out, *used as u64)?;
             out.push(b' ')?;
-            add(out, &command)
+            add(out, command)
         }
-        _ => out.extend_from_slice(b"extent says another"),
     }
+}
+
+fn octet_by_octet(octets: &[u8], pending: bool) -> Reach {
+    let mut scan = Scan::new(pending);
+    for octet in octets {
+        let Reach::Need = scan.state() else {
+            break;
+        };
+        scan.turn(*octet);
+    }
+    scan.state()
+}
+
+fn in_two_pieces(octets: &[u8], pending: bool) -> Reach {
+    let (front, rest) = octets.split_at(octets.len() / 2);
+    let mut scan = Scan::new(pending);
+    if scan.feed(front) == front.len() {
+        let _taken = scan.feed(rest);
+    }
+    scan.state()
 }
 
 fn add(out: &mut Octets, command: &Command) -> Result<(), AllocError> {

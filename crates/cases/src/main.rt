@@ -1,4 +1,4 @@
-//! Tries the cases of `data/` on the libraries and on the engine over a store in memory, and says which rows fail.
+//! Tries the cases of `data/` on the libraries, on the engine over a store in memory, and on the program over one in memory and one in a file, and says which rows fail.
 //!
 //! Standard output has a line for each file with how many of its cases hold. Standard error has a line for each case
 //! that doesn't, and then the exit status is 1.
@@ -6,20 +6,25 @@
 
 mod address;
 mod ascii;
+mod asked;
 mod comparison;
 mod fault;
+mod file;
 mod head;
 mod item;
 mod line;
 mod login;
 mod reply;
+mod run;
 mod script;
 mod section;
 mod session;
+mod stream;
 mod table;
 mod tally;
 mod text;
 mod token;
+mod vacation;
 mod word;
 
 use std::process::ExitCode;
@@ -33,7 +38,7 @@ fn main(rt: HostRuntime) -> io::Result<ExitCode> {
         let file = table.file();
         let text = fs::read_to_string(&rt, file)?;
         let mut tally = Tally::new(rt.alloc(), file);
-        table.try_all(rt.alloc(), &mut tally, text.as_str())?;
+        table.try_all(&rt, &mut tally, text.as_str())?;
         eprint!(rt; "{}", tally.failed())?;
         println!(rt; "{file}: {} cases hold", tally.held())?;
         if !tally.failed().is_empty() {

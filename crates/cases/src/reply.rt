@@ -1,5 +1,5 @@
 //! Answers of ManageSieve as they are spelled (RFC 5804).
-use msproto::{Code, Line, Reply, Word, spell};
+use msproto::{Code, Line, Reply, Status, spell};
 use octets::{ListOf, Octets};
 use std::alloc::{AllocError, Global};
 
@@ -10,32 +10,50 @@ pub fn spelled(alloc: Global, out: &mut Octets, given: &[Octets]) -> Result<(), 
     };
     match (kind.as_slice(), given) {
         (b"last", [word, code, text]) => {
-            let code = code_of(alloc, code.as_slice())?;
-            let text = some(alloc, text)?;
-            spell_last(alloc, out, word_of(word.as_slice()), code, text)
+            spell_last(alloc, out, word_of(word.as_slice()), code.as_slice(), text)
         }
-        (b"capability", [name, value]) => {
-            let name = name.copied(alloc)?;
-            let value = some(alloc, value)?;
-            spell_line(alloc, out, Line::Capability { name, value })
-        }
-        (b"script", [name, state]) => {
-            let name = name.copied(alloc)?;
-            let active = state.as_slice() == b"active".as_slice();
-            spell_line(alloc, out, Line::Script { name, active })
-        }
-        (b"text", [text]) => spell_line(alloc, out, Line::Text(text.copied(alloc)?)),
-        (b"empty", []) => spell_line(alloc, out, Line::Empty),
-        _ => out.extend_from_slice(b"no such answer"),
+        (b"challenge", []) => spell_line(alloc, out, Line::Empty, Some(Status::Ok)),
+        (kind, _) => match line_of(alloc, kind, given)? {
+            Some(line) => spell_line(alloc, out, line, None),
+            None => out.extend_from_slice(b"no such answer"),
+        },
     }
 }
 
-fn spell_line(alloc: Global, out: &mut Octets, line: Line) -> Result<(), AllocError> {
+/// A line of this kind.
+fn line_of(alloc: Global, kind: &[u8], given: &[Octets]) -> Result<Option<Line>, AllocError> {
+    match (kind, given) {
+        (b"capability", [name, value]) => capability(alloc, name, value),
+        (b"script", [name, state]) => script(alloc, name, state.as_slice()),
+        (b"text", [text]) => Ok(Some(Line::Text(text.copied(alloc)?))),
+        (b"empty", []) => Ok(Some(Line::Empty)),
+        _ => Ok(None),
+    }
+}
+
+fn capability(alloc: Global, name: &Octets, value: &Octets) -> Result<Option<Line>, AllocError> {
+    let name = name.copied(alloc)?;
+    let value = some(alloc, value)?;
+    Ok(Some(Line::Capability { name, value }))
+}
+
+fn script(alloc: Global, name: &Octets, state: &[u8]) -> Result<Option<Line>, AllocError> {
+    let active = state == b"active".as_slice();
+    let name = name.copied(alloc)?;
+    Ok(Some(Line::Script { name, active }))
+}
+
+fn spell_line(
+    alloc: Global,
+    out: &mut Octets,
+    line: Line,
+    word: Option<Status>,
+) -> Result<(), AllocError> {
     let mut lines = ListOf::new(alloc);
     lines.push(line)?;
     let reply = Reply {
         lines,
-        word: Word::Nothing,
+        word,
         code: None,
         text: None,
     };
@@ -45,10 +63,12 @@ fn spell_line(alloc: Global, out: &mut Octets, line: Line) -> Result<(), AllocEr
 fn spell_last(
     alloc: Global,
     out: &mut Octets,
-    word: Word,
-    code: Option<Code>,
-    text: Option<Octets>,
+    word: Option<Status>,
+    code: &[u8],
+    text: &Octets,
 ) -> Result<(), AllocError> {
+    let code = code_of(alloc, code)?;
+    let text = some(alloc, text)?;
     let reply = Reply {
         lines: ListOf::new(alloc),
         word,
@@ -66,12 +86,12 @@ fn some(alloc: Global, text: &Octets) -> Result<Option<Octets>, AllocError> {
     Ok(Some(text.copied(alloc)?))
 }
 
-fn word_of(word: &[u8]) -> Word {
+fn word_of(word: &[u8]) -> Option<Status> {
     match word {
-        b"ok" => Word::Ok,
-        b"no" => Word::No,
-        b"bye" => Word::Bye,
-        _ => Word::Nothing,
+        b"ok" => Some(Status::Ok),
+        b"no" => Some(Status::No),
+        b"bye" => Some(Status::Bye),
+        _ => None,
     }
 }
 

@@ -1,11 +1,14 @@
 //! The files of cases.
+use crate::run::MemoryRuns;
 use crate::tally::Tally;
 use crate::text::columns;
 use crate::{
-    address, ascii, comparison, fault, head, item, line, login, reply, script, session, token, word,
+    address, ascii, asked, comparison, fault, file, head, item, line, login, reply, script,
+    session, stream, token, vacation, word,
 };
 use octets::Octets;
 use std::alloc::{AllocError, Global};
+use std::io;
 
 /// A file of cases: in tables a line is a case, and its last column is what is wanted.
 #[derive(Clone, Copy)]
@@ -29,10 +32,15 @@ pub enum Table {
     Scripts,
     Tests,
     Sessions,
+    Asked,
+    Streams,
+    Runs,
+    Files,
+    Vacations,
 }
 
 /// All of them, in the order in which they are tried.
-pub const TABLES: [Table; 19] = [
+pub const TABLES: [Table; 24] = [
     Table::Ascii,
     Table::Addresses,
     Table::Targets,
@@ -52,6 +60,11 @@ pub const TABLES: [Table; 19] = [
     Table::Scripts,
     Table::Tests,
     Table::Sessions,
+    Table::Asked,
+    Table::Streams,
+    Table::Runs,
+    Table::Files,
+    Table::Vacations,
 ];
 
 impl Table {
@@ -77,57 +90,30 @@ impl Table {
             Table::Scripts => "scripts.cases",
             Table::Tests => "tests.cases",
             Table::Sessions => "sessions.cases",
+            Table::Asked => "asked.cases",
+            Table::Streams => "streams.cases",
+            Table::Runs => "runs.cases",
+            Table::Files => "files.cases",
+            Table::Vacations => "vacations.cases",
         }
     }
 
     /// Tries each case of the file.
-    pub fn try_all(self, alloc: Global, tally: &mut Tally, file: &str) -> Result<(), AllocError> {
+    pub fn try_all(self, rt: &HostRuntime, tally: &mut Tally, file: &str) -> io::Result<()> {
+        if matches!(self, Table::Files) {
+            return file::try_all(rt, tally, file);
+        }
+        Ok(self.try_each(rt.alloc(), tally, file)?)
+    }
+
+    fn try_each(self, alloc: Global, tally: &mut Tally, file: &str) -> Result<(), AllocError> {
         match self {
             Table::Heads => head::try_all(alloc, tally, file),
             Table::Scripts | Table::Tests => script::try_all(alloc, tally, file),
             Table::Sessions => session::try_all(alloc, tally, file),
-            _ => self.try_rows(alloc, tally, file),
-        }
-    }
-
-    /// Tries each line of a table; an empty line and one that begins with `#` are no case.
-    fn try_rows(self, alloc: Global, tally: &mut Tally, file: &str) -> Result<(), AllocError> {
-        let mut number: usize = 0;
-        for line in file.split('\n') {
-            number = number.saturating_add(1);
-            if !line.is_empty() && !line.starts_with('#') {
-                self.try_row(alloc, tally, number, line)?;
-            }
-        }
-        Ok(())
-    }
-
-    fn try_row(
-        self,
-        alloc: Global,
-        tally: &mut Tally,
-        number: usize,
-        line: &str,
-    ) -> Result<(), AllocError> {
-        let row = columns(alloc, line)?;
-        let mut got = Octets::new(alloc);
-        if let Some((wanted, given)) = row.as_slice().split_last() {
-            self.answer(alloc, &mut got, given)?;
-            tally.note(number, wanted.as_slice(), got.as_slice())?;
-        }
-        Ok(())
-    }
-
-    /// Appends what comes of a row's columns.
-    fn answer(self, alloc: Global, out: &mut Octets, given: &[Octets]) -> Result<(), AllocError> {
-        match self {
-            Table::Replies => reply::spelled(alloc, out, given),
-            Table::Logins => login::answer(alloc, out, given),
-            _ => match given {
-                [text] => self.of_one(alloc, out, text.as_slice()),
-                [text, other] => self.of_two(alloc, out, text.as_slice(), other.as_slice()),
-                _ => out.extend_from_slice(b"not so many columns"),
-            },
+            Table::Vacations => vacation::try_all(alloc, tally, file),
+            Table::Runs => try_rows(alloc, tally, &mut MemoryRuns::new(alloc)?, file),
+            _ => try_rows(alloc, tally, &mut Rows(self), file),
         }
     }
 
@@ -140,6 +126,7 @@ impl Table {
             Table::Texts => word::written(alloc, out, text),
             Table::Tokens => token::told(alloc, out, text),
             Table::Faults => fault::told(alloc, out, text),
+            Table::Asked => asked::told(alloc, out, text),
             _ => out.extend_from_slice(b"not so many columns"),
         }
     }
@@ -158,7 +145,74 @@ impl Table {
             Table::Comparisons => comparison::compared(out, text, other),
             Table::Globs => comparison::matched(out, text, other),
             Table::Items => item::told(alloc, out, text, other),
+            Table::Streams => stream::answer(alloc, out, text, other),
             _ => out.extend_from_slice(b"not so many columns"),
         }
     }
+}
+
+/// What answers the rows of a table, one after the other.
+pub trait Answers {
+    /// Appends what comes of a row's columns.
+    fn answer(
+        &mut self,
+        alloc: Global,
+        out: &mut Octets,
+        given: &[Octets],
+    ) -> Result<(), AllocError>;
+}
+
+/// A table whose rows know nothing of each other.
+#[derive(Drop)]
+struct Rows(Table);
+
+impl Answers for Rows {
+    fn answer(
+        &mut self,
+        alloc: Global,
+        out: &mut Octets,
+        given: &[Octets],
+    ) -> Result<(), AllocError> {
+        let table = self.0;
+        match (table, given) {
+            (Table::Replies, _) => reply::spelled(alloc, out, given),
+            (Table::Logins, _) => login::answer(alloc, out, given),
+            (_, [text]) => table.of_one(alloc, out, text.as_slice()),
+            (_, [text, other]) => table.of_two(alloc, out, text.as_slice(), other.as_slice()),
+            _ => out.extend_from_slice(b"not so many columns"),
+        }
+    }
+}
+
+/// Tries each line of a table; an empty line and one that begins with `#` are no case.
+pub fn try_rows<A: Answers>(
+    alloc: Global,
+    tally: &mut Tally,
+    answers: &mut A,
+    file: &str,
+) -> Result<(), AllocError> {
+    let mut number: usize = 0;
+    for line in file.split('\n') {
+        number = number.saturating_add(1);
+        if !line.is_empty() && !line.starts_with('#') {
+            try_row(alloc, tally, answers, number, line)?;
+        }
+    }
+    Ok(())
+}
+
+fn try_row<A: Answers>(
+    alloc: Global,
+    tally: &mut Tally,
+    answers: &mut A,
+    number: usize,
+    line: &str,
+) -> Result<(), AllocError> {
+    let row = columns(alloc, line)?;
+    let mut got = Octets::new(alloc);
+    if let Some((wanted, given)) = row.as_slice().split_last() {
+        answers.answer(alloc, &mut got, given)?;
+        tally.note(number, wanted.as_slice(), got.as_slice())?;
+    }
+    Ok(())
 }

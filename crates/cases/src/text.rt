@@ -2,6 +2,7 @@
 use octets::{Octets, Texts, parse_decimal, write_decimal};
 use percent_encoding::percent_decode;
 use std::alloc::{AllocError, Global};
+use std::format;
 
 /// The columns of a line. One tab or more stands between two; `-` alone is the empty text.
 pub fn columns(alloc: Global, line: &str) -> Result<Texts, AllocError> {
@@ -73,6 +74,19 @@ fn add_plain(alloc: Global, out: &mut Octets, text: &str) -> Result<(), AllocErr
     let mut octets = Vec::new(alloc);
     percent_decode(text.as_bytes()).append_to(&mut octets)?;
     out.extend_from_slice(octets.as_slice())
+}
+
+/// Words with a blank between two of them; `F` stands for the path. Two blanks have an empty word between them.
+pub fn words_of(alloc: Global, text: &str, path: &str) -> Result<Vec<String>, AllocError> {
+    let mut words = Vec::new(alloc);
+    if text.is_empty() {
+        return Ok(words);
+    }
+    for word in text.split(' ') {
+        let word = if word == "F" { path } else { word };
+        words.push(format!(in alloc; "{word}")?)?;
+    }
+    Ok(words)
 }
 
 /// The text without blanks and line ends at its end.

@@ -1,14 +1,15 @@
 //! The tokens of a script (RFC 5228, 8.1).
-use crate::fault::add_error;
 use octets::{Octets, write_decimal};
-use sievelex::{Kind, Token, Value, tokens};
+use sievelex::{Kind, ScriptError, Token, Value, tokens};
 use std::alloc::{AllocError, Global};
+use std::format;
 
 /// Each token with its kind, what it says, its place and its line; or the fault.
 pub fn told(alloc: Global, out: &mut Octets, script: &[u8]) -> Result<(), AllocError> {
     match tokens(alloc, script) {
         Ok(found) => add_all(out, found.as_slice()),
-        Err(error) => add_error(alloc, out, &error),
+        Err(ScriptError::Memory) => Err(AllocError),
+        Err(error) => out.extend_from_slice(format!(in alloc; "{error}")?.as_bytes()),
     }
 }
 

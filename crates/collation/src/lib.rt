@@ -99,16 +99,3 @@ pub fn contains<C: Comparator>(key: &[u8], value: &[u8]) -> bool
 {
     find::<C, Plain>(&Plain { octets: key }, value, 0).is_some()
 }
-
-#[cfg(test)]
-mod tests {
-    use super::*;
-
-    #[test]
-    fn a_key_is_found_at_its_first_place(rt: HostRuntime) {
-        let key = Plain { octets: b"aba" };
-        for (from, place) in [(0, Some(1)), (2, Some(5)), (6, None)] {
-            assert_eq!(rt; find::<AsciiCasemap, Plain>(&key, b"-ABA-aba", from), place);
-        }
-    }
-}

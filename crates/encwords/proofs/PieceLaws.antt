@@ -1,8 +1,8 @@
 -- A text has one list of pieces.
-use Rattle.std.proofs.Common.{◌≡◌, ℕ, ◌+◌, ◌<◌, ◌≤◌, List, [], ◌∷◌, ◌++◌, length, take, drop, refl, sym, ap, ◌∙◌, subst, inl, inr, ⊎_elim, arith}
+use Rattle.std.proofs.Common.{◌≡◌, ℕ, Bool, true, false, ◌+◌, ◌<◌, ◌≤◌, List, [], ◌∷◌, ◌++◌, length, take, drop, refl, sym, ap, ◌∙◌, subst, inl, inr, ⊎_elim, arith}
 use Rattle.std.proofs.lemmas.Bool.{cases_lt}
 use Rattle.std.proofs.lemmas.List.{take_at, drop_at}
-use Rattle.encwords.specs.Headers.{IsPieceLength, CutsPiece, ArePieces}
+use Rattle.encwords.specs.Headers.{IsPieceLength, CutsPiece, ArePieces, IsHeaderText, is_plain, words_for}
 
 one_length : (text : List ℕ) (m n : ℕ) → IsPieceLength text m → IsPieceLength text n → m ≡ n
 one_length text m n a b = ⊎_elim
@@ -33,3 +33,14 @@ pieces_only text (piece ∷ more) (other ∷ others) (rest, (cut, are)) (left, (
     let behind : rest ≡ left = sym (cut_back text piece rest cut) ∙ (ap (λ n. drop n text) size ∙ cut_back text other left took) in
     let later = pieces_only rest more others are (subst (ArePieces others) (sym behind) were) in
     ap (λ p. p ∷ more) same ∙ ap (λ t. other ∷ t) later
+
+value_at : (plain : Bool) (text one two : List ℕ) → is_plain text ≡ plain → IsHeaderText text one → IsHeaderText text two → one ≡ two
+value_at true text one two is first second = first.plain is ∙ sym (second.plain is)
+value_at false text one two is first second =
+    let here = first.worded is in
+    let there = second.worded is in
+    here.spelled ∙ (ap words_for (pieces_only text here.pieces there.pieces here.cut there.cut) ∙ sym there.spelled)
+
+-- a text is written in one way
+pub one_value : (text one two : List ℕ) → IsHeaderText text one → IsHeaderText text two → one ≡ two
+one_value text one two = value_at (is_plain text) text one two refl

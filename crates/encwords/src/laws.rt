@@ -2,7 +2,7 @@
 ghost use Rattle.std.specs.Prelude.{◌≡◌, ◌↔◌, ℕ, List, IsUtf8, Some};
 ghost use Rattle.base64.specs.Engines.{standard};
 ghost use Rattle.base64.specs.GeneralPurpose.{IsBytes};
-ghost use Rattle.encwords.specs.Headers.{ArePieces};
+ghost use Rattle.encwords.specs.Headers.{ArePieces, IsHeaderText};
 ghost use Rattle.encwords.specs.Quoted.{IsQuoted, quoted_of};
 ghost use Rattle.encwords.specs.Runs.{AreRuns, runs_of};
 ghost use Rattle.encwords.specs.Laws.{HasStandardAlphabet, IsReadBack};
@@ -22,6 +22,11 @@ pub fn octets_in_q()
 pub fn pieces_of_a_text()
     ensures { (text : List ℕ) (pieces others : List (List ℕ)) → ArePieces pieces text
         → ArePieces others text → pieces ≡ others }
+{}
+
+/// A text is written in a header field in one way.
+pub fn value_of_a_text()
+    ensures { (text one two : List ℕ) → IsHeaderText text one → IsHeaderText text two → one ≡ two }
 {}
 
 /// A text that was written in a header field is read back from it, unfolded and decoded. It rests on

@@ -11,6 +11,3 @@ mod word;
 
 pub use decoding::decoded;
 pub use encoding::header_text;
-
-#[cfg(test)]
-mod tests;

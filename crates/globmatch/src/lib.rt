@@ -40,17 +40,3 @@ pub fn matches<C: Comparator>(pattern: &[u8], value: &[u8]) -> bool
     }
     i == value.len()
 }
-
-#[cfg(test)]
-mod tests {
-    use super::*;
-    use collation::Octet;
-
-    // RFC 5228, section 2.7.1: it is the whole value that has to match.
-    #[test]
-    fn a_pattern_matches_a_whole_value(rt: HostRuntime) {
-        for (value, wanted) in [(b"aaxbcc", true), (b"aaxbcd", false)] {
-            assert_eq!(rt; matches::<Octet>(b"*a?b*c", value), wanted);
-        }
-    }
-}

@@ -1,10 +1,14 @@
 //! A keeper over a file.
+ghost use Rattle.std.specs.Prelude.{◌≡◌, IfErr};
+ghost use Rattle.mailstore.specs.Refusals.{IsPassing};
+
+use crate::cause::{of_file, of_sqlite};
 use crate::keeper::{Held, Keeper, store_of};
 use mailstore::{Refusal, Store};
 use sqlite::{Connection, Error, ErrorCode, File as Database, FileStore};
 use std::fs::{File, OpenOptions, TryLockError};
 use std::io::ErrorKind;
-use std::{format, fs};
+use std::{format, fs, io};
 
 /// Keeps the store of one file after the other: asks for the lock on `FILE.lock`, opens, and closes.
 ///
@@ -14,6 +18,14 @@ pub struct FileKeeper<'a> {
     rt: &'a HostRuntime,
     lock: Option<File>,
     waits: bool,
+    cause: Option<&'static str>,
+}
+
+/// Why no store is given out, and what is known of it.
+#[derive(Clone, Copy)]
+struct Failure {
+    held: Held,
+    cause: Option<&'static str>,
 }
 
 impl<'a> FileKeeper<'a> {
@@ -23,7 +35,18 @@ impl<'a> FileKeeper<'a> {
             rt,
             lock: None,
             waits: false,
+            cause: None,
         }
+    }
+
+    fn close(&mut self, store: Store<FileStore<Database>>) -> Result<(), Refusal>
+        ensures named { IfErr result IsPassing }
+        ensures kept { self.new.lock ≡ self.old.lock }
+    {
+        let said = store.cause();
+        let closed = store.release().close();
+        self.cause = cause_at_end(said, &closed);
+        Ok(closed?)
     }
 }
 
@@ -46,36 +69,66 @@ impl Keeper for FileKeeper<'_> {
     }
 
     fn take(&mut self, path: &str, fresh: bool) -> Result<Store<FileStore<Database>>, Held> {
-        let lock = locked(self.rt, path, self.waits)?;
-        let store = opened(self.rt, path, fresh)?;
-        self.lock = Some(lock);
-        Ok(store)
+        match taken(self.rt, path, self.waits, fresh) {
+            Ok((lock, store)) => {
+                self.lock = Some(lock);
+                Ok(store)
+            }
+            Err(failure) => {
+                self.cause = failure.cause;
+                Err(failure.held)
+            }
+        }
     }
 
     fn put_back(&mut self, store: &mut Option<Store<FileStore<Database>>>) -> Result<(), Refusal> {
         let closed = match store.take() {
-            Some(store) => store.release().close(),
+            Some(store) => self.close(store),
             None => Ok(()),
         };
+        // The lock goes last: until the file is closed no other one may open it.
         self.lock = None;
-        Ok(closed?)
+        closed
+    }
+
+    fn cause(&self) -> Option<&'static str> {
+        self.cause
     }
 
     ghost sure = { λ held told. never_told told };
 }
 
+/// What is known of a failure: what SQLite said of the store's calls, or else of its closing.
+fn cause_at_end(said: Option<ErrorCode>, closed: &Result<(), Error>) -> Option<&'static str> {
+    match (said, closed) {
+        (Some(code), _) => of_sqlite(code),
+        (None, Err(Error::SqliteFailure(code))) => of_sqlite(*code),
+        _ => None,
+    }
+}
+
+/// The lock and the store of a file. The lock is asked for first.
+fn taken(
+    rt: &HostRuntime,
+    path: &str,
+    waits: bool,
+    fresh: bool,
+) -> Result<(File, Store<FileStore<Database>>), Failure> {
+    let lock = locked(rt, path, waits)?;
+    let store = opened(rt, path, fresh)?;
+    Ok((lock, store))
+}
+
 /// The lock on `FILE.lock`, which lasts until the file is dropped.
-fn locked(rt: &HostRuntime, path: &str, waits: bool) -> Result<File, Held> {
+fn locked(rt: &HostRuntime, path: &str, waits: bool) -> Result<File, Failure> {
     let Ok(name) = format!(in rt.alloc(); "{path}.lock") else {
-        return Err(Held::Refused(Refusal::Memory));
+        return Err(Failure::from(Refusal::Memory));
     };
     let opened = OpenOptions::new()
         .write(true)
         .create(true)
         .open(rt, name.as_str());
-    let Ok(file) = opened else {
-        return Err(Held::Refused(Refusal::Store));
-    };
+    let file = opened.map_err(unlocked)?;
     let held = if waits {
         file.lock().map_err(TryLockError::Error)
     } else {
@@ -83,32 +136,64 @@ fn locked(rt: &HostRuntime, path: &str, waits: bool) -> Result<File, Held> {
     };
     match held {
         Ok(()) => Ok(file),
-        Err(TryLockError::WouldBlock) => Err(Held::Busy),
-        Err(TryLockError::Error(_)) => Err(Held::Refused(Refusal::Store)),
+        Err(TryLockError::WouldBlock) => Err(Failure {
+            held: Held::Busy,
+            cause: None,
+        }),
+        Err(TryLockError::Error(error)) => Err(unlocked(error)),
+    }
+}
+
+/// What the system says of a lock's file that it can't open or lock.
+fn unlocked(error: io::Error) -> Failure {
+    Failure {
+        held: Held::Refused(Refusal::Store),
+        cause: Some(of_file(error.kind())),
     }
 }
 
 /// The store of a file whose lock is held. Only a new one makes the file where it is absent.
-fn opened(rt: &HostRuntime, path: &str, fresh: bool) -> Result<Store<FileStore<Database>>, Held> {
+fn opened(
+    rt: &HostRuntime,
+    path: &str,
+    fresh: bool,
+) -> Result<Store<FileStore<Database>>, Failure> {
     if !fresh && is_absent(rt, path) {
-        return Err(Held::Refused(Refusal::NotOurs));
+        return Err(Failure::from(Refusal::NotOurs));
     }
-    let conn = Connection::open(rt, path).map_err(held_by_cause)?;
+    let conn = Connection::open(rt, path).map_err(unopened)?;
     match store_of(rt.alloc(), conn, fresh) {
         Ok(store) => Ok(store),
-        Err((refusal, conn)) => {
+        Err((refusal, conn, code)) => {
             let _ = conn.close();
-            Err(Held::Refused(refusal))
+            Err(Failure {
+                held: Held::Refused(refusal),
+                cause: code.and_then(of_sqlite),
+            })
         }
     }
 }
 
 /// What SQLite says of a file that it can't open.
-fn held_by_cause(error: Error) -> Held {
-    match error {
+fn unopened(error: Error) -> Failure {
+    let held = match error {
         Error::SqliteFailure(ErrorCode::DatabaseBusy) => Held::Busy,
         Error::SqliteFailure(ErrorCode::NotADatabase) => Held::Refused(Refusal::NotOurs),
         _ => Held::Refused(Refusal::from(error)),
+    };
+    let cause = match error {
+        Error::SqliteFailure(code) => of_sqlite(code),
+        _ => None,
+    };
+    Failure { held, cause }
+}
+
+impl From<Refusal> for Failure {
+    fn from(refusal: Refusal) -> Failure {
+        Failure {
+            held: Held::Refused(refusal),
+            cause: None,
+        }
     }
 }
 

@@ -12,7 +12,7 @@ ghost use Rattle.mailstore.specs.Shows.{Presents};
 ghost use Rattle.keepers.specs.Taken.{IsTaken};
 
 use mailstore::{Refusal, Store};
-use sqlite::{Alter, Connection};
+use sqlite::{Alter, Connection, ErrorCode};
 use std::alloc::Global;
 
 /// Why no store is given out.
@@ -89,6 +89,10 @@ pub trait Keeper {
         self.put_back(&mut given)
     }
 
+    /// What the system or SQLite said of the last failure that this keeper, or a store that it took back, answered as
+    /// `Store`: a text for a person, without a line end. None where nothing is known of it.
+    fn cause(&self) -> Option<&'static str>;
+
     // Where it tells them, nothing shuts a store or makes it lie.
     ghost sure: { (held : sqlite.Held Self.S) → IsTrue tells → HasCleanDisk (state Self.S.Store held) × IsTrue (state Self.S.Store held).is_open };
 }
@@ -98,7 +102,7 @@ pub(crate) fn store_of<S: Alter + Drop>(
     alloc: Global,
     conn: Connection<S>,
     fresh: bool,
-) -> Result<Store<S>, (Refusal, Connection<S>)>
+) -> Result<Store<S>, (Refusal, Connection<S>, Option<ErrorCode>)>
     ensures opened { IfOk result (λ store. HasCleanDisk (state S.Store store) → fresh ≡ false → StaysSame (state S.Store conn) (state S.Store store)) }
     ensures ours { IfOk result (λ store. HasCleanDisk (state S.Store store) → fresh ≡ false → conn.schema ≡ mail_schema) }
     ensures made { IfOk result (λ store. HasCleanDisk (state S.Store store) → IsTrue fresh → Presents (state S.Store store).now no_accounts) }

@@ -1,11 +1,10 @@
 //! Who keeps a store between two calls: a file with a lock beside it, or memory.
 #![tactic(auto)]
 
+mod cause;
 mod file;
 mod keeper;
 mod memory;
-#[cfg(test)]
-mod tests;
 
 pub use file::FileKeeper;
 pub use keeper::{Held, Keeper};

@@ -60,7 +60,7 @@ impl Keeper for MemoryKeeper {
         };
         match store_of(self.alloc, conn, fresh) {
             Ok(store) => Ok(store),
-            Err((refusal, conn)) => {
+            Err((refusal, conn, _)) => {
                 self.conn = Some(conn);
                 Err(Held::Refused(refusal))
             }
@@ -72,6 +72,10 @@ impl Keeper for MemoryKeeper {
             self.conn = Some(store.release());
         }
         Ok(())
+    }
+
+    fn cause(&self) -> Option<&'static str> {
+        None
     }
 
     ghost sure = { λ held told. (memory_is_clean held, refl) };

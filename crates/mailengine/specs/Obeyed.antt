@@ -13,8 +13,8 @@ use Rattle.msproto.specs.declared.items.Item.TheVariants as item
 use Rattle.msproto.specs.declared.replies.Reply.{Reply}
 use Rattle.msproto.specs.declared.replies.Code.{Code}
 use Rattle.msproto.specs.declared.replies.Code.TheVariants.{MaxSize, MaxScripts, NonExistent}
-use Rattle.msproto.specs.declared.replies.Word.{Word}
-use Rattle.msproto.specs.declared.replies.Word.TheVariants.{Ok, No}
+use Rattle.msproto.specs.declared.replies.Status.{Status}
+use Rattle.msproto.specs.declared.replies.Status.TheVariants.{Ok, No}
 use Rattle.msproto.specs.Values.{item_of}
 use Rattle.mailstore.specs.Account.{Account, keeps_script, activates}
 use Rattle.mailengine.specs.Limits.{script_limit, scripts_limit, IsScriptName}
@@ -23,14 +23,14 @@ use Rattle.mailengine.specs.Limits.{script_limit, scripts_limit, IsScriptName}
 
 -- a reply of one line
 abbrev pub accepted : List ℕ → Reply
-accepted text = record { lines = []; word = Ok; code = None; text = Some text }
+accepted text = record { lines = []; word = Some Ok; code = None; text = Some text }
 
 abbrev pub declined : Option Code → List ℕ → Reply
-declined code text = record { lines = []; word = No; code = code; text = Some text }
+declined code text = record { lines = []; word = Some No; code = code; text = Some text }
 
 -- whether a reply's word is OK
-abbrev pub is_accepted : Word → Bool
-is_accepted Ok = true
+abbrev pub is_accepted : Option Status → Bool
+is_accepted (Some Ok) = true
 is_accepted _ = false
 
 -- a reply that tells of a fault on one of the text's lines; which line and which fault is open

@@ -10,7 +10,7 @@ ghost use Rattle.mailengine.specs.Told.{IsTold, AreNames, Alters};
 
 use crate::reply::{accepted, declined, faulty};
 use crate::script_name::is_script_name;
-use msproto::{Code, Command, Reply, Word, spell};
+use msproto::{Code, Command, Reply, Status, spell};
 use octets::Octets;
 use sievelex::ScriptError;
 use sievesyntax::check;
@@ -132,8 +132,8 @@ fn is_among(names: &[Octets], name: &[u8]) -> bool
 }
 
 /// Whether an answer's word is `OK`.
-fn is_ok(word: Word) -> bool
+fn is_ok(word: Option<Status>) -> bool
     ensures { result ≡ is_accepted word }
 {
-    matches!(word, Word::Ok)
+    matches!(word, Some(Status::Ok))
 }

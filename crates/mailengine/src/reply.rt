@@ -3,7 +3,7 @@ ghost use Rattle.std.specs.Prelude.{◌≡◌, [], IfOk, None};
 ghost use Rattle.sievelex.specs.Faults.{fault_line};
 ghost use Rattle.mailengine.specs.Obeyed.{accepted as accepted_with, declined as declined_with};
 
-use msproto::{Code, Reply, Word};
+use msproto::{Code, Reply, Status};
 use octets::{ListOf, Octets};
 use sievelex::ScriptFault;
 use std::alloc::{AllocError, Global};
@@ -13,7 +13,7 @@ pub fn accepted(alloc: Global, text: &[u8]) -> Result<Reply, AllocError>
     ensures { IfOk result (λ reply. reply ≡ accepted_with text.now) }
 {
     let text = Octets::copy(alloc, text)?;
-    Ok(of_one_line(alloc, Word::Ok, None, text))
+    Ok(of_one_line(alloc, Status::Ok, None, text))
 }
 
 /// `NO`, the code if there is one, and the text.
@@ -21,7 +21,7 @@ pub fn declined(alloc: Global, code: Option<Code>, text: &[u8]) -> Result<Reply,
     ensures { IfOk result (λ reply. reply ≡ declined_with code text.now) }
 {
     let text = Octets::copy(alloc, text)?;
-    Ok(of_one_line(alloc, Word::No, code, text))
+    Ok(of_one_line(alloc, Status::No, code, text))
 }
 
 /// `NO` and `line N: TEXT`.
@@ -29,15 +29,15 @@ pub fn faulty(alloc: Global, fault: ScriptFault) -> Result<Reply, AllocError>
     ensures { IfOk result (λ reply. reply ≡ declined_with None (fault_line fault.line fault.kind)) }
 {
     let text = fault.told(alloc)?;
-    Ok(of_one_line(alloc, Word::No, None, text))
+    Ok(of_one_line(alloc, Status::No, None, text))
 }
 
-fn of_one_line(alloc: Global, word: Word, code: Option<Code>, text: Octets) -> Reply
-    ensures { result ≡ record { lines = []; word = word; code = code; text = Some text } }
+fn of_one_line(alloc: Global, status: Status, code: Option<Code>, text: Octets) -> Reply
+    ensures { result ≡ record { lines = []; word = Some status; code = code; text = Some text } }
 {
     Reply {
         lines: ListOf::new(alloc),
-        word,
+        word: Some(status),
         code,
         text: Some(text),
     }

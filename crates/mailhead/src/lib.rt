@@ -14,6 +14,3 @@ pub use header::{Field, read_field};
 pub use line::{first_line, logical_line, without_end};
 pub use message::{Head, after_empty_line};
 pub use unfolding::unfolded;
-
-#[cfg(test)]
-mod tests;

@@ -11,7 +11,7 @@ use crate::account::{add_account, set_active, set_next_copy};
 use crate::folder::add_copy;
 use crate::refusal::Refusal;
 use crate::script::{add_script, remove_script};
-use crate::store::Store;
+use crate::store::{Store, code_of};
 use sqlite::{Alter, Connection, Error, Transaction};
 
 /// A change of one row by its key. Names, texts and messages are borrowed.
@@ -102,7 +102,10 @@ impl<S: Alter> Store<S> {
         ensures crash { Survives (state S.Store self.old) (state S.Store self.new) (MayHave changes.now (state S.Store self.old)) }
         ensures named { IfErr result IsPassing }
     {
-        make_all(&mut self.conn, changes)?;
+        if let Err(error) = make_all(&mut self.conn, changes) {
+            self.cause = code_of(&error);
+            return Err(Refusal::from(error));
+        }
         Ok(())
     }
 }

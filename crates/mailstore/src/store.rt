@@ -13,7 +13,7 @@ use crate::refusal::Refusal;
 use crate::schema::is_ours;
 use crate::table::{is_blank, is_taken, make_tables};
 use crate::version::has_version;
-use sqlite::{Alter, Connection};
+use sqlite::{Alter, Connection, Error, ErrorCode};
 use std::alloc::Global;
 use std::marker::Model;
 
@@ -25,6 +25,7 @@ use std::marker::Model;
 pub struct Store<S: Alter> {
     pub(crate) conn: Connection<S>,
     pub(crate) alloc: Global,
+    pub(crate) cause: Option<ErrorCode>,
 }
 
 impl<S: Alter> Model for Store<S> {
@@ -42,7 +43,11 @@ impl<S: Alter> Model for Store<S> {
 
 impl<S: Alter + Drop> Drop for Store<S> {
     fn drop(self) {
-        let Store { conn: _, alloc: _ } = self;
+        let Store {
+            conn: _,
+            alloc: _,
+            cause: _,
+        } = self;
     }
 }
 
@@ -54,7 +59,7 @@ impl<S: Alter> Store<S> {
     pub fn create(
         alloc: Global,
         mut conn: Connection<S>,
-    ) -> Result<Store<S>, (Refusal, Connection<S>)>
+    ) -> Result<Store<S>, (Refusal, Connection<S>, Option<ErrorCode>)>
         ensures made { IfOk result (λ store. HasCleanDisk (state S.Store store) → Presents (state S.Store store).now no_accounts) }
         ensures settled { IfOk result (λ store. HasCleanDisk (state S.Store store) → IsSettled (state S.Store store)) }
         ensures left { IfOk result (λ store. HasCleanDisk (state S.Store store) → (db : Trees) → (state S.Store store).may_leave db → ShowsIn db no_accounts) }
@@ -66,18 +71,22 @@ impl<S: Alter> Store<S> {
         ensures crash_if_refused { IfErr result (λ e. Outlives (λ trees. ShowsIn trees no_accounts) (state S.Store conn) (state S.Store e.1)) }
     {
         if !conn.is_autocommit() {
-            return Err((Refusal::Store, conn));
+            return Err((Refusal::Store, conn, None));
         }
         if is_taken(conn.schema()) {
-            return Err((Refusal::NotOurs, conn));
+            return Err((Refusal::NotOurs, conn, None));
         }
         if !is_blank(conn.schema()) {
-            return Err((Refusal::Store, conn));
+            return Err((Refusal::Store, conn, None));
         }
         conn.set_step_limit(None);
         match make_tables(&mut conn) {
-            Ok(()) => Ok(Store { conn, alloc }),
-            Err(error) => Err((Refusal::from(error), conn)),
+            Ok(()) => Ok(Store {
+                conn,
+                alloc,
+                cause: None,
+            }),
+            Err(error) => Err((Refusal::from(error), conn, code_of(&error))),
         }
     }
 
@@ -88,7 +97,7 @@ impl<S: Alter> Store<S> {
     pub fn open(
         alloc: Global,
         mut conn: Connection<S>,
-    ) -> Result<Store<S>, (Refusal, Connection<S>)>
+    ) -> Result<Store<S>, (Refusal, Connection<S>, Option<ErrorCode>)>
         ensures shown { IfOk result (λ store. HasCleanDisk (state S.Store store) → (accounts : Accounts) → ShowsIn (state S.Store conn).now.trees accounts → Presents (state S.Store store).now accounts) }
         ensures ours { IfOk result (λ store. HasCleanDisk (state S.Store store) → IsOurs (state S.Store conn).now) }
         ensures settled { IfOk result (λ store. HasCleanDisk (state S.Store store) → IsSettled (state S.Store store)) }
@@ -101,24 +110,45 @@ impl<S: Alter> Store<S> {
         ensures crash_if_refused { IfErr result (λ e. Leaves (state S.Store conn) (state S.Store e.1)) }
     {
         if !conn.is_autocommit() {
-            return Err((Refusal::Store, conn));
+            return Err((Refusal::Store, conn, None));
         }
         if !is_ours(conn.schema()) {
-            return Err((Refusal::NotOurs, conn));
+            return Err((Refusal::NotOurs, conn, None));
         }
         conn.set_step_limit(None);
         match has_version(&mut conn) {
-            Ok(true) => Ok(Store { conn, alloc }),
-            Ok(false) => Err((Refusal::NotOurs, conn)),
-            Err(error) => Err((Refusal::from(error), conn)),
+            Ok(true) => Ok(Store {
+                conn,
+                alloc,
+                cause: None,
+            }),
+            Ok(false) => Err((Refusal::NotOurs, conn, None)),
+            Err(error) => Err((Refusal::from(error), conn, code_of(&error))),
         }
+    }
+
+    /// What SQLite said of the last write that was refused as `Store`, if there was one.
+    pub fn cause(&self) -> Option<ErrorCode> {
+        self.cause
     }
 
     /// The connection, with its tables as they are.
     pub fn release(self) -> Connection<S>
         ensures { result ≡ self }
     {
-        let Store { conn, alloc: _ } = self;
+        let Store {
+            conn,
+            alloc: _,
+            cause: _,
+        } = self;
         conn
+    }
+}
+
+/// What SQLite says of a failure.
+pub(crate) fn code_of(error: &Error) -> Option<ErrorCode> {
+    match error {
+        Error::SqliteFailure(code) => Some(*code),
+        _ => None,
     }
 }

@@ -1,5 +1,5 @@
 -- Each definition at work: what it takes, and one beside it that it doesn't.
-use Rattle.std.proofs.Common.{◌≡◌, ℕ, zero, suc, inl, inr, true, false, List, [], ◌∷◌, ◌++◌, length, Some, None, refl, subst, arith}
+use Rattle.std.proofs.Common.{◌≡◌, ℕ, zero, suc, inl, inr, true, false, List, [], ◌∷◌, ◌++◌, length, Some, None, refl, ap, subst, arith}
 use Rattle.std.specs.Prelude.{codes, replicate}
 use Rattle.msproto.specs.declared.commands.Command.TheVariants as command
 use Rattle.msproto.specs.declared.items.Item.TheVariants as item
@@ -7,12 +7,12 @@ use Rattle.msproto.specs.declared.items.Reach.{Reach}
 use Rattle.msproto.specs.declared.items.Reach.TheVariants.{Need, Command, Bad, TooBig}
 use Rattle.msproto.specs.declared.replies.Code.TheVariants as code
 use Rattle.msproto.specs.declared.replies.Line.TheVariants as line
-use Rattle.msproto.specs.declared.replies.Word.TheVariants as word
+use Rattle.msproto.specs.declared.replies.Status.TheVariants as status
 use Rattle.msproto.specs.Arguments.{inside, IsQuoted, AreDigits, IsNumeral, IsLiteral, Figure, IsArgument, IsAnswer}
 use Rattle.msproto.specs.Commands.{IsSpelling, IsCommand, IsViable}
 use Rattle.msproto.specs.Items.{EndsAtFeed, IsBadLine, IsInLiteral, Counts, IsLong, EndsInLargeHead, Reaches}
-use Rattle.msproto.specs.Machine.{Dead, rows, start}
-use Rattle.msproto.specs.Scanning.{reach_of}
+use Rattle.msproto.specs.Machine.{LineEnd, Quoted, Dead, rows, start}
+use Rattle.msproto.specs.Scanning.{Open, reach_of, ScanView, new_scan, StandsFor}
 use Rattle.msproto.specs.Values.{item_of}
 use Rattle.msproto.specs.Replies.{string_spelled, line_spelled, last_spelled, Extends}
 use Rattle.msproto.specs.Shown.{is_plain, is_inner, passing, spelling}
@@ -234,6 +234,15 @@ inner_front = refl
 letters_front : spelling (codes "OOP") (codes "oOx") ≡ 2
 letters_front = refl
 
+-- ---- scans
+
+-- while a challenge is pending a scan behind `"` waits for the string's octets, and it took one octet, not none
+scanned_mark : StandsFor true (record { known = Open (Quoted 1024 LineEnd) 1 1; looked = 1 }) (codes "\"")
+scanned_mark = refl
+
+not_scanned : StandsFor true (new_scan true) (codes "\"") → ⊥
+not_scanned h = let none : 0 ≡ 1 = ap (λ (s : ScanView). s.looked) h in omega (arith, none)
+
 -- ---- answers
 
 -- a text with a NUL is spelled as a literal, one with a mark between marks
@@ -252,11 +261,11 @@ text_spelled = refl
 active_spelled : line_spelled (line.Script (codes "a") true) ≡ crlf (codes "\"a\" ACTIVE")
 active_spelled = refl
 
-done_spelled : last_spelled word.Ok (Some (code.Tag (codes "t"))) (Some (codes "Done.")) ≡ crlf (codes "OK (TAG \"t\") \"Done.\"")
+done_spelled : last_spelled (Some status.Ok) (Some (code.Tag (codes "t"))) (Some (codes "Done.")) ≡ crlf (codes "OK (TAG \"t\") \"Done.\"")
 done_spelled = refl
 
 -- without a word nothing is written, whatever the text
-nothing_spelled : last_spelled word.Nothing None (Some (codes "Done.")) ≡ []
+nothing_spelled : last_spelled None None (Some (codes "Done.")) ≡ []
 nothing_spelled = refl
 
 -- a part is appended, and what was there stays

@@ -7,7 +7,7 @@ use Rattle.std.proofs.lemmas.Grind.{fold-append}
 use Rattle.std.proofs.lemmas.List.{append-nil, same_from_push}
 use Rattle.octets.specs.Decimal.{with_digit}
 use Rattle.msproto.specs.Arguments.{is_quotable, AreDigits, IsNumeral}
-use Rattle.msproto.specs.Machine.{Slots, LineEnd, MaybeText, ThenText, ThenNumber, rows, begins_row, slots_in, State, Word, Between, Opening, Quoted, Escaped, Brace, Count, Plus, Closed, Return, Body, Number, Digits, LineFeed, Whole, Dead, after_space, after_return, leave, leave_named, longer, literal_left, step, run, start, in_literal, is_large}
+use Rattle.msproto.specs.Machine.{Params, LineEnd, MaybeText, ThenText, ThenNumber, rows, begins_row, params_in, State, Word, Between, Opening, Quoted, Escaped, Brace, Count, Plus, Closed, Return, Body, Number, Digits, LineFeed, Whole, Dead, after_space, after_return, leave, leave_named, longer, literal_left, step, run, start, in_literal, is_large}
 use Rattle.msproto.specs.Items.{EndsInLargeHead}
 use Rattle.msproto.proofs.Left.{IsProper}
 use Rattle.msproto.proofs.Into.{proper_run, proper_start}
@@ -33,16 +33,16 @@ pub record BehindNumber (pending : Bool) (number : ℕ) (tail text : List ℕ) :
 
 abbrev pub IsBehind : Bool → List ℕ → State → Type 0
 IsBehind pending text (Word letters) = Unit {0}
-IsBehind pending text (Between slots) = Unit {0}
-IsBehind pending text (Opening slots) = Unit {0}
-IsBehind pending text (Quoted left slots) = Unit {0}
-IsBehind pending text (Escaped left slots) = Unit {0}
-IsBehind pending text (Brace slots) = BehindBrace pending text
-IsBehind pending text (Count number slots) = BehindNumber pending number [] text
-IsBehind pending text (Plus number slots) = BehindNumber pending number (43 ∷ []) text
-IsBehind pending text (Closed number slots) = BehindNumber pending number (43 ∷ 125 ∷ []) text
-IsBehind pending text (Return number slots) = BehindNumber pending number (43 ∷ 125 ∷ 13 ∷ []) text
-IsBehind pending text (Body left slots) = Unit {0}
+IsBehind pending text (Between params) = Unit {0}
+IsBehind pending text (Opening params) = Unit {0}
+IsBehind pending text (Quoted left params) = Unit {0}
+IsBehind pending text (Escaped left params) = Unit {0}
+IsBehind pending text (Brace params) = BehindBrace pending text
+IsBehind pending text (Count number params) = BehindNumber pending number [] text
+IsBehind pending text (Plus number params) = BehindNumber pending number (43 ∷ []) text
+IsBehind pending text (Closed number params) = BehindNumber pending number (43 ∷ 125 ∷ []) text
+IsBehind pending text (Return number params) = BehindNumber pending number (43 ∷ 125 ∷ 13 ∷ []) text
+IsBehind pending text (Body left params) = Unit {0}
 IsBehind pending text Number = Unit {0}
 IsBehind pending text (Digits number) = Unit {0}
 IsBehind pending text LineFeed = Unit {0}
@@ -102,27 +102,27 @@ mark_stays pending n tail b x y h e = record {
 
 -- ---- each step
 
-behind_leave : (pending : Bool) (t : List ℕ) (slots : Slots) (x : ℕ) → IsBehind pending t (leave slots x)
-behind_leave pending t slots x = either pending t (x == 32) (after_space slots) _ (λ e. space slots) (λ e. either pending t (x == 13) (after_return slots) Dead (λ d. return slots) (λ d. tt))
+behind_leave : (pending : Bool) (t : List ℕ) (params : Params) (x : ℕ) → IsBehind pending t (leave params x)
+behind_leave pending t params x = either pending t (x == 32) (after_space params) _ (λ e. space params) (λ e. either pending t (x == 13) (after_return params) Dead (λ d. return params) (λ d. tt))
   where
-    space : (slots : Slots) → IsBehind pending t (after_space slots)
+    space : (params : Params) → IsBehind pending t (after_space params)
     space LineEnd = tt
     space MaybeText = tt
     space (ThenText more) = tt
     space ThenNumber = tt
 
-    return : (slots : Slots) → IsBehind pending t (after_return slots)
+    return : (params : Params) → IsBehind pending t (after_return params)
     return LineEnd = tt
     return MaybeText = tt
     return (ThenText more) = tt
     return ThenNumber = tt
 
-behind_named : (pending : Bool) (t : List ℕ) (o : Option Slots) (x : ℕ) → IsBehind pending t (leave_named o x)
+behind_named : (pending : Bool) (t : List ℕ) (o : Option Params) (x : ℕ) → IsBehind pending t (leave_named o x)
 behind_named pending t None x = tt
-behind_named pending t (Some slots) x = behind_leave pending t slots x
+behind_named pending t (Some params) x = behind_leave pending t params x
 
-behind_left : (pending : Bool) (t : List ℕ) (number : ℕ) (slots : Slots) → IsBehind pending t (literal_left number slots)
-behind_left pending t number slots = either pending t (number == 0) (Between slots) (Body (number - 1) slots) (λ e. tt) (λ e. tt)
+behind_left : (pending : Bool) (t : List ℕ) (number : ℕ) (params : Params) → IsBehind pending t (literal_left number params)
+behind_left pending t number params = either pending t (number == 0) (Between params) (Body (number - 1) params) (λ e. tt) (λ e. tt)
 
 behind_longer : (pending : Bool) (t : List ℕ) (to : ℕ → State) (number x : ℕ) → ((number == 0) ≡ false → IsBehind pending t (to (with_digit number x))) → IsBehind pending t (longer to number x)
 behind_longer pending t to number x f =
@@ -130,26 +130,26 @@ behind_longer pending t to number x f =
     (λ e. either pending t (nat_lt (with_digit number x) (2 ^ 32)) (to (with_digit number x)) Dead (λ lt. f e) (λ lt. tt))
 
 behind_step : (pending : Bool) (b : List ℕ) (s : State) (x : ℕ) → run (start pending) b ≡ s → IsBehind pending b s → IsBehind pending (b ++ x ∷ []) (step s x)
-behind_step pending b (Word p) x at h = either pending _ (begins_row rows (p ++ to_ascii_uppercase x ∷ [])) (Word (p ++ to_ascii_uppercase x ∷ [])) _ (λ e. tt) (λ e. behind_named pending _ (slots_in rows p) x)
-behind_step pending b (Between slots) x at h = behind_leave pending _ slots x
-behind_step pending b (Opening slots) x at h =
-    either pending _ (x == 34) (Quoted 1024 slots) _ (λ e. tt)
-    (λ e. either pending _ (x == 123) (Brace slots) Dead (λ d. brace_stays pending b x (ap in_literal at) d) (λ d. tt))
-behind_step pending b (Quoted left slots) x at h =
-    either pending _ (x == 34) (Between slots) _ (λ e. tt)
-    (λ e. either pending _ (x == 92) (cond (nat_lt 1 left) (Escaped (left - 2) slots) Dead) _
-    (λ d. either pending _ (nat_lt 1 left) (Escaped (left - 2) slots) Dead (λ c. tt) (λ c. tt))
-    (λ d. either pending _ (is_quotable x && nat_lt 0 left) (Quoted (left - 1) slots) Dead (λ c. tt) (λ c. tt)))
-behind_step pending b (Escaped left slots) x at h = either pending _ (x == 34 || x == 92) (Quoted left slots) Dead (λ e. tt) (λ e. tt)
-behind_step pending b (Brace slots) x at h = either pending _ (is_ascii_digit x) (Count (with_digit 0 x) slots) Dead (λ e. first_stays pending b x h e) (λ e. tt)
-behind_step pending b (Count number slots) x at h =
-    either pending _ (x == 43) (Plus number slots) _ (λ e. mark_stays pending number [] b x 43 h e)
-    (λ e. either pending _ (is_ascii_digit x) (longer (λ n. Count n slots) number x) Dead
-    (λ d. behind_longer pending _ (λ n. Count n slots) number x (λ some. digit_stays pending number b x h some d)) (λ d. tt))
-behind_step pending b (Plus number slots) x at h = either pending _ (x == 125) (Closed number slots) Dead (λ e. mark_stays pending number (43 ∷ []) b x 125 h e) (λ e. tt)
-behind_step pending b (Closed number slots) x at h = either pending _ (x == 13) (Return number slots) Dead (λ e. mark_stays pending number (43 ∷ 125 ∷ []) b x 13 h e) (λ e. tt)
-behind_step pending b (Return number slots) x at h = either pending _ (x == 10) (literal_left number slots) Dead (λ e. behind_left pending _ number slots) (λ e. tt)
-behind_step pending b (Body left slots) x at h = behind_left pending _ left slots
+behind_step pending b (Word p) x at h = either pending _ (begins_row rows (p ++ to_ascii_uppercase x ∷ [])) (Word (p ++ to_ascii_uppercase x ∷ [])) _ (λ e. tt) (λ e. behind_named pending _ (params_in rows p) x)
+behind_step pending b (Between params) x at h = behind_leave pending _ params x
+behind_step pending b (Opening params) x at h =
+    either pending _ (x == 34) (Quoted 1024 params) _ (λ e. tt)
+    (λ e. either pending _ (x == 123) (Brace params) Dead (λ d. brace_stays pending b x (ap in_literal at) d) (λ d. tt))
+behind_step pending b (Quoted left params) x at h =
+    either pending _ (x == 34) (Between params) _ (λ e. tt)
+    (λ e. either pending _ (x == 92) (cond (nat_lt 1 left) (Escaped (left - 2) params) Dead) _
+    (λ d. either pending _ (nat_lt 1 left) (Escaped (left - 2) params) Dead (λ c. tt) (λ c. tt))
+    (λ d. either pending _ (is_quotable x && nat_lt 0 left) (Quoted (left - 1) params) Dead (λ c. tt) (λ c. tt)))
+behind_step pending b (Escaped left params) x at h = either pending _ (x == 34 || x == 92) (Quoted left params) Dead (λ e. tt) (λ e. tt)
+behind_step pending b (Brace params) x at h = either pending _ (is_ascii_digit x) (Count (with_digit 0 x) params) Dead (λ e. first_stays pending b x h e) (λ e. tt)
+behind_step pending b (Count number params) x at h =
+    either pending _ (x == 43) (Plus number params) _ (λ e. mark_stays pending number [] b x 43 h e)
+    (λ e. either pending _ (is_ascii_digit x) (longer (λ n. Count n params) number x) Dead
+    (λ d. behind_longer pending _ (λ n. Count n params) number x (λ some. digit_stays pending number b x h some d)) (λ d. tt))
+behind_step pending b (Plus number params) x at h = either pending _ (x == 125) (Closed number params) Dead (λ e. mark_stays pending number (43 ∷ []) b x 125 h e) (λ e. tt)
+behind_step pending b (Closed number params) x at h = either pending _ (x == 13) (Return number params) Dead (λ e. mark_stays pending number (43 ∷ 125 ∷ []) b x 13 h e) (λ e. tt)
+behind_step pending b (Return number params) x at h = either pending _ (x == 10) (literal_left number params) Dead (λ e. behind_left pending _ number params) (λ e. tt)
+behind_step pending b (Body left params) x at h = behind_left pending _ left params
 behind_step pending b Number x at h = either pending _ (is_ascii_digit x) (Digits (with_digit 0 x)) Dead (λ e. tt) (λ e. tt)
 behind_step pending b (Digits number) x at h =
     either pending _ (x == 13) LineFeed _ (λ e. tt)
@@ -174,20 +174,20 @@ behind pending b = behind_from pending [] b (behind_start pending)
 
 -- ---- a large head
 
-large_is : (s : State) → is_large s ≡ true → (n : ℕ) × (slots : Slots) × (s ≡ Return n slots) × (1048576 < n)
-large_is (Return n slots) e = (n, slots, refl, ltb-true 1048576 n e)
+large_is : (s : State) → is_large s ≡ true → (n : ℕ) × (params : Params) × (s ≡ Return n params) × (1048576 < n)
+large_is (Return n params) e = (n, params, refl, ltb-true 1048576 n e)
 large_is _ e = absurd (false≢true e)
 
-left_body : (n : ℕ) (slots : Slots) → 0 < n → in_literal (literal_left n slots) ≡ true
-left_body n slots lt =
+left_body : (n : ℕ) (params : Params) → 0 < n → in_literal (literal_left n params) ≡ true
+left_body n params lt =
     let some : (n == 0) ≡ false = ne_eqb n 0 (λ e. absurd (omega (arith, e))) in
     rw some refl
 
-large_body : (n : ℕ) (slots : Slots) (x : ℕ) → x ≡ 10 → 0 < n → in_literal (step (Return n slots) x) ≡ true
-large_body n slots x e lt = rw e (left_body n slots lt)
+large_body : (n : ℕ) (params : Params) (x : ℕ) → x ≡ 10 → 0 < n → in_literal (step (Return n params) x) ≡ true
+large_body n params x e lt = rw e (left_body n params lt)
 
-return_fits : (pending : Bool) (b : List ℕ) (n : ℕ) (slots : Slots) → run (start pending) b ≡ Return n slots → n < 2 ^ 32
-return_fits pending b n slots at = subst IsProper at (proper_run (start pending) b (proper_start pending))
+return_fits : (pending : Bool) (b : List ℕ) (n : ℕ) (params : Params) → run (start pending) b ≡ Return n params → n < 2 ^ 32
+return_fits pending b n params at = subst IsProper at (proper_run (start pending) b (proper_start pending))
 
 -- where the machine stands behind a large head, the text ends in one
 pub large_head : (pending : Bool) (b : List ℕ) (x : ℕ) → is_large (run (start pending) b) ≡ true → x ≡ 10 → EndsInLargeHead pending (b ++ x ∷ [])
@@ -211,21 +211,21 @@ large_head pending b x large feed =
 -- ---- a brace between quotation marks begins no literal
 
 abbrev is_stuck : State → Bool
-is_stuck (Quoted left slots) = true
+is_stuck (Quoted left params) = true
 is_stuck Dead = true
 is_stuck _ = false
 
 stuck_step : (s : State) (x : ℕ) → is_stuck s ≡ true → (x == 34) ≡ false → (x == 92) ≡ false → is_stuck (step s x) ≡ true
-stuck_step (Quoted left slots) x e a b = rw (a, b) (go (is_quotable x && nat_lt 0 left))
+stuck_step (Quoted left params) x e a b = rw (a, b) (go (is_quotable x && nat_lt 0 left))
   where
-    go : (c : Bool) → is_stuck (cond c (Quoted (left - 1) slots) Dead) ≡ true
+    go : (c : Bool) → is_stuck (cond c (Quoted (left - 1) params) Dead) ≡ true
     go true = refl
     go false = refl
 stuck_step Dead x e a b = refl
 stuck_step _ x e a b = absurd (false≢true e)
 
 stuck_ends : (s : State) → is_stuck s ≡ true → step s 13 ≡ Dead
-stuck_ends (Quoted left slots) e = refl
+stuck_ends (Quoted left params) e = refl
 stuck_ends Dead e = refl
 stuck_ends _ e = absurd (false≢true e)
 
@@ -247,20 +247,20 @@ numeral_digits : (n : ℕ) (ds : List ℕ) → IsNumeral n ds → AreDigits ds
 numeral_digits n [] h = absurd h
 numeral_digits n (d ∷ ds) h = h.0
 
-brace_named : (o : Option Slots) → leave_named o 123 ≡ Dead
+brace_named : (o : Option Params) → leave_named o 123 ≡ Dead
 brace_named None = refl
-brace_named (Some slots) = refl
+brace_named (Some params) = refl
 
 -- what a brace does outside literals: it opens one, or nothing that could become one
-brace_opens : (s : State) (ds : List ℕ) (n : ℕ) → in_literal s ≡ false → IsNumeral n ds → n < 2 ^ 32 → in_literal (run s (123 ∷ (ds ++ 43 ∷ 125 ∷ 13 ∷ 10 ∷ []))) ≡ true → (slots : Slots) × (run s (123 ∷ (ds ++ 43 ∷ 125 ∷ 13 ∷ [])) ≡ Return n slots)
-brace_opens (Opening slots) ds n out numeral lt inside = (slots, count_digits ds n slots (43 ∷ 125 ∷ 13 ∷ []) numeral lt)
-brace_opens (Body left slots) ds n out numeral lt inside = absurd (false≢true (sym out))
-brace_opens (Quoted left slots) ds n out numeral lt inside =
-    let stuck = stuck_step (Quoted left slots) 123 refl refl refl in
-    absurd (false≢true (sym (ap in_literal (stuck_dies ds (step (Quoted left slots) 123) stuck (numeral_digits n ds numeral))) ∙ inside))
+brace_opens : (s : State) (ds : List ℕ) (n : ℕ) → in_literal s ≡ false → IsNumeral n ds → n < 2 ^ 32 → in_literal (run s (123 ∷ (ds ++ 43 ∷ 125 ∷ 13 ∷ 10 ∷ []))) ≡ true → (params : Params) × (run s (123 ∷ (ds ++ 43 ∷ 125 ∷ 13 ∷ [])) ≡ Return n params)
+brace_opens (Opening params) ds n out numeral lt inside = (params, count_digits ds n params (43 ∷ 125 ∷ 13 ∷ []) numeral lt)
+brace_opens (Body left params) ds n out numeral lt inside = absurd (false≢true (sym out))
+brace_opens (Quoted left params) ds n out numeral lt inside =
+    let stuck = stuck_step (Quoted left params) 123 refl refl refl in
+    absurd (false≢true (sym (ap in_literal (stuck_dies ds (step (Quoted left params) 123) stuck (numeral_digits n ds numeral))) ∙ inside))
 brace_opens (Word p) ds n out numeral lt inside =
     let none = no_brace p in
-    let dead : step (Word p) 123 ≡ Dead = rw none (brace_named (slots_in rows p)) in
+    let dead : step (Word p) 123 ≡ Dead = rw none (brace_named (params_in rows p)) in
     absurd (false≢true (sym (ap in_literal (ap (λ (u : State). run u (ds ++ 43 ∷ 125 ∷ 13 ∷ 10 ∷ [])) dead ∙ run_dead (ds ++ 43 ∷ 125 ∷ 13 ∷ 10 ∷ []))) ∙ inside))
 brace_opens _ ds n out numeral lt inside = absurd (false≢true (sym (ap in_literal (run_dead (ds ++ 43 ∷ 125 ∷ 13 ∷ 10 ∷ []))) ∙ inside))
 

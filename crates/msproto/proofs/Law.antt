@@ -3,7 +3,7 @@ use Rattle.std.proofs.Common.{◌≡◌, ℕ, Bool, true, false, List, [], ◌�
 use Rattle.std.specs.Prelude.{map, replicate}
 use Rattle.std.specs.Char.{to_ascii_uppercase}
 use Rattle.std.proofs.lemmas.List.{length-replicate}
-use Rattle.msproto.specs.Machine.{Slots, LineEnd, MaybeText, ThenText, ThenNumber, rows, slots_in, State, Word, Between, Opening, Quoted, Escaped, Brace, Count, Plus, Closed, Return, Body, Number, Digits, LineFeed, Whole, Dead, literal_left, run, start}
+use Rattle.msproto.specs.Machine.{Params, LineEnd, MaybeText, ThenText, ThenNumber, rows, params_in, State, Word, Between, Opening, Quoted, Escaped, Brace, Count, Plus, Closed, Return, Body, Number, Digits, LineFeed, Whole, Dead, literal_left, run, start}
 use Rattle.msproto.specs.declared.commands.Command.{Command}
 use Rattle.msproto.specs.declared.commands.Command.TheVariants.{Response}
 use Rattle.msproto.specs.Commands.{Form, Named, Alone, form_of, IsFormed, IsSpelling, IsCommand, IsViable}
@@ -14,41 +14,41 @@ use Rattle.msproto.proofs.Names.{word-run, name_goes_on, fill_after, after_fill,
 
 -- ---- from each state that lives a line can be ended
 
-abbrev finish : Slots → List ℕ
+abbrev finish : Params → List ℕ
 finish LineEnd = 13 ∷ 10 ∷ []
 finish MaybeText = 13 ∷ 10 ∷ []
 finish (ThenText more) = 32 ∷ 34 ∷ 34 ∷ finish more
 finish ThenNumber = 32 ∷ 48 ∷ 13 ∷ 10 ∷ []
 
-finish-run : (slots : Slots) → run (Between slots) (finish slots) ≡ Whole
+finish-run : (params : Params) → run (Between params) (finish params) ≡ Whole
 finish-run LineEnd = refl
 finish-run MaybeText = refl
 finish-run (ThenText more) = finish-run more
 finish-run ThenNumber = refl
 
-finish_after : (slots : Slots) → IsAfter slots (finish slots)
-finish_after slots = whole_left (Between slots) (finish slots) tt (finish-run slots)
+finish_after : (params : Params) → IsAfter params (finish params)
+finish_after params = whole_left (Between params) (finish params) tt (finish-run params)
 
 -- n octets of a literal
-zeros-run : (n : ℕ) (slots : Slots) → run (literal_left n slots) (replicate n 0 ++ finish slots) ≡ Whole
-zeros-run n slots =
-    ap (λ (m : ℕ). run (literal_left m slots) (replicate n 0 ++ finish slots)) (sym (length-replicate n 0)) ∙ body-run (replicate n 0) slots (finish slots) ∙ finish-run slots
+zeros-run : (n : ℕ) (params : Params) → run (literal_left n params) (replicate n 0 ++ finish params) ≡ Whole
+zeros-run n params =
+    ap (λ (m : ℕ). run (literal_left m params) (replicate n 0 ++ finish params)) (sym (length-replicate n 0)) ∙ body-run (replicate n 0) params (finish params) ∙ finish-run params
 
 pub live : (s : State) → IsProper s → (s ≡ Dead → ⊥) → (t : List ℕ) × (run s t ≡ Whole)
 live (Word p) proper alive =
     let on = name_goes_on p proper in
-    let named : slots_in rows (p ++ map to_ascii_uppercase on.0) ≡ Some on.1 = ap (λ (u : List ℕ). slots_in rows (p ++ u)) on.3 ∙ on.2 in
+    let named : params_in rows (p ++ map to_ascii_uppercase on.0) ≡ Some on.1 = ap (λ (u : List ℕ). params_in rows (p ++ u)) on.3 ∙ on.2 in
     (on.0 ++ finish on.1, word-run on.0 p on.1 (finish on.1) named (finish_after on.1) ∙ finish-run on.1)
-live (Between slots) proper alive = (finish slots, finish-run slots)
-live (Opening slots) proper alive = (34 ∷ 34 ∷ finish slots, finish-run slots)
-live (Quoted left slots) proper alive = (34 ∷ finish slots, finish-run slots)
-live (Escaped left slots) proper alive = (34 ∷ 34 ∷ finish slots, finish-run slots)
-live (Brace slots) proper alive = (48 ∷ 43 ∷ 125 ∷ 13 ∷ 10 ∷ finish slots, finish-run slots)
-live (Count number slots) proper alive = (43 ∷ 125 ∷ 13 ∷ 10 ∷ (replicate number 0 ++ finish slots), zeros-run number slots)
-live (Plus number slots) proper alive = (125 ∷ 13 ∷ 10 ∷ (replicate number 0 ++ finish slots), zeros-run number slots)
-live (Closed number slots) proper alive = (13 ∷ 10 ∷ (replicate number 0 ++ finish slots), zeros-run number slots)
-live (Return number slots) proper alive = (10 ∷ (replicate number 0 ++ finish slots), zeros-run number slots)
-live (Body left slots) proper alive = (0 ∷ (replicate left 0 ++ finish slots), zeros-run left slots)
+live (Between params) proper alive = (finish params, finish-run params)
+live (Opening params) proper alive = (34 ∷ 34 ∷ finish params, finish-run params)
+live (Quoted left params) proper alive = (34 ∷ finish params, finish-run params)
+live (Escaped left params) proper alive = (34 ∷ 34 ∷ finish params, finish-run params)
+live (Brace params) proper alive = (48 ∷ 43 ∷ 125 ∷ 13 ∷ 10 ∷ finish params, finish-run params)
+live (Count number params) proper alive = (43 ∷ 125 ∷ 13 ∷ 10 ∷ (replicate number 0 ++ finish params), zeros-run number params)
+live (Plus number params) proper alive = (125 ∷ 13 ∷ 10 ∷ (replicate number 0 ++ finish params), zeros-run number params)
+live (Closed number params) proper alive = (13 ∷ 10 ∷ (replicate number 0 ++ finish params), zeros-run number params)
+live (Return number params) proper alive = (10 ∷ (replicate number 0 ++ finish params), zeros-run number params)
+live (Body left params) proper alive = (0 ∷ (replicate left 0 ++ finish params), zeros-run left params)
 live Number proper alive = (48 ∷ 13 ∷ 10 ∷ [], refl)
 live (Digits number) proper alive = (13 ∷ 10 ∷ [], refl)
 live LineFeed proper alive = (10 ∷ [], refl)
@@ -60,7 +60,7 @@ live Dead proper alive = absurd (alive refl)
 formed_whole : (pending : Bool) (form : Form) (text : List ℕ) → IsFilled form → IsFormed pending form text → run (start pending) text ≡ Whole
 formed_whole false (Named word arguments) text f h =
     let after : IsAfter f.0 h.rest = fill_after f.2 h.rest h.filled in
-    let named : slots_in rows (map to_ascii_uppercase h.name) ≡ Some f.0 = ap (slots_in rows) h.named ∙ f.1 in
+    let named : params_in rows (map to_ascii_uppercase h.name) ≡ Some f.0 = ap (params_in rows) h.named ∙ f.1 in
     ap (run (Word [])) h.written ∙ word-run h.name [] f.0 h.rest named after ∙ after-run f.0 h.rest after
 formed_whole false (Alone value) text f h = absurd h
 formed_whole true (Named word arguments) text f h = absurd h
@@ -72,8 +72,8 @@ spelling_whole pending command text h = formed_whole pending (form_of command) t
 
 named_spelling : (text : List ℕ) → InName [] text → IsCommand false text
 named_spelling text h =
-    let fill = after_fill h.slots h.rest h.after in
-    let found = named_command (map to_ascii_uppercase h.name) h.slots fill.0 h.named fill.1 in
+    let fill = after_fill h.params h.rest h.after in
+    let found = named_command (map to_ascii_uppercase h.name) h.params fill.0 h.named fill.1 in
     let line : IsFormed false (Named (map to_ascii_uppercase h.name) fill.0) text = record { name = h.name; rest = h.rest; named = refl; filled = fill.2; written = h.written } in
     (found.0, subst (λ (form : Form). IsFormed false form text) (sym found.1) line)
 

@@ -9,8 +9,9 @@ pub mod Scans
 pub mod Verbs
 pub mod Rooms
 pub mod Turning
-pub mod Skims
+pub mod FedRuns
 pub mod Parsing
 pub mod Unique
+pub mod Feeding
 pub mod Quoting
 pub mod Examples

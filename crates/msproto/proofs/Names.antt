@@ -5,14 +5,14 @@ use Rattle.std.specs.Char.{to_ascii_uppercase}
 use Rattle.std.proofs.lemmas.Bool.{eqb-true, eq-eqb, or_cases, or_from, or_left, or_right, and_parts, and_from, and_left, and_right, not-true}
 use Rattle.std.proofs.lemmas.List.{append-nil}
 use Rattle.msproto.specs.Arguments.{Argument, Text, Figure, AreArguments}
-use Rattle.msproto.specs.Machine.{Slots, LineEnd, MaybeText, ThenText, ThenNumber, rows, begins, begins_row, same_word, slots_in, State, Word, Between, leave, step, run}
+use Rattle.msproto.specs.Machine.{Params, LineEnd, MaybeText, ThenText, ThenNumber, rows, begins, begins_row, same_word, params_in, State, Word, Between, leave, step, run}
 use Rattle.msproto.proofs.Left.{IsAfter}
 use Rattle.msproto.specs.declared.commands.Command.{Command}
 use Rattle.msproto.specs.declared.commands.Command.TheVariants.{Capability, Noop, Logout, Authenticate, Unauthenticate, HaveSpace, PutScript, CheckScript, ListScripts, SetActive, GetScript, DeleteScript, RenameScript, Response}
 use Rattle.msproto.specs.Commands.{Form, Named, Alone, form_of}
 
 abbrev pub Rows : Type 0
-Rows = List (List ℕ × Slots)
+Rows = List (List ℕ × Params)
 
 -- ---- words
 
@@ -45,19 +45,19 @@ same_is (x ∷ a) (y ∷ b) e =
 
 -- ---- rows
 
-pub slots_step : (o : Option Slots) (word w : List ℕ) (s t : Slots) → cond (same_word word w) (Some t) o ≡ Some s → ((word ≡ w) × (t ≡ s)) ⊎ (o ≡ Some s)
-slots_step o word w s t e = go (same_word word w) (same_is word w) e
+pub params_step : (o : Option Params) (word w : List ℕ) (s t : Params) → cond (same_word word w) (Some t) o ≡ Some s → ((word ≡ w) × (t ≡ s)) ⊎ (o ≡ Some s)
+params_step o word w s t e = go (same_word word w) (same_is word w) e
   where
     go : (b : Bool) → (b ≡ true → word ≡ w) → cond b (Some t) o ≡ Some s → ((word ≡ w) × (t ≡ s)) ⊎ (o ≡ Some s)
     go true f e = inl (f refl, cc)
     go false f e = inr e
 
-slots_begins : (rs : Rows) (p q : List ℕ) (s : Slots) → slots_in rs (p ++ q) ≡ Some s → begins_row rs p ≡ true
-slots_begins [] p q s e = absurd cc
-slots_begins (row ∷ rs) p q s e =
-    elim (slots_step (slots_in rs (p ++ q)) row.0 (p ++ q) s row.1 e) [
+params_begins : (rs : Rows) (p q : List ℕ) (s : Params) → params_in rs (p ++ q) ≡ Some s → begins_row rs p ≡ true
+params_begins [] p q s e = absurd cc
+params_begins (row ∷ rs) p q s e =
+    elim (params_step (params_in rs (p ++ q)) row.0 (p ++ q) s row.1 e) [
       | inl h ↦ or_left (begins p row.0) (begins_row rs p) (rw h.0 (begins-append p q))
-      | inr h ↦ or_right (begins p row.0) (begins_row rs p) (slots_begins rs p q s h)
+      | inr h ↦ or_right (begins p row.0) (begins_row rs p) (params_begins rs p q s h)
     ]
 
 -- letters in upper case
@@ -79,38 +79,38 @@ abbrev rows_upper : Rows → Bool
 rows_upper [] = true
 rows_upper (row ∷ rs) = all_upper row.0 && rows_upper rs
 
-slots_first : (word w : List ℕ) (t : Slots) (o : Option Slots) → word ≡ w → cond (same_word word w) (Some t) o ≡ Some t
-slots_first word w t o e =
+params_first : (word w : List ℕ) (t : Params) (o : Option Params) → word ≡ w → cond (same_word word w) (Some t) o ≡ Some t
+params_first word w t o e =
     let same : same_word word w ≡ true = rw (← e) (same-self word) in
     rw same refl
 
-some_slots : (word w : List ℕ) (t : Slots) (o : Option Slots) (s : Slots) → o ≡ Some s → (u : Slots) × (cond (same_word word w) (Some t) o ≡ Some u)
-some_slots word w t o s e = go (same_word word w)
+some_params : (word w : List ℕ) (t : Params) (o : Option Params) (s : Params) → o ≡ Some s → (u : Params) × (cond (same_word word w) (Some t) o ≡ Some u)
+some_params word w t o s e = go (same_word word w)
   where
-    go : (b : Bool) → (u : Slots) × (cond b (Some t) o ≡ Some u)
+    go : (b : Bool) → (u : Params) × (cond b (Some t) o ≡ Some u)
     go true = (t, refl)
     go false = (s, e)
 
 -- a front of a name goes on to a name
-begins_slots : (rs : Rows) (p : List ℕ) → rows_upper rs ≡ true → begins_row rs p ≡ true → (q : List ℕ) × (s : Slots) × (slots_in rs (p ++ q) ≡ Some s) × (map to_ascii_uppercase q ≡ q)
-begins_slots [] p up e = absurd cc
-begins_slots (row ∷ rs) p up e =
+begins_params : (rs : Rows) (p : List ℕ) → rows_upper rs ≡ true → begins_row rs p ≡ true → (q : List ℕ) × (s : Params) × (params_in rs (p ++ q) ≡ Some s) × (map to_ascii_uppercase q ≡ q)
+begins_params [] p up e = absurd cc
+begins_params (row ∷ rs) p up e =
     let ups = and_parts (all_upper row.0) (rows_upper rs) up in
     elim (or_cases (begins p row.0) (begins_row rs p) e) [
       | inl h ↦ (let split = begins_split p row.0 h in (
         split.0,
         row.1,
-        slots_first row.0 (p ++ split.0) row.1 (slots_in rs (p ++ split.0)) split.1,
+        params_first row.0 (p ++ split.0) row.1 (params_in rs (p ++ split.0)) split.1,
         map_upper split.0 (all_upper-append p split.0 (rw (← split.1) ups.0)),
       ))
-      | inr h ↦ (let found = begins_slots rs p ups.1 h in
-          let more = some_slots row.0 (p ++ found.0) row.1 (slots_in rs (p ++ found.0)) found.1 found.2 in
+      | inr h ↦ (let found = begins_params rs p ups.1 h in
+          let more = some_params row.0 (p ++ found.0) row.1 (params_in rs (p ++ found.0)) found.1 found.2 in
           (found.0, more.0, more.1, found.3))
     ]
 
-pub name_goes_on : (p : List ℕ) → begins_row rows p ≡ true → (q : List ℕ) × (s : Slots) × (slots_in rows (p ++ q) ≡ Some s) × (map to_ascii_uppercase q ≡ q)
+pub name_goes_on : (p : List ℕ) → begins_row rows p ≡ true → (q : List ℕ) × (s : Params) × (params_in rows (p ++ q) ≡ Some s) × (map to_ascii_uppercase q ≡ q)
 unfolding rows
-name_goes_on p e = begins_slots rows p refl e
+name_goes_on p e = begins_params rows p refl e
 
 -- the octet stands nowhere in the word
 abbrev pub lacks : ℕ → List ℕ → Bool
@@ -152,48 +152,48 @@ no_return w = begins_row_other 13 w rows refl
 
 -- ---- a name is read
 
-space-step : (w : List ℕ) (s : Slots) → slots_in rows w ≡ Some s → step (Word w) 32 ≡ leave s 32
+space-step : (w : List ℕ) (s : Params) → params_in rows w ≡ Some s → step (Word w) 32 ≡ leave s 32
 space-step w s e = let none = no_space w in rw (none, e) refl
 
-return-step : (w : List ℕ) (s : Slots) → slots_in rows w ≡ Some s → step (Word w) 13 ≡ leave s 13
+return-step : (w : List ℕ) (s : Params) → params_in rows w ≡ Some s → step (Word w) 13 ≡ leave s 13
 return-step w s e = let none = no_return w in rw (none, e) refl
 
-name_end : (w : List ℕ) (s : Slots) (x : ℕ) (t : List ℕ) → step (Word w) x ≡ leave s x → run (Word w) (x ∷ t) ≡ run (Between s) (x ∷ t)
+name_end : (w : List ℕ) (s : Params) (x : ℕ) (t : List ℕ) → step (Word w) x ≡ leave s x → run (Word w) (x ∷ t) ≡ run (Between s) (x ∷ t)
 name_end w s x t e = ap (λ (u : State). run u t) e
 
-named-run : (w : List ℕ) (s : Slots) (t : List ℕ) → slots_in rows w ≡ Some s → IsAfter s t → run (Word w) t ≡ run (Between s) t
+named-run : (w : List ℕ) (s : Params) (t : List ℕ) → params_in rows w ≡ Some s → IsAfter s t → run (Word w) t ≡ run (Between s) t
 named-run w LineEnd t e h = rw h (name_end w LineEnd 13 (10 ∷ []) (return-step w LineEnd e))
 named-run w MaybeText t e (inl h) = rw h (name_end w MaybeText 13 (10 ∷ []) (return-step w MaybeText e))
 named-run w MaybeText t e (inr h) = rw h.5 (name_end w MaybeText 32 (h.1 ++ h.2) (space-step w MaybeText e))
 named-run w (ThenText more) t e h = rw h.5 (name_end w (ThenText more) 32 (h.1 ++ h.2) (space-step w (ThenText more) e))
 named-run w ThenNumber t e h = rw h.4 (name_end w ThenNumber 32 (h.1 ++ 13 ∷ 10 ∷ []) (space-step w ThenNumber e))
 
-pub word-run : (name p : List ℕ) (s : Slots) (t : List ℕ) → slots_in rows (p ++ map to_ascii_uppercase name) ≡ Some s → IsAfter s t → run (Word p) (name ++ t) ≡ run (Between s) t
-word-run [] p s t e h = named-run p s t (ap (slots_in rows) (sym (append-nil p)) ∙ e) h
+pub word-run : (name p : List ℕ) (s : Params) (t : List ℕ) → params_in rows (p ++ map to_ascii_uppercase name) ≡ Some s → IsAfter s t → run (Word p) (name ++ t) ≡ run (Between s) t
+word-run [] p s t e h = named-run p s t (ap (params_in rows) (sym (append-nil p)) ∙ e) h
 word-run (x ∷ name) p s t e h =
     let next = p ++ to_ascii_uppercase x ∷ [] in
-    let again : slots_in rows (next ++ map to_ascii_uppercase name) ≡ Some s = ap (slots_in rows) (append_assoc p (to_ascii_uppercase x ∷ []) (map to_ascii_uppercase name)) ∙ e in
-    let on : begins_row rows next ≡ true = slots_begins rows next (map to_ascii_uppercase name) s again in
+    let again : params_in rows (next ++ map to_ascii_uppercase name) ≡ Some s = ap (params_in rows) (append_assoc p (to_ascii_uppercase x ∷ []) (map to_ascii_uppercase name)) ∙ e in
+    let on : begins_row rows next ≡ true = params_begins rows next (map to_ascii_uppercase name) s again in
     let once : step (Word p) x ≡ Word next = rw on refl in
     ap (λ (u : State). run u (name ++ t)) once ∙ word-run name next s t again h
 
 -- ---- arguments fill what a row asks
 
-pub data Fill : Slots → List Argument → Type 0 where
+pub data Fill : Params → List Argument → Type 0 where
   at_end : Fill LineEnd []
   without : Fill MaybeText []
   with_one : (v : List ℕ) → Fill MaybeText (Text v ∷ [])
-  then_text : (v : List ℕ) {s : Slots} {more : List Argument} → Fill s more → Fill (ThenText s) (Text v ∷ more)
+  then_text : (v : List ℕ) {s : Params} {more : List Argument} → Fill s more → Fill (ThenText s) (Text v ∷ more)
   then_figure : (n : ℕ) → Fill ThenNumber (Figure n ∷ [])
 
-pub fill_after : {s : Slots} {arguments : List Argument} (f : Fill s arguments) (t : List ℕ) → AreArguments arguments t → IsAfter s t
+pub fill_after : {s : Params} {arguments : List Argument} (f : Fill s arguments) (t : List ℕ) → AreArguments arguments t → IsAfter s t
 fill_after at_end t h = h
 fill_after without t h = inl h
 fill_after (with_one v) t h = inr (v, h.0, h.1, h.2, h.3, h.4)
 fill_after (then_text v f) t h = (v, h.0, h.1, h.2, fill_after f h.1 h.3, h.4)
 fill_after (then_figure n) t h = (n, h.0, h.2.0, h.2.1, h.4 ∙ ap (λ (u : List ℕ). 32 ∷ (h.0 ++ u)) h.3)
 
-pub after_fill : (s : Slots) (t : List ℕ) → IsAfter s t → (arguments : List Argument) × Fill s arguments × AreArguments arguments t
+pub after_fill : (s : Params) (t : List ℕ) → IsAfter s t → (arguments : List Argument) × Fill s arguments × AreArguments arguments t
 after_fill LineEnd t h = ([], at_end, h)
 after_fill MaybeText t (inl h) = ([], without, h)
 after_fill MaybeText t (inr h) = (Text h.0 ∷ [], with_one h.0, (h.1, h.2, h.3, h.4, h.5))
@@ -204,7 +204,7 @@ after_fill ThenNumber t h = (Figure h.0 ∷ [], then_figure h.0, (h.1, 13 ∷ 10
 
 -- a command's arguments fill the row of its name
 abbrev pub IsFilled : Form → Type 0
-IsFilled (Named word arguments) = (s : Slots) × (slots_in rows word ≡ Some s) × Fill s arguments
+IsFilled (Named word arguments) = (s : Params) × (params_in rows word ≡ Some s) × Fill s arguments
 IsFilled (Alone value) = Unit {0}
 
 pub filled : (c : Command) → IsFilled (form_of c)
@@ -234,10 +234,10 @@ abbrev Handles : Rows → Type 0
 Handles [] = Unit {0}
 Handles (row ∷ rs) = ((arguments : List Argument) → Fill row.1 arguments → Has row.0 arguments) × Handles rs
 
-handled : (rs : Rows) → Handles rs → (w : List ℕ) (s : Slots) (arguments : List Argument) → slots_in rs w ≡ Some s → Fill s arguments → Has w arguments
+handled : (rs : Rows) → Handles rs → (w : List ℕ) (s : Params) (arguments : List Argument) → params_in rs w ≡ Some s → Fill s arguments → Has w arguments
 handled [] hs w s arguments e f = absurd cc
 handled (row ∷ rs) hs w s arguments e f =
-    elim (slots_step (slots_in rs w) row.0 w s row.1 e) [
+    elim (params_step (params_in rs w) row.0 w s row.1 e) [
       | inl h ↦ subst (λ (u : List ℕ). Has u arguments) h.0 (hs.0 arguments (rw h.1 f))
       | inr h ↦ handled rs hs.1 w s arguments h f
     ]
@@ -262,7 +262,7 @@ of_noop arguments (with_one v) = (Noop (Some v), refl)
 of_space : (arguments : List Argument) → Fill (ThenText ThenNumber) arguments → Has (codes "HAVESPACE") arguments
 of_space arguments (then_text v (then_figure n)) = (HaveSpace v n, refl)
 
-pub named_command : (w : List ℕ) (s : Slots) (arguments : List Argument) → slots_in rows w ≡ Some s → Fill s arguments → Has w arguments
+pub named_command : (w : List ℕ) (s : Params) (arguments : List Argument) → params_in rows w ≡ Some s → Fill s arguments → Has w arguments
 unfolding rows
 named_command = handled rows (
   of_authenticate,

@@ -1,7 +1,7 @@
 -- Which octets stand inside literals, and how many do not.
 use Rattle.std.proofs.Common.{◌≡◌, ℕ, ◌+◌, ◌-◌, inl, inr, Bool, true, false, ◌==◌, cond, List, [], ◌∷◌, ◌++◌, Option, Some, None, refl, sym, ap, ◌∙◌, subst, arith, zero-add}
 use Rattle.std.proofs.lemmas.Bool.{cases_Bool, false≢true, false_from_ne_true}
-use Rattle.msproto.specs.Machine.{Slots, rows, slots_in, State, Word, Between, Opening, Quoted, Escaped, Brace, Count, Plus, Closed, Return, Body, Number, Digits, LineFeed, Whole, Dead, leave_named, literal_left, step, run, start, in_literal, weight}
+use Rattle.msproto.specs.Machine.{Params, rows, params_in, State, Word, Between, Opening, Quoted, Escaped, Brace, Count, Plus, Closed, Return, Body, Number, Digits, LineFeed, Whole, Dead, leave_named, literal_left, step, run, start, in_literal, weight}
 use Rattle.msproto.specs.Items.{IsInLiteral, Counts}
 use Rattle.msproto.proofs.Runs.{run-append}
 use Rattle.msproto.proofs.Names.{no_nul}
@@ -9,15 +9,15 @@ use Rattle.msproto.proofs.Law.{viable_live, live_viable}
 
 -- ---- any octet exactly inside a literal
 
-left_lives : (left : ℕ) (slots : Slots) → literal_left left slots ≡ Dead → ⊥
-left_lives left slots e = go (left == 0) e
+left_lives : (left : ℕ) (params : Params) → literal_left left params ≡ Dead → ⊥
+left_lives left params e = go (left == 0) e
   where
-    go : (b : Bool) → cond b (Between slots) (Body (left - 1) slots) ≡ Dead → ⊥
+    go : (b : Bool) → cond b (Between params) (Body (left - 1) params) ≡ Dead → ⊥
     go true e = cc
     go false e = cc
 
 literal_lives : (s : State) (x : ℕ) → in_literal s ≡ true → step s x ≡ Dead → ⊥
-literal_lives (Body left slots) x e d = left_lives left slots d
+literal_lives (Body left params) x e d = left_lives left params d
 literal_lives _ x e d = false≢true e
 
 pub literal_free : (pending : Bool) (text : List ℕ) → in_literal (run (start pending) text) ≡ true → IsInLiteral pending text
@@ -26,22 +26,22 @@ literal_free pending text e x =
     (λ dead. literal_lives (run (start pending) text) x e (sym (run-append (start pending) text (x ∷ [])) ∙ dead))
 
 -- a NUL kills each other state
-nul_named : (o : Option Slots) → leave_named o 0 ≡ Dead
+nul_named : (o : Option Params) → leave_named o 0 ≡ Dead
 nul_named None = refl
-nul_named (Some slots) = refl
+nul_named (Some params) = refl
 
 nul_dies : (s : State) → in_literal s ≡ false → step s 0 ≡ Dead
-nul_dies (Word p) e = let none = no_nul p in rw none (nul_named (slots_in rows p))
-nul_dies (Between slots) e = refl
-nul_dies (Opening slots) e = refl
-nul_dies (Quoted left slots) e = refl
-nul_dies (Escaped left slots) e = refl
-nul_dies (Brace slots) e = refl
-nul_dies (Count number slots) e = refl
-nul_dies (Plus number slots) e = refl
-nul_dies (Closed number slots) e = refl
-nul_dies (Return number slots) e = refl
-nul_dies (Body left slots) e = absurd cc
+nul_dies (Word p) e = let none = no_nul p in rw none (nul_named (params_in rows p))
+nul_dies (Between params) e = refl
+nul_dies (Opening params) e = refl
+nul_dies (Quoted left params) e = refl
+nul_dies (Escaped left params) e = refl
+nul_dies (Brace params) e = refl
+nul_dies (Count number params) e = refl
+nul_dies (Plus number params) e = refl
+nul_dies (Closed number params) e = refl
+nul_dies (Return number params) e = refl
+nul_dies (Body left params) e = absurd cc
 nul_dies Number e = refl
 nul_dies (Digits number) e = refl
 nul_dies LineFeed e = refl

@@ -9,10 +9,10 @@ use Rattle.msproto.specs.declared.commands.Command.{Command}
 use Rattle.msproto.specs.declared.commands.Command.TheVariants.{Capability, Noop, Logout, Authenticate, Unauthenticate, HaveSpace, PutScript, CheckScript, ListScripts, SetActive, GetScript, DeleteScript, RenameScript, Response}
 use Rattle.msproto.specs.Arguments.{Argument, inside, AreDigits, IsNumeral, IsString, AreArguments}
 use Rattle.msproto.specs.Commands.{Form, Named, Alone, form_of, IsFormed, IsSpelling}
-use Rattle.msproto.specs.Machine.{Slots, rows, slots_in, verbs, verb_in}
+use Rattle.msproto.specs.Machine.{Params, rows, params_in, verbs, verb_in}
 use Rattle.msproto.specs.Values.{with_octet, quoted_in, number_in, octets_in, literal_in, string_in, size_in, text_in, name_length, verb_command, command_in}
 use Rattle.msproto.proofs.Runs.{fold_grows}
-use Rattle.msproto.proofs.Names.{Rows, lacks, rows_lack, slots_step, filled, IsFilled}
+use Rattle.msproto.proofs.Names.{Rows, lacks, rows_lack, params_step, filled, IsFilled}
 
 -- ---- strings
 
@@ -96,20 +96,20 @@ read_back (Response text) rest = tt
 
 -- ---- names
 
-word_lacks : (rs : Rows) (x : ℕ) (w : List ℕ) (s : Slots) → rows_lack x rs ≡ true → slots_in rs w ≡ Some s → lacks x w ≡ true
+word_lacks : (rs : Rows) (x : ℕ) (w : List ℕ) (s : Params) → rows_lack x rs ≡ true → params_in rs w ≡ Some s → lacks x w ≡ true
 word_lacks [] x w s lack e = absurd cc
 word_lacks (row ∷ rs) x w s lack e =
     let parts = and_parts (lacks x row.0) (rows_lack x rs) lack in
-    elim (slots_step (slots_in rs w) row.0 w s row.1 e) [
+    elim (params_step (params_in rs w) row.0 w s row.1 e) [
       | inl h ↦ subst (λ (u : List ℕ). lacks x u ≡ true) h.0 parts.0
       | inr h ↦ word_lacks rs x w s parts.1 h
     ]
 
-named_lacks_space : (w : List ℕ) (s : Slots) → slots_in rows w ≡ Some s → lacks 32 w ≡ true
+named_lacks_space : (w : List ℕ) (s : Params) → params_in rows w ≡ Some s → lacks 32 w ≡ true
 unfolding rows
 named_lacks_space w s e = word_lacks rows 32 w s refl e
 
-named_lacks_return : (w : List ℕ) (s : Slots) → slots_in rows w ≡ Some s → lacks 13 w ≡ true
+named_lacks_return : (w : List ℕ) (s : Params) → params_in rows w ≡ Some s → lacks 13 w ≡ true
 unfolding rows
 named_lacks_return w s e = word_lacks rows 13 w s refl e
 
@@ -134,7 +134,7 @@ arguments_end (a ∷ more) rest h = rw h.4 refl
 
 formed_back : (pending : Bool) (form : Form) (c : Command) (text : List ℕ) → form ≡ form_of c → IsFilled form → ((rest : List ℕ) → IsRead form c rest) → IsFormed pending form text → command_in pending text ≡ Some c
 formed_back false (Named word arguments) c text e f back h =
-    let named : slots_in rows (map to_ascii_uppercase h.name) ≡ Some f.0 = ap (slots_in rows) h.named ∙ f.1 in
+    let named : params_in rows (map to_ascii_uppercase h.name) ≡ Some f.0 = ap (params_in rows) h.named ∙ f.1 in
     let stop : name_length (h.name ++ h.rest) ≡ length h.name =
     name_back h.name h.rest (named_lacks_space (map to_ascii_uppercase h.name) f.0 named) (named_lacks_return (map to_ascii_uppercase h.name) f.0 named) (arguments_end arguments h.rest h.filled) in
     ap (command_in false) h.written

@@ -5,7 +5,7 @@ use Rattle.std.specs.Char.{is_ascii_digit}
 use Rattle.std.proofs.lemmas.Bool.{cases_Bool, ne_eqb, leb-true, lt-ltb, and_parts, or_parts}
 use Rattle.octets.specs.Decimal.{with_digit}
 use Rattle.msproto.specs.Arguments.{inside, AreQuotable, AreDigits, IsNumeral, IsString}
-use Rattle.msproto.specs.Machine.{Slots, LineEnd, MaybeText, ThenText, ThenNumber, State, Between, Opening, Quoted, Brace, Count, Body, Number, Digits, Whole, Dead, longer, literal_left, step, run}
+use Rattle.msproto.specs.Machine.{Params, LineEnd, MaybeText, ThenText, ThenNumber, State, Between, Opening, Quoted, Brace, Count, Body, Number, Digits, Whole, Dead, longer, literal_left, step, run}
 use Rattle.msproto.proofs.Left.{IsAfter}
 
 pub run-append : (s : State) (a b : List ℕ) → run s (a ++ b) ≡ run (run s a) b
@@ -18,21 +18,21 @@ run_dead (x ∷ b) = run_dead b
 
 -- ---- quoted strings
 
-pub quoted-run : (v : List ℕ) (left : ℕ) (slots : Slots) (rest : List ℕ) → AreQuotable v → length (inside v) ≤ left → run (Quoted left slots) (inside v ++ 34 ∷ rest) ≡ run (Between slots) rest
-quoted-run [] left slots rest q short = refl
-quoted-run (x ∷ v) left slots rest q short =
+pub quoted-run : (v : List ℕ) (left : ℕ) (params : Params) (rest : List ℕ) → AreQuotable v → length (inside v) ≤ left → run (Quoted left params) (inside v ++ 34 ∷ rest) ≡ run (Between params) rest
+quoted-run [] left params rest q short = refl
+quoted-run (x ∷ v) left params rest q short =
     elim (cases_Bool (x == 34 || x == 92)) [
-      | inl e ↦ by_escape e (quoted-run v (left - 2) slots rest q.1)
-      | inr e ↦ by_plain e (quoted-run v (left - 1) slots rest q.1)
+      | inl e ↦ by_escape e (quoted-run v (left - 2) params rest q.1)
+      | inr e ↦ by_plain e (quoted-run v (left - 1) params rest q.1)
     ]
   where
-    by_escape : (x == 34 || x == 92) ≡ true → (length (inside v) ≤ left - 2 → run (Quoted (left - 2) slots) (inside v ++ 34 ∷ rest) ≡ run (Between slots) rest) → run (Quoted left slots) (inside (x ∷ v) ++ 34 ∷ rest) ≡ run (Between slots) rest
+    by_escape : (x == 34 || x == 92) ≡ true → (length (inside v) ≤ left - 2 → run (Quoted (left - 2) params) (inside v ++ 34 ∷ rest) ≡ run (Between params) rest) → run (Quoted left params) (inside (x ∷ v) ++ 34 ∷ rest) ≡ run (Between params) rest
     by_escape e ih =
         let long : suc (suc (length (inside v))) ≤ left = rw e at short in
         let two : nat_lt 1 left ≡ true = lt-ltb 1 left (omega arith) in
         rw (e, two, e) (ih (omega arith))
 
-    by_plain : (x == 34 || x == 92) ≡ false → (length (inside v) ≤ left - 1 → run (Quoted (left - 1) slots) (inside v ++ 34 ∷ rest) ≡ run (Between slots) rest) → run (Quoted left slots) (inside (x ∷ v) ++ 34 ∷ rest) ≡ run (Between slots) rest
+    by_plain : (x == 34 || x == 92) ≡ false → (length (inside v) ≤ left - 1 → run (Quoted (left - 1) params) (inside v ++ 34 ∷ rest) ≡ run (Between params) rest) → run (Quoted left params) (inside (x ∷ v) ++ 34 ∷ rest) ≡ run (Between params) rest
     by_plain e ih =
         let long : suc (length (inside v)) ≤ left = rw e at short in
         let one : nat_lt 0 left ≡ true = lt-ltb 0 left (omega arith) in
@@ -63,21 +63,21 @@ digits-run to by (d ∷ ds) n u are extra lt =
     no_cons : d ∷ ds ≡ [] → ⊥
     no_cons e = cc
 
-count_digit : (slots : Slots) (n d : ℕ) → is_ascii_digit d ≡ true → step (Count n slots) d ≡ longer (λ m. Count m slots) n d
-count_digit slots n d e =
+count_digit : (params : Params) (n d : ℕ) → is_ascii_digit d ≡ true → step (Count n params) d ≡ longer (λ m. Count m params) n d
+count_digit params n d e =
     let range = digit_range d e in
     let other : (d == 43) ≡ false = ne_eqb d 43 (λ i. absurd (omega (arith, i, range))) in
     rw (other, e) refl
 
 -- a literal's number takes its state to that number
-pub count_digits : (digits : List ℕ) (number : ℕ) (slots : Slots) (u : List ℕ) → IsNumeral number digits → number < 2 ^ 32 → run (Brace slots) (digits ++ u) ≡ run (Count number slots) u
-count_digits [] number slots u numeral lt = absurd numeral
-count_digits (d ∷ ds) number slots u numeral lt =
+pub count_digits : (digits : List ℕ) (number : ℕ) (params : Params) (u : List ℕ) → IsNumeral number digits → number < 2 ^ 32 → run (Brace params) (digits ++ u) ≡ run (Count number params) u
+count_digits [] number params u numeral lt = absurd numeral
+count_digits (d ∷ ds) number params u numeral lt =
     let extra : with_digit 0 d ≡ 0 → ds ≡ [] = λ e. numeral.1 (omega (arith, e, digit_range d numeral.0.0)) in
-    let once : step (Brace slots) d ≡ Count (with_digit 0 d) slots = rw numeral.0.0 refl in
+    let once : step (Brace params) d ≡ Count (with_digit 0 d) params = rw numeral.0.0 refl in
     ap (λ (s : State). run s (ds ++ u)) once
-    ∙ digits-run (λ n. Count n slots) (count_digit slots) ds (with_digit 0 d) u numeral.0.1 extra (omega (arith, numeral.2, lt))
-    ∙ ap (λ (n : ℕ). run (Count n slots) u) numeral.2
+    ∙ digits-run (λ n. Count n params) (count_digit params) ds (with_digit 0 d) u numeral.0.1 extra (omega (arith, numeral.2, lt))
+    ∙ ap (λ (n : ℕ). run (Count n params) u) numeral.2
 
 figure_digit : (n d : ℕ) → is_ascii_digit d ≡ true → step (Digits n) d ≡ longer (λ m. Digits m) n d
 figure_digit n d e =
@@ -87,29 +87,29 @@ figure_digit n d e =
 
 -- ---- literals
 
-pub left-suc : (n : ℕ) (slots : Slots) → literal_left (suc n) slots ≡ Body n slots
-left-suc n slots =
+pub left-suc : (n : ℕ) (params : Params) → literal_left (suc n) params ≡ Body n params
+left-suc n params =
     let some : (suc n == 0) ≡ false = ne_eqb (suc n) 0 (λ e. absurd (omega (arith, e))) in
     let less : suc n - 1 ≡ n = omega arith in
     rw (some, less) refl
 
-pub body-run : (v : List ℕ) (slots : Slots) (rest : List ℕ) → run (literal_left (length v) slots) (v ++ rest) ≡ run (Between slots) rest
-body-run [] slots rest = refl
-body-run (x ∷ v) slots rest = ap (λ (s : State). run s (x ∷ (v ++ rest))) (left-suc (length v) slots) ∙ body-run v slots rest
+pub body-run : (v : List ℕ) (params : Params) (rest : List ℕ) → run (literal_left (length v) params) (v ++ rest) ≡ run (Between params) rest
+body-run [] params rest = refl
+body-run (x ∷ v) params rest = ap (λ (s : State). run s (x ∷ (v ++ rest))) (left-suc (length v) params) ∙ body-run v params rest
 
-count-run : (digits value : List ℕ) (slots : Slots) (rest : List ℕ) → IsNumeral (length value) digits → length value < 2 ^ 32 → run (Brace slots) (digits ++ 43 ∷ 125 ∷ 13 ∷ 10 ∷ (value ++ rest)) ≡ run (Between slots) rest
-count-run digits value slots rest numeral lt =
-    count_digits digits (length value) slots (43 ∷ 125 ∷ 13 ∷ 10 ∷ (value ++ rest)) numeral lt ∙ body-run value slots rest
+count-run : (digits value : List ℕ) (params : Params) (rest : List ℕ) → IsNumeral (length value) digits → length value < 2 ^ 32 → run (Brace params) (digits ++ 43 ∷ 125 ∷ 13 ∷ 10 ∷ (value ++ rest)) ≡ run (Between params) rest
+count-run digits value params rest numeral lt =
+    count_digits digits (length value) params (43 ∷ 125 ∷ 13 ∷ 10 ∷ (value ++ rest)) numeral lt ∙ body-run value params rest
 
-pub string-run : (value first : List ℕ) (slots : Slots) (rest : List ℕ) → IsString value first → run (Opening slots) (first ++ rest) ≡ run (Between slots) rest
-string-run value first slots rest (inl q) =
-    ap (λ (t : List ℕ). run (Opening slots) (t ++ rest)) q.written
-    ∙ ap (run (Quoted 1024 slots)) (append_assoc (inside value) (34 ∷ []) rest)
-    ∙ quoted-run value 1024 slots rest q.allowed q.short
-string-run value first slots rest (inr l) =
-    ap (λ (t : List ℕ). run (Opening slots) (t ++ rest)) l.written
-    ∙ ap (run (Brace slots)) (append_assoc l.digits (43 ∷ 125 ∷ 13 ∷ 10 ∷ value) rest)
-    ∙ count-run l.digits value slots rest l.numeral l.short
+pub string-run : (value first : List ℕ) (params : Params) (rest : List ℕ) → IsString value first → run (Opening params) (first ++ rest) ≡ run (Between params) rest
+string-run value first params rest (inl q) =
+    ap (λ (t : List ℕ). run (Opening params) (t ++ rest)) q.written
+    ∙ ap (run (Quoted 1024 params)) (append_assoc (inside value) (34 ∷ []) rest)
+    ∙ quoted-run value 1024 params rest q.allowed q.short
+string-run value first params rest (inr l) =
+    ap (λ (t : List ℕ). run (Opening params) (t ++ rest)) l.written
+    ∙ ap (run (Brace params)) (append_assoc l.digits (43 ∷ 125 ∷ 13 ∷ 10 ∷ value) rest)
+    ∙ count-run l.digits value params rest l.numeral l.short
 
 -- ---- arguments
 
@@ -121,7 +121,7 @@ number-run number (d ∷ ds) numeral lt =
     ap (λ (s : State). run s (ds ++ 13 ∷ 10 ∷ [])) once
     ∙ digits-run (λ n. Digits n) figure_digit ds (with_digit 0 d) (13 ∷ 10 ∷ []) numeral.0.1 extra (omega (arith, numeral.2, lt))
 
-pub after-run : (slots : Slots) (t : List ℕ) → IsAfter slots t → run (Between slots) t ≡ Whole
+pub after-run : (params : Params) (t : List ℕ) → IsAfter params t → run (Between params) t ≡ Whole
 after-run LineEnd t h = rw h refl
 after-run MaybeText t (inl h) = rw h refl
 after-run MaybeText t (inr h) = rw h.5 (string-run h.0 h.1 LineEnd h.2 h.3 ∙ rw h.4 refl)

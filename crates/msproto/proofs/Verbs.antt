@@ -7,7 +7,7 @@ use Rattle.std.proofs.lemmas.Bool.{ne_eqb, or_left, or_right, and_parts, cases_o
 use Rattle.std.proofs.lemmas.List.{take_all, take_at, take_min, length_push, length-take}
 use Rattle.msproto.specs.declared.verb.Verb.{Verb}
 use Rattle.msproto.specs.declared.verb.Verb.TheVariants as verb
-use Rattle.msproto.specs.Machine.{word_of, slots_of, verbs, rows_of, rows, begins, begins_row, same_word, verb_in, slots_in, Word, Dead, leave, step}
+use Rattle.msproto.specs.Machine.{word_of, params_of, verbs, rows_of, rows, begins, begins_row, same_word, verb_in, params_in, Word, Dead, leave, step}
 use Rattle.msproto.proofs.Names.{begins_split}
 
 pub same_word_end : (wanted unread : List ℕ) → length unread ≡ 0 → (length wanted == 0) ≡ same_word wanted (map to_ascii_uppercase unread)
@@ -36,16 +36,16 @@ own_name verb.RenameScript = refl
 own_name verb.SetActive = refl
 own_name verb.Unauthenticate = refl
 
-pub slots_verb : (vs : List Verb) (w : List ℕ) → slots_in (rows_of vs) w ≡ option_map slots_of (verb_in vs w)
-slots_verb [] w = refl
-slots_verb (v ∷ vs) w = go (same_word (word_of v) w) (slots_verb vs w)
+pub params_verb : (vs : List Verb) (w : List ℕ) → params_in (rows_of vs) w ≡ option_map params_of (verb_in vs w)
+params_verb [] w = refl
+params_verb (v ∷ vs) w = go (same_word (word_of v) w) (params_verb vs w)
   where
-    go : (b : Bool) → slots_in (rows_of vs) w ≡ option_map slots_of (verb_in vs w) → cond b (Some (slots_of v)) (slots_in (rows_of vs) w) ≡ option_map slots_of (cond b (Some v) (verb_in vs w))
+    go : (b : Bool) → params_in (rows_of vs) w ≡ option_map params_of (verb_in vs w) → cond b (Some (params_of v)) (params_in (rows_of vs) w) ≡ option_map params_of (cond b (Some v) (verb_in vs w))
     go true more = refl
     go false more = more
 
-own_slots : (v : Verb) → slots_in rows (word_of v) ≡ Some (slots_of v)
-own_slots v = rw rows_are (slots_verb verbs (word_of v) ∙ ap (λ (o : Option Verb). option_map slots_of o) (own_name v))
+own_params : (v : Verb) → params_in rows (word_of v) ≡ Some (params_of v)
+own_params v = rw rows_are (params_verb verbs (word_of v) ∙ ap (λ (o : Option Verb). option_map params_of o) (own_name v))
 
 begins_found : (vs : List Verb) (w p : List ℕ) (v : Verb) → verb_in vs w ≡ Some v → begins p (word_of v) ≡ true → begins_row (rows_of vs) p ≡ true
 begins_found [] w p v e b = absurd cc
@@ -62,18 +62,18 @@ begins_verb v p e = rw rows_are (begins_found verbs (word_of v) p v (own_name v)
 
 abbrev none_below : List ℕ → ℕ → Bool
 none_below w zero = true
-none_below w (suc n) = is_none (slots_in rows (take n w)) && none_below w n
+none_below w (suc n) = is_none (params_in rows (take n w)) && none_below w n
 
 none_is : {A : Type 0} (o : Option A) → is_none o ≡ true → o ≡ None
 none_is None e = refl
 none_is (Some x) e = absurd cc
 
-none_at : (w : List ℕ) (m n : ℕ) → none_below w m ≡ true → n < m → slots_in rows (take n w) ≡ None
+none_at : (w : List ℕ) (m n : ℕ) → none_below w m ≡ true → n < m → params_in rows (take n w) ≡ None
 none_at w zero n e lt = absurd (omega (arith, lt))
 none_at w (suc m) n e lt =
-    let parts = and_parts (is_none (slots_in rows (take m w))) (none_below w m) e in
+    let parts = and_parts (is_none (params_in rows (take m w))) (none_below w m) e in
     elim (cases_order n m) [
-      | inl same ↦ rw same (none_is (slots_in rows (take m w)) parts.0)
+      | inl same ↦ rw same (none_is (params_in rows (take m w)) parts.0)
       | inr (inl below) ↦ none_at w m n parts.1 below
       | inr (inr above) ↦ absurd (omega (arith, lt, above))
     ]
@@ -106,8 +106,8 @@ word_more v letters x e =
     rw (front, on) refl
 
 -- the whole name is read
-pub word_end : (v : Verb) (x : ℕ) → begins_row rows (word_of v ++ to_ascii_uppercase x ∷ []) ≡ false → leave (slots_of v) x ≡ step (Word (word_of v)) x
-word_end v x e = rw (e, own_slots v) refl
+pub word_end : (v : Verb) (x : ℕ) → begins_row rows (word_of v ++ to_ascii_uppercase x ∷ []) ≡ false → leave (params_of v) x ≡ step (Word (word_of v)) x
+word_end v x e = rw (e, own_params v) refl
 
 -- a front of a name is no name
 pub word_dies : (v : Verb) (n x : ℕ) → n < length (word_of v) → begins_row rows (take n (word_of v) ++ to_ascii_uppercase x ∷ []) ≡ false → Dead ≡ step (Word (take n (word_of v))) x
@@ -123,7 +123,7 @@ in_word_more v u count n w x at cut e =
     let front : take n w ≡ take count (word_of v) = front_is count n w cut ∙ ap (λ (l : List ℕ). take count l) at in
     word_more u (take n w) x e ∙ ap (λ (l : List ℕ). step (Word l) x) front
 
-pub in_word_end : (v : Verb) (count n : ℕ) (w : List ℕ) (x : ℕ) → w ≡ word_of v → n ≡ min count (length w) → length (take n w) ≡ length w → begins_row rows (take n w ++ to_ascii_uppercase x ∷ []) ≡ false → leave (slots_of v) x ≡ step (Word (take count (word_of v))) x
+pub in_word_end : (v : Verb) (count n : ℕ) (w : List ℕ) (x : ℕ) → w ≡ word_of v → n ≡ min count (length w) → length (take n w) ≡ length w → begins_row rows (take n w ++ to_ascii_uppercase x ∷ []) ≡ false → leave (params_of v) x ≡ step (Word (take count (word_of v))) x
 in_word_end v count n w x at cut full e =
     let front : take n w ≡ take count (word_of v) = front_is count n w cut ∙ ap (λ (l : List ℕ). take count l) at in
     let long : length w ≤ n = omega (arith, full, length-take n w) in

@@ -10,33 +10,33 @@ use Rattle.msproto.specs.Arguments.{is_quotable}
 
 -- ---- what may still stand on a line
 
-pub data Slots : Type 0 where
-  LineEnd : Slots
-  MaybeText : Slots
-  ThenText : Slots → Slots
-  ThenNumber : Slots
+pub data Params : Type 0 where
+  LineEnd : Params
+  MaybeText : Params
+  ThenText : Params → Params
+  ThenNumber : Params
 
--- slots as a number, which a type that shows them is stored by
-abbrev pub slots_number : Slots → ℕ
-slots_number LineEnd = zero
-slots_number MaybeText = suc zero
-slots_number ThenNumber = suc (suc zero)
-slots_number (ThenText more) = suc (suc (suc (slots_number more)))
+-- params as a number, which a type that shows them is stored by
+abbrev pub params_number : Params → ℕ
+params_number LineEnd = zero
+params_number MaybeText = suc zero
+params_number ThenNumber = suc (suc zero)
+params_number (ThenText more) = suc (suc (suc (params_number more)))
 
-abbrev pub number_slots : ℕ → Slots
-number_slots zero = LineEnd
-number_slots (suc zero) = MaybeText
-number_slots (suc (suc zero)) = ThenNumber
-number_slots (suc (suc (suc n))) = ThenText (number_slots n)
+abbrev pub number_params : ℕ → Params
+number_params zero = LineEnd
+number_params (suc zero) = MaybeText
+number_params (suc (suc zero)) = ThenNumber
+number_params (suc (suc (suc n))) = ThenText (number_params n)
 
-pub slots_back : (slots : Slots) → number_slots (slots_number slots) ≡ slots
-slots_back LineEnd = refl
-slots_back MaybeText = refl
-slots_back ThenNumber = refl
-slots_back (ThenText more) = ap ThenText (slots_back more)
+pub params_back : (params : Params) → number_params (params_number params) ≡ params
+params_back LineEnd = refl
+params_back MaybeText = refl
+params_back ThenNumber = refl
+params_back (ThenText more) = ap ThenText (params_back more)
 
-abbrev pub slots_code : Coded Slots
-slots_code = code_by ℕ coded_ℕ slots_number number_slots slots_back
+abbrev pub params_code : Coded Params
+params_code = code_by ℕ coded_ℕ params_number number_params params_back
 
 -- the names of the commands
 abbrev pub word_of : Verb → List ℕ
@@ -55,20 +55,20 @@ word_of verb.SetActive = codes "SETACTIVE"
 word_of verb.Unauthenticate = codes "UNAUTHENTICATE"
 
 -- what may stand behind each
-abbrev pub slots_of : Verb → Slots
-slots_of verb.Authenticate = ThenText MaybeText
-slots_of verb.Capability = LineEnd
-slots_of verb.CheckScript = ThenText LineEnd
-slots_of verb.DeleteScript = ThenText LineEnd
-slots_of verb.GetScript = ThenText LineEnd
-slots_of verb.HaveSpace = ThenText ThenNumber
-slots_of verb.ListScripts = LineEnd
-slots_of verb.Logout = LineEnd
-slots_of verb.Noop = MaybeText
-slots_of verb.PutScript = ThenText (ThenText LineEnd)
-slots_of verb.RenameScript = ThenText (ThenText LineEnd)
-slots_of verb.SetActive = ThenText LineEnd
-slots_of verb.Unauthenticate = LineEnd
+abbrev pub params_of : Verb → Params
+params_of verb.Authenticate = ThenText MaybeText
+params_of verb.Capability = LineEnd
+params_of verb.CheckScript = ThenText LineEnd
+params_of verb.DeleteScript = ThenText LineEnd
+params_of verb.GetScript = ThenText LineEnd
+params_of verb.HaveSpace = ThenText ThenNumber
+params_of verb.ListScripts = LineEnd
+params_of verb.Logout = LineEnd
+params_of verb.Noop = MaybeText
+params_of verb.PutScript = ThenText (ThenText LineEnd)
+params_of verb.RenameScript = ThenText (ThenText LineEnd)
+params_of verb.SetActive = ThenText LineEnd
+params_of verb.Unauthenticate = LineEnd
 
 -- all of them
 abbrev pub verbs : List Verb
@@ -76,11 +76,11 @@ verbs = verb.Authenticate ∷ verb.Capability ∷ verb.CheckScript ∷ verb.Dele
     ∷ verb.Logout ∷ verb.Noop ∷ verb.PutScript ∷ verb.RenameScript ∷ verb.SetActive ∷ verb.Unauthenticate ∷ []
 
 -- names, and what may stand behind each
-abbrev pub rows_of : List Verb → List (List ℕ × Slots)
+abbrev pub rows_of : List Verb → List (List ℕ × Params)
 rows_of [] = []
-rows_of (verb ∷ more) = (word_of verb, slots_of verb) ∷ rows_of more
+rows_of (verb ∷ more) = (word_of verb, params_of verb) ∷ rows_of more
 
-unfoldable pub rows : List (List ℕ × Slots)
+unfoldable pub rows : List (List ℕ × Params)
 rows = rows_of verbs
 
 -- whether the word begins with the letters
@@ -90,7 +90,7 @@ begins (letter ∷ letters) [] = false
 begins (letter ∷ letters) (other ∷ word) = letter == other && begins letters word
 
 -- whether some row's name begins with the letters
-abbrev pub begins_row : List (List ℕ × Slots) → List ℕ → Bool
+abbrev pub begins_row : List (List ℕ × Params) → List ℕ → Bool
 begins_row [] letters = false
 begins_row (row ∷ more) letters = begins letters row.0 || begins_row more letters
 
@@ -102,9 +102,9 @@ same_word (letter ∷ letters) [] = false
 same_word (letter ∷ letters) (other ∷ word) = letter == other && same_word letters word
 
 -- what may stand behind the name
-abbrev pub slots_in : List (List ℕ × Slots) → List ℕ → Option Slots
-slots_in [] word = None
-slots_in (row ∷ more) word = cond (same_word row.0 word) (Some row.1) (slots_in more word)
+abbrev pub params_in : List (List ℕ × Params) → List ℕ → Option Params
+params_in [] word = None
+params_in (row ∷ more) word = cond (same_word row.0 word) (Some row.1) (params_in more word)
 
 -- the verb of this name
 abbrev pub verb_in : List Verb → List ℕ → Option Verb
@@ -117,22 +117,22 @@ pub data State : Type 0 where
   -- in a name, these letters of it read, in upper case
   Word : List ℕ → State
   -- behind a name or an argument
-  Between : Slots → State
+  Between : Params → State
   -- where a string begins
-  Opening : Slots → State
+  Opening : Params → State
   -- between quotation marks, where so many octets more may come
-  Quoted : ℕ → Slots → State
+  Quoted : ℕ → Params → State
   -- behind a backslash
-  Escaped : ℕ → Slots → State
+  Escaped : ℕ → Params → State
   -- behind the brace of a literal
-  Brace : Slots → State
+  Brace : Params → State
   -- in its number, behind the plus, behind the closing brace, behind the CR
-  Count : ℕ → Slots → State
-  Plus : ℕ → Slots → State
-  Closed : ℕ → Slots → State
-  Return : ℕ → Slots → State
+  Count : ℕ → Params → State
+  Plus : ℕ → Params → State
+  Closed : ℕ → Params → State
+  Return : ℕ → Params → State
   -- inside a literal, of which one octet and so many more are to come
-  Body : ℕ → Slots → State
+  Body : ℕ → Params → State
   -- where a number begins, and in a number
   Number : State
   Digits : ℕ → State
@@ -142,27 +142,27 @@ pub data State : Type 0 where
   Dead : State
 
 -- behind a space
-abbrev pub after_space : Slots → State
+abbrev pub after_space : Params → State
 after_space LineEnd = Dead
 after_space MaybeText = Opening LineEnd
 after_space (ThenText more) = Opening more
 after_space ThenNumber = Number
 
 -- behind a CR that ends a line
-abbrev pub after_return : Slots → State
+abbrev pub after_return : Params → State
 after_return LineEnd = LineFeed
 after_return MaybeText = LineFeed
 after_return (ThenText more) = Dead
 after_return ThenNumber = Dead
 
 -- behind a name or an argument and one octet
-abbrev pub leave : Slots → ℕ → State
-leave slots octet = cond (octet == 32) (after_space slots) (cond (octet == 13) (after_return slots) Dead)
+abbrev pub leave : Params → ℕ → State
+leave params octet = cond (octet == 32) (after_space params) (cond (octet == 13) (after_return params) Dead)
 
 -- behind a name, if it is one
-abbrev pub leave_named : Option Slots → ℕ → State
+abbrev pub leave_named : Option Params → ℕ → State
 leave_named None octet = Dead
-leave_named (Some slots) octet = leave slots octet
+leave_named (Some params) octet = leave params octet
 
 -- a number and one digit more, if no extra zero is in front and it stays below 2^32
 abbrev pub longer : (ℕ → State) → ℕ → ℕ → State
@@ -170,29 +170,29 @@ longer to number octet =
     cond (number == 0) Dead (cond (nat_lt (with_digit number octet) (2 ^ 32)) (to (with_digit number octet)) Dead)
 
 -- where so many octets of a literal are to come
-abbrev pub literal_left : ℕ → Slots → State
-literal_left left slots = cond (left == 0) (Between slots) (Body (left - 1) slots)
+abbrev pub literal_left : ℕ → Params → State
+literal_left left params = cond (left == 0) (Between params) (Body (left - 1) params)
 
 -- the state behind one octet more
 abbrev pub step : State → ℕ → State
 step (Word letters) octet =
     cond (begins_row rows (letters ++ to_ascii_uppercase octet ∷ [])) (Word (letters ++ to_ascii_uppercase octet ∷ []))
-    (leave_named (slots_in rows letters) octet)
-step (Between slots) octet = leave slots octet
-step (Opening slots) octet = cond (octet == 34) (Quoted 1024 slots) (cond (octet == 123) (Brace slots) Dead)
-step (Quoted left slots) octet =
-    cond (octet == 34) (Between slots)
-    (cond (octet == 92) (cond (nat_lt 1 left) (Escaped (left - 2) slots) Dead)
-    (cond (is_quotable octet && nat_lt 0 left) (Quoted (left - 1) slots) Dead))
-step (Escaped left slots) octet = cond (octet == 34 || octet == 92) (Quoted left slots) Dead
-step (Brace slots) octet = cond (is_ascii_digit octet) (Count (with_digit 0 octet) slots) Dead
-step (Count number slots) octet =
-    cond (octet == 43) (Plus number slots)
-    (cond (is_ascii_digit octet) (longer (λ n. Count n slots) number octet) Dead)
-step (Plus number slots) octet = cond (octet == 125) (Closed number slots) Dead
-step (Closed number slots) octet = cond (octet == 13) (Return number slots) Dead
-step (Return number slots) octet = cond (octet == 10) (literal_left number slots) Dead
-step (Body left slots) octet = literal_left left slots
+    (leave_named (params_in rows letters) octet)
+step (Between params) octet = leave params octet
+step (Opening params) octet = cond (octet == 34) (Quoted 1024 params) (cond (octet == 123) (Brace params) Dead)
+step (Quoted left params) octet =
+    cond (octet == 34) (Between params)
+    (cond (octet == 92) (cond (nat_lt 1 left) (Escaped (left - 2) params) Dead)
+    (cond (is_quotable octet && nat_lt 0 left) (Quoted (left - 1) params) Dead))
+step (Escaped left params) octet = cond (octet == 34 || octet == 92) (Quoted left params) Dead
+step (Brace params) octet = cond (is_ascii_digit octet) (Count (with_digit 0 octet) params) Dead
+step (Count number params) octet =
+    cond (octet == 43) (Plus number params)
+    (cond (is_ascii_digit octet) (longer (λ n. Count n params) number octet) Dead)
+step (Plus number params) octet = cond (octet == 125) (Closed number params) Dead
+step (Closed number params) octet = cond (octet == 13) (Return number params) Dead
+step (Return number params) octet = cond (octet == 10) (literal_left number params) Dead
+step (Body left params) octet = literal_left left params
 step Number octet = cond (is_ascii_digit octet) (Digits (with_digit 0 octet)) Dead
 step (Digits number) octet =
     cond (octet == 13) LineFeed (cond (is_ascii_digit octet) (longer (λ n. Digits n) number octet) Dead)
@@ -214,7 +214,7 @@ start true = Opening LineEnd
 
 -- the next octet stands inside a literal
 abbrev pub in_literal : State → Bool
-in_literal (Body left slots) = true
+in_literal (Body left params) = true
 in_literal _ = false
 
 -- a command ends here
@@ -229,7 +229,7 @@ is_dead _ = false
 
 -- an LF here begins a literal that is too large
 abbrev pub is_large : State → Bool
-is_large (Return number slots) = nat_lt 1048576 number
+is_large (Return number params) = nat_lt 1048576 number
 is_large _ = false
 
 -- how many octets outside literals the next octet is
@@ -238,24 +238,24 @@ weight state = cond (in_literal state) 0 1
 
 -- ---- how many octets of literals may still come, where no literal is too large
 
-abbrev pub slots_room : Slots → ℕ
-slots_room LineEnd = 0
-slots_room MaybeText = 1048576
-slots_room (ThenText more) = 1048576 + slots_room more
-slots_room ThenNumber = 0
+abbrev pub params_room : Params → ℕ
+params_room LineEnd = 0
+params_room MaybeText = 1048576
+params_room (ThenText more) = 1048576 + params_room more
+params_room ThenNumber = 0
 
 abbrev pub room : State → ℕ
 room (Word letters) = 2097152
-room (Between slots) = slots_room slots
-room (Opening slots) = 1048576 + slots_room slots
-room (Quoted left slots) = slots_room slots
-room (Escaped left slots) = slots_room slots
-room (Brace slots) = 1048576 + slots_room slots
-room (Count number slots) = 1048576 + slots_room slots
-room (Plus number slots) = 1048576 + slots_room slots
-room (Closed number slots) = 1048576 + slots_room slots
-room (Return number slots) = 1048576 + slots_room slots
-room (Body left slots) = left + 1 + slots_room slots
+room (Between params) = params_room params
+room (Opening params) = 1048576 + params_room params
+room (Quoted left params) = params_room params
+room (Escaped left params) = params_room params
+room (Brace params) = 1048576 + params_room params
+room (Count number params) = 1048576 + params_room params
+room (Plus number params) = 1048576 + params_room params
+room (Closed number params) = 1048576 + params_room params
+room (Return number params) = 1048576 + params_room params
+room (Body left params) = left + 1 + params_room params
 room Number = 0
 room (Digits number) = 0
 room LineFeed = 0

@@ -3,8 +3,8 @@ use Rattle.std.specs.Prelude.{◌≡◌, ℕ, ◌+◌, Bool, true, false, ◌&&�
 use Rattle.msproto.specs.Arguments.{inside, is_quotable}
 use Rattle.msproto.specs.declared.replies.Line.{Line}
 use Rattle.msproto.specs.declared.replies.Line.TheVariants as line
-use Rattle.msproto.specs.declared.replies.Word.{Word}
-use Rattle.msproto.specs.declared.replies.Word.TheVariants as word
+use Rattle.msproto.specs.declared.replies.Status.{Status}
+use Rattle.msproto.specs.declared.replies.Status.TheVariants as status
 use Rattle.msproto.specs.declared.replies.Code.{Code}
 use Rattle.msproto.specs.declared.replies.Code.TheVariants as code
 use Rattle.msproto.specs.declared.replies.Reply.{Reply}
@@ -65,12 +65,15 @@ code_spelled (Some code.Active) = codes " (ACTIVE)"
 code_spelled (Some code.AlreadyExists) = codes " (ALREADYEXISTS)"
 code_spelled (Some code.TryLater) = codes " (TRYLATER)"
 
+abbrev pub word_of : Status → List ℕ
+word_of status.Ok = codes "OK"
+word_of status.No = codes "NO"
+word_of status.Bye = codes "BYE"
+
 -- a word, a code in parentheses and a text, where there are; without a word there is no last line
-abbrev pub last_spelled : Word → Option Code → Option (List ℕ) → List ℕ
-last_spelled word.Nothing code text = []
-last_spelled word.Ok code text = codes "OK" ++ (code_spelled code ++ (after_space text ++ end))
-last_spelled word.No code text = codes "NO" ++ (code_spelled code ++ (after_space text ++ end))
-last_spelled word.Bye code text = codes "BYE" ++ (code_spelled code ++ (after_space text ++ end))
+abbrev pub last_spelled : Option Status → Option Code → Option (List ℕ) → List ℕ
+last_spelled None code text = []
+last_spelled (Some status) code text = word_of status ++ (code_spelled code ++ (after_space text ++ end))
 
 -- an answer's octets
 abbrev pub spelled : Reply → List ℕ

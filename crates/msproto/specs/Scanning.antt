@@ -1,5 +1,5 @@
 -- The first item of a stream as a function of the stream, for those who compute with it.
-use Rattle.std.specs.Prelude.{ℕ, ◌+◌, Bool, ◌||◌, ◌&&◌, ◌==◌, cond, nat_lt, List, fold}
+use Rattle.std.specs.Prelude.{◌≡◌, ℕ, ◌+◌, Bool, true, false, ◌||◌, ◌&&◌, ◌==◌, cond, nat_lt, List, [], ◌∷◌, fold}
 use Rattle.msproto.specs.Machine.{State, start, step, weight, is_large, is_whole, is_dead, Body}
 use Rattle.msproto.specs.declared.items.Reach.{Reach}
 use Rattle.msproto.specs.declared.items.Reach.TheVariants.{Need, Command, Bad, TooBig}
@@ -37,5 +37,44 @@ reach_of pending stream = found (scanned pending stream)
 
 -- how many octets of a literal come next
 abbrev pub literal_rest : Scanned → ℕ
-literal_rest (Open (Body left slots) outside used) = left + 1
+literal_rest (Open (Body left params) outside used) = left + 1
 literal_rest _ = 0
+
+-- ---- a scan of a stream that comes in pieces
+
+-- what a scan keeps: what is known of the octets that it took, and how many they are
+pub record ScanView : Type 0 where
+  pub known : Scanned
+  pub looked : ℕ
+
+-- before the first octet
+abbrev pub new_scan : Bool → ScanView
+new_scan pending = record { known = fresh pending; looked = 0 }
+
+-- behind one octet more
+abbrev pub fed : ScanView → ℕ → ScanView
+fed scan octet = record { known = turned scan.known octet; looked = scan.looked + 1 }
+
+-- what came first in the octets so far
+abbrev pub reached : ScanView → Reach
+reached scan = found scan.known
+
+-- whether something came first
+abbrev pub is_reached : Reach → Bool
+is_reached Need = false
+is_reached _ = true
+
+-- behind the octets of a piece, which are taken as long as nothing came first
+abbrev pub fed_until : ScanView → List ℕ → ScanView
+fed_until scan [] = scan
+fed_until scan (octet ∷ rest) = cond (is_reached (reached scan)) scan (fed_until (fed scan octet) rest)
+
+-- an item that came first ends with the last octet that was taken
+abbrev pub EndsAt : Reach → ℕ → Type 0
+EndsAt (Command used) looked = used ≡ looked
+EndsAt (Bad used) looked = used ≡ looked
+EndsAt _ looked = Unit {0}
+
+-- the scan stands for the octets: a new one for none, and one that took an octet more for those before and that octet
+abbrev pub StandsFor : Bool → ScanView → List ℕ → Type 0
+StandsFor pending scan text = scan ≡ fold fed (new_scan pending) text

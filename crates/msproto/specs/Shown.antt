@@ -3,8 +3,8 @@ use Rattle.std.specs.Prelude.{Bool, List, None, Option, Some, [], cond, drop, fa
 use Rattle.std.specs.Char.{to_ascii_uppercase, is_ascii_digit}
 use Rattle.octets.specs.Decimal.{with_digit}
 use Rattle.msproto.specs.declared.verb.Verb.{Verb}
-use Rattle.msproto.specs.declared.verb.Slots.{Slots}
-use Rattle.msproto.specs.declared.verb.Slots.TheVariants as slots
+use Rattle.msproto.specs.declared.verb.Params.{Params}
+use Rattle.msproto.specs.declared.verb.Params.TheVariants as params
 use Rattle.msproto.specs.declared.state.State.{State}
 use Rattle.msproto.specs.declared.state.State.TheVariants as state
 use Rattle.msproto.specs.Arguments.{is_quotable}
@@ -14,28 +14,28 @@ use Rattle.msproto.specs.declared.items.Reach.TheVariants as reach
 use Rattle.msproto.specs.Scanning.{Scanned, Open, Found}
 
 -- what may still stand on a line
-abbrev pub slots_shown : Slots → machine.Slots
-slots_shown slots.LineEnd = machine.LineEnd
-slots_shown slots.MaybeText = machine.MaybeText
-slots_shown slots.Text = machine.ThenText machine.LineEnd
-slots_shown slots.TextMaybeText = machine.ThenText machine.MaybeText
-slots_shown slots.TwoTexts = machine.ThenText (machine.ThenText machine.LineEnd)
-slots_shown slots.TextNumber = machine.ThenText machine.ThenNumber
-slots_shown slots.Number = machine.ThenNumber
+abbrev pub params_shown : Params → machine.Params
+params_shown params.LineEnd = machine.LineEnd
+params_shown params.MaybeText = machine.MaybeText
+params_shown params.Text = machine.ThenText machine.LineEnd
+params_shown params.TextMaybeText = machine.ThenText machine.MaybeText
+params_shown params.TwoTexts = machine.ThenText (machine.ThenText machine.LineEnd)
+params_shown params.TextNumber = machine.ThenText machine.ThenNumber
+params_shown params.Number = machine.ThenNumber
 
 -- the state: letters of a name are kept as a verb that begins with them and how many they are
 abbrev pub shown : State → machine.State
 shown (state.Word verb count) = machine.Word (take count (machine.word_of verb))
-shown (state.Between slots) = machine.Between (slots_shown slots)
-shown (state.Opening slots) = machine.Opening (slots_shown slots)
-shown (state.Quoted left slots) = machine.Quoted left (slots_shown slots)
-shown (state.Escaped left slots) = machine.Escaped left (slots_shown slots)
-shown (state.Brace slots) = machine.Brace (slots_shown slots)
-shown (state.Count number slots) = machine.Count number (slots_shown slots)
-shown (state.Plus number slots) = machine.Plus number (slots_shown slots)
-shown (state.Closed number slots) = machine.Closed number (slots_shown slots)
-shown (state.Return number slots) = machine.Return number (slots_shown slots)
-shown (state.Body left slots) = machine.Body left (slots_shown slots)
+shown (state.Between params) = machine.Between (params_shown params)
+shown (state.Opening params) = machine.Opening (params_shown params)
+shown (state.Quoted left params) = machine.Quoted left (params_shown params)
+shown (state.Escaped left params) = machine.Escaped left (params_shown params)
+shown (state.Brace params) = machine.Brace (params_shown params)
+shown (state.Count number params) = machine.Count number (params_shown params)
+shown (state.Plus number params) = machine.Plus number (params_shown params)
+shown (state.Closed number params) = machine.Closed number (params_shown params)
+shown (state.Return number params) = machine.Return number (params_shown params)
+shown (state.Body left params) = machine.Body left (params_shown params)
 shown state.Number = machine.Number
 shown (state.Digits number) = machine.Digits number
 shown state.LineFeed = machine.LineFeed
@@ -87,14 +87,14 @@ letters_read verb count = min count (length (machine.word_of verb))
 -- how many octets in front leave the line in the same name, between the same quotation marks, or on the same bad line
 abbrev pub skimmed : State → List ℕ → ℕ
 skimmed (state.Word verb count) octets = spelling (drop (letters_read verb count) (machine.word_of verb)) octets
-skimmed (state.Quoted left slots) octets = passing is_plain (take left octets)
+skimmed (state.Quoted left params) octets = passing is_plain (take left octets)
 skimmed state.Dead octets = passing is_inner octets
 skimmed _ octets = zero
 
 -- the state behind so many of these
 abbrev pub behind : State → ℕ → machine.State
 behind (state.Word verb count) more = machine.Word (take (letters_read verb count + more) (machine.word_of verb))
-behind (state.Quoted left slots) more = machine.Quoted (left - more) (slots_shown slots)
+behind (state.Quoted left params) more = machine.Quoted (left - more) (params_shown params)
 behind state more = shown state
 
 -- ---- a scan
@@ -116,6 +116,6 @@ ending state outside used octet =
 -- ---- verbs
 
 -- a verb of these rows whose name begins with the letters and this one, or none where none does
-abbrev pub IsFurther : List (List ℕ × machine.Slots) → List ℕ → ℕ → Option Verb → Type 0
-IsFurther rows letters letter None = machine.begins_row rows (letters ++ letter ∷ []) ≡ false
-IsFurther rows letters letter (Some verb) = machine.begins (letters ++ letter ∷ []) (machine.word_of verb) ≡ true
+abbrev pub IsExtension : List (List ℕ × machine.Params) → List ℕ → ℕ → Option Verb → Type 0
+IsExtension rows letters letter None = machine.begins_row rows (letters ++ letter ∷ []) ≡ false
+IsExtension rows letters letter (Some verb) = machine.begins (letters ++ letter ∷ []) (machine.word_of verb) ≡ true

@@ -7,7 +7,7 @@ ghost use Rattle.msproto.specs.declared.items.Reach.TheVariants as reach;
 ghost use Rattle.msproto.specs.Items.{IsInLiteral, Reaches, Gives};
 ghost use Rattle.msproto.specs.Machine.{run, start, in_literal};
 ghost use Rattle.msproto.specs.Scanning.{reach_of};
-ghost use Rattle.msproto.specs.Values.{item_of};
+ghost use Rattle.msproto.specs.Values.{item_of, item_at as item_at_of};
 
 use crate::commands::Command;
 use crate::reading;
@@ -49,19 +49,7 @@ pub fn extent(buffer: &[u8], pending: bool) -> Reach
     ensures item { Reaches pending result buffer.now }
 {
     let mut scan = Scan::new(pending);
-    let mut rest = buffer;
-    while let Reach::Need = scan.state() {
-        let count = scan.skim(rest);
-        if count > 0 {
-            rest = &rest[count..];
-            continue;
-        }
-        let Some((octet, more)) = rest.split_first() else {
-            return Reach::Need;
-        };
-        scan.turn(*octet);
-        rest = more;
-    }
+    scan.feed(buffer);
     scan.state()
 }
 
@@ -73,13 +61,29 @@ pub fn first(alloc: Global, buffer: &[u8], pending: bool) -> Result<Item, AllocE
     ensures value { IfOk result (λ item. item ≡ item_of pending buffer.now) }
     ensures item { IfOk result (λ item. Gives pending item buffer.now) }
 {
-    read_first(alloc, buffer, pending)
+    item_at(alloc, buffer, pending, extent(buffer, pending))
 }
 
-fn read_first(alloc: Global, buffer: &[u8], pending: bool) -> Result<Item, AllocError>
-    ensures { IfOk result (λ item. item ≡ item_of pending buffer.now) }
+/// The same where a scan has found what comes first: the octets are not scanned again, and of them only a command's are
+/// read, once, for its value.
+pub fn item_at(
+    alloc: Global,
+    buffer: &[u8],
+    pending: bool,
+    reach: Reach,
+) -> Result<Item, AllocError>
+    requires { Reaches pending reach buffer.now }
+    ensures value { IfOk result (λ item. item ≡ item_of pending buffer.now) }
+    ensures item { IfOk result (λ item. Gives pending item buffer.now) }
 {
-    Ok(match extent(buffer, pending) {
+    read_at(alloc, buffer, pending, reach)
+}
+
+fn read_at(alloc: Global, buffer: &[u8], pending: bool, reach: Reach) -> Result<Item, AllocError>
+    requires { Reaches pending reach buffer.now }
+    ensures { IfOk result (λ item. item ≡ item_at_of pending buffer.now reach) }
+{
+    Ok(match reach {
         Reach::Need => Item::Need,
         Reach::Command(used) => match reading::command(alloc, &buffer[..used], pending)? {
             Some(command) => Item::Command(command, used),

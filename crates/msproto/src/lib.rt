@@ -5,15 +5,13 @@ pub mod commands;
 pub mod items;
 mod reading;
 pub mod replies;
-mod scanner;
+pub mod scanner;
 mod spelling;
 mod state;
 mod verb;
 
 pub use commands::Command;
-pub use items::{Item, Reach, extent, first};
-pub use replies::{Code, Line, Reply, Word};
+pub use items::{Item, Reach, extent, first, item_at};
+pub use replies::{Code, Line, Reply, Status};
+pub use scanner::Scan;
 pub use spelling::spell;
-
-#[cfg(test)]
-mod tests;

@@ -3,13 +3,13 @@ use octets::{ListOf, Octets};
 
 /// An answer: the lines before the last one, and the last one's parts (RFC 5804, section 1.3).
 ///
-/// With the word `Nothing` there is no last line, and code and text aren't written.
+/// Without a word there is no last line, and code and text aren't written.
 #[derive(Drop)]
 pub struct Reply {
     /// The lines before the last one.
     pub lines: ListOf<Line>,
-    /// The last line's word.
-    pub word: Word,
+    /// The last line's word, where there is a last line.
+    pub word: Option<Status>,
     /// What the last line says for programs.
     pub code: Option<Code>,
     /// What the last line says for people.
@@ -18,15 +18,13 @@ pub struct Reply {
 
 /// The first word of an answer's last line (RFC 5804, sections 1.2 and 1.3).
 #[derive(Clone, Copy)]
-pub enum Word {
+pub enum Status {
     /// It was done.
     Ok,
     /// It was not.
     No,
     /// It was not, and the server closes the connection.
     Bye,
-    /// No last line.
-    Nothing,
 }
 
 /// A line before the last one.

@@ -1,8 +1,9 @@
 //! A scan that looks for the end of the first item, octet by octet.
-ghost use Rattle.std.specs.Prelude.{◌≡◌, ℕ, ◌+◌, ◌-◌, ◌≤◌, List, length, fold, take};
+ghost use Rattle.std.specs.Prelude.{◌≡◌, ℕ, ◌+◌, ◌-◌, ◌<◌, ◌≤◌, ◌++◌, ◌∷◌, [], Bool, List, length, fold, take};
 ghost use Rattle.msproto.specs.declared.items.Reach.TheVariants.{Need};
+ghost use Rattle.msproto.specs.Items.{Reaches};
 ghost use Rattle.msproto.specs.Machine as m;
-ghost use Rattle.msproto.specs.Scanning.{fresh, turned, found, literal_rest};
+ghost use Rattle.msproto.specs.Scanning.{reached, fed, fed_until, literal_rest, reach_of, EndsAt, StandsFor};
 ghost use Rattle.msproto.specs.Shown as s;
 
 use crate::items::Reach;
@@ -15,119 +16,180 @@ const MOST_OUTSIDE: usize = 8192;
 /// The largest literal, in octets.
 const LARGEST_LITERAL: u32 = 1_048_576;
 
-/// What is known of the octets so far: where their line stands, how many stand outside literals and how many
-/// there are, or what came first. Contracts see that. It takes no memory.
+/// A scan of a stream that comes in pieces: what came first in the octets so far, and how many were looked at.
+///
+/// It stands for the octets that it took since `new`, and keeps none of them: where their line stands, and two numbers.
+/// No call takes memory. What came first stays: octets are taken only as long as nothing did.
 #[derive(Drop)]
 pub struct Scan {
     line: State,
     outside: usize,
-    used: usize,
+    looked: usize,
     reach: Reach,
 }
 
 impl Model for Scan {
-    ghost use Rattle.std.specs.Prelude.{◌+◌, ◌≤◌};
-    ghost use Rattle.msproto.specs.Scanning.{Scanned};
+    ghost use Rattle.std.specs.Prelude.{◌≡◌, ◌+◌, ◌≤◌};
+    ghost use Rattle.msproto.specs.declared.items.Reach.TheVariants.{Need};
+    ghost use Rattle.msproto.specs.Scanning.{ScanView, EndsAt};
     ghost use Rattle.msproto.specs.Machine.{room};
     ghost use Rattle.msproto.specs.Shown.{shown, scan_shown};
 
-    ghost Value = { Scanned };
+    ghost Value = { ScanView };
 
     ghost use Rattle.std.specs.Coded.{codes};
-    ghost use Rattle.msproto.specs.Machine.{slots_code};
+    ghost use Rattle.msproto.specs.Machine.{params_code};
 
-    ghost coded = { Prim.hlevel (codes, slots_code) };
+    ghost coded = { Prim.hlevel (codes, params_code) };
 
-    ghost view = { λ scan. scan_shown scan.line scan.outside scan.used scan.reach };
+    ghost view = { λ scan. record { known = scan_shown scan.line scan.outside scan.looked scan.reach; looked = scan.looked } };
 
-    ghost invariant = { λ scan. (scan.outside ≤ 8192)
-        × (scan.used + room (shown scan.line) ≤ scan.outside + 2097152) };
+    ghost invariant = { λ scan. (scan.outside ≤ 8192) × (scan.looked ≤ 2105345)
+        × (scan.reach ≡ Need → scan.looked + room (shown scan.line) ≤ scan.outside + 2097152)
+        × EndsAt scan.reach scan.looked };
 }
 
 impl Scan {
     /// Before the first octet; while a challenge is pending the item is one string.
-    pub(crate) fn new(pending: bool) -> Scan
-        ensures { result ≡ fresh pending }
+    pub fn new(pending: bool) -> Scan
+        ensures { StandsFor pending result [] }
     {
         Scan {
             line: State::start(pending),
             outside: 0,
-            used: 0,
+            looked: 0,
             reach: Reach::Need,
         }
     }
 
     /// Takes one octet more. Nothing may have come first yet: `state` tells.
-    pub(crate) fn turn(&mut self, octet: u8)
-        requires { found self.old ≡ Need }
-        ensures { self.new ≡ turned self.old octet }
+    pub fn turn(&mut self, octet: u8)
+        requires { reached self.old ≡ Need }
+        ensures taken { self.new ≡ fed self.old octet }
+        ensures stands { (pending : Bool) (text : List ℕ) → StandsFor pending self.old text → StandsFor pending self.new (text ++ octet ∷ []) }
     {
         let outside = self.outside + weight(self.line);
-        let used = self.used + 1;
+        let looked = self.looked + 1;
         let next = self.line.step(octet);
-        match ending(self.line, next, octet, outside, used) {
+        match ending(self.line, next, octet, outside, looked) {
             Reach::Need => {
                 self.line = next;
                 self.outside = outside;
-                self.used = used;
+                self.looked = looked;
             }
-            reach => self.reach = reach,
+            reach => {
+                self.reach = reach;
+                self.looked = looked;
+            }
         }
     }
 
-    /// Takes so many octets of a literal, whatever they are.
-    pub(crate) fn pass(&mut self, count: usize)
-        requires { count ≤ literal_rest self.old }
-        ensures { (piece : List ℕ) → length piece ≡ count → self.new ≡ fold turned self.old piece }
-    {
-        if let State::Body(left, slots) = self.line {
-            self.used += count;
-            self.line = if count > left as usize {
-                State::Between(slots)
-            } else {
-                State::Body(left - count as u32, slots)
-            };
-        }
-    }
-
-    /// Takes the octets in front that end nothing and leave the line where it stands: those of a name, of a literal,
-    /// plain ones between quotation marks, and those of a bad line before its LF. Gives how many. Nothing may have
-    /// come first yet, and nothing did then.
-    pub(crate) fn skim(&mut self, octets: &[u8]) -> usize
-        requires { found self.old ≡ Need }
+    /// Takes the octets of a piece in turn until something comes first, and gives how many it took: all of them where
+    /// nothing did. Octets that came later are not looked at, nor any where something had come first already.
+    ///
+    /// Time is linear in the octets taken that stand outside literals, each of which is looked at once, or twice where
+    /// it ends a run that is taken in one step; those inside literals are counted alone.
+    pub fn feed(&mut self, octets: &[u8]) -> usize
         ensures within { result ≤ length octets.now }
-        ensures taken { self.new ≡ fold turned self.old (take result octets.now) }
-        ensures still { found self.new ≡ Need }
+        ensures until { self.new ≡ fed_until self.old octets.now }
+        ensures taken { self.new ≡ fold fed self.old (take result octets.now) }
+        ensures whole { reached self.new ≡ Need → result ≡ length octets.now }
+        ensures before { (count : ℕ) → count < result → reached (fold fed self.old (take count octets.now)) ≡ Need }
+        ensures stands { (pending : Bool) (text : List ℕ) → StandsFor pending self.old text → StandsFor pending self.new (text ++ take result octets.now) }
+    {
+        let mut taken = 0;
+        while let Reach::Need = self.state() {
+            let count = self.feed_some(&octets[taken..]);
+            if count == 0 {
+                return taken;
+            }
+            taken += count;
+        }
+        taken
+    }
+
+    /// What came first in the octets so far: `Need` where nothing did yet.
+    pub fn state(&self) -> Reach
+        ensures reached { result ≡ reached self.now }
+        ensures value { (pending : Bool) (text : List ℕ) → StandsFor pending self.now text → result ≡ reach_of pending text }
+        ensures item { (pending : Bool) (text : List ℕ) → StandsFor pending self.now text → Reaches pending result text }
+        ensures ends { EndsAt result self.now.looked }
+    {
+        self.reach
+    }
+
+    /// How many octets the scan took. No item is so long that this could come near the greatest number.
+    pub fn looked(&self) -> u64
+        ensures value { result ≡ self.now.looked }
+        ensures count { (pending : Bool) (text : List ℕ) → StandsFor pending self.now text → result ≡ length text }
+    {
+        self.looked as u64
+    }
+
+    // Takes a run of octets in one step, or else one octet; none where there is none.
+    fn feed_some(&mut self, octets: &[u8]) -> usize
+        requires { reached self.old ≡ Need }
+        ensures within { result ≤ length octets.now }
+        ensures taken { self.new ≡ fold fed self.old (take result octets.now) }
+        ensures none { result ≡ 0 → length octets.now ≡ 0 }
+        ensures before { (count : ℕ) → count < result → reached (fold fed self.old (take count octets.now)) ≡ Need }
+    {
+        let count = self.feed_run(octets);
+        if count > 0 {
+            return count;
+        }
+        let Some((octet, _)) = octets.split_first() else {
+            return 0;
+        };
+        self.turn(*octet);
+        1
+    }
+
+    // Takes the octets in front that end nothing and leave the line where it stands: those of a name, of a literal,
+    // plain ones between quotation marks, and those of a bad line before its LF. Gives how many.
+    fn feed_run(&mut self, octets: &[u8]) -> usize
+        requires { reached self.old ≡ Need }
+        ensures within { result ≤ length octets.now }
+        ensures taken { self.new ≡ fold fed self.old (take result octets.now) }
+        ensures still { reached self.new ≡ Need }
     {
         let inside = self.literal_left();
         if inside > 0 {
             let count = inside.min(octets.len());
-            self.pass(count);
+            self.skip_literal(count);
             return count;
         }
         let most = (MOST_OUTSIDE - self.outside).min(octets.len());
-        let (line, count) = self.line.skim(&octets[..most]);
+        let (line, count) = self.line.feed_run(&octets[..most]);
         self.line = line;
         self.outside += count;
-        self.used += count;
+        self.looked += count;
         count
     }
 
-    /// How many octets of a literal come next.
-    pub(crate) fn literal_left(&self) -> usize
-        ensures { result ≡ literal_rest self.now }
+    // Takes so many octets of a literal, whatever they are.
+    fn skip_literal(&mut self, count: usize)
+        requires { count ≤ literal_rest self.old.known }
+        ensures { (piece : List ℕ) → length piece ≡ count → self.new ≡ fold fed self.old piece }
+    {
+        if let State::Body(left, params) = self.line {
+            self.looked += count;
+            self.line = if count > left as usize {
+                State::Between(params)
+            } else {
+                State::Body(left - count as u32, params)
+            };
+        }
+    }
+
+    // How many octets of a literal come next.
+    fn literal_left(&self) -> usize
+        ensures { result ≡ literal_rest self.now.known }
     {
         match (self.reach, self.line) {
             (Reach::Need, State::Body(left, _)) => left as usize + 1,
             _ => 0,
         }
-    }
-
-    /// What came first in the octets so far: `Need` where nothing did yet.
-    pub(crate) fn state(&self) -> Reach
-        ensures { result ≡ found self.now }
-    {
-        self.reach
     }
 }
 
@@ -142,16 +204,16 @@ fn weight(state: State) -> usize
 }
 
 // What an octet ends, which leads from one state to the next.
-fn ending(state: State, next: State, octet: u8, outside: usize, used: usize) -> Reach
+fn ending(state: State, next: State, octet: u8, outside: usize, looked: usize) -> Reach
     requires { s.shown next ≡ m.step (s.shown state) octet }
-    ensures { result ≡ s.ending (s.shown state) outside used octet }
+    ensures { result ≡ s.ending (s.shown state) outside looked octet }
 {
     if outside > MOST_OUTSIDE || (is_large(state) && octet == b'\n') {
         return Reach::TooBig;
     }
     match next {
-        State::Whole => Reach::Command(used),
-        State::Dead if octet == b'\n' => Reach::Bad(used),
+        State::Whole => Reach::Command(looked),
+        State::Dead if octet == b'\n' => Reach::Bad(looked),
         _ => Reach::Need,
     }
 }

@@ -3,7 +3,7 @@ ghost use Rattle.std.specs.Prelude.{◌≡◌, ◌++◌, [], ◌∷◌, OnOk, On
 ghost use Rattle.msproto.specs.Arguments.{inside, escaped};
 ghost use Rattle.msproto.specs.Replies as s;
 
-use crate::replies::{Code, Line, Reply, Word};
+use crate::replies::{Code, Line, Reply, Status};
 use octets::{Octets, write_decimal};
 use std::alloc::{AllocError, Global};
 use std::mem;
@@ -74,16 +74,23 @@ fn last(reply: &Reply, out: &mut Octets) -> Result<(), AllocError>
     ensures ok { OnOk result (out.new ≡ out.old ++ s.last_spelled reply.now.word reply.now.code reply.now.text) }
     ensures err { OnErr result (s.Extends out.old out.new) }
 {
-    let word: &[u8] = match reply.word {
-        Word::Ok => b"OK",
-        Word::No => b"NO",
-        Word::Bye => b"BYE",
-        Word::Nothing => return Ok(()),
+    let Some(status) = reply.word else {
+        return Ok(());
     };
-    out.extend_from_slice(word)?;
+    out.extend_from_slice(word(status))?;
     code(&reply.code, out)?;
     after_space(&reply.text, out)?;
     out.extend_from_slice(b"\r\n")
+}
+
+fn word(status: Status) -> &'static [u8]
+    ensures { result.now ≡ s.word_of status }
+{
+    match status {
+        Status::Ok => b"OK",
+        Status::No => b"NO",
+        Status::Bye => b"BYE",
+    }
 }
 
 fn code(code: &Option<Code>, out: &mut Octets) -> Result<(), AllocError>

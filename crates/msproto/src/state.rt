@@ -3,7 +3,7 @@ ghost use Rattle.std.specs.Prelude.{◌≡◌, ◌≤◌, ℕ, length, take};
 ghost use Rattle.msproto.specs.Machine as m;
 ghost use Rattle.msproto.specs.Shown as s;
 
-use crate::verb::{Slots, Verb};
+use crate::verb::{Params, Verb};
 
 /// The longest quoted string, in octets between its marks (RFC 5804, section 4).
 const LONGEST_QUOTED: u32 = 1024;
@@ -14,21 +14,21 @@ pub enum State {
     /// In a name: a verb that begins with the letters so far, and how many they are.
     Word(Verb, usize),
     /// Behind a name or an argument.
-    Between(Slots),
+    Between(Params),
     /// Where a string begins.
-    Opening(Slots),
+    Opening(Params),
     /// Between quotation marks, where so many octets more may stand.
-    Quoted(u32, Slots),
+    Quoted(u32, Params),
     /// Behind a backslash.
-    Escaped(u32, Slots),
+    Escaped(u32, Params),
     /// Behind a literal's brace, in its number, behind its plus, its closing brace and its CR.
-    Brace(Slots),
-    Count(u32, Slots),
-    Plus(u32, Slots),
-    Closed(u32, Slots),
-    Return(u32, Slots),
+    Brace(Params),
+    Count(u32, Params),
+    Plus(u32, Params),
+    Closed(u32, Params),
+    Return(u32, Params),
     /// Inside a literal, of which one octet and so many more are to come.
-    Body(u32, Slots),
+    Body(u32, Params),
     /// Where a number begins, and in it.
     Number,
     Digits(u32),
@@ -46,7 +46,7 @@ impl State {
         ensures { s.shown result ≡ m.start pending }
     {
         if pending {
-            State::Opening(Slots::LineEnd)
+            State::Opening(Params::LineEnd)
         } else {
             State::Word(Verb::Noop, 0)
         }
@@ -58,16 +58,16 @@ impl State {
     {
         match self {
             State::Word(verb, count) => in_word(verb, count, octet),
-            State::Between(slots) => leave(slots, octet),
-            State::Opening(slots) => open(slots, octet),
-            State::Quoted(left, slots) => in_quotes(left, slots, octet),
-            State::Escaped(left, slots) => escaped(left, slots, octet),
-            State::Brace(slots) => in_brace(slots, octet),
-            State::Count(number, slots) => in_count(number, slots, octet),
-            State::Plus(number, slots) => expect(octet, b'}', State::Closed(number, slots)),
-            State::Closed(number, slots) => expect(octet, b'\r', State::Return(number, slots)),
-            State::Return(number, slots) => expect(octet, b'\n', literal(number, slots)),
-            State::Body(left, slots) => literal(left, slots),
+            State::Between(params) => leave(params, octet),
+            State::Opening(params) => open(params, octet),
+            State::Quoted(left, params) => in_quotes(left, params, octet),
+            State::Escaped(left, params) => escaped(left, params, octet),
+            State::Brace(params) => in_brace(params, octet),
+            State::Count(number, params) => in_count(number, params, octet),
+            State::Plus(number, params) => expect(octet, b'}', State::Closed(number, params)),
+            State::Closed(number, params) => expect(octet, b'\r', State::Return(number, params)),
+            State::Return(number, params) => expect(octet, b'\n', literal(number, params)),
+            State::Body(left, params) => literal(left, params),
             State::Number => at_number(octet),
             State::Digits(number) => in_number(number, octet),
             State::LineFeed => expect(octet, b'\n', State::Whole),
@@ -77,7 +77,7 @@ impl State {
 
     /// The state behind the octets in front that leave the line in the same name, between the same quotation marks or
     /// on the same bad line, and how many they are.
-    pub(crate) fn skim(self, octets: &[u8]) -> (State, usize)
+    pub(crate) fn feed_run(self, octets: &[u8]) -> (State, usize)
         ensures count { result.1 ≡ s.skimmed self octets.now }
         ensures state { s.shown result.0 ≡ s.behind self result.1 }
         ensures within { result.1 ≤ length octets.now }
@@ -89,9 +89,9 @@ impl State {
                 let more = spelling_length(&word[read..], octets);
                 (State::Word(verb, read + more), more)
             }
-            State::Quoted(left, slots) => {
+            State::Quoted(left, params) => {
                 let count = plain_length(&octets[..(left as usize).min(octets.len())]);
-                (State::Quoted(left - count as u32, slots), count)
+                (State::Quoted(left - count as u32, params), count)
             }
             State::Dead => (self, inner_length(octets)),
             _ => (self, 0),
@@ -168,11 +168,11 @@ fn in_word(verb: Verb, count: usize, octet: u8) -> State
 {
     let word = verb.word();
     let letters = &word[..count.min(word.len())];
-    match verb.further(letters, octet.to_ascii_uppercase()) {
+    match verb.extend(letters, octet.to_ascii_uppercase()) {
         Some(next) => State::Word(next, letters.len() + 1),
         None => {
             if letters.len() == word.len() {
-                leave(verb.slots(), octet)
+                leave(verb.params(), octet)
             } else {
                 State::Dead
             }
@@ -180,75 +180,75 @@ fn in_word(verb: Verb, count: usize, octet: u8) -> State
     }
 }
 
-fn leave(slots: Slots, octet: u8) -> State
-    ensures { s.shown result ≡ m.leave (s.slots_shown slots) octet }
+fn leave(params: Params, octet: u8) -> State
+    ensures { s.shown result ≡ m.leave (s.params_shown params) octet }
 {
     match octet {
-        b' ' => match slots {
-            Slots::LineEnd => State::Dead,
-            Slots::MaybeText | Slots::Text => State::Opening(Slots::LineEnd),
-            Slots::TextMaybeText => State::Opening(Slots::MaybeText),
-            Slots::TwoTexts => State::Opening(Slots::Text),
-            Slots::TextNumber => State::Opening(Slots::Number),
-            Slots::Number => State::Number,
+        b' ' => match params {
+            Params::LineEnd => State::Dead,
+            Params::MaybeText | Params::Text => State::Opening(Params::LineEnd),
+            Params::TextMaybeText => State::Opening(Params::MaybeText),
+            Params::TwoTexts => State::Opening(Params::Text),
+            Params::TextNumber => State::Opening(Params::Number),
+            Params::Number => State::Number,
         },
-        b'\r' => match slots {
-            Slots::LineEnd | Slots::MaybeText => State::LineFeed,
+        b'\r' => match params {
+            Params::LineEnd | Params::MaybeText => State::LineFeed,
             _ => State::Dead,
         },
         _ => State::Dead,
     }
 }
 
-fn open(slots: Slots, octet: u8) -> State
-    ensures { s.shown result ≡ m.step (m.Opening (s.slots_shown slots)) octet }
+fn open(params: Params, octet: u8) -> State
+    ensures { s.shown result ≡ m.step (m.Opening (s.params_shown params)) octet }
 {
     match octet {
-        b'"' => State::Quoted(LONGEST_QUOTED, slots),
-        b'{' => State::Brace(slots),
+        b'"' => State::Quoted(LONGEST_QUOTED, params),
+        b'{' => State::Brace(params),
         _ => State::Dead,
     }
 }
 
-fn in_quotes(left: u32, slots: Slots, octet: u8) -> State
-    ensures { s.shown result ≡ m.step (m.Quoted left (s.slots_shown slots)) octet }
+fn in_quotes(left: u32, params: Params, octet: u8) -> State
+    ensures { s.shown result ≡ m.step (m.Quoted left (s.params_shown params)) octet }
 {
     match octet {
-        b'"' => State::Between(slots),
+        b'"' => State::Between(params),
         // The octet behind it counts too.
-        b'\\' if left > 1 => State::Escaped(left - 2, slots),
+        b'\\' if left > 1 => State::Escaped(left - 2, params),
         b'\\' | b'\0' | b'\n' | b'\r' => State::Dead,
-        _ if left > 0 => State::Quoted(left - 1, slots),
+        _ if left > 0 => State::Quoted(left - 1, params),
         _ => State::Dead,
     }
 }
 
-fn escaped(left: u32, slots: Slots, octet: u8) -> State
-    ensures { s.shown result ≡ m.step (m.Escaped left (s.slots_shown slots)) octet }
+fn escaped(left: u32, params: Params, octet: u8) -> State
+    ensures { s.shown result ≡ m.step (m.Escaped left (s.params_shown params)) octet }
 {
     match octet {
-        b'"' | b'\\' => State::Quoted(left, slots),
+        b'"' | b'\\' => State::Quoted(left, params),
         _ => State::Dead,
     }
 }
 
-fn in_brace(slots: Slots, octet: u8) -> State
-    ensures { s.shown result ≡ m.step (m.Brace (s.slots_shown slots)) octet }
+fn in_brace(params: Params, octet: u8) -> State
+    ensures { s.shown result ≡ m.step (m.Brace (s.params_shown params)) octet }
 {
     match first_digit(octet) {
-        Some(number) => State::Count(number, slots),
+        Some(number) => State::Count(number, params),
         None => State::Dead,
     }
 }
 
-fn in_count(number: u32, slots: Slots, octet: u8) -> State
-    ensures { s.shown result ≡ m.step (m.Count number (s.slots_shown slots)) octet }
+fn in_count(number: u32, params: Params, octet: u8) -> State
+    ensures { s.shown result ≡ m.step (m.Count number (s.params_shown params)) octet }
 {
     if octet == b'+' {
-        return State::Plus(number, slots);
+        return State::Plus(number, params);
     }
     match next_digit(number, octet) {
-        Some(longer) => State::Count(longer, slots),
+        Some(longer) => State::Count(longer, params),
         None => State::Dead,
     }
 }
@@ -275,13 +275,13 @@ fn in_number(number: u32, octet: u8) -> State
 }
 
 // Where so many octets of a literal are to come.
-fn literal(left: u32, slots: Slots) -> State
-    ensures { s.shown result ≡ m.literal_left left (s.slots_shown slots) }
+fn literal(left: u32, params: Params) -> State
+    ensures { s.shown result ≡ m.literal_left left (s.params_shown params) }
 {
     if left == 0 {
-        State::Between(slots)
+        State::Between(params)
     } else {
-        State::Body(left - 1, slots)
+        State::Body(left - 1, params)
     }
 }
 

@@ -1,8 +1,8 @@
 //! The names of the commands, and what may stand behind each.
 ghost use Rattle.std.specs.Prelude.{◌≡◌, ◌∷◌, ◌++◌, [], map, true, false, MatchOption};
 ghost use Rattle.std.specs.Char.{to_ascii_uppercase};
-ghost use Rattle.msproto.specs.Machine.{word_of, slots_of, verbs, verb_in, rows, rows_of, begins, begins_row, same_word};
-ghost use Rattle.msproto.specs.Shown.{slots_shown, IsFurther};
+ghost use Rattle.msproto.specs.Machine.{word_of, params_of, verbs, verb_in, rows, rows_of, begins, begins_row, same_word};
+ghost use Rattle.msproto.specs.Shown.{params_shown, IsExtension};
 
 /// The name of a command (RFC 5804, section 2).
 #[derive(Clone, Copy)]
@@ -24,7 +24,7 @@ pub enum Verb {
 
 /// What may still stand on a command's line before its end.
 #[derive(Clone, Copy)]
-pub enum Slots {
+pub enum Params {
     /// Nothing.
     LineEnd,
     /// Perhaps a string.
@@ -80,18 +80,18 @@ impl Verb {
     }
 
     /// What may stand behind the name.
-    pub(crate) fn slots(self) -> Slots
-        ensures { slots_shown result ≡ slots_of self }
+    pub(crate) fn params(self) -> Params
+        ensures { params_shown result ≡ params_of self }
     {
         match self {
-            Verb::Authenticate => Slots::TextMaybeText,
+            Verb::Authenticate => Params::TextMaybeText,
             Verb::Capability | Verb::ListScripts | Verb::Logout | Verb::Unauthenticate =>
-                Slots::LineEnd,
+                Params::LineEnd,
             Verb::CheckScript | Verb::DeleteScript | Verb::GetScript | Verb::SetActive =>
-                Slots::Text,
-            Verb::HaveSpace => Slots::TextNumber,
-            Verb::Noop => Slots::MaybeText,
-            Verb::PutScript | Verb::RenameScript => Slots::TwoTexts,
+                Params::Text,
+            Verb::HaveSpace => Params::TextNumber,
+            Verb::Noop => Params::MaybeText,
+            Verb::PutScript | Verb::RenameScript => Params::TwoTexts,
         }
     }
 
@@ -103,8 +103,8 @@ impl Verb {
     }
 
     /// A verb whose name begins with these letters and this one, upper case all: this one, if it does.
-    pub(crate) fn further(self, letters: &[u8], letter: u8) -> Option<Verb>
-        ensures { IsFurther rows letters.now letter result }
+    pub(crate) fn extend(self, letters: &[u8], letter: u8) -> Option<Verb>
+        ensures { IsExtension rows letters.now letter result }
     {
         if goes_on(self.word(), letters, letter) {
             return Some(self);
@@ -113,7 +113,7 @@ impl Verb {
         if letter == b' ' || letter == b'\r' {
             return None;
         }
-        find_further(&VERBS, letters, letter)
+        find_extending(&VERBS, letters, letter)
     }
 }
 
@@ -132,8 +132,8 @@ fn find_named(verbs: &[Verb], name: &[u8]) -> Option<Verb>
 }
 
 // The first of the verbs whose name begins with these letters and this one.
-fn find_further(verbs: &[Verb], letters: &[u8], letter: u8) -> Option<Verb>
-    ensures { IsFurther (rows_of verbs.now) letters.now letter result }
+fn find_extending(verbs: &[Verb], letters: &[u8], letter: u8) -> Option<Verb>
+    ensures { IsExtension (rows_of verbs.now) letters.now letter result }
 {
     let mut rest = verbs;
     while let Some((verb, more)) = rest.split_first() {

@@ -12,6 +12,3 @@ pub use ascii::{is_blank, is_letter, is_printable, lowered, trim_blanks};
 pub use decimal::{parse_decimal, write_decimal};
 pub use list::{ListOf, Texts};
 pub use string::Octets;
-
-#[cfg(test)]
-mod tests;

@@ -1,7 +1,10 @@
 -- The parts of a message of PLAIN, read from the front.
-use Rattle.std.specs.Prelude.{ℕ, zero, suc, ◌&&◌, ◌||◌, not, cond, ◌==◌, nat_eq, nat_lt, ◌+◌, List, [], ◌∷◌, length, take, drop, Option, Some, None}
+use Rattle.std.specs.Prelude.{ℕ, zero, suc, ◌&&◌, ◌||◌, not, cond, ◌==◌, nat_eq, nat_lt, ◌+◌, List, [], ◌∷◌, length, take, drop, Option, Some, None, Result, Ok, Err}
 use Rattle.std.specs.Cmp.Lexicographic.{pointwise}
 use Rattle.std.specs.Borrow.{Bor}
+use Rattle.base64.specs.Engines.{standard}
+use Rattle.base64.specs.GeneralPurpose.{decode_of}
+use Rattle.base64.specs.declared.decode.DecodeError.{DecodeError}
 use Rattle.saslplain.specs.declared.message.Login.{Login}
 
 -- two texts
@@ -31,6 +34,14 @@ cut_twice (Some parts) = checked parts.0 (cut_in parts.1)
 -- user and password of a message
 abbrev pub login_in : List ℕ → Pair
 login_in message = cut_twice (cut_in message)
+
+abbrev pub decoded_in : Result (List ℕ) DecodeError → Pair
+decoded_in (Ok message) = login_in message
+decoded_in (Err fault) = None
+
+-- user and password of a text in base64
+abbrev pub login_of : List ℕ → Pair
+login_of text = decoded_in (decode_of standard text)
 
 -- ---- what the code gives, as values
 

@@ -9,6 +9,3 @@ pub mod password;
 
 pub use message::{Login, plain};
 pub use password::{Record, accepts, digest};
-
-#[cfg(test)]
-mod tests;

@@ -1,7 +1,7 @@
 //! What a client says by PLAIN.
 ghost use Rattle.std.specs.Prelude.{◌≡◌, ◌≤◌, length, IfOk};
 ghost use Rattle.saslplain.specs.Login.{IsFound};
-ghost use Rattle.saslplain.specs.Parts.{login_in, login_shown, cut_in, cut_shown, nul_place as place_of};
+ghost use Rattle.saslplain.specs.Parts.{login_in, login_of, login_shown, cut_in, cut_shown, nul_place as place_of};
 
 use base64::DecodeAllocError;
 use base64::engine::general_purpose::STANDARD;
@@ -23,7 +23,8 @@ pub struct Login {
 /// isn't empty has to be the same. The base64 is strict: padded, and with spare bits of zero. Time and memory are
 /// linear in the text; lack of memory is the only error.
 pub fn plain(alloc: Global, text: &[u8]) -> Result<Option<Login>, AllocError>
-    ensures { IfOk result (IsFound text.now) }
+    ensures found { IfOk result (IsFound text.now) }
+    ensures value { IfOk result (λ found. login_shown found ≡ login_of text.now) }
 {
     match STANDARD.decode(alloc, text) {
         Ok(message) => read_login(alloc, message.as_slice()),

@@ -11,6 +11,3 @@ mod instr;
 
 pub use code::{Code, compile};
 pub use instr::Instr;
-
-#[cfg(test)]
-mod tests;

@@ -1,19 +1,9 @@
 //! Files mail by each user's Sieve script: accounts, deliveries and folders from the command line.
 #![tactic(auto)]
 
-mod answer;
-mod commands;
-mod drive;
-mod fault;
-mod framing;
-mod stream;
-#[cfg(test)]
-mod tests;
-mod trial;
-mod values;
-
-use fault::{Fault, refuse};
 use keepers::FileKeeper;
+use sievedrun::drive::drive;
+use sievedrun::fault::{Fault, refuse};
 use std::env;
 use std::io::ErrorKind;
 use std::process::ExitCode;
@@ -23,7 +13,7 @@ fn main(rt: HostRuntime) -> ExitCode {
     let (mut input, mut output, mut faults) = (rt.stdin(), rt.stdout(), rt.stderr());
     let mut keeper = FileKeeper::new(&rt);
     let status = match words_after_name(&rt) {
-        Ok(words) => drive::drive(
+        Ok(words) => drive(
             rt.alloc(),
             &words,
             &mut input,

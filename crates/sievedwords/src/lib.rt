@@ -3,7 +3,5 @@
 
 mod asked;
 mod command;
-#[cfg(test)]
-mod tests;
 
 pub use asked::{Asked, Place, read};

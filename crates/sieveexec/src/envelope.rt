@@ -16,8 +16,9 @@ pub struct Envelope {
 }
 
 /// A part of an address of the envelope, which is cut at its last `@` and is a local part alone where there is none.
-/// The null reverse-path is empty under every part.
-pub(crate) fn part_in(part: AddressPart, address: &[u8]) -> &[u8]
+///
+/// The null reverse-path is empty under every part. Linear in the address; takes no memory.
+pub fn part_in(part: AddressPart, address: &[u8]) -> &[u8]
     ensures { result.now ≡ part_in part address.now }
 {
     match part {

@@ -16,11 +16,8 @@ mod shown;
 mod so_far;
 mod text_cache;
 
-pub use envelope::Envelope;
+pub use envelope::{Envelope, part_in};
 pub use looked::Looked;
 pub use machine::run;
 pub use mail::Mail;
 pub use outcome::{Failure, Outcome};
-
-#[cfg(test)]
-mod tests;

@@ -2,6 +2,7 @@
 ghost use Rattle.std.specs.Prelude.{◌≡◌, ℕ, ◌<◌, ◌+◌, ◌^◌, Option, Some, length, IfOk, OnOk};
 ghost use Rattle.sieveexec.specs.Truth.{truth_at};
 ghost use Rattle.sieveexec.specs.Runs.{so_far_of, outcome_view, after_turn, MovesOn};
+ghost use Rattle.sievesyntax.specs.Meaning.{Done, deeds_of};
 ghost use Rattle.sievecode.specs.Instructions.{instr_view};
 ghost use Rattle.sievecode.specs.Jumps.{LeadsForward, Run, jumps, turn as turn_of};
 
@@ -51,14 +52,21 @@ pub fn run(alloc: Global, code: &Code<'_>, mail: &Mail<'_>) -> Result<Outcome, A
     while place < instrs.len() {
         match machine.turn(alloc, &instrs[place], place)? {
             Turn::Next(next) => place = next,
-            Turn::Stopped => return machine.so_far.end(alloc),
+            Turn::Stopped => return machine.end(alloc),
             Turn::Failed(failure) => return Ok(Outcome::Failed(failure)),
         }
     }
-    machine.so_far.end(alloc)
+    machine.end(alloc)
 }
 
 impl<'m, 'a> Machine<'m, 'a> {
+    /// The outcome of a run that is over.
+    fn end(self, alloc: Global) -> Result<Outcome, AllocError>
+        ensures { IfOk result (λ done. outcome_view done ≡ Done (deeds_of (so_far_of self.entry.so_far))) }
+    {
+        self.so_far.end(alloc)
+    }
+
     /// One turn: the instruction at this place is carried out.
     fn turn(&mut self, alloc: Global, instr: &Instr<'_>, place: usize) -> Result<Turn, AllocError>
         requires { place + 1 < 2 ^ 64 }

@@ -74,14 +74,24 @@ impl SoFar {
     pub(crate) fn end(mut self, alloc: Global) -> Result<Outcome, AllocError>
         ensures { IfOk result (λ done. outcome_view done ≡ Done (deeds_of (so_far_of self))) }
     {
-        if !self.cancelled {
-            self.named.push(Octets::copy(alloc, INBOX)?)?;
-        }
+        let filed = self.filed(alloc)?;
         Ok(Outcome::Done {
-            filed: each_once(alloc, self.named.as_slice())?,
+            filed,
             sent: self.sent,
             reply: self.reply,
         })
+    }
+
+    /// The mailboxes of a run that is over, each once: the implicit keep comes last.
+    fn filed(&mut self, alloc: Global) -> Result<Texts, AllocError>
+        ensures filed { IfOk result (λ filed. filed ≡ (deeds_of (so_far_of self.old)).filed) }
+        ensures sent { self.new.sent ≡ self.old.sent }
+        ensures reply { self.new.reply ≡ self.old.reply }
+    {
+        if !self.cancelled {
+            self.named.push(Octets::copy(alloc, INBOX)?)?;
+        }
+        each_once(alloc, self.named.as_slice())
     }
 
     fn file_into(&mut self, alloc: Global, mailbox: &[u8]) -> Result<Option<Failure>, AllocError>

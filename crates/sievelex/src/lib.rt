@@ -10,8 +10,6 @@ mod packed;
 mod quoted;
 mod scanner;
 mod space;
-#[cfg(test)]
-mod tests;
 mod text;
 mod token;
 

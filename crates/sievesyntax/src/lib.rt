@@ -34,6 +34,3 @@ pub use script::{Script, check};
 pub use sievelex::{FaultKind, ScriptError, ScriptFault};
 pub use tree::{Branch, Command, Test};
 pub use vacation::{ReplyFrom, VacArgs};
-
-#[cfg(test)]
-mod tests;

@@ -10,7 +10,7 @@ returns-in-Some c =
 
 pub returns-then-letters-word : goal.returns-then-letters-word
 returns-then-letters-word c =
-    c.leave.ensures ∙ ap (λ (slots : m.Slots). m.leave slots c.args.octet) c.slots.ensures
+    c.leave.ensures ∙ ap (λ (params : m.Params). m.leave params c.args.octet) c.params.ensures
     ∙ in_word_end c.args.verb c.args.count c.min.result c.word-word.result.now c.args.octet c.word-word.ensures c.min.ensures c.if-letters-word.true
     (rw (← c.to_ascii_uppercase.ensures.value) c.in-None.ensures)
 

@@ -5,4 +5,4 @@ use Rattle.mailstore.proofs.store.Store.apply.Goals as goal
 pub returns-clause-made : goal.returns-clause-made
 returns-clause-made g c clean tables holds =
     let same : c.self.inside.conn ≡ c.args.self.now = search rules in
-    on_ok c.make_all.result c.in_ok-make_all.field-0 c.in_ok-make_all.was _ ((rw same at c.make_all.ensures.made) clean tables holds)
+    on_ok c.make_all.result c.in_default.field-0 c.in_default.is _ ((rw same at c.make_all.ensures.made) clean tables holds)

@@ -1,0 +1,189 @@
+//! Runs of the program: its words, its input, and what they leave.
+use crate::table::Answers;
+use crate::text::words_of;
+use keepers::{Keeper, MemoryKeeper};
+use mailengine::whole;
+use octets::{Octets, parse_decimal, write_decimal};
+use sievedrun::drive::drive;
+use sqlite::{Connection, Error};
+use std::alloc::{AllocError, Global};
+use std::io::{ErrorKind, Write};
+use std::{format, io, str};
+
+/// What the clock says, in seconds since 1970-01-01 UTC.
+const CLOCK: Option<u64> = Some(1_700_000_000);
+
+/// Runs on a store in memory.
+#[derive(Drop)]
+pub struct MemoryRuns {
+    keeper: MemoryKeeper,
+}
+
+impl MemoryRuns {
+    /// No store is there yet.
+    pub fn new(alloc: Global) -> Result<MemoryRuns, AllocError> {
+        Ok(MemoryRuns {
+            keeper: MemoryKeeper::new(alloc)?,
+        })
+    }
+
+    /// From now on the database is another one, made by these statements of SQL.
+    fn replace(&mut self, alloc: Global, sql: &str) -> Result<(), Error> {
+        let mut conn = Connection::open_in_memory(alloc)?;
+        let made = conn.execute_batch(sql);
+        self.keeper = MemoryKeeper::over(alloc, conn);
+        made
+    }
+}
+
+impl Answers for MemoryRuns {
+    fn answer(
+        &mut self,
+        alloc: Global,
+        out: &mut Octets,
+        given: &[Octets],
+    ) -> Result<(), AllocError> {
+        match given {
+            [call, sql] if call.as_slice() == b"new".as_slice() => {
+                let made = self.replace(alloc, text_in(sql)).is_ok();
+                out.extend_from_slice(if made { b"done" } else { b"refused" })
+            }
+            [call, calls] if call.as_slice() == b"busy".as_slice() => {
+                self.keeper
+                    .be_busy_after(parse_decimal(calls.as_slice()).unwrap_or(0));
+                out.extend_from_slice(b"done")
+            }
+            _ => answer(alloc, out, &mut self.keeper, "", given),
+        }
+    }
+}
+
+/// Appends what comes of a row that any keeper can have: `run` and `full` are runs of the program, `send` is a command.
+pub fn answer<K: Keeper>(
+    alloc: Global,
+    out: &mut Octets,
+    keeper: &mut K,
+    path: &str,
+    given: &[Octets],
+) -> Result<(), AllocError> {
+    let [call, text, input] = given else {
+        return out.extend_from_slice(b"not so many columns");
+    };
+    match call.as_slice() {
+        b"run" => add_run(alloc, out, keeper, path, text_in(text), input.as_slice()),
+        b"full" => add_full(alloc, out, keeper, path, text_in(text), input.as_slice()),
+        b"send" => add_sent(alloc, out, keeper, path, text.as_slice(), input.as_slice()),
+        _ => out.extend_from_slice(b"no such call"),
+    }
+}
+
+/// The text of a column, or the empty one where it is no UTF-8.
+pub fn text_in(column: &Octets) -> &str {
+    str::from_utf8(column.as_slice()).unwrap_or("")
+}
+
+/// Appends what a run leaves.
+pub fn add_run<K: Keeper>(
+    alloc: Global,
+    out: &mut Octets,
+    keeper: &mut K,
+    path: &str,
+    words: &str,
+    input: &[u8],
+) -> Result<(), AllocError> {
+    let words = words_of(alloc, words, path)?;
+    let (mut left, mut output, mut faults) = (input, Vec::new(alloc), Vec::new(alloc));
+    let status = drive(
+        alloc,
+        &words,
+        &mut left,
+        &mut output,
+        &mut faults,
+        keeper,
+        CLOCK,
+    );
+    add_left(out, status, output.as_slice(), faults.as_slice())?;
+    add_unread(out, left.len())
+}
+
+/// Appends what a run leaves whose output takes nothing.
+fn add_full<K: Keeper>(
+    alloc: Global,
+    out: &mut Octets,
+    keeper: &mut K,
+    path: &str,
+    words: &str,
+    input: &[u8],
+) -> Result<(), AllocError> {
+    let words = words_of(alloc, words, path)?;
+    let (mut left, mut faults) = (input, Vec::new(alloc));
+    let status = drive(
+        alloc,
+        &words,
+        &mut left,
+        &mut Full,
+        &mut faults,
+        keeper,
+        CLOCK,
+    );
+    add_left(out, status, b"", faults.as_slice())
+}
+
+/// Appends `STATUS|OUTPUT|FAULTS`. Of a fault of the words only its beginning, `error: `, is shown.
+pub fn add_left(
+    out: &mut Octets,
+    status: u8,
+    output: &[u8],
+    faults: &[u8],
+) -> Result<(), AllocError> {
+    write_decimal(out, u64::from(status))?;
+    out.push(b'|')?;
+    out.extend_from_slice(output)?;
+    out.push(b'|')?;
+    let is_usage = faults.starts_with(b"error: ");
+    out.extend_from_slice(if is_usage { b"error: " } else { faults })
+}
+
+/// Appends how many octets of the input weren't read, if any.
+fn add_unread(out: &mut Octets, unread: usize) -> Result<(), AllocError> {
+    if unread == 0 {
+        return Ok(());
+    }
+    out.extend_from_slice(b"|unread ")?;
+    write_decimal(out, unread as u64)
+}
+
+/// Appends the answer to a command of ManageSieve that a user sends.
+fn add_sent<K: Keeper>(
+    alloc: Global,
+    out: &mut Octets,
+    keeper: &mut K,
+    path: &str,
+    user: &[u8],
+    bytes: &[u8],
+) -> Result<(), AllocError> {
+    let Ok(mut store) = keeper.take(path, false) else {
+        return out.extend_from_slice(b"not taken");
+    };
+    let answer = whole(alloc, &mut store, user, bytes);
+    let closed = keeper.hand_back(store).is_ok();
+    match answer {
+        Ok(octets) if closed => out.extend_from_slice(octets.as_slice()),
+        Ok(_) => out.extend_from_slice(b"not closed"),
+        Err(refusal) => out.extend_from_slice(format!(in alloc; "{refusal}")?.as_bytes()),
+    }
+}
+
+/// An output that is full.
+#[derive(Drop)]
+struct Full;
+
+impl Write for Full {
+    fn write(&mut self, _buf: &[u8]) -> io::Result<usize> {
+        Err(io::Error::from(ErrorKind::StorageFull))
+    }
+
+    fn flush(&mut self) -> io::Result<()> {
+        Ok(())
+    }
+}

@@ -1,0 +1,113 @@
+//! Readers and writers that fail at a call.
+use crate::run::add_left;
+use mailengine::Envelope;
+use octets::{Octets, parse_decimal};
+use sievedrun::trial::try_run;
+use std::alloc::{AllocError, Global};
+use std::io;
+use std::io::{ErrorKind, Read, Write};
+
+/// A script that files into two mailboxes, without a message: `file a`, `file b`, 14 octets.
+const TWO: &[u8] = b"44\nrequire \"fileinto\";fileinto \"a\";fileinto\"b\";";
+
+/// What a run leaves whose input, or output, fails from the call with this number on, counted from 0.
+pub fn answer(
+    alloc: Global,
+    out: &mut Octets,
+    call: &[u8],
+    number: &[u8],
+) -> Result<(), AllocError> {
+    let calls = parse_decimal(number).unwrap_or(0);
+    match call {
+        b"read" => add_reading(alloc, out, calls, ErrorKind::BrokenPipe),
+        b"interrupted" => add_reading(alloc, out, calls, ErrorKind::Interrupted),
+        b"write" => add_writing(alloc, out, calls),
+        _ => out.extend_from_slice(b"no such call"),
+    }
+}
+
+/// An input that gives its octets one by one, and fails from one of its calls on.
+#[derive(Drop)]
+struct Pieces<'a> {
+    left: &'a [u8],
+    calls: u64,
+    fails_as: ErrorKind,
+}
+
+impl Read for Pieces<'_> {
+    fn read(&mut self, buf: &mut [u8]) -> io::Result<usize> {
+        if self.calls == 0 {
+            return Err(io::Error::from(self.fails_as));
+        }
+        self.calls -= 1;
+        let most = buf.len().min(1);
+        self.left.read(&mut buf[..most])
+    }
+}
+
+/// An output that takes three octets at a time, and fails from one of its calls on.
+#[derive(Drop)]
+struct Takes {
+    taken: Vec<u8>,
+    calls: u64,
+}
+
+impl Takes {
+    fn count(&mut self) -> io::Result<()> {
+        if self.calls == 0 {
+            return Err(io::Error::from(ErrorKind::StorageFull));
+        }
+        self.calls -= 1;
+        Ok(())
+    }
+}
+
+impl Write for Takes {
+    fn write(&mut self, buf: &[u8]) -> io::Result<usize> {
+        self.count()?;
+        let most = buf.len().min(3);
+        self.taken.extend_from_slice(&buf[..most])?;
+        Ok(most)
+    }
+
+    fn flush(&mut self) -> io::Result<()> {
+        self.count()
+    }
+}
+
+fn add_reading(
+    alloc: Global,
+    out: &mut Octets,
+    calls: u64,
+    fails_as: ErrorKind,
+) -> Result<(), AllocError> {
+    let mut input = Pieces {
+        left: TWO,
+        calls,
+        fails_as,
+    };
+    let (mut output, mut faults) = (Vec::new(alloc), Vec::new(alloc));
+    let envelope = unaddressed(alloc);
+    let status = try_run(alloc, envelope, &mut input, &mut output, &mut faults);
+    add_left(out, status, output.as_slice(), faults.as_slice())
+}
+
+fn add_writing(alloc: Global, out: &mut Octets, calls: u64) -> Result<(), AllocError> {
+    let mut input = TWO;
+    let mut output = Takes {
+        taken: Vec::new(alloc),
+        calls,
+    };
+    let mut faults = Vec::new(alloc);
+    let envelope = unaddressed(alloc);
+    let status = try_run(alloc, envelope, &mut input, &mut output, &mut faults);
+    add_left(out, status, output.taken.as_slice(), faults.as_slice())
+}
+
+/// The envelope of no sender and no recipient. Takes no memory.
+fn unaddressed(alloc: Global) -> Envelope {
+    Envelope {
+        from: Octets::new(alloc),
+        to: Octets::new(alloc),
+    }
+}

@@ -1,0 +1,5 @@
+use Rattle.encwords.proofs.PieceLaws.{one_value}
+use Rattle.encwords.proofs.laws.value_of_a_text.Goals as goal
+
+pub returns : goal.returns
+returns c = one_value

@@ -1,0 +1,14 @@
+use Rattle.std.proofs.Common.{◌≡◌, subst}
+use Rattle.std.specs.Prelude.{IfOk}
+use Rattle.msproto.specs.declared.items.Reach.{Reach}
+use Rattle.msproto.specs.Values.{item_at}
+use Rattle.msproto.proofs.Unique.{reach_is, if_gives}
+use Rattle.msproto.proofs.items.item_at.Goals as goal
+
+pub returns-clause-value : goal.returns-clause-value
+returns-clause-value c =
+    subst (λ (r : Reach). IfOk c.read_at.result (λ item. item ≡ item_at c.args.pending c.args.buffer.now r))
+    (reach_is c.args.pending c.args.reach c.args.buffer.now c.requires) c.read_at.ensures
+
+pub returns-clause-item : goal.returns-clause-item
+returns-clause-item c = if_gives c.args.pending c.args.buffer.now c.read_at.result (returns-clause-value c)

@@ -1,0 +1,72 @@
+use Rattle.std.proofs.Common.{◌≡◌, Bool, false, cond, sym, ap, ◌∙◌}
+use Rattle.sessions.specs.Clients.{reach_in, is_item, shut}
+use Rattle.sessions.specs.Counts.{SessionView, scanned_past}
+use Rattle.sessions.proofs.ScanLemmas.{scan_reach}
+use Rattle.sessions.proofs.ReachLemmas.{scanned_same}
+use Rattle.sessions.proofs.StepLemmas.{on_err, need_over, bad_over, big_over, has_by, lacks_by}
+use Rattle.sessions.proofs.session.Session.step_over.Goals as goal
+
+pub returns-in-Need-clause-step : goal.returns-in-Need-clause-step
+returns-in-Need-clause-step c =
+    let s = c.self.inside in
+    let live : c.args.self.now.client.closed ≡ false = ap (λ (v : SessionView). v.client.closed) (sym c.self.view_is) ∙ c.if-self.false in
+    let is = c.state.ensures.reached ∙ scan_reach s.pending s.scan s.unread s.scanned s.given c.self.invariant ∙ ap (λ (v : SessionView). reach_in v.client) c.self.view_is in
+    need_over c.args.self.now.client c.state.result c.args.out.now live is c.in-Need.is
+
+pub returns-in-Command-clause-command : goal.returns-in-Command-clause-command
+returns-in-Command-clause-command c =
+    let s = c.self.inside in
+    let live : c.args.self.now.client.closed ≡ false = ap (λ (v : SessionView). v.client.closed) (sym c.self.view_is) ∙ c.if-self.false in
+    let is = c.state.ensures.reached ∙ scan_reach s.pending s.scan s.unread s.scanned s.given c.self.invariant ∙ ap (λ (v : SessionView). reach_in v.client) c.self.view_is in
+    has_by c.args.self.now.client c.state.result _ live is c.in-Command.is
+
+pub returns-in_ok-extend_from_slice-in-Bad-clause-step : goal.returns-in_ok-extend_from_slice-in-Bad-clause-step
+returns-in_ok-extend_from_slice-in-Bad-clause-step c =
+    let s = c.self.inside in
+    let live : c.args.self.now.client.closed ≡ false = ap (λ (v : SessionView). v.client.closed) (sym c.self.view_is) ∙ c.if-self.false in
+    let is = c.state.ensures.reached ∙ scan_reach s.pending s.scan s.unread s.scanned s.given c.self.invariant ∙ ap (λ (v : SessionView). reach_in v.client) c.self.view_is in
+    bad_over c.args.self.now.client c.take_off.new.self.client c.state.result c.in-Bad.field-0 c.args.out.now c.extend_from_slice.new.self live is c.in-Bad.is c.take_off.ensures.client c.in_ok-extend_from_slice-in-Bad.ensures.ok
+
+pub returns-in_ok-extend_from_slice-in-Bad-clause-command : goal.returns-in_ok-extend_from_slice-in-Bad-clause-command
+returns-in_ok-extend_from_slice-in-Bad-clause-command c =
+    let s = c.self.inside in
+    let live : c.args.self.now.client.closed ≡ false = ap (λ (v : SessionView). v.client.closed) (sym c.self.view_is) ∙ c.if-self.false in
+    let is = c.state.ensures.reached ∙ scan_reach s.pending s.scan s.unread s.scanned s.given c.self.invariant ∙ ap (λ (v : SessionView). reach_in v.client) c.self.view_is in
+    has_by c.args.self.now.client c.state.result _ live is c.in-Bad.is
+
+pub returns-in_ok-extend_from_slice-in-TooBig-clause-step : goal.returns-in_ok-extend_from_slice-in-TooBig-clause-step
+returns-in_ok-extend_from_slice-in-TooBig-clause-step c =
+    let s = c.self.inside in
+    let live : c.args.self.now.client.closed ≡ false = ap (λ (v : SessionView). v.client.closed) (sym c.self.view_is) ∙ c.if-self.false in
+    let is = c.state.ensures.reached ∙ scan_reach s.pending s.scan s.unread s.scanned s.given c.self.invariant ∙ ap (λ (v : SessionView). reach_in v.client) c.self.view_is in
+    big_over c.args.self.now.client _ c.state.result c.args.out.now c.extend_from_slice-in-TooBig.new.self live is c.in-TooBig.is (ap (λ (v : SessionView). shut v.client) c.self.view_is) c.in_ok-extend_from_slice-in-TooBig.ensures.ok
+
+pub returns-in_ok-extend_from_slice-in-TooBig-clause-command : goal.returns-in_ok-extend_from_slice-in-TooBig-clause-command
+returns-in_ok-extend_from_slice-in-TooBig-clause-command c =
+    let s = c.self.inside in
+    let live : c.args.self.now.client.closed ≡ false = ap (λ (v : SessionView). v.client.closed) (sym c.self.view_is) ∙ c.if-self.false in
+    let is = c.state.ensures.reached ∙ scan_reach s.pending s.scan s.unread s.scanned s.given c.self.invariant ∙ ap (λ (v : SessionView). reach_in v.client) c.self.view_is in
+    has_by c.args.self.now.client c.state.result _ live is c.in-TooBig.is
+
+pub returns-in_err-extend_from_slice-in-Bad-clause-lacks : goal.returns-in_err-extend_from_slice-in-Bad-clause-lacks
+returns-in_err-extend_from_slice-in-Bad-clause-lacks c =
+    let s = c.self.inside in
+    let live : c.args.self.now.client.closed ≡ false = ap (λ (v : SessionView). v.client.closed) (sym c.self.view_is) ∙ c.if-self.false in
+    let is = c.state.ensures.reached ∙ scan_reach s.pending s.scan s.unread s.scanned s.given c.self.invariant ∙ ap (λ (v : SessionView). reach_in v.client) c.self.view_is in
+    on_err c.from_residual.result (sym (lacks_by c.args.self.now.client c.state.result _ live is c.in-Bad.is))
+
+pub returns-in_err-extend_from_slice-in-TooBig-clause-lacks : goal.returns-in_err-extend_from_slice-in-TooBig-clause-lacks
+returns-in_err-extend_from_slice-in-TooBig-clause-lacks c =
+    let s = c.self.inside in
+    let live : c.args.self.now.client.closed ≡ false = ap (λ (v : SessionView). v.client.closed) (sym c.self.view_is) ∙ c.if-self.false in
+    let is = c.state.ensures.reached ∙ scan_reach s.pending s.scan s.unread s.scanned s.given c.self.invariant ∙ ap (λ (v : SessionView). reach_in v.client) c.self.view_is in
+    on_err c.from_residual-in_err-extend_from_slice-in-TooBig.result (sym (lacks_by c.args.self.now.client c.state.result _ live is c.in-TooBig.is))
+
+pub returns-in_ok-extend_from_slice-in-TooBig-clause-scans : goal.returns-in_ok-extend_from_slice-in-TooBig-clause-scans
+returns-in_ok-extend_from_slice-in-TooBig-clause-scans c =
+    let s = c.self.inside in
+    let live : c.args.self.now.client.closed ≡ false = ap (λ (v : SessionView). v.client.closed) (sym c.self.view_is) ∙ c.if-self.false in
+    let is = c.state.ensures.reached ∙ scan_reach s.pending s.scan s.unread s.scanned s.given c.self.invariant ∙ ap (λ (v : SessionView). reach_in v.client) c.self.view_is in
+    ap (λ (v : SessionView). v.scanned) c.self.view_is
+    ∙ scanned_same c.args.self.now c.state.result is (ap is_item c.in-TooBig.is)
+    ∙ sym (ap (λ (b : Bool). cond b c.args.self.now.scanned (scanned_past c.args.self.now)) live)

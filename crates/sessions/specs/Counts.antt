@@ -1,0 +1,43 @@
+-- A session as contracts see it: its client, and how many octets came and were looked at.
+use Rattle.std.specs.Prelude.{◌≡◌, ℕ, ◌+◌, ◌-◌, ◌≤◌, ◌^◌, Bool, cond, List, length, take, min}
+use Rattle.msproto.specs.declared.items.Reach.TheVariants.{Need}
+use Rattle.msproto.specs.Scanning.{ScanView, StandsFor, new_scan, fed_until, reached}
+use Rattle.sessions.specs.Clients.{Client, new_client, reach_in, is_item}
+
+-- the greatest number of 64 bits, at which a count stays
+abbrev pub greatest : ℕ
+greatest = 2 ^ 64 - 1
+
+pub record SessionView : Type 0 where
+  pub client : Client
+  -- how many octets came in pieces
+  pub given : ℕ
+  -- how many octets the scans looked at whose items are taken off
+  pub scanned : ℕ
+
+abbrev pub new_session : SessionView
+new_session = record { client = new_client; given = 0; scanned = 0 }
+
+-- the count of the octets given, behind a piece; a closed session counts none
+abbrev pub given_more : List ℕ → SessionView → ℕ
+given_more piece s = cond s.client.closed s.given (min (s.given + length piece) greatest)
+
+-- the scan of the unread octets: they are taken as long as nothing came first
+abbrev pub scan_in : Client → ScanView
+scan_in c = fed_until (new_scan c.pending) c.unread
+
+-- how many octets were looked at: by the scans before, and by this one
+abbrev pub looked_in : SessionView → ℕ
+looked_in s = min (s.scanned + (scan_in s.client).looked) greatest
+
+-- the count of the scans before, once the first item, if there is one, is taken off
+abbrev pub scanned_past : SessionView → ℕ
+scanned_past s = cond (is_item (reach_in s.client)) (looked_in s) s.scanned
+
+-- the scan is that of the unread octets, and no more were looked at than came
+pub record IsScanned (pending : Bool) (scan : ScanView) (unread : List ℕ) (scanned given : ℕ) : Type 0 where
+  pub until : scan ≡ fed_until (new_scan pending) unread
+  pub seen : scan.looked ≤ length unread
+  pub stands : StandsFor pending scan (take scan.looked unread)
+  pub waits : reached scan ≡ Need → scan.looked ≡ length unread
+  pub counted : min (scanned + length unread) greatest ≤ given

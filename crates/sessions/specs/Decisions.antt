@@ -1,0 +1,45 @@
+-- What a command comes to, decided from what its account has.
+use Rattle.std.specs.Prelude.{◌≡◌, ℕ, Bool, true, false, List, Option, Some, None}
+use Rattle.std.specs.FinMap.{keys}
+use Rattle.msproto.specs.declared.commands.Command.{Command}
+use Rattle.msproto.specs.declared.commands.Command.TheVariants.{HaveSpace, PutScript, ListScripts, SetActive, DeleteScript, RenameScript}
+use Rattle.mailstore.specs.Account.{Account, keeps_script, activates}
+use Rattle.sessions.specs.declared.decision.Change.{Change}
+use Rattle.sessions.specs.declared.decision.Change.TheVariants.{Put, Activate, Delete, Rename}
+use Rattle.sessions.specs.declared.decision.Decision.{Decision}
+use Rattle.sessions.specs.Replies.{value_of}
+use Rattle.sessions.specs.Scripts.{RepliesTo, deletes_script, renames_script, obeyed}
+
+-- the account has scripts of these names
+abbrev pub AreNames : List (List ℕ) → Account → Type 0
+AreNames names a = names ≡ keys a.scripts
+
+-- and this one of them is active, if one is
+abbrev pub AreScripts : List (List ℕ) → Option (List ℕ) → Account → Type 0
+AreScripts names active a = AreNames names a × (a.active ≡ active)
+
+-- the account after a change
+abbrev pub change_made : Change → Account → Account
+change_made (Put name script) a = keeps_script name.now script.now a
+change_made (Activate name) a = activates (value_of name) a
+change_made (Delete name) a = deletes_script name.now a
+change_made (Rename old new) a = renames_script old.now new.now a
+
+abbrev pub change_made_if : Option Change → Account → Account
+change_made_if None a = a
+change_made_if (Some change) a = change_made change a
+
+-- of every account that fits: the answer is one of the command's row, and the change is what the answer says
+pub record IsDecision (Fits : Account → Type 0) (command : Command) (decision : Decision) : Type 0 where
+  pub replies : (a : Account) → Fits a → RepliesTo a command decision.reply
+  pub changes : (a : Account) → change_made_if decision.change a ≡ obeyed command decision.reply.word a
+
+-- a command that is decided by the names of the account's scripts and by which one is active
+abbrev pub goes_by_names : Command → Bool
+goes_by_names (HaveSpace name size) = true
+goes_by_names (PutScript name script) = true
+goes_by_names ListScripts = true
+goes_by_names (SetActive name) = true
+goes_by_names (DeleteScript name) = true
+goes_by_names (RenameScript old new) = true
+goes_by_names _ = false

@@ -1,0 +1,39 @@
+-- Giving up on what comes first, where it can't be answered now.
+use Rattle.std.specs.Prelude.{ℕ, cond, List, []}
+use Rattle.msproto.specs.declared.items.Reach.{Reach}
+use Rattle.msproto.specs.declared.items.Reach.TheVariants as reach
+use Rattle.msproto.specs.Replies.{spelled}
+use Rattle.sessions.specs.declared.progress.Progress.{Progress}
+use Rattle.sessions.specs.declared.progress.Progress.TheVariants.{Need, Done, Close}
+use Rattle.sessions.specs.Clients.{Client, reach_in, past, shut}
+use Rattle.sessions.specs.Replies.{try_later, too_big}
+
+abbrev pub text_by : Reach → List ℕ
+text_by reach.Need = []
+text_by (reach.Command used) = spelled try_later
+text_by (reach.Bad used) = spelled try_later
+text_by reach.TooBig = spelled too_big
+
+abbrev pub client_by : Reach → Client → Client
+client_by reach.Need c = c
+client_by (reach.Command used) c = past used c
+client_by (reach.Bad used) c = past used c
+client_by reach.TooBig c = shut c
+
+abbrev pub progress_by : Reach → Progress
+progress_by reach.Need = Need
+progress_by (reach.Command used) = Done
+progress_by (reach.Bad used) = Done
+progress_by reach.TooBig = Close
+
+-- what giving up answers: nothing where no item is whole, or the session is closed
+abbrev pub text_given_up : Client → List ℕ
+text_given_up c = cond c.closed [] (text_by (reach_in c))
+
+-- the session after it: the item is dropped, and a pending challenge is over
+abbrev pub client_given_up : Client → Client
+client_given_up c = cond c.closed c (client_by (reach_in c) c)
+
+-- how the session goes on
+abbrev pub progress_given_up : Client → Progress
+progress_given_up c = cond c.closed Close (progress_by (reach_in c))

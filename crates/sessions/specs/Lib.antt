@@ -1,0 +1,12 @@
+pub mod Clients
+pub mod Counts
+pub mod Decisions
+pub mod GivenUp
+pub mod Laws
+pub mod Limits
+pub mod Logins
+pub mod Replies
+pub mod Scripts
+pub mod Steps
+pub mod Table
+pub mod Turns

@@ -1,0 +1,178 @@
+-- What a command about scripts answers, and what it makes of an account (RFC 5804, sections 2.5 to 2.12).
+use Rattle.std.specs.Prelude.{◌≡◌, ℕ, ◌+◌, ◌<◌, ◌≤◌, ◌⊎◌, Bool, false, cond, nat_eq, List, [], ◌∷◌, length, map, codes, Option, Some, None, IsSome}
+use Rattle.std.specs.Cmp.Lexicographic.{pointwise}
+use Rattle.std.specs.FinMap.{get, insert, remove, len, keys}
+use Rattle.sievelex.specs.declared.fault.FaultKind.{FaultKind}
+use Rattle.sievelex.specs.declared.fault.ScriptFault.{ScriptFault}
+use Rattle.sievelex.specs.Faults.{fault_line}
+use Rattle.sievelex.specs.Text.{line_ends}
+use Rattle.sievesyntax.specs.Tree.{Commands}
+use Rattle.sievesyntax.specs.Means.{Means}
+use Rattle.msproto.specs.declared.commands.Command.{Command}
+use Rattle.msproto.specs.declared.commands.Command.TheVariants.{HaveSpace, PutScript, ListScripts, SetActive, GetScript, DeleteScript, RenameScript}
+use Rattle.msproto.specs.declared.replies.Reply.{Reply}
+use Rattle.msproto.specs.declared.replies.Line.{Line}
+use Rattle.msproto.specs.declared.replies.Line.TheVariants as line
+use Rattle.msproto.specs.declared.replies.Status.{Status}
+use Rattle.msproto.specs.declared.replies.Code.TheVariants.{MaxSize, MaxScripts, NonExistent, Active, AlreadyExists}
+use Rattle.mailstore.specs.Account.{Account, Scripts, keeps_script, activates}
+use Rattle.sessions.specs.Limits.{script_limit, scripts_limit, IsScriptName}
+use Rattle.sessions.specs.Replies.{accepted, declined, listed, done, is_ok}
+
+-- ---- checks in their order
+
+-- where the fact holds the first, else the second
+abbrev pub Where : Type 0 → Type 0 → Type 0 → Type 0
+Where fact holds fails = (fact × holds) ⊎ ((fact → ⊥) × fails)
+
+-- a script of that name is there
+abbrev pub HasScript : Account → List ℕ → Type 0
+HasScript a name = IsSome (get a.scripts name)
+
+-- a script of that name is there, or there are fewer than may be
+abbrev pub HasRoom : Account → List ℕ → Type 0
+HasRoom a name = HasScript a name ⊎ (len a.scripts < scripts_limit)
+
+-- a name that can be made active: a script's, or the empty one for none
+abbrev pub IsChoice : Account → List ℕ → Type 0
+IsChoice a name = (name ≡ []) ⊎ HasScript a name
+
+-- some tree is the text's
+abbrev pub IsValid : List ℕ → Type 0
+IsValid text = (tree : Commands) × Means text tree
+
+-- ---- replies that several commands have
+
+abbrev pub bad_name : Reply
+bad_name = declined None (codes "Bad script name.")
+
+abbrev pub too_large : Reply
+too_large = declined (Some MaxSize) (codes "Script too large.")
+
+abbrev pub too_many : Reply
+too_many = declined (Some MaxScripts) (codes "Too many scripts.")
+
+abbrev pub absent : Reply
+absent = declined (Some NonExistent) (codes "No such script.")
+
+-- a reply that tells of a fault on one of the text's lines; which line and which fault is open
+abbrev pub TellsFault : List ℕ → Reply → Type 0
+TellsFault text reply =
+    (line : ℕ) × (kind : FaultKind) × (1 ≤ line) × (line ≤ 1 + line_ends text) × (reply ≡ declined None (fault_line line kind))
+
+-- what is wrong with a text as a script: nothing, or a fault on one of its lines
+abbrev pub IsVerdict : List ℕ → Option ScriptFault → Type 0
+IsVerdict text None = IsValid text
+IsVerdict text (Some fault) = (IsValid text → ⊥) × (1 ≤ fault.line) × (fault.line ≤ 1 + line_ends text)
+
+-- to a text that is looked at as a script: this reply where it is one, else its fault
+abbrev pub RepliesToText : List ℕ → Reply → Reply → Type 0
+RepliesToText text right reply = Where (IsValid text) (reply ≡ right) (TellsFault text reply)
+
+-- ---- the table, row by row
+
+-- `HAVESPACE` (RFC 5804, 2.5)
+abbrev pub RepliesToHaveSpace : Account → List ℕ → ℕ → Reply → Type 0
+RepliesToHaveSpace a name size reply =
+    Where (IsScriptName name)
+    (Where (size ≤ script_limit)
+    (Where (HasRoom a name) (reply ≡ done) (reply ≡ too_many))
+    (reply ≡ too_large))
+    (reply ≡ bad_name)
+
+-- `PUTSCRIPT` (RFC 5804, 2.6)
+abbrev pub RepliesToPut : Account → List ℕ → List ℕ → Reply → Type 0
+RepliesToPut a name text reply =
+    Where (IsScriptName name)
+    (Where (length text ≤ script_limit)
+    (Where (HasRoom a name) (RepliesToText text (accepted (codes "Stored.")) reply) (reply ≡ too_many))
+    (reply ≡ too_large))
+    (reply ≡ bad_name)
+
+-- `CHECKSCRIPT` (RFC 5804, 2.12), which looks at no account
+abbrev pub RepliesToCheck : List ℕ → Reply → Type 0
+RepliesToCheck text reply = Where (length text ≤ script_limit) (RepliesToText text (accepted (codes "Valid.")) reply) (reply ≡ too_large)
+
+-- whether the name is the active one
+abbrev pub is_active : Option (List ℕ) → List ℕ → Bool
+is_active None name = false
+is_active (Some active) name = pointwise nat_eq active name
+
+-- the names of scripts as lines, each with the mark of the active one
+abbrev pub script_lines : Option (List ℕ) → List (List ℕ) → List Line
+script_lines active names = map (λ name. line.Script name (is_active active name)) names
+
+-- `LISTSCRIPTS` (RFC 5804, 2.7): the names in the order of their octets
+abbrev pub list_reply : Account → Reply
+list_reply a = listed (script_lines a.active (keys a.scripts))
+
+-- `SETACTIVE` (RFC 5804, 2.8): the empty name makes none active
+abbrev pub RepliesToSet : Account → List ℕ → Reply → Type 0
+RepliesToSet a name reply = Where (IsChoice a name) (reply ≡ done) (reply ≡ absent)
+
+-- `GETSCRIPT` (RFC 5804, 2.9), by the text of that name
+abbrev pub get_reply : Option (List ℕ) → Reply
+get_reply None = absent
+get_reply (Some text) = listed (line.Text text ∷ [])
+
+-- `DELETESCRIPT` (RFC 5804, 2.10)
+abbrev pub RepliesToDelete : Account → List ℕ → Reply → Type 0
+RepliesToDelete a name reply =
+    Where (HasScript a name)
+    (Where (a.active ≡ Some name) (reply ≡ declined (Some Active) (codes "Script is active.")) (reply ≡ done))
+    (reply ≡ absent)
+
+-- `RENAMESCRIPT` (RFC 5804, 2.11.1): the new name must be free, so it isn't the old one
+abbrev pub RepliesToRename : Account → List ℕ → List ℕ → Reply → Type 0
+RepliesToRename a old new reply =
+    Where (HasScript a old)
+    (Where (IsScriptName new)
+    (Where (HasScript a new) (reply ≡ declined (Some AlreadyExists) (codes "Name is taken.")) (reply ≡ done))
+    (reply ≡ bad_name))
+    (reply ≡ absent)
+
+-- what is answered to a command about the account's scripts; to another command nothing is
+abbrev pub RepliesTo : Account → Command → Reply → Type 0
+RepliesTo a (HaveSpace name size) reply = RepliesToHaveSpace a name size reply
+RepliesTo a (PutScript name script) reply = RepliesToPut a name script reply
+RepliesTo a ListScripts reply = reply ≡ list_reply a
+RepliesTo a (SetActive name) reply = RepliesToSet a name reply
+RepliesTo a (GetScript name) reply = reply ≡ get_reply (get a.scripts name)
+RepliesTo a (DeleteScript name) reply = RepliesToDelete a name reply
+RepliesTo a (RenameScript old new) reply = RepliesToRename a old new reply
+RepliesTo a _ reply = ⊥
+
+-- ---- what changes
+
+-- the script that a name makes active
+abbrev pub chosen : List ℕ → Option (List ℕ)
+chosen [] = None
+chosen (octet ∷ rest) = Some (octet ∷ rest)
+
+-- the script of that name goes
+abbrev pub deletes_script : List ℕ → Account → Account
+deletes_script name a = record a { scripts = remove a.scripts name }
+
+-- the active name, where a script gets another name
+abbrev pub active_after : List ℕ → List ℕ → Option (List ℕ) → Option (List ℕ)
+active_after old new active = cond (is_active active old) (Some new) active
+
+abbrev pub scripts_renamed : List ℕ → List ℕ → Scripts → Option (List ℕ) → Scripts
+scripts_renamed old new scripts None = scripts
+scripts_renamed old new scripts (Some text) = insert (remove scripts old) new text
+
+-- a script gets another name, and stays active if it was
+abbrev pub renames_script : List ℕ → List ℕ → Account → Account
+renames_script old new a = record a { scripts = scripts_renamed old new a.scripts (get a.scripts old); active = active_after old new a.active }
+
+-- the account after a command that was carried out
+abbrev pub carried_out : Command → Account → Account
+carried_out (PutScript name script) a = keeps_script name script a
+carried_out (SetActive name) a = activates (chosen name) a
+carried_out (DeleteScript name) a = deletes_script name a
+carried_out (RenameScript old new) a = renames_script old new a
+carried_out _ a = a
+
+-- the account after a command whose answer has this word: it changes where the word is OK, and nowhere else
+abbrev pub obeyed : Command → Option Status → Account → Account
+obeyed command word a = cond (is_ok word) (carried_out command a) a

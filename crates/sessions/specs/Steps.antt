@@ -1,0 +1,87 @@
+-- One step of a session: the first item is taken off and answered.
+use Rattle.std.specs.Prelude.{◌≡◌, ℕ, Bool, true, false, cond, not, ◌&&◌, List, [], ◌++◌, Option, Some, None, MatchBool}
+use Rattle.msproto.specs.declared.commands.Command.{Command}
+use Rattle.msproto.specs.declared.commands.Command.TheVariants.{Capability, Noop, Logout, Unauthenticate, CheckScript}
+use Rattle.msproto.specs.declared.items.Item.{Item}
+use Rattle.msproto.specs.declared.items.Item.TheVariants as item
+use Rattle.msproto.specs.declared.replies.Reply.{Reply}
+use Rattle.msproto.specs.Replies as octets_of
+use Rattle.mailstore.specs.Account.{Account, Accounts, with_user}
+use Rattle.sessions.specs.declared.progress.Progress.{Progress}
+use Rattle.sessions.specs.declared.progress.Progress.TheVariants.{Need, Done, Close}
+use Rattle.sessions.specs.Clients.{Client, item_in, reach_in, is_command, past, shut}
+use Rattle.sessions.specs.Replies.{syntax, too_big}
+use Rattle.sessions.specs.Scripts.{obeyed}
+use Rattle.sessions.specs.Table.{is_early, RepliesIn, client_in}
+
+-- the account of the user who is logged in is changed, and no other
+abbrev pub changed_for : Option (List ℕ) → (Account → Account) → Accounts → Accounts
+changed_for None change accounts = accounts
+changed_for (Some user) change accounts = with_user accounts user change
+
+-- how a session goes on that was just left so
+abbrev pub progress_of : Client → Progress
+progress_of c = cond c.closed Close Done
+
+-- a command is answered by a reply of its row, which decides what changes
+pub record Obeys (accounts : Accounts) (c : Client) (command : Command) (progress : Progress) (octets : List ℕ) (d : Client) (later : Accounts) : Type 0 where
+  pub reply : Reply
+  pub replies : RepliesIn accounts c command reply
+  pub spelled : octets ≡ octets_of.spelled reply
+  pub session : d ≡ client_in accounts command c
+  pub goes_on : progress ≡ progress_of d
+  pub changed : later ≡ changed_for c.user (obeyed command reply.word) accounts
+
+-- nothing changes but the session
+abbrev pub Answers : Accounts → Progress → List ℕ → Client → Progress → List ℕ → Client → Accounts → Type 0
+Answers accounts said text left progress octets d later = (progress ≡ said) × (octets ≡ text) × (d ≡ left) × (later ≡ accounts)
+
+-- what becomes of the first item: what is answered, and the session and the accounts after it
+abbrev pub StepsAt : Accounts → Client → Item → Progress → List ℕ → Client → Accounts → Type 0
+StepsAt accounts c item.Need progress octets d later = Answers accounts Need [] c progress octets d later
+StepsAt accounts c (item.Command command used) progress octets d later = Obeys accounts (past used c) command progress octets d later
+StepsAt accounts c (item.Bad used) progress octets d later = Answers accounts Done (octets_of.spelled syntax) (past used c) progress octets d later
+StepsAt accounts c item.TooBig progress octets d later = Answers accounts Close (octets_of.spelled too_big) (shut c) progress octets d later
+
+-- a step of this session over these accounts, with this answer, leaves the session and the accounts so
+abbrev pub IsStep : Accounts → Client → Progress → List ℕ → Client → Accounts → Type 0
+IsStep accounts c progress octets d later =
+    MatchBool c.closed (Answers accounts Close [] c progress octets d later) (StepsAt accounts c (item_in c) progress octets d later)
+
+-- what was written between two outputs answers a step that leaves the session so, and all accounts as they are
+pub record StepsOver (c d : Client) (progress : Progress) (before later : List ℕ) : Type 0 where
+  pub octets : List ℕ
+  pub written : later ≡ before ++ octets
+  pub step : (accounts : Accounts) → IsStep accounts c progress octets d accounts
+
+-- a command stands first, in a session that hasn't ended
+abbrev pub has_command : Client → Bool
+has_command c = not c.closed && is_command (reach_in c)
+
+-- ---- which steps may be refused
+
+-- a command that is answered without the store
+abbrev pub is_free : Command → Bool
+is_free Capability = true
+is_free (Noop tag) = true
+is_free Logout = true
+is_free Unauthenticate = true
+is_free (CheckScript text) = true
+is_free _ = false
+
+-- whether the store is asked about the item
+abbrev pub asks_store : Client → Item → Bool
+asks_store c (item.Command command used) = not (is_early c command) && not (is_free command)
+asks_store c _ = false
+
+-- whether memory is asked for
+abbrev pub asks_memory : Item → Bool
+asks_memory item.Need = false
+asks_memory _ = true
+
+-- whether a step may be refused as Memory, and as Store
+abbrev pub may_lack : Client → Bool
+may_lack c = not c.closed && asks_memory (item_in c)
+
+abbrev pub may_fail : Client → Bool
+may_fail c = not c.closed && asks_store c (item_in c)

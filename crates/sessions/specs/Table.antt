@@ -1,0 +1,75 @@
+-- The table of the commands: what each answers in a session, and what becomes of the session (RFC 5804, section 2).
+use Rattle.std.specs.Prelude.{◌≡◌, Bool, true, false, cond, ◌&&◌, is_none, List, ℕ, Option, Some, None, MatchBool, codes}
+use Rattle.std.specs.FinMap.{get}
+use Rattle.msproto.specs.declared.commands.Command.{Command}
+use Rattle.msproto.specs.declared.commands.Command.TheVariants.{Capability, Noop, Logout, Authenticate, Unauthenticate, HaveSpace, PutScript, CheckScript, ListScripts, SetActive, GetScript, DeleteScript, RenameScript, Response}
+use Rattle.msproto.specs.declared.replies.Reply.{Reply}
+use Rattle.mailstore.specs.Account.{Account, Accounts}
+use Rattle.sessions.specs.Clients.{Client, shut, left}
+use Rattle.sessions.specs.Replies.{accepted, declined, done, done_with, capabilities}
+use Rattle.sessions.specs.Scripts.{RepliesTo, RepliesToCheck}
+use Rattle.sessions.specs.Logins.{authenticate_reply, authenticate_client, response_reply, response_client}
+
+-- a command of a user who is logged in
+abbrev pub needs_login : Command → Bool
+needs_login Capability = false
+needs_login (Noop tag) = false
+needs_login Logout = false
+needs_login (Authenticate mechanism response) = false
+needs_login (Response text) = false
+needs_login _ = true
+
+-- a command about the scripts of an account
+abbrev pub is_about_scripts : Command → Bool
+is_about_scripts (HaveSpace name size) = true
+is_about_scripts (PutScript name script) = true
+is_about_scripts ListScripts = true
+is_about_scripts (SetActive name) = true
+is_about_scripts (GetScript name) = true
+is_about_scripts (DeleteScript name) = true
+is_about_scripts (RenameScript old new) = true
+is_about_scripts _ = false
+
+-- what is answered to a command that is early
+abbrev pub early_reply : Reply
+early_reply = declined None (codes "Log in first.")
+
+-- such a command before anybody is logged in
+abbrev pub is_early : Client → Command → Bool
+is_early c command = needs_login command && is_none c.user
+
+-- the account of the user who is logged in
+abbrev pub account_of : Accounts → Option (List ℕ) → Option Account
+account_of accounts None = None
+account_of accounts (Some user) = get accounts user
+
+-- what is answered about an account; where there is none no answer is right
+abbrev pub RepliesOf : Option Account → Command → Reply → Type 0
+RepliesOf None command reply = ⊥
+RepliesOf (Some a) command reply = RepliesTo a command reply
+
+-- what is answered to a command that isn't early
+abbrev pub RepliesTaken : Accounts → Client → Command → Reply → Type 0
+RepliesTaken accounts c Capability reply = reply ≡ capabilities c.user
+RepliesTaken accounts c (Noop tag) reply = reply ≡ done_with tag
+RepliesTaken accounts c Logout reply = reply ≡ accepted (codes "Bye.")
+RepliesTaken accounts c (Authenticate mechanism response) reply = reply ≡ authenticate_reply accounts c mechanism response
+RepliesTaken accounts c (Response text) reply = reply ≡ response_reply accounts c text
+RepliesTaken accounts c Unauthenticate reply = reply ≡ done
+RepliesTaken accounts c (CheckScript text) reply = RepliesToCheck text reply
+RepliesTaken accounts c command reply = RepliesOf (account_of accounts c.user) command reply
+
+-- what is answered to a command in a session; of one that is early nothing else is looked at
+abbrev pub RepliesIn : Accounts → Client → Command → Reply → Type 0
+RepliesIn accounts c command reply = MatchBool (is_early c command) (reply ≡ early_reply) (RepliesTaken accounts c command reply)
+
+abbrev pub taken_client : Accounts → Command → Client → Client
+taken_client accounts Logout c = shut c
+taken_client accounts (Authenticate mechanism response) c = authenticate_client accounts mechanism response c
+taken_client accounts (Response text) c = response_client accounts text c
+taken_client accounts Unauthenticate c = left c
+taken_client accounts _ c = c
+
+-- the session after a command
+abbrev pub client_in : Accounts → Command → Client → Client
+client_in accounts command c = cond (is_early c command) c (taken_client accounts command c)

@@ -1,0 +1,69 @@
+-- What a command that isn't about scripts comes to, decided from what the session and the login have.
+use Rattle.std.specs.Prelude.{◌≡◌, ℕ, Bool, true, false, cond, ◌&&◌, is_none, List, Option, Some, None}
+use Rattle.msproto.specs.declared.commands.Command.{Command}
+use Rattle.msproto.specs.declared.commands.Command.TheVariants.{Authenticate, Response}
+use Rattle.saslplain.specs.declared.password.Record.{Record}
+use Rattle.mailstore.specs.Account.{Accounts, Password}
+use Rattle.sessions.specs.declared.turn.Turn.{Turn}
+use Rattle.sessions.specs.declared.turn.Sequel.{Sequel}
+use Rattle.sessions.specs.declared.turn.Sequel.TheVariants.{Stay, Close, Challenge, LogIn, Fail, LogOut}
+use Rattle.sessions.specs.Clients.{Client, shut, challenged, left}
+use Rattle.sessions.specs.Logins.{admitted, is_plain, is_star, login_reply, login_client}
+use Rattle.sessions.specs.Replies.{declined}
+use Rattle.sessions.specs.Table.{RepliesTaken, taken_client}
+
+-- the session behind it
+abbrev pub followed : Sequel → Client → Client
+followed Stay c = c
+followed Close c = shut c
+followed Challenge c = challenged c
+followed (LogIn user) c = login_client (Some user) c
+followed Fail c = login_client None c
+followed LogOut c = left c
+
+-- of all accounts and every session that fit: the answer is that of the command's row, and the session becomes what the table says
+pub record IsTurn (Fits : Accounts → Client → Type 0) (command : Command) (turn : Turn) : Type 0 where
+  pub replies : (accounts : Accounts) (c : Client) → Fits accounts c → RepliesTaken accounts c command turn.reply
+  pub session : (accounts : Accounts) (c : Client) → Fits accounts c → taken_client accounts command c ≡ followed turn.sequel c
+
+-- this user is logged in, or nobody
+abbrev pub HasUser : Option (List ℕ) → Accounts → Client → Type 0
+HasUser user accounts c = c.user ≡ user
+
+-- ---- logins
+
+-- a command of a login's exchange
+abbrev pub is_login : Command → Bool
+is_login (Authenticate mechanism response) = true
+is_login (Response text) = true
+is_login _ = false
+
+-- the text that decides a login, where the command has one and it is looked at
+abbrev pub login_text : Option (List ℕ) → Command → Option (List ℕ)
+login_text user (Authenticate mechanism (Some text)) = cond (is_none user && is_plain mechanism) (Some text) None
+login_text user (Response text) = cond (is_star text) None (Some text)
+login_text user _ = None
+
+-- the user whom it logs in
+abbrev pub admitted_in : Accounts → Option (List ℕ) → Option (List ℕ)
+admitted_in accounts None = None
+admitted_in accounts (Some text) = admitted accounts text
+
+-- this user is logged in or nobody, so many logins failed, and the command's text logs this one in, or none
+pub record FitsLogin (user : Option (List ℕ)) (failures : ℕ) (command : Command) (who : Option (List ℕ)) (accounts : Accounts) (c : Client) : Type 0 where
+  pub user_is : c.user ≡ user
+  pub failed : c.failures ≡ failures
+  pub admits : admitted_in accounts (login_text user command) ≡ who
+
+-- a turn that is a login's: this user's, or a failed one
+pub record IsLoginTurn (who : Option (List ℕ)) (failures : ℕ) (turn : Turn) : Type 0 where
+  pub reply_is : turn.reply ≡ login_reply who failures
+  pub session_is : (c : Client) → login_client who c ≡ followed turn.sequel c
+
+-- `NO` and a text, and the session stays
+abbrev pub stays : List ℕ → Turn
+stays text = record { reply = declined None text; sequel = Stay }
+
+-- a kept password, as the account has it
+abbrev pub password_of : Record → Password
+password_of kept = record { salt = kept.salt; rounds = kept.rounds; digest = kept.digest }

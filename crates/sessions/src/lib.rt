@@ -1,0 +1,19 @@
+//! One client's session of ManageSieve (RFC 5804): octets come in pieces, and items are taken off and answered.
+#![tactic(auto)]
+
+pub mod decision;
+pub mod free;
+pub mod laws;
+pub mod login;
+pub mod progress;
+pub mod replies;
+pub mod script_name;
+pub mod scripts;
+pub mod session;
+pub mod turn;
+mod unread;
+
+pub use decision::{Change, Decision};
+pub use progress::Progress;
+pub use session::Session;
+pub use turn::{Sequel, Turn};

@@ -1,0 +1,162 @@
+//! Logins by PLAIN (RFC 5804, section 2.1; RFC 4616).
+ghost use Rattle.std.specs.Prelude.{◌≡◌, true, Option, Some, None, IfOk};
+ghost use Rattle.msproto.specs.declared.commands.Command.TheVariants as command;
+ghost use Rattle.sessions.specs.Logins as s;
+ghost use Rattle.sessions.specs.Replies.{value_of};
+ghost use Rattle.sessions.specs.Turns as t;
+
+use crate::replies::{accepted, challenge, declined, farewell};
+use crate::turn::{Sequel, Turn};
+use msproto::{Command, Reply};
+use octets::Octets;
+use saslplain::{Login, Record, accepts};
+use std::alloc::{AllocError, Global};
+
+/// How many logins may fail before a further failure ends the session: this project's own limit.
+pub(crate) const MAX_FAILURES: u32 = 2;
+
+/// The text that decides a login, where the command has one and it is looked at: not where somebody is logged in already,
+/// the mechanism isn't PLAIN, or the exchange is cancelled. Takes no memory.
+pub fn login_text<'a>(user: &Option<Octets>, command: &'a Command) -> Option<&'a [u8]>
+    ensures { value_of result ≡ t.login_text user.now command.entry.now }
+{
+    match command {
+        Command::Authenticate {
+            mechanism,
+            response: Some(text),
+        } if user.is_none() && is_plain(mechanism.as_slice()) => Some(text.as_slice()),
+        Command::Response(text) if !is_star(text.as_slice()) => Some(text.as_slice()),
+        _ => None,
+    }
+}
+
+/// Whether the login's password is the one that its user's account keeps. Takes no memory, and as long as `accepts`.
+pub fn has_password(login: &Login, kept: &Record) -> bool
+    ensures { result ≡ s.has_password login.now.password (t.password_of kept.now) }
+{
+    accepts(kept, login.password.as_slice())
+}
+
+/// What `AUTHENTICATE` and the answer to a challenge come to, in a session where this user is logged in or nobody, and so
+/// many logins failed; the text that decides the login (`login_text`) logs this one in, or none.
+///
+/// Lack of memory is the only error.
+pub fn exchange(
+    alloc: Global,
+    user: &Option<Octets>,
+    failures: u32,
+    command: &Command,
+    who: Option<Octets>,
+) -> Result<Turn, AllocError>
+    requires { t.is_login command.now ≡ true }
+    ensures { IfOk result (t.IsTurn (t.FitsLogin user.now failures command.now who) command.now) }
+{
+    match command {
+        Command::Authenticate {
+            mechanism,
+            response,
+        } => authenticate(alloc, user, failures, mechanism.as_slice(), response, who),
+        Command::Response(text) => respond(alloc, user, failures, text.as_slice(), who),
+        _ => unreachable!(),
+    }
+}
+
+// `AUTHENTICATE` (RFC 5804, 2.1).
+fn authenticate(
+    alloc: Global,
+    user: &Option<Octets>,
+    failures: u32,
+    mechanism: &[u8],
+    response: &Option<Octets>,
+    who: Option<Octets>,
+) -> Result<Turn, AllocError>
+    ensures { let sent = command.Authenticate mechanism.now response.now in IfOk result (t.IsTurn (t.FitsLogin user.now failures sent who) sent) }
+{
+    if user.is_some() {
+        return stay(alloc, b"Already logged in.");
+    }
+    if !is_plain(mechanism) {
+        return stay(alloc, b"Unknown mechanism.");
+    }
+    if response.is_none() {
+        return Ok(Turn {
+            reply: challenge(alloc)?,
+            sequel: Sequel::Challenge,
+        });
+    }
+    log_in(alloc, failures, who)
+}
+
+// The answer to a challenge (RFC 5804, 2.1).
+fn respond(
+    alloc: Global,
+    user: &Option<Octets>,
+    failures: u32,
+    text: &[u8],
+    who: Option<Octets>,
+) -> Result<Turn, AllocError>
+    ensures { let sent = command.Response text.now in IfOk result (t.IsTurn (t.FitsLogin user.now failures sent who) sent) }
+{
+    if is_star(text) {
+        return stay(alloc, b"Cancelled.");
+    }
+    log_in(alloc, failures, who)
+}
+
+// A login that this user made, or nobody.
+fn log_in(alloc: Global, failures: u32, who: Option<Octets>) -> Result<Turn, AllocError>
+    ensures { IfOk result (t.IsLoginTurn who failures) }
+{
+    let Some(user) = who else {
+        return fail(alloc, failures);
+    };
+    let reply = accepted(alloc, b"Logged in.")?;
+    Ok(Turn {
+        reply,
+        sequel: Sequel::LogIn(user),
+    })
+}
+
+fn fail(alloc: Global, failures: u32) -> Result<Turn, AllocError>
+    ensures { IfOk result (t.IsLoginTurn None failures) }
+{
+    let reply = failure(alloc, failures)?;
+    Ok(Turn {
+        reply,
+        sequel: Sequel::Fail,
+    })
+}
+
+fn failure(alloc: Global, failures: u32) -> Result<Reply, AllocError>
+    ensures { IfOk result (λ reply. reply ≡ s.login_reply None failures) }
+{
+    if failures < MAX_FAILURES {
+        return declined(alloc, None, b"Authentication failed.");
+    }
+    farewell(alloc, b"Too many failures.")
+}
+
+// `NO`, and the session stays.
+fn stay(alloc: Global, text: &[u8]) -> Result<Turn, AllocError>
+    ensures { IfOk result (λ turn. turn ≡ t.stays text.now) }
+{
+    let reply = declined(alloc, None, text)?;
+    Ok(Turn {
+        reply,
+        sequel: Sequel::Stay,
+    })
+}
+
+// Whether it is the only mechanism, in letters of either case.
+fn is_plain(mechanism: &[u8]) -> bool
+    ensures { result ≡ s.is_plain mechanism.now }
+{
+    mechanism.eq_ignore_ascii_case(b"PLAIN")
+}
+
+// Whether the exchange is cancelled.
+fn is_star(text: &[u8]) -> bool
+    ensures { result ≡ s.is_star text.now }
+{
+    text == b"*".as_slice()
+}

@@ -1,0 +1,284 @@
+//! What the commands about scripts are answered (RFC 5804, sections 2.5 to 2.12), and what they change.
+ghost use Rattle.std.specs.Prelude.{◌≡◌, ℕ, ◌++◌, Bool, true, None, Some, IfOk, IsTrue, MatchBool, nat_eq, map};
+ghost use Rattle.std.specs.List.{list_any};
+ghost use Rattle.std.specs.Cmp.Lexicographic.{pointwise};
+ghost use Rattle.msproto.specs.declared.commands.Command.TheVariants as command;
+ghost use Rattle.sievelex.specs.Faults.{fault_line};
+ghost use Rattle.mailstore.specs.Account.{Account};
+ghost use Rattle.sessions.specs.Decisions.{AreNames, AreScripts, IsDecision, goes_by_names};
+ghost use Rattle.sessions.specs.Replies as r;
+ghost use Rattle.sessions.specs.Scripts as s;
+
+use crate::decision::{Change, Decision};
+use crate::replies::{accepted, declined, faulty, listed};
+use crate::script_name::is_script_name;
+use msproto::{Code, Command, Line, Reply};
+use octets::{ListOf, Octets};
+use sievelex::{ScriptError, ScriptFault};
+use sievesyntax::check;
+use std::alloc::{AllocError, Global};
+
+/// The most octets of a script: this project's own limit.
+pub const MAX_SCRIPT: usize = 65_536;
+
+/// The most scripts of a user: this project's own limit.
+pub const MAX_SCRIPTS: usize = 32;
+
+/// Decides a command by the names of the account's scripts, in the order of their octets, and by which one is active.
+///
+/// Time is linear in the names, and for `PUTSCRIPT` that of `check` besides. Lack of memory is the only error.
+pub fn decide<'a>(
+    alloc: Global,
+    names: &[Octets],
+    active: Option<&[u8]>,
+    command: &'a Command,
+) -> Result<Decision<'a>, AllocError>
+    requires { goes_by_names command.now ≡ true }
+    ensures { IfOk result (IsDecision (AreScripts names.now (r.value_of active.entry)) command.now) }
+{
+    match command {
+        Command::HaveSpace { name, size } => have_space(alloc, names, name.as_slice(), *size),
+        Command::PutScript { name, script } => {
+            put_script(alloc, names, name.as_slice(), script.as_slice())
+        }
+        Command::ListScripts => list_scripts(alloc, names, active),
+        Command::SetActive(name) => set_active(alloc, names, name.as_slice()),
+        Command::DeleteScript(name) => delete_script(alloc, names, active, name.as_slice()),
+        Command::RenameScript { old, new } => {
+            rename_script(alloc, names, old.as_slice(), new.as_slice())
+        }
+        _ => unreachable!(),
+    }
+}
+
+/// `GETSCRIPT` (RFC 5804, 2.9), by the text of the script of that name, which isn't copied.
+pub fn get_script(alloc: Global, text: Option<Octets>) -> Result<Reply, AllocError>
+    ensures { IfOk result (λ reply. reply ≡ s.get_reply text) }
+{
+    let Some(text) = text else {
+        return declined(alloc, Some(Code::NonExistent), b"No such script.");
+    };
+    let mut lines = ListOf::new(alloc);
+    lines.push(Line::Text(text))?;
+    Ok(listed(lines))
+}
+
+/// `CHECKSCRIPT` (RFC 5804, 2.12): the size and the text are looked at, and no account.
+pub fn check_script(alloc: Global, script: &[u8]) -> Result<Reply, AllocError>
+    ensures { IfOk result (s.RepliesToCheck script.now) }
+{
+    if script.len() > MAX_SCRIPT {
+        return declined(alloc, Some(Code::MaxSize), b"Script too large.");
+    }
+    if let Some(fault) = fault_in(alloc, script)? {
+        return faulty(alloc, fault);
+    }
+    accepted(alloc, b"Valid.")
+}
+
+// `HAVESPACE` (RFC 5804, 2.5).
+fn have_space<'a>(
+    alloc: Global,
+    names: &[Octets],
+    name: &[u8],
+    size: u32,
+) -> Result<Decision<'a>, AllocError>
+    ensures { IfOk result (IsDecision (AreNames names.now) (command.HaveSpace name.now size)) }
+{
+    if !is_script_name(name) {
+        return refuse(alloc, None, b"Bad script name.");
+    }
+    if size as usize > MAX_SCRIPT {
+        return refuse(alloc, Some(Code::MaxSize), b"Script too large.");
+    }
+    if !has_room(names, name) {
+        return refuse(alloc, Some(Code::MaxScripts), b"Too many scripts.");
+    }
+    agree(alloc, b"Done.", None)
+}
+
+// `PUTSCRIPT` (RFC 5804, 2.6).
+fn put_script<'a>(
+    alloc: Global,
+    names: &[Octets],
+    name: &'a [u8],
+    script: &'a [u8],
+) -> Result<Decision<'a>, AllocError>
+    ensures { IfOk result (IsDecision (AreNames names.now) (command.PutScript name.entry.now script.entry.now)) }
+{
+    if !is_script_name(name) {
+        return refuse(alloc, None, b"Bad script name.");
+    }
+    if script.len() > MAX_SCRIPT {
+        return refuse(alloc, Some(Code::MaxSize), b"Script too large.");
+    }
+    if !has_room(names, name) {
+        return refuse(alloc, Some(Code::MaxScripts), b"Too many scripts.");
+    }
+    if let Some(fault) = fault_in(alloc, script)? {
+        return tell(alloc, fault);
+    }
+    agree(alloc, b"Stored.", Some(Change::Put { name, script }))
+}
+
+// `LISTSCRIPTS` (RFC 5804, 2.7).
+fn list_scripts<'a>(
+    alloc: Global,
+    names: &[Octets],
+    active: Option<&[u8]>,
+) -> Result<Decision<'a>, AllocError>
+    ensures { IfOk result (IsDecision (AreScripts names.now (r.value_of active.entry)) command.ListScripts) }
+{
+    let lines = lines_of(alloc, names, active)?;
+    Ok(Decision {
+        reply: listed(lines),
+        change: None,
+    })
+}
+
+fn lines_of(
+    alloc: Global,
+    names: &[Octets],
+    active: Option<&[u8]>,
+) -> Result<ListOf<Line>, AllocError>
+    ensures { IfOk result (λ lines. lines ≡ s.script_lines (r.value_of active.entry) names.now) }
+{
+    let mut lines = ListOf::new(alloc);
+    for name in names {
+        let active = is_active(active, name.as_slice());
+        let name = name.copied(alloc)?;
+        lines.push(Line::Script { name, active })?;
+    }
+    Ok(lines)
+}
+
+// `SETACTIVE` (RFC 5804, 2.8): the empty name makes none active.
+fn set_active<'a>(
+    alloc: Global,
+    names: &[Octets],
+    name: &'a [u8],
+) -> Result<Decision<'a>, AllocError>
+    ensures { IfOk result (IsDecision (AreNames names.now) (command.SetActive name.entry.now)) }
+{
+    if name.is_empty() {
+        return agree(alloc, b"Done.", Some(Change::Activate(None)));
+    }
+    if !has_script(names, name) {
+        return refuse(alloc, Some(Code::NonExistent), b"No such script.");
+    }
+    agree(alloc, b"Done.", Some(Change::Activate(Some(name))))
+}
+
+// `DELETESCRIPT` (RFC 5804, 2.10).
+fn delete_script<'a>(
+    alloc: Global,
+    names: &[Octets],
+    active: Option<&[u8]>,
+    name: &'a [u8],
+) -> Result<Decision<'a>, AllocError>
+    ensures { IfOk result (IsDecision (AreScripts names.now (r.value_of active.entry)) (command.DeleteScript name.entry.now)) }
+{
+    if !has_script(names, name) {
+        return refuse(alloc, Some(Code::NonExistent), b"No such script.");
+    }
+    if is_active(active, name) {
+        return refuse(alloc, Some(Code::Active), b"Script is active.");
+    }
+    agree(alloc, b"Done.", Some(Change::Delete(name)))
+}
+
+// `RENAMESCRIPT` (RFC 5804, 2.11.1).
+fn rename_script<'a>(
+    alloc: Global,
+    names: &[Octets],
+    old: &'a [u8],
+    new: &'a [u8],
+) -> Result<Decision<'a>, AllocError>
+    ensures { IfOk result (IsDecision (AreNames names.now) (command.RenameScript old.entry.now new.entry.now)) }
+{
+    if !has_script(names, old) {
+        return refuse(alloc, Some(Code::NonExistent), b"No such script.");
+    }
+    if !is_script_name(new) {
+        return refuse(alloc, None, b"Bad script name.");
+    }
+    if has_script(names, new) {
+        return refuse(alloc, Some(Code::AlreadyExists), b"Name is taken.");
+    }
+    agree(alloc, b"Done.", Some(Change::Rename { old, new }))
+}
+
+// `NO`, and nothing changes.
+fn refuse<'a>(alloc: Global, code: Option<Code>, text: &[u8]) -> Result<Decision<'a>, AllocError>
+    ensures { IfOk result (λ decision. decision ≡ record { reply = r.declined code text.now; change = None }) }
+{
+    Ok(Decision {
+        reply: declined(alloc, code, text)?,
+        change: None,
+    })
+}
+
+// `NO` and the fault, and nothing changes.
+fn tell<'a>(alloc: Global, fault: ScriptFault) -> Result<Decision<'a>, AllocError>
+    ensures { IfOk result (λ decision. decision ≡ record { reply = r.declined None (fault_line fault.line fault.kind); change = None }) }
+{
+    Ok(Decision {
+        reply: faulty(alloc, fault)?,
+        change: None,
+    })
+}
+
+// `OK`, and what changes.
+fn agree<'a>(
+    alloc: Global,
+    text: &[u8],
+    change: Option<Change<'a>>,
+) -> Result<Decision<'a>, AllocError>
+    ensures { IfOk result (λ decision. decision ≡ record { reply = r.accepted text.now; change = change.entry }) }
+{
+    Ok(Decision {
+        reply: accepted(alloc, text)?,
+        change,
+    })
+}
+
+// What is wrong with a text as a script, if something is.
+fn fault_in(alloc: Global, script: &[u8]) -> Result<Option<ScriptFault>, AllocError>
+    ensures { IfOk result (s.IsVerdict script.now) }
+{
+    match check(alloc, script) {
+        Ok(_) => Ok(None),
+        Err(ScriptError::Fault(fault)) => Ok(Some(fault)),
+        Err(ScriptError::Memory) => Err(AllocError),
+    }
+}
+
+// Whether a script of that name may be stored beside those that are there.
+fn has_room(names: &[Octets], name: &[u8]) -> bool
+    ensures { (a : Account) → AreNames names.now a → MatchBool result (s.HasRoom a name.now) (s.HasRoom a name.now → ⊥) }
+{
+    has_script(names, name) || names.len() < MAX_SCRIPTS
+}
+
+// Whether a script has the name.
+fn has_script(names: &[Octets], name: &[u8]) -> bool
+    ensures { (a : Account) → AreNames names.now a → MatchBool result (s.HasScript a name.now) (s.HasScript a name.now → ⊥) }
+{
+    is_among(names, name)
+}
+
+fn is_among(names: &[Octets], name: &[u8]) -> bool
+    ensures { result ≡ list_any (pointwise nat_eq name.now) names.now }
+{
+    names.iter().any(|there| name == there.as_slice())
+}
+
+// Whether the name is the active script's.
+fn is_active(active: Option<&[u8]>, name: &[u8]) -> bool
+    ensures { result ≡ s.is_active (r.value_of active.entry) name.now }
+{
+    match active {
+        Some(active) => active == name,
+        None => false,
+    }
+}

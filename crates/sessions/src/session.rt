@@ -1,0 +1,301 @@
+//! One client's session.
+ghost use Rattle.std.specs.Prelude.{◌≡◌, ◌≤◌, ◌++◌, cond, true, false, None, Some, is_none, IfSome, IfNone, IfOk, OnOk, OnErr};
+ghost use Rattle.msproto.specs.Replies.{spelled};
+ghost use Rattle.sessions.specs.Clients.{client_given, is_item, is_ready, item_in, reach_in, without_first, left};
+ghost use Rattle.sessions.specs.Counts.{new_session, given_more, looked_in, scanned_past};
+ghost use Rattle.sessions.specs.GivenUp.{text_given_up, client_given_up};
+ghost use Rattle.sessions.specs.Logins.{login_client};
+ghost use Rattle.sessions.specs.Replies as r;
+ghost use Rattle.sessions.specs.Steps.{progress_of, StepsOver, has_command, may_lack};
+ghost use Rattle.sessions.specs.Turns.{followed};
+
+use crate::login::MAX_FAILURES;
+use crate::progress::Progress;
+use crate::replies::capabilities;
+use crate::turn::{Sequel, Turn};
+use crate::unread::Unread;
+use msproto::{Item, Reach, Scan, item_at, spell};
+use octets::Octets;
+use std::alloc::{AllocError, Global};
+use std::marker::Model;
+
+/// What is answered where an item can't be answered now (RFC 5804, section 1.3).
+const TRY_LATER: &[u8] = b"NO (TRYLATER) \"Try later.\"\r\n";
+
+/// What is answered to a line that is no command.
+const SYNTAX: &[u8] = b"NO \"Syntax error.\"\r\n";
+
+/// What is answered to more than is read.
+const TOO_BIG: &[u8] = b"BYE \"Too big.\"\r\n";
+
+/// A client's session: who is logged in, how many logins failed, the octets that came and are not yet taken off, whether
+/// a challenge waits for its answer, and whether the session has ended. Contracts see that, and two counts of octets: of
+/// those that came, and of those that the scans looked at whose items are taken off.
+///
+/// Each octet that comes is looked at once, by a scan for the end of the first item. A session holds at most what may stand
+/// unread: what is too big ends it.
+#[derive(Drop)]
+pub struct Session {
+    alloc: Global,
+    user: Option<Octets>,
+    failures: u32,
+    unread: Unread,
+    pending: bool,
+    closed: bool,
+    scan: Scan,
+    scanned: u64,
+    given: u64,
+}
+
+impl Model for Session {
+    ghost use Rattle.sessions.specs.Counts.{SessionView, IsScanned};
+
+    ghost Value = { SessionView };
+
+    ghost view = { λ s. record {
+      client = record { user = s.user; failures = s.failures; unread = s.unread; pending = s.pending; closed = s.closed };
+      given = s.given;
+      scanned = s.scanned;
+    } };
+
+    ghost invariant = { λ s. IsScanned s.pending s.scan s.unread s.scanned s.given };
+}
+
+impl Session {
+    /// A new session, whose greeting joins the output. Lack of memory is the only error, and the output then stays.
+    pub fn new(alloc: Global, out: &mut Octets) -> Result<Session, AllocError>
+        ensures begins { IfOk result (λ session. session ≡ new_session) }
+        ensures greets { OnOk result (out.new ≡ out.old ++ spelled (r.capabilities None)) }
+        ensures err { OnErr result (out.new ≡ out.old) }
+    {
+        let greeting = capabilities(alloc, &None)?;
+        spell(alloc, &greeting, out)?;
+        Ok(Session {
+            alloc,
+            user: None,
+            failures: 0,
+            unread: Unread::new(alloc),
+            pending: false,
+            closed: false,
+            scan: Scan::new(false),
+            scanned: 0,
+            given: 0,
+        })
+    }
+
+    /// A piece of the client's octets joins those that are not yet taken off, and is looked at up to the end of the first
+    /// item. A session that has ended keeps nothing of it. Lack of memory is the only error, and nothing changes then.
+    ///
+    /// Time over all pieces is linear in their octets.
+    pub fn give(&mut self, piece: &[u8]) -> Result<(), AllocError>
+        ensures joins { OnOk result (self.new.client ≡ client_given piece.now self.old.client) }
+        ensures counts { OnOk result (self.new.given ≡ given_more piece.now self.old) }
+        ensures scans { OnOk result (self.new.scanned ≡ self.old.scanned) }
+        ensures err { OnErr result (self.new ≡ self.old) }
+    {
+        if self.closed {
+            return Ok(());
+        }
+        self.unread.extend_from_slice(piece)?;
+        self.scan.feed(piece);
+        self.given = self.given.saturating_add(piece.len() as u64);
+        Ok(())
+    }
+
+    /// Whether an item can be taken off: one is whole, or the octets are too big; never once the session has ended.
+    /// Takes no memory and constant time.
+    pub fn ready(&self) -> bool
+        ensures { result ≡ is_ready self.now.client }
+    {
+        !self.closed && !matches!(self.scan.state(), Reach::Need)
+    }
+
+    /// Drops the first item, which can't be answered now, and a pending challenge with it, and gives what to answer: where
+    /// no item is whole, or the session has ended, nothing, and nothing changes. What is too big ends the session.
+    /// Takes no memory, and time linear in the octets up to the end of the next item.
+    pub fn give_up(&mut self) -> &'static [u8]
+        ensures text { result.now ≡ text_given_up self.old.client }
+        ensures client { self.new.client ≡ client_given_up self.old.client }
+        ensures counts { self.new.given ≡ self.old.given }
+        ensures scans { self.new.scanned ≡ cond self.old.client.closed self.old.scanned (scanned_past self.old) }
+    {
+        if self.closed {
+            return b"";
+        }
+        match self.scan.state() {
+            Reach::Need => b"",
+            Reach::TooBig => {
+                self.closed = true;
+                TOO_BIG
+            }
+            _ => {
+                self.take_off(false);
+                TRY_LATER
+            }
+        }
+    }
+
+    /// A step where no command comes first: a bad line is answered and taken off, what is too big ends the session, and
+    /// where no item is whole, or the session has ended, nothing is answered. None where a command comes first, and nothing
+    /// changes then. Lack of memory is the only error, where something is to be answered; nothing changes then.
+    pub fn step_over(&mut self, out: &mut Octets) -> Result<Option<Progress>, AllocError>
+        ensures step { IfOk result (λ told. IfSome told (λ progress. StepsOver self.old.client self.new.client progress out.old out.new)) }
+        ensures command { IfOk result (λ told. is_none told ≡ has_command self.old.client) }
+        ensures counts { OnOk result (self.new.given ≡ self.old.given) }
+        ensures scans { IfOk result (λ told. IfSome told (λ _. self.new.scanned ≡ cond self.old.client.closed self.old.scanned (scanned_past self.old))) }
+        ensures same { IfOk result (λ told. IfNone told ((self.new ≡ self.old) × (out.new ≡ out.old))) }
+        ensures err { OnErr result ((self.new ≡ self.old) × (out.new ≡ out.old)) }
+        ensures lacks { OnErr result (may_lack self.old.client ≡ true) }
+    {
+        if self.closed {
+            return Ok(Some(Progress::Close));
+        }
+        match self.scan.state() {
+            Reach::Need => Ok(Some(Progress::Need)),
+            Reach::Command(_) => Ok(None),
+            Reach::Bad(_) => {
+                out.extend_from_slice(SYNTAX)?;
+                self.take_off(false);
+                Ok(Some(Progress::Done))
+            }
+            Reach::TooBig => {
+                out.extend_from_slice(TOO_BIG)?;
+                self.closed = true;
+                Ok(Some(Progress::Close))
+            }
+        }
+    }
+
+    /// What comes first in the octets that are not yet taken off, with a command's value. Takes memory for a command's
+    /// strings alone, and lack of it is the only error. Nothing is scanned: a command's octets are read for its value.
+    pub fn item(&self) -> Result<Item, AllocError>
+        ensures { IfOk result (λ item. item ≡ item_in self.now.client) }
+    {
+        item_at(
+            self.alloc,
+            self.unread.as_slice(),
+            self.pending,
+            self.scan.state(),
+        )
+    }
+
+    /// Takes a command off that came to this: the answer joins the output, and then the session goes on so. The command
+    /// stands first in the octets that are not yet taken off.
+    ///
+    /// Lack of memory is the only error; nothing changes then, and the output stays.
+    pub fn take_turn(&mut self, turn: Turn, out: &mut Octets) -> Result<Progress, AllocError>
+        requires { is_item (reach_in self.old.client) ≡ true }
+        ensures told { OnOk result (out.new ≡ out.old ++ spelled turn.reply) }
+        ensures session { OnOk result (self.new.client ≡ followed turn.sequel (without_first false (reach_in self.old.client) self.old.client)) }
+        ensures goes_on { IfOk result (λ progress. progress ≡ progress_of self.new.client) }
+        ensures counts { OnOk result (self.new.given ≡ self.old.given) }
+        ensures scans { OnOk result (self.new.scanned ≡ scanned_past self.old) }
+        ensures err { OnErr result ((self.new ≡ self.old) × (out.new ≡ out.old)) }
+    {
+        let Turn { reply, sequel } = turn;
+        spell(self.alloc, &reply, out)?;
+        self.follow(sequel);
+        Ok(self.progress())
+    }
+
+    /// How many octets the scans for items looked at since the session began, up to the greatest number of 64 bits: never
+    /// more than came. Takes no memory.
+    pub fn looked(&self) -> u64
+        ensures value { result ≡ looked_in self.now }
+        ensures bound { result ≤ self.now.given }
+    {
+        self.scanned.saturating_add(self.scan.looked())
+    }
+
+    /// How many octets came since the session began, up to the greatest number of 64 bits. Takes no memory.
+    pub fn given(&self) -> u64
+        ensures { result ≡ self.now.given }
+    {
+        self.given
+    }
+
+    // How the session goes on.
+    fn progress(&self) -> Progress
+        ensures { result ≡ progress_of self.now.client }
+    {
+        if self.closed {
+            Progress::Close
+        } else {
+            Progress::Done
+        }
+    }
+
+    // Takes off the first item, and makes of the session what follows. Takes no memory.
+    fn follow(&mut self, sequel: Sequel)
+        requires { is_item (reach_in self.old.client) ≡ true }
+        ensures session { self.new.client ≡ followed sequel (without_first false (reach_in self.old.client) self.old.client) }
+        ensures counts { self.new.given ≡ self.old.given }
+        ensures scans { self.new.scanned ≡ scanned_past self.old }
+    {
+        match sequel {
+            Sequel::Stay => self.take_off(false),
+            Sequel::Challenge => self.take_off(true),
+            Sequel::Close => {
+                self.take_off(false);
+                self.closed = true;
+            }
+            Sequel::LogIn(user) => {
+                self.take_off(false);
+                self.log_in(user);
+            }
+            Sequel::LogOut => {
+                self.take_off(false);
+                self.log_out();
+            }
+            Sequel::Fail => {
+                self.take_off(false);
+                self.fail();
+            }
+        }
+    }
+
+    fn log_in(&mut self, user: Octets)
+        ensures client { self.new.client ≡ login_client (Some user) self.old.client }
+        ensures counts { (self.new.given ≡ self.old.given) × (self.new.scanned ≡ self.old.scanned) }
+    {
+        self.user = Some(user);
+        self.failures = 0;
+    }
+
+    fn log_out(&mut self)
+        ensures client { self.new.client ≡ left self.old.client }
+        ensures counts { (self.new.given ≡ self.old.given) × (self.new.scanned ≡ self.old.scanned) }
+    {
+        self.user = None;
+        self.failures = 0;
+    }
+
+    // The third failure ends the session.
+    fn fail(&mut self)
+        ensures client { self.new.client ≡ login_client None self.old.client }
+        ensures counts { (self.new.given ≡ self.old.given) × (self.new.scanned ≡ self.old.scanned) }
+    {
+        if self.failures < MAX_FAILURES {
+            self.failures += 1;
+        } else {
+            self.closed = true;
+        }
+    }
+
+    // Takes off the first item, if one is whole, and looks for the next; a challenge waits then, or none.
+    fn take_off(&mut self, pending: bool)
+        ensures client { self.new.client ≡ without_first pending (reach_in self.old.client) self.old.client }
+        ensures counts { self.new.given ≡ self.old.given }
+        ensures scans { self.new.scanned ≡ scanned_past self.old }
+    {
+        let (Reach::Command(used) | Reach::Bad(used)) = self.scan.state() else {
+            return;
+        };
+        self.unread.drop_front(used);
+        self.scanned = self.scanned.saturating_add(self.scan.looked());
+        self.pending = pending;
+        let mut scan = Scan::new(pending);
+        scan.feed(self.unread.as_slice());
+        self.scan = scan;
+    }
+}

@@ -1,0 +1,7 @@
+-- What is filled is what was read so far.
+use Rattle.std.proofs.Common.{◌≤◌, take, vec_len}
+use Rattle.std.specs.Io.KnownBytes.{Consumes}
+use Rattle.sievedrun.proofs.stream.read_all.Given as goal
+
+abbrev pub invariant-loop : goal.invariant-loop
+invariant-loop g l = (l.filled ≤ vec_len l.octets) × Consumes (g.R.Read.remaining l.initial.input) (g.R.Read.remaining l.input) (take l.filled l.octets.items)

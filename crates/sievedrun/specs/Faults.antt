@@ -1,0 +1,76 @@
+-- What the program says where it gives no answer.
+use Rattle.std.specs.Prelude.{◌≡◌, ◌⊎◌, ℕ, List, [], ◌∷◌, ◌++◌, codes}
+use Rattle.mailstore.specs.declared.refusal.Refusal.{Refusal}
+use Rattle.mailstore.specs.declared.refusal.Refusal.TheVariants as refusal
+use Rattle.keepers.specs.declared.keeper.Held.{Held}
+use Rattle.keepers.specs.declared.keeper.Held.TheVariants as held
+use Rattle.sievedrun.specs.declared.fault.Fault.{Fault}
+use Rattle.sievedrun.specs.declared.fault.Fault.TheVariants.{Memory, Store, Busy, Stream, NotOurs, NoUser, TooLarge, BadEnvelope, BadMoment, UserExists, BadUser, NoRow, NoMessage, BadInput, BadArgument}
+
+-- the exit status of a fault (sysexits.h): wrong use, wrong data, no such user, try again
+abbrev pub status_of : Fault → ℕ
+status_of Memory = 75
+status_of Store = 75
+status_of Busy = 75
+status_of Stream = 75
+status_of NotOurs = 65
+status_of NoUser = 67
+status_of TooLarge = 65
+status_of BadEnvelope = 65
+status_of BadMoment = 65
+status_of UserExists = 65
+status_of BadUser = 65
+status_of NoRow = 65
+status_of NoMessage = 65
+status_of BadInput = 65
+status_of BadArgument = 64
+
+-- what is told of a fault
+abbrev pub text_of : Fault → List ℕ
+text_of Memory = codes "out of memory"
+text_of Store = codes "store failed"
+text_of Busy = codes "busy"
+text_of Stream = codes "input or output failed"
+text_of NotOurs = codes "not a sieved database"
+text_of NoUser = codes "no such user"
+text_of TooLarge = codes "message too large"
+text_of BadEnvelope = codes "bad envelope address"
+text_of BadMoment = codes "bad moment"
+text_of UserExists = codes "user exists"
+text_of BadUser = codes "bad user"
+text_of NoRow = codes "no such row"
+text_of NoMessage = codes "no such message"
+text_of BadInput = codes "bad input"
+text_of BadArgument = codes "bad argument"
+
+-- the line that tells of a fault
+abbrev pub line_of : Fault → List ℕ
+line_of fault = codes "sieved: " ++ text_of fault ++ 10 ∷ []
+
+-- the fault that a refusal of the store or of the engine is
+abbrev pub fault_of : Refusal → Fault
+fault_of refusal.Memory = Memory
+fault_of refusal.Store = Store
+fault_of refusal.NotOurs = NotOurs
+fault_of refusal.NoUser = NoUser
+fault_of refusal.TooLarge = TooLarge
+fault_of refusal.BadEnvelope = BadEnvelope
+fault_of refusal.BadMoment = BadMoment
+fault_of refusal.UserExists = UserExists
+fault_of refusal.BadUser = BadUser
+fault_of refusal.NoRow = NoRow
+
+-- the fault that it is where no store is given out
+abbrev pub fault_held : Held → Fault
+fault_held held.Busy = Busy
+fault_held (held.Refused cause) = fault_of cause
+
+-- what a failure to read or to write, or lack of memory, is told as
+abbrev pub IsFailure : Fault → Type 0
+IsFailure fault = (fault ≡ Memory) ⊎ (fault ≡ Stream)
+
+-- no answer: there is no input, or memory was refused
+abbrev pub IsUnanswered : Type 0 → Fault → Type 0
+IsUnanswered no_input Memory = Unit {0}
+IsUnanswered no_input BadInput = no_input
+IsUnanswered no_input _ = ⊥

@@ -1,0 +1,68 @@
+-- What a run leaves of the accounts behind a keeper.
+use Rattle.std.specs.Prelude.{◌≡◌, ◌⊎◌, ℕ, Bool, ◌==◌, not, List, take, Option, Result, Ok, Err}
+use Rattle.std.specs.List.{prefix_len}
+use Rattle.sqlite.specs.Effect.{Database}
+use Rattle.mailstore.specs.Account.{Accounts, no_accounts}
+use Rattle.mailstore.specs.Schema.{no_schema}
+use Rattle.mailstore.specs.Shows.{Presents}
+use Rattle.mailengine.specs.declared.event.Event.{Event}
+use Rattle.mailengine.specs.declared.event.Event.TheVariants.{Deliver, AddUser, Whole}
+use Rattle.mailengine.specs.declared.answer.Answer.{Answer}
+use Rattle.mailengine.specs.World.{World, Next}
+use Rattle.sievedrun.specs.declared.fault.Fault.{Fault}
+use Rattle.sievedrun.specs.Faults.{status_of}
+use Rattle.sievedrun.specs.Streams.{ReadsAll}
+
+-- an octet that doesn't end a line
+abbrev pub is_in_line : ℕ → Bool
+is_in_line octet = not (octet == 10)
+
+-- the octets before the first LF, or all where there is none
+abbrev pub first_line : List ℕ → List ℕ
+first_line text = take (prefix_len is_in_line text) text
+
+-- the event brings what was read: its message is all of it, its password the first line
+abbrev pub Brings : Option (List ℕ) → Event → Type 0
+Brings given (Deliver user envelope message moment) = ReadsAll given message
+Brings given (AddUser name address salt password) = (octets : List ℕ) × ReadsAll given octets × (password ≡ first_line octets)
+Brings given (Whole user bytes) = ⊥
+
+-- the exit status of what was done or went wrong
+abbrev pub status_after : {X : Type 0} → Result X Fault → ℕ
+status_after (Ok done) = 0
+status_after (Err fault) = status_of fault
+
+-- a status that doesn't say that nothing was done
+abbrev pub MayFollow : ℕ → Type 0
+MayFollow status = (status ≡ 0) ⊎ (status ≡ 75)
+
+-- the tables show the accounts as they are after one event of these, and the status doesn't deny it
+pub record ShowsAfter (OfThese : Event → Type 0) (status : ℕ) (accounts : Accounts) (new : Database) : Type 0 where
+  pub told : MayFollow status
+  pub event : Event
+  pub is_of : OfThese event
+  pub answer : Answer
+  pub next : World
+  pub made : Next (record { accounts = accounts }) event answer next
+  pub shown : Presents new next.accounts
+
+-- what becomes of tables that showed accounts, and of a database without tables: they stay so, or this
+pub record Leaves (Changed : Accounts → Database → Type 0) (Made : Database → Type 0) (old new : Database) : Type 0 where
+  pub accounts : (accounts : Accounts) → Presents old accounts → Presents new accounts ⊎ Changed accounts new
+  pub none : old.schema ≡ no_schema → (new.schema ≡ no_schema) ⊎ Made new
+
+-- they stay so
+abbrev pub LeavesAll : Database → Database → Type 0
+LeavesAll = Leaves (λ _ _. ⊥) (λ _. ⊥)
+
+-- at most one event of these came, and no table
+abbrev pub LeavesAfter : (Event → Type 0) → ℕ → Database → Database → Type 0
+LeavesAfter OfThese status = Leaves (ShowsAfter OfThese status) (λ _. ⊥)
+
+-- a store without accounts may have been made where there was no table
+abbrev pub LeavesNew : Database → Database → Type 0
+LeavesNew = Leaves (λ _ _. ⊥) (λ new. Presents new no_accounts)
+
+-- any of these, where the event brings what was read
+abbrev pub LeavesSound : Option (List ℕ) → ℕ → Database → Database → Type 0
+LeavesSound given status = Leaves (ShowsAfter (Brings given) status) (λ new. Presents new no_accounts)

@@ -1,0 +1,86 @@
+-- What a run on an input leaves on the output.
+use Rattle.std.specs.Prelude.{◌≡◌, ℕ, ◌+◌, ◌≤◌, ◌⊎◌, List, [], ◌∷◌, Option, Some, None, Result, Ok, Err}
+use Rattle.std.specs.Io.KnownBytes.{Appends, Keeps}
+use Rattle.sievelex.specs.declared.fault.FaultKind.{FaultKind}
+use Rattle.sievelex.specs.Faults.{fault_line}
+use Rattle.sievelex.specs.Text.{line_ends}
+use Rattle.mailengine.specs.Tree.{Commands}
+use Rattle.mailengine.specs.Means.{Means}
+use Rattle.sieveexec.specs.declared.envelope.Envelope.{Envelope}
+use Rattle.sieveexec.specs.Mails.{mail_of}
+use Rattle.sieveexec.specs.Outcomes.{outcome_at}
+use Rattle.sievedrun.specs.declared.fault.Fault.{Fault}
+use Rattle.sievedrun.specs.declared.fault.Fault.TheVariants.{Memory, Stream, BadInput}
+use Rattle.sievedrun.specs.declared.answer.Answer.{Answer}
+use Rattle.sievedrun.specs.declared.answer.Answer.TheVariants.{Report, Refusal}
+use Rattle.sievedrun.specs.Faults.{status_of, line_of}
+use Rattle.sievedrun.specs.Framing.{IsFramed}
+use Rattle.sievedrun.specs.Streams.{AppendsFront}
+use Rattle.reportlines.specs.Reports.{with_end, report_of}
+
+-- the input has a valid script, and the text is the report on what it comes to on the message with the envelope
+pub record Reports (envelope : Envelope) (input text : List ℕ) : Type 0 where
+  pub script : List ℕ
+  pub message : List ℕ
+  pub framed : IsFramed input script message
+  pub tree : Commands
+  pub means : Means script tree
+  pub told : text ≡ report_of (outcome_at (mail_of message envelope) tree)
+
+-- the input has a script that is not valid, and the text is the line on a fault within it
+pub record Refuses (input text : List ℕ) : Type 0 where
+  pub script : List ℕ
+  pub message : List ℕ
+  pub framed : IsFramed input script message
+  pub invalid : (tree : Commands) → Means script tree → ⊥
+  pub line : ℕ
+  pub kind : FaultKind
+  pub counted : 1 ≤ line
+  pub within : line ≤ 1 + line_ends script
+  pub told : text ≡ with_end (fault_line line kind)
+
+-- the input is no script and message
+abbrev pub IsNoInput : List ℕ → Type 0
+IsNoInput input = (script message : List ℕ) → IsFramed input script message → ⊥
+
+-- of all that the reader gave: where that is not known, of some text
+abbrev pub OfInput : Option (List ℕ) → (List ℕ → Type 0) → Type 0
+OfInput None P = (input : List ℕ) × P input
+OfInput (Some input) P = P input
+
+-- what an answer says is so of this input
+abbrev pub Answers : Envelope → List ℕ → Answer → Type 0
+Answers envelope input (Report text) = Reports envelope input text
+Answers envelope input (Refusal text) = Refuses input text
+
+-- the text of an answer
+abbrev pub text_in : Answer → List ℕ
+text_in (Report text) = text
+text_in (Refusal text) = text
+
+-- the exit status that tells how a run ended: with an answer or with a fault
+abbrev pub status_at : Result Answer Fault → ℕ
+status_at (Ok (Report _)) = 0
+status_at (Ok (Refusal _)) = 65
+status_at (Err fault) = status_of fault
+
+-- what is on the output in the end: the answer, or nothing, or where a write failed a front of the answer
+abbrev pub LeavesOutput : Envelope → Option (List ℕ) → Option (List ℕ) → Option (List ℕ) → Result Answer Fault → Type 0
+LeavesOutput envelope given old new (Ok answer) = OfInput given (λ input. Answers envelope input answer) × Appends old new (text_in answer)
+LeavesOutput envelope given old new (Err BadInput) = OfInput given IsNoInput × Keeps old new
+LeavesOutput envelope given old new (Err Memory) = Keeps old new
+LeavesOutput envelope given old new (Err Stream) =
+    Keeps old new ⊎ ((answer : Answer) × OfInput given (λ input. Answers envelope input answer) × AppendsFront old new (text_in answer))
+LeavesOutput envelope given old new (Err _) = ⊥
+
+-- what is told of a fault, or a front of it where that write failed too
+abbrev pub LeavesFaults : Option (List ℕ) → Option (List ℕ) → Result Answer Fault → Type 0
+LeavesFaults old new (Ok _) = Keeps old new
+LeavesFaults old new (Err fault) = AppendsFront old new (line_of fault)
+
+-- a whole run: how it ended, what status tells of it, and what it left on the output and on the faults
+pub record Runs (envelope : Envelope) (given : Option (List ℕ)) (output_old output_new faults_old faults_new : Option (List ℕ)) (status : ℕ) : Type 0 where
+  pub ending : Result Answer Fault
+  pub told : status ≡ status_at ending
+  pub output : LeavesOutput envelope given output_old output_new ending
+  pub faults : LeavesFaults faults_old faults_new ending

@@ -1,0 +1,272 @@
+//! The words that work on a store, a function each.
+ghost use Rattle.std.specs.Prelude.{◌≡◌, ◌≢◌, false, IsTrue, IfOk, OnOk, OnErr, IfErr};
+ghost use Rattle.sqlite.specs.Held.{state};
+ghost use Rattle.mailstore.specs.Account.{no_accounts};
+ghost use Rattle.mailstore.specs.Shows.{Presents};
+ghost use Rattle.keepers.specs.Taken.{IsTaken};
+ghost use Rattle.mailengine.specs.declared.event.Event.TheVariants.{Deliver, AddUser};
+ghost use Rattle.sievedrun.specs.Faults.{IsFailure};
+ghost use Rattle.sievedrun.specs.Promise.{Brings, LeavesAll, LeavesAfter, LeavesNew, status_after};
+
+use crate::fault::Fault;
+use crate::stream::{read_all, write_all};
+use crate::values::{decimal, envelope_of, first_line, moment_of, salt_of};
+use keepers::Keeper;
+use mailengine::{Envelope, Report, add_user, deliver};
+use mailstore::{Folder, Store};
+use octets::{ListOf, Octets, Texts, write_decimal};
+use reportlines::of_report;
+use sievedwords::Place;
+use std::alloc::{AllocError, Global};
+use std::io::{Read, Write};
+
+/// The account that `adduser` is to add, as it is written in the words.
+#[derive(Clone, Copy)]
+pub struct NewUser<'a> {
+    /// The salt in hexadecimal digits.
+    pub salt: &'a str,
+    pub name: &'a str,
+    pub address: &'a str,
+}
+
+/// What `deliver` is told of a message, as it is written in the words.
+#[derive(Clone, Copy)]
+pub struct Posting<'a> {
+    /// The envelope's sender.
+    pub from: &'a str,
+    /// The envelope's recipient.
+    pub to: &'a str,
+    /// The moment in seconds since 1970, in decimal; the clock's where it is left out.
+    pub at: Option<&'a str>,
+    /// The account's name.
+    pub user: &'a str,
+}
+
+/// `init`: a new store.
+pub fn run_init<W: Write, K: Keeper>(
+    place: Place<'_>,
+    output: &mut W,
+    keeper: &mut K,
+) -> Result<(), Fault>
+    ensures back { K.is_out keeper.old ≡ false → K.is_out keeper.new ≡ false }
+    ensures leaves { IsTrue K.tells → LeavesNew (K.holds keeper.old) (K.holds keeper.new) }
+    ensures made { IsTrue K.tells → OnOk result (Presents (K.holds keeper.new) no_accounts) }
+{
+    let store = taken(place, true, keeper)?;
+    keeper.hand_back(store)?;
+    write_all(output, b"ready\n")
+}
+
+/// `adduser`: a new account. Its password is the first line of the input.
+pub fn run_adduser<R: Read, W: Write, K: Keeper>(
+    alloc: Global,
+    place: Place<'_>,
+    user: NewUser<'_>,
+    input: &mut R,
+    output: &mut W,
+    keeper: &mut K,
+) -> Result<(), Fault>
+    ensures unread { status_after result ≡ 64 → input.new ≡ input.old }
+    ensures back { K.is_out keeper.old ≡ false → K.is_out keeper.new ≡ false }
+    ensures leaves { IsTrue K.tells → LeavesAfter (Brings (R.remaining input.old)) (status_after result) (K.holds keeper.old) (K.holds keeper.new) }
+{
+    let salt = salt_of(user.salt)?;
+    let line = added_line(alloc, user.name)?;
+    let octets = read_all(alloc, input)?;
+    let password = first_line(octets.as_slice());
+    add(
+        alloc,
+        place,
+        user.name.as_bytes(),
+        user.address.as_bytes(),
+        salt,
+        password,
+        keeper,
+    )?;
+    write_all(output, line.as_slice())
+}
+
+/// The account is added, in a store that is taken and handed back.
+fn add<K: Keeper>(
+    alloc: Global,
+    place: Place<'_>,
+    name: &[u8],
+    address: &[u8],
+    salt: [u8; 16],
+    password: &[u8],
+    keeper: &mut K,
+) -> Result<(), Fault>
+    ensures late { status_after result ≢ 64 }
+    ensures back { K.is_out keeper.old ≡ false → K.is_out keeper.new ≡ false }
+    ensures leaves { IsTrue K.tells → LeavesAfter (λ event. event ≡ AddUser name.now address.now salt password.now) (status_after result) (K.holds keeper.old) (K.holds keeper.new) }
+{
+    let mut store = taken(place, false, keeper)?;
+    let added = add_user(alloc, &mut store, name, address, salt, password);
+    let closed = keeper.hand_back(store);
+    added?;
+    Ok(closed?)
+}
+
+fn added_line(alloc: Global, name: &str) -> Result<Octets, AllocError> {
+    let mut line = Octets::copy(alloc, b"added ")?;
+    line.extend_from_slice(name.as_bytes())?;
+    line.push(b'\n')?;
+    Ok(line)
+}
+
+/// `deliver`: the input is a message for a user. `clock` is the moment where the words have none.
+///
+/// The report is written once the store was closed, so that a delivery that was reported is on the disk.
+pub fn run_deliver<R: Read, W: Write, K: Keeper>(
+    alloc: Global,
+    place: Place<'_>,
+    posting: Posting<'_>,
+    clock: Option<u64>,
+    input: &mut R,
+    output: &mut W,
+    keeper: &mut K,
+) -> Result<(), Fault>
+    ensures unread { status_after result ≡ 64 → input.new ≡ input.old }
+    ensures back { K.is_out keeper.old ≡ false → K.is_out keeper.new ≡ false }
+    ensures leaves { IsTrue K.tells → LeavesAfter (Brings (R.remaining input.old)) (status_after result) (K.holds keeper.old) (K.holds keeper.new) }
+{
+    let moment = moment_of(posting.at, clock)?;
+    let envelope = envelope_of(alloc, posting.from, posting.to)?;
+    let message = read_all(alloc, input)?;
+    let report = post(
+        alloc,
+        place,
+        posting.user.as_bytes(),
+        envelope,
+        message.as_slice(),
+        moment,
+        keeper,
+    )?;
+    print_report(alloc, &report, output)
+}
+
+/// The message is delivered, in a store that is taken and handed back.
+fn post<K: Keeper>(
+    alloc: Global,
+    place: Place<'_>,
+    user: &[u8],
+    envelope: Envelope,
+    message: &[u8],
+    moment: u64,
+    keeper: &mut K,
+) -> Result<Report, Fault>
+    ensures late { status_after result ≢ 64 }
+    ensures back { K.is_out keeper.old ≡ false → K.is_out keeper.new ≡ false }
+    ensures leaves { IsTrue K.tells → LeavesAfter (λ event. event ≡ Deliver user.now envelope message.now moment) (status_after result) (K.holds keeper.old) (K.holds keeper.new) }
+{
+    let mut store = taken(place, false, keeper)?;
+    let delivered = deliver(alloc, &mut store, user, envelope, message, moment);
+    let closed = keeper.hand_back(store);
+    let report = delivered?;
+    closed?;
+    Ok(report)
+}
+
+fn print_report<W: Write>(alloc: Global, report: &Report, output: &mut W) -> Result<(), Fault>
+    ensures { IfErr result IsFailure }
+{
+    let text = of_report(alloc, report)?;
+    write_all(output, text.as_slice())
+}
+
+/// `folders`: a user's folders, each with the number of its messages.
+pub fn run_folders<W: Write, K: Keeper>(
+    alloc: Global,
+    place: Place<'_>,
+    user: &str,
+    output: &mut W,
+    keeper: &mut K,
+) -> Result<(), Fault>
+    ensures back { K.is_out keeper.old ≡ false → K.is_out keeper.new ≡ false }
+    ensures leaves { IsTrue K.tells → LeavesAll (K.holds keeper.old) (K.holds keeper.new) }
+{
+    let folders = folders_of(place, user, keeper)?;
+    let text = folder_lines(alloc, folders.as_slice())?;
+    write_all(output, text.as_slice())
+}
+
+/// The folders of a user, of a store that is taken and handed back.
+fn folders_of<K: Keeper>(
+    place: Place<'_>,
+    user: &str,
+    keeper: &mut K,
+) -> Result<ListOf<Folder>, Fault>
+    ensures back { K.is_out keeper.old ≡ false → K.is_out keeper.new ≡ false }
+    ensures leaves { IsTrue K.tells → LeavesAll (K.holds keeper.old) (K.holds keeper.new) }
+{
+    let mut store = taken(place, false, keeper)?;
+    let listed = store.folders(user.as_bytes());
+    let closed = keeper.hand_back(store);
+    let folders = listed?;
+    closed?;
+    Ok(folders)
+}
+
+fn folder_lines(alloc: Global, folders: &[Folder]) -> Result<Octets, AllocError> {
+    let mut text = Octets::new(alloc);
+    for folder in folders {
+        text.extend_from_slice(folder.name.as_slice())?;
+        text.push(b' ')?;
+        write_decimal(&mut text, folder.count)?;
+        text.push(b'\n')?;
+    }
+    Ok(text)
+}
+
+/// `show`: a message of a user's folder, by its number from 1.
+pub fn run_show<W: Write, K: Keeper>(
+    place: Place<'_>,
+    user: &str,
+    folder: &str,
+    number: &str,
+    output: &mut W,
+    keeper: &mut K,
+) -> Result<(), Fault>
+    ensures back { K.is_out keeper.old ≡ false → K.is_out keeper.new ≡ false }
+    ensures leaves { IsTrue K.tells → LeavesAll (K.holds keeper.old) (K.holds keeper.new) }
+{
+    let number = decimal(number)?;
+    let messages = messages_of(place, user, folder, keeper)?;
+    let message = numbered(messages.as_slice(), number).ok_or(Fault::NoMessage)?;
+    write_all(output, message)
+}
+
+/// The messages of a folder, of a store that is taken and handed back.
+fn messages_of<K: Keeper>(
+    place: Place<'_>,
+    user: &str,
+    folder: &str,
+    keeper: &mut K,
+) -> Result<Texts, Fault>
+    ensures back { K.is_out keeper.old ≡ false → K.is_out keeper.new ≡ false }
+    ensures leaves { IsTrue K.tells → LeavesAll (K.holds keeper.old) (K.holds keeper.new) }
+{
+    let mut store = taken(place, false, keeper)?;
+    let found = store.folder(user.as_bytes(), folder.as_bytes());
+    let closed = keeper.hand_back(store);
+    let messages = found?;
+    closed?;
+    Ok(messages)
+}
+
+/// The message with this number, from 1.
+fn numbered(messages: &[Octets], number: u64) -> Option<&[u8]> {
+    let at = usize::try_from(number).ok()?.checked_sub(1)?;
+    Some(messages.get(at)?.as_slice())
+}
+
+/// The store at a place: the one that is there, or with `fresh` a new one.
+fn taken<K: Keeper>(place: Place<'_>, fresh: bool, keeper: &mut K) -> Result<Store<K::S>, Fault>
+    ensures late { status_after result ≢ 64 }
+    ensures taken { IfOk result (λ store. IsTrue K.tells → IsTaken fresh (K.holds keeper.old) (state K.S.Store store).now) }
+    ensures refused { OnErr result (IsTrue K.tells → K.holds keeper.new ≡ K.holds keeper.old) }
+    ensures kept { OnErr result (K.is_out keeper.new ≡ K.is_out keeper.old) }
+{
+    keeper.wait_for_lock(place.waits);
+    Ok(keeper.take(place.path, fresh)?)
+}

@@ -1,0 +1,158 @@
+//! A run of the program: the words, and what comes of them.
+ghost use Rattle.std.specs.Prelude.{◌≡◌, false, IsTrue};
+ghost use Rattle.sievedrun.specs.Promise.{LeavesSound, status_after};
+
+use crate::commands::{
+    NewUser, Posting, run_adduser, run_deliver, run_folders, run_init, run_show,
+};
+use crate::fault::{Fault, refuse};
+use crate::stream::write_all;
+use crate::trial::try_run;
+use crate::values::envelope_of;
+use clap::Error;
+use clap::error::ErrorKind;
+use keepers::Keeper;
+use sievedwords::{Asked, read};
+use std::alloc::{AllocError, Global};
+use std::format;
+use std::io::{Read, Write};
+
+/// The status where the words are wrong (`EX_USAGE` of sysexits.h).
+const USAGE: u8 = 64;
+
+/// Does what the words after the program's name ask for, and answers the exit status. The message, the password or the
+/// script is read from the input, the answer is written to the output, and what goes wrong to the faults.
+///
+/// `clock` is the moment in seconds since 1970, where the clock could be read. Where words or values are wrong nothing is
+/// read. The store is taken at most once, and handed back before the answer is written.
+pub fn drive<R: Read, W: Write, F: Write, K: Keeper>(
+    alloc: Global,
+    words: &[String],
+    input: &mut R,
+    output: &mut W,
+    faults: &mut F,
+    keeper: &mut K,
+    clock: Option<u64>,
+) -> u8
+    ensures unread { result ≡ 64 → input.new ≡ input.old }
+    ensures back { K.is_out keeper.old ≡ false → K.is_out keeper.new ≡ false }
+    ensures leaves { IsTrue K.tells → LeavesSound (R.remaining input.old) result (K.holds keeper.old) (K.holds keeper.new) }
+{
+    match read(alloc, words) {
+        Ok(asked) => run(alloc, asked, input, output, faults, keeper, clock),
+        Err(error) => tell(alloc, &error, output, faults),
+    }
+}
+
+fn run<R: Read, W: Write, F: Write, K: Keeper>(
+    alloc: Global,
+    asked: Asked<'_>,
+    input: &mut R,
+    output: &mut W,
+    faults: &mut F,
+    keeper: &mut K,
+    clock: Option<u64>,
+) -> u8
+    ensures unread { result ≡ 64 → input.new ≡ input.old }
+    ensures back { K.is_out keeper.old ≡ false → K.is_out keeper.new ≡ false }
+    ensures leaves { IsTrue K.tells → LeavesSound (R.remaining input.old) result (K.holds keeper.old) (K.holds keeper.new) }
+{
+    match asked {
+        Asked::Try { from, to } => match envelope_of(alloc, from, to) {
+            Ok(envelope) => try_run(alloc, envelope, input, output, faults),
+            Err(_) => refuse(faults, Fault::Memory),
+        },
+        Asked::Init(place) => ended(run_init(place, output, keeper), faults, keeper),
+        Asked::AddUser {
+            place,
+            salt,
+            name,
+            address,
+        } => {
+            let user = NewUser {
+                salt,
+                name,
+                address,
+            };
+            ended(
+                run_adduser(alloc, place, user, input, output, keeper),
+                faults,
+                keeper,
+            )
+        }
+        Asked::Deliver {
+            place,
+            from,
+            to,
+            at,
+            user,
+        } => {
+            let posting = Posting { from, to, at, user };
+            ended(
+                run_deliver(alloc, place, posting, clock, input, output, keeper),
+                faults,
+                keeper,
+            )
+        }
+        Asked::Folders { place, user } => ended(
+            run_folders(alloc, place, user, output, keeper),
+            faults,
+            keeper,
+        ),
+        Asked::Show {
+            place,
+            user,
+            folder,
+            number,
+        } => ended(
+            run_show(place, user, folder, number, output, keeper),
+            faults,
+            keeper,
+        ),
+    }
+}
+
+/// The status of what was done in a store, or of the fault. It is told, and what the keeper knows of it.
+fn ended<F: Write, K: Keeper>(done: Result<(), Fault>, faults: &mut F, keeper: &K) -> u8
+    ensures { result ≡ status_after done }
+{
+    let Err(fault) = done else {
+        return 0;
+    };
+    let status = refuse(faults, fault);
+    if fault == Fault::Store {
+        tell_cause(faults, keeper.cause());
+    }
+    status
+}
+
+/// A second line on why the store failed, for who runs it. Where it can't be written the first one has told.
+fn tell_cause<F: Write>(faults: &mut F, cause: Option<&'static str>) {
+    if let Some(text) = cause {
+        let _ = write_all(faults, b"sieved: ");
+        let _ = write_all(faults, text.as_bytes());
+        let _ = write_all(faults, b"\n");
+    }
+}
+
+/// Tells what `clap` has to say: of wrong words on the faults, of help and version on the output.
+fn tell<W: Write, F: Write>(alloc: Global, error: &Error, output: &mut W, faults: &mut F) -> u8 {
+    if error.kind() == ErrorKind::OutOfMemory {
+        return refuse(faults, Fault::Memory);
+    }
+    let Ok(text) = shown(alloc, error) else {
+        return refuse(faults, Fault::Memory);
+    };
+    if error.use_stderr() {
+        let _ = write_all(faults, text.as_bytes());
+        return USAGE;
+    }
+    match write_all(output, text.as_bytes()) {
+        Ok(()) => 0,
+        Err(fault) => refuse(faults, fault),
+    }
+}
+
+fn shown(alloc: Global, error: &Error) -> Result<String, AllocError> {
+    Ok(format!(in alloc; "{error}")?)
+}

@@ -1,0 +1,11 @@
+//! Runs of the program: what each word of the command line does to the store, and what is printed.
+#![tactic(auto)]
+
+mod answer;
+mod commands;
+pub mod drive;
+pub mod fault;
+mod framing;
+mod stream;
+pub mod trial;
+mod values;

@@ -1,0 +1,124 @@
+//! Reading all of an input, and writing a text, with what is left where that fails.
+ghost use Rattle.std.specs.Prelude.{◌≡◌, ◌+◌, ◌<◌, ◌≤◌, take, drop, length, vec_len, unwrap_or, IfOk, IfErr, OnOk, OnErr};
+ghost use Rattle.std.specs.Io.KnownBytes.{Appends, Consumes, IsAtEnd, Keeps};
+ghost use Rattle.sievedrun.specs.Faults.{IsFailure};
+ghost use Rattle.sievedrun.specs.Streams.{ReadsAll, AppendsFront};
+
+use crate::fault::Fault;
+use std::alloc::{AllocError, Global};
+use std::io;
+use std::io::{ErrorKind, Read, Write};
+
+/// An input that needs more reads than this is given up.
+const MOST_READS: u32 = 40_000_000;
+
+/// So much room is made for a read, in octets, once the last one is full.
+const PIECE: usize = 262_144;
+
+/// Reads to the end, in place and in large pieces, and copies nothing but where the vector grows.
+pub fn read_all<R: Read>(alloc: Global, input: &mut R) -> Result<Vec<u8>, Fault>
+    ensures ok { IfOk result (λ octets. ReadsAll (R.remaining input.old) octets.items) }
+    ensures err { IfErr result IsFailure }
+{
+    let mut octets = Vec::new(alloc);
+    let mut filled = 0;
+    for _ in 0..MOST_READS {
+        make_room(&mut octets, filled)?;
+        match read_at(input, octets.as_mut_slice(), filled)? {
+            Some(more) => filled += more,
+            None => {
+                octets.truncate(filled);
+                return Ok(octets);
+            }
+        }
+    }
+    Err(Fault::Stream)
+}
+
+/// Room behind the filled octets, which stay.
+fn make_room(octets: &mut Vec<u8>, filled: usize) -> Result<(), AllocError>
+    requires { filled ≤ vec_len octets.old }
+    ensures room { OnOk result (filled < vec_len octets.new) }
+    ensures front { take filled octets.new.items ≡ take filled octets.old.items }
+{
+    if filled < octets.len() {
+        return Ok(());
+    }
+    octets.resize(filled + PIECE, 0)
+}
+
+/// One read into the room from `at` on: how many octets came, none of them where a signal came first,
+/// or `None` at the end of the input.
+fn read_at<R: Read>(input: &mut R, room: &mut [u8], at: usize) -> Result<Option<usize>, Fault>
+    requires { at < length room.old }
+    ensures front { take at room.new ≡ take at room.old }
+    ensures fits { IfOk result (λ more. at + unwrap_or more 0 ≤ length room.new) }
+    ensures read { IfOk result (λ more. Consumes (R.remaining input.old) (R.remaining input.new)
+        (take (unwrap_or more 0) (drop at room.new))) }
+    ensures end { result ≡ Ok None → IsAtEnd (R.remaining input.new) }
+    ensures fault { IfErr result (λ fault. fault ≡ Fault.Stream) }
+{
+    match input.read(&mut room[at..]) {
+        Ok(0) => Ok(None),
+        Ok(more) => Ok(Some(more)),
+        Err(error) => {
+            allow_retry(&error)?;
+            Ok(Some(0))
+        }
+    }
+}
+
+/// Refuses each failure but that a signal came before the call, which is then made again.
+fn allow_retry(error: &io::Error) -> Result<(), Fault>
+    ensures { IfErr result (λ fault. fault ≡ Fault.Stream) }
+{
+    if error.kind() == ErrorKind::Interrupted {
+        Ok(())
+    } else {
+        Err(Fault::Stream)
+    }
+}
+
+/// Writes the whole text. Where that fails, a front of it is written.
+pub fn write_all<W: Write>(output: &mut W, text: &[u8]) -> Result<(), Fault>
+    ensures ok { OnOk result (Appends (W.contents output.old) (W.contents output.new) text.now) }
+    ensures err { OnErr result (AppendsFront (W.contents output.old) (W.contents output.new) text.now) }
+    ensures fault { IfErr result (λ fault. fault ≡ Fault.Stream) }
+{
+    let mut rest = text;
+    for _ in 0..u64::MAX {
+        if rest.is_empty() {
+            return flushed(output);
+        }
+        let written = write_some(output, rest)?;
+        rest = rest.split_at(written).1;
+    }
+    Err(Fault::Stream)
+}
+
+/// One write: how many octets of the text are written, none of them where a signal came first.
+fn write_some<W: Write>(output: &mut W, text: &[u8]) -> Result<usize, Fault>
+    ensures bound { IfOk result (λ n. n ≤ length text.now) }
+    ensures ok { IfOk result (λ n. Appends (W.contents output.old) (W.contents output.new) (take n text.now)) }
+    ensures err { OnErr result (Keeps (W.contents output.old) (W.contents output.new)) }
+    ensures fault { IfErr result (λ fault. fault ≡ Fault.Stream) }
+{
+    match output.write(text) {
+        Ok(0) => Err(Fault::Stream),
+        Ok(written) => Ok(written),
+        Err(error) => {
+            allow_retry(&error)?;
+            Ok(0)
+        }
+    }
+}
+
+fn flushed<W: Write>(output: &mut W) -> Result<(), Fault>
+    ensures kept { Keeps (W.contents output.old) (W.contents output.new) }
+    ensures fault { IfErr result (λ fault. fault ≡ Fault.Stream) }
+{
+    match output.flush() {
+        Ok(()) => Ok(()),
+        Err(_) => Err(Fault::Stream),
+    }
+}

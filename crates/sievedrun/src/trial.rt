@@ -1,0 +1,45 @@
+//! One script tried on one message.
+ghost use Rattle.std.specs.Prelude.{◌≡◌};
+ghost use Rattle.sievedrun.specs.Trial.{LeavesOutput, Runs};
+
+use crate::answer::{Answer, answer_to};
+use crate::fault::{Fault, refuse};
+use crate::stream;
+use mailengine::Envelope;
+use std::alloc::Global;
+use std::io::{Read, Write};
+
+/// Reads a script and a message from the input, and prints on the output what the script does with the message under
+/// the envelope. What goes wrong is told on the faults. The answer is the exit status.
+///
+/// The message's octets aren't copied. Reads at most 40,000,000 times.
+pub fn try_run<R: Read, W: Write, F: Write>(
+    alloc: Global,
+    envelope: Envelope,
+    input: &mut R,
+    output: &mut W,
+    faults: &mut F,
+) -> u8
+    ensures { Runs envelope (R.remaining input.old) (W.contents output.old) (W.contents output.new)
+        (F.contents faults.old) (F.contents faults.new) result }
+{
+    match print_answer(alloc, envelope, input, output) {
+        Ok(Answer::Report(_)) => 0,
+        Ok(Answer::Refusal(_)) => 65,
+        Err(fault) => refuse(faults, fault),
+    }
+}
+
+fn print_answer<R: Read, W: Write>(
+    alloc: Global,
+    envelope: Envelope,
+    input: &mut R,
+    output: &mut W,
+) -> Result<Answer, Fault>
+    ensures { LeavesOutput envelope (R.remaining input.old) (W.contents output.old) (W.contents output.new) result }
+{
+    let octets = stream::read_all(alloc, input)?;
+    let answer = answer_to(alloc, envelope, octets.as_slice())?;
+    stream::write_all(output, answer.text())?;
+    Ok(answer)
+}

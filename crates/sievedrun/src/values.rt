@@ -1,0 +1,59 @@
+//! Values that stand in the words, and the first line of an input.
+ghost use Rattle.std.specs.Prelude.{◌≡◌, IfErr};
+ghost use Rattle.std.specs.List.{prefix_len};
+ghost use Rattle.sievedrun.specs.Promise as promise;
+ghost use Rattle.sievedrun.specs.Promise.{is_in_line};
+
+use crate::fault::Fault;
+use hex::FromHex;
+use mailengine::Envelope;
+use octets::{Octets, parse_decimal};
+use std::alloc::{AllocError, Global};
+
+/// A number in decimal digits, without a sign.
+pub fn decimal(text: &str) -> Result<u64, Fault>
+    ensures { IfErr result (λ fault. fault ≡ Fault.BadArgument) }
+{
+    parse_decimal(text.as_bytes()).ok_or(Fault::BadArgument)
+}
+
+/// A salt in 32 hexadecimal digits.
+pub fn salt_of(text: &str) -> Result<[u8; 16], Fault>
+    ensures { IfErr result (λ fault. fault ≡ Fault.BadArgument) }
+{
+    match <[u8; 16] as FromHex>::from_hex(text) {
+        Ok(salt) => Ok(salt),
+        Err(_) => Err(Fault::BadArgument),
+    }
+}
+
+/// The moment that the words have, or else the clock's, in seconds since 1970.
+pub fn moment_of(at: Option<&str>, clock: Option<u64>) -> Result<u64, Fault> {
+    match at {
+        Some(text) => decimal(text),
+        None => clock.ok_or(Fault::Stream),
+    }
+}
+
+/// The envelope of these addresses.
+pub fn envelope_of(alloc: Global, from: &str, to: &str) -> Result<Envelope, AllocError> {
+    Ok(Envelope {
+        from: Octets::copy(alloc, from.as_bytes())?,
+        to: Octets::copy(alloc, to.as_bytes())?,
+    })
+}
+
+/// The octets before the first LF, or all where there is none.
+pub fn first_line(text: &[u8]) -> &[u8]
+    ensures { result.now ≡ promise.first_line text.now }
+{
+    let len = line_len(text);
+    text.split_at(len).0
+}
+
+/// How many octets stand before the first LF, or in all.
+fn line_len(text: &[u8]) -> usize
+    ensures { result ≡ prefix_len is_in_line text.now }
+{
+    text.iter().take_while(|octet| **octet != b'\n').count()
+}

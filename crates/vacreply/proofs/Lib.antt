@@ -1,0 +1,15 @@
+pub mod HandleLaws
+pub mod HandleExamples
+pub mod Appends
+pub mod DayLemmas
+pub mod DateLaws
+pub mod DateExamples
+pub mod FoldLaws
+pub mod WordLaws
+pub mod FieldLemmas
+pub mod AddressLemmas
+pub mod ReasonExamples
+pub mod TextLemmas
+pub mod ReplyLemmas
+pub mod ReplyLaws
+pub mod ReplyExamples

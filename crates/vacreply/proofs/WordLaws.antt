@@ -1,0 +1,158 @@
+-- A value without the blanks at its ends is a word exactly where the word stands behind its first blanks and blanks alone follow.
+use Rattle.std.proofs.Common.{◌≡◌, ℕ, suc, ◌+◌, ◌<◌, Bool, true, false, cond, nat_eq, ◌&&◌, not, List, [], ◌∷◌, length, take, drop, refl, ap, sym, ◌∙◌, arith, drop-cons}
+use Rattle.std.specs.Prelude.{Option, Some, None}
+use Rattle.std.proofs.lemmas.Bool.Decides.{nat_tests}
+use Rattle.std.specs.List.{before_first, position_or_len, list_all}
+use Rattle.std.specs.Char.{to_ascii_lowercase}
+use Rattle.octets.specs.Ascii.{is_blank, trim_front, trim_back, trimmed, before}
+use Rattle.vacreply.specs.Cases.{same_text, is_empty, is_semicolon}
+use Rattle.vacreply.specs.Folds.{after_word, is_small, ends_parameter}
+
+-- a text up to the first octet that stops it
+abbrev cut_at : (ℕ → Bool) → List ℕ → List ℕ
+cut_at stop [] = []
+cut_at stop (octet ∷ rest) = cond (stop octet) [] (octet ∷ cut_at stop rest)
+
+cut_never : (text : List ℕ) → cut_at (λ octet. false) text ≡ text
+cut_never [] = refl
+cut_never (octet ∷ rest) = ap (λ t. octet ∷ t) (cut_never rest)
+
+taken_one : (test : Bool) (octet n : ℕ) (rest : List ℕ) → take (cond (not test) (1 + n) 0) (octet ∷ rest) ≡ cond test [] (octet ∷ take n rest)
+taken_one true octet n rest = refl
+taken_one false octet n rest = let one : 1 + n ≡ suc n = omega arith in rw one refl
+
+cut_first : (stop : ℕ → Bool) (text : List ℕ) → before_first stop text ≡ cut_at stop text
+cut_first stop [] = refl
+cut_first stop (octet ∷ rest) = taken_one (stop octet) octet (position_or_len stop rest) rest ∙ ap (λ t. cond (stop octet) [] (octet ∷ t)) (cut_first stop rest)
+
+-- no blank and no letter stops a text
+record IsApart (stop : ℕ → Bool) : Type 0 where
+  blanks : (octet : ℕ) → is_blank octet ≡ true → stop octet ≡ false
+  letters : (letter octet : ℕ) → is_small letter ≡ true → nat_eq (to_ascii_lowercase letter) (to_ascii_lowercase octet) ≡ true → stop octet ≡ false
+
+never_apart : IsApart (λ octet. false)
+never_apart = record { blanks = λ octet blank. refl; letters = λ letter octet small same. refl }
+
+semicolon_blanks : (octet : ℕ) → is_blank octet ≡ true → is_semicolon octet ≡ false
+semicolon_blanks octet blank = grind (arith, nat_tests)
+
+semicolon_letters : (letter octet : ℕ) → is_small letter ≡ true → nat_eq (to_ascii_lowercase letter) (to_ascii_lowercase octet) ≡ true → is_semicolon octet ≡ false
+semicolon_letters letter octet small same = grind (arith, nat_tests)
+
+semicolon_apart : IsApart is_semicolon
+semicolon_apart = record { blanks = semicolon_blanks; letters = semicolon_letters }
+
+-- a letter is no blank
+letter_apart : (letter octet : ℕ) → is_small letter ≡ true → is_blank octet ≡ true → nat_eq (to_ascii_lowercase letter) (to_ascii_lowercase octet) ≡ false
+letter_apart letter octet small blank = grind (arith, nat_tests)
+
+-- blanks at the front are blanks of the cut text
+front_step : (stop : ℕ → Bool) (octet : ℕ) (rest : List ℕ) (blank stops : Bool) → (blank ≡ true → stops ≡ false)
+    → trim_front (cut_at stop rest) ≡ cut_at stop (trim_front rest)
+    → is_blank octet ≡ blank → stop octet ≡ stops
+    → trim_front (cond stops [] (octet ∷ cut_at stop rest)) ≡ cut_at stop (cond blank (trim_front rest) (octet ∷ rest))
+front_step stop octet rest true true apart more is stops = absurd (cc (apart refl))
+front_step stop octet rest true false apart more is stops = rw is more
+front_step stop octet rest false true apart more is stops = rw stops refl
+front_step stop octet rest false false apart more is stops = rw (is, stops) refl
+
+front_cut : (stop : ℕ → Bool) (text : List ℕ) → IsApart stop → trim_front (cut_at stop text) ≡ cut_at stop (trim_front text)
+front_cut stop [] apart = refl
+front_cut stop (octet ∷ rest) apart =
+    front_step stop octet rest (is_blank octet) (stop octet) (apart.blanks octet) (front_cut stop rest apart) refl refl
+
+-- a text is blank from its front as from its end
+empty_step : (octet : ℕ) (rest back : List ℕ) (blank : Bool) → is_blank octet ≡ blank → is_empty back ≡ is_empty (trim_front rest)
+    → is_empty (before octet back) ≡ is_empty (cond blank (trim_front rest) (octet ∷ rest))
+empty_step octet rest [] true is more = rw is more
+empty_step octet rest [] false is more = rw is refl
+empty_step octet rest (next ∷ back) true is more = more
+empty_step octet rest (next ∷ back) false is more = refl
+
+empty_back : (text : List ℕ) → is_empty (trim_back text) ≡ is_empty (trim_front text)
+empty_back [] = refl
+empty_back (octet ∷ rest) = empty_step octet rest (trim_back rest) (is_blank octet) refl (empty_back rest)
+
+same_empty : (text : List ℕ) → same_text [] text ≡ is_empty text
+same_empty [] = refl
+same_empty (octet ∷ rest) = refl
+
+-- blanks alone follow, up to what stops the text
+abbrev ends_by : (ℕ → Bool) → Option (List ℕ) → Bool
+ends_by stop None = false
+ends_by stop (Some rest) = is_empty (trim_front (cut_at stop rest))
+
+back_step : (letter octet : ℕ) (word back : List ℕ) (blank same : Bool) → is_blank octet ≡ blank → nat_eq (to_ascii_lowercase letter) (to_ascii_lowercase octet) ≡ same
+    → (blank ≡ true → same ≡ false) → same_text (letter ∷ word) (before octet back) ≡ cond same (same_text word back) false
+back_step letter octet word [] true true is test apart = absurd (cc (apart refl))
+back_step letter octet word [] true false is test apart = rw is refl
+back_step letter octet word [] false true is test apart = rw (is, test) refl
+back_step letter octet word [] false false is test apart = rw (is, test) refl
+back_step letter octet word (next ∷ back) blank true is test apart = rw test refl
+back_step letter octet word (next ∷ back) blank false is test apart = rw test refl
+
+word_step : (stop : ℕ → Bool) (letter octet : ℕ) (word rest : List ℕ) (stops same : Bool) → is_small letter ≡ true
+    → stop octet ≡ stops → nat_eq (to_ascii_lowercase letter) (to_ascii_lowercase octet) ≡ same → (same ≡ true → stops ≡ false)
+    → same_text word (trim_back (cut_at stop rest)) ≡ ends_by stop (after_word word rest)
+    → same_text (letter ∷ word) (trim_back (cond stops [] (octet ∷ cut_at stop rest))) ≡ ends_by stop (cond same (after_word word rest) None)
+word_step stop letter octet word rest true true small stopping test apart more = absurd (cc (apart refl))
+word_step stop letter octet word rest true false small stopping test apart more = refl
+word_step stop letter octet word rest false true small stopping test apart more =
+    back_step letter octet word (trim_back (cut_at stop rest)) (is_blank octet) true refl test (λ blank. absurd (cc (letter_apart letter octet small blank))) ∙ more
+word_step stop letter octet word rest false false small stopping test apart more =
+    back_step letter octet word (trim_back (cut_at stop rest)) (is_blank octet) false refl test (λ blank. refl)
+
+both_true : (a b : Bool) → (a && b) ≡ true → (a ≡ true) × (b ≡ true)
+both_true true b is = (refl, is)
+both_true false b is = absurd cc
+
+word_at : (stop : ℕ → Bool) (word text : List ℕ) → IsApart stop → list_all is_small word ≡ true
+    → same_text word (trim_back (cut_at stop text)) ≡ ends_by stop (after_word word text)
+word_at stop [] text apart small = same_empty (trim_back (cut_at stop text)) ∙ empty_back (cut_at stop text)
+word_at stop (letter ∷ word) [] apart small = refl
+word_at stop (letter ∷ word) (octet ∷ rest) apart small =
+    let both = both_true (is_small letter) (list_all is_small word) small in
+    word_step stop letter octet word rest (stop octet) _ both.0 refl refl (apart.letters letter octet both.0) (word_at stop word rest apart both.1)
+
+-- the word that a value is, without the blanks at its ends
+pub word_is : (word value behind : List ℕ) → list_all is_small word ≡ true → Some behind ≡ after_word word (trim_front value)
+    → is_empty (trim_front behind) ≡ same_text word (trimmed value)
+word_is word value behind small found =
+    let at = word_at (λ octet. false) word (trim_front value) never_apart small in
+    let whole = rw (cut_never (trim_front value)) at at in
+    sym (whole ∙ (ap (ends_by (λ octet. false)) (sym found) ∙ ap (λ t. is_empty (trim_front t)) (cut_never behind)))
+
+pub word_isnt : (word value : List ℕ) → list_all is_small word ≡ true → None ≡ after_word word (trim_front value) → false ≡ same_text word (trimmed value)
+word_isnt word value small found =
+    let at = word_at (λ octet. false) word (trim_front value) never_apart small in
+    let whole = rw (cut_never (trim_front value)) at at in
+    sym (whole ∙ ap (ends_by (λ octet. false)) (sym found))
+
+parameter_cut : (text : List ℕ) → is_empty (cut_at is_semicolon text) ≡ ends_parameter text
+parameter_cut [] = refl
+parameter_cut (octet ∷ rest) = cut_head (is_semicolon octet)
+  where
+    cut_head : (stops : Bool) → is_empty (cond stops [] (octet ∷ cut_at is_semicolon rest)) ≡ stops
+    cut_head true = refl
+    cut_head false = refl
+
+-- the word that a value is up to its first `;`
+parameter_is : (word value : List ℕ) → list_all is_small word ≡ true
+    → same_text word (trimmed (before_first is_semicolon value)) ≡ ends_by is_semicolon (after_word word (trim_front value))
+parameter_is word value small =
+    let front = ap trim_front (cut_first is_semicolon value) ∙ front_cut is_semicolon value semicolon_apart in
+    ap (λ t. same_text word (trim_back t)) front ∙ word_at is_semicolon word (trim_front value) semicolon_apart small
+
+pub parameter_word : (word value behind : List ℕ) → list_all is_small word ≡ true → Some behind ≡ after_word word (trim_front value)
+    → ends_parameter (trim_front behind) ≡ same_text word (trimmed (before_first is_semicolon value))
+parameter_word word value behind small found =
+    sym (parameter_is word value small ∙ (ap (ends_by is_semicolon) (sym found)
+    ∙ (ap is_empty (front_cut is_semicolon behind semicolon_apart) ∙ parameter_cut (trim_front behind))))
+
+pub parameter_other : (word value : List ℕ) → list_all is_small word ≡ true → None ≡ after_word word (trim_front value)
+    → false ≡ same_text word (trimmed (before_first is_semicolon value))
+parameter_other word value small found = sym (parameter_is word value small ∙ ap (ends_by is_semicolon) (sym found))
+
+-- an empty value has no more letters
+pub none_after : (word : List ℕ) (i : ℕ) → i < length word → after_word (drop i word) [] ≡ None
+none_after word i within = rw (drop-cons word i 0 within) refl

@@ -1,0 +1,94 @@
+-- The words of the reasons to send no response.
+use Rattle.std.specs.Prelude.{ℕ, ◌+◌, ◌-◌, ◌*◌, max, min, nat_lt, nat_eq, Bool, true, false, not, ◌==◌, ◌&&◌, ◌||◌, cond, List, [], ◌∷◌, length, take, drop, map, codes, Option, None, Some, unwrap_or}
+use Rattle.std.specs.List.{list_any, flat_map, before_first}
+use Rattle.std.specs.Cmp.Lexicographic.{pointwise}
+use Rattle.octets.specs.Ascii.{lowered, trimmed}
+use Rattle.mailhead.specs.Fields.{FieldText}
+use Rattle.mailhead.specs.Heads.{unfold_of}
+use Rattle.addrparts.specs.declared.address.Addr.{Addr}
+use Rattle.addrparts.specs.Spelling.{all_of}
+use Rattle.addrparts.specs.Reading.{addrs}
+use Rattle.sievesyntax.specs.declared.vacation.VacArgs.{VacArgs}
+use Rattle.sieveexec.specs.Mails.{MailSpec}
+
+abbrev pub is_empty : List ℕ → Bool
+is_empty [] = true
+is_empty (octet ∷ rest) = false
+
+-- the same text but for the case of ASCII letters
+abbrev pub same_text : List ℕ → List ℕ → Bool
+same_text one two = pointwise nat_eq (lowered one) (lowered two)
+
+-- one of these texts, case ignored
+abbrev pub is_one_of : List (List ℕ) → List ℕ → Bool
+is_one_of texts text = list_any (λ one. same_text one text) texts
+
+-- the text begins with this front, case ignored
+abbrev pub begins_with : List ℕ → List ℕ → Bool
+begins_with front text = same_text front (take (length front) text)
+
+-- the text ends with this end, case ignored
+abbrev pub ends_with : List ℕ → List ℕ → Bool
+ends_with end text = same_text end (drop (length text - length end) text)
+
+-- the local part of a program that answers mail (RFC 5230, 4.6)
+abbrev pub is_robot : List ℕ → Bool
+is_robot local =
+    is_one_of (codes "mailer-daemon" ∷ (codes "listserv" ∷ (codes "majordomo" ∷ []))) local
+    || (begins_with (codes "owner-") local || ends_with (codes "-request") local)
+
+-- some field with one of these names, case ignored, has an unfolded value that passes
+abbrev pub has_value : List (List ℕ) → (List ℕ → Bool) → FieldText → Bool
+has_value names passes field = is_one_of names field.name && passes (unfold_of field.raw)
+
+abbrev pub some_value : List (List ℕ) → (List ℕ → Bool) → MailSpec → Bool
+some_value names passes mail = list_any (has_value names passes) mail.fields
+
+-- one of these addresses, each with nothing quoted; case ignored
+abbrev pub is_among : List Addr → List ℕ → Bool
+is_among addresses text = list_any (λ one. same_text (all_of one) text) addresses
+
+-- the user's addresses: the account's, the envelope's recipient as it was written, and those of `:addresses`; case ignored
+abbrev pub is_users : VacArgs → MailSpec → Addr → List ℕ → Bool
+is_users args mail own text =
+    same_text (all_of own) text || (same_text mail.to text || is_among args.addresses text)
+
+-- `;`
+abbrev pub is_semicolon : ℕ → Bool
+is_semicolon octet = octet == 59
+
+-- what stands before the first `;`, without the blanks at its ends, isn't `no` (RFC 3834, 5)
+abbrev pub is_automatic : List ℕ → Bool
+is_automatic value = not (same_text (codes "no") (trimmed (before_first is_semicolon value)))
+
+-- the names of the fields that mailing lists add (RFC 2369; RFC 2919)
+abbrev pub list_fields : List (List ℕ)
+list_fields =
+    codes "list-id" ∷ (codes "list-help" ∷ (codes "list-subscribe" ∷ (codes "list-unsubscribe" ∷ (codes "list-post"
+    ∷ (codes "list-owner" ∷ (codes "list-archive" ∷ []))))))
+
+-- `bulk`, `list` or `junk`, without the blanks at the ends
+abbrev pub is_bulk : List ℕ → Bool
+is_bulk value = is_one_of (codes "bulk" ∷ (codes "list" ∷ (codes "junk" ∷ []))) (trimmed value)
+
+-- the names of the fields that name recipients (RFC 5322, 3.6.3 and 3.6.6)
+abbrev pub recipient_fields : List (List ℕ)
+recipient_fields =
+    codes "to" ∷ (codes "cc" ∷ (codes "bcc" ∷ (codes "resent-to" ∷ (codes "resent-cc" ∷ (codes "resent-bcc" ∷ [])))))
+
+-- the addresses in a field that names recipients, each with nothing quoted; none in any other
+abbrev pub recipients_in : FieldText → List (List ℕ)
+recipients_in field = cond (is_one_of recipient_fields field.name) (map all_of (addrs (unfold_of field.raw))) []
+
+-- the addresses of a mail's recipient fields, in order
+abbrev pub recipients_of : MailSpec → List (List ℕ)
+recipients_of mail = flat_map recipients_in mail.fields
+
+-- for so many seconds a sender gets no second response: 1 to 365 days, without `:days` 7 (RFC 5230, 4.1)
+abbrev pub period_of : VacArgs → ℕ
+period_of args = max 1 (min 365 (unwrap_or args.days 7)) * 86400
+
+-- a moment is kept, and this one comes before its period is over
+abbrev pub is_early : VacArgs → Option ℕ → ℕ → Bool
+is_early args None moment = false
+is_early args (Some kept) moment = nat_lt moment (kept + period_of args)

@@ -1,0 +1,29 @@
+-- An unfolded value read octet by octet from the raw one.
+use Rattle.std.specs.Prelude.{ℕ, Bool, true, false, ◌==◌, ◌&&◌, cond, List, [], ◌∷◌, Option, None, Some, nat_eq, nat_le}
+use Rattle.std.specs.Char.{to_ascii_lowercase}
+use Rattle.mailhead.specs.Lines.{is_feed, begins_blank}
+
+-- LF and then a blank stand first
+abbrev pub begins_feed_fold : List ℕ → Bool
+begins_feed_fold [] = false
+begins_feed_fold (octet ∷ rest) = is_feed octet && begins_blank rest
+
+-- how many octets the line end has that stands first and that a blank follows
+abbrev pub fold_len : List ℕ → ℕ
+fold_len [] = 0
+fold_len (octet ∷ rest) = cond (is_feed octet && begins_blank rest) 1 (cond (octet == 13 && begins_feed_fold rest) 2 0)
+
+-- what stands behind a word that comes first, case ignored
+abbrev pub after_word : List ℕ → List ℕ → Option (List ℕ)
+after_word [] text = Some text
+after_word (letter ∷ word) [] = None
+after_word (letter ∷ word) (octet ∷ rest) = cond (nat_eq (to_ascii_lowercase letter) (to_ascii_lowercase octet)) (after_word word rest) None
+
+-- a to z
+abbrev pub is_small : ℕ → Bool
+is_small octet = nat_le 97 octet && nat_le octet 122
+
+-- nothing, or a `;`, stands first
+abbrev pub ends_parameter : List ℕ → Bool
+ends_parameter [] = true
+ends_parameter (octet ∷ rest) = octet == 59

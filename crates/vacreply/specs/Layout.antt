@@ -1,0 +1,136 @@
+-- The octets of a response (RFC 5230, 5; RFC 3834, 3).
+use Rattle.std.specs.Prelude.{◌≡◌, ℕ, nat_le, nat_eq, Bool, true, false, ◌&&◌, cond, List, [], ◌∷◌, ◌++◌, length, codes, Option, None, Some, option_map, unwrap_or, is_some}
+use Rattle.std.specs.List.{list_all, ends_with}
+use Rattle.std.specs.Str.{is_utf8}
+use Rattle.octets.specs.Ascii.{is_printable, trimmed}
+use Rattle.mailhead.specs.Fields.{FieldText}
+use Rattle.mailhead.specs.Heads.{fields_of, unfold_of}
+use Rattle.encwords.specs.Headers.{IsHeaderText, IsWorded}
+use Rattle.addrparts.specs.declared.address.Addr.{Addr}
+use Rattle.addrparts.specs.Spelling.{spelling, quoted}
+use Rattle.sievesyntax.specs.declared.vacation.VacArgs.{VacArgs}
+use Rattle.sievesyntax.specs.declared.vacation.ReplyFrom.{ReplyFrom}
+use Rattle.sieveexec.specs.Mails.{MailSpec, text_shown}
+use Rattle.vacreply.specs.Cases.{same_text}
+use Rattle.vacreply.specs.Dates.{IsDateText}
+
+-- CRLF
+abbrev pub line_end : List ℕ
+line_end = 13 ∷ (10 ∷ [])
+
+-- a line of the response: what it begins with, and its value
+abbrev pub line : List ℕ → List ℕ → List ℕ
+line front value = front ++ (value ++ line_end)
+
+-- the raw value of the first field with this name, case ignored
+abbrev pub first_raw : List ℕ → List FieldText → Option (List ℕ)
+first_raw name [] = None
+first_raw name (field ∷ more) = cond (same_text name field.name) (Some field.raw) (first_raw name more)
+
+-- a text that is UTF-8; any other one counts as none
+abbrev pub usable : Option (List ℕ) → Option (List ℕ)
+usable None = None
+usable (Some text) = cond (is_utf8 text) (Some text) None
+
+-- the display of `:from`; one that isn't UTF-8 counts as empty
+abbrev pub display_of : ReplyFrom → List ℕ
+display_of from = unwrap_or (usable (Some from.display)) []
+
+-- at most 200 octets, all 32 to 126
+abbrev pub is_quotable : List ℕ → Bool
+is_quotable display = nat_le (length display) 200 && list_all is_printable display
+
+-- a display is written as a quoted string (RFC 5322, 3.2.4) where it can be, else as encoded words (RFC 2047, 5)
+pub record IsDisplay (display value : List ℕ) : Type 0 where
+  pub string : is_quotable display ≡ true → value ≡ quoted display
+  pub words : is_quotable display ≡ false → IsWorded display value
+
+-- an address with a display before it, or alone where that is empty
+abbrev pub IsNamed : List ℕ → List ℕ → List ℕ → Type 0
+IsNamed [] address value = value ≡ address
+IsNamed (octet ∷ rest) address value =
+    (display : List ℕ) × (IsDisplay (octet ∷ rest) display × (value ≡ display ++ (codes " <" ++ (address ++ codes ">"))))
+
+-- the value of From: the account's address, or what `:from` says
+abbrev pub IsFrom : Option ReplyFrom → Addr → List ℕ → Type 0
+IsFrom None own value = value ≡ spelling own
+IsFrom (Some from) own value = IsNamed (display_of from) (spelling from.address) value
+
+-- the text of the first Subject field: unfolded, decoded, without the blanks at its ends
+abbrev pub subject_of : MailSpec → Option (List ℕ)
+subject_of mail = option_map (λ raw. text_shown (unfold_of raw)) (first_raw (codes "subject") mail.fields)
+
+-- `Auto: ` and that text; `Automated reply` without one or where it is empty
+abbrev pub auto_subject : Option (List ℕ) → List ℕ
+auto_subject None = codes "Automated reply"
+auto_subject (Some []) = codes "Automated reply"
+auto_subject (Some (octet ∷ rest)) = codes "Auto: " ++ (octet ∷ rest)
+
+-- the subject that is told: the text of `:subject`, or one made of the mail's
+abbrev pub subject_told : VacArgs → MailSpec → List ℕ
+subject_told args mail = unwrap_or (usable args.subject) (auto_subject (usable (subject_of mail)))
+
+-- 33 to 126
+abbrev pub is_visible : ℕ → Bool
+is_visible octet = nat_le 33 octet && nat_le octet 126
+
+-- a message's name that can stand in a line: 1 to 250 octets, all visible
+abbrev pub is_message_id : List ℕ → Bool
+is_message_id id = nat_le 1 (length id) && (nat_le (length id) 250 && list_all is_visible id)
+
+-- the line In-Reply-To of a message's name, if it has one that can stand there
+abbrev pub answered : Option (List ℕ) → List ℕ
+answered None = []
+answered (Some id) = cond (is_message_id id) (line (codes "In-Reply-To: ") id) []
+
+-- the line for the value of the mail's first Message-ID field, unfolded and without the blanks at its ends
+abbrev pub in_reply_to : MailSpec → List ℕ
+in_reply_to mail = answered (option_map (λ raw. trimmed (unfold_of raw)) (first_raw (codes "message-id") mail.fields))
+
+-- the header of a reason with `:mime` has a field MIME-Version
+abbrev pub has_version : List ℕ → Bool
+has_version reason = is_some (first_raw (codes "mime-version") (fields_of reason))
+
+-- the line MIME-Version, unless the reason brings it
+abbrev pub version : VacArgs → List ℕ
+version args = cond (args.mime && has_version args.reason) [] (line (codes "MIME-Version: 1.0") [])
+
+-- the header of a reason that is plain text, with the empty line behind it; with `:mime` the reason has its own
+abbrev pub content_header : Bool → List ℕ
+content_header true = []
+content_header false =
+    line (codes "Content-Type: text/plain; charset=utf-8") [] ++ (line (codes "Content-Transfer-Encoding: 8bit") [] ++ line_end)
+
+-- a reason, which CRLF ends
+abbrev pub ended : List ℕ → List ℕ
+ended reason = cond (ends_with nat_eq reason line_end) reason (reason ++ line_end)
+
+-- what stands behind the date
+abbrev pub body_text : VacArgs → MailSpec → List ℕ
+body_text args mail =
+    line (codes "Auto-Submitted: auto-replied") [] ++ (in_reply_to mail ++ (version args ++ (content_header args.mime ++ ended args.reason)))
+
+-- the line To: the envelope's sender as it was received
+abbrev pub to_line : List ℕ → List ℕ
+to_line sender = codes "To: <" ++ (sender ++ (codes ">" ++ line_end))
+
+-- the response: its lines in order
+abbrev pub reply_text : List ℕ → List ℕ → List ℕ → List ℕ → List ℕ → List ℕ
+reply_text from to subject date rest =
+    line (codes "From: ") from ++ (to_line to ++ (line (codes "Subject: ") subject ++ (line (codes "Date: ") date ++ rest)))
+
+-- the response to a mail, of the user with this address, at this moment
+pub record IsReply (args : VacArgs) (mail : MailSpec) (own : Addr) (moment : ℕ) (reply : List ℕ) : Type 0 where
+  pub from : List ℕ
+  pub subject : List ℕ
+  pub date : List ℕ
+  pub is_from : IsFrom args.from own from
+  pub is_subject : IsHeaderText (subject_told args mail) subject
+  pub is_date : IsDateText moment date
+  pub spelled : reply ≡ reply_text from mail.from subject date (body_text args mail)
+
+-- a line with such a value joins the end of what was there
+pub record WritesLine (front : List ℕ) (IsValue : List ℕ → Type 0) (old new : List ℕ) : Type 0 where
+  pub value : List ℕ
+  pub is_value : IsValue value
+  pub appended : new ≡ old ++ line front value

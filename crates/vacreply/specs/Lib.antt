@@ -1,0 +1,6 @@
+pub mod Handles
+pub mod Cases
+pub mod Reasons
+pub mod Folds
+pub mod Dates
+pub mod Layout

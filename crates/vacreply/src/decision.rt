@@ -1,0 +1,95 @@
+//! Whether a response is sent.
+ghost use Rattle.std.specs.Prelude.{◌≡◌, ◌*◌, max, min, unwrap_or};
+ghost use Rattle.std.specs.List.{list_any};
+ghost use Rattle.vacreply.specs.Cases as cases;
+ghost use Rattle.vacreply.specs.Reasons.{decision_of};
+
+use crate::addressed::AddressedMail;
+use crate::fields::{is_automatic, is_bulk, is_list_mail};
+use crate::reason::{Decision, Reason};
+use crate::sender::{is_bad, is_robot, is_users};
+use addrparts::Addr;
+use sievesyntax::VacArgs;
+
+/// How many seconds a day has.
+const DAY_LEN: u64 = 86_400;
+
+/// How many days a period has without `:days` (RFC 5230, 4.1).
+const DEFAULT_DAYS: u64 = 7;
+
+/// How many days a period has at most, as RFC 5230, 4.1, lets a site say; at least it has one.
+const MAX_DAYS: u64 = 365;
+
+/// Whether a response to this mail is sent, of the user with this address, at this moment; quiet for the first reason that
+/// stands against it.
+///
+/// `last` is the moment that is kept for this response and this sender, if one is. A moment is in seconds since 1 January
+/// 1970. One pass over the fields for each of three reasons, none over the body; takes no memory.
+pub fn decide(
+    args: &VacArgs,
+    mail: &AddressedMail<'_, '_>,
+    own: &Addr,
+    last: Option<u64>,
+    moment: u64,
+) -> Decision
+    ensures { result ≡ decision_of args.now mail.now own.now last moment }
+{
+    let sender = mail.mail().from();
+    if sender.is_empty() {
+        return Decision::Quiet(Reason::NullSender);
+    }
+    if is_bad(sender) {
+        return Decision::Quiet(Reason::BadSender);
+    }
+    if is_robot(sender) {
+        return Decision::Quiet(Reason::RobotSender);
+    }
+    if is_users(args, mail.mail(), own, sender) {
+        return Decision::Quiet(Reason::OwnSender);
+    }
+    if is_automatic(mail.mail()) {
+        return Decision::Quiet(Reason::Automatic);
+    }
+    if is_list_mail(mail.mail()) {
+        return Decision::Quiet(Reason::ListMail);
+    }
+    if is_bulk(mail.mail()) {
+        return Decision::Quiet(Reason::Bulk);
+    }
+    if !is_addressed(args, mail, own) {
+        return Decision::Quiet(Reason::NotAddressed);
+    }
+    if is_early(args, last, moment) {
+        return Decision::Quiet(Reason::TooSoon);
+    }
+    Decision::Send
+}
+
+/// Whether an address of the user stands among the recipients.
+fn is_addressed(args: &VacArgs, mail: &AddressedMail<'_, '_>, own: &Addr) -> bool
+    ensures { result ≡ list_any (cases.is_users args.now mail.now own.now) (cases.recipients_of mail.now) }
+{
+    for one in mail.recipients().as_slice() {
+        if is_users(args, mail.mail(), own, one.as_slice()) {
+            return true;
+        }
+    }
+    false
+}
+
+/// Whether the period since the kept moment isn't over.
+fn is_early(args: &VacArgs, last: Option<u64>, moment: u64) -> bool
+    ensures { result ≡ cases.is_early args.now last moment }
+{
+    let Some(kept) = last else {
+        return false;
+    };
+    moment < kept || moment - kept < period(args.days)
+}
+
+/// How many seconds a period has.
+fn period(days: Option<u64>) -> u64
+    ensures { result ≡ max 1 (min 365 (unwrap_or days 7)) * 86400 }
+{
+    days.unwrap_or(DEFAULT_DAYS).min(MAX_DAYS).max(1) * DAY_LEN
+}

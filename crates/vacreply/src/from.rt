@@ -1,0 +1,86 @@
+//! Who the response is from.
+ghost use Rattle.std.specs.Prelude.{◌≡◌, codes, IfOk, OnOk};
+ghost use Rattle.std.specs.List.{list_all};
+ghost use Rattle.octets.specs.Ascii as ascii;
+ghost use Rattle.addrparts.specs.Spelling as spelled;
+ghost use Rattle.addrparts.specs.Spelling.{spelling};
+ghost use Rattle.vacreply.specs.Layout as layout;
+
+use crate::layout::push_parts;
+use crate::text::usable;
+use addrparts::{Addr, quote, spell};
+use encwords::header_text;
+use octets::{Octets, is_printable};
+use sievesyntax::ReplyFrom;
+use std::alloc::{AllocError, Global};
+
+/// How many octets a display has at most that is written as a quoted string.
+const MAX_QUOTED_LEN: usize = 200;
+
+/// Appends the line From: the account's address, or what `:from` says.
+pub(crate) fn write_from(
+    alloc: Global,
+    out: &mut Octets,
+    from: &Option<ReplyFrom>,
+    own: &Addr,
+) -> Result<(), AllocError>
+    ensures { OnOk result (layout.WritesLine (codes "From: ") (layout.IsFrom from.now own.now) out.old out.new) }
+{
+    let value = from_value(alloc, from, own)?;
+    push_parts(out, b"From: ", value.as_slice(), b"\r\n")
+}
+
+fn from_value(alloc: Global, from: &Option<ReplyFrom>, own: &Addr) -> Result<Octets, AllocError>
+    ensures { IfOk result (layout.IsFrom from.now own.now) }
+{
+    match from {
+        Some(from) => named(alloc, from),
+        None => spell(alloc, own),
+    }
+}
+
+/// An address with its display before it, or alone where that is empty.
+fn named(alloc: Global, from: &ReplyFrom) -> Result<Octets, AllocError>
+    ensures { IfOk result (layout.IsNamed (layout.display_of from.now) (spelling from.now.address)) }
+{
+    let address = spell(alloc, &from.address)?;
+    let Some(display) = usable(from.display.as_slice()) else {
+        return Ok(address);
+    };
+    if display.is_empty() {
+        return Ok(address);
+    }
+    let mut value = display_value(alloc, display)?;
+    push_parts(&mut value, b" <", address.as_slice(), b">")?;
+    Ok(value)
+}
+
+/// A display as a quoted string where it can be, else as encoded words.
+fn display_value(alloc: Global, display: &str) -> Result<Octets, AllocError>
+    ensures { IfOk result (layout.IsDisplay display.now) }
+{
+    if is_quotable(display.as_bytes()) {
+        return quoted(alloc, display.as_bytes());
+    }
+    Ok(Octets::from_vec(header_text(alloc, display)?))
+}
+
+fn quoted(alloc: Global, text: &[u8]) -> Result<Octets, AllocError>
+    ensures { IfOk result (λ value. value ≡ spelled.quoted text.now) }
+{
+    let mut value = Octets::new(alloc);
+    quote(&mut value, text)?;
+    Ok(value)
+}
+
+fn is_quotable(display: &[u8]) -> bool
+    ensures { result ≡ layout.is_quotable display.now }
+{
+    display.len() <= MAX_QUOTED_LEN && are_printable(display)
+}
+
+fn are_printable(text: &[u8]) -> bool
+    ensures { result ≡ list_all ascii.is_printable text.now }
+{
+    text.iter().all(|octet| is_printable(*octet))
+}

@@ -1,0 +1,86 @@
+//! By what a response is known (RFC 5230, 4.7).
+ghost use Rattle.std.specs.Prelude.{◌≡◌, ◌↔◌, ◌<◌, ◌^◌, ◌++◌, IsTrue, IfOk, OnOk, option_copied};
+ghost use Rattle.vacreply.specs.Handles.{handle_of, key_of, four_octets, part_of, from_text, HasShortTexts, IsShort};
+
+use octets::Octets;
+use sievesyntax::{ReplyFrom, VacArgs};
+use std::alloc::{AllocError, Global};
+
+/// How many octets a text has at most that a key can have as a part, so that four octets tell its length.
+const MAX_TEXT_LEN: u64 = 4_294_967_295;
+
+/// The key under which it is remembered who got this response.
+///
+/// Two responses have one key exactly where they have one handle: the name that `:handle` gives, or else the subject,
+/// the text of `:from`, `:mime` and the reason together. Subject and `:from` have less than 2^32 octets each, as in any
+/// script that was checked ([`has_short_texts`]). Linear in the texts; lack of memory is the only error.
+pub fn handle_key(alloc: Global, args: &VacArgs) -> Result<Octets, AllocError>
+    requires { HasShortTexts (handle_of args.now) }
+    ensures { IfOk result (λ key. key ≡ key_of (handle_of args.now)) }
+{
+    let mut key = Octets::new(alloc);
+    if let Some(name) = &args.handle {
+        key.push(1)?;
+        key.extend_from_slice(name.as_slice())?;
+        return Ok(key);
+    }
+    key.push(2)?;
+    push_part(&mut key, args.subject.as_ref())?;
+    push_part(&mut key, written(&args.from))?;
+    key.push(if args.mime { 1 } else { 0 })?;
+    key.extend_from_slice(args.reason.as_slice())?;
+    Ok(key)
+}
+
+/// Whether [`handle_key`] can be asked: subject and `:from`, where no name is given, have less than 2^32 octets each.
+pub fn has_short_texts(args: &VacArgs) -> bool
+    ensures { IsTrue result ↔ HasShortTexts (handle_of args.now) }
+{
+    if args.handle.is_some() {
+        return true;
+    }
+    is_short(args.subject.as_ref()) && is_short(written(&args.from))
+}
+
+fn is_short(part: Option<&Octets>) -> bool
+    ensures { IsTrue result ↔ IsShort (option_copied part.entry) }
+{
+    match part {
+        Some(text) => text.as_slice().len() as u64 <= MAX_TEXT_LEN,
+        None => true,
+    }
+}
+
+/// The text of `:from`, as it was written.
+fn written(from: &Option<ReplyFrom>) -> Option<&Octets>
+    ensures { option_copied result ≡ from_text from.now }
+{
+    match from {
+        Some(from) => Some(&from.text),
+        None => None,
+    }
+}
+
+/// Appends a text that may be absent.
+fn push_part(key: &mut Octets, part: Option<&Octets>) -> Result<(), AllocError>
+    requires { IsShort (option_copied part) }
+    ensures { OnOk result (key.new ≡ key.old ++ part_of (option_copied part.entry)) }
+{
+    let Some(text) = part else {
+        return key.push(0);
+    };
+    key.push(1)?;
+    push_len(key, text.as_slice().len() as u64)?;
+    key.extend_from_slice(text.as_slice())
+}
+
+/// Appends a length in four octets, the highest first.
+fn push_len(key: &mut Octets, len: u64) -> Result<(), AllocError>
+    requires { len < 2 ^ 32 }
+    ensures { OnOk result (key.new ≡ key.old ++ four_octets len) }
+{
+    key.push((len / 16_777_216 % 256) as u8)?;
+    key.push((len / 65_536 % 256) as u8)?;
+    key.push((len / 256 % 256) as u8)?;
+    key.push((len % 256) as u8)
+}

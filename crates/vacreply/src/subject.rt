@@ -1,0 +1,75 @@
+//! What the response is about.
+ghost use Rattle.std.specs.Prelude.{◌≡◌, codes, IfOk, OnOk, Some, option_copied};
+ghost use Rattle.encwords.specs.Headers.{IsHeaderText};
+ghost use Rattle.vacreply.specs.Layout as layout;
+
+use crate::fields::first_raw;
+use crate::layout::push_parts;
+use crate::text::usable;
+use encwords::{decoded, header_text};
+use mailhead::unfolded;
+use octets::{Octets, trim_blanks};
+use sieveexec::Mail;
+use sievesyntax::VacArgs;
+use std::alloc::{AllocError, Global};
+
+/// The subject where neither the script nor the mail has a usable one.
+const AUTOMATED: &str = "Automated reply";
+
+/// Appends the line Subject.
+pub(crate) fn write_subject(
+    alloc: Global,
+    out: &mut Octets,
+    args: &VacArgs,
+    mail: &Mail<'_>,
+) -> Result<(), AllocError>
+    ensures { OnOk result (layout.WritesLine (codes "Subject: ") (IsHeaderText (layout.subject_told args.now mail.now)) out.old out.new) }
+{
+    let value = subject_value(alloc, args, mail)?;
+    push_parts(out, b"Subject: ", value.as_slice(), b"\r\n")
+}
+
+fn subject_value(alloc: Global, args: &VacArgs, mail: &Mail<'_>) -> Result<Vec<u8>, AllocError>
+    ensures { IfOk result (λ value. IsHeaderText (layout.subject_told args.now mail.now) value.items) }
+{
+    if let Some(text) = given(&args.subject) {
+        return header_text(alloc, text);
+    }
+    auto_subject(alloc, mail)
+}
+
+/// The text of `:subject`, if it is one of UTF-8.
+fn given(subject: &Option<Octets>) -> Option<&str>
+    ensures { option_copied result ≡ layout.usable subject.now }
+{
+    match subject {
+        Some(text) => usable(text.as_slice()),
+        None => None,
+    }
+}
+
+/// A subject made of the mail's.
+fn auto_subject(alloc: Global, mail: &Mail<'_>) -> Result<Vec<u8>, AllocError>
+    ensures { IfOk result (λ value. IsHeaderText (layout.auto_subject (layout.usable (layout.subject_of mail.now))) value.items) }
+{
+    let Some(raw) = first_raw(b"subject", mail.fields()) else {
+        return header_text(alloc, AUTOMATED);
+    };
+    let value = unfolded(alloc, raw)?;
+    let text = decoded(alloc, value.as_slice())?;
+    auto_text(alloc, trim_blanks(text.as_slice()))
+}
+
+/// A subject made of the text of the mail's.
+fn auto_text(alloc: Global, first: &[u8]) -> Result<Vec<u8>, AllocError>
+    ensures { IfOk result (λ value. IsHeaderText (layout.auto_subject (layout.usable (Some first.now))) value.items) }
+{
+    let Some(text) = usable(first) else {
+        return header_text(alloc, AUTOMATED);
+    };
+    if text.is_empty() {
+        return header_text(alloc, AUTOMATED);
+    }
+    let told = format!(in alloc; "Auto: {text}")?;
+    header_text(alloc, told.as_str())
+}

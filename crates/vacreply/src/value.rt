@@ -1,0 +1,119 @@
+//! What the unfolded value of a field says, read from the raw one without memory (RFC 5322, 2.2.3).
+ghost use Rattle.std.specs.Prelude.{◌≡◌, ◌<◌, ◌≤◌, [], ◌∷◌, length, true, MatchOption, IfSome, option_map};
+ghost use Rattle.std.specs.List.{list_all, before_first};
+ghost use Rattle.octets.specs.Ascii.{trimmed, trim_front};
+ghost use Rattle.mailhead.specs.Heads.{unfold_of};
+ghost use Rattle.vacreply.specs.Cases.{same_text, is_empty, is_semicolon};
+ghost use Rattle.vacreply.specs.Folds.{begins_feed_fold, fold_len, after_word, ends_parameter, is_small};
+
+use octets::is_blank;
+
+/// Whether the value, without the blanks at its ends, is a word of small letters; case ignored.
+pub(crate) fn is_word(raw: &[u8], word: &[u8]) -> bool
+    requires { list_all is_small word.now ≡ true }
+    ensures { result ≡ same_text word.now (trimmed (unfold_of raw.now)) }
+{
+    let Some(behind) = after_word(skip_blanks(raw), word) else {
+        return false;
+    };
+    is_blank_value(behind)
+}
+
+/// Whether what stands before the value's first `;`, without the blanks at its ends, is a word of small letters; case ignored.
+pub(crate) fn is_word_before_parameters(raw: &[u8], word: &[u8]) -> bool
+    requires { list_all is_small word.now ≡ true }
+    ensures { result ≡ same_text word.now (trimmed (before_first is_semicolon (unfold_of raw.now))) }
+{
+    let Some(behind) = after_word(skip_blanks(raw), word) else {
+        return false;
+    };
+    ends_parameter(behind)
+}
+
+/// Whether the value has blanks alone.
+fn is_blank_value(raw: &[u8]) -> bool
+    ensures { result ≡ is_empty (trim_front (unfold_of raw.now)) }
+{
+    match next_octet(skip_blanks(raw)) {
+        Some(_) => false,
+        None => true,
+    }
+}
+
+/// Whether nothing but blanks stands before the value's first `;`.
+fn ends_parameter(raw: &[u8]) -> bool
+    ensures { result ≡ ends_parameter (trim_front (unfold_of raw.now)) }
+{
+    match next_octet(skip_blanks(raw)) {
+        Some((octet, _)) => octet == b';',
+        None => true,
+    }
+}
+
+/// What stands behind a word with which the value begins, case ignored.
+fn after_word<'a>(raw: &'a [u8], word: &[u8]) -> Option<&'a [u8]>
+    ensures { option_map (λ rest. unfold_of rest.now) result ≡ after_word word.now (unfold_of raw.now) }
+{
+    let mut rest = raw;
+    for letter in word {
+        let Some((octet, behind)) = next_octet(rest) else {
+            return None;
+        };
+        if !letter.eq_ignore_ascii_case(&octet) {
+            return None;
+        }
+        rest = behind;
+    }
+    Some(rest)
+}
+
+/// The value without the blanks at its front.
+fn skip_blanks(raw: &[u8]) -> &[u8]
+    ensures { unfold_of result.now ≡ trim_front (unfold_of raw.now) }
+{
+    let mut rest = raw;
+    while let Some((octet, behind)) = next_octet(rest) {
+        if !is_blank(octet) {
+            break;
+        }
+        rest = behind;
+    }
+    rest
+}
+
+/// The value's first octet, and what follows it.
+fn next_octet(raw: &[u8]) -> Option<(u8, &[u8])>
+    ensures value { MatchOption result (unfold_of raw.now ≡ []) (λ pair. unfold_of raw.now ≡ pair.0 ∷ unfold_of pair.1.now) }
+    ensures shorter { IfSome result (λ pair. length pair.1.now < length raw.now) }
+{
+    let (_, rest) = raw.split_at(fold_len(raw));
+    let (octet, behind) = rest.split_first()?;
+    Some((*octet, behind))
+}
+
+/// How many octets the line end has that stands first and that a blank follows.
+fn fold_len(raw: &[u8]) -> usize
+    ensures value { result ≡ fold_len raw.now }
+    ensures within { result ≤ length raw.now }
+{
+    let Some((octet, rest)) = raw.split_first() else {
+        return 0;
+    };
+    if begins_feed_fold(raw) {
+        return 1;
+    }
+    if *octet == b'\r' && begins_feed_fold(rest) {
+        return 2;
+    }
+    0
+}
+
+/// Whether LF and then a blank stand first.
+fn begins_feed_fold(text: &[u8]) -> bool
+    ensures { result ≡ begins_feed_fold text.now }
+{
+    match text {
+        [b'\n', next, ..] => is_blank(*next),
+        _ => false,
+    }
+}
