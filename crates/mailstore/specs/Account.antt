@@ -6,8 +6,13 @@ use Rattle.std.specs.Ordering.{nat_cmp, on, then_cmp, is_eq}
 use Rattle.octets.specs.Ascii.{lowered}
 use Rattle.std.specs.Cmp.Lexicographic.{slice_cmp}
 use Rattle.mailstore.specs.declared.queue.Kind.{Kind}
+use Rattle.mailstore.specs.declared.queue.Kind.TheVariants as kind
 use Rattle.mailstore.specs.declared.queue.Outgoing.{Outgoing}
 use Rattle.mailstore.specs.declared.notice.Notice.{Notice}
+use Rattle.mailstore.specs.declared.report.Letter.{Letter}
+use Rattle.mailstore.specs.declared.report.Letter.TheVariants.{Redirect, Reply}
+use Rattle.mailstore.specs.declared.report.Remembered.{Remembered}
+use Rattle.mailstore.specs.declared.report.Plan.{Plan}
 
 -- the order of octets
 abbrev pub bytes_cmp : List ℕ → List ℕ → Ordering
@@ -127,6 +132,30 @@ remembers handle sender moment a = record a { replies = insert a.replies (handle
 -- a notice joins the others
 abbrev pub notes : ℕ → List ℕ → Account → Account
 notes moment text a = record a { notices = a.notices ++ record { moment = moment; text = text } ∷ [] }
+
+-- ---- a delivery
+
+-- a redirect's message is the one that was received, from its sender; a reply has its own octets and the empty sender
+abbrev pub sends : List ℕ → List ℕ → Letter → Account → Account
+sends sender message (Redirect target) a = queues kind.Redirect sender target message a
+sends sender message (Reply target reply) a = queues kind.Reply [] target reply a
+
+-- the letters join the queue, in order
+abbrev pub sends_all : List ℕ → List ℕ → List Letter → Account → Account
+sends_all sender message letters a = fold (λ b letter. sends sender message letter b) a letters
+
+abbrev pub remembers_if_any : Option Remembered → Account → Account
+remembers_if_any None a = a
+remembers_if_any (Some reply) a = remembers reply.handle reply.sender reply.moment a
+
+abbrev pub notes_if_any : ℕ → Option (List ℕ) → Account → Account
+notes_if_any moment None a = a
+notes_if_any moment (Some text) a = notes moment text a
+
+-- the message joins the end of each folder, the letters join the queue, the reply is remembered, and the notice joins the others
+abbrev pub delivers : Plan → Account → Account
+delivers plan a =
+    notes_if_any plan.moment plan.notice (remembers_if_any plan.remember (sends_all plan.sender.now plan.message.now plan.outgoing (files_copies plan.copies plan.message.now a)))
 
 -- ---- accounts by name
 
