@@ -1,5 +1,5 @@
 -- From the rows that a write makes to the accounts that it leaves.
-use Rattle.std.proofs.Common.{◌≡◌, ℕ, List, [], ◌∷◌, Option, Some, None, Ok, Err, Result, OnOk, IsSome, refl, subst}
+use Rattle.std.proofs.Common.{◌≡◌, ℕ, ℤ, pos, List, [], ◌∷◌, Option, Some, None, Ok, Err, Result, OnOk, IsSome, refl, subst}
 use Rattle.std.specs.Borrow.{Bor}
 use Rattle.std.specs.FinMap.{get, insert}
 use Rattle.sqlite.specs.Effect.{Database}
@@ -7,16 +7,16 @@ use Rattle.sqlite.specs.State.{State, Survives}
 use Rattle.sqlite.proofs.StateLemmas.{survives_weaker}
 use Rattle.sqlrows.specs.Rows.{Tables, Holds}
 use Rattle.mailstore.specs.declared.change.Change.{Change}
-use Rattle.mailstore.specs.declared.change.Change.TheVariants.{AddAccount, SetActive, AddScript, RemoveScript}
+use Rattle.mailstore.specs.declared.change.Change.TheVariants.{AddAccount, SetActive, AddScript, RemoveScript, RemoveOutgoing}
 use Rattle.mailstore.specs.declared.refusal.Refusal.{Refusal}
 use Rattle.mailstore.specs.Schema.{mail_schema}
 use Rattle.mailstore.specs.Cells.{contents}
 use Rattle.mailstore.specs.Changes.{made, MayHave, AreOf}
-use Rattle.mailstore.specs.Account.{Account, Accounts, with_user, in_place, new_account, keeps_script, activates, deletes_script}
+use Rattle.mailstore.specs.Account.{Account, Accounts, with_user, in_place, new_account, keeps_script, activates, deletes_script, takes_out}
 use Rattle.mailstore.specs.Shows.{rows_of, IsShown, IsShownOrAbsent, ShowsAccounts}
 use Rattle.mailstore.specs.Promises.{HasUser, IsFree, Turns, MayShow}
 use Rattle.mailstore.proofs.ShowLemmas.{shows_after}
-use Rattle.mailstore.proofs.AccountLemmas.{script_put, script_gone, active_put, account_put}
+use Rattle.mailstore.proofs.AccountLemmas.{script_put, script_gone, queue_gone, active_put, account_put}
 
 -- the changes turn tables that show accounts that fit into tables that show them changed
 abbrev pub Carries : List Change → (Accounts → Type 0) → (Accounts → Accounts) → Type 0
@@ -48,6 +48,9 @@ carries_script user name text =
 
 pub carries_deletion : (user name : Bor (List ℕ)) → Carries (RemoveScript user name ∷ []) (HasUser user.now) (λ all. with_user all user.now (deletes_script name.now))
 carries_deletion user name = carries_user user.now (RemoveScript user name ∷ []) (deletes_script name.now) (refl, tt) (λ own a s. script_gone user.now own a s name.now)
+
+pub carries_taking : (user : Bor (List ℕ)) (id : ℤ) (n : ℕ) → id ≡ pos n → Carries (RemoveOutgoing user id ∷ []) (HasUser user.now) (λ all. with_user all user.now (takes_out n))
+carries_taking user id n is = carries_user user.now (RemoveOutgoing user id ∷ []) (takes_out n) (refl, tt) (λ own a s. rw is (queue_gone user.now own a s n))
 
 pub carries_active : (user : Bor (List ℕ)) (active : Option (Bor (List ℕ))) → Carries (SetActive user active ∷ []) (HasUser user.now) (λ all. with_user all user.now (activates (contents active)))
 carries_active user active = carries_user user.now (SetActive user active ∷ []) (activates (contents active)) (refl, tt) (λ own a s. active_put user.now own a s (contents active))

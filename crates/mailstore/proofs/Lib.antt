@@ -12,6 +12,8 @@ pub mod DeliveryLemmas
 pub mod OrderLemmas
 pub mod ReadLemmas
 pub mod KeepLemmas
+pub mod KeyLemmas
+pub mod MapLemmas
 pub mod DecodeLemmas
 pub mod TallyLemmas
 pub mod FolderLemmas

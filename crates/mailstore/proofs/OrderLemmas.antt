@@ -36,7 +36,8 @@ use Rattle.mailstore.specs.ScriptTable.{script, select_names, script_row, AreApa
 use Rattle.mailstore.specs.CopyTable.{copy, select_folder, Copy, copy_row, folders_from, copy_tree}
 use Rattle.mailstore.specs.Shows.{rows_of}
 use Rattle.mailstore.proofs.TextFacts.{by_one, by_two, select_names_is, select_names_plain, select_folder_is, select_folder_plain, notices_shown, queue_shown, select_notices_is, select_notices_plain, select_queue_is, select_queue_plain}
-use Rattle.mailstore.proofs.AccountLemmas.{pair_is}
+use Rattle.mailstore.proofs.AccountLemmas.{pair_is, bytes_antisymmetric}
+use Rattle.mailstore.proofs.MapLemmas.{entries_permutation, entries_rise}
 use Rattle.mailstore.proofs.SchemaFacts.{copy_listed, script_listed, notice_listed, outgoing_listed}
 
 -- the rows with a key of two are among the owner's
@@ -150,58 +151,6 @@ folders_joined q (c ∷ copies) m =
 pub messages_are : (copies : List Copy) (folder : List ℕ) → messages_in (folders_from copies) folder ≡ map (λ c. c.message) (filter (is_in folder) copies)
 messages_are copies folder = folders_joined folder copies empty ∙ ap (λ o. unwrap_or o [] ++ map (λ c. c.message) (filter (is_in folder) copies)) (get-empty bytes_cmp folder)
 
--- ---- the entries of a map in order
-
-put_permutation : {X : Type 0} (k : List ℕ) (v : X) (es : List (List ℕ × X)) → find bytes_cmp k es ≡ None → IsPermutation ((k, v) ∷ es) (put bytes_cmp k v es)
-put_permutation k v [] none = IsPermutation-refl _
-put_permutation {X} k v (e ∷ es) none = go (bytes_cmp k e.0) none (put_permutation k v es)
-  where
-    go : (o : Ordering) → cond (is_eq o) (Some e.1) (find bytes_cmp k es) ≡ None → (find bytes_cmp k es ≡ None → IsPermutation ((k, v) ∷ es) (put bytes_cmp k v es))
-        → IsPermutation ((k, v) ∷ e ∷ es) (by_order o ((k, v) ∷ e ∷ es) ((e.0, v) ∷ es) (e ∷ put bytes_cmp k v es))
-    go Less h more = IsPermutation-refl _
-    go Equal h more = absurd (let same = h in cc)
-    go Greater h more = IsPermutation-trans _ _ _ (IsPermutation-sym _ _ (IsPermutation-middle (e ∷ []) (k, v) es)) (IsPermutation-cons e _ _ (more h))
-
-none_apart : {X : Type 0} (k : List ℕ) (es : List (List ℕ × X)) → AllByRecursion (λ e. k ≢ e.0) es → find bytes_cmp k es ≡ None
-none_apart k [] apart = refl
-none_apart {X} k (e ∷ es) apart = go (is_eq (bytes_cmp k e.0)) refl (none_apart k es apart.1)
-  where
-    go : (b : Bool) → is_eq (bytes_cmp k e.0) ≡ b → find bytes_cmp k es ≡ None → cond b (Some e.1) (find bytes_cmp k es) ≡ None
-    go true same more = absurd (apart.0 (same_bytes k e.0 same))
-    go false other more = more
-
-no_length : {X : Type 0} (es : List X) → length es ≡ 0 → es ≡ []
-no_length [] e = refl
-no_length (x ∷ es) e = absurd (omega arith)
-
-entries_permutation : {X : Type 0} (es : List (List ℕ × X)) → AreApart es → IsPermutation es (entries (from_entries {R = bytes_cmp} es))
-entries_permutation {X} [] apart = subst (IsPermutation []) (sym (no_length _ (sym (len-entries (empty {X = X} {R = bytes_cmp})) ∙ len-empty bytes_cmp X))) (IsPermutation-refl [])
-entries_permutation {X} (e ∷ es) apart =
-    let m : FinMap bytes_cmp X = from_entries es in
-    let free : find bytes_cmp e.0 (entries m) ≡ None = sym (get-entries m e.0) ∙ get-from_entries nat_list_cmp_total es e.0 ∙ none_apart e.0 es apart.0 in
-    subst (IsPermutation (e ∷ es)) (sym (entries-insert nat_list_cmp_total m e.0 e.1))
-    (IsPermutation-trans _ _ _ (IsPermutation-cons e es (entries m) (entries_permutation es apart.1)) (put_permutation e.0 e.1 (entries m) free))
-
-from_T : (b : Bool) → T b → b ≡ true
-from_T true h = refl
-from_T false h = absurd h
-
-is_less : (o : Ordering) → is_lt o ≡ true → o ≡ Less
-is_less Less h = refl
-is_less Equal h = absurd (true≢false (sym h))
-is_less Greater h = absurd (true≢false (sym h))
-
-below : {X : Type 0} (k : List ℕ) (es : List (List ℕ × X)) → below_all bytes_cmp k es ≡ true → AllByRecursion (λ e. bytes_cmp k e.0 ≡ Less) es
-below k [] h = tt
-below k (e ∷ es) h = let parts = and_parts (is_lt (bytes_cmp k e.0)) (below_all bytes_cmp k es) h in (is_less _ parts.0, below k es parts.1)
-
-rises : {X : Type 0} (es : List (List ℕ × X)) → is_sorted bytes_cmp es ≡ true → IsAscending (λ a b. bytes_cmp a.0 b.0 ≡ Less) es
-rises [] h = tt
-rises (e ∷ es) h = let parts = and_parts (below_all bytes_cmp e.0 es) (is_sorted bytes_cmp es) h in (below e.0 es parts.0, rises es parts.1)
-
-pub entries_rise : {X : Type 0} (m : FinMap bytes_cmp X) → IsAscending (λ a b. bytes_cmp a.0 b.0 ≡ Less) (entries m)
-entries_rise m = rises (entries m) (from_T _ (entries_sorted m))
-
 -- ---- names in order
 
 abbrev by_name : Query
@@ -225,7 +174,7 @@ module _ (old new : State) (rows : List Row) (tables : Tables) (h : Holds mail_s
       let found = cells_in_order old.now.trees script_tree by_one (col 1 2 ∷ []) ((col 1 2, ascending Binary) ∷ []) (owner_key owner) (tables script_tree) (h.each script script_listed) p (λ n cells. refl) show (λ n cells. refl) rows
       (answered mail_schema select_names (owner_key owner) old new h.is select_names_plain.0 script_tree by_one (col 1 2 ∷ []) _ _ select_names_is select_names_plain.1 rows shown) in
       let outs : map show (filter p (tables script_tree)) ≡ map name_output scripts = ap (map show) are ∙ map-map show (script_row owner) scripts in
-      let same = IsPermutation-trans _ _ _ (IsPermutation-map name_output _ _ (IsPermutation-sym _ _ (entries_permutation scripts apart))) (subst (λ l. IsPermutation l found.0) outs found.1) in
-      let rising = ascending-map (λ x y. output_cmp by_name x y ≡ Less) name_output (entries m) (ascending_weaker _ (λ a b. output_cmp by_name (name_output a) (name_output b) ≡ Less) names_rise (entries m) (entries_rise m)) in
+      let same = IsPermutation-trans _ _ _ (IsPermutation-map name_output _ _ (IsPermutation-sym _ _ (entries_permutation bytes_cmp nat_list_cmp_total bytes_antisymmetric scripts apart))) (subst (λ l. IsPermutation l found.0) outs found.1) in
+      let rising = ascending-map (λ x y. output_cmp by_name x y ≡ Less) name_output (entries m) (ascending_weaker _ (λ a b. output_cmp by_name (name_output a) (name_output b) ≡ Less) names_rise (entries m) (entries_rise bytes_cmp nat_list_cmp_total bytes_antisymmetric m)) in
       let is = sorted_unique (output_cmp by_name) (output_cmp_total by_name) (map name_output (entries m)) found.0 rising same found.2 in
       found.3 ∙ ap (map (λ (o : Output). o.1)) is ∙ map-map (λ (o : Output). o.1) name_output (entries m) ∙ sym (map-map (λ (n : List ℕ). Blob n ∷ []) (λ (e : List ℕ × List ℕ). e.0) (entries m))

@@ -1,5 +1,5 @@
 -- The table of messages on their way out.
-use Rattle.std.specs.Prelude.{◌≡◌, ℕ, pos, List, [], ◌∷◌, map, codes}
+use Rattle.std.specs.Prelude.{◌≡◌, ℕ, ℤ, pos, List, [], ◌∷◌, map, codes}
 use Rattle.sqlite_schema.specs.declared.schema.Kind.TheVariants as kind
 use Rattle.sqlite_schema.specs.declared.schema.Table.{Table}
 use Rattle.sqlite_value.specs.declared.value.Value.TheVariants.{Int, Blob}
@@ -29,8 +29,21 @@ abbrev pub kind_number : Kind → ℕ
 kind_number Redirect = 1
 kind_number Reply = 2
 
+abbrev pub queue_cells : List ℕ → ℤ → Kind → List ℕ → List ℕ → List ℕ → Row
+queue_cells owner id kind sender target message = Blob owner ∷ Int id ∷ Int (pos (kind_number kind)) ∷ Blob sender ∷ Blob target ∷ Blob message ∷ []
+
+-- the key of a row: the owner and the number
+abbrev pub queue_key : List ℕ → ℤ → Row
+queue_key owner id = Blob owner ∷ Int id ∷ []
+
 abbrev pub queue_row : List ℕ → Outgoing → Row
-queue_row user out = Blob user ∷ Int (pos out.id) ∷ Int (pos (kind_number out.kind)) ∷ Blob out.sender ∷ Blob out.target ∷ Blob out.message ∷ []
+queue_row user out = queue_cells user (pos out.id) out.kind out.sender out.target out.message
+
+abbrev pub insert_outgoing : List ℕ
+insert_outgoing = codes "INSERT INTO outgoing (owner, id, kind, sender, target, message) VALUES (?1, ?2, ?3, ?4, ?5, ?6)"
+
+abbrev pub delete_outgoing : List ℕ
+delete_outgoing = codes "DELETE FROM outgoing WHERE owner = ?1 AND id = ?2"
 
 -- the queue goes out in the order of its numbers
 abbrev pub select_queue : List ℕ

@@ -4,7 +4,8 @@ ghost use Rattle.sqlite_value.specs.declared.value.Value.TheVariants.{Int, Blob}
 ghost use Rattle.sqlite_value.specs.Order.{column};
 ghost use Rattle.sqlite.specs.Held.{state};
 ghost use Rattle.sqlite.specs.State.{Survives};
-ghost use Rattle.mailstore.specs.Connection.{MakesTable};
+ghost use Rattle.mailstore.specs.Changes.{notice_added};
+ghost use Rattle.mailstore.specs.Connection.{Makes, MakesTable};
 ghost use Rattle.mailstore.specs.Schema.{schema_5, schema_6};
 ghost use Rattle.mailstore.specs.Cells.{first_two};
 ghost use Rattle.mailstore.specs.NoticeTable.{AreNoticeRows, notice_cells};
@@ -35,6 +36,25 @@ pub fn make_notice<S: Alter>(tx: &mut Transaction<'_, S>) -> Result<(), Error>
     tx.execute(
         "CREATE TABLE notice (owner BLOB NOT NULL REFERENCES account (name), id INTEGER NOT NULL, moment INTEGER NOT NULL, text BLOB NOT NULL, PRIMARY KEY (owner, id)) STRICT",
         &[],
+    )?;
+    Ok(())
+}
+
+/// A notice with its number. Inside a transaction.
+pub fn add_notice<S: Alter>(
+    tx: &mut Transaction<'_, S>,
+    owner: &[u8],
+    id: &i64,
+    moment: &i64,
+    text: &[u8],
+) -> Result<(), Error>
+    ensures same_reference { tx.new.conn.ghost_name ≡ tx.old.conn.ghost_name }
+    ensures made { Makes (state S.Store tx.old.conn.now) (state S.Store tx.new.conn.now) result (notice_added owner.now id.now moment.now text.now) }
+    ensures survives { Survives (state S.Store tx.old.conn.now) (state S.Store tx.new.conn.now) (λ _. ⊥) }
+{
+    tx.execute(
+        "INSERT INTO notice (owner, id, moment, text) VALUES (?1, ?2, ?3, ?4)",
+        params![owner, id, moment, text],
     )?;
     Ok(())
 }

@@ -4,14 +4,17 @@ ghost use Rattle.sqlite_value.specs.declared.value.Value.TheVariants.{Int, Blob}
 ghost use Rattle.sqlite_value.specs.Order.{column};
 ghost use Rattle.sqlite.specs.Held.{state};
 ghost use Rattle.sqlite.specs.State.{Survives};
-ghost use Rattle.mailstore.specs.Connection.{MakesTable};
+ghost use Rattle.mailstore.specs.Account.{takes_out};
+ghost use Rattle.mailstore.specs.Changes.{outgoing_added, outgoing_removed};
+ghost use Rattle.mailstore.specs.Connection.{Makes, MakesTable};
 ghost use Rattle.mailstore.specs.Schema.{schema_3, schema_4};
 ghost use Rattle.mailstore.specs.Cells.{first_five};
-ghost use Rattle.mailstore.specs.Promises.{Finds, Reads, ReadsRows};
+ghost use Rattle.mailstore.specs.Promises.{Finds, Reads, ReadsRows, WritesUser};
 ghost use Rattle.mailstore.specs.QueueTable.{AreQueueRows, kind_number, outgoing_cells};
 ghost use Rattle.mailstore.specs.Refusals.{IsPassing};
 
-use crate::cell::text_at;
+use crate::cell::{number, text_at};
+use crate::change::Change;
 use crate::refusal::Refusal;
 use crate::store::Store;
 use octets::{ListOf, Octets};
@@ -48,6 +51,55 @@ pub fn make_outgoing<S: Alter>(tx: &mut Transaction<'_, S>) -> Result<(), Error>
     tx.execute(
         "CREATE TABLE outgoing (owner BLOB NOT NULL REFERENCES account (name), id INTEGER NOT NULL, kind INTEGER NOT NULL, sender BLOB NOT NULL, target BLOB NOT NULL, message BLOB NOT NULL, PRIMARY KEY (owner, id)) STRICT",
         &[],
+    )?;
+    Ok(())
+}
+
+/// The number of the kind, as the table has it.
+fn number_of(kind: Kind) -> u32
+    ensures { result ≡ kind_number kind }
+{
+    match kind {
+        Kind::Redirect => 1,
+        Kind::Reply => 2,
+    }
+}
+
+/// A message that joins the queue, with its number. Inside a transaction.
+pub fn add_outgoing<S: Alter>(
+    tx: &mut Transaction<'_, S>,
+    owner: &[u8],
+    id: &i64,
+    kind: Kind,
+    sender: &[u8],
+    target: &[u8],
+    message: &[u8],
+) -> Result<(), Error>
+    ensures same_reference { tx.new.conn.ghost_name ≡ tx.old.conn.ghost_name }
+    ensures made { Makes (state S.Store tx.old.conn.now) (state S.Store tx.new.conn.now) result (outgoing_added owner.now id.now kind sender.now target.now message.now) }
+    ensures survives { Survives (state S.Store tx.old.conn.now) (state S.Store tx.new.conn.now) (λ _. ⊥) }
+{
+    let kind = number_of(kind);
+    tx.execute(
+        "INSERT INTO outgoing (owner, id, kind, sender, target, message) VALUES (?1, ?2, ?3, ?4, ?5, ?6)",
+        params![owner, id, kind, sender, target, message],
+    )?;
+    Ok(())
+}
+
+/// The row with the number goes, if there is one. Inside a transaction.
+pub fn remove_outgoing<S: Alter>(
+    tx: &mut Transaction<'_, S>,
+    owner: &[u8],
+    id: &i64,
+) -> Result<(), Error>
+    ensures same_reference { tx.new.conn.ghost_name ≡ tx.old.conn.ghost_name }
+    ensures made { Makes (state S.Store tx.old.conn.now) (state S.Store tx.new.conn.now) result (outgoing_removed owner.now id.now) }
+    ensures survives { Survives (state S.Store tx.old.conn.now) (state S.Store tx.new.conn.now) (λ _. ⊥) }
+{
+    tx.execute(
+        "DELETE FROM outgoing WHERE owner = ?1 AND id = ?2",
+        params![owner, id],
     )?;
     Ok(())
 }
@@ -126,5 +178,14 @@ impl<S: Alter> Store<S> {
     {
         let rows = self.queue_rows(user)?;
         messages_out(self.alloc, &rows)
+    }
+
+    /// The row with the number leaves the queue; the number is not used again. That a row has the number is for the
+    /// caller to see: without one nothing changes.
+    pub fn take_out(&mut self, user: &[u8], id: u64) -> Result<(), Refusal>
+        ensures { WritesUser user.now (takes_out id) (state S.Store self.old) (state S.Store self.new) result }
+    {
+        let id = number(id)?;
+        self.apply(&[Change::RemoveOutgoing { owner: user, id }])
     }
 }
