@@ -1,12 +1,12 @@
 -- What row changes make of the account that one user's rows show.
-use Rattle.std.proofs.Common.{◌≡◌, ◌≢◌, ◌==◌, ℕ, suc, pos, ◌+◌, ◌<◌, ◌≤◌, Bool, true, false, not, List, [], ◌∷◌, ◌++◌, map, fold, length, Option, None, refl, sym, ap, ◌∙◌, subst, arith, is_eq, Ordering, Less, Equal, Greater, inl, inr, int_eq, eq-eqb, ne_eqb}
+use Rattle.std.proofs.Common.{◌≡◌, ◌≢◌, ◌==◌, ℕ, suc, pos, ◌+◌, ◌<◌, ◌≤◌, Bool, true, false, not, List, [], ◌∷◌, ◌++◌, map, fold, length, Option, Some, None, option_map, refl, sym, ap, ◌∙◌, subst, arith, is_eq, Ordering, Less, Equal, Greater, inl, inr, int_eq, eq-eqb, ne_eqb}
 use Rattle.std.proofs.lemmas.Bool.{cases_eq}
 use Rattle.std.proofs.lemmas.Bool.Decides.{Decides-int_eq}
 use Rattle.sqlite_keyed.proofs.KeyedLemmas.{int_eq_apart}
 use Rattle.std.specs.Cmp.{IsTotalOrder, tied_then}
 use Rattle.std.specs.Ordering.{ordering_then}
 use Rattle.std.specs.List.{AllByRecursion}
-use Rattle.std.specs.FinMap.{empty, insert, IsAntisymmetric, slice_cmp-IsAntisymmetric, nat_cmp-IsAntisymmetric}
+use Rattle.std.specs.FinMap.{empty, get, insert, IsAntisymmetric, slice_cmp-IsAntisymmetric, nat_cmp-IsAntisymmetric}
 use Rattle.std.proofs.lemmas.Cmp.{nat_list_cmp_total, then_total, on_total}
 use Rattle.std.proofs.lemmas.List.{map-append}
 use Rattle.sqlite_value.specs.declared.value.Value.TheVariants.{Blob, Int}
@@ -20,7 +20,7 @@ use Rattle.sqlrows.proofs.ListLemmas.{owner_key, pair_key, equal_itself}
 use Rattle.mailstore.specs.declared.queue.Outgoing.{Outgoing}
 use Rattle.mailstore.specs.Cells.{or_null}
 use Rattle.mailstore.specs.Changes.{copied}
-use Rattle.mailstore.specs.Account.{bytes_cmp, reply_cmp, Account, Folders, new_account, keeps_script, activates, deletes_script, takes_out, filed, files_copies}
+use Rattle.mailstore.specs.Account.{bytes_cmp, reply_cmp, Account, Folders, new_account, keeps_script, activates, deletes_script, renames_script, moved, other_name, takes_out, filed, files_copies}
 use Rattle.mailstore.specs.AccountTable.{account_cells, with_active, with_next_copy, account_tree}
 use Rattle.mailstore.specs.ScriptTable.{script_cells, script_row, script_tree}
 use Rattle.mailstore.specs.CopyTable.{copy_cells, Copy, copy_row, copy_tree}
@@ -216,6 +216,21 @@ module _ (user : List ℕ) (own : Tables) (a : Account) (s : IsShown user own a)
       folded : (cs : List Copy) (from : Folders) (c : Copy) → fold (λ folders copy. filed folders copy.folder copy.message) from (cs ++ c ∷ []) ≡ filed (fold (λ folders copy. filed folders copy.folder copy.message) from cs) c.folder c.message
       folded [] from c = refl
       folded (d ∷ cs) from c = folded cs (filed from d.folder d.message) c
+
+-- a script under another name
+module _ (user name other : List ℕ) (active : Option (List ℕ)) (own : Tables) (a : Account) (s : IsShown user own a) (is : active ≡ option_map (other_name name other) a.active) where
+  pub script_moved : (text : List ℕ) → Some text ≡ get a.scripts name
+      → IsShown user (set_in account_tree (owner_key user) (with_active (or_null active)) (added script_tree (script_cells user other text) (removed script_tree (pair_key user other) (removed script_tree (pair_key user name) own)))) (renames_script name other a)
+  script_moved text has =
+      let gone = script_gone user own a s name in
+      let put = script_put user _ _ gone other text in
+      let same : activates active (keeps_script other text (deletes_script name a)) ≡ renames_script name other a = λ i. record a { scripts = moved a.scripts name other (has i); active = is i } in
+      subst (IsShown user _) same (active_put user _ _ put active)
+
+  pub none_moved : None ≡ get a.scripts name → IsShown user (set_in account_tree (owner_key user) (with_active (or_null active)) own) (renames_script name other a)
+  none_moved none =
+      let same : activates active a ≡ renames_script name other a = λ i. record a { scripts = moved a.scripts name other (none i); active = is i } in
+      subst (IsShown user _) same (active_put user own a s active)
 
 pub copies_put : (user message : List ℕ) (names : List (List ℕ)) (n : ℕ) (own : Tables) (a : Account) (s : IsShown user own a) → AllByRecursion (λ c. c.n < n) s.copies.entries → 1 ≤ n → n + length names ≤ s.next_copy
     → IsShown user (copied user message n names own) (files_copies names message a)

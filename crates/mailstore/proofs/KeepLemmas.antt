@@ -71,7 +71,7 @@ none_ok : {Y E : Type 0} (q : Result Y E) (P : Type 0) → OnOk q ⊥ → OnOk q
 none_ok (Ok y) P none = absurd none
 none_ok (Err e) P none = tt
 
-none_if : {Y E : Type 0} (q : Result Y E) (P : Y → Type 0) → OnOk q ⊥ → IfOk q P
+pub none_if : {Y E : Type 0} (q : Result Y E) (P : Y → Type 0) → OnOk q ⊥ → IfOk q P
 none_if (Ok y) P none = absurd none
 none_if (Err e) P none = tt
 

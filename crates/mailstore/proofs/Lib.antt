@@ -12,6 +12,7 @@ pub mod DeliveryLemmas
 pub mod OrderLemmas
 pub mod ReadLemmas
 pub mod KeepLemmas
+pub mod AfterLemmas
 pub mod KeyLemmas
 pub mod MapLemmas
 pub mod DecodeLemmas
