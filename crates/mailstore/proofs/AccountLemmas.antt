@@ -1,28 +1,35 @@
 -- What row changes make of the account that one user's rows show.
-use Rattle.std.proofs.Common.{◌≡◌, ◌≢◌, ℕ, suc, pos, ◌+◌, ◌<◌, ◌≤◌, Bool, true, false, not, cond, List, [], ◌∷◌, ◌++◌, map, fold, length, Option, Some, refl, sym, ap, ◌∙◌, subst, arith, true≢false, is_eq}
+use Rattle.std.proofs.Common.{◌≡◌, ◌≢◌, ◌==◌, ℕ, suc, pos, ◌+◌, ◌<◌, ◌≤◌, Bool, true, false, not, List, [], ◌∷◌, ◌++◌, map, fold, length, Option, Some, None, option_map, refl, sym, ap, ◌∙◌, subst, arith, is_eq, Ordering, Less, Equal, Greater, inl, inr, int_eq, eq-eqb, ne_eqb}
+use Rattle.std.proofs.lemmas.Bool.{cases_eq}
+use Rattle.std.proofs.lemmas.Bool.Decides.{Decides-int_eq}
+use Rattle.sqlite_keyed.proofs.KeyedLemmas.{int_eq_apart}
+use Rattle.std.specs.Cmp.{IsTotalOrder, tied_then}
+use Rattle.std.specs.Ordering.{ordering_then}
 use Rattle.std.specs.List.{AllByRecursion}
-use Rattle.std.specs.FinMap.{empty, get, insert, from_entries, find, IsAntisymmetric, same_map, get-insert, get-from_entries, slice_cmp-IsAntisymmetric, nat_cmp-IsAntisymmetric}
-use Rattle.std.proofs.lemmas.Cmp.{nat_list_cmp_total}
+use Rattle.std.specs.FinMap.{empty, get, insert, IsAntisymmetric, slice_cmp-IsAntisymmetric, nat_cmp-IsAntisymmetric}
+use Rattle.std.proofs.lemmas.Cmp.{nat_list_cmp_total, then_total, on_total}
 use Rattle.std.proofs.lemmas.List.{map-append}
-use Rattle.sqlite_value.specs.declared.value.Value.TheVariants.{Blob}
+use Rattle.sqlite_value.specs.declared.value.Value.TheVariants.{Blob, Int}
 use Rattle.sqlite_value.specs.Order.{Row}
 use Rattle.sqlite_sql.specs.declared.ops.CompareOp.TheVariants.{Eq}
 use Rattle.sqlite_keyed.specs.Lists.{update_where, delete_where}
-use Rattle.sqlite_keyed.proofs.ListLemmas.{filter-map, filter_same, ascending-filter, ascending-append, all_weaker, all-append}
-use Rattle.sqlite_typed.proofs.TestLemmas.{at_blobs, last_term, same_bytes, bytes_eq_refl}
+use Rattle.sqlite_keyed.proofs.ListLemmas.{filter-map, filter_same, all_weaker, all-append}
+use Rattle.sqlite_typed.proofs.TestLemmas.{at_blobs, at_ints, last_term, then_term}
 use Rattle.sqlrows.specs.Rows.{Tables, has_key, added, removed, set_in}
 use Rattle.sqlrows.proofs.ListLemmas.{owner_key, pair_key, equal_itself}
+use Rattle.mailstore.specs.declared.queue.Outgoing.{Outgoing}
 use Rattle.mailstore.specs.Cells.{or_null}
 use Rattle.mailstore.specs.Changes.{copied}
-use Rattle.mailstore.specs.Account.{bytes_cmp, Account, Folders, new_account, keeps_script, activates, filed, files_copies}
+use Rattle.mailstore.specs.Account.{bytes_cmp, reply_cmp, Account, Folders, new_account, keeps_script, activates, deletes_script, renames_script, moved, other_name, takes_out, filed, files_copies}
 use Rattle.mailstore.specs.AccountTable.{account_cells, with_active, with_next_copy, account_tree}
 use Rattle.mailstore.specs.ScriptTable.{script_cells, script_row, script_tree}
 use Rattle.mailstore.specs.CopyTable.{copy_cells, Copy, copy_row, copy_tree}
-use Rattle.mailstore.specs.Numbers.{AreNumbered}
+use Rattle.mailstore.specs.ReplyTable.{reply_cells, reply_key, reply_row, reply_tree}
 use Rattle.mailstore.specs.Shows.{IsShown, IsAbsent}
-use Rattle.mailstore.proofs.NumberLemmas.{numbered_none, numbered_push, numbered_up}
+use Rattle.mailstore.proofs.NumberLemmas.{numbered_none, numbered_push, numbered_up, numbered_without}
+use Rattle.mailstore.proofs.MapLemmas.{shown_put, shown_without, apart_put, apart_without}
 use Rattle.mailstore.specs.NoticeTable.{notice_row, notice_tree}
-use Rattle.mailstore.specs.QueueTable.{outgoing_tree, queue_row}
+use Rattle.mailstore.specs.QueueTable.{outgoing_tree, queue_key, queue_row}
 
 pub bytes_antisymmetric : IsAntisymmetric bytes_cmp
 bytes_antisymmetric = slice_cmp-IsAntisymmetric nat_cmp-IsAntisymmetric
@@ -34,64 +41,120 @@ pair_is user name m rest = rw (equal_itself user) (last_term (at_blobs false Eq 
 abbrev pub is_named : {X : Type 0} → List ℕ → List ℕ × X → Bool
 is_named name e = is_eq (bytes_cmp e.0 name)
 
-find_other : {X : Type 0} (name : List ℕ) (q k : List ℕ) (new old : Option X) (rest : Option X) → is_eq (bytes_cmp k name) ≡ false
-    → cond (is_eq (bytes_cmp q k)) old (cond (is_eq (bytes_cmp q name)) new rest) ≡ cond (is_eq (bytes_cmp q name)) new (cond (is_eq (bytes_cmp q k)) old rest)
-find_other name q k new old rest apart = go (is_eq (bytes_cmp q k)) (is_eq (bytes_cmp q name)) refl refl
-  where
-    go : (a b : Bool) → is_eq (bytes_cmp q k) ≡ a → is_eq (bytes_cmp q name) ≡ b → cond a old (cond b new rest) ≡ cond b new (cond a old rest)
-    go true true s t = absurd (true≢false (sym (ap (λ x. is_eq (bytes_cmp x name)) (sym (same_bytes q k s)) ∙ t) ∙ apart))
-    go true false s t = refl
-    go false b s t = refl
+-- the order of the replies' keys
+pub reply_total : IsTotalOrder reply_cmp
+reply_total = then_total (on_total (λ k. k.0) nat_list_cmp_total) (on_total (λ k. k.1) nat_list_cmp_total)
 
--- what is found once a name is taken out and put back at the end
-find_replaced : {X : Type 0} (name : List ℕ) (x : X) (es : List (List ℕ × X)) (q : List ℕ)
-    → find bytes_cmp q (delete_where (is_named name) es ++ (name, x) ∷ []) ≡ cond (is_eq (bytes_cmp q name)) (Some x) (find bytes_cmp q es)
-find_replaced name x [] q = refl
-find_replaced name x (e ∷ es) q = go (is_named name e) refl (find_replaced name x es q)
-  where
-    go : (b : Bool) → is_named name e ≡ b → find bytes_cmp q (delete_where (is_named name) es ++ (name, x) ∷ []) ≡ cond (is_eq (bytes_cmp q name)) (Some x) (find bytes_cmp q es)
-        → find bytes_cmp q (cond (not b) (e ∷ delete_where (is_named name) es) (delete_where (is_named name) es) ++ (name, x) ∷ []) ≡ cond (is_eq (bytes_cmp q name)) (Some x) (cond (is_eq (bytes_cmp q e.0)) (Some e.1) (find bytes_cmp q es))
-    go true is more =
-        rw (same_bytes e.0 name is)
-        (more ∙ elim (is_eq (bytes_cmp q name)) as (λ b. cond b (Some x) (find bytes_cmp q es) ≡ cond b (Some x) (cond b (Some e.1) (find bytes_cmp q es))) [ true ↦ refl | false ↦ refl ])
-    go false apart more = ap (cond (is_eq (bytes_cmp q e.0)) (Some e.1)) more ∙ find_other name q e.0 (Some x) (Some e.1) (find bytes_cmp q es) apart
+both_equal : (x y : Ordering) → ordering_then x y ≡ Equal → (x ≡ Equal) × (y ≡ Equal)
+both_equal Less y h = absurd (let no = h in cc)
+both_equal Equal y h = (refl, h)
+both_equal Greater y h = absurd (let no = h in cc)
 
--- what is left has other names
-left_apart : {X : Type 0} (name : List ℕ) (es : List (List ℕ × X)) → AllByRecursion (λ e. e.0 ≢ name) (delete_where (is_named name) es)
-left_apart name [] = tt
-left_apart name (e ∷ es) = go (is_named name e) refl (left_apart name es)
-  where
-    go : (b : Bool) → is_named name e ≡ b → AllByRecursion (λ x. x.0 ≢ name) (delete_where (is_named name) es) → AllByRecursion (λ x. x.0 ≢ name) (cond (not b) (e ∷ delete_where (is_named name) es) (delete_where (is_named name) es))
-    go true is more = more
-    go false apart more = ((λ same. true≢false (sym (ap (λ k. is_eq (bytes_cmp k name)) same ∙ bytes_eq_refl name) ∙ apart)), more)
+pub reply_antisymmetric : IsAntisymmetric reply_cmp
+reply_antisymmetric x y h =
+    let both = both_equal (bytes_cmp x.0 y.0) (bytes_cmp x.1 y.1) h in
+    let handle = bytes_antisymmetric x.0 y.0 both.0 in
+    let sender = bytes_antisymmetric x.1 y.1 both.1 in
+    λ i. (handle i, sender i)
+
+abbrev pub is_reply : {X : Type 0} → List ℕ × List ℕ → (List ℕ × List ℕ) × X → Bool
+is_reply key e = is_eq (reply_cmp e.0 key)
+
+-- a row with a handle's key and a sender has a key of three where both are these
+pub reply_is : (user handle sender h t : List ℕ) (rest : Row) → has_key (reply_key user handle sender) (Blob user ∷ Blob h ∷ Blob t ∷ rest) ≡ is_eq (reply_cmp (h, t) (handle, sender))
+reply_is user handle sender h t rest = rw (equal_itself user) (then_term (at_blobs false Eq h handle) (last_term (at_blobs false Eq t sender)) ∙ tied_then (bytes_cmp h handle) (bytes_cmp t sender))
+
+same_numbers : (m n : ℕ) → int_eq (pos m) (pos n) ≡ (m == n)
+same_numbers m n = elim (cases_eq m n) [
+  | inl is ↦ (Decides-int_eq (pos m) (pos n)).1 (ap pos is) ∙ sym (eq-eqb m n is)
+  | inr differ ↦ int_eq_apart (pos m) (pos n) (λ same. differ (let is : m ≡ n = cc in is)) ∙ sym (ne_eqb m n differ)
+]
+
+-- a row of the queue has a key of its owner and a number where the number is that
+pub queue_is : (user : List ℕ) (id : ℕ) (out : Outgoing) → has_key (queue_key user (pos id)) (queue_row user out) ≡ (out.id == id)
+queue_is user id out = rw (equal_itself user) (last_term (at_ints false Eq (pos out.id) (pos id)) ∙ same_numbers out.id id)
 
 module _ (user : List ℕ) (own : Tables) (a : Account) (s : IsShown user own a) where
+  -- the rows of the other names
+  others_left : (name : List ℕ) → delete_where (has_key (pair_key user name)) (own script_tree) ≡ map (script_row user) (delete_where (is_named name) s.scripts.entries)
+  others_left name =
+      ap (delete_where (has_key (pair_key user name))) s.scripts.rows_are ∙ filter-map (λ r. not (has_key (pair_key user name) r)) (script_row user) s.scripts.entries
+      ∙ ap (map (script_row user)) (filter_same _ (λ e. not (is_named name e)) (λ e. ap not (pair_is user name e.0 (Blob e.1 ∷ []))) s.scripts.entries)
+
+  pub script_gone : (name : List ℕ) → IsShown user (removed script_tree (pair_key user name) own) (deletes_script name a)
+  script_gone name = record {
+    next_copy = s.next_copy;
+    next_notice = s.next_notice;
+    account_is = s.account_is;
+    scripts = record {
+      entries = delete_where (is_named name) s.scripts.entries;
+      rows_are = others_left name;
+      shown = shown_without bytes_cmp nat_list_cmp_total bytes_antisymmetric a.scripts s.scripts.entries name s.scripts.shown;
+      apart = apart_without bytes_cmp nat_list_cmp_total bytes_antisymmetric s.scripts.entries name s.scripts.apart;
+    };
+    queue = s.queue;
+    replies = s.replies;
+    notices = s.notices;
+    copies = s.copies;
+  }
+
   pub script_put : (name text : List ℕ) → IsShown user (added script_tree (script_cells user name text) (removed script_tree (pair_key user name) own)) (keeps_script name text a)
   script_put name text =
-      let was = s.scripts in
-      let left = delete_where (is_named name) was.entries in
-      let rows : delete_where (has_key (pair_key user name)) (own script_tree) ≡ map (script_row user) left =
-      ap (delete_where (has_key (pair_key user name))) was.rows_are ∙ filter-map (λ r. not (has_key (pair_key user name) r)) (script_row user) was.entries
-      ∙ ap (map (script_row user)) (filter_same _ (λ e. not (is_named name e)) (λ e. ap not (pair_is user name e.0 (Blob e.1 ∷ []))) was.entries) in
+      let left = delete_where (is_named name) s.scripts.entries in
       record {
         next_copy = s.next_copy;
         next_notice = s.next_notice;
         account_is = s.account_is;
         scripts = record {
           entries = left ++ (name, text) ∷ [];
-          rows_are = ap (λ l. l ++ script_cells user name text ∷ []) rows ∙ sym (map-append (script_row user) left ((name, text) ∷ []));
-          shown = same_map nat_list_cmp_total bytes_antisymmetric _ _ (λ q.
-              ap (λ m. get (insert m name text) q) was.shown ∙ get-insert nat_list_cmp_total (from_entries was.entries) name text q
-              ∙ ap (cond (is_eq (bytes_cmp q name)) (Some text)) (get-from_entries nat_list_cmp_total was.entries q)
-              ∙ sym (get-from_entries nat_list_cmp_total (left ++ (name, text) ∷ []) q ∙ find_replaced name text was.entries q));
-          apart = ascending-append (λ x y. x.0 ≢ y.0) left ((name, text) ∷ []) (ascending-filter (λ x y. x.0 ≢ y.0) (λ e. not (is_named name e)) was.entries was.apart) (tt, tt)
-              (all_weaker (λ e. e.0 ≢ name) (λ e. AllByRecursion (λ (y : List ℕ × List ℕ). e.0 ≢ y.0) ((name, text) ∷ [])) (λ e other. (other, tt)) left (left_apart name was.entries));
+          rows_are = ap (λ l. l ++ script_cells user name text ∷ []) (others_left name) ∙ sym (map-append (script_row user) left ((name, text) ∷ []));
+          shown = shown_put bytes_cmp nat_list_cmp_total bytes_antisymmetric a.scripts s.scripts.entries name text s.scripts.shown;
+          apart = apart_put bytes_cmp nat_list_cmp_total bytes_antisymmetric s.scripts.entries name text s.scripts.apart;
         };
         queue = s.queue;
         replies = s.replies;
         notices = s.notices;
         copies = s.copies;
       }
+
+  -- the rows of the other replies
+  replies_left : (key : List ℕ × List ℕ) → delete_where (has_key (reply_key user key.0 key.1)) (own reply_tree) ≡ map (reply_row user) (delete_where (is_reply key) s.replies.entries)
+  replies_left key =
+      ap (delete_where (has_key (reply_key user key.0 key.1))) s.replies.rows_are ∙ filter-map (λ r. not (has_key (reply_key user key.0 key.1) r)) (reply_row user) s.replies.entries
+      ∙ ap (map (reply_row user)) (filter_same _ (λ e. not (is_reply key e)) (λ e. ap not (reply_is user key.0 key.1 e.0.0 e.0.1 (Int (pos e.1) ∷ []))) s.replies.entries)
+
+  pub reply_put : (key : List ℕ × List ℕ) (moment : ℕ) → IsShown user (added reply_tree (reply_cells user key.0 key.1 (pos moment)) (removed reply_tree (reply_key user key.0 key.1) own))
+      (record a { replies = insert a.replies key moment })
+  reply_put key moment =
+      let left = delete_where (is_reply key) s.replies.entries in
+      record {
+        next_copy = s.next_copy;
+        next_notice = s.next_notice;
+        account_is = s.account_is;
+        scripts = s.scripts;
+        queue = s.queue;
+        replies = record {
+          entries = left ++ (key, moment) ∷ [];
+          rows_are = ap (λ l. l ++ reply_cells user key.0 key.1 (pos moment) ∷ []) (replies_left key) ∙ sym (map-append (reply_row user) left ((key, moment) ∷ []));
+          shown = shown_put reply_cmp reply_total reply_antisymmetric a.replies s.replies.entries key moment s.replies.shown;
+          apart = apart_put reply_cmp reply_total reply_antisymmetric s.replies.entries key moment s.replies.apart;
+        };
+        notices = s.notices;
+        copies = s.copies;
+      }
+
+  -- the row with the number is gone from the queue
+  pub queue_gone : (id : ℕ) → IsShown user (removed outgoing_tree (queue_key user (pos id)) own) (takes_out id a)
+  queue_gone id = record {
+    next_copy = s.next_copy;
+    next_notice = s.next_notice;
+    account_is = s.account_is;
+    scripts = s.scripts;
+    queue = numbered_without (λ q. q.id) (queue_row user) (has_key (queue_key user (pos id))) (λ out. out.id == id) (λ out. queue_is user id out) (own outgoing_tree) a.queue a.next_out s.queue;
+    replies = s.replies;
+    notices = s.notices;
+    copies = s.copies;
+  }
 
   pub active_put : (active : Option (List ℕ)) → IsShown user (set_in account_tree (owner_key user) (with_active (or_null active)) own) (activates active a)
   active_put active = record {
@@ -153,6 +216,21 @@ module _ (user : List ℕ) (own : Tables) (a : Account) (s : IsShown user own a)
       folded : (cs : List Copy) (from : Folders) (c : Copy) → fold (λ folders copy. filed folders copy.folder copy.message) from (cs ++ c ∷ []) ≡ filed (fold (λ folders copy. filed folders copy.folder copy.message) from cs) c.folder c.message
       folded [] from c = refl
       folded (d ∷ cs) from c = folded cs (filed from d.folder d.message) c
+
+-- a script under another name
+module _ (user name other : List ℕ) (active : Option (List ℕ)) (own : Tables) (a : Account) (s : IsShown user own a) (is : active ≡ option_map (other_name name other) a.active) where
+  pub script_moved : (text : List ℕ) → Some text ≡ get a.scripts name
+      → IsShown user (set_in account_tree (owner_key user) (with_active (or_null active)) (added script_tree (script_cells user other text) (removed script_tree (pair_key user other) (removed script_tree (pair_key user name) own)))) (renames_script name other a)
+  script_moved text has =
+      let gone = script_gone user own a s name in
+      let put = script_put user _ _ gone other text in
+      let same : activates active (keeps_script other text (deletes_script name a)) ≡ renames_script name other a = λ i. record a { scripts = moved a.scripts name other (has i); active = is i } in
+      subst (IsShown user _) same (active_put user _ _ put active)
+
+  pub none_moved : None ≡ get a.scripts name → IsShown user (set_in account_tree (owner_key user) (with_active (or_null active)) own) (renames_script name other a)
+  none_moved none =
+      let same : activates active a ≡ renames_script name other a = λ i. record a { scripts = moved a.scripts name other (none i); active = is i } in
+      subst (IsShown user _) same (active_put user own a s active)
 
 pub copies_put : (user message : List ℕ) (names : List (List ℕ)) (n : ℕ) (own : Tables) (a : Account) (s : IsShown user own a) → AllByRecursion (λ c. c.n < n) s.copies.entries → 1 ≤ n → n + length names ≤ s.next_copy
     → IsShown user (copied user message n names own) (files_copies names message a)

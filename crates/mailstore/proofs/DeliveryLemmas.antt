@@ -1,5 +1,5 @@
 -- The changes of a delivery, one more at a time, and what they leave.
-use Rattle.std.proofs.Common.{◌≡◌, ◌⊎◌, ℕ, suc, ℤ, pos, ◌+◌, ◌<◌, ◌≤◌, List, [], ◌∷◌, ◌++◌, map, length, take, get_or, slice_get, Option, Some, None, option_map, Ok, Err, Result, OnOk, OnErr, IsTrue, IsSome, IfErr, refl, sym, ap, ◌∙◌, subst, arith, inr}
+use Rattle.std.proofs.Common.{◌≡◌, ◌⊎◌, ℕ, suc, ℤ, pos, ◌+◌, ◌<◌, ◌≤◌, List, [], ◌∷◌, ◌++◌, length, take, get_or, slice_get, Option, Some, None, option_map, Ok, Err, Result, OnOk, OnErr, IsTrue, IsSome, IfErr, refl, sym, ap, ◌∙◌, subst, arith, inr}
 use Rattle.std.specs.Borrow.{Bor}
 use Rattle.std.specs.List.{AllByRecursion}
 use Rattle.std.specs.FinMap.{get}
@@ -76,61 +76,3 @@ delivery_shows user message names n ds copies tables accounts shows has next = g
     go (Some a) is some =
         let here = subst (IsShownOrAbsent user (rows_of user tables)) is (shows.users user) in
         rw is (shows_after tables accounts user ds (files_copies names message a) copies.owned shows (own_delivered user message names n ds (rows_of user tables) a copies here next))
-
--- a read of the counter, and then the write
-module _ {X Y : Type 0} (a b c : State) (r : Result ℕ X) (n : ℕ) (ok : r ≡ Ok n) (kept : Keeps a b r) (user message : List ℕ) (names : List (List ℕ)) (ds : List Change)
-    (copies : AreCopies user message names n (n + length names) ds) (late : Survives b c (MayHave ds b))
-    (found : HasCleanDisk b → (tables : Tables) → Holds mail_schema a.now tables → CountsCopies (rows_of user tables account_tree) n) (q : Result Y Refusal) where
-  abbrev delivers : Accounts → Accounts
-  delivers all = with_user all user (files_copies names message)
-
-  early : HasCleanDisk c → HasCleanDisk b
-  early = clean_before b c _ late
-
-  mid_open : HasCleanDisk c → IsTrue b.is_open
-  mid_open clean = on_ok r n ok (IsTrue b.is_open) (kept.live (early clean))
-
-  mid_holds : HasCleanDisk c → (tables : Tables) → Holds mail_schema a.now tables → Holds mail_schema b.now tables
-  mid_holds clean tables h = subst (λ d. Holds mail_schema d tables) (sym ((kept.same (early clean) (tables, h)).now_is (mid_open clean))) h
-
-  delivered : HasCleanDisk c → (o : Result Y Refusal) → MakesAll ds b c o → OnOk o (Turns (HasUser user) delivers a.now c.now)
-  delivered clean (Err e) wrote = tt
-  delivered clean (Ok y) wrote = λ accounts p has. (made p.0 ds, wrote clean p.0 (mid_holds clean p.0 p.1), delivery_shows user message names n ds copies p.0 accounts p.2 has (found (early clean) p.0 p.1))
-
-  delivery_crash : Survives a c (MayShow (HasUser user) delivers a)
-  delivery_crash = survives_then a b c _ _ _ (λ clean db none accounts p has. absurd (none (p.0, p.1)))
-      (λ clean db may accounts p has.
-      let left = may p.0 (mid_holds clean p.0 p.1) in
-      (left.0, (made p.0 ds, left.1, delivery_shows user message names n ds copies p.0 accounts p.2 has (found (early clean) p.0 p.1)), left.2)) kept.crash late
-
-  refused_same : HasCleanDisk c → HasOurTables a.now → (o : Result Y Refusal) → OnErr o (StaysSame b c) → OnErr o (StaysSame a c)
-  refused_same clean ours (Ok y) h = tt
-  refused_same clean ours (Err e) h =
-      let mid = kept.same (early clean) ours in
-      record { now_is = λ o. h.now_is o ∙ mid.now_is (mid_open clean); committed_is = λ o. h.committed_is o ∙ mid.committed_is (mid_open clean) }
-
-  pub delivers_then : MakesAll ds b c q → (HasCleanDisk c → OnOk q (IsSettled c)) → (HasCleanDisk c → OnErr q (StaysSame b c)) → IfErr q IsPassing → WritesAccount user (files_copies names message) a c q
-  delivers_then wrote settled same named = record {
-    made = λ clean. delivered clean q wrote;
-    settled = settled;
-    same = λ clean ours. refused_same clean ours q (same clean);
-    absent = λ clean accounts p. passing_other q (IsFree user accounts) named;
-    crash = delivery_crash;
-    named = passing_named q named;
-  }
-
--- reads alone, and a refusal
-pub delivers_refused : {X Y : Type 0} (a b : State) (r : Result X Refusal) (user : List ℕ) (change : Account → Account) (e : Refusal) (q : Result Y Refusal) → q ≡ Err e → Keeps a b r
-    → (HasCleanDisk b → (accounts : Accounts) → Presents a.now accounts → e ≡ NoUser → IsFree user accounts) → (e ≡ NoUser) ⊎ IsPassing e → WritesAccount user change a b q
-delivers_refused a b r user change e q is kept absent named = record {
-  made = λ clean. subst (λ o. OnOk o (Turns (HasUser user) (λ all. with_user all user change) a.now b.now)) (sym is) tt;
-  settled = λ clean. subst (λ o. OnOk o (IsSettled b)) (sym is) tt;
-  same = λ clean ours. subst (λ o. OnErr o (StaysSame a b)) (sym is) (kept.same clean ours);
-  absent = λ clean accounts p. subst (λ o. IfErr o (λ f. f ≡ NoUser → IsFree user accounts)) (sym is) (absent clean accounts p);
-  crash = survives_weaker a b _ (MayShow (HasUser user) (λ all. with_user all user change) a) (λ clean db none accounts p has. absurd (none (p.0, p.1))) kept.crash;
-  named = subst (λ o. IfErr o (λ f. (f ≡ NoUser) ⊎ IsPassing f)) (sym is) named;
-}
-
--- the counter was read, and then a refusal for memory, or of a number that does not fit
-pub delivers_failed : {X Y : Type 0} (a b : State) (r : Result X Refusal) (user : List ℕ) (change : Account → Account) (e : Refusal) (q : Result Y Refusal) → q ≡ Err e → Keeps a b r → IsPassing e → WritesAccount user change a b q
-delivers_failed {X} {Y} a b r user change e q is kept passing = delivers_refused a b r user change e q is kept (λ clean accounts p. passing_other {Y = Y} (Err e) (IsFree user accounts) passing) (inr passing)

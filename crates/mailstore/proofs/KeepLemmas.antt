@@ -1,9 +1,10 @@
 -- Reads and writes as one promise each: from a query, after an earlier read, with another answer.
-use Rattle.std.proofs.Common.{◌≡◌, ◌⊎◌, ℕ, pos, List, [], ◌∷◌, map, Option, Some, None, option_map, slice_get, Ok, Err, Result, Vec, OnOk, OnErr, IfOk, IfErr, IfSome, IsTrue, refl, sym, ap, ◌∙◌, subst, inl, inr}
+use Rattle.std.proofs.Common.{◌≡◌, ◌⊎◌, ℕ, pos, List, [], map, Option, Some, None, option_map, slice_get, Ok, Err, Result, Vec, OnOk, OnErr, IfOk, IfErr, IfSome, IsTrue, refl, sym, ap, ◌∙◌, subst, inl, inr, arith}
 use Rattle.std.specs.declared.alloc.Global.{Global}
 use Rattle.std.specs.FinMap.{get}
 use Rattle.sqlite_value.specs.declared.value.Value.TheVariants.{Int}
 use Rattle.sqlite_value.specs.Order.{Row, column}
+use Rattle.sqlite_trees.specs.Tree.{Trees}
 use Rattle.sqlite.specs.Listing.{understood}
 use Rattle.sqlite.specs.declared.error.Error.{Error}
 use Rattle.sqlite.specs.State.{State, HasCleanDisk, Survives, CommitsShowing, Shown, FailsToQuery}
@@ -21,8 +22,8 @@ use Rattle.mailstore.specs.Account.{Account, Accounts}
 use Rattle.mailstore.specs.Refusals.{IsPassing}
 use Rattle.mailstore.specs.AccountTable.{account_tree, next_copy_column, shown_account, shown_next_copy, profile_row, profile_of, IsRead, CountsCopies}
 use Rattle.mailstore.specs.Shows.{rows_of, IsShownOrAbsent, ShowsAccounts, Presents}
-use Rattle.mailstore.specs.Promises.{HasOurTables, IsFree, OfUser, MakesAll, Keeps, FindsOwn, Finds, Reads, ReadsRows, Requires, ReadsCounter, ReadsProfile, Writes}
-use Rattle.mailstore.proofs.ResultLemmas.{on_ok, on_any}
+use Rattle.mailstore.specs.Promises.{HasOurTables, IsFree, OfUser, MakesAll, Keeps, FindsOwn, Finds, Reads, ReadsRows, Requires, ReadsCounter, ReadsProfile, Writes, Turns, MayShow}
+use Rattle.mailstore.proofs.ResultLemmas.{on_ok, on_any, on_err_any}
 use Rattle.mailstore.proofs.WriteLemmas.{clean_before}
 use Rattle.mailstore.proofs.QueryLemmas.{query_same, query_quiet, stays_shut, if_shown}
 use Rattle.mailstore.proofs.ReadLemmas.{number_is, none_counted, profile_first}
@@ -70,7 +71,7 @@ none_ok : {Y E : Type 0} (q : Result Y E) (P : Type 0) → OnOk q ⊥ → OnOk q
 none_ok (Ok y) P none = absurd none
 none_ok (Err e) P none = tt
 
-none_if : {Y E : Type 0} (q : Result Y E) (P : Y → Type 0) → OnOk q ⊥ → IfOk q P
+pub none_if : {Y E : Type 0} (q : Result Y E) (P : Y → Type 0) → OnOk q ⊥ → IfOk q P
 none_if (Ok y) P none = absurd none
 none_if (Err e) P none = tt
 
@@ -268,5 +269,35 @@ writes r a b changes Fit change carries made settled same crash named = record {
   settled = settled;
   same = same;
   crash = crashed a b changes Fit change carries crash;
+  named = named;
+}
+
+-- ---- nothing was read or written
+
+pub survives_same : (s : State) (P : Trees → Type 0) → Survives s s P
+survives_same s P = record {
+  clean = omega arith;
+  counts = omega arith;
+  limit = refl;
+  closes = λ clean still. inl still;
+  shield = λ h. h;
+  crash = λ clean db before. inl before;
+}
+
+pub keeps_all : {X E : Type 0} (s : State) (q : Result X E) → OnOk q ⊥ → Keeps s s q
+keeps_all s q none = record {
+  same = λ clean ours. record { now_is = λ is_open. refl; committed_is = λ is_open. refl };
+  live = λ clean. none_ok q (IsTrue s.is_open) none;
+  shut = λ clean is_open. is_open;
+  crash = survives_same s (λ _. HasOurTables s.now → ⊥);
+}
+
+-- a refusal for memory, or of a number that does not fit
+pub writes_failed : {X : Type 0} (s : State) (Fit : Accounts → Type 0) (change : Accounts → Accounts) (q : Result X Refusal) → OnOk q ⊥ → IfErr q IsPassing → Writes Fit change s s q
+writes_failed s Fit change q none named = record {
+  made = λ clean. none_ok q (Turns Fit change s.now s.now) none;
+  settled = λ clean. none_ok q (IsSettled s) none;
+  same = λ clean. on_err_any q (StaysSame s s) (record { now_is = λ is_open. refl; committed_is = λ is_open. refl });
+  crash = survives_same s (MayShow Fit change s);
   named = named;
 }

@@ -12,6 +12,9 @@ pub mod DeliveryLemmas
 pub mod OrderLemmas
 pub mod ReadLemmas
 pub mod KeepLemmas
+pub mod AfterLemmas
+pub mod KeyLemmas
+pub mod MapLemmas
 pub mod DecodeLemmas
 pub mod TallyLemmas
 pub mod FolderLemmas
@@ -20,3 +23,4 @@ pub mod OneLemmas
 pub mod SchemaLemmas
 pub mod OpenLemmas
 pub mod ShowExamples
+pub mod AccountExamples

@@ -1,5 +1,5 @@
 -- Entries with numbers of their own: none, one more, a higher counter, and that the rows tell the entries.
-use Rattle.std.proofs.Common.{◌≡◌, ℕ, zero, suc, ◌+◌, ◌<◌, ◌≤◌, List, [], ◌∷◌, ◌++◌, map, length, get_or, refl, sym, ap, ◌∙◌, subst, arith, is_lt, Less, Greater, IsPermutation, IsSorted}
+use Rattle.std.proofs.Common.{◌≡◌, Bool, not, ℕ, zero, suc, ◌+◌, ◌<◌, ◌≤◌, List, [], ◌∷◌, ◌++◌, map, length, get_or, refl, sym, ap, ◌∙◌, subst, arith, is_lt, Less, Greater, IsPermutation, IsSorted}
 use Rattle.std.specs.List.{AllByRecursion}
 use Rattle.std.specs.Cmp.{nat_cmp_is}
 use Rattle.std.specs.Ordering.{nat_cmp, on}
@@ -8,7 +8,8 @@ use Rattle.std.proofs.lemmas.List.{map-append}
 use Rattle.std.proofs.lemmas.List.Sorted.{IsPermutation-map, IsPermutation-sym, IsPermutation-trans, IsPermutation-append_left}
 use Rattle.sqlite_value.specs.Order.{Row}
 use Rattle.sqlite_trees.specs.Tree.{IsAscending}
-use Rattle.sqlite_keyed.proofs.ListLemmas.{IsPermutation-same, all_weaker, all-append, ascending-append, ascending_weaker, map_back}
+use Rattle.sqlite_keyed.proofs.ListLemmas.{IsPermutation-same, IsPermutation-filter, filter-map, filter_same, all_weaker, all-append, all-filter, ascending-append, ascending-filter, ascending_weaker, map_back}
+use Rattle.sqlite_keyed.specs.Lists.{delete_where}
 use Rattle.sqlite_keyed.proofs.SortLemmas.{sorted_unique}
 use Rattle.mailstore.specs.Numbers.{AreNumbered}
 
@@ -33,6 +34,18 @@ module _ {X : Type 0} (number : X → ℕ) (row : X → Row) where
     rise = ascending-append (λ x y. number x < number y) entries (x ∷ []) h.rise (tt, tt) (all_weaker (λ y. number y < number x) (λ y. AllByRecursion (λ z. number y < number z) (x ∷ [])) (λ y least. (least, tt)) entries above);
     from_one = all-append _ entries (x ∷ []) h.from_one (one, tt);
     below = all-append _ entries (x ∷ []) h.below (low, tt);
+    counter = h.counter;
+  }
+
+  -- the entries with a number are gone
+  pub numbered_without : (gone : Row → Bool) (left : X → Bool) → ((x : X) → gone (row x) ≡ left x) → (rows : List Row) (entries : List X) (next : ℕ) → AreNumbered number row rows entries next
+      → AreNumbered number row (delete_where gone rows) (delete_where left entries) next
+  numbered_without gone left same rows entries next h = record {
+    rows_are = subst (λ l. IsPermutation l (delete_where gone rows)) (filter-map (λ r. not (gone r)) row entries ∙ ap (map row) (filter_same _ (λ x. not (left x)) (λ x. ap not (same x)) entries))
+        (IsPermutation-filter (λ r. not (gone r)) (map row entries) rows h.rows_are);
+    rise = ascending-filter (λ x y. number x < number y) (λ x. not (left x)) entries h.rise;
+    from_one = all-filter _ (λ x. not (left x)) entries h.from_one;
+    below = all-filter _ (λ x. not (left x)) entries h.below;
     counter = h.counter;
   }
 

@@ -13,13 +13,16 @@ use Rattle.sqlrows.proofs.ListLemmas.{owner_key, pair_key}
 use Rattle.mailstore.specs.declared.refusal.Refusal.{Refusal}
 use Rattle.mailstore.specs.declared.refusal.Refusal.TheVariants.{NoUser}
 use Rattle.mailstore.specs.Account.{bytes_cmp, Account, Accounts, messages_in}
-use Rattle.mailstore.specs.AccountTable.{select_account, shown_account, profile_row, account_tree, next_copy_column, CountsCopies, shown_next_copy}
+use Rattle.mailstore.specs.AccountTable.{shown_account, profile_row, account_tree, next_copy_column, CountsCopies, shown_next_copy}
 use Rattle.mailstore.specs.ScriptTable.{select_names, select_script, script_row, script_tree, text_column, AreNameRows, HasTextRow}
 use Rattle.mailstore.specs.CopyTable.{select_folder, Copy, AreMessageRows}
 use Rattle.mailstore.specs.Shows.{rows_of, IsShown, IsShownOrAbsent, ShowsAccounts, Presents}
-use Rattle.mailstore.proofs.AccountLemmas.{pair_is, is_named}
-use Rattle.mailstore.proofs.QueryLemmas.{account_found, script_found}
-use Rattle.mailstore.proofs.OrderLemmas.{of_owner, is_in, folder_found, names_found, messages_are}
+use Rattle.mailstore.proofs.AccountLemmas.{pair_is, is_named, bytes_antisymmetric}
+use Rattle.mailstore.proofs.MapLemmas.{first_found}
+use Rattle.mailstore.proofs.QueryLemmas.{script_found}
+use Rattle.mailstore.proofs.OrderLemmas.{of_owner, is_in, folder_found, names_found, messages_are, notices_found, queue_found}
+use Rattle.mailstore.specs.NoticeTable.{AreNoticeRows, notice_cells, select_notices}
+use Rattle.mailstore.specs.QueueTable.{AreQueueRows, select_queue}
 
 first_mapped : (own : List Row) → option_map (λ r. column r 0) (slice_get (map shown_next_copy own) 0) ≡ option_map (λ cells. column cells next_copy_column) (slice_get own 0)
 first_mapped [] = refl
@@ -67,18 +70,16 @@ module _ (old new : State) (rows : List Row) (accounts : Accounts) (p : Presents
       folder_found old new rows p.0 p.1 user folder s.copies.entries s.copies.numbered.rows_are s.copies.numbered.rise shown ∙ sym (map-map (λ (m : List ℕ). Blob m ∷ []) (λ (c : Copy). c.message) (filter (is_in folder) s.copies.entries))
       ∙ ap (map (λ m. Blob m ∷ [])) (sym (messages_are s.copies.entries folder)) ∙ ap (λ m. map (λ t. Blob t ∷ []) (messages_in m folder)) (sym s.copies.shown))
 
+  pub queue_read : Shown select_queue (owner_key user) old new rows → IfSome (get accounts user) (AreQueueRows rows)
+  queue_read shown = at_user accounts user p.0 p.2 _ (λ a s. queue_found old new rows p.0 p.1 user a.queue s.queue.rows_are s.queue.rise shown)
+
+  pub notices_read : Shown select_notices (owner_key user) old new rows → IfSome (get accounts user) (AreNoticeRows rows)
+  notices_read shown = at_user accounts user p.0 p.2 _ (λ a s. notices_found old new rows p.0 p.1 user s.notices.entries s.notices.numbered.rows_are s.notices.numbered.rise shown ∙ ap (map notice_cells) (sym s.notices.shown))
+
   pub script_read : (name : List ℕ) → Shown select_script (pair_key user name) old new rows → IfSome (get accounts user) (HasTextRow name rows)
   script_read name shown = at_user accounts user p.0 p.2 _ (λ a s.
       let mine = of_owner user name p.0 script_tree ∙ ap (filter (has_key (pair_key user name))) s.scripts.rows_are ∙ filter-map (has_key (pair_key user name)) (script_row user) s.scripts.entries
       ∙ ap (map (script_row user)) (filter_same _ (is_named name) (λ e. pair_is user name e.0 (Blob e.1 ∷ [])) s.scripts.entries) in
-      ap (λ l. slice_get l 0) (script_found old new rows p.0 p.1 user name shown ∙ ap (map (λ cells. column cells text_column ∷ [])) mine) ∙ first s.scripts.entries
+      ap (λ l. slice_get l 0) (script_found old new rows p.0 p.1 user name shown ∙ ap (map (λ cells. column cells text_column ∷ [])) mine ∙ map-map (λ (cells : Row). column cells text_column ∷ []) (script_row user) (filter (is_named name) s.scripts.entries))
+      ∙ first_found bytes_cmp nat_list_cmp_total bytes_antisymmetric (λ text. Blob text ∷ []) name s.scripts.entries
       ∙ ap (option_map (λ t. Blob t ∷ [])) (sym (ap (λ m. get m name) s.scripts.shown ∙ get-from_entries nat_list_cmp_total s.scripts.entries name)))
-    where
-      first : (es : List (List ℕ × List ℕ)) → slice_get (map (λ cells. column cells text_column ∷ []) (map (script_row user) (filter (is_named name) es))) 0 ≡ option_map (λ t. Blob t ∷ []) (find bytes_cmp name es)
-      first [] = refl
-      first (e ∷ es) = go (is_named name e) refl (first es)
-        where
-          go : (b : Bool) → is_named name e ≡ b → slice_get (map (λ cells. column cells text_column ∷ []) (map (script_row user) (filter (is_named name) es))) 0 ≡ option_map (λ t. Blob t ∷ []) (find bytes_cmp name es)
-              → slice_get (map (λ cells. column cells text_column ∷ []) (map (script_row user) (cond b (e ∷ filter (is_named name) es) (filter (is_named name) es)))) 0 ≡ option_map (λ t. Blob t ∷ []) (cond (is_eq (bytes_cmp name e.0)) (Some e.1) (find bytes_cmp name es))
-          go true same more = rw (ap (λ k. is_eq (bytes_cmp name k)) (same_bytes e.0 name same) ∙ bytes_eq_refl name)
-          go false apart more = rw (turn_eq bytes_cmp nat_list_cmp_total name e.0 ∙ apart) more

@@ -4,20 +4,24 @@ use Rattle.std.specs.FinMap.{get, insert, get-insert}
 use Rattle.std.proofs.lemmas.Cmp.{nat_list_cmp_total}
 use Rattle.sqlite_typed.proofs.TestLemmas.{same_bytes, bytes_eq_refl}
 use Rattle.std.proofs.lemmas.Bool.{cases_eq}
-use Rattle.sqlite_value.specs.declared.value.Value.TheVariants.{Blob}
+use Rattle.sqlite_value.specs.declared.value.Value.TheVariants.{Blob, Int}
 use Rattle.sqlite_value.specs.Order.{Row}
 use Rattle.sqlite_trees.specs.Tree.{with_tree}
 use Rattle.sqlite_keyed.specs.Lists.{update_where, delete_where}
 use Rattle.sqlrows.specs.Rows.{Tables, has_key}
 use Rattle.sqlrows.proofs.ListLemmas.{owner_key, pair_key, owned_by, owners_apart, pair_apart, filter_pushed, filter_beside, filter_kept, filter_unset}
 use Rattle.mailstore.specs.declared.change.Change.{Change}
-use Rattle.mailstore.specs.declared.change.Change.TheVariants.{AddAccount, SetActive, SetNextCopy, AddScript, RemoveScript, AddCopy}
+use Rattle.mailstore.specs.declared.change.Change.TheVariants.{AddAccount, SetActive, SetNextCopy, AddScript, RemoveScript, AddCopy, AddOutgoing, RemoveOutgoing, AddReply, RemoveReply, AddNotice}
 use Rattle.mailstore.specs.Cells.{or_null, contents}
 use Rattle.mailstore.specs.Changes.{made_one, made, owner_of, AreOf}
 use Rattle.mailstore.specs.Account.{bytes_cmp, Account, Accounts}
 use Rattle.mailstore.specs.AccountTable.{account_cells, with_active, with_next_copy, account_tree}
 use Rattle.mailstore.specs.ScriptTable.{script_cells, script_tree}
 use Rattle.mailstore.specs.CopyTable.{copy_cells, copy_tree}
+use Rattle.mailstore.specs.QueueTable.{queue_cells, queue_key, outgoing_tree}
+use Rattle.mailstore.specs.ReplyTable.{reply_cells, reply_key, reply_tree}
+use Rattle.mailstore.specs.NoticeTable.{notice_row_cells, notice_tree}
+use Rattle.mailstore.proofs.KeyLemmas.{key_apart}
 use Rattle.mailstore.specs.Shows.{rows_of, IsShown, IsShownOrAbsent, ShowsAccounts}
 use Rattle.mailstore.specs.MetaTable.{meta_tree}
 
@@ -79,6 +83,16 @@ others_one (AddScript owner name text) user tables differ = same_trees user tabl
 others_one (RemoveScript owner name) user tables differ =
     same_trees user tables script_tree _ (filter_kept (has_key (owner_key user)) (has_key (pair_key owner.now name.now)) (pair_apart user name.now owner.now differ) (tables script_tree))
 others_one (AddCopy owner folder n message) user tables differ = same_trees user tables copy_tree _ (filter_beside (has_key (owner_key user)) (tables copy_tree) _ (begins_apart user owner.now differ (drop 1 (copy_cells owner.now folder.now n message.now))))
+others_one (AddOutgoing owner id kind sender target message) user tables differ =
+    same_trees user tables outgoing_tree _ (filter_beside (has_key (owner_key user)) (tables outgoing_tree) _ (begins_apart user owner.now differ (drop 1 (queue_cells owner.now id kind sender.now target.now message.now))))
+others_one (RemoveOutgoing owner id) user tables differ =
+    same_trees user tables outgoing_tree _ (filter_kept (has_key (owner_key user)) (has_key (queue_key owner.now id)) (key_apart user owner.now (Int id ∷ []) differ) (tables outgoing_tree))
+others_one (AddReply owner handle sender moment) user tables differ =
+    same_trees user tables reply_tree _ (filter_beside (has_key (owner_key user)) (tables reply_tree) _ (begins_apart user owner.now differ (drop 1 (reply_cells owner.now handle.now sender.now moment))))
+others_one (RemoveReply owner handle sender) user tables differ =
+    same_trees user tables reply_tree _ (filter_kept (has_key (owner_key user)) (has_key (reply_key owner.now handle.now sender.now)) (key_apart user owner.now (Blob handle.now ∷ Blob sender.now ∷ []) differ) (tables reply_tree))
+others_one (AddNotice owner id moment text) user tables differ =
+    same_trees user tables notice_tree _ (filter_beside (has_key (owner_key user)) (tables notice_tree) _ (begins_apart user owner.now differ (drop 1 (notice_row_cells owner.now id moment text.now))))
 
 -- and is made in those of its owner
 own_one : (d : Change) (tables : Tables) → rows_of (owner_of d) (made_one d tables) ≡ made_one d (rows_of (owner_of d) tables)
@@ -90,6 +104,13 @@ own_one (SetNextCopy name next) tables =
 own_one (AddScript owner name text) tables = own_trees owner.now tables script_tree _ _ (filter_pushed (has_key (owner_key owner.now)) (tables script_tree) _ (owned_by owner.now (drop 1 (script_cells owner.now name.now text.now))))
 own_one (RemoveScript owner name) tables = own_trees owner.now tables script_tree _ _ (filter_swapped (has_key (owner_key owner.now)) (has_key (pair_key owner.now name.now)) (tables script_tree))
 own_one (AddCopy owner folder n message) tables = own_trees owner.now tables copy_tree _ _ (filter_pushed (has_key (owner_key owner.now)) (tables copy_tree) _ (owned_by owner.now (drop 1 (copy_cells owner.now folder.now n message.now))))
+own_one (AddOutgoing owner id kind sender target message) tables =
+    own_trees owner.now tables outgoing_tree _ _ (filter_pushed (has_key (owner_key owner.now)) (tables outgoing_tree) _ (owned_by owner.now (drop 1 (queue_cells owner.now id kind sender.now target.now message.now))))
+own_one (RemoveOutgoing owner id) tables = own_trees owner.now tables outgoing_tree _ _ (filter_swapped (has_key (owner_key owner.now)) (has_key (queue_key owner.now id)) (tables outgoing_tree))
+own_one (AddReply owner handle sender moment) tables =
+    own_trees owner.now tables reply_tree _ _ (filter_pushed (has_key (owner_key owner.now)) (tables reply_tree) _ (owned_by owner.now (drop 1 (reply_cells owner.now handle.now sender.now moment))))
+own_one (RemoveReply owner handle sender) tables = own_trees owner.now tables reply_tree _ _ (filter_swapped (has_key (owner_key owner.now)) (has_key (reply_key owner.now handle.now sender.now)) (tables reply_tree))
+own_one (AddNotice owner id moment text) tables = own_trees owner.now tables notice_tree _ _ (filter_pushed (has_key (owner_key owner.now)) (tables notice_tree) _ (owned_by owner.now (drop 1 (notice_row_cells owner.now id moment text.now))))
 
 version_one : (d : Change) (tables : Tables) → made_one d tables meta_tree ≡ tables meta_tree
 version_one (AddAccount name address salt rounds digest) tables = refl
@@ -98,6 +119,11 @@ version_one (SetNextCopy name next) tables = refl
 version_one (AddScript owner name text) tables = refl
 version_one (RemoveScript owner name) tables = refl
 version_one (AddCopy owner folder n message) tables = refl
+version_one (AddOutgoing owner id kind sender target message) tables = refl
+version_one (RemoveOutgoing owner id) tables = refl
+version_one (AddReply owner handle sender moment) tables = refl
+version_one (RemoveReply owner handle sender) tables = refl
+version_one (AddNotice owner id moment text) tables = refl
 
 others_all : (user other : List ℕ) (ds : List Change) (tables : Tables) → AreOf user ds → other ≢ user → rows_of other (made tables ds) ≡ rows_of other tables
 others_all user other [] tables are differ = refl

@@ -27,8 +27,12 @@ use Rattle.mailstore.specs.MetaTable.{meta, insert_version, meta_tree}
 use Rattle.mailstore.specs.AccountTable.{account, insert_account, update_active, update_next_copy, account_cells, with_active, with_next_copy, account_tree, next_copy_column, next_notice_column, next_out_column, rounds_column}
 use Rattle.mailstore.specs.ScriptTable.{script, insert_script, delete_script, script_cells, script_tree}
 use Rattle.mailstore.specs.CopyTable.{copy, insert_copy, copy_cells, copy_tree}
-use Rattle.mailstore.proofs.SchemaFacts.{no_works, copy_listed, script_listed}
-use Rattle.mailstore.proofs.TextFacts.{by_one, by_two, version_terms, account_terms, active_columns, next_copy_columns, three_terms, four_terms, insert_version_is, insert_version_plain, insert_account_is, insert_account_plain, update_active_is, update_active_plain, update_next_copy_is, update_next_copy_plain, insert_script_is, insert_script_plain, delete_script_is, delete_script_plain, insert_copy_is, insert_copy_plain}
+use Rattle.mailstore.specs.declared.queue.Kind.{Kind}
+use Rattle.mailstore.specs.QueueTable.{outgoing, insert_outgoing, delete_outgoing, queue_cells, queue_key, outgoing_tree, kind_number}
+use Rattle.mailstore.specs.ReplyTable.{reply, insert_reply, delete_reply, reply_cells, reply_key, reply_tree}
+use Rattle.mailstore.specs.NoticeTable.{notice, insert_notice, notice_row_cells, notice_tree}
+use Rattle.mailstore.proofs.SchemaFacts.{no_works, copy_listed, script_listed, outgoing_listed, reply_listed, notice_listed}
+use Rattle.mailstore.proofs.TextFacts.{by_one, by_two, by_three, six_terms, insert_outgoing_is, insert_outgoing_plain, delete_outgoing_is, delete_outgoing_plain, insert_reply_is, insert_reply_plain, delete_reply_is, delete_reply_plain, insert_notice_is, insert_notice_plain, version_terms, account_terms, active_columns, next_copy_columns, three_terms, four_terms, insert_version_is, insert_version_plain, insert_account_is, insert_account_plain, update_active_is, update_active_plain, update_next_copy_is, update_next_copy_plain, insert_script_is, insert_script_plain, delete_script_is, delete_script_plain, insert_copy_is, insert_copy_plain}
 
 -- what a statement that ran, or failed, leaves of the tables and of the last commit
 abbrev pub MakesNow : State → State → Result ℕ Error → (Tables → Tables) → Type 0
@@ -50,6 +54,21 @@ account_agrees name n cells h = h
 pub script_agrees : (owner name : List ℕ) (n : ℤ) (cells : Row) → has_key (pair_key owner name) cells ≡ true → agree script_index.order script_index.columns (Int n ∷ cells) (0 ∷ 1 ∷ []) (pair_key owner name) ≡ true
 unfolding first_key
 script_agrees owner name n cells h = h
+
+abbrev pub outgoing_index : Index
+outgoing_index = automatic outgoing 0 (1 ∷ 2 ∷ []) (outgoing_tree + 1)
+
+abbrev pub reply_index : Index
+reply_index = automatic reply 0 (1 ∷ 2 ∷ 3 ∷ []) (reply_tree + 1)
+
+pub outgoing_agrees : (owner : List ℕ) (id : ℤ) (n : ℤ) (cells : Row) → has_key (queue_key owner id) cells ≡ true → agree outgoing_index.order outgoing_index.columns (Int n ∷ cells) (0 ∷ 1 ∷ []) (queue_key owner id) ≡ true
+unfolding first_key
+outgoing_agrees owner id n cells h = h
+
+pub reply_agrees : (owner handle sender : List ℕ) (n : ℤ) (cells : Row) → has_key (reply_key owner handle sender) cells ≡ true
+    → agree reply_index.order reply_index.columns (Int n ∷ cells) (0 ∷ 1 ∷ 2 ∷ []) (reply_key owner handle sender) ≡ true
+unfolding first_key
+reply_agrees owner handle sender n cells h = h
 
 pub removes_script : (old new : State) (owner name : List ℕ) (r : Result ℕ Error) → ExecutesInside 0 delete_script (pair_key owner name) old new r → MakesNow old new r (removed script_tree (pair_key owner name))
 removes_script old new owner name (Err e) ran = (kept _ _ old new (Err e) ran, tt)
@@ -166,3 +185,75 @@ sets_next_copy old new name next (Ok count) ran = (
 pub active_bound : (o : Option (Bor (List ℕ))) → bound_value (bound_or_null (λ b. Blob b.now) o) ≡ or_null (contents o)
 active_bound None = refl
 active_bound (Some b) = refl
+
+pub inserts_outgoing : (old new : State) (owner : List ℕ) (id : ℤ) (kind : Kind) (sender target message : List ℕ) (r : Result ℕ Error) → ExecutesInside 0 insert_outgoing (queue_cells owner id kind sender target message) old new r
+    → MakesNow old new r (added outgoing_tree (queue_cells owner id kind sender target message))
+inserts_outgoing old new owner id kind sender target message (Err e) ran = (kept _ _ old new (Err e) ran, tt)
+inserts_outgoing old new owner id kind sender target message (Ok count) ran = (
+  kept _ _ old new (Ok count) ran,
+  (
+    λ tables h.
+        let params = queue_cells owner id kind sender target message in
+        let on = on_insert mail_schema insert_outgoing params old new tables h insert_outgoing_plain count ran.0 3 outgoing refl _ insert_outgoing_is in
+        insert_holds mail_schema no_works outgoing.name outgoing_tree outgoing.primary outgoing.references outgoing.columns params old new tables h outgoing_listed 3 six_terms 7 params on.0 refl
+        (rw (cast_int id, cast_int (pos (kind_number kind)))) on.1,
+    ran.1,
+  ),
+)
+
+pub removes_outgoing : (old new : State) (owner : List ℕ) (id : ℤ) (r : Result ℕ Error) → ExecutesInside 0 delete_outgoing (queue_key owner id) old new r → MakesNow old new r (removed outgoing_tree (queue_key owner id))
+removes_outgoing old new owner id (Err e) ran = (kept _ _ old new (Err e) ran, tt)
+removes_outgoing old new owner id (Ok count) ran = (
+  kept _ _ old new (Ok count) ran,
+  (
+    λ tables h.
+        let params = queue_key owner id in
+        let on = on_delete mail_schema delete_outgoing params old new tables h delete_outgoing_plain count ran.0 3 outgoing refl _ delete_outgoing_is in
+        delete_holds mail_schema no_works outgoing.name outgoing_tree outgoing.primary outgoing.references outgoing.columns params old new tables h outgoing_listed outgoing_index (inr (inr (inr (inl refl)))) refl params (0 ∷ 1 ∷ [])
+        (outgoing_agrees owner id) by_two (λ n cells. refl) 3 on.0 on.1,
+    ran.1,
+  ),
+)
+
+pub inserts_reply : (old new : State) (owner handle sender : List ℕ) (moment : ℤ) (r : Result ℕ Error) → ExecutesInside 0 insert_reply (reply_cells owner handle sender moment) old new r
+    → MakesNow old new r (added reply_tree (reply_cells owner handle sender moment))
+inserts_reply old new owner handle sender moment (Err e) ran = (kept _ _ old new (Err e) ran, tt)
+inserts_reply old new owner handle sender moment (Ok count) ran = (
+  kept _ _ old new (Ok count) ran,
+  (
+    λ tables h.
+        let params = reply_cells owner handle sender moment in
+        let on = on_insert mail_schema insert_reply params old new tables h insert_reply_plain count ran.0 4 reply refl _ insert_reply_is in
+        insert_holds mail_schema no_works reply.name reply_tree reply.primary reply.references reply.columns params old new tables h reply_listed 4 four_terms 5 params on.0 refl (rw cast_int) on.1,
+    ran.1,
+  ),
+)
+
+pub removes_reply : (old new : State) (owner handle sender : List ℕ) (r : Result ℕ Error) → ExecutesInside 0 delete_reply (reply_key owner handle sender) old new r
+    → MakesNow old new r (removed reply_tree (reply_key owner handle sender))
+removes_reply old new owner handle sender (Err e) ran = (kept _ _ old new (Err e) ran, tt)
+removes_reply old new owner handle sender (Ok count) ran = (
+  kept _ _ old new (Ok count) ran,
+  (
+    λ tables h.
+        let params = reply_key owner handle sender in
+        let on = on_delete mail_schema delete_reply params old new tables h delete_reply_plain count ran.0 4 reply refl _ delete_reply_is in
+        delete_holds mail_schema no_works reply.name reply_tree reply.primary reply.references reply.columns params old new tables h reply_listed reply_index (inr (inr (inr (inr (inl refl))))) refl params (0 ∷ 1 ∷ 2 ∷ [])
+        (reply_agrees owner handle sender) by_three (λ n cells. refl) 4 on.0 on.1,
+    ran.1,
+  ),
+)
+
+pub inserts_notice : (old new : State) (owner : List ℕ) (id moment : ℤ) (text : List ℕ) (r : Result ℕ Error) → ExecutesInside 0 insert_notice (notice_row_cells owner id moment text) old new r
+    → MakesNow old new r (added notice_tree (notice_row_cells owner id moment text))
+inserts_notice old new owner id moment text (Err e) ran = (kept _ _ old new (Err e) ran, tt)
+inserts_notice old new owner id moment text (Ok count) ran = (
+  kept _ _ old new (Ok count) ran,
+  (
+    λ tables h.
+        let params = notice_row_cells owner id moment text in
+        let on = on_insert mail_schema insert_notice params old new tables h insert_notice_plain count ran.0 5 notice refl _ insert_notice_is in
+        insert_holds mail_schema no_works notice.name notice_tree notice.primary notice.references notice.columns params old new tables h notice_listed 5 four_terms 5 params on.0 refl (rw (cast_int id, cast_int moment)) on.1,
+    ran.1,
+  ),
+)

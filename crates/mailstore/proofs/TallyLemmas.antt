@@ -11,7 +11,8 @@ use Rattle.std.proofs.lemmas.List.Sorted.{sum_by-IsPermutation}
 use Rattle.mailstore.specs.Account.{bytes_cmp, Folders, messages_in, filed}
 use Rattle.mailstore.specs.CopyTable.{Copy, folders_from}
 use Rattle.mailstore.specs.Tally.{counted, tallied, count_of, size_of}
-use Rattle.mailstore.proofs.OrderLemmas.{entries_rise}
+use Rattle.mailstore.proofs.AccountLemmas.{bytes_antisymmetric}
+use Rattle.mailstore.proofs.MapLemmas.{entries_rise}
 use Rattle.sqlite_trees.specs.Tree.{IsAscending}
 use Rattle.sqlite_keyed.proofs.ListLemmas.{all_weaker, ascending-map}
 use Rattle.sqlite_typed.proofs.TestLemmas.{same_bytes}
@@ -229,6 +230,6 @@ rising_sizes es up = ascending-map (λ a b. Below a.0 b.0) size_of es up
 pub tally_is : (copies : List Copy) (names : List (List ℕ)) → IsPermutation (map (λ c. c.folder) copies) names → InOrder names → map count_of (tallied names) ≡ map size_of (entries (folders_from copies))
 tally_is copies names same order =
     let m = folders_from copies in
-    same_sorted (map count_of (tallied names)) (map size_of (entries m)) (rising_counts (tallied names) (tally_rises names [] order tt tt)) (rising_sizes (entries m) (entries_rise m))
+    same_sorted (map count_of (tallied names)) (map size_of (entries m)) (rising_counts (tallied names) (tally_rises names [] order tt tt)) (rising_sizes (entries m) (entries_rise bytes_cmp nat_list_cmp_total bytes_antisymmetric m))
     (λ q. tally_finds q names [] order tt tt ∙ ap (λ n. with_more n None) (times-permutation q (map (λ c. c.folder) copies) names same)
     ∙ sym (find_sizes q (entries m) ∙ ap (option_map length) (sym (get-entries m q)) ∙ sizes_joined q copies empty ∙ ap (λ o. with_more (times q (map (λ c. c.folder) copies)) (option_map length o)) (get-empty bytes_cmp q)))

@@ -15,6 +15,9 @@ use Rattle.mailstore.specs.MetaTable.{insert_version, select_version, meta_tree}
 use Rattle.mailstore.specs.AccountTable.{insert_account, update_active, update_next_copy, select_account, select_next_copy, account_tree}
 use Rattle.mailstore.specs.ScriptTable.{insert_script, delete_script, select_names, select_script, script_tree}
 use Rattle.mailstore.specs.CopyTable.{insert_copy, select_folders, select_folder, copy_tree}
+use Rattle.mailstore.specs.QueueTable.{outgoing_tree, select_queue, insert_outgoing, delete_outgoing}
+use Rattle.mailstore.specs.NoticeTable.{notice_tree, select_notices, insert_notice}
+use Rattle.mailstore.specs.ReplyTable.{reply_tree, insert_reply, delete_reply}
 
 abbrev pub by_one : List Term
 by_one = equals 1 0 ∷ []
@@ -154,3 +157,71 @@ select_folder_is = refl
 pub select_folder_plain : IsPlain (understood mail_schema select_folder) × (reads_listing mail_schema select_folder ≡ false)
 unfolding understood everything
 select_folder_plain = ((refl, refl), refl)
+
+abbrev pub queue_shown : List Term
+queue_shown = col 1 2 ∷ col 1 3 ∷ col 1 4 ∷ col 1 5 ∷ col 1 6 ∷ []
+
+pub select_queue_is : command_of (understood mail_schema select_queue) ≡ Select (over outgoing_tree by_one queue_shown ((col 1 2, ascending Binary) ∷ [])) (codes "id" ∷ codes "kind" ∷ codes "sender" ∷ codes "target" ∷ codes "message" ∷ [])
+unfolding understood everything
+select_queue_is = refl
+
+pub select_queue_plain : IsPlain (understood mail_schema select_queue) × (reads_listing mail_schema select_queue ≡ false)
+unfolding understood everything
+select_queue_plain = ((refl, refl), refl)
+
+abbrev pub notices_shown : List Term
+notices_shown = col 1 3 ∷ col 1 4 ∷ []
+
+pub select_notices_is : command_of (understood mail_schema select_notices) ≡ Select (over notice_tree by_one notices_shown ((col 1 2, ascending Binary) ∷ [])) (codes "moment" ∷ codes "text" ∷ [])
+unfolding understood everything
+select_notices_is = refl
+
+pub select_notices_plain : IsPlain (understood mail_schema select_notices) × (reads_listing mail_schema select_notices ≡ false)
+unfolding understood everything
+select_notices_plain = ((refl, refl), refl)
+
+abbrev pub by_three : List Term
+by_three = equals 1 0 ∷ equals 2 1 ∷ equals 3 2 ∷ []
+
+abbrev pub six_terms : List Term
+six_terms = col 0 0 ∷ col 0 1 ∷ col 0 2 ∷ col 0 3 ∷ col 0 4 ∷ col 0 5 ∷ []
+
+pub insert_outgoing_is : command_of (understood mail_schema insert_outgoing) ≡ Insert 3 (Values (lit Null ∷ six_terms) 7)
+unfolding understood everything
+insert_outgoing_is = refl
+
+pub insert_outgoing_plain : IsPlain (understood mail_schema insert_outgoing)
+unfolding understood everything
+insert_outgoing_plain = (refl, refl)
+
+pub delete_outgoing_is : command_of (understood mail_schema delete_outgoing) ≡ Delete 3 (over outgoing_tree by_two (col 1 0 ∷ []) [])
+unfolding understood everything
+delete_outgoing_is = refl
+
+pub delete_outgoing_plain : IsPlain (understood mail_schema delete_outgoing)
+unfolding understood everything
+delete_outgoing_plain = (refl, refl)
+
+pub insert_reply_is : command_of (understood mail_schema insert_reply) ≡ Insert 4 (Values (lit Null ∷ four_terms) 5)
+unfolding understood everything
+insert_reply_is = refl
+
+pub insert_reply_plain : IsPlain (understood mail_schema insert_reply)
+unfolding understood everything
+insert_reply_plain = (refl, refl)
+
+pub delete_reply_is : command_of (understood mail_schema delete_reply) ≡ Delete 4 (over reply_tree by_three (col 1 0 ∷ []) [])
+unfolding understood everything
+delete_reply_is = refl
+
+pub delete_reply_plain : IsPlain (understood mail_schema delete_reply)
+unfolding understood everything
+delete_reply_plain = (refl, refl)
+
+pub insert_notice_is : command_of (understood mail_schema insert_notice) ≡ Insert 5 (Values (lit Null ∷ four_terms) 5)
+unfolding understood everything
+insert_notice_is = refl
+
+pub insert_notice_plain : IsPlain (understood mail_schema insert_notice)
+unfolding understood everything
+insert_notice_plain = (refl, refl)

@@ -115,6 +115,10 @@ pub record Writes {X : Type 0} (Fit : Accounts → Type 0) (change : Accounts �
 abbrev pub WritesUser : {X : Type 0} → List ℕ → (Account → Account) → State → State → Result X Refusal → Type 0
 WritesUser user change = Writes (HasUser user) (λ all. with_user all user change)
 
+-- the same of an account of which this is known
+abbrev pub WritesKnown : {X : Type 0} → List ℕ → (Account → Type 0) → (Account → Account) → State → State → Result X Refusal → Type 0
+WritesKnown user Known change = Writes (λ all. OfUser all user Known) (λ all. with_user all user change)
+
 -- a write of one user's account that first asks whether there is one
 pub record WritesAccount {X : Type 0} (user : List ℕ) (change : Account → Account) (old new : State) (result : Result X Refusal) : Type 0 where
   pub made : HasCleanDisk new → OnOk result (Turns (HasUser user) (λ all. with_user all user change) old.now new.now)

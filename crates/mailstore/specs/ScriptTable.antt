@@ -1,5 +1,5 @@
 -- The table of scripts.
-use Rattle.std.specs.Prelude.{◌≡◌, ◌≢◌, ℕ, List, [], ◌∷◌, map, codes, slice_get, option_map}
+use Rattle.std.specs.Prelude.{◌≡◌, ◌≢◌, ℕ, List, [], ◌∷◌, map, codes, slice_get, Option, option_map}
 use Rattle.std.specs.FinMap.{get, keys, from_entries}
 use Rattle.sqlite_schema.specs.declared.schema.Kind.TheVariants as kind
 use Rattle.sqlite_schema.specs.declared.schema.Table.{Table}
@@ -7,7 +7,7 @@ use Rattle.sqlite_value.specs.declared.value.Value.TheVariants.{Blob}
 use Rattle.sqlite_value.specs.Order.{Row}
 use Rattle.sqlite_trees.specs.Tree.{IsAscending}
 use Rattle.sqlrows.specs.Forms.{needed, keyed}
-use Rattle.mailstore.specs.Account.{Account, Scripts}
+use Rattle.mailstore.specs.Account.{Account, Scripts, other_name}
 use Rattle.mailstore.specs.AccountTable.{to_account}
 
 abbrev pub script_tree : ℕ
@@ -65,3 +65,11 @@ HasTextRow name rows a = slice_get rows 0 ≡ option_map (λ text. Blob text ∷
 -- the rows are the names of the scripts, in the order of their octets
 abbrev pub AreNameRows : List Row → Account → Type 0
 AreNameRows rows a = rows ≡ map (λ name. Blob name ∷ []) (keys a.scripts)
+
+-- the text of the name's script and the name of the active one, where there are such
+abbrev pub HasTextAndActive : List ℕ → Option (List ℕ) × Option (List ℕ) → Account → Type 0
+HasTextAndActive name both a = (both.0 ≡ get a.scripts name) × (both.1 ≡ a.active)
+
+-- the text is the name's, where there is such a script, and the active name is what it is once that script has the other name
+abbrev pub IsRenaming : List ℕ → List ℕ → Option (List ℕ) → Option (List ℕ) → Account → Type 0
+IsRenaming name other text active a = (text ≡ get a.scripts name) × (active ≡ option_map (other_name name other) a.active)

@@ -2,7 +2,7 @@
 ghost use Rattle.std.specs.Prelude.{◌≡◌, false, ◌⊎◌, [], pos, Some, option_map, slice_get, IfOk, IfErr};
 ghost use Rattle.sqlite.specs.Held.{state};
 ghost use Rattle.mailstore.specs.AccountTable.{account_tree, shown_account, shown_next_copy, IsRead};
-ghost use Rattle.mailstore.specs.Promises.{FindsOwn, ReadsCounter, ReadsProfile, Requires, IsFree, Writes, WritesUser};
+ghost use Rattle.mailstore.specs.Promises.{FindsOwn, Reads, ReadsCounter, ReadsProfile, Requires, IsFree, Writes, WritesUser};
 ghost use Rattle.sqlite.specs.State.{Survives};
 ghost use Rattle.mailstore.specs.Connection.{Makes, MakesTable};
 ghost use Rattle.mailstore.specs.Cells.{contents, or_null};
@@ -18,6 +18,7 @@ use crate::change::Change;
 use crate::profile::Profile;
 use crate::refusal::Refusal;
 use crate::store::Store;
+use octets::Octets;
 use sqlite::{Alter, Connection, Error, Row, Transaction, params};
 
 /// Makes the table `account`, inside a transaction.
@@ -184,6 +185,16 @@ impl<S: Alter> Store<S> {
     {
         let rows = find_account(&mut self.conn, user)?;
         first_profile(&rows)
+    }
+
+    /// The name of the active script, if there is one.
+    pub(crate) fn active(&mut self, user: &[u8]) -> Result<Option<Octets>, Refusal>
+        ensures { Reads user.now (λ active a. active ≡ a.active) (state S.Store self.old) (state S.Store self.new) result }
+    {
+        let Some(profile) = self.account(user)? else {
+            return Err(Refusal::NoUser);
+        };
+        Ok(profile.active)
     }
 
     /// Adds an account without scripts, messages and replies. `rounds` is how often the password is

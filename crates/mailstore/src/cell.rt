@@ -1,5 +1,5 @@
-//! The texts in the cells of rows.
-ghost use Rattle.std.specs.Prelude.{◌≡◌, option_map, map, slice_get, IfOk, IfErr};
+//! The texts and numbers in the cells of rows.
+ghost use Rattle.std.specs.Prelude.{◌≡◌, pos, ◌<◌, ◌^◌, option_map, map, slice_get, IfOk, IfErr};
 ghost use Rattle.mailstore.specs.Cells.{or_null};
 ghost use Rattle.mailstore.specs.Refusals.{IsPassing};
 ghost use Rattle.sqlite_value.specs.declared.value.Value.TheVariants.{Blob};
@@ -53,4 +53,16 @@ pub fn texts(alloc: Global, rows: &[Row]) -> Result<Texts, Refusal>
         all.push(text_at(row, 0)?)?;
     }
     Ok(all)
+}
+
+/// The number as the database keeps it; past 2^63 - 1 it is refused.
+pub fn number(n: u64) -> Result<i64, Refusal>
+    ensures same { IfOk result (λ i. i ≡ pos n) }
+    ensures fits { IfOk result (λ _. n < 2 ^ 63) }
+    ensures named { IfErr result IsPassing }
+{
+    match i64::try_from(n) {
+        Ok(i) => Ok(i),
+        Err(_) => Err(Refusal::Store),
+    }
 }

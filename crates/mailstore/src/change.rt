@@ -9,7 +9,10 @@ ghost use Rattle.mailstore.specs.Refusals.{IsPassing};
 
 use crate::account::{add_account, set_active, set_next_copy};
 use crate::folder::add_copy;
+use crate::notice::add_notice;
+use crate::queue::{Kind, add_outgoing, remove_outgoing};
 use crate::refusal::Refusal;
+use crate::reply::{add_reply, remove_reply};
 use crate::script::{add_script, remove_script};
 use crate::store::{Store, code_of};
 use sqlite::{Alter, Connection, Error, Transaction};
@@ -47,6 +50,35 @@ pub enum Change<'a> {
         n: i64,
         message: &'a [u8],
     },
+    AddOutgoing {
+        owner: &'a [u8],
+        id: i64,
+        kind: Kind,
+        sender: &'a [u8],
+        target: &'a [u8],
+        message: &'a [u8],
+    },
+    RemoveOutgoing {
+        owner: &'a [u8],
+        id: i64,
+    },
+    AddReply {
+        owner: &'a [u8],
+        handle: &'a [u8],
+        sender: &'a [u8],
+        moment: i64,
+    },
+    RemoveReply {
+        owner: &'a [u8],
+        handle: &'a [u8],
+        sender: &'a [u8],
+    },
+    AddNotice {
+        owner: &'a [u8],
+        id: i64,
+        moment: i64,
+        text: &'a [u8],
+    },
 }
 
 /// Makes the change, inside a transaction.
@@ -73,6 +105,32 @@ fn make<S: Alter>(tx: &mut Transaction<'_, S>, change: &Change<'_>) -> Result<()
             n,
             message,
         } => add_copy(tx, owner, folder, n, message),
+        Change::AddOutgoing {
+            owner,
+            id,
+            kind,
+            sender,
+            target,
+            message,
+        } => add_outgoing(tx, owner, id, *kind, sender, target, message),
+        Change::RemoveOutgoing { owner, id } => remove_outgoing(tx, owner, id),
+        Change::AddReply {
+            owner,
+            handle,
+            sender,
+            moment,
+        } => add_reply(tx, owner, handle, sender, moment),
+        Change::RemoveReply {
+            owner,
+            handle,
+            sender,
+        } => remove_reply(tx, owner, handle, sender),
+        Change::AddNotice {
+            owner,
+            id,
+            moment,
+            text,
+        } => add_notice(tx, owner, id, moment, text),
     }
 }
 

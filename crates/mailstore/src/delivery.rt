@@ -1,11 +1,12 @@
 //! What a delivery writes.
-ghost use Rattle.std.specs.Prelude.{◌≡◌, pos, IfOk, IfErr, ◌+◌, ◌<◌, ◌^◌, length};
+ghost use Rattle.std.specs.Prelude.{IfOk, IfErr, ◌+◌, length};
 ghost use Rattle.sqlite.specs.Held.{state};
 ghost use Rattle.mailstore.specs.Promises.{WritesAccount};
 ghost use Rattle.mailstore.specs.Changes.{AreCopies};
 ghost use Rattle.mailstore.specs.Account.{files_copies};
 ghost use Rattle.mailstore.specs.Refusals.{IsPassing};
 
+use crate::cell::number;
 use crate::change::Change;
 use crate::refusal::Refusal;
 use crate::report::Plan;
@@ -13,18 +14,6 @@ use crate::store::Store;
 use octets::Octets;
 use sqlite::Alter;
 use std::alloc::Global;
-
-/// The number as the database keeps it; past 2^63 - 1 it is refused.
-fn number(n: u64) -> Result<i64, Refusal>
-    ensures same { IfOk result (λ i. i ≡ pos n) }
-    ensures fits { IfOk result (λ _. n < 2 ^ 63) }
-    ensures named { IfErr result IsPassing }
-{
-    match i64::try_from(n) {
-        Ok(i) => Ok(i),
-        Err(_) => Err(Refusal::Store),
-    }
-}
 
 /// The counter goes up first, and then a copy joins each folder in turn, numbered from `next` on.
 fn copy_changes<'a>(

@@ -1,13 +1,14 @@
 //! The table of scripts.
-ghost use Rattle.std.specs.Prelude.{◌≡◌, false};
+ghost use Rattle.std.specs.Prelude.{◌≡◌, false, option_map};
 ghost use Rattle.sqlite.specs.Held.{state};
-ghost use Rattle.mailstore.specs.Promises.{Finds, Reads, ReadsRows, WritesUser};
-ghost use Rattle.mailstore.specs.ScriptTable.{AreNameRows, HasTextRow};
+ghost use Rattle.mailstore.specs.Promises.{Finds, Reads, ReadsRows, WritesAccount, WritesKnown, WritesUser};
+ghost use Rattle.mailstore.specs.ScriptTable.{AreNameRows, HasTextAndActive, HasTextRow, IsRenaming};
 ghost use Rattle.sqlite.specs.State.{Survives};
 ghost use Rattle.mailstore.specs.Connection.{Makes, MakesTable};
+ghost use Rattle.mailstore.specs.Cells.{contents};
 ghost use Rattle.mailstore.specs.Changes.{script_added, script_removed};
 ghost use Rattle.mailstore.specs.Schema.{schema_2, schema_3};
-ghost use Rattle.mailstore.specs.Account.{keeps_script};
+ghost use Rattle.mailstore.specs.Account.{deletes_script, keeps_script, other_name, renames_script};
 ghost use Rattle.std.specs.FinMap.{get, keys};
 
 use crate::cell::{first_text, texts};
@@ -97,6 +98,23 @@ fn find_names<S: Alter>(conn: &mut Connection<S>, owner: &[u8]) -> Result<Vec<Ro
     )
 }
 
+/// One name in place of another, where it is the active script's.
+fn active_renamed<'a>(
+    active: Option<&'a Octets>,
+    name: &[u8],
+    other: &'a [u8],
+) -> Option<&'a [u8]>
+    ensures { contents result ≡ option_map (other_name name.now other.now) (contents active.entry) }
+{
+    let Some(active) = active else {
+        return None;
+    };
+    if active.as_slice() == name {
+        return Some(other);
+    }
+    Some(active.as_slice())
+}
+
 impl<S: Alter> Store<S> {
     /// The row with the text of the script, if there is one.
     fn script_rows(&mut self, user: &[u8], name: &[u8]) -> Result<Vec<Row>, Refusal>
@@ -143,5 +161,65 @@ impl<S: Alter> Store<S> {
                 text,
             },
         ])
+    }
+
+    /// The script is no longer kept. That a script has the name and isn't the active one is for the
+    /// caller to see.
+    pub fn delete(&mut self, user: &[u8], name: &[u8]) -> Result<(), Refusal>
+        ensures { WritesUser user.now (deletes_script name.now) (state S.Store self.old) (state S.Store self.new) result }
+    {
+        self.apply(&[Change::RemoveScript { owner: user, name }])
+    }
+
+    /// The text of the script and the name of the active one, where there are such.
+    fn text_and_active(
+        &mut self,
+        user: &[u8],
+        name: &[u8],
+    ) -> Result<(Option<Octets>, Option<Octets>), Refusal>
+        ensures { Reads user.now (HasTextAndActive name.now) (state S.Store self.old) (state S.Store self.new) result }
+    {
+        let text = self.script(user, name)?;
+        let active = self.active(user)?;
+        Ok((text, active))
+    }
+
+    /// The text stands under the other name, where there is one, and another script is active, or none.
+    fn write_renamed<'a>(
+        &mut self,
+        user: &'a [u8],
+        name: &'a [u8],
+        other: &'a [u8],
+        text: Option<&'a Octets>,
+        active: Option<&'a [u8]>,
+    ) -> Result<(), Refusal>
+        ensures { WritesKnown user.now (IsRenaming name.now other.now (contents text.entry) (contents active.entry)) (renames_script name.now other.now) (state S.Store self.old) (state S.Store self.new) result }
+    {
+        let Some(text) = text else {
+            return self.apply(&[Change::SetActive { name: user, active }]);
+        };
+        self.apply(&[
+            Change::RemoveScript { name, owner: user },
+            Change::RemoveScript {
+                name: other,
+                owner: user,
+            },
+            Change::AddScript {
+                owner: user,
+                name: other,
+                text: text.as_slice(),
+            },
+            Change::SetActive { name: user, active },
+        ])
+    }
+
+    /// The script has another name, and stays active where it was. That a script has the name and none has the other
+    /// one is for the caller to see: one that has it is replaced. Its text is in memory once.
+    pub fn rename(&mut self, user: &[u8], name: &[u8], other: &[u8]) -> Result<(), Refusal>
+        ensures { WritesAccount user.now (renames_script name.now other.now) (state S.Store self.old) (state S.Store self.new) result }
+    {
+        let (text, active) = self.text_and_active(user, name)?;
+        let active = active_renamed(active.as_ref(), name, other);
+        self.write_renamed(user, name, other, text.as_ref(), active)
     }
 }

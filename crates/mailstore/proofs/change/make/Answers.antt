@@ -17,3 +17,18 @@ returns-in-RemoveScript-clause-made g c = rw c.in-RemoveScript.is c.remove_scrip
 
 pub returns-in-AddCopy-clause-made : goal.returns-in-AddCopy-clause-made
 returns-in-AddCopy-clause-made g c = rw c.in-AddCopy.is c.add_copy.ensures.made
+
+pub returns-in-AddOutgoing-clause-made : goal.returns-in-AddOutgoing-clause-made
+returns-in-AddOutgoing-clause-made g c = rw c.in-AddOutgoing.is c.add_outgoing.ensures.made
+
+pub returns-in-RemoveOutgoing-clause-made : goal.returns-in-RemoveOutgoing-clause-made
+returns-in-RemoveOutgoing-clause-made g c = rw c.in-RemoveOutgoing.is c.remove_outgoing.ensures.made
+
+pub returns-in-AddReply-clause-made : goal.returns-in-AddReply-clause-made
+returns-in-AddReply-clause-made g c = rw c.in-AddReply.is c.add_reply.ensures.made
+
+pub returns-in-RemoveReply-clause-made : goal.returns-in-RemoveReply-clause-made
+returns-in-RemoveReply-clause-made g c = rw c.in-RemoveReply.is c.remove_reply.ensures.made
+
+pub returns-in-AddNotice-clause-made : goal.returns-in-AddNotice-clause-made
+returns-in-AddNotice-clause-made g c = rw c.in-AddNotice.is c.add_notice.ensures.made

@@ -1,0 +1,194 @@
+-- A read after a read, and a write after a read, of one user's account.
+use Rattle.std.proofs.Common.{◌≡◌, ◌⊎◌, ℕ, List, Option, Some, None, Ok, Err, Result, OnOk, OnErr, IfOk, IfErr, IsTrue, refl, sym, ap, ◌∙◌, subst, inl, inr, option_map}
+use Rattle.std.specs.FinMap.{get}
+use Rattle.sqlite.specs.State.{State, HasCleanDisk, Survives}
+use Rattle.sqlite.proofs.StateLemmas.{survives_then, survives_weaker}
+use Rattle.sqlrows.specs.Rows.{Tables, Holds}
+use Rattle.mailstore.specs.declared.change.Change.{Change}
+use Rattle.mailstore.specs.declared.refusal.Refusal.{Refusal}
+use Rattle.mailstore.specs.declared.refusal.Refusal.TheVariants.{NoUser}
+use Rattle.mailstore.specs.Schema.{mail_schema}
+use Rattle.mailstore.specs.Connection.{StaysSame, IsSettled}
+use Rattle.mailstore.specs.Changes.{made, AreOf, MayHave}
+use Rattle.mailstore.specs.Account.{Account, Accounts, with_user}
+use Rattle.mailstore.specs.Refusals.{IsPassing}
+use Rattle.mailstore.specs.Shows.{rows_of, IsShown, IsShownOrAbsent, ShowsAccounts, Presents}
+use Rattle.mailstore.specs.Promises.{HasUser, IsFree, OfUser, Turns, MayShow, HasOurTables, Keeps, Reads, MakesAll, ReadsProfile, WritesAccount, WritesKnown}
+use Rattle.mailstore.proofs.ResultLemmas.{on_ok}
+use Rattle.mailstore.proofs.WriteLemmas.{clean_before}
+use Rattle.mailstore.proofs.ShowLemmas.{shows_after}
+use Rattle.mailstore.proofs.KeepLemmas.{passing_named, passing_other, keeps_ok, keeps_refused, keeps_then, keeps_failed, none_if, mid_shows}
+use Rattle.mailstore.specs.declared.profile.Profile.{Profile}
+use Rattle.mailstore.specs.AccountTable.{profile_of}
+
+-- ---- a read after a read
+
+one_account : (accounts : Accounts) (user : List ℕ) (P Q R : Account → Type 0) → ((a : Account) → P a → Q a → R a) → OfUser accounts user P → OfUser accounts user Q → OfUser accounts user R
+one_account accounts user P Q R f p q =
+    let same : Some p.0 ≡ Some q.0 = sym p.1 ∙ q.1 in
+    let is : p.0 ≡ q.0 = cc in
+    (q.0, q.1, f q.0 (subst P is p.2) q.2)
+
+module _ {X Y Z : Type 0} (user : List ℕ) (P : X → Account → Type 0) (Q : Y → Account → Type 0) (R : Z → Account → Type 0) (a b c : State) (r : Result X Refusal) (x : X) (was : r ≡ Ok x) (early : Reads user P a b r) where
+  -- an answer that is made of both
+  pub reads_both : (q : Result Y Refusal) (y : Y) → q ≡ Ok y → Reads user Q b c q → (z : Z) → ((account : Account) → P x account → Q y account → R z account) → Reads user R a c (Ok z)
+  reads_both q y is late z f = record {
+    found = λ clean accounts p.
+        let one = subst (λ o. IfOk o (λ w. OfUser accounts user (P w))) was (early.found (clean_before b c _ late.keeps.crash clean) accounts p) in
+        let two = subst (λ o. IfOk o (λ w. OfUser accounts user (Q w))) is (late.found clean accounts (mid_shows a b c r x was q early.keeps late.keeps clean accounts p)) in
+        one_account accounts user (P x) (Q y) (R z) f one two;
+    absent = λ clean accounts p. tt;
+    keeps = keeps_ok a c q y (Ok z) is (keeps_then a b c r x was q early.keeps late.keeps);
+    named = tt;
+  }
+
+  -- the second is refused
+  pub second_refused : (e : Refusal) (q : Result Z Refusal) → q ≡ Err e → Reads user Q b c (Err e) → Reads user R a c q
+  second_refused e q is late = record {
+    found = λ clean accounts p. subst (λ o. IfOk o (λ z. OfUser accounts user (R z))) (sym is) tt;
+    absent = λ clean accounts p.
+        let none : Result Y Refusal = Err e in
+        subst (λ o. IfErr o (λ f. f ≡ NoUser → IsFree user accounts)) (sym is) (late.absent clean accounts (mid_shows a b c r x was none early.keeps late.keeps clean accounts p));
+    keeps = let none : Result Y Refusal = Err e in keeps_refused a c none e q is (keeps_then a b c r x was none early.keeps late.keeps);
+    named = subst (λ o. IfErr o (λ f. (f ≡ NoUser) ⊎ IsPassing f)) (sym is) late.named;
+  }
+
+-- ---- a write after a read
+
+-- the changes turn tables that show accounts, of which something is known, into tables that show them with one user's account changed
+abbrev pub CarriesKnown : State → State → List ℕ → (Account → Account) → List Change → Type 0
+CarriesKnown a b user change ds = HasCleanDisk b → (accounts : Accounts) → (p : Presents a.now accounts) → HasUser user accounts → ShowsAccounts (made p.0 ds) (with_user accounts user change)
+
+-- a write that goes by what a read told of the account
+module _ {X Y : Type 0} (user : List ℕ) (Known : Account → Type 0) (change : Account → Account) (a b c : State) (r : Result X Refusal) (x : X) (ok : r ≡ Ok x) (Part : X → Account → Type 0) (early : Reads user Part a b r)
+    (fits : (account : Account) → Part x account → Known account) (q : Result Y Refusal) (late : WritesKnown user Known change b c q) where
+  clean_then : HasCleanDisk c → HasCleanDisk b
+  clean_then = clean_before b c _ late.crash
+
+  is_open : HasCleanDisk c → IsTrue b.is_open
+  is_open clean = on_ok r x ok (IsTrue b.is_open) (early.keeps.live (clean_then clean))
+
+  shows_then : HasCleanDisk c → (accounts : Accounts) → Presents a.now accounts → Presents b.now accounts
+  shows_then clean accounts p = subst (λ d. Presents d accounts) (sym ((early.keeps.same (clean_then clean) (p.0, p.1)).now_is (is_open clean))) p
+
+  known_then : HasCleanDisk c → (accounts : Accounts) → Presents a.now accounts → OfUser accounts user Known
+  known_then clean accounts p =
+      let there = subst (λ o. IfOk o (λ w. OfUser accounts user (Part w))) ok (early.found (clean_then clean) accounts p) in
+      (there.0, there.1, fits there.0 there.2)
+
+  turned : HasCleanDisk c → (o : Result Y Refusal) → OnOk o (Turns (λ all. OfUser all user Known) (λ all. with_user all user change) b.now c.now) → OnOk o (Turns (HasUser user) (λ all. with_user all user change) a.now c.now)
+  turned clean (Err e) h = tt
+  turned clean (Ok y) h = λ accounts p has. h accounts (shows_then clean accounts p) (known_then clean accounts p)
+
+  undone : HasCleanDisk c → HasOurTables a.now → (o : Result Y Refusal) → OnErr o (StaysSame b c) → OnErr o (StaysSame a c)
+  undone clean ours (Ok y) h = tt
+  undone clean ours (Err e) h =
+      let mid = early.keeps.same (clean_then clean) ours in
+      record { now_is = λ o. h.now_is o ∙ mid.now_is (is_open clean); committed_is = λ o. h.committed_is o ∙ mid.committed_is (is_open clean) }
+
+  pub known_writes : WritesAccount user change a c q
+  known_writes = record {
+    made = λ clean. turned clean q (late.made clean);
+    settled = late.settled;
+    same = λ clean ours. undone clean ours q (late.same clean);
+    absent = λ clean accounts p. passing_other q (IsFree user accounts) late.named;
+    crash = survives_then a b c _ _ _ (λ clean db none accounts p has. absurd (none (p.0, p.1))) (λ clean db may accounts p has. may accounts (shows_then clean accounts p) (known_then clean accounts p)) early.keeps.crash late.crash;
+    named = passing_named q late.named;
+  }
+
+module _ {X Y E : Type 0} (a b c : State) (r : Result X E) (x : X) (ok : r ≡ Ok x) (kept : Keeps a b r) (user : List ℕ) (change : Account → Account) (ds : List Change) (carries : CarriesKnown a b user change ds)
+    (late : Survives b c (MayHave ds b)) (q : Result Y Refusal) where
+  abbrev changed : Accounts → Accounts
+  changed all = with_user all user change
+
+  early : HasCleanDisk c → HasCleanDisk b
+  early = clean_before b c _ late
+
+  mid_open : HasCleanDisk c → IsTrue b.is_open
+  mid_open clean = on_ok r x ok (IsTrue b.is_open) (kept.live (early clean))
+
+  mid_holds : HasCleanDisk c → (tables : Tables) → Holds mail_schema a.now tables → Holds mail_schema b.now tables
+  mid_holds clean tables h = subst (λ d. Holds mail_schema d tables) (sym ((kept.same (early clean) (tables, h)).now_is (mid_open clean))) h
+
+  made_then : HasCleanDisk c → (o : Result Y Refusal) → MakesAll ds b c o → OnOk o (Turns (HasUser user) changed a.now c.now)
+  made_then clean (Err e) wrote = tt
+  made_then clean (Ok y) wrote = λ accounts p has. (made p.0 ds, wrote clean p.0 (mid_holds clean p.0 p.1), carries (early clean) accounts p has)
+
+  crash_then : Survives a c (MayShow (HasUser user) changed a)
+  crash_then = survives_then a b c _ _ _ (λ clean db none accounts p has. absurd (none (p.0, p.1)))
+      (λ clean db may accounts p has.
+      let left = may p.0 (mid_holds clean p.0 p.1) in
+      (left.0, (made p.0 ds, left.1, carries (early clean) accounts p has), left.2)) kept.crash late
+
+  same_then : HasCleanDisk c → HasOurTables a.now → (o : Result Y Refusal) → OnErr o (StaysSame b c) → OnErr o (StaysSame a c)
+  same_then clean ours (Ok y) h = tt
+  same_then clean ours (Err e) h =
+      let mid = kept.same (early clean) ours in
+      record { now_is = λ o. h.now_is o ∙ mid.now_is (mid_open clean); committed_is = λ o. h.committed_is o ∙ mid.committed_is (mid_open clean) }
+
+  pub writes_then : MakesAll ds b c q → (HasCleanDisk c → OnOk q (IsSettled c)) → (HasCleanDisk c → OnErr q (StaysSame b c)) → IfErr q IsPassing → WritesAccount user change a c q
+  writes_then wrote settled same named = record {
+    made = λ clean. made_then clean q wrote;
+    settled = settled;
+    same = λ clean ours. same_then clean ours q (same clean);
+    absent = λ clean accounts p. passing_other q (IsFree user accounts) named;
+    crash = crash_then;
+    named = passing_named q named;
+  }
+
+-- reads alone, and a refusal
+pub write_refused : {X Y : Type 0} (a b : State) (r : Result X Refusal) (user : List ℕ) (change : Account → Account) (e : Refusal) (q : Result Y Refusal) → q ≡ Err e → Keeps a b r
+    → (HasCleanDisk b → (accounts : Accounts) → Presents a.now accounts → e ≡ NoUser → IsFree user accounts) → (e ≡ NoUser) ⊎ IsPassing e → WritesAccount user change a b q
+write_refused a b r user change e q is kept absent named = record {
+  made = λ clean. subst (λ o. OnOk o (Turns (HasUser user) (λ all. with_user all user change) a.now b.now)) (sym is) tt;
+  settled = λ clean. subst (λ o. OnOk o (IsSettled b)) (sym is) tt;
+  same = λ clean ours. subst (λ o. OnErr o (StaysSame a b)) (sym is) (kept.same clean ours);
+  absent = λ clean accounts p. subst (λ o. IfErr o (λ f. f ≡ NoUser → IsFree user accounts)) (sym is) (absent clean accounts p);
+  crash = survives_weaker a b _ (MayShow (HasUser user) (λ all. with_user all user change) a) (λ clean db none accounts p has. absurd (none (p.0, p.1))) kept.crash;
+  named = subst (λ o. IfErr o (λ f. (f ≡ NoUser) ⊎ IsPassing f)) (sym is) named;
+}
+
+-- the counter was read, and then a refusal for memory, or of a number that does not fit
+pub write_failed : {X Y : Type 0} (a b : State) (r : Result X Refusal) (user : List ℕ) (change : Account → Account) (e : Refusal) (q : Result Y Refusal) → q ≡ Err e → Keeps a b r → IsPassing e → WritesAccount user change a b q
+write_failed {X} {Y} a b r user change e q is kept passing = write_refused a b r user change e q is kept (λ clean accounts p. passing_other {Y = Y} (Err e) (IsFree user accounts) passing) (inr passing)
+
+-- ---- the name of the active script
+
+active_of : (accounts : Accounts) (user : List ℕ) (profile : Profile) → Some profile ≡ option_map profile_of (get accounts user) → OfUser accounts user (λ a. profile.active ≡ a.active)
+active_of accounts user profile told = go (get accounts user) refl told
+  where
+    go : (o : Option Account) → get accounts user ≡ o → Some profile ≡ option_map profile_of o → OfUser accounts user (λ a. profile.active ≡ a.active)
+    go None is told = absurd (let no = told in cc)
+    go (Some a) is told = (a, is, (let same : profile ≡ profile_of a = cc in ap (λ p. p.active) same))
+
+free_of : (accounts : Accounts) (user : List ℕ) → None ≡ option_map profile_of (get accounts user) → IsFree user accounts
+free_of accounts user told = go (get accounts user) refl told
+  where
+    go : (o : Option Account) → get accounts user ≡ o → None ≡ option_map profile_of o → IsFree user accounts
+    go None is told = is
+    go (Some a) is told = absurd (let no = told in cc)
+
+module _ (user : List ℕ) (a b : State) (r : Result (Option Profile) Refusal) where
+  pub active_read : (profile : Profile) → r ≡ Ok (Some profile) → ReadsProfile user a b r → Reads user (λ active a. active ≡ a.active) a b (Ok profile.active)
+  active_read profile is h = record {
+    found = λ clean accounts p. active_of accounts user profile (subst (λ o. IfOk o (λ q. q ≡ option_map profile_of (get accounts user))) is (h.found clean accounts p));
+    absent = λ clean accounts p. tt;
+    keeps = keeps_ok a b r (Some profile) (Ok profile.active) is h.keeps;
+    named = tt;
+  }
+
+  pub active_absent : {X : Type 0} {Part : X → Account → Type 0} → r ≡ Ok None → ReadsProfile user a b r → Reads user Part a b (Err NoUser)
+  active_absent is h = record {
+    found = λ clean accounts p. tt;
+    absent = λ clean accounts p same. free_of accounts user (subst (λ o. IfOk o (λ q. q ≡ option_map profile_of (get accounts user))) is (h.found clean accounts p));
+    keeps = keeps_failed a b r (Err NoUser) tt h.keeps;
+    named = inl refl;
+  }
+
+  pub active_refused : {X : Type 0} {Part : X → Account → Type 0} → ReadsProfile user a b r → (q : Result X Refusal) → OnOk q ⊥ → IfErr q IsPassing → Reads user Part a b q
+  active_refused {Part = Part} h q none passing = record {
+    found = λ clean accounts p. none_if q (λ x. OfUser accounts user (Part x)) none;
+    absent = λ clean accounts p. passing_other q (IsFree user accounts) passing;
+    keeps = keeps_failed a b r q none h.keeps;
+    named = passing_named q passing;
+  }

@@ -1,0 +1,21 @@
+use Rattle.std.proofs.Common.{◌≡◌, Ok, Err, Some, None, OnOk, IfErr, rules}
+use Rattle.sqlite.specs.Held.{state}
+use Rattle.mailstore.specs.Refusals.{IsPassing}
+use Rattle.mailstore.proofs.AfterLemmas.{active_read, active_absent, active_refused}
+use Rattle.mailstore.proofs.store.Store.active.Goals as goal
+
+pub returns-in_err-profile : goal.returns-in_err-profile
+returns-in_err-profile g c =
+    let none : OnOk c.from_residual.result ⊥ = search rules in
+    let passing : IfErr c.from_residual.result IsPassing = search rules in
+    active_refused c.args.user.now (state g.S.Store c.args.self.now) (state g.S.Store c.account.new.self) c.account.result c.account.ensures c.from_residual.result none passing
+
+pub returns-in_default : goal.returns-in_default
+returns-in_default g c =
+    let is : c.account.result ≡ Ok None = cc in
+    active_absent c.args.user.now (state g.S.Store c.args.self.now) (state g.S.Store c.account.new.self) c.account.result is c.account.ensures
+
+pub returns : goal.returns
+returns g c =
+    let is : c.account.result ≡ Ok (Some c.in-Some.profile) = cc in
+    active_read c.args.user.now (state g.S.Store c.args.self.now) (state g.S.Store c.account.new.self) c.account.result c.in-Some.profile is c.account.ensures
