@@ -1,0 +1,3 @@
+pub mod ResponseLemmas
+pub mod PlanLemmas
+pub mod DeliveryLemmas
