@@ -1,5 +1,6 @@
 -- A plan meets the definition of a delivery, by what becomes of the message.
-use Rattle.std.proofs.Common.{◌≡◌, ℕ, ◌⊎◌, Bool, true, false, List, Option, Some, None, refl, ap, sym, ◌∙◌, subst, inl, inr}
+use Rattle.std.proofs.Common.{◌≡◌, ℕ, ◌⊎◌, Bool, true, false, List, Option, Some, None, refl, ap, sym, ◌∙◌, subst, inl, inr, Result, IfOk}
+use Rattle.std.specs.declared.alloc.AllocError.{AllocError}
 use Rattle.addrparts.specs.declared.address.Addr.{Addr}
 use Rattle.sievesyntax.specs.Tree.{Commands}
 use Rattle.sievesyntax.specs.Means.{Means}
@@ -33,14 +34,14 @@ pub keeping : (view : View) (moment : ℕ) (mail : MailSpec) (plan : Plan) (a : 
 keeping view moment mail plan a calm is of =
     record { disposition = Acts kept; disposes = at_ease None mail (Acts kept) calm refl; delivers = acting view moment mail kept plan a is of }
 
-pub running : (view : View) (moment : ℕ) (mail : MailSpec) (text : List ℕ) (tree : Commands) (deeds : Deeds) (plan : Plan) (a : Account)
-    → is_looping mail ≡ false → Means text tree → Done deeds ≡ outcome_at mail tree
+pub running : (view : View) (moment : ℕ) (mail : MailSpec) (text : List ℕ) (tree : Commands) (deeds done : Deeds) (plan : Plan) (a : Account)
+    → is_looping mail ≡ false → Means text tree → deeds ≡ done → Done done ≡ outcome_at mail tree
     → IsActingPlan view.address moment mail (moment_under view.replies) deeds plan → IsViewOf view mail.from a
     → Delivers view.address moment mail (Some text) a plan.report (delivers plan a)
-running view moment mail text tree deeds plan a calm means comes is of =
+running view moment mail text tree deeds done plan a calm means same comes is of =
     record {
       disposition = Acts deeds;
-      disposes = at_ease (Some text) mail (Acts deeds) calm (inl (tree, means, ap disposition_of comes));
+      disposes = at_ease (Some text) mail (Acts deeds) calm (inl (tree, means, ap (λ d. Acts d) same ∙ ap disposition_of comes));
       delivers = acting view moment mail deeds plan a is of;
     }
 
@@ -63,3 +64,15 @@ refusing own moment mail text plan a calm none is =
       disposes = at_ease (Some text) mail (Tells invalid_text) calm (inr (none, refl));
       delivers = telling moment mail invalid_text plan a is;
     }
+
+-- the plan does so for each account that the view is of
+abbrev pub Delivering : View → ℕ → MailSpec → Option (List ℕ) → Plan → Type 0
+Delivering view moment mail text plan =
+    (a : Account) → IsViewOf view mail.from a → Delivers view.address moment mail text a plan.report (delivers plan a)
+
+-- the text is the active script's
+pub under : (view : View) (moment : ℕ) (mail : MailSpec) (active text : Option (List ℕ)) (r : Result Plan AllocError)
+    → active ≡ text → IfOk r (Delivering view moment mail text) → IfOk r (Delivering view moment mail active)
+under view moment mail active text r same is =
+    let P : Option (List ℕ) → Type 0 = λ t. IfOk r (Delivering view moment mail t) in
+    subst P (sym same) is
