@@ -30,7 +30,7 @@ letter_last sender message letters letter a = fold-append (λ b one. sends sende
 -- the letters and what is remembered do what the deeds and the answer do
 done : (mail : MailSpec) (moment : ℕ) (deeds : Deeds) (answer : Answer) (a : Account)
     → remembers_if_any (reply_kept mail.from moment answer)
-      (sends_all mail.from mail.octets (with_letter (redirect_letters deeds.sent) (reply_letter mail.from answer)) (files_copies deeds.filed mail.octets a))
+    (sends_all mail.from mail.octets (with_letter (redirect_letters deeds.sent) (reply_letter mail.from answer)) (files_copies deeds.filed mail.octets a))
     ≡ answers mail moment answer (acts mail deeds a)
 done mail moment deeds Silent a = letters_sent mail deeds.sent (files_copies deeds.filed mail.octets a)
 done mail moment deeds (Quiet reason) a = letters_sent mail deeds.sent (files_copies deeds.filed mail.octets a)

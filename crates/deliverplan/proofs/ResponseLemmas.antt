@@ -11,10 +11,9 @@ use Rattle.vacreply.specs.declared.reason.Decision.TheVariants as D
 use Rattle.mailstore.specs.declared.report.VacationReport.TheVariants as V
 use Rattle.deliverplan.specs.declared.response.Response.{Response}
 use Rattle.deliverplan.specs.Delivered.{Answer, Quiet, Sent, Answers, Follows}
-use Rattle.deliverplan.specs.Plans.{FollowsUp, IsResponse}
+use Rattle.deliverplan.specs.Plans.{SendsReply, IsResponse, unsent_response}
 
 module _ (own : Addr) (moment : ℕ) (mail : MailSpec) (last : List ℕ → Option ℕ) (reply : Option VacArgs) (args : VacArgs) (there : reply ≡ Some args) where
-
   -- an answer that follows from the decision that was made on the mail as it was read, with what is kept under the key
   follows : (read : MailSpec) (key : List ℕ) (kept : Option ℕ) (decision : Decision) (answer : Answer)
       → read ≡ mail → key ≡ key_of (handle_of args) → kept ≡ last key → decision ≡ decision_of args read own kept moment
@@ -27,7 +26,7 @@ module _ (own : Addr) (moment : ℕ) (mail : MailSpec) (last : List ℕ → Opti
 
   pub sending : (read : MailSpec) (key : List ℕ) (kept : Option ℕ) (response : Response)
       → read ≡ mail → key ≡ key_of (handle_of args) → kept ≡ last key → D.Send ≡ decision_of args read own kept moment
-      → FollowsUp own moment mail args key response → IsResponse own moment mail last reply response
+      → SendsReply own moment mail args key response → IsResponse own moment mail last reply response
   sending read key kept response same known found decided is =
       record {
         answer = Sent key is.reply;
@@ -39,13 +38,12 @@ module _ (own : Addr) (moment : ℕ) (mail : MailSpec) (last : List ℕ → Opti
 
   pub staying_quiet : (read : MailSpec) (key : List ℕ) (kept : Option ℕ) (reason : Reason) (response : Response)
       → read ≡ mail → key ≡ key_of (handle_of args) → kept ≡ last key → D.Quiet reason ≡ decision_of args read own kept moment
-      → response.vacation ≡ V.Quiet (number_of reason) → response.letter ≡ None → response.remember ≡ None
-      → IsResponse own moment mail last reply response
-  staying_quiet read key kept reason response same known found decided told unsent unkept =
+      → response ≡ unsent_response (V.Quiet (number_of reason)) → IsResponse own moment mail last reply response
+  staying_quiet read key kept reason response same known found decided is =
       record {
         answer = Quiet reason;
         is_answer = follows read key kept (D.Quiet reason) (Quiet reason) same known found decided refl;
-        vacation = told;
-        letter = unsent;
-        remember = unkept;
+        vacation = ap (λ r. r.vacation) is;
+        letter = ap (λ r. r.letter) is;
+        remember = ap (λ r. r.remember) is;
       }

@@ -11,6 +11,7 @@ use Rattle.mailstore.specs.declared.report.Letter.{Letter}
 use Rattle.mailstore.specs.declared.report.Letter.TheVariants.{Redirect, Reply}
 use Rattle.mailstore.specs.declared.report.Remembered.{Remembered}
 use Rattle.mailstore.specs.declared.report.Plan.{Plan}
+use Rattle.mailstore.specs.declared.report.VacationReport.{VacationReport}
 use Rattle.deliverplan.specs.declared.response.Response.{Response}
 use Rattle.deliverplan.specs.Delivered.{Answer, Silent, Quiet, Sent, Answers, vacation_report, report_of, notice_report}
 
@@ -43,6 +44,18 @@ pub record IsResponse (own : Addr) (moment : ℕ) (mail : MailSpec) (last : List
   pub letter : response.letter ≡ reply_letter mail.from answer
   pub remember : response.remember ≡ reply_kept mail.from moment answer
 
+-- a response with this key is sent
+pub record SendsReply (own : Addr) (moment : ℕ) (mail : MailSpec) (args : VacArgs) (key : List ℕ) (response : Response) : Type 0 where
+  pub reply : List ℕ
+  pub is_reply : IsReply args mail own moment reply
+  pub vacation : response.vacation ≡ vacation_report (Sent key reply)
+  pub letter : response.letter ≡ reply_letter mail.from (Sent key reply)
+  pub remember : response.remember ≡ reply_kept mail.from moment (Sent key reply)
+
+-- no response is sent, and nothing is kept
+abbrev pub unsent_response : VacationReport → Response
+unsent_response vacation = record { vacation = vacation; letter = None; remember = None }
+
 -- a plan that carries out deeds and an answer to the sender
 pub record IsActingPlan (own : Addr) (moment : ℕ) (mail : MailSpec) (last : List ℕ → Option ℕ) (deeds : Deeds) (plan : Plan) : Type 0 where
   pub answer : Answer
@@ -64,11 +77,3 @@ pub record IsNoticePlan (moment : ℕ) (mail : MailSpec) (text : List ℕ) (plan
   pub remember : plan.remember ≡ None
   pub notice : plan.notice ≡ Some text
   pub report : plan.report ≡ notice_report text
-
--- a response with this key is sent
-pub record FollowsUp (own : Addr) (moment : ℕ) (mail : MailSpec) (args : VacArgs) (key : List ℕ) (response : Response) : Type 0 where
-  pub reply : List ℕ
-  pub is_reply : IsReply args mail own moment reply
-  pub vacation : response.vacation ≡ vacation_report (Sent key reply)
-  pub letter : response.letter ≡ reply_letter mail.from (Sent key reply)
-  pub remember : response.remember ≡ reply_kept mail.from moment (Sent key reply)

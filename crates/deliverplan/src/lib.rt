@@ -2,15 +2,15 @@
 #![tactic(auto)]
 
 mod delivery;
+pub mod laws;
 mod looping;
 mod notice;
 mod outcome;
-
 mod response;
 mod texts;
 mod view;
 
+pub use delivery::plan;
 pub use notice::failure_text;
 pub use outcome::outcome_on;
-pub use delivery::plan;
 pub use view::{KeptReply, View};

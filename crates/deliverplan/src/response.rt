@@ -1,9 +1,6 @@
 //! What is done about `vacation` (RFC 5230).
-ghost use Rattle.std.specs.Prelude.{◌≡◌, ◌≤◌, IfOk, option_copied, Some};
-ghost use Rattle.vacreply.specs.Handles.{handle_of, key_of};
-ghost use Rattle.vacreply.specs.declared.reason.Decision.TheVariants as D;
-ghost use Rattle.deliverplan.specs.Delivered.{Follows};
-ghost use Rattle.deliverplan.specs.Plans.{IsResponse, FollowsUp};
+ghost use Rattle.std.specs.Prelude.{◌≡◌, ◌≤◌, IfOk, option_copied};
+ghost use Rattle.deliverplan.specs.Plans.{IsResponse, SendsReply, unsent_response};
 ghost use Rattle.deliverplan.specs.Views.{moment_under};
 
 use crate::view::View;
@@ -41,11 +38,7 @@ pub(crate) fn respond(
     ensures { IfOk result (IsResponse view.now.address moment mail.now (moment_under view.now.replies) (option_copied reply.entry)) }
 {
     let Some(args) = reply else {
-        return Ok(Response {
-            vacation: VacationReport::None,
-            letter: None,
-            remember: None,
-        });
+        return Ok(unsent(VacationReport::None));
     };
     if !has_short_texts(args) {
         return Err(AllocError);
@@ -55,11 +48,18 @@ pub(crate) fn respond(
     let addressed = AddressedMail::read(alloc, mail)?;
     match decide(args, &addressed, &view.address, last, moment) {
         Decision::Send => send(alloc, view, mail, moment, args, key),
-        Decision::Quiet(reason) => Ok(Response {
-            vacation: VacationReport::Quiet(reason.number()),
-            letter: None,
-            remember: None,
-        }),
+        Decision::Quiet(reason) => Ok(unsent(VacationReport::Quiet(reason.number()))),
+    }
+}
+
+/// No response is sent, and nothing is kept.
+fn unsent(vacation: VacationReport) -> Response
+    ensures { result ≡ unsent_response vacation }
+{
+    Response {
+        vacation,
+        letter: None,
+        remember: None,
     }
 }
 
@@ -73,7 +73,7 @@ fn send(
     key: Octets,
 ) -> Result<Response, AllocError>
     requires { moment ≤ MAX_MOMENT }
-    ensures { IfOk result (FollowsUp view.now.address moment mail.now args.now key) }
+    ensures { IfOk result (SendsReply view.now.address moment mail.now args.now key) }
 {
     let message = reply_bytes(alloc, args, mail, &view.address, moment)?;
     let target = Octets::copy(alloc, mail.from())?;

@@ -22,10 +22,10 @@ returns-in_default c =
     let is = rw c.in_ok-filed.ensures at c.act.ensures in
     under c.args.view.now c.args.moment c.args.mail.now (contents c.args.active) None c.act.result none
     (IfOk-weaker c.act.result
-        (IsActingPlan c.args.view.now.address c.args.moment c.args.mail.now (moment_under c.args.view.now.replies) kept)
-        (Delivering c.args.view.now c.args.moment c.args.mail.now None)
-        (λ plan is a of. keeping c.args.view.now c.args.moment c.args.mail.now plan a calm is of)
-        is)
+    (IsActingPlan c.args.view.now.address c.args.moment c.args.mail.now (moment_under c.args.view.now.replies) kept)
+    (Delivering c.args.view.now c.args.moment c.args.mail.now None)
+    (λ plan is a of. keeping c.args.view.now c.args.moment c.args.mail.now plan a calm is of)
+    is)
 
 pub returns-in-Ok-Done : goal.returns-in-Ok-Done
 returns-in-Ok-Done c =
@@ -38,10 +38,10 @@ returns-in-Ok-Done c =
     let same : deeds ≡ done = rw (c.as_slice.ensures, c.as_ref.ensures.value) refl in
     under c.args.view.now c.args.moment c.args.mail.now (contents c.args.active) (Some c.in-Some.text.now) c.act-in-Ok-Done.result there
     (IfOk-weaker c.act-in-Ok-Done.result
-        (IsActingPlan c.args.view.now.address c.args.moment c.args.mail.now (moment_under c.args.view.now.replies) deeds)
-        (Delivering c.args.view.now c.args.moment c.args.mail.now (Some c.in-Some.text.now))
-        (λ plan is a of. running c.args.view.now c.args.moment c.args.mail.now c.in-Some.text.now valid.0 deeds done plan a calm valid.1 same comes is of)
-        c.act-in-Ok-Done.ensures)
+    (IsActingPlan c.args.view.now.address c.args.moment c.args.mail.now (moment_under c.args.view.now.replies) deeds)
+    (Delivering c.args.view.now c.args.moment c.args.mail.now (Some c.in-Some.text.now))
+    (λ plan is a of. running c.args.view.now c.args.moment c.args.mail.now c.in-Some.text.now valid.0 deeds done plan a calm valid.1 same comes is of)
+    c.act-in-Ok-Done.ensures)
 
 pub returns-in-Ok-Failed : goal.returns-in-Ok-Failed
 returns-in-Ok-Failed c =
@@ -52,10 +52,10 @@ returns-in-Ok-Failed c =
     let is = rw c.failure_text.ensures at c.leave_notice-in-Ok-Failed.ensures in
     under c.args.view.now c.args.moment c.args.mail.now (contents c.args.active) (Some c.in-Some.text.now) c.leave_notice-in-Ok-Failed.result there
     (IfOk-weaker c.leave_notice-in-Ok-Failed.result
-        (IsNoticePlan c.args.moment c.args.mail.now (failure_text (failure_view c.in-Ok-Failed.failure)))
-        (Delivering c.args.view.now c.args.moment c.args.mail.now (Some c.in-Some.text.now))
-        (λ plan is a of. failing c.args.view.now.address c.args.moment c.args.mail.now c.in-Some.text.now valid.0 (failure_view c.in-Ok-Failed.failure) plan a calm valid.1 comes is)
-        is)
+    (IsNoticePlan c.args.moment c.args.mail.now (failure_text (failure_view c.in-Ok-Failed.failure)))
+    (Delivering c.args.view.now c.args.moment c.args.mail.now (Some c.in-Some.text.now))
+    (λ plan is a of. failing c.args.view.now.address c.args.moment c.args.mail.now c.in-Some.text.now valid.0 (failure_view c.in-Ok-Failed.failure) plan a calm valid.1 comes is)
+    is)
 
 pub returns-in-Err-Fault : goal.returns-in-Err-Fault
 returns-in-Err-Fault c =
@@ -64,7 +64,7 @@ returns-in-Err-Fault c =
     let none = rw c.in-Err-Fault.field-0-is at c.in-Err-Fault.ensures.fault in
     under c.args.view.now c.args.moment c.args.mail.now (contents c.args.active) (Some c.in-Some.text.now) c.leave_notice-in-Err-Fault.result there
     (IfOk-weaker c.leave_notice-in-Err-Fault.result
-        (IsNoticePlan c.args.moment c.args.mail.now invalid_text)
-        (Delivering c.args.view.now c.args.moment c.args.mail.now (Some c.in-Some.text.now))
-        (λ plan is a of. refusing c.args.view.now.address c.args.moment c.args.mail.now c.in-Some.text.now plan a calm none is)
-        c.leave_notice-in-Err-Fault.ensures)
+    (IsNoticePlan c.args.moment c.args.mail.now invalid_text)
+    (Delivering c.args.view.now c.args.moment c.args.mail.now (Some c.in-Some.text.now))
+    (λ plan is a of. refusing c.args.view.now.address c.args.moment c.args.mail.now c.in-Some.text.now plan a calm none is)
+    c.leave_notice-in-Err-Fault.ensures)
