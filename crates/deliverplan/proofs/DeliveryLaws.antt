@@ -1,0 +1,58 @@
+-- A delivery has one report, and the account is one afterwards.
+use Rattle.std.proofs.Common.{◌≡◌, ℕ, ◌⊎◌, Bool, true, false, List, Option, Some, None, ap, sym, ◌∙◌, subst, inl, inr}
+use Rattle.addrparts.specs.declared.address.Addr.{Addr}
+use Rattle.sievesyntax.specs.Meaning.{Deeds}
+use Rattle.sievesyntax.specs.declared.vacation.VacArgs.{VacArgs}
+use Rattle.sieveexec.specs.Mails.{MailSpec}
+use Rattle.sieveexec.specs.Outcomes.{outcome_at}
+use Rattle.vacreply.specs.Handles.{handle_of, key_of}
+use Rattle.vacreply.specs.Reasons.{decision_of}
+use Rattle.vacreply.specs.declared.reason.Decision.{Decision}
+use Rattle.vacreply.specs.declared.reason.Decision.TheVariants as D
+use Rattle.vacreply.proofs.ReplyLaws.{one_reply}
+use Rattle.mailstore.specs.Account.{Account}
+use Rattle.mailstore.specs.declared.report.Report.{Report}
+use Rattle.deliverplan.specs.Views.{last_reply}
+use Rattle.deliverplan.specs.Delivered.{Disposition, Acts, Tells, DisposesIf, disposition_of, is_looping, Answer, Sent, Follows, Answers, acts, answers, report_of, CarriesOut, DeliversAs, Delivers, HasOneTree}
+
+-- a message comes to one disposition
+one_disposition : (looping : Bool) (text : Option (List ℕ)) (mail : MailSpec) (one two : Disposition)
+    → HasOneTree text → DisposesIf looping text mail one → DisposesIf looping text mail two → one ≡ two
+one_disposition true text mail one two only is was = is ∙ sym was
+one_disposition false None mail one two only is was = is ∙ sym was
+one_disposition false (Some text) mail one two only (inl (tree, means, is)) (inl (other, meant, was)) =
+    is ∙ (ap (λ t. disposition_of (outcome_at mail t)) (only tree other means meant) ∙ sym was)
+one_disposition false (Some text) mail one two only (inl (tree, means, is)) (inr (none, was)) = absurd (none tree means)
+one_disposition false (Some text) mail one two only (inr (none, is)) (inl (tree, means, was)) = absurd (none tree means)
+one_disposition false (Some text) mail one two only (inr (none, is)) (inr (nothing, was)) = is ∙ sym was
+
+-- one answer follows from a decision
+one_follows : (own : Addr) (moment : ℕ) (mail : MailSpec) (args : VacArgs) (decision : Decision) (one two : Answer)
+    → Follows own moment mail args decision one → Follows own moment mail args decision two → one ≡ two
+one_follows own moment mail args D.Send one two (reply, (is, here)) (other, (was, there)) =
+    here ∙ (ap (λ r. Sent (key_of (handle_of args)) r) (one_reply args mail own moment reply other is was) ∙ sym there)
+one_follows own moment mail args (D.Quiet reason) one two is was = is ∙ sym was
+
+one_answer : (own : Addr) (moment : ℕ) (mail : MailSpec) (last : List ℕ → Option ℕ) (reply : Option VacArgs) (one two : Answer)
+    → Answers own moment mail last reply one → Answers own moment mail last reply two → one ≡ two
+one_answer own moment mail last None one two is was = is ∙ sym was
+one_answer own moment mail last (Some args) one two is was =
+    one_follows own moment mail args (decision_of args mail own (last (key_of (handle_of args))) moment) one two is was
+
+one_carried : (own : Addr) (moment : ℕ) (mail : MailSpec) (deeds : Deeds) (a : Account) (one two : Report) (after other : Account)
+    → CarriesOut own moment mail deeds a one after → CarriesOut own moment mail deeds a two other → (one ≡ two) × (after ≡ other)
+one_carried own moment mail deeds a one two after other is was =
+    let same = one_answer own moment mail (last_reply a mail.from) deeds.reply is.answer was.answer is.is_answer was.is_answer in
+    (is.reported ∙ (ap (report_of deeds) same ∙ sym was.reported), is.changed ∙ (ap (λ x. answers mail moment x (acts mail deeds a)) same ∙ sym was.changed))
+
+one_delivered : (own : Addr) (moment : ℕ) (mail : MailSpec) (disposition : Disposition) (a : Account) (one two : Report) (after other : Account)
+    → DeliversAs own moment mail disposition a one after → DeliversAs own moment mail disposition a two other → (one ≡ two) × (after ≡ other)
+one_delivered own moment mail (Acts deeds) a one two after other is was = one_carried own moment mail deeds a one two after other is was
+one_delivered own moment mail (Tells text) a one two after other is was = (is.reported ∙ sym was.reported, is.changed ∙ sym was.changed)
+
+pub one_delivery : (own : Addr) (moment : ℕ) (mail : MailSpec) (text : Option (List ℕ)) (a : Account) (one two : Report) (after other : Account)
+    → HasOneTree text → Delivers own moment mail text a one after → Delivers own moment mail text a two other → (one ≡ two) × (after ≡ other)
+one_delivery own moment mail text a one two after other only is was =
+    let P : Disposition → Type 0 = λ d. DeliversAs own moment mail d a one after in
+    let same = one_disposition (is_looping mail) text mail is.disposition was.disposition only is.disposes was.disposes in
+    one_delivered own moment mail was.disposition a one two after other (subst P same is.delivers) was.delivers

@@ -1,0 +1,130 @@
+-- The definitions on small cases: one that is right, and one that nearly is.
+use Rattle.std.proofs.Common.{◌≡◌, ℕ, suc, true, false, List, [], ◌∷◌, ◌++◌, codes, Option, Some, None, refl, ap, sym, ◌∙◌}
+use Rattle.std.specs.Prelude.{replicate}
+use Rattle.mailhead.specs.Fields.{FieldText}
+use Rattle.addrparts.specs.declared.address.Addr.{Addr}
+use Rattle.sievesyntax.specs.SoFar.{TwoVacations, TooManyRedirects, inbox}
+use Rattle.sievesyntax.specs.Meaning.{Deeds, Failed}
+use Rattle.sievesyntax.specs.declared.vacation.VacArgs.{VacArgs}
+use Rattle.sieveexec.specs.Mails.{MailSpec}
+use Rattle.vacreply.specs.Reasons.{decision_of}
+use Rattle.vacreply.specs.declared.reason.Decision.TheVariants as D
+use Rattle.vacreply.specs.declared.reason.Reason.TheVariants as R
+use Rattle.mailstore.specs.Account.{Account, files_copies, notes, remembers}
+use Rattle.mailstore.specs.declared.queue.Kind.TheVariants.{Redirect, Reply}
+use Rattle.mailstore.specs.declared.report.VacationReport.TheVariants as V
+use Rattle.deliverplan.specs.Views.{last_reply, moment_under}
+use Rattle.deliverplan.specs.Delivered.{Disposition, Acts, Tells, Disposes, disposition_of, invalid_text, is_looping, is_received, kept, loop_text, Answer, Silent, Quiet, Sent, Answers, acts, answers, redirects, report_of, notice_report, CarriesOut, LeavesNotice, Delivers}
+use Rattle.deliverplan.proofs.DeliveryLaws.{one_delivery}
+
+abbrev alice : Addr
+alice = record { local = codes "alice"; domain = codes "example.org" }
+
+-- a local part with a blank is quoted
+abbrev carol : Addr
+carol = record { local = codes "c d"; domain = codes "example.com" }
+
+abbrev bob : List ℕ
+bob = codes "Bob@example.net"
+
+abbrev field : List ℕ → FieldText
+field name = record { name = name; raw = codes " x" }
+
+abbrev mail_with : List ℕ → List FieldText → MailSpec
+mail_with sender fields = record { fields = fields; from = sender; to = codes "alice@example.org"; size = 1; octets = 65 ∷ [] }
+
+abbrev away : VacArgs
+away = record { days = None; subject = None; from = None; addresses = []; mime = false; handle = None; reason = codes "Away." }
+
+-- ---- what becomes of a message
+
+-- case ignored; a longer name is another field
+received : (is_received (field (codes "RECEIVED")) ≡ true) × (is_received (field (codes "Received-SPF")) ≡ false)
+received = (refl, refl)
+
+-- 101 are too many, 100 aren't
+loops : (is_looping (mail_with bob (replicate 101 (field (codes "Received")))) ≡ true)
+    × (is_looping (mail_with bob (field (codes "Subject") ∷ replicate 100 (field (codes "Received")))) ≡ false)
+loops = (refl, refl)
+
+-- without a script the message is kept; near misses: it is dropped, or the user is told
+kept_without_script : Disposes None (mail_with bob []) (Acts kept)
+kept_without_script = refl
+
+dropped_without_script : Disposes None (mail_with bob []) (Acts (record { filed = []; sent = []; reply = None })) → ⊥
+dropped_without_script same = let is : [] ≡ inbox ∷ [] = ap (λ d. elim d as (λ _. List (List ℕ)) [ Acts deeds ↦ deeds.filed | Tells text ↦ [] ]) same in cc
+
+told_without_script : Disposes None (mail_with bob []) (Tells invalid_text) → ⊥
+told_without_script same = cc
+
+-- the count goes before the script, also where there is none
+looping_without_script : Disposes None (mail_with bob (replicate 101 (field (codes "Received")))) (Tells loop_text)
+looping_without_script = refl
+
+failures : (disposition_of (Failed TwoVacations) ≡ Tells (codes "vacation executed twice")) × (disposition_of (Failed TooManyRedirects) ≡ Tells (codes "more than 16 redirects"))
+failures = (refl, refl)
+
+-- ---- the answer to the sender
+
+-- the null sender is answered nothing, and nothing of it is kept; near miss: it is answered
+null_sender : Answers alice 5 (mail_with [] []) (λ key. None) (Some away) (Quiet R.NullSender)
+null_sender = refl
+
+null_sender_answered : (key reply : List ℕ) → Answers alice 5 (mail_with [] []) (λ key. None) (Some away) (Sent key reply) → ⊥
+null_sender_answered key reply is = cc
+
+-- without `vacation` there is no reason either
+no_vacation : (own : Addr) (mail : MailSpec) → Answers own 5 mail (λ key. None) None (Quiet R.NullSender) → ⊥
+no_vacation own mail is = cc
+
+-- a moment is kept under its own key
+kept_moments : (moment_under (record { handle = codes "a"; moment = 1 } ∷ record { handle = codes "b"; moment = 2 } ∷ []) (codes "b") ≡ Some 2)
+    × (moment_under (record { handle = codes "a"; moment = 1 } ∷ []) (codes "ab") ≡ None)
+kept_moments = (refl, refl)
+
+-- ---- the account afterwards
+
+-- two addresses, in order, each as it is spelled, from the sender as received
+two_redirects : (a : Account) → (redirects (mail_with bob []) (alice ∷ carol ∷ []) a).queue
+    ≡ a.queue ++ record { id = a.next_out; kind = Redirect; sender = bob; target = codes "alice@example.org"; message = 65 ∷ [] } ∷ []
+    ++ record { id = suc a.next_out; kind = Redirect; sender = bob; target = codes "\"c d\"@example.com"; message = 65 ∷ [] } ∷ []
+two_redirects a = refl
+
+-- a response goes out from the empty sender
+reply_row : (a : Account) → (answers (mail_with bob []) 5 (Sent (codes "k") (codes "r")) a).queue
+    ≡ a.queue ++ record { id = a.next_out; kind = Reply; sender = []; target = bob; message = codes "r" } ∷ []
+reply_row a = refl
+
+-- its moment is kept for the sender in lower case; where none is sent, nothing changes
+reply_moment : (a : Account) → (answers (mail_with bob []) 5 (Sent (codes "k") (codes "r")) a).replies ≡ (remembers (codes "k") (codes "bob@example.net") 5 a).replies
+reply_moment a = refl
+
+quiet_changes_nothing : (a : Account) → answers (mail_with bob []) 5 (Quiet R.TooSoon) a ≡ a
+quiet_changes_nothing a = refl
+
+-- ---- what is reported
+
+reports : (report_of (record { filed = inbox ∷ []; sent = carol ∷ []; reply = Some away }) (Quiet R.TooSoon)
+    ≡ record { filed = inbox ∷ []; sent = codes "\"c d\"@example.com" ∷ []; vacation = V.Quiet 9; notice = None })
+    × (notice_report (codes "n") ≡ record { filed = inbox ∷ []; sent = []; vacation = V.None; notice = Some (codes "n") })
+reports = (refl, refl)
+
+-- ---- a delivery
+
+delivered : (a : Account) → Delivers alice 5 (mail_with bob []) None a (report_of kept Silent) (files_copies (inbox ∷ []) (65 ∷ []) a)
+delivered a =
+    record {
+      disposition = Acts kept;
+      disposes = refl;
+      delivers = record { answer = Silent; is_answer = refl; reported = refl; changed = refl };
+    }
+
+looped : (a : Account) → Delivers alice 5 (mail_with bob (replicate 101 (field (codes "Received")))) None a (notice_report loop_text) (notes 5 loop_text (files_copies (inbox ∷ []) (65 ∷ []) a))
+looped a = record { disposition = Tells loop_text; disposes = refl; delivers = record { reported = refl; changed = refl } }
+
+-- near miss: the delivery leaves a notice, and doesn't tell of it
+silent_notice : (a after : Account) → Delivers alice 5 (mail_with bob (replicate 101 (field (codes "Received")))) None a (report_of kept Silent) after → ⊥
+silent_notice a after is =
+    let same = one_delivery alice 5 (mail_with bob (replicate 101 (field (codes "Received")))) None a (report_of kept Silent) (notice_report loop_text) after _ tt is (looped a) in
+    let told : None ≡ Some loop_text = ap (λ r. r.notice) same.0 in
+    cc

@@ -1,0 +1,160 @@
+-- What a delivery makes of an account, and what it reports (RFC 5228, 2.10; RFC 5230).
+use Rattle.std.specs.Prelude.{◌≡◌, ℕ, ◌⊎◌, nat_lt, Bool, true, false, List, [], ◌∷◌, map, codes, count_by, Option, None, Some}
+use Rattle.std.specs.List.{fold}
+use Rattle.mailhead.specs.Fields.{FieldText}
+use Rattle.addrparts.specs.declared.address.Addr.{Addr}
+use Rattle.addrparts.specs.Spelling.{spelling}
+use Rattle.sievesyntax.specs.Tree.{Commands}
+use Rattle.sievesyntax.specs.Means.{Means}
+use Rattle.sievesyntax.specs.SoFar.{Failure, TwoVacations, TooManyRedirects, inbox}
+use Rattle.sievesyntax.specs.Meaning.{Deeds, Outcome, Done, Failed}
+use Rattle.sievesyntax.specs.declared.vacation.VacArgs.{VacArgs}
+use Rattle.sieveexec.specs.Mails.{MailSpec}
+use Rattle.sieveexec.specs.Outcomes.{outcome_at}
+use Rattle.vacreply.specs.Cases.{same_text}
+use Rattle.vacreply.specs.Handles.{handle_of, key_of}
+use Rattle.vacreply.specs.Layout.{IsReply}
+use Rattle.vacreply.specs.Reasons.{decision_of, number_of}
+use Rattle.vacreply.specs.declared.reason.Reason.{Reason}
+use Rattle.vacreply.specs.declared.reason.Decision.{Decision}
+use Rattle.vacreply.specs.declared.reason.Decision.TheVariants as D
+use Rattle.mailstore.specs.Account.{Account, files_copies, queues, remembers, notes}
+use Rattle.mailstore.specs.declared.queue.Kind.TheVariants as kind
+use Rattle.mailstore.specs.declared.report.Report.{Report}
+use Rattle.mailstore.specs.declared.report.VacationReport.{VacationReport}
+use Rattle.mailstore.specs.declared.report.VacationReport.TheVariants as V
+use Rattle.deliverplan.specs.Views.{last_reply}
+
+-- ---- what becomes of a message
+
+-- what the script does is carried out; or the message goes into INBOX, and the user is left a notice with this text
+pub data Disposition : Type 0 where
+  Acts : Deeds → Disposition
+  Tells : List ℕ → Disposition
+
+-- the notice on a run that failed (RFC 5228, 2.10.6)
+abbrev pub failure_text : Failure → List ℕ
+failure_text TwoVacations = codes "vacation executed twice"
+failure_text TooManyRedirects = codes "more than 16 redirects"
+
+-- the notice on a message that may go round in a loop
+abbrev pub loop_text : List ℕ
+loop_text = codes "more than 100 Received fields"
+
+-- the notice on an active text that means no tree
+abbrev pub invalid_text : List ℕ
+invalid_text = codes "script is not valid"
+
+-- a field that each host adds which passes the message on, case ignored (RFC 5321, 4.4)
+abbrev pub is_received : FieldText → Bool
+is_received field = same_text (codes "received") field.name
+
+-- more than 100 of them: the message may go round in a loop (RFC 5321, 6.3)
+abbrev pub is_looping : MailSpec → Bool
+is_looping mail = nat_lt 100 (count_by is_received mail.fields)
+
+abbrev pub disposition_of : Outcome → Disposition
+disposition_of (Done deeds) = Acts deeds
+disposition_of (Failed failure) = Tells (failure_text failure)
+
+-- the implicit keep, and nothing else (RFC 5228, 2.10.2)
+abbrev pub kept : Deeds
+kept = record { filed = inbox ∷ []; sent = []; reply = None }
+
+-- under the text of a script: what its tree comes to, where it means one
+abbrev pub DisposesBy : List ℕ → MailSpec → Disposition → Type 0
+DisposesBy text mail disposition =
+    ((tree : Commands) × Means text tree × (disposition ≡ disposition_of (outcome_at mail tree)))
+    ⊎ (((tree : Commands) → Means text tree → ⊥) × (disposition ≡ Tells invalid_text))
+
+-- under the text of the active script, if there is one
+abbrev pub DisposesUnder : Option (List ℕ) → MailSpec → Disposition → Type 0
+DisposesUnder None mail disposition = disposition ≡ Acts kept
+DisposesUnder (Some text) mail disposition = DisposesBy text mail disposition
+
+-- a message that may go round in a loop runs no script
+abbrev pub DisposesIf : Bool → Option (List ℕ) → MailSpec → Disposition → Type 0
+DisposesIf true text mail disposition = disposition ≡ Tells loop_text
+DisposesIf false text mail disposition = DisposesUnder text mail disposition
+
+abbrev pub Disposes : Option (List ℕ) → MailSpec → Disposition → Type 0
+Disposes text mail disposition = DisposesIf (is_looping mail) text mail disposition
+
+-- ---- the answer to the sender
+
+-- no `vacation` was executed; a reason stands against a response; or a response with these octets is sent, known by this key
+pub data Answer : Type 0 where
+  Silent : Answer
+  Quiet : Reason → Answer
+  Sent : List ℕ → List ℕ → Answer
+
+-- what is answered where the decision on a response is made
+abbrev pub Follows : Addr → ℕ → MailSpec → VacArgs → Decision → Answer → Type 0
+Follows own moment mail args D.Send answer =
+    (reply : List ℕ) × (IsReply args mail own moment reply × (answer ≡ Sent (key_of (handle_of args)) reply))
+Follows own moment mail args (D.Quiet reason) answer = answer ≡ Quiet reason
+
+-- what the sender is answered by the user with this address at this moment; last gives the moment that is kept under a key
+abbrev pub Answers : Addr → ℕ → MailSpec → (List ℕ → Option ℕ) → Option VacArgs → Answer → Type 0
+Answers own moment mail last None answer = answer ≡ Silent
+Answers own moment mail last (Some args) answer =
+    Follows own moment mail args (decision_of args mail own (last (key_of (handle_of args))) moment) answer
+
+-- ---- the account afterwards
+
+-- the message is queued for each of the addresses, in order
+abbrev pub redirects : MailSpec → List Addr → Account → Account
+redirects mail targets a = fold (λ b target. queues kind.Redirect mail.from (spelling target) mail.octets b) a targets
+
+-- the message joins the end of each folder, and then it is queued
+abbrev pub acts : MailSpec → Deeds → Account → Account
+acts mail deeds a = redirects mail deeds.sent (files_copies deeds.filed mail.octets a)
+
+-- a response is queued for the sender, and its moment is kept; nothing is kept of one that isn't sent
+abbrev pub answers : MailSpec → ℕ → Answer → Account → Account
+answers mail moment Silent a = a
+answers mail moment (Quiet reason) a = a
+answers mail moment (Sent key reply) a = remembers key mail.from moment (queues kind.Reply [] mail.from reply a)
+
+-- ---- what is reported
+
+abbrev pub vacation_report : Answer → VacationReport
+vacation_report Silent = V.None
+vacation_report (Quiet reason) = V.Quiet (number_of reason)
+vacation_report (Sent key reply) = V.Sent
+
+abbrev pub report_of : Deeds → Answer → Report
+report_of deeds answer = record { filed = deeds.filed; sent = map spelling deeds.sent; vacation = vacation_report answer; notice = None }
+
+abbrev pub notice_report : List ℕ → Report
+notice_report text = record { filed = inbox ∷ []; sent = []; vacation = V.None; notice = Some text }
+
+-- ---- a delivery
+
+-- the deeds are carried out, and the sender is answered
+pub record CarriesOut (own : Addr) (moment : ℕ) (mail : MailSpec) (deeds : Deeds) (a : Account) (report : Report) (a2 : Account) : Type 0 where
+  pub answer : Answer
+  pub is_answer : Answers own moment mail (last_reply a mail.from) deeds.reply answer
+  pub reported : report ≡ report_of deeds answer
+  pub changed : a2 ≡ answers mail moment answer (acts mail deeds a)
+
+-- the message joins INBOX, and a notice the others; nothing is sent
+pub record LeavesNotice (moment : ℕ) (mail : MailSpec) (text : List ℕ) (a : Account) (report : Report) (a2 : Account) : Type 0 where
+  pub reported : report ≡ notice_report text
+  pub changed : a2 ≡ notes moment text (files_copies (inbox ∷ []) mail.octets a)
+
+abbrev pub DeliversAs : Addr → ℕ → MailSpec → Disposition → Account → Report → Account → Type 0
+DeliversAs own moment mail (Acts deeds) a report a2 = CarriesOut own moment mail deeds a report a2
+DeliversAs own moment mail (Tells text) a report a2 = LeavesNotice moment mail text a report a2
+
+-- a mail is delivered to an account with this address at a moment, under the text of its active script, if one is active:
+-- what it reports, and the account afterwards
+pub record Delivers (own : Addr) (moment : ℕ) (mail : MailSpec) (text : Option (List ℕ)) (a : Account) (report : Report) (a2 : Account) : Type 0 where
+  pub disposition : Disposition
+  pub disposes : Disposes text mail disposition
+  pub delivers : DeliversAs own moment mail disposition a report a2
+
+-- the text, if there is one, means one tree at most
+abbrev pub HasOneTree : Option (List ℕ) → Type 0
+HasOneTree None = Unit {0}
+HasOneTree (Some text) = (one two : Commands) → Means text one → Means text two → one ≡ two

@@ -1,0 +1,155 @@
+//! What a delivery is to write and to report.
+ghost use Rattle.std.specs.Prelude.{◌≡◌, ◌≤◌, IfOk, OnOk, option_copied};
+ghost use Rattle.sievesyntax.specs.Meaning.{Deeds};
+ghost use Rattle.mailstore.specs.Account.{Account, delivers};
+ghost use Rattle.mailstore.specs.Cells.{contents};
+ghost use Rattle.deliverplan.specs.Delivered.{Delivers};
+ghost use Rattle.deliverplan.specs.Plans.{IsActingPlan, IsNoticePlan, redirect_letters, with_letter};
+ghost use Rattle.deliverplan.specs.Views.{IsViewOf, moment_under};
+
+use crate::looping::is_looping;
+use crate::notice::{INVALID_TEXT, LOOP_TEXT, failure_text};
+use crate::outcome::outcome_on;
+use crate::response::{Response, respond};
+use crate::texts::{copied, inbox, spelled};
+use crate::view::View;
+use addrparts::{Addr, spell};
+use mailstore::{Letter, Plan, Report, VacationReport};
+use octets::{ListOf, Octets, Texts};
+use sieveexec::{Mail, Outcome};
+use sievelex::ScriptError;
+use sievesyntax::VacArgs;
+use std::alloc::{AllocError, Global};
+use vacreply::MAX_MOMENT;
+
+/// What a delivery of a mail is to write and to report, under the text of the account's active script, if one is active.
+///
+/// A moment is in seconds since 1 January 1970, up to [`MAX_MOMENT`]. The text is checked, compiled and run once; the
+/// fields are looked through once more for Received, and where a `vacation` was executed for the reasons to send no
+/// response. The message and the sender are borrowed: no copy of the message is made. Lack of memory is the only error;
+/// a `:subject` or `:from` of 2^32 octets and more, which no script within the limits has, is answered so too.
+pub fn plan<'m>(
+    alloc: Global,
+    view: &View,
+    active: Option<&[u8]>,
+    mail: &'m Mail<'_>,
+    moment: u64,
+) -> Result<Plan<'m>, AllocError>
+    requires { moment ≤ MAX_MOMENT }
+    ensures { IfOk result (λ plan. (a : Account) → IsViewOf view.now mail.now.from a
+        → Delivers view.now.address moment mail.now (contents active.entry) a plan.report (delivers plan a)) }
+{
+    if is_looping(mail) {
+        return leave_notice(alloc, mail, moment, LOOP_TEXT);
+    }
+    let Some(text) = active else {
+        let filed = inbox(alloc)?;
+        return act(alloc, view, mail, moment, filed, &[], None);
+    };
+    match outcome_on(alloc, text, mail) {
+        Ok(Outcome::Done { filed, sent, reply }) => act(
+            alloc,
+            view,
+            mail,
+            moment,
+            filed,
+            sent.as_slice(),
+            reply.as_ref(),
+        ),
+        Ok(Outcome::Failed(failure)) => leave_notice(alloc, mail, moment, failure_text(failure)),
+        Err(ScriptError::Fault(_)) => leave_notice(alloc, mail, moment, INVALID_TEXT),
+        Err(ScriptError::Memory) => Err(AllocError),
+    }
+}
+
+/// The message joins INBOX, and the user is left a notice.
+fn leave_notice<'m>(
+    alloc: Global,
+    mail: &'m Mail<'_>,
+    moment: u64,
+    text: &[u8],
+) -> Result<Plan<'m>, AllocError>
+    ensures { IfOk result (IsNoticePlan moment mail.now text.now) }
+{
+    let copies = inbox(alloc)?;
+    let filed = inbox(alloc)?;
+    let notice = Octets::copy(alloc, text)?;
+    let told = Octets::copy(alloc, text)?;
+    Ok(Plan {
+        message: mail.message(),
+        sender: mail.from(),
+        moment,
+        copies,
+        outgoing: ListOf::new(alloc),
+        remember: None,
+        notice: Some(notice),
+        report: Report {
+            filed,
+            sent: Texts::new(alloc),
+            vacation: VacationReport::None,
+            notice: Some(told),
+        },
+    })
+}
+
+/// The message joins these mailboxes and is sent to these addresses, and the sender is answered.
+fn act<'m>(
+    alloc: Global,
+    view: &View,
+    mail: &'m Mail<'_>,
+    moment: u64,
+    filed: Texts,
+    targets: &[Addr],
+    reply: Option<&VacArgs>,
+) -> Result<Plan<'m>, AllocError>
+    requires { moment ≤ MAX_MOMENT }
+    ensures { IfOk result (IsActingPlan view.now.address moment mail.now (moment_under view.now.replies)
+        (record { filed = filed; sent = targets.now; reply = option_copied reply.entry })) }
+{
+    let copies = copied(alloc, filed.as_slice())?;
+    let sent = spelled(alloc, targets)?;
+    let mut outgoing = redirects(alloc, targets)?;
+    let Response {
+        vacation,
+        letter,
+        remember,
+    } = respond(alloc, view, mail, moment, reply)?;
+    push_some(&mut outgoing, letter)?;
+    Ok(Plan {
+        message: mail.message(),
+        sender: mail.from(),
+        moment,
+        copies,
+        outgoing,
+        remember,
+        notice: None,
+        report: Report {
+            filed,
+            sent,
+            vacation,
+            notice: None,
+        },
+    })
+}
+
+/// The letters that send a message on to these addresses.
+fn redirects(alloc: Global, targets: &[Addr]) -> Result<ListOf<Letter>, AllocError>
+    ensures { IfOk result (λ letters. letters ≡ redirect_letters targets.now) }
+{
+    let mut letters = ListOf::new(alloc);
+    for address in targets {
+        let target = spell(alloc, address)?;
+        letters.push(Letter::Redirect { target })?;
+    }
+    Ok(letters)
+}
+
+/// Appends a letter, if there is one.
+fn push_some(letters: &mut ListOf<Letter>, letter: Option<Letter>) -> Result<(), AllocError>
+    ensures { OnOk result (letters.new ≡ with_letter letters.old letter) }
+{
+    let Some(letter) = letter else {
+        return Ok(());
+    };
+    letters.push(letter)
+}

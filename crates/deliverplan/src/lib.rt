@@ -1,0 +1,16 @@
+//! What a delivery is to write and to report: the definition of a delivery, and the plan that meets it (RFC 5228, 2.10).
+#![tactic(auto)]
+
+mod delivery;
+pub mod laws;
+mod looping;
+mod notice;
+mod outcome;
+mod response;
+mod texts;
+mod view;
+
+pub use delivery::plan;
+pub use notice::failure_text;
+pub use outcome::outcome_on;
+pub use view::{KeptReply, View};

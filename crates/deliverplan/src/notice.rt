@@ -1,0 +1,22 @@
+//! What the user is told of a message that the script doesn't decide on.
+ghost use Rattle.std.specs.Prelude.{◌≡◌};
+ghost use Rattle.sieveexec.specs.Runs.{failure_view};
+ghost use Rattle.deliverplan.specs.Delivered.{failure_text};
+
+use sieveexec::Failure;
+
+/// The notice on a message that may go round in a loop.
+pub(crate) const LOOP_TEXT: &[u8] = b"more than 100 Received fields";
+
+/// The notice on an active text that is no valid script.
+pub(crate) const INVALID_TEXT: &[u8] = b"script is not valid";
+
+/// The notice on a run that failed (RFC 5228, 2.10.6): `more than 16 redirects`. Takes no memory.
+pub fn failure_text(failure: Failure) -> &'static [u8]
+    ensures { result.now ≡ failure_text (failure_view failure) }
+{
+    match failure {
+        Failure::TwoVacations => b"vacation executed twice",
+        Failure::TooManyRedirects => b"more than 16 redirects",
+    }
+}

@@ -1,0 +1,34 @@
+//! One script run on one mail.
+ghost use Rattle.std.specs.Prelude.{◌≡◌, ◌≤◌, ◌+◌, IfOk};
+ghost use Rattle.sievelex.specs.Finding.{IfFault, IfFaultLine};
+ghost use Rattle.sievelex.specs.Text.{line_ends};
+ghost use Rattle.sievesyntax.specs.Tree.{Commands};
+ghost use Rattle.sievesyntax.specs.Means.{Means};
+ghost use Rattle.sieveexec.specs.Outcomes.{outcome_at};
+ghost use Rattle.sieveexec.specs.Runs.{outcome_view};
+
+use sievecode::compile;
+use sieveexec::{Mail, Outcome, run};
+use sievelex::ScriptError;
+use sievesyntax::check;
+use std::alloc::Global;
+
+/// What a script comes to on a mail (RFC 5228, 2.10), or why it is no valid script.
+///
+/// Nothing is filed, sent or answered: the outcome says what would be. The script is compiled in time linear in it, and
+/// each of its tests is asked once at most; the values of a field are decoded once, where a test asks for them. Memory is
+/// in proportion to the script and to the values that tests ask for.
+///
+/// # Errors
+///
+/// [`ScriptError::Fault`] where the text is no valid script, and [`ScriptError::Memory`] where memory was refused.
+pub fn outcome_on(alloc: Global, script: &[u8], mail: &Mail<'_>) -> Result<Outcome, ScriptError>
+    ensures valid { IfOk result (λ done. (tree : Commands) × Means script.now tree) }
+    ensures done { IfOk result (λ done. (tree : Commands) → Means script.now tree → outcome_view done ≡ outcome_at mail.now tree) }
+    ensures fault { IfFault result ((tree : Commands) → Means script.now tree → ⊥) }
+    ensures line { IfFaultLine result (λ line. (1 ≤ line) × (line ≤ 1 + line_ends script.now)) }
+{
+    let checked = check(alloc, script)?;
+    let code = compile(alloc, &checked)?;
+    Ok(run(alloc, &code, mail)?)
+}

@@ -1,0 +1,90 @@
+//! What is done about `vacation` (RFC 5230).
+ghost use Rattle.std.specs.Prelude.{◌≡◌, ◌≤◌, IfOk, option_copied};
+ghost use Rattle.deliverplan.specs.Plans.{IsResponse, SendsReply, unsent_response};
+ghost use Rattle.deliverplan.specs.Views.{moment_under};
+
+use crate::view::View;
+use mailstore::{Letter, Remembered, VacationReport};
+use octets::Octets;
+use sieveexec::Mail;
+use sievesyntax::VacArgs;
+use std::alloc::{AllocError, Global};
+use vacreply::{
+    AddressedMail, Decision, MAX_MOMENT, decide, handle_key, has_short_texts, reply_bytes,
+};
+
+/// What is to be done of an answer to the sender.
+#[derive(Drop)]
+pub struct Response {
+    pub vacation: VacationReport,
+    /// The response, if one is sent.
+    pub letter: Option<Letter>,
+    /// Its moment, if one is sent.
+    pub remember: Option<Remembered>,
+}
+
+/// What is done about the `vacation` that was executed, if one was.
+///
+/// The recipients of the mail are read where one was. A subject or `:from` of 2^32 octets and more, which no script within
+/// the limits has, is refused as lack of memory.
+pub(crate) fn respond(
+    alloc: Global,
+    view: &View,
+    mail: &Mail<'_>,
+    moment: u64,
+    reply: Option<&VacArgs>,
+) -> Result<Response, AllocError>
+    requires { moment ≤ MAX_MOMENT }
+    ensures { IfOk result (IsResponse view.now.address moment mail.now (moment_under view.now.replies) (option_copied reply.entry)) }
+{
+    let Some(args) = reply else {
+        return Ok(unsent(VacationReport::None));
+    };
+    if !has_short_texts(args) {
+        return Err(AllocError);
+    }
+    let key = handle_key(alloc, args)?;
+    let last = view.moment_under(key.as_slice());
+    let addressed = AddressedMail::read(alloc, mail)?;
+    match decide(args, &addressed, &view.address, last, moment) {
+        Decision::Send => send(alloc, view, mail, moment, args, key),
+        Decision::Quiet(reason) => Ok(unsent(VacationReport::Quiet(reason.number()))),
+    }
+}
+
+/// No response is sent, and nothing is kept.
+fn unsent(vacation: VacationReport) -> Response
+    ensures { result ≡ unsent_response vacation }
+{
+    Response {
+        vacation,
+        letter: None,
+        remember: None,
+    }
+}
+
+/// The response with this key is sent, and its moment is kept.
+fn send(
+    alloc: Global,
+    view: &View,
+    mail: &Mail<'_>,
+    moment: u64,
+    args: &VacArgs,
+    key: Octets,
+) -> Result<Response, AllocError>
+    requires { moment ≤ MAX_MOMENT }
+    ensures { IfOk result (SendsReply view.now.address moment mail.now args.now key) }
+{
+    let message = reply_bytes(alloc, args, mail, &view.address, moment)?;
+    let target = Octets::copy(alloc, mail.from())?;
+    let sender = Octets::copy(alloc, mail.from())?;
+    Ok(Response {
+        vacation: VacationReport::Sent,
+        letter: Some(Letter::Reply { target, message }),
+        remember: Some(Remembered {
+            handle: key,
+            sender,
+            moment,
+        }),
+    })
+}

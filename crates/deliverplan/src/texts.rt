@@ -1,0 +1,42 @@
+//! Lists of texts.
+ghost use Rattle.std.specs.Prelude.{◌≡◌, [], ◌∷◌, map, IfOk};
+ghost use Rattle.addrparts.specs.Spelling.{spelling};
+ghost use Rattle.sievesyntax.specs.SoFar.{inbox as inbox_of};
+
+use addrparts::{Addr, spell};
+use octets::{Octets, Texts};
+use std::alloc::{AllocError, Global};
+
+/// The mailbox of a message that no script files.
+const INBOX: &[u8] = b"INBOX";
+
+/// INBOX alone.
+pub(crate) fn inbox(alloc: Global) -> Result<Texts, AllocError>
+    ensures { IfOk result (λ filed. filed ≡ inbox_of ∷ []) }
+{
+    let mut filed = Texts::new(alloc);
+    filed.push(Octets::copy(alloc, INBOX)?)?;
+    Ok(filed)
+}
+
+/// The same texts.
+pub(crate) fn copied(alloc: Global, texts: &[Octets]) -> Result<Texts, AllocError>
+    ensures { IfOk result (λ copy. copy ≡ texts.now) }
+{
+    let mut copy = Texts::new(alloc);
+    for text in texts {
+        copy.push(text.copied(alloc)?)?;
+    }
+    Ok(copy)
+}
+
+/// Addresses as they are written.
+pub(crate) fn spelled(alloc: Global, addresses: &[Addr]) -> Result<Texts, AllocError>
+    ensures { IfOk result (λ texts. texts ≡ map spelling addresses.now) }
+{
+    let mut texts = Texts::new(alloc);
+    for address in addresses {
+        texts.push(spell(alloc, address)?)?;
+    }
+    Ok(texts)
+}

@@ -1,0 +1,38 @@
+//! What a delivery has to know of the account, beside the text of its active script.
+ghost use Rattle.std.specs.Prelude.{◌≡◌};
+ghost use Rattle.deliverplan.specs.Views.{moment_under};
+
+use addrparts::Addr;
+use octets::{ListOf, Octets};
+
+/// The moment of the last response to a sender, by the key of its handle.
+#[derive(Debug, Drop)]
+pub struct KeptReply {
+    /// The key of the response's handle, any octets.
+    pub handle: Octets,
+    /// In seconds since 1 January 1970.
+    pub moment: u64,
+}
+
+/// What a delivery has to know of the account, beside the text of its active script.
+#[derive(Debug, Drop)]
+pub struct View {
+    /// The account's address.
+    pub address: Addr,
+    /// The moments that are kept of responses to the sender, case ignored in the sender; each key once, in any order.
+    pub replies: ListOf<KeptReply>,
+}
+
+impl View {
+    /// The moment that is kept under a key, if one is. One pass; takes no memory.
+    pub(crate) fn moment_under(&self, key: &[u8]) -> Option<u64>
+        ensures { result ≡ moment_under self.now.replies key.now }
+    {
+        for kept in self.replies.as_slice() {
+            if kept.handle.as_slice() == key {
+                return Some(kept.moment);
+            }
+        }
+        None
+    }
+}
