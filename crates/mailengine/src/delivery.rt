@@ -50,8 +50,13 @@ pub fn deliver<S: Alter>(
     let plan = plan(alloc, text.as_ref(), envelope, message)?;
     store.commit_delivery(user, &plan)?;
     let Plan {
-        copies: _,
         message: _,
+        sender: _,
+        moment: _,
+        copies: _,
+        outgoing: _,
+        remember: _,
+        notice: _,
         report,
     } = plan;
     Ok(report)

@@ -10,8 +10,8 @@ ghost use Rattle.mailengine.specs.Plans.{IsPlan};
 
 use crate::trial::attempt;
 use addrparts::Addr;
-use mailstore::{Plan, Report};
-use octets::{Octets, Texts};
+use mailstore::{Plan, Report, VacationReport};
+use octets::{ListOf, Octets, Texts};
 use sieveexec::{Envelope, Outcome};
 use sievelex::ScriptError;
 use std::alloc::{AllocError, Global};
@@ -30,9 +30,19 @@ pub fn plan<'a>(
 {
     let filed = mailboxes(alloc, text, envelope, message)?;
     Ok(Plan {
-        copies: copied(alloc, filed.as_slice())?,
         message,
-        report: Report { filed },
+        sender: b"",
+        moment: 0,
+        copies: copied(alloc, filed.as_slice())?,
+        outgoing: ListOf::new(alloc),
+        remember: None,
+        notice: None,
+        report: Report {
+            filed,
+            sent: Texts::new(alloc),
+            vacation: VacationReport::None,
+            notice: None,
+        },
     })
 }
 

@@ -1,7 +1,7 @@
 -- What row changes make of the account that one user's rows show.
-use Rattle.std.proofs.Common.{◌≡◌, ◌≢◌, ℕ, suc, pos, ◌+◌, ◌<◌, ◌≤◌, Bool, true, false, not, cond, List, [], ◌∷◌, ◌++◌, map, fold, length, Option, Some, refl, sym, ap, ◌∙◌, subst, arith, true≢false, is_eq}
+use Rattle.std.proofs.Common.{◌≡◌, ◌≢◌, ℕ, suc, pos, ◌+◌, ◌<◌, ◌≤◌, Bool, true, false, not, cond, List, [], ◌∷◌, ◌++◌, map, fold, length, Option, Some, None, refl, sym, ap, ◌∙◌, subst, arith, true≢false, is_eq}
 use Rattle.std.specs.List.{AllByRecursion}
-use Rattle.std.specs.FinMap.{empty, get, insert, from_entries, find, IsAntisymmetric, same_map, get-insert, get-from_entries, slice_cmp-IsAntisymmetric, nat_cmp-IsAntisymmetric}
+use Rattle.std.specs.FinMap.{empty, get, insert, remove, get-remove, from_entries, find, IsAntisymmetric, same_map, get-insert, get-from_entries, slice_cmp-IsAntisymmetric, nat_cmp-IsAntisymmetric}
 use Rattle.std.proofs.lemmas.Cmp.{nat_list_cmp_total}
 use Rattle.std.proofs.lemmas.List.{map-append}
 use Rattle.sqlite_value.specs.declared.value.Value.TheVariants.{Blob}
@@ -14,11 +14,10 @@ use Rattle.sqlrows.specs.Rows.{Tables, has_key, added, removed, set_in}
 use Rattle.sqlrows.proofs.ListLemmas.{owner_key, pair_key, equal_itself}
 use Rattle.mailstore.specs.Cells.{or_null}
 use Rattle.mailstore.specs.Changes.{copied}
-use Rattle.mailstore.specs.Account.{bytes_cmp, Account, Folders, new_account, keeps_script, activates, filed, files_copies}
+use Rattle.mailstore.specs.Account.{bytes_cmp, Account, Folders, new_account, keeps_script, activates, deletes_script, filed, files_copies}
 use Rattle.mailstore.specs.AccountTable.{account_cells, with_active, with_next_copy, account_tree}
 use Rattle.mailstore.specs.ScriptTable.{script_cells, script_row, script_tree}
 use Rattle.mailstore.specs.CopyTable.{copy_cells, Copy, copy_row, copy_tree}
-use Rattle.mailstore.specs.Numbers.{AreNumbered}
 use Rattle.mailstore.specs.Shows.{IsShown, IsAbsent}
 use Rattle.mailstore.proofs.NumberLemmas.{numbered_none, numbered_push, numbered_up}
 use Rattle.mailstore.specs.NoticeTable.{notice_row, notice_tree}
@@ -56,6 +55,18 @@ find_replaced name x (e ∷ es) q = go (is_named name e) refl (find_replaced nam
         (more ∙ elim (is_eq (bytes_cmp q name)) as (λ b. cond b (Some x) (find bytes_cmp q es) ≡ cond b (Some x) (cond b (Some e.1) (find bytes_cmp q es))) [ true ↦ refl | false ↦ refl ])
     go false apart more = ap (cond (is_eq (bytes_cmp q e.0)) (Some e.1)) more ∙ find_other name q e.0 (Some x) (Some e.1) (find bytes_cmp q es) apart
 
+-- what is found once a name is taken out
+find_removed : {X : Type 0} (name : List ℕ) (es : List (List ℕ × X)) (q : List ℕ) → find bytes_cmp q (delete_where (is_named name) es) ≡ cond (is_eq (bytes_cmp q name)) None (find bytes_cmp q es)
+find_removed {X} name [] q = elim (is_eq (bytes_cmp q name)) as (λ b. let none : Option X = None in none ≡ cond b None None) [ true ↦ refl | false ↦ refl ]
+find_removed {X} name (e ∷ es) q = go (is_named name e) refl (find_removed name es q)
+  where
+    go : (b : Bool) → is_named name e ≡ b → find bytes_cmp q (delete_where (is_named name) es) ≡ cond (is_eq (bytes_cmp q name)) None (find bytes_cmp q es)
+        → find bytes_cmp q (cond (not b) (e ∷ delete_where (is_named name) es) (delete_where (is_named name) es)) ≡ cond (is_eq (bytes_cmp q name)) None (cond (is_eq (bytes_cmp q e.0)) (Some e.1) (find bytes_cmp q es))
+    go true is more =
+        rw (same_bytes e.0 name is)
+        (more ∙ elim (is_eq (bytes_cmp q name)) as (λ b. cond b None (find bytes_cmp q es) ≡ cond b None (cond b (Some e.1) (find bytes_cmp q es))) [ true ↦ refl | false ↦ refl ])
+    go false apart more = ap (cond (is_eq (bytes_cmp q e.0)) (Some e.1)) more ∙ find_other name q e.0 None (Some e.1) (find bytes_cmp q es) apart
+
 -- what is left has other names
 left_apart : {X : Type 0} (name : List ℕ) (es : List (List ℕ × X)) → AllByRecursion (λ e. e.0 ≢ name) (delete_where (is_named name) es)
 left_apart name [] = tt
@@ -66,20 +77,46 @@ left_apart name (e ∷ es) = go (is_named name e) refl (left_apart name es)
     go false apart more = ((λ same. true≢false (sym (ap (λ k. is_eq (bytes_cmp k name)) same ∙ bytes_eq_refl name) ∙ apart)), more)
 
 module _ (user : List ℕ) (own : Tables) (a : Account) (s : IsShown user own a) where
+  -- the rows of the other names
+  others_left : (name : List ℕ) → delete_where (has_key (pair_key user name)) (own script_tree) ≡ map (script_row user) (delete_where (is_named name) s.scripts.entries)
+  others_left name =
+      ap (delete_where (has_key (pair_key user name))) s.scripts.rows_are ∙ filter-map (λ r. not (has_key (pair_key user name) r)) (script_row user) s.scripts.entries
+      ∙ ap (map (script_row user)) (filter_same _ (λ e. not (is_named name e)) (λ e. ap not (pair_is user name e.0 (Blob e.1 ∷ []))) s.scripts.entries)
+
+  pub script_gone : (name : List ℕ) → IsShown user (removed script_tree (pair_key user name) own) (deletes_script name a)
+  script_gone name =
+      let was = s.scripts in
+      let left = delete_where (is_named name) was.entries in
+      record {
+        next_copy = s.next_copy;
+        next_notice = s.next_notice;
+        account_is = s.account_is;
+        scripts = record {
+          entries = left;
+          rows_are = others_left name;
+          shown = same_map nat_list_cmp_total bytes_antisymmetric _ _ (λ q.
+              ap (λ m. get (remove m name) q) was.shown ∙ get-remove nat_list_cmp_total (from_entries was.entries) name q
+              ∙ ap (cond (is_eq (bytes_cmp q name)) None) (get-from_entries nat_list_cmp_total was.entries q)
+              ∙ sym (get-from_entries nat_list_cmp_total left q ∙ find_removed name was.entries q));
+          apart = ascending-filter (λ x y. x.0 ≢ y.0) (λ e. not (is_named name e)) was.entries was.apart;
+        };
+        queue = s.queue;
+        replies = s.replies;
+        notices = s.notices;
+        copies = s.copies;
+      }
+
   pub script_put : (name text : List ℕ) → IsShown user (added script_tree (script_cells user name text) (removed script_tree (pair_key user name) own)) (keeps_script name text a)
   script_put name text =
       let was = s.scripts in
       let left = delete_where (is_named name) was.entries in
-      let rows : delete_where (has_key (pair_key user name)) (own script_tree) ≡ map (script_row user) left =
-      ap (delete_where (has_key (pair_key user name))) was.rows_are ∙ filter-map (λ r. not (has_key (pair_key user name) r)) (script_row user) was.entries
-      ∙ ap (map (script_row user)) (filter_same _ (λ e. not (is_named name e)) (λ e. ap not (pair_is user name e.0 (Blob e.1 ∷ []))) was.entries) in
       record {
         next_copy = s.next_copy;
         next_notice = s.next_notice;
         account_is = s.account_is;
         scripts = record {
           entries = left ++ (name, text) ∷ [];
-          rows_are = ap (λ l. l ++ script_cells user name text ∷ []) rows ∙ sym (map-append (script_row user) left ((name, text) ∷ []));
+          rows_are = ap (λ l. l ++ script_cells user name text ∷ []) (others_left name) ∙ sym (map-append (script_row user) left ((name, text) ∷ []));
           shown = same_map nat_list_cmp_total bytes_antisymmetric _ _ (λ q.
               ap (λ m. get (insert m name text) q) was.shown ∙ get-insert nat_list_cmp_total (from_entries was.entries) name text q
               ∙ ap (cond (is_eq (bytes_cmp q name)) (Some text)) (get-from_entries nat_list_cmp_total was.entries q)

@@ -12,11 +12,11 @@ use Rattle.mailstore.specs.declared.refusal.Refusal.{Refusal}
 use Rattle.mailstore.specs.Schema.{mail_schema}
 use Rattle.mailstore.specs.Cells.{contents}
 use Rattle.mailstore.specs.Changes.{made, MayHave, AreOf}
-use Rattle.mailstore.specs.Account.{Account, Accounts, with_user, in_place, new_account, keeps_script, activates}
+use Rattle.mailstore.specs.Account.{Account, Accounts, with_user, in_place, new_account, keeps_script, activates, deletes_script}
 use Rattle.mailstore.specs.Shows.{rows_of, IsShown, IsShownOrAbsent, ShowsAccounts}
 use Rattle.mailstore.specs.Promises.{HasUser, IsFree, Turns, MayShow}
 use Rattle.mailstore.proofs.ShowLemmas.{shows_after}
-use Rattle.mailstore.proofs.AccountLemmas.{script_put, active_put, account_put}
+use Rattle.mailstore.proofs.AccountLemmas.{script_put, script_gone, active_put, account_put}
 
 -- the changes turn tables that show accounts that fit into tables that show them changed
 abbrev pub Carries : List Change → (Accounts → Type 0) → (Accounts → Accounts) → Type 0
@@ -45,6 +45,9 @@ carries_user user ds change are own tables accounts shows has = go (get accounts
 pub carries_script : (user name text : Bor (List ℕ)) → Carries (RemoveScript user name ∷ AddScript user name text ∷ []) (HasUser user.now) (λ all. with_user all user.now (keeps_script name.now text.now))
 carries_script user name text =
     carries_user user.now (RemoveScript user name ∷ AddScript user name text ∷ []) (keeps_script name.now text.now) (refl, (refl, tt)) (λ own a s. script_put user.now own a s name.now text.now)
+
+pub carries_deletion : (user name : Bor (List ℕ)) → Carries (RemoveScript user name ∷ []) (HasUser user.now) (λ all. with_user all user.now (deletes_script name.now))
+carries_deletion user name = carries_user user.now (RemoveScript user name ∷ []) (deletes_script name.now) (refl, tt) (λ own a s. script_gone user.now own a s name.now)
 
 pub carries_active : (user : Bor (List ℕ)) (active : Option (Bor (List ℕ))) → Carries (SetActive user active ∷ []) (HasUser user.now) (λ all. with_user all user.now (activates (contents active)))
 carries_active user active = carries_user user.now (SetActive user active ∷ []) (activates (contents active)) (refl, tt) (λ own a s. active_put user.now own a s (contents active))

@@ -1,21 +1,19 @@
 -- From the cells of rows to what a call answers.
-use Rattle.std.proofs.Common.{◌≡◌, ℕ, pos, List, [], ◌∷◌, map, Option, Some, None, option_map, slice_get, Ok, Err, Result, IfOk, IfSome, refl, sym, ap, ap₂, ◌∙◌, subst}
-use Rattle.std.specs.FinMap.{get}
-use Rattle.sqlite_value.specs.declared.value.Value.TheVariants.{Int, Blob}
+use Rattle.std.proofs.Common.{◌≡◌, ℕ, List, [], ◌∷◌, map, Option, Some, None, option_map, slice_get, Ok, Err, Result, IfOk, refl, sym, ap, ap₂, ◌∙◌, subst, arith}
+use Rattle.sqlite_value.specs.declared.value.Value.TheVariants.{Blob}
 use Rattle.sqlite_value.specs.Order.{Row, column}
 use Rattle.sqlite_keyed.proofs.ListLemmas.{map-map}
-use Rattle.sqlite.specs.State.{State, HasCleanDisk}
-use Rattle.sqlite.proofs.StateLemmas.{survives_weaker}
-use Rattle.sqlrows.specs.Rows.{Tables, Holds}
-use Rattle.mailstore.specs.declared.refusal.Refusal.{Refusal}
-use Rattle.mailstore.specs.Schema.{mail_schema}
-use Rattle.mailstore.specs.Account.{Account, Accounts}
-use Rattle.mailstore.specs.AccountTable.{account_tree, next_copy_column}
-use Rattle.mailstore.specs.Shows.{rows_of, IsShownOrAbsent, ShowsAccounts, Presents}
-use Rattle.mailstore.specs.Promises.{OfUser}
+use Rattle.mailstore.specs.Account.{Account}
 use Rattle.mailstore.specs.Tally.{tallied, AreFolders, AreFolderRows}
 use Rattle.mailstore.specs.declared.folder.Folder.{Folder}
-use Rattle.mailstore.proofs.WriteLemmas.{clean_before}
+use Rattle.mailstore.specs.declared.queue.Kind.{Kind}
+use Rattle.mailstore.specs.declared.queue.Kind.TheVariants.{Redirect, Reply}
+use Rattle.mailstore.specs.declared.queue.Outgoing.{Outgoing}
+use Rattle.mailstore.specs.declared.notice.Notice.{Notice}
+use Rattle.mailstore.specs.NoticeTable.{AreNoticeRows, notice_cells}
+use Rattle.mailstore.specs.Cells.{first_five, first_two}
+use Rattle.mailstore.specs.QueueTable.{AreQueueRows, kind_number, outgoing_cells}
+use Rattle.mailstore.proofs.OneLemmas.{map_one}
 
 same_blobs : (xs ys : List (List ℕ)) → map (λ t. Blob t) xs ≡ map (λ t. Blob t) ys → xs ≡ ys
 same_blobs [] [] e = refl
@@ -49,3 +47,34 @@ pub tally_of : {E : Type 0} (r : Result (List Folder) E) (rows : List Row) (a : 
 tally_of (Err e) rows a told h = tt
 tally_of (Ok all) rows a told h =
     subst (λ fs. AreFolders fs a) (sym (h told.0 (ap (map (λ row. column row 0)) told.1 ∙ map-map (λ (row : Row). column row 0) (λ (n : List ℕ). Blob n ∷ []) told.0))) told.2
+
+-- what was read of rows is the queue, or the notices, that they show
+outgoing_one : (x y : Outgoing) → outgoing_cells x ≡ outgoing_cells y → x ≡ y
+outgoing_one x y e =
+    let id : x.id ≡ y.id = cc in
+    let number : kind_number x.kind ≡ kind_number y.kind = cc in
+    let kind : x.kind ≡ y.kind = kind_one x.kind y.kind number in
+    let sender : x.sender ≡ y.sender = cc in
+    let target : x.target ≡ y.target = cc in
+    let message : x.message ≡ y.message = cc in
+    λ i. record { id = id i; kind = kind i; sender = sender i; target = target i; message = message i }
+  where
+    kind_one : (k l : Kind) → kind_number k ≡ kind_number l → k ≡ l
+    kind_one Redirect Redirect e = refl
+    kind_one Reply Reply e = refl
+    kind_one Redirect Reply e = absurd (omega (arith, e))
+    kind_one Reply Redirect e = absurd (omega (arith, e))
+
+pub queue_is : {E : Type 0} (r : Result (List Outgoing) E) (rows : List Row) (a : Account) → AreQueueRows rows a → IfOk r (λ all. map outgoing_cells all ≡ map first_five rows) → IfOk r (λ all. all ≡ a.queue)
+queue_is (Err e) rows a are h = tt
+queue_is (Ok all) rows a are h = map_one outgoing_cells outgoing_one all a.queue (h ∙ ap (map first_five) are ∙ map-map first_five outgoing_cells a.queue)
+
+noticed_one : (x y : Notice) → notice_cells x ≡ notice_cells y → x ≡ y
+noticed_one x y e =
+    let moment : x.moment ≡ y.moment = cc in
+    let text : x.text ≡ y.text = cc in
+    λ i. record { moment = moment i; text = text i }
+
+pub notices_are : {E : Type 0} (r : Result (List Notice) E) (rows : List Row) (a : Account) → AreNoticeRows rows a → IfOk r (λ all. map notice_cells all ≡ map first_two rows) → IfOk r (λ all. all ≡ a.notices)
+notices_are (Err e) rows a are h = tt
+notices_are (Ok all) rows a are h = map_one notice_cells noticed_one all a.notices (h ∙ ap (map first_two) are ∙ map-map first_two notice_cells a.notices)

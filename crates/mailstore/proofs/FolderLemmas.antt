@@ -1,5 +1,5 @@
 -- The names of a user's copies in order, and the folders that they make.
-use Rattle.std.proofs.Common.{◌≡◌, ℕ, suc, ◌<◌, false, List, [], ◌∷◌, map, filter, length, get_or, Option, Some, None, IfSome, refl, sym, ap, ap₂, ◌∙◌, subst, inl, inr, arith, true≢false, is_gt, is_lt, Ordering, Less, Equal, Greater, IsPermutation, IsSorted}
+use Rattle.std.proofs.Common.{◌≡◌, ℕ, suc, ◌<◌, false, List, [], ◌∷◌, map, filter, length, get_or, Option, Some, None, IfSome, refl, sym, ap, ap₂, ◌∙◌, subst, arith, true≢false, is_gt, is_lt, Ordering, Less, Equal, Greater, IsPermutation, IsSorted}
 use Rattle.std.specs.List.{AllByRecursion}
 use Rattle.std.specs.FinMap.{get, entries}
 use Rattle.std.specs.Ordering.{ordering_reverse}
@@ -27,7 +27,7 @@ use Rattle.mailstore.specs.Schema.{mail_schema}
 use Rattle.mailstore.specs.Account.{bytes_cmp, Account, Accounts}
 use Rattle.mailstore.specs.CopyTable.{copy, select_folders, Copy, copy_row, copy_tree}
 use Rattle.mailstore.specs.Shows.{rows_of, IsShown, IsShownOrAbsent, Presents}
-use Rattle.mailstore.specs.Tally.{tallied, count_of, size_of, AreFolders, AreFolderRows}
+use Rattle.mailstore.specs.Tally.{tallied, count_of, size_of, AreFolderRows}
 use Rattle.mailstore.proofs.TextFacts.{by_one, select_folders_is, select_folders_plain}
 use Rattle.mailstore.proofs.TallyLemmas.{InOrder, tally_is}
 use Rattle.mailstore.proofs.SchemaFacts.{copy_listed}

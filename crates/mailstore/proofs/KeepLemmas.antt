@@ -1,5 +1,5 @@
 -- Reads and writes as one promise each: from a query, after an earlier read, with another answer.
-use Rattle.std.proofs.Common.{◌≡◌, ◌⊎◌, ℕ, pos, List, [], ◌∷◌, map, Option, Some, None, option_map, slice_get, Ok, Err, Result, Vec, OnOk, OnErr, IfOk, IfErr, IfSome, IsTrue, refl, sym, ap, ◌∙◌, subst, inl, inr}
+use Rattle.std.proofs.Common.{◌≡◌, ◌⊎◌, ℕ, pos, List, [], map, Option, Some, None, option_map, slice_get, Ok, Err, Result, Vec, OnOk, OnErr, IfOk, IfErr, IfSome, IsTrue, refl, sym, ap, ◌∙◌, subst, inl, inr}
 use Rattle.std.specs.declared.alloc.Global.{Global}
 use Rattle.std.specs.FinMap.{get}
 use Rattle.sqlite_value.specs.declared.value.Value.TheVariants.{Int}

@@ -1,5 +1,5 @@
 -- The tables show one map of accounts alone.
-use Rattle.std.proofs.Common.{◌≡◌, ℕ, ℤ, pos, List, [], ◌∷◌, map, filter, Option, Some, None, refl, sym, ◌∙◌, ap, inl, inr}
+use Rattle.std.proofs.Common.{◌≡◌, ℕ, ℤ, pos, List, [], ◌∷◌, map, filter, Option, Some, None, refl, sym, ◌∙◌, ap, ◌==◌, cond}
 use Rattle.std.specs.FinMap.{get, from_entries, same_map}
 use Rattle.std.proofs.lemmas.Cmp.{nat_list_cmp_total}
 use Rattle.sqlite_value.specs.declared.value.Value.{Value}
@@ -9,22 +9,26 @@ use Rattle.sqlite_schema.specs.declared.schema.Table.{Table}
 use Rattle.sqlite_rules.specs.Lists.{Has}
 use Rattle.sqlite.specs.Effect.{Database}
 use Rattle.sqlrows.specs.Rows.{Entry, cells_of, stored, IsHeld, Tables, Holds, has_key}
+use Rattle.mailstore.specs.declared.queue.Kind.{Kind}
+use Rattle.mailstore.specs.declared.queue.Kind.TheVariants.{Redirect, Reply}
+use Rattle.mailstore.specs.declared.queue.Outgoing.{Outgoing}
+use Rattle.mailstore.specs.declared.notice.Notice.{Notice}
 use Rattle.mailstore.specs.Schema.{mail_schema}
 use Rattle.mailstore.specs.Cells.{or_null}
-use Rattle.mailstore.specs.Account.{bytes_cmp, Password, Queued, Noted, Account, Accounts}
+use Rattle.mailstore.specs.Account.{Account, Accounts}
 use Rattle.mailstore.specs.AccountTable.{account, account_tree}
 use Rattle.mailstore.specs.ScriptTable.{script, script_row, script_tree}
-use Rattle.mailstore.specs.QueueTable.{outgoing, queue_row, outgoing_tree}
+use Rattle.mailstore.specs.QueueTable.{outgoing, queue_row, outgoing_tree, kind_number}
 use Rattle.mailstore.specs.ReplyTable.{reply, reply_row, reply_tree}
 use Rattle.mailstore.specs.NoticeTable.{notice, notice_row, notice_tree}
 use Rattle.mailstore.specs.CopyTable.{copy, Copy, copy_row, folders_from, copy_tree, folder_column, message_column, n_column}
-use Rattle.mailstore.specs.Shows.{rows_of, IsShown, IsAbsent, IsShownOrAbsent, Presents}
+use Rattle.mailstore.specs.Shows.{rows_of, IsShown, IsShownOrAbsent, Presents}
 use Rattle.mailstore.proofs.AccountLemmas.{bytes_antisymmetric}
 use Rattle.mailstore.proofs.SchemaFacts.{account_listed, copy_listed, notice_listed, outgoing_listed, reply_listed, script_listed}
 use Rattle.std.proofs.Math.IntN.{nat_abs}
 use Rattle.mailstore.proofs.NumberLemmas.{numbered_one}
 
-map_one : {X Y : Type 0} (f : X → Y) → ((x y : X) → f x ≡ f y → x ≡ y) → (xs ys : List X) → map f xs ≡ map f ys → xs ≡ ys
+pub map_one : {X Y : Type 0} (f : X → Y) → ((x y : X) → f x ≡ f y → x ≡ y) → (xs ys : List X) → map f xs ≡ map f ys → xs ≡ ys
 map_one f one [] [] e = refl
 map_one f one [] (y ∷ ys) e = absurd (let no = e in cc)
 map_one f one (x ∷ xs) [] e = absurd (let no = e in cc)
@@ -112,19 +116,27 @@ copy_back : (user : List ℕ) (c : Copy) → copy_in (copy_row user c) ≡ c
 unfolding copy_in
 copy_back user c = refl
 
-queued_in : Row → Queued
+kind_in : ℕ → Kind
+kind_in n = cond (n == 1) Redirect Reply
+
+kind_back : (k : Kind) → kind_in (kind_number k) ≡ k
+unfolding kind_in
+kind_back Redirect = refl
+kind_back Reply = refl
+
+queued_in : Row → Outgoing
 unfolding number_in
-queued_in row = record { id = number_in row 1; kind = number_in row 2; sender = bytes (column row 3); target = bytes (column row 4); message = bytes (column row 5) }
+queued_in row = record { id = number_in row 1; kind = kind_in (number_in row 2); sender = bytes (column row 3); target = bytes (column row 4); message = bytes (column row 5) }
 
-queued_back : (user : List ℕ) (q : Queued) → queued_in (queue_row user q) ≡ q
+queued_back : (user : List ℕ) (q : Outgoing) → queued_in (queue_row user q) ≡ q
 unfolding queued_in
-queued_back user q = refl
+queued_back user q = ap (λ k. let out : Outgoing = record { id = q.id; kind = k; sender = q.sender; target = q.target; message = q.message } in out) (kind_back q.kind)
 
-notice_in : Row → ℕ × Noted
+notice_in : Row → ℕ × Notice
 unfolding number_in
 notice_in row = (number_in row 1, record { moment = number_in row 2; text = bytes (column row 3) })
 
-notice_back : (user : List ℕ) (e : ℕ × Noted) → notice_in (notice_row user e) ≡ e
+notice_back : (user : List ℕ) (e : ℕ × Notice) → notice_in (notice_row user e) ≡ e
 unfolding notice_in
 notice_back user e = refl
 

@@ -1,5 +1,5 @@
 -- What the queries that are in order find.
-use Rattle.std.proofs.Common.{◌≡◌, ◌≢◌, ℕ, pos, ◌<◌, Bool, true, false, cond, T, List, [], ◌∷◌, ◌++◌, map, filter, fold, length, append-nil, append_assoc, Some, None, unwrap_or, refl, sym, ap, ◌∙◌, subst, inl, inr, arith, true≢false, is_eq, is_lt, Ordering, Less, Equal, Greater, IsPermutation}
+use Rattle.std.proofs.Common.{◌≡◌, ◌≢◌, ℕ, pos, ◌<◌, Bool, true, false, cond, T, List, [], ◌∷◌, ◌++◌, map, filter, fold, length, append-nil, append_assoc, Some, None, unwrap_or, refl, sym, ap, ◌∙◌, subst, arith, true≢false, is_eq, is_lt, Ordering, Less, Equal, Greater, IsPermutation}
 use Rattle.std.specs.List.{AllByRecursion}
 use Rattle.std.specs.FinMap.{FinMap, empty, get, entries, keys, from_entries, find, put, is_sorted, len-entries, len-empty, get-entries, get-from_entries, entries_sorted, entries-insert, get-insert, get-empty}
 use Rattle.std.specs.FinMap.Entries.{by_order, below_all}
@@ -16,7 +16,7 @@ use Rattle.sqlite_trees.specs.Tree.{IsAscending}
 use Rattle.sqlite_sql.specs.Term.{col}
 use Rattle.sqlite_sql.specs.Query.{Query, Output, output_cmp}
 use Rattle.sqlite_sql.proofs.QueryLemmas.{output_cmp_total}
-use Rattle.sqlite_keyed.proofs.ListLemmas.{map-map, filter-map, filter_same, filter-filter, ascending-map, ascending_from_map, ascending-filter, ascending_weaker, IsPermutation-filter}
+use Rattle.sqlite_keyed.proofs.ListLemmas.{map-map, filter-map, filter_same, filter-filter, ascending-map, ascending-filter, ascending_weaker, IsPermutation-filter}
 use Rattle.sqlite_keyed.proofs.KeyedLemmas.{Less-from_lt}
 use Rattle.sqlite_keyed.proofs.SortLemmas.{sorted_unique}
 use Rattle.sqlite_typed.proofs.TestLemmas.{last_key, same_bytes, bytes_eq_refl}
@@ -26,14 +26,18 @@ use Rattle.sqlrows.specs.Rows.{Tables, Holds, has_key}
 use Rattle.sqlrows.proofs.AnswerLemmas.{cells_in_order}
 use Rattle.sqlrows.proofs.ReadLemmas.{answered}
 use Rattle.sqlrows.proofs.ListLemmas.{owner_key, pair_key, pair_owned}
+use Rattle.mailstore.specs.declared.queue.Outgoing.{Outgoing}
+use Rattle.mailstore.specs.declared.notice.Notice.{Notice}
+use Rattle.mailstore.specs.QueueTable.{outgoing, outgoing_cells, outgoing_tree, queue_row, select_queue}
+use Rattle.mailstore.specs.NoticeTable.{notice, notice_cells, notice_row, notice_tree, select_notices}
 use Rattle.mailstore.specs.Schema.{mail_schema}
 use Rattle.mailstore.specs.Account.{bytes_cmp, Folders, messages_in, filed}
 use Rattle.mailstore.specs.ScriptTable.{script, select_names, script_row, AreApart, script_tree}
 use Rattle.mailstore.specs.CopyTable.{copy, select_folder, Copy, copy_row, folders_from, copy_tree}
 use Rattle.mailstore.specs.Shows.{rows_of}
-use Rattle.mailstore.proofs.TextFacts.{by_one, by_two, select_names_is, select_names_plain, select_folder_is, select_folder_plain}
+use Rattle.mailstore.proofs.TextFacts.{by_one, by_two, select_names_is, select_names_plain, select_folder_is, select_folder_plain, notices_shown, queue_shown, select_notices_is, select_notices_plain, select_queue_is, select_queue_plain}
 use Rattle.mailstore.proofs.AccountLemmas.{pair_is}
-use Rattle.mailstore.proofs.SchemaFacts.{copy_listed, script_listed}
+use Rattle.mailstore.proofs.SchemaFacts.{copy_listed, script_listed, notice_listed, outgoing_listed}
 
 -- the rows with a key of two are among the owner's
 pub of_owner : (owner name : List ℕ) (tables : Tables) (tree : ℕ) → filter (has_key (pair_key owner name)) (tables tree) ≡ filter (has_key (pair_key owner name)) (rows_of owner tables tree)
@@ -73,6 +77,56 @@ module _ (old new : State) (rows : List Row) (tables : Tables) (h : Holds mail_s
       (ascending-filter (λ c d. output_cmp by_number (number_output c) (number_output d) ≡ Less) (is_in folder) copies (ascending_weaker _ (λ c d. output_cmp by_number (number_output c) (number_output d) ≡ Less) numbers_rise copies rise)) in
       let is = sorted_unique (output_cmp by_number) (output_cmp_total by_number) (map number_output few) found.0 rising (IsPermutation-trans _ _ _ outs found.1) found.2 in
       found.3 ∙ ap (map (λ (o : Output). o.1)) is ∙ map-map (λ (o : Output). o.1) number_output few
+
+-- the same of the queue, and of the notices
+abbrev by_id : Query
+by_id = (over outgoing_tree by_one queue_shown ((col 1 2, ascending Binary) ∷ [])).body
+
+queued_output : Outgoing → Output
+queued_output out = (Int (pos out.id) ∷ [], outgoing_cells out)
+
+queued_rise : (x y : Outgoing) → x.id < y.id → output_cmp by_id (queued_output x) (queued_output y) ≡ Less
+unfolding queued_output
+queued_rise x y low = last_key (value_cmp-Int (pos x.id) (pos y.id) ∙ Less-from_lt (pos x.id) (pos y.id) (omega (arith, ints)))
+
+abbrev by_notice : Query
+by_notice = (over notice_tree by_one notices_shown ((col 1 2, ascending Binary) ∷ [])).body
+
+noticed_output : ℕ × Notice → Output
+noticed_output e = (Int (pos e.0) ∷ [], notice_cells e.1)
+
+noticed_rise : (x y : ℕ × Notice) → x.0 < y.0 → output_cmp by_notice (noticed_output x) (noticed_output y) ≡ Less
+unfolding noticed_output
+noticed_rise x y low = last_key (value_cmp-Int (pos x.0) (pos y.0) ∙ Less-from_lt (pos x.0) (pos y.0) (omega (arith, ints)))
+
+module _ (old new : State) (rows : List Row) (tables : Tables) (h : Holds mail_schema old.now tables) where
+  pub queue_found : (owner : List ℕ) (queue : List Outgoing) → IsPermutation (map (queue_row owner) queue) (rows_of owner tables outgoing_tree) → IsAscending (λ x y. x.id < y.id) queue
+      → Shown select_queue (owner_key owner) old new rows → rows ≡ map outgoing_cells queue
+  unfolding queued_output
+  queue_found owner queue are rise shown =
+      let p = has_key (owner_key owner) in
+      let show = λ (cells : Row). let o : Output = (column cells 1 ∷ [], column cells 1 ∷ column cells 2 ∷ column cells 3 ∷ column cells 4 ∷ column cells 5 ∷ []) in o in
+      let found = cells_in_order old.now.trees outgoing_tree by_one queue_shown ((col 1 2, ascending Binary) ∷ []) (owner_key owner) (tables outgoing_tree) (h.each outgoing outgoing_listed) p (λ n cells. refl) show (λ n cells. refl) rows
+      (answered mail_schema select_queue (owner_key owner) old new h.is select_queue_plain.0 outgoing_tree by_one queue_shown _ _ select_queue_is select_queue_plain.1 rows shown) in
+      let outs : IsPermutation (map queued_output queue) (map show (filter p (tables outgoing_tree))) =
+      subst (λ l. IsPermutation l (map show (filter p (tables outgoing_tree)))) (map-map show (queue_row owner) queue) (IsPermutation-map show _ _ are) in
+      let rising = ascending-map (λ x y. output_cmp by_id x y ≡ Less) queued_output queue (ascending_weaker _ (λ x y. output_cmp by_id (queued_output x) (queued_output y) ≡ Less) queued_rise queue rise) in
+      let is = sorted_unique (output_cmp by_id) (output_cmp_total by_id) (map queued_output queue) found.0 rising (IsPermutation-trans _ _ _ outs found.1) found.2 in
+      found.3 ∙ ap (map (λ (o : Output). o.1)) is ∙ map-map (λ (o : Output). o.1) queued_output queue
+
+  pub notices_found : (owner : List ℕ) (entries : List (ℕ × Notice)) → IsPermutation (map (notice_row owner) entries) (rows_of owner tables notice_tree) → IsAscending (λ x y. x.0 < y.0) entries
+      → Shown select_notices (owner_key owner) old new rows → rows ≡ map notice_cells (map (λ e. e.1) entries)
+  unfolding noticed_output
+  notices_found owner entries are rise shown =
+      let p = has_key (owner_key owner) in
+      let show = λ (cells : Row). let o : Output = (column cells 1 ∷ [], column cells 2 ∷ column cells 3 ∷ []) in o in
+      let found = cells_in_order old.now.trees notice_tree by_one notices_shown ((col 1 2, ascending Binary) ∷ []) (owner_key owner) (tables notice_tree) (h.each notice notice_listed) p (λ n cells. refl) show (λ n cells. refl) rows
+      (answered mail_schema select_notices (owner_key owner) old new h.is select_notices_plain.0 notice_tree by_one notices_shown _ _ select_notices_is select_notices_plain.1 rows shown) in
+      let outs : IsPermutation (map noticed_output entries) (map show (filter p (tables notice_tree))) =
+      subst (λ l. IsPermutation l (map show (filter p (tables notice_tree)))) (map-map show (notice_row owner) entries) (IsPermutation-map show _ _ are) in
+      let rising = ascending-map (λ x y. output_cmp by_notice x y ≡ Less) noticed_output entries (ascending_weaker _ (λ x y. output_cmp by_notice (noticed_output x) (noticed_output y) ≡ Less) noticed_rise entries rise) in
+      let is = sorted_unique (output_cmp by_notice) (output_cmp_total by_notice) (map noticed_output entries) found.0 rising (IsPermutation-trans _ _ _ outs found.1) found.2 in
+      found.3 ∙ ap (map (λ (o : Output). o.1)) is ∙ map-map (λ (o : Output). o.1) noticed_output entries ∙ sym (map-map notice_cells (λ (e : ℕ × Notice). e.1) entries)
 
 -- the messages of a folder are those of its copies, in turn
 folder_joined : (q : List ℕ) (m : Folders) (c : Copy) → messages_in (filed m c.folder c.message) q ≡ messages_in m q ++ cond (is_in q c) (c.message ∷ []) []

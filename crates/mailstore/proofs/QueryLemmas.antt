@@ -9,19 +9,17 @@ use Rattle.sqlite.specs.Clock.{timed}
 use Rattle.sqlite.specs.declared.error.Error.{Error}
 use Rattle.sqlite.specs.State.{State, HasCleanDisk, Survives, CommitsShowing, Shown, ShowsRows, FailsToQuery, FailsToShow, IsNotRun, IsUnchanged, IsRolledBack}
 use Rattle.sqlite.proofs.Callers.{IsPlain, never_commits}
-use Rattle.sqlite.proofs.StateLemmas.{survives_weaker, survives_then}
+use Rattle.sqlite.proofs.StateLemmas.{survives_weaker}
 use Rattle.sqlrows.specs.Rows.{Tables, Holds, has_key}
 use Rattle.sqlrows.proofs.AnswerLemmas.{cells_by_key}
 use Rattle.sqlrows.proofs.ReadLemmas.{shown_same, fails_same, answered}
 use Rattle.sqlrows.proofs.ListLemmas.{owner_key, pair_key}
 use Rattle.mailstore.specs.Schema.{mail_schema}
 use Rattle.mailstore.specs.Connection.{StaysSame}
-use Rattle.mailstore.specs.AccountTable.{account, select_account, select_next_copy, shown_account, account_tree, next_copy_column, shown_next_copy}
+use Rattle.mailstore.specs.AccountTable.{account, select_account, select_next_copy, shown_account, account_tree, shown_next_copy}
 use Rattle.mailstore.specs.ScriptTable.{script, select_script, script_tree, text_column}
 use Rattle.mailstore.specs.Shows.{rows_of}
 use Rattle.mailstore.proofs.TextFacts.{by_one, by_two, account_shown, select_account_is, select_account_plain, select_next_copy_is, select_next_copy_plain, select_script_is, select_script_plain}
-use Rattle.mailstore.proofs.WriteLemmas.{clean_before}
-use Rattle.mailstore.proofs.ResultLemmas.{on_ok}
 use Rattle.mailstore.proofs.StatementLemmas.{account_index, script_index, account_agrees, script_agrees}
 use Rattle.mailstore.specs.Promises.{HasOurTables}
 

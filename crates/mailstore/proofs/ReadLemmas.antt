@@ -13,13 +13,15 @@ use Rattle.sqlrows.proofs.ListLemmas.{owner_key, pair_key}
 use Rattle.mailstore.specs.declared.refusal.Refusal.{Refusal}
 use Rattle.mailstore.specs.declared.refusal.Refusal.TheVariants.{NoUser}
 use Rattle.mailstore.specs.Account.{bytes_cmp, Account, Accounts, messages_in}
-use Rattle.mailstore.specs.AccountTable.{select_account, shown_account, profile_row, account_tree, next_copy_column, CountsCopies, shown_next_copy}
+use Rattle.mailstore.specs.AccountTable.{shown_account, profile_row, account_tree, next_copy_column, CountsCopies, shown_next_copy}
 use Rattle.mailstore.specs.ScriptTable.{select_names, select_script, script_row, script_tree, text_column, AreNameRows, HasTextRow}
 use Rattle.mailstore.specs.CopyTable.{select_folder, Copy, AreMessageRows}
 use Rattle.mailstore.specs.Shows.{rows_of, IsShown, IsShownOrAbsent, ShowsAccounts, Presents}
 use Rattle.mailstore.proofs.AccountLemmas.{pair_is, is_named}
-use Rattle.mailstore.proofs.QueryLemmas.{account_found, script_found}
-use Rattle.mailstore.proofs.OrderLemmas.{of_owner, is_in, folder_found, names_found, messages_are}
+use Rattle.mailstore.proofs.QueryLemmas.{script_found}
+use Rattle.mailstore.proofs.OrderLemmas.{of_owner, is_in, folder_found, names_found, messages_are, notices_found, queue_found}
+use Rattle.mailstore.specs.NoticeTable.{AreNoticeRows, notice_cells, select_notices}
+use Rattle.mailstore.specs.QueueTable.{AreQueueRows, select_queue}
 
 first_mapped : (own : List Row) → option_map (λ r. column r 0) (slice_get (map shown_next_copy own) 0) ≡ option_map (λ cells. column cells next_copy_column) (slice_get own 0)
 first_mapped [] = refl
@@ -66,6 +68,12 @@ module _ (old new : State) (rows : List Row) (accounts : Accounts) (p : Presents
   messages_read folder shown = at_user accounts user p.0 p.2 _ (λ a s.
       folder_found old new rows p.0 p.1 user folder s.copies.entries s.copies.numbered.rows_are s.copies.numbered.rise shown ∙ sym (map-map (λ (m : List ℕ). Blob m ∷ []) (λ (c : Copy). c.message) (filter (is_in folder) s.copies.entries))
       ∙ ap (map (λ m. Blob m ∷ [])) (sym (messages_are s.copies.entries folder)) ∙ ap (λ m. map (λ t. Blob t ∷ []) (messages_in m folder)) (sym s.copies.shown))
+
+  pub queue_read : Shown select_queue (owner_key user) old new rows → IfSome (get accounts user) (AreQueueRows rows)
+  queue_read shown = at_user accounts user p.0 p.2 _ (λ a s. queue_found old new rows p.0 p.1 user a.queue s.queue.rows_are s.queue.rise shown)
+
+  pub notices_read : Shown select_notices (owner_key user) old new rows → IfSome (get accounts user) (AreNoticeRows rows)
+  notices_read shown = at_user accounts user p.0 p.2 _ (λ a s. notices_found old new rows p.0 p.1 user s.notices.entries s.notices.numbered.rows_are s.notices.numbered.rise shown ∙ ap (map notice_cells) (sym s.notices.shown))
 
   pub script_read : (name : List ℕ) → Shown select_script (pair_key user name) old new rows → IfSome (get accounts user) (HasTextRow name rows)
   script_read name shown = at_user accounts user p.0 p.2 _ (λ a s.

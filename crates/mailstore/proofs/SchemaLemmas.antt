@@ -1,5 +1,5 @@
 -- Lists that a pattern of the code took apart.
-use Rattle.std.proofs.Common.{◌≡◌, ◌<◌, ◌≤◌, ◌+◌, ◌-◌, ℕ, zero, suc, List, [], ◌∷◌, length, drop, get_or, drop-cons, length-drop, length-take, take, take_all, map, IsTrue, true, false, Bool, ◌==◌, nat_eq, ◌↔◌, refl, sym, subst, ap, ap₂, ◌∙◌, arith}
+use Rattle.std.proofs.Common.{◌≡◌, ◌<◌, ◌≤◌, ◌+◌, ◌-◌, ℕ, suc, List, [], ◌∷◌, length, drop, get_or, drop-cons, length-drop, length-take, take, take_all, map, IsTrue, true, false, Bool, ◌==◌, nat_eq, ◌↔◌, refl, sym, subst, ap, ap₂, ◌∙◌, arith}
 use Rattle.std.specs.Cmp.Lexicographic.{pointwise, told_text}
 use Rattle.sqlite_value.specs.declared.keys.Order.{Order}
 use Rattle.sqlite_value.specs.Keys.{plain}

@@ -15,6 +15,8 @@ use Rattle.mailstore.specs.MetaTable.{insert_version, select_version, meta_tree}
 use Rattle.mailstore.specs.AccountTable.{insert_account, update_active, update_next_copy, select_account, select_next_copy, account_tree}
 use Rattle.mailstore.specs.ScriptTable.{insert_script, delete_script, select_names, select_script, script_tree}
 use Rattle.mailstore.specs.CopyTable.{insert_copy, select_folders, select_folder, copy_tree}
+use Rattle.mailstore.specs.QueueTable.{outgoing_tree, select_queue}
+use Rattle.mailstore.specs.NoticeTable.{notice_tree, select_notices}
 
 abbrev pub by_one : List Term
 by_one = equals 1 0 ∷ []
@@ -154,3 +156,25 @@ select_folder_is = refl
 pub select_folder_plain : IsPlain (understood mail_schema select_folder) × (reads_listing mail_schema select_folder ≡ false)
 unfolding understood everything
 select_folder_plain = ((refl, refl), refl)
+
+abbrev pub queue_shown : List Term
+queue_shown = col 1 2 ∷ col 1 3 ∷ col 1 4 ∷ col 1 5 ∷ col 1 6 ∷ []
+
+pub select_queue_is : command_of (understood mail_schema select_queue) ≡ Select (over outgoing_tree by_one queue_shown ((col 1 2, ascending Binary) ∷ [])) (codes "id" ∷ codes "kind" ∷ codes "sender" ∷ codes "target" ∷ codes "message" ∷ [])
+unfolding understood everything
+select_queue_is = refl
+
+pub select_queue_plain : IsPlain (understood mail_schema select_queue) × (reads_listing mail_schema select_queue ≡ false)
+unfolding understood everything
+select_queue_plain = ((refl, refl), refl)
+
+abbrev pub notices_shown : List Term
+notices_shown = col 1 3 ∷ col 1 4 ∷ []
+
+pub select_notices_is : command_of (understood mail_schema select_notices) ≡ Select (over notice_tree by_one notices_shown ((col 1 2, ascending Binary) ∷ [])) (codes "moment" ∷ codes "text" ∷ [])
+unfolding understood everything
+select_notices_is = refl
+
+pub select_notices_plain : IsPlain (understood mail_schema select_notices) × (reads_listing mail_schema select_notices ≡ false)
+unfolding understood everything
+select_notices_plain = ((refl, refl), refl)

@@ -1,9 +1,18 @@
 -- What a store keeps of its users, without its tables.
-use Rattle.std.specs.Prelude.{◌++◌, ℕ, List, [], ◌∷◌, fold, Option, Some, None, unwrap_or}
+use Rattle.std.specs.Prelude.{◌++◌, ◌==◌, ℕ, suc, not, List, [], ◌∷◌, fold, filter, Option, Some, None, unwrap_or, option_map, if◌then◌else◌}
 use Rattle.std.specs.declared.cmp.Ordering.{Ordering}
-use Rattle.std.specs.FinMap.{FinMap, empty, get, insert}
-use Rattle.std.specs.Ordering.{nat_cmp, on, then_cmp}
+use Rattle.std.specs.FinMap.{FinMap, empty, get, insert, remove}
+use Rattle.std.specs.Ordering.{nat_cmp, on, then_cmp, is_eq}
+use Rattle.octets.specs.Ascii.{lowered}
 use Rattle.std.specs.Cmp.Lexicographic.{slice_cmp}
+use Rattle.mailstore.specs.declared.queue.Kind.{Kind}
+use Rattle.mailstore.specs.declared.queue.Kind.TheVariants as kind
+use Rattle.mailstore.specs.declared.queue.Outgoing.{Outgoing}
+use Rattle.mailstore.specs.declared.notice.Notice.{Notice}
+use Rattle.mailstore.specs.declared.report.Letter.{Letter}
+use Rattle.mailstore.specs.declared.report.Letter.TheVariants.{Redirect, Reply}
+use Rattle.mailstore.specs.declared.report.Remembered.{Remembered}
+use Rattle.mailstore.specs.declared.report.Plan.{Plan}
 
 -- the order of octets
 abbrev pub bytes_cmp : List ℕ → List ℕ → Ordering
@@ -18,19 +27,6 @@ pub record Password : Type 0 where
   pub salt : List ℕ
   pub rounds : ℕ
   pub digest : List ℕ
-
--- a message on its way out; kind 1 is a redirect, kind 2 a vacation reply (RFC 5230)
-pub record Queued : Type 0 where
-  pub id : ℕ
-  pub kind : ℕ
-  pub sender : List ℕ
-  pub target : List ℕ
-  pub message : List ℕ
-
--- a notice to the user, with the moment of its delivery in seconds since 1970
-pub record Noted : Type 0 where
-  pub moment : ℕ
-  pub text : List ℕ
 
 abbrev pub Scripts : Type 0
 Scripts = FinMap bytes_cmp (List ℕ)
@@ -50,9 +46,9 @@ pub record Account : Type 0 where
   pub scripts : Scripts
   pub active : Option (List ℕ)
   pub folders : Folders
-  pub queue : List Queued
+  pub queue : List Outgoing
   pub replies : Replies
-  pub notices : List Noted
+  pub notices : List Notice
   -- the number of the next message on its way out
   pub next_out : ℕ
 
@@ -86,6 +82,18 @@ keeps_script name text a = record a { scripts = insert a.scripts name text }
 abbrev pub activates : Option (List ℕ) → Account → Account
 activates name a = record a { active = name }
 
+-- one name in place of another
+abbrev pub other_name : List ℕ → List ℕ → List ℕ → List ℕ
+other_name name other active = if is_eq (bytes_cmp active name) then other else active
+
+abbrev pub moved : Scripts → List ℕ → List ℕ → Option (List ℕ) → Scripts
+moved scripts name other None = scripts
+moved scripts name other (Some text) = insert (remove scripts name) other text
+
+-- a script's text under another name
+abbrev pub renamed : List ℕ → List ℕ → Scripts → Scripts
+renamed name other scripts = moved scripts name other (get scripts name)
+
 -- the messages of a folder, none where it is absent
 abbrev pub messages_in : Folders → List ℕ → List (List ℕ)
 messages_in folders name = unwrap_or (get folders name) []
@@ -100,6 +108,54 @@ filed_in message = fold (λ folders name. filed folders name message)
 
 abbrev pub files_copies : List (List ℕ) → List ℕ → Account → Account
 files_copies names message a = record a { folders = filed_in message a.folders names }
+
+-- the script has another name, which was free; it stays active where it was
+abbrev pub renames_script : List ℕ → List ℕ → Account → Account
+renames_script name other a = record a { scripts = renamed name other a.scripts; active = option_map (other_name name other) a.active }
+
+-- the script is no longer kept
+abbrev pub deletes_script : List ℕ → Account → Account
+deletes_script name a = record a { scripts = remove a.scripts name }
+
+-- a message joins the queue, with the account's next number
+abbrev pub queues : Kind → List ℕ → List ℕ → List ℕ → Account → Account
+queues kind sender target message a = record a { queue = a.queue ++ record { id = a.next_out; kind = kind; sender = sender; target = target; message = message } ∷ []; next_out = suc a.next_out }
+
+-- the row with the number leaves the queue; the number is not used again
+abbrev pub takes_out : ℕ → Account → Account
+takes_out id a = record a { queue = filter (λ out. not (out.id == id)) a.queue }
+
+-- the moment of the last reply to the sender is kept, under the key of its handle
+abbrev pub remembers : List ℕ → List ℕ → ℕ → Account → Account
+remembers handle sender moment a = record a { replies = insert a.replies (handle, lowered sender) moment }
+
+-- a notice joins the others
+abbrev pub notes : ℕ → List ℕ → Account → Account
+notes moment text a = record a { notices = a.notices ++ record { moment = moment; text = text } ∷ [] }
+
+-- ---- a delivery
+
+-- a redirect's message is the one that was received, from its sender; a reply has its own octets and the empty sender
+abbrev pub sends : List ℕ → List ℕ → Letter → Account → Account
+sends sender message (Redirect target) a = queues kind.Redirect sender target message a
+sends sender message (Reply target reply) a = queues kind.Reply [] target reply a
+
+-- the letters join the queue, in order
+abbrev pub sends_all : List ℕ → List ℕ → List Letter → Account → Account
+sends_all sender message letters a = fold (λ b letter. sends sender message letter b) a letters
+
+abbrev pub remembers_if_any : Option Remembered → Account → Account
+remembers_if_any None a = a
+remembers_if_any (Some reply) a = remembers reply.handle reply.sender reply.moment a
+
+abbrev pub notes_if_any : ℕ → Option (List ℕ) → Account → Account
+notes_if_any moment None a = a
+notes_if_any moment (Some text) a = notes moment text a
+
+-- the message joins the end of each folder, the letters join the queue, the reply is remembered, and the notice joins the others
+abbrev pub delivers : Plan → Account → Account
+delivers plan a =
+    notes_if_any plan.moment plan.notice (remembers_if_any plan.remember (sends_all plan.sender.now plan.message.now plan.outgoing (files_copies plan.copies plan.message.now a)))
 
 -- ---- accounts by name
 

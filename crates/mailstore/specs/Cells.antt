@@ -1,8 +1,9 @@
 -- Texts that may be absent, and their cells.
-use Rattle.std.specs.Prelude.{ℕ, List, Option, Some, None}
+use Rattle.std.specs.Prelude.{ℕ, List, [], ◌∷◌, Option, Some, None}
 use Rattle.std.specs.Borrow.{Bor}
 use Rattle.sqlite_value.specs.declared.value.Value.{Value}
 use Rattle.sqlite_value.specs.declared.value.Value.TheVariants.{Null, Blob}
+use Rattle.sqlite_value.specs.Order.{Row, column}
 
 -- the octets behind the reference, if there is one
 abbrev pub contents : Option (Bor (List ℕ)) → Option (List ℕ)
@@ -12,3 +13,10 @@ contents (Some b) = Some b.now
 abbrev pub or_null : Option (List ℕ) → Value
 or_null None = Null
 or_null (Some b) = Blob b
+
+-- the first cells of a row
+abbrev pub first_two : Row → Row
+first_two row = column row 0 ∷ column row 1 ∷ []
+
+abbrev pub first_five : Row → Row
+first_five row = column row 0 ∷ column row 1 ∷ column row 2 ∷ column row 3 ∷ column row 4 ∷ []

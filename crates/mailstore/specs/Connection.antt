@@ -5,7 +5,7 @@ use Rattle.sqlite_schema.specs.Names.{table_named}
 use Rattle.sqlite_trees.specs.Tree.{Trees}
 use Rattle.sqlite_trees.specs.View.{doubt}
 use Rattle.sqlite.specs.declared.error.Error.{Error}
-use Rattle.sqlite.specs.State.{State, HasCleanDisk, Survives, KeepsCommit, Shows}
+use Rattle.sqlite.specs.State.{State, HasCleanDisk, KeepsCommit, Shows}
 use Rattle.sqlrows.specs.Rows.{Tables, Holds}
 use Rattle.mailstore.specs.Schema.{mail_schema}
 

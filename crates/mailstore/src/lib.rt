@@ -19,7 +19,9 @@ mod table;
 mod version;
 
 pub use folder::Folder;
+pub use notice::Notice;
 pub use profile::Profile;
+pub use queue::{Kind, Outgoing};
 pub use refusal::Refusal;
-pub use report::{Plan, Report};
+pub use report::{Letter, Plan, Remembered, Report, VacationReport};
 pub use store::Store;

@@ -1,11 +1,43 @@
 //! The table of messages on their way out.
-ghost use Rattle.std.specs.Prelude.{◌≡◌};
+ghost use Rattle.std.specs.Prelude.{◌≡◌, false, pos, map, IfOk, IfErr};
+ghost use Rattle.sqlite_value.specs.declared.value.Value.TheVariants.{Int, Blob};
+ghost use Rattle.sqlite_value.specs.Order.{column};
 ghost use Rattle.sqlite.specs.Held.{state};
 ghost use Rattle.sqlite.specs.State.{Survives};
 ghost use Rattle.mailstore.specs.Connection.{MakesTable};
 ghost use Rattle.mailstore.specs.Schema.{schema_3, schema_4};
+ghost use Rattle.mailstore.specs.Cells.{first_five};
+ghost use Rattle.mailstore.specs.Promises.{Finds, Reads, ReadsRows};
+ghost use Rattle.mailstore.specs.QueueTable.{AreQueueRows, kind_number, outgoing_cells};
+ghost use Rattle.mailstore.specs.Refusals.{IsPassing};
 
-use sqlite::{Alter, Error, Transaction};
+use crate::cell::text_at;
+use crate::refusal::Refusal;
+use crate::store::Store;
+use octets::{ListOf, Octets};
+use sqlite::{Alter, Connection, Error, Row, Transaction, params};
+use std::alloc::Global;
+
+/// Why a message goes out.
+#[derive(Clone, Copy, Debug, PartialEq, Eq)]
+pub enum Kind {
+    /// A `redirect` (RFC 5228, section 4.2).
+    Redirect,
+    /// A vacation reply (RFC 5230).
+    Reply,
+}
+
+/// A message on its way out.
+#[derive(Debug, Drop)]
+pub struct Outgoing {
+    /// The account's own number, from 1 on; it is never used again.
+    pub id: u64,
+    pub kind: Kind,
+    /// The envelope sender; empty for a reply.
+    pub sender: Octets,
+    pub target: Octets,
+    pub message: Octets,
+}
 
 /// Makes the table `outgoing`, inside a transaction.
 pub fn make_outgoing<S: Alter>(tx: &mut Transaction<'_, S>) -> Result<(), Error>
@@ -18,4 +50,81 @@ pub fn make_outgoing<S: Alter>(tx: &mut Transaction<'_, S>) -> Result<(), Error>
         &[],
     )?;
     Ok(())
+}
+
+/// The user's queue, in the order of its numbers.
+fn find_queue<S: Alter>(conn: &mut Connection<S>, owner: &[u8]) -> Result<Vec<Row>, Error>
+    requires { conn.old.in_transaction ≡ false }
+    ensures ended { conn.new.in_transaction ≡ false }
+    ensures limit { conn.new.step_limit ≡ conn.old.step_limit }
+    ensures finds { Finds owner.now AreQueueRows (state S.Store conn.old) (state S.Store conn.new) result }
+{
+    let _settled = conn.is_autocommit();
+    conn.query_all(
+        "SELECT id, kind, sender, target, message FROM outgoing WHERE owner = ?1 ORDER BY id",
+        params![owner],
+    )
+}
+
+/// The kind whose number is in the cell; another number is refused.
+fn kind_at(row: &Row, at: usize) -> Result<Kind, Refusal>
+    ensures ok { IfOk result (λ kind. column row.now at ≡ Int (pos (kind_number kind))) }
+    ensures named { IfErr result IsPassing }
+{
+    let number: i64 = row.get(at)?;
+    if number == 1 {
+        return Ok(Kind::Redirect);
+    }
+    if number == 2 {
+        return Ok(Kind::Reply);
+    }
+    Err(Refusal::Store)
+}
+
+/// The message that the row shows.
+fn outgoing_in(row: &Row) -> Result<Outgoing, Refusal>
+    ensures id { IfOk result (λ out. column row.now 0 ≡ Int (pos out.id)) }
+    ensures kind { IfOk result (λ out. column row.now 1 ≡ Int (pos (kind_number out.kind))) }
+    ensures sender { IfOk result (λ out. column row.now 2 ≡ Blob out.sender) }
+    ensures target { IfOk result (λ out. column row.now 3 ≡ Blob out.target) }
+    ensures message { IfOk result (λ out. column row.now 4 ≡ Blob out.message) }
+    ensures named { IfErr result IsPassing }
+{
+    Ok(Outgoing {
+        id: row.get(0)?,
+        kind: kind_at(row, 1)?,
+        sender: text_at(row, 2)?,
+        target: text_at(row, 3)?,
+        message: text_at(row, 4)?,
+    })
+}
+
+/// The messages that the rows show, in their order.
+fn messages_out(alloc: Global, rows: &[Row]) -> Result<ListOf<Outgoing>, Refusal>
+    ensures ok { IfOk result (λ all. map outgoing_cells all ≡ map first_five rows.now) }
+    ensures named { IfErr result IsPassing }
+{
+    let mut all = Vec::new(alloc);
+    for row in rows {
+        all.push(outgoing_in(row)?)?;
+    }
+    Ok(ListOf::from_vec(all))
+}
+
+impl<S: Alter> Store<S> {
+    /// The rows of the user's queue, in the order of their numbers.
+    fn queue_rows(&mut self, user: &[u8]) -> Result<Vec<Row>, Refusal>
+        ensures { ReadsRows user.now AreQueueRows (state S.Store self.old) (state S.Store self.new) result }
+    {
+        self.require_account(user)?;
+        Ok(find_queue(&mut self.conn, user)?)
+    }
+
+    /// The user's messages on their way out, in the order of their numbers. All are in memory at once.
+    pub fn queue(&mut self, user: &[u8]) -> Result<ListOf<Outgoing>, Refusal>
+        ensures { Reads user.now (λ queue a. queue ≡ a.queue) (state S.Store self.old) (state S.Store self.new) result }
+    {
+        let rows = self.queue_rows(user)?;
+        messages_out(self.alloc, &rows)
+    }
 }

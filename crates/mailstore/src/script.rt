@@ -7,7 +7,7 @@ ghost use Rattle.sqlite.specs.State.{Survives};
 ghost use Rattle.mailstore.specs.Connection.{Makes, MakesTable};
 ghost use Rattle.mailstore.specs.Changes.{script_added, script_removed};
 ghost use Rattle.mailstore.specs.Schema.{schema_2, schema_3};
-ghost use Rattle.mailstore.specs.Account.{keeps_script};
+ghost use Rattle.mailstore.specs.Account.{deletes_script, keeps_script};
 ghost use Rattle.std.specs.FinMap.{get, keys};
 
 use crate::cell::{first_text, texts};
@@ -143,5 +143,13 @@ impl<S: Alter> Store<S> {
                 text,
             },
         ])
+    }
+
+    /// The script is no longer kept. That a script has the name and isn't the active one is for the
+    /// caller to see.
+    pub fn delete(&mut self, user: &[u8], name: &[u8]) -> Result<(), Refusal>
+        ensures { WritesUser user.now (deletes_script name.now) (state S.Store self.old) (state S.Store self.new) result }
+    {
+        self.apply(&[Change::RemoveScript { owner: user, name }])
     }
 }

@@ -1,5 +1,4 @@
-use Rattle.std.proofs.Common.{rules, ◌≡◌, get_or, false, IsTrue, refl, sym, ◌∙◌, arith}
-use Rattle.std.proofs.lemmas.Grind.{common_steps}
+use Rattle.std.proofs.Common.{rules, get_or}
 use Rattle.mailstore.specs.Schema.{index_of}
 use Rattle.mailstore.proofs.SchemaLemmas.{same_first, one_less, no_first, none_left, shown_false, get_is, shorter, empty_is}
 use Rattle.mailstore.proofs.schema.are_indexes.Goals as goal

@@ -1,10 +1,5 @@
 use Rattle.std.proofs.Common.{◌≡◌, rules, IsTrue}
 use Rattle.sqlite.specs.Held.{state}
-use Rattle.sqlite.specs.State.{Shown}
-use Rattle.sqlrows.proofs.ReadLemmas.{quiet}
-use Rattle.mailstore.specs.Schema.{mail_schema}
-use Rattle.mailstore.specs.MetaTable.{select_version, version_key, AreVersions}
-use Rattle.mailstore.proofs.TextFacts.{select_version_plain}
 use Rattle.mailstore.proofs.OpenLemmas.{asks_version}
 use Rattle.mailstore.proofs.version.find_version.Goals as goal
 

@@ -1,4 +1,3 @@
-use Rattle.std.proofs.Common.{◌≡◌, [], ◌∷◌, IsTrue, ap, sym, ◌∙◌, arith}
 use Rattle.mailstore.proofs.SchemaLemmas.{only_item}
 use Rattle.mailstore.proofs.OpenLemmas.{row_says}
 use Rattle.mailstore.proofs.version.says_version_1.Goals as goal

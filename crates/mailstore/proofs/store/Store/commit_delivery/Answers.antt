@@ -1,7 +1,6 @@
 use Rattle.std.proofs.Common.{◌≡◌, ◌+◌, Err, length, sym, subst, rules}
 use Rattle.sqlite.specs.Held.{state}
 use Rattle.mailstore.specs.Changes.{AreCopies}
-use Rattle.mailstore.specs.Account.{files_copies}
 use Rattle.mailstore.proofs.KeepLemmas.{account_absent}
 use Rattle.mailstore.proofs.DeliveryLemmas.{delivers_then, delivers_refused, delivers_failed}
 use Rattle.mailstore.proofs.store.Store.commit_delivery.Goals as goal

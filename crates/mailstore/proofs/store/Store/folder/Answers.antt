@@ -1,4 +1,4 @@
-use Rattle.std.proofs.Common.{◌≡◌, ◌∙◌, Err, Vec, List, ℕ, ap, rules}
+use Rattle.std.proofs.Common.{◌≡◌, ◌∙◌, Err, Vec, rules}
 use Rattle.sqlite.specs.Held.{state}
 use Rattle.std.specs.declared.alloc.Global.{Global}
 use Rattle.sqlite_value.specs.Order.{Row}

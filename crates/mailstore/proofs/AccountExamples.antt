@@ -1,0 +1,42 @@
+-- Examples of what writes make of an account, and near misses.
+use Rattle.std.proofs.Common.{◌≡◌, ℕ, suc, cond, List, [], ◌∷◌, codes, Some, None, refl, ap, ◌∙◌}
+use Rattle.std.specs.FinMap.{get, get-remove}
+use Rattle.std.proofs.lemmas.Cmp.{nat_list_cmp_total}
+use Rattle.sqlite_typed.proofs.TestLemmas.{bytes_eq_refl}
+use Rattle.mailstore.specs.declared.queue.Kind.TheVariants.{Redirect, Reply}
+use Rattle.mailstore.specs.Account.{Account, deletes_script, renames_script, queues, takes_out, remembers}
+
+abbrev one : List ℕ
+one = codes "one"
+
+abbrev two : List ℕ
+two = codes "two"
+
+-- a number that was taken out is not used again: the next message has the next number
+taken_stays_used : (a : Account) → (takes_out 1 (queues Redirect one two one a)).next_out ≡ suc a.next_out
+taken_stays_used a = refl
+
+-- only the row with the number goes
+one_is_taken : (a : Account) → a.queue ≡ [] → a.next_out ≡ 1
+    → (takes_out 1 (queues Reply [] two two (queues Redirect one two one a))).queue ≡ record { id = 2; kind = Reply; sender = []; target = two; message = two } ∷ []
+one_is_taken a none first = rw (none, first) refl
+
+-- a deleted script is gone
+deleted_is_gone : (a : Account) → get (deletes_script one a).scripts one ≡ None
+deleted_is_gone a = get-remove nat_list_cmp_total a.scripts one one ∙ ap (λ b. cond b None (get a.scripts one)) (bytes_eq_refl one)
+
+-- and no other
+other_is_kept : (a : Account) → get (deletes_script one a).scripts two ≡ get a.scripts two
+other_is_kept a = get-remove nat_list_cmp_total a.scripts one two
+
+-- the active script stays active under its other name
+renamed_is_active : (a : Account) → a.active ≡ Some one → (renames_script one two a).active ≡ Some two
+renamed_is_active a is = rw is refl
+
+-- near miss: another active script keeps its name
+other_keeps_name : (a : Account) → a.active ≡ Some two → (renames_script one (codes "three") a).active ≡ Some two
+other_keeps_name a is = rw is refl
+
+-- the sender's letters are folded, so one moment is kept for both spellings
+sender_is_folded : (a : Account) (handle : List ℕ) (moment : ℕ) → remembers handle (codes "Bob@Example.org") moment a ≡ remembers handle (codes "bob@example.org") moment a
+sender_is_folded a handle moment = refl

@@ -1,0 +1,13 @@
+use Rattle.std.proofs.Common.{[], ◌∷◌}
+use Rattle.sqlite.specs.Held.{state}
+use Rattle.mailstore.specs.declared.change.Change.TheVariants.{RemoveScript}
+use Rattle.mailstore.specs.Account.{with_user, deletes_script}
+use Rattle.mailstore.specs.Promises.{HasUser}
+use Rattle.mailstore.proofs.CallLemmas.{carries_deletion}
+use Rattle.mailstore.proofs.KeepLemmas.{writes}
+use Rattle.mailstore.proofs.store.Store.delete.Goals as goal
+
+pub returns : goal.returns
+returns g c =
+    writes c.apply.result (state g.S.Store c.args.self.now) (state g.S.Store c.apply.new.self) (RemoveScript c.args.user c.args.name ∷ []) (HasUser c.args.user.now) (λ all. with_user all c.args.user.now (deletes_script c.args.name.now))
+    (carries_deletion c.args.user c.args.name) c.apply.ensures.made c.apply.ensures.settled c.apply.ensures.same c.apply.ensures.crash c.apply.ensures.named

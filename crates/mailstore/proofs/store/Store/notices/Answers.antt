@@ -1,0 +1,18 @@
+use Rattle.std.proofs.Common.{◌≡◌, ◌∙◌, Err, Vec, rules}
+use Rattle.sqlite.specs.Held.{state}
+use Rattle.std.specs.declared.alloc.Global.{Global}
+use Rattle.sqlite_value.specs.Order.{Row}
+use Rattle.mailstore.specs.NoticeTable.{AreNoticeRows}
+use Rattle.mailstore.proofs.DecodeLemmas.{notices_are}
+use Rattle.mailstore.proofs.KeepLemmas.{reads_refused, reads_answer}
+use Rattle.mailstore.proofs.store.Store.notices.Goals as goal
+
+pub returns-in_err-rows : goal.returns-in_err-rows
+returns-in_err-rows g c =
+    let is : c.from_residual.result ≡ Err c.in_err-rows.field-0.0 = search rules in
+    reads_refused c.args.user.now (λ (rows : Vec Row Global). AreNoticeRows rows.items) _ (state g.S.Store c.args.self.now) (state g.S.Store c.notice_rows.new.self) c.in_err-rows.field-0.0 c.from_residual.result is c.in_err-rows.ensures
+
+pub returns : goal.returns
+returns g c =
+    reads_answer c.args.user.now (λ (rows : Vec Row Global). AreNoticeRows rows.items) (λ notices a. notices ≡ a.notices) (state g.S.Store c.args.self.now) (state g.S.Store c.notice_rows.new.self) c.notice_rows.result c.in_ok-rows.rows c.in_ok-rows.was c.notices_in.result c.notices_in.ensures.named
+    (λ a is. notices_are c.notices_in.result c.deref.result.now a (c.deref.ensures.value ∙ is) c.notices_in.ensures.ok) c.notice_rows.ensures

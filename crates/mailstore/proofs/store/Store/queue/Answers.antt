@@ -1,0 +1,18 @@
+use Rattle.std.proofs.Common.{◌≡◌, ◌∙◌, Err, Vec, rules}
+use Rattle.sqlite.specs.Held.{state}
+use Rattle.std.specs.declared.alloc.Global.{Global}
+use Rattle.sqlite_value.specs.Order.{Row}
+use Rattle.mailstore.specs.QueueTable.{AreQueueRows}
+use Rattle.mailstore.proofs.DecodeLemmas.{queue_is}
+use Rattle.mailstore.proofs.KeepLemmas.{reads_refused, reads_answer}
+use Rattle.mailstore.proofs.store.Store.queue.Goals as goal
+
+pub returns-in_err-rows : goal.returns-in_err-rows
+returns-in_err-rows g c =
+    let is : c.from_residual.result ≡ Err c.in_err-rows.field-0.0 = search rules in
+    reads_refused c.args.user.now (λ (rows : Vec Row Global). AreQueueRows rows.items) _ (state g.S.Store c.args.self.now) (state g.S.Store c.queue_rows.new.self) c.in_err-rows.field-0.0 c.from_residual.result is c.in_err-rows.ensures
+
+pub returns : goal.returns
+returns g c =
+    reads_answer c.args.user.now (λ (rows : Vec Row Global). AreQueueRows rows.items) (λ queue a. queue ≡ a.queue) (state g.S.Store c.args.self.now) (state g.S.Store c.queue_rows.new.self) c.queue_rows.result c.in_ok-rows.rows c.in_ok-rows.was c.messages_out.result c.messages_out.ensures.named
+    (λ a is. queue_is c.messages_out.result c.deref.result.now a (c.deref.ensures.value ∙ is) c.messages_out.ensures.ok) c.queue_rows.ensures
