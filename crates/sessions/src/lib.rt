@@ -1,6 +1,7 @@
 //! One client's session of ManageSieve (RFC 5804): octets come in pieces, and items are taken off and answered.
 #![tactic(auto)]
 
+mod account;
 pub mod decision;
 pub mod free;
 pub mod laws;
@@ -17,4 +18,3 @@ pub use decision::{Change, Decision};
 pub use progress::{Progress, Stepped};
 pub use session::Session;
 pub use turn::{Sequel, Turn};
-
