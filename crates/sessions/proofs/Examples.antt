@@ -20,7 +20,7 @@ use Rattle.sessions.specs.GivenUp.{text_given_up, client_given_up, progress_give
 use Rattle.sessions.specs.Limits.{IsScriptName}
 use Rattle.sessions.specs.Logins.{checked_by, login_reply, login_client, is_plain, is_star, authenticate_reply, response_reply}
 use Rattle.sessions.specs.Replies.{accepted, declined, farewell, listed, challenge, done, done_with, try_later, is_ok, capabilities, owner_line}
-use Rattle.sessions.specs.Scripts.{RepliesTo, HasScript, absent, too_large, get_reply, active_after, obeyed}
+use Rattle.sessions.specs.Scripts.{RepliesTo, HasScript, absent, too_large, get_reply, obeyed}
 use Rattle.sessions.specs.Steps.{IsStep, progress_of, may_fail, may_lack}
 use Rattle.sessions.specs.Table.{is_early, RepliesIn, client_in}
 use Rattle.sessions.specs.Turns.{login_text, followed}
@@ -168,13 +168,6 @@ text_sent = refl
 
 text_absent : get_reply None ≡ absent
 text_absent = refl
-
--- an active script stays active under its new name; another stays what it is
-active_renamed : active_after (codes "a") (codes "b") (Some (codes "a")) ≡ Some (codes "b")
-active_renamed = refl
-
-active_kept : active_after (codes "a") (codes "b") (Some (codes "c")) ≡ Some (codes "c")
-active_kept = refl
 
 -- a script is stored where the answer is OK, and not where it is NO
 stored : obeyed (PutScript (codes "e") []) (Some Ok) fresh ≡ keeps_script (codes "e") [] fresh

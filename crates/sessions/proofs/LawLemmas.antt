@@ -40,7 +40,7 @@ untouched accounts user = go (get accounts user) refl
         at q Equal tie = sym is ∙ ap (get accounts) (sym (bytes_antisymmetric q user tie))
         at q Greater tie = refl
 
-none_changed : (accounts : Accounts) (user : Option (List ℕ)) (change : Account → Account) → ((a : Account) → change a ≡ a) → accounts ≡ changed_for user change accounts
+pub none_changed : (accounts : Accounts) (user : Option (List ℕ)) (change : Account → Account) → ((a : Account) → change a ≡ a) → accounts ≡ changed_for user change accounts
 none_changed accounts None change same = refl
 none_changed accounts (Some user) change same =
     let kept : change ≡ (λ a. a) = λ i a. same a i in

@@ -5,4 +5,6 @@ pub mod TurnLemmas
 pub mod StepLemmas
 pub mod LawLemmas
 pub mod FreeLemmas
+pub mod ActLemmas
+pub mod OrderLemmas
 pub mod Examples

@@ -3,12 +3,12 @@ use Rattle.std.specs.Prelude.{◌≡◌, ℕ, Bool, true, false, List, Option, S
 use Rattle.std.specs.FinMap.{keys}
 use Rattle.msproto.specs.declared.commands.Command.{Command}
 use Rattle.msproto.specs.declared.commands.Command.TheVariants.{HaveSpace, PutScript, ListScripts, SetActive, DeleteScript, RenameScript}
-use Rattle.mailstore.specs.Account.{Account, keeps_script, activates}
+use Rattle.mailstore.specs.Account.{Account, keeps_script, activates, deletes_script, renames_script}
 use Rattle.sessions.specs.declared.decision.Change.{Change}
 use Rattle.sessions.specs.declared.decision.Change.TheVariants.{Put, Activate, Delete, Rename}
 use Rattle.sessions.specs.declared.decision.Decision.{Decision}
 use Rattle.sessions.specs.Replies.{value_of}
-use Rattle.sessions.specs.Scripts.{RepliesTo, deletes_script, renames_script, obeyed}
+use Rattle.sessions.specs.Scripts.{RepliesTo, obeyed}
 
 -- the account has scripts of these names
 abbrev pub AreNames : List (List ℕ) → Account → Type 0
@@ -33,6 +33,11 @@ change_made_if (Some change) a = change_made change a
 pub record IsDecision (Fits : Account → Type 0) (command : Command) (decision : Decision) : Type 0 where
   pub replies : (a : Account) → Fits a → RepliesTo a command decision.reply
   pub changes : (a : Account) → change_made_if decision.change a ≡ obeyed command decision.reply.word a
+
+-- the decision on a command of this account: the answer is of the command's row, and the change is what the answer says, of whatever account
+pub record Decides (command : Command) (decision : Decision) (a : Account) : Type 0 where
+  pub replies : RepliesTo a command decision.reply
+  pub changes : (b : Account) → change_made_if decision.change b ≡ obeyed command decision.reply.word b
 
 -- a command that is decided by the names of the account's scripts and by which one is active
 abbrev pub goes_by_names : Command → Bool

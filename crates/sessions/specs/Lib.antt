@@ -1,3 +1,4 @@
+pub mod Acts
 pub mod Clients
 pub mod Counts
 pub mod Decisions
@@ -5,6 +6,7 @@ pub mod GivenUp
 pub mod Laws
 pub mod Limits
 pub mod Logins
+pub mod Orders
 pub mod Replies
 pub mod Scripts
 pub mod Steps

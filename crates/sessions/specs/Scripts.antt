@@ -1,7 +1,7 @@
 -- What a command about scripts answers, and what it makes of an account (RFC 5804, sections 2.5 to 2.12).
 use Rattle.std.specs.Prelude.{◌≡◌, ℕ, ◌+◌, ◌<◌, ◌≤◌, ◌⊎◌, Bool, false, cond, nat_eq, List, [], ◌∷◌, length, map, codes, Option, Some, None, IsSome}
 use Rattle.std.specs.Cmp.Lexicographic.{pointwise}
-use Rattle.std.specs.FinMap.{get, insert, remove, len, keys}
+use Rattle.std.specs.FinMap.{get, len, keys}
 use Rattle.sievelex.specs.declared.fault.FaultKind.{FaultKind}
 use Rattle.sievelex.specs.declared.fault.ScriptFault.{ScriptFault}
 use Rattle.sievelex.specs.Faults.{fault_line}
@@ -15,7 +15,7 @@ use Rattle.msproto.specs.declared.replies.Line.{Line}
 use Rattle.msproto.specs.declared.replies.Line.TheVariants as line
 use Rattle.msproto.specs.declared.replies.Status.{Status}
 use Rattle.msproto.specs.declared.replies.Code.TheVariants.{MaxSize, MaxScripts, NonExistent, Active, AlreadyExists}
-use Rattle.mailstore.specs.Account.{Account, Scripts, keeps_script, activates}
+use Rattle.mailstore.specs.Account.{Account, keeps_script, activates, deletes_script, renames_script}
 use Rattle.sessions.specs.Limits.{script_limit, scripts_limit, IsScriptName}
 use Rattle.sessions.specs.Replies.{accepted, declined, listed, done, is_ok}
 
@@ -148,22 +148,6 @@ RepliesTo a _ reply = ⊥
 abbrev pub chosen : List ℕ → Option (List ℕ)
 chosen [] = None
 chosen (octet ∷ rest) = Some (octet ∷ rest)
-
--- the script of that name goes
-abbrev pub deletes_script : List ℕ → Account → Account
-deletes_script name a = record a { scripts = remove a.scripts name }
-
--- the active name, where a script gets another name
-abbrev pub active_after : List ℕ → List ℕ → Option (List ℕ) → Option (List ℕ)
-active_after old new active = cond (is_active active old) (Some new) active
-
-abbrev pub scripts_renamed : List ℕ → List ℕ → Scripts → Option (List ℕ) → Scripts
-scripts_renamed old new scripts None = scripts
-scripts_renamed old new scripts (Some text) = insert (remove scripts old) new text
-
--- a script gets another name, and stays active if it was
-abbrev pub renames_script : List ℕ → List ℕ → Account → Account
-renames_script old new a = record a { scripts = scripts_renamed old new a.scripts (get a.scripts old); active = active_after old new a.active }
 
 -- the account after a command that was carried out
 abbrev pub carried_out : Command → Account → Account

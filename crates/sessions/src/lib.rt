@@ -1,6 +1,7 @@
 //! One client's session of ManageSieve (RFC 5804): octets come in pieces, and items are taken off and answered.
 #![tactic(auto)]
 
+mod account;
 pub mod decision;
 pub mod free;
 pub mod laws;

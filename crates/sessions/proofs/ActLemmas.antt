@@ -1,0 +1,91 @@
+-- Calls over a store: reads alone, and reads with one write behind them.
+use Rattle.std.proofs.Common.{◌≡◌, ◌⊎◌, ℕ, List, Option, Some, Ok, Err, Result, OnOk, OnErr, IsSome, IsTrue, refl, sym, ◌∙◌, subst}
+use Rattle.sqlite_trees.specs.Tree.{Trees}
+use Rattle.sqlite.specs.State.{State, HasCleanDisk, Survives}
+use Rattle.sqlite.proofs.StateLemmas.{survives_then, survives_weaker}
+use Rattle.mailstore.specs.declared.refusal.Refusal.{Refusal}
+use Rattle.mailstore.specs.Account.{Accounts}
+use Rattle.mailstore.specs.Connection.{StaysSame}
+use Rattle.mailstore.specs.Promises.{HasOurTables, Keeps, Writes, MayShow}
+use Rattle.mailstore.specs.Shows.{Presents}
+use Rattle.mailstore.proofs.ResultLemmas.{on_ok, on_err_any}
+use Rattle.mailstore.proofs.WriteLemmas.{clean_before}
+use Rattle.sessions.specs.Acts.{HasAccounts, CrashLeaves, Acts, Glances}
+
+-- ---- reads
+
+pub glanced : {X E : Type 0} (a b : State) (r : Result X E) → Keeps a b r → Glances a b
+glanced a b r k = record { same = k.same; shut = k.shut; crash = k.crash }
+
+-- the accounts that are shown stay
+pub accounts_stay : (a b : State) → Glances a b → HasCleanDisk b → (accounts : Accounts) → HasAccounts a accounts → HasAccounts b accounts
+accounts_stay a b k clean accounts shown is_open =
+    let p = shown (k.shut clean is_open) in
+    subst (λ db. Presents db accounts) (sym ((k.same clean (p.0, p.1)).now_is is_open)) p
+
+-- once something was read, the tables showed them
+pub read_shows : {X E : Type 0} (a b : State) (r : Result X E) (x : X) → r ≡ Ok x → Keeps a b r → HasCleanDisk b → (accounts : Accounts) → HasAccounts a accounts → Presents a.now accounts × IsTrue b.is_open × Presents b.now accounts
+read_shows a b r x is k clean accounts shown =
+    let live = on_ok r x is (IsTrue b.is_open) (k.live clean) in
+    (shown (k.shut clean live), live, accounts_stay a b (glanced a b r k) clean accounts shown live)
+
+-- reads alone, with whatever answer
+pub acts_read : {Y : Type 0} (a b : State) (Turn MayTurn : Accounts → Accounts → Type 0) (q : Result Y Refusal) → Glances a b
+    → (HasCleanDisk b → (accounts : Accounts) → HasAccounts a accounts → Turn accounts accounts) → Acts Turn MayTurn a b q
+acts_read a b Turn MayTurn q k turn = record {
+  carries = λ clean accounts shown. (accounts, turn clean accounts shown, accounts_stay a b k clean accounts shown);
+  same = λ clean tables. on_err_any q _ (k.same clean tables);
+  crash = survives_weaker a b _ (CrashLeaves MayTurn a) (λ clean db none accounts p. absurd (none (p.0, p.1))) k.crash;
+}
+
+-- ---- reads, and then one write
+
+module _ {X Y E : Type 0} (a b c : State) (r : Result X E) (x : X) (is : r ≡ Ok x) (k : Keeps a b r) (Fit : Accounts → Type 0) (change : Accounts → Accounts)
+    (w : Result Y Refusal) (late : Writes Fit change b c w) (Turn MayTurn : Accounts → Accounts → Type 0) where
+  -- what the tables show between the two
+  mid_shows : HasCleanDisk c → (accounts : Accounts) → HasAccounts a accounts → Presents a.now accounts × IsTrue b.is_open × Presents b.now accounts
+  mid_shows clean = read_shows a b r x is k (clean_before b c _ late.crash clean)
+
+  crash_turned : (HasCleanDisk b → (accounts : Accounts) → Presents a.now accounts → Fit accounts × MayTurn accounts (change accounts)) → Survives a c (CrashLeaves MayTurn a)
+  crash_turned steps = survives_then a b c _ _ _ (λ clean db none accounts p. absurd (none (p.0, p.1)))
+      (λ clean db may accounts p.
+      let before = clean_before b c _ late.crash clean in
+      let m = mid_shows clean accounts (λ o. p) in
+      let step = steps before accounts p in
+      (change accounts, step.1, may accounts m.2 step.0)) k.crash late.crash
+
+  -- the write was made
+  pub acts_made : {Z : Type 0} (y : Y) (z : Z) → w ≡ Ok y
+      → (HasCleanDisk b → (accounts : Accounts) → Presents a.now accounts → Fit accounts × Turn accounts (change accounts) × MayTurn accounts (change accounts)) → Acts Turn MayTurn a c (Ok z)
+  acts_made y z was steps = record {
+    carries = λ clean accounts shown.
+        let m = mid_shows clean accounts shown in
+        let step = steps (clean_before b c _ late.crash clean) accounts m.0 in
+        (change accounts, step.1, λ is_open. on_ok w y was _ (late.made clean) accounts m.2 step.0);
+    same = λ clean tables. tt;
+    crash = crash_turned (λ clean accounts p. let step = steps clean accounts p in (step.0, step.2));
+  }
+
+  -- the write was refused
+  pub acts_undone : {Z : Type 0} (e : Refusal) (q : Result Z Refusal) → w ≡ Err e → ((accounts : Accounts) → Turn accounts accounts)
+      → (HasCleanDisk b → (accounts : Accounts) → Presents a.now accounts → Fit accounts × MayTurn accounts (change accounts)) → Acts Turn MayTurn a c q
+  acts_undone e q was turn steps = record {
+    carries = λ clean accounts shown.
+        let m = mid_shows clean accounts shown in
+        let undone = undone_is clean in
+        (accounts, turn accounts, λ is_open. subst (λ db. Presents db accounts) (sym (undone.now_is is_open)) m.2);
+    same = λ clean tables.
+        let before = clean_before b c _ late.crash clean in
+        let mid = on_ok r x is (IsTrue b.is_open) (k.live before) in
+        let one = k.same before tables in
+        let two = undone_is clean in
+        on_err_any q _ (record { now_is = λ o. two.now_is o ∙ one.now_is mid; committed_is = λ o. two.committed_is o ∙ one.committed_is mid });
+    crash = crash_turned steps;
+  }
+    where
+      refused : (w : Result Y Refusal) → w ≡ Err e → (P : Type 0) → OnErr w P → P
+      refused (Ok y) was P h = absurd (let no = was in cc)
+      refused (Err f) was P h = h
+
+      undone_is : HasCleanDisk c → StaysSame b c
+      undone_is clean = refused w was _ (late.same clean)

@@ -1,0 +1,128 @@
+-- Commands about scripts, over a store.
+use Rattle.std.proofs.Common.{◌≡◌, ◌⊎◌, ℕ, Bool, true, false, cond, List, ◌++◌, Option, Some, None, option_map, Ok, Err, Result, OnOk, IfOk, IfErr, IsSome, refl, sym, ap, ◌∙◌, subst}
+use Rattle.std.specs.Borrow.{Bor}
+use Rattle.std.specs.FinMap.{get, keys}
+use Rattle.sqlite.specs.State.{State, HasCleanDisk}
+use Rattle.msproto.specs.declared.commands.Command.{Command}
+use Rattle.msproto.specs.declared.commands.Command.TheVariants.{GetScript}
+use Rattle.msproto.specs.declared.replies.Reply.{Reply}
+use Rattle.msproto.specs.Replies.{spelled}
+use Rattle.mailstore.specs.declared.profile.Profile.{Profile}
+use Rattle.mailstore.specs.declared.refusal.Refusal.{Refusal}
+use Rattle.mailstore.specs.declared.refusal.Refusal.TheVariants.{NoUser}
+use Rattle.mailstore.specs.Account.{Account, Accounts, with_user}
+use Rattle.mailstore.specs.AccountTable.{profile_of}
+use Rattle.mailstore.specs.Cells.{contents}
+use Rattle.mailstore.specs.Promises.{HasUser, IsFree, OfUser, Keeps, Reads, ReadsProfile, WritesUser}
+use Rattle.mailstore.specs.Refusals.{IsPassing}
+use Rattle.mailstore.specs.Shows.{Presents}
+use Rattle.mailstore.proofs.KeepLemmas.{keeps_ok, keeps_refused, keeps_then, mid_shows}
+use Rattle.mailstore.proofs.WriteLemmas.{clean_before}
+use Rattle.sessions.specs.declared.account.KeptScripts.{KeptScripts}
+use Rattle.sessions.specs.declared.decision.Change.{Change}
+use Rattle.sessions.specs.declared.decision.Decision.{Decision}
+use Rattle.sessions.specs.Acts.{HasAccounts, Acts}
+use Rattle.sessions.specs.Decisions.{AreScripts, Decides, change_made, change_made_if}
+use Rattle.sessions.specs.Orders.{ObeysUser, ObeyedTo, MayObey}
+use Rattle.sessions.specs.Replies.{is_ok, value_of}
+use Rattle.sessions.specs.Scripts.{get_reply, obeyed}
+use Rattle.sessions.proofs.LawLemmas.{none_changed}
+use Rattle.sessions.proofs.ActLemmas.{glanced, read_shows, acts_read, acts_made, acts_undone}
+
+pub value_is : (o : Option (Bor (List ℕ))) → contents o ≡ value_of o
+value_is None = refl
+value_is (Some text) = refl
+
+-- ---- the names and the active one, by two reads
+
+profile_active : (p : Profile) (a : Account) → Some p ≡ Some (profile_of a) → a.active ≡ p.active
+profile_active p a is = let same : p ≡ profile_of a = cc in sym (ap (λ (q : Profile). q.active) same)
+
+module _ (user : List ℕ) (a b c : State) (r : Result (Option Profile) Refusal) (o : Option Profile) (was : r ≡ Ok o) (p : Profile) (some : o ≡ Some p) (early : ReadsProfile user a b r) where
+  pub kept_read : (names : List (List ℕ)) → Reads user (λ texts account. texts ≡ keys account.scripts) b c (Ok names)
+      → Reads user (λ (kept : KeptScripts) account. AreScripts kept.names kept.active account) a c (Ok (record { names = names; active = p.active }))
+  kept_read names late = record {
+    found = λ clean accounts shows.
+        let there = late.found clean accounts (mid_shows a b c r o was (Ok names) early.keeps late.keeps clean accounts shows) in
+        let told : o ≡ option_map profile_of (get accounts user) = subst (λ q. IfOk q (λ profile. profile ≡ option_map profile_of (get accounts user))) was (early.found (clean_before b c _ late.keeps.crash clean) accounts shows) in
+        (there.0, there.1, (there.2, profile_active p there.0 (sym some ∙ told ∙ ap (option_map profile_of) there.1)));
+    absent = λ clean accounts shows. tt;
+    keeps = keeps_ok a c (Ok names) names (Ok (record { names = names; active = p.active })) refl (keeps_then a b c r o was (Ok names) early.keeps late.keeps);
+    named = tt;
+  }
+
+  pub kept_refused : {X Y : Type 0} (P : X → Account → Type 0) (Q : Y → Account → Type 0) (e : Refusal) → Reads user P b c (Err e) → (q : Result Y Refusal) → q ≡ Err e → Reads user Q a c q
+  kept_refused P Q e late q is = record {
+    found = λ clean accounts shows. subst (λ x. IfOk x (λ y. OfUser accounts user (Q y))) (sym is) tt;
+    absent = λ clean accounts shows. subst (λ x. IfErr x (λ f. f ≡ NoUser → IsFree user accounts)) (sym is) (late.absent clean accounts (mid_shows a b c r o was (Err e) early.keeps late.keeps clean accounts shows));
+    keeps = keeps_refused a c (Err e) e q is (keeps_then a b c r o was (Err e) early.keeps late.keeps);
+    named = subst (λ x. IfErr x (λ f. (f ≡ NoUser) ⊎ IsPassing f)) (sym is) late.named;
+  }
+
+-- ---- decisions
+
+same_both : (t : Bool) (a : Account) → a ≡ cond t a a
+same_both true a = refl
+same_both false a = refl
+
+-- a script was read, or none of that name is there
+pub got : (command : Command) (name seen : List ℕ) (text : Option (List ℕ)) (reply : Reply) (a : Account) → command ≡ GetScript name → seen ≡ name → reply ≡ get_reply text → text ≡ get a.scripts seen
+    → Decides command (record { reply = reply; change = None }) a
+got command name seen text reply a at same right is =
+    subst (λ (c : Command). Decides c (record { reply = reply; change = None }) a) (sym at)
+    (record { replies = right ∙ ap get_reply (is ∙ ap (get a.scripts) same); changes = λ b. same_both (is_ok reply.word) b })
+
+-- ---- the answer, and what changes
+
+-- what such a call answers
+abbrev pub done : Result (Unit {0}) Refusal
+done = Ok tt
+
+abbrev pub refused : Refusal → Result (Unit {0}) Refusal
+refused e = Err e
+
+pub refused_obeys : {X : Type 0} (user : List ℕ) (command : Command) (q : Result X Refusal) (before behind : List ℕ) (accounts : Accounts) → OnOk q ⊥ → ObeyedTo user command q before behind accounts accounts
+refused_obeys user command (Ok x) before behind accounts none = absurd none
+refused_obeys user command (Err e) before behind accounts none = refl
+
+quiet : (user : List ℕ) (command : Command) (d : Decision) (accounts : Accounts) → OfUser accounts user (Decides command d) → d.change ≡ None → ObeysUser user command d.reply accounts accounts
+quiet user command d accounts own none = record {
+  account = own.0;
+  has = own.1;
+  replies = own.2.replies;
+  changed = none_changed accounts (Some user) (obeyed command d.reply.word)
+      (λ b. sym (subst (λ (o : Option Change). change_made_if o b ≡ obeyed command d.reply.word b) none (own.2.changes b)));
+}
+
+loud : (user : List ℕ) (command : Command) (d : Decision) (change : Change) (accounts : Accounts) → OfUser accounts user (Decides command d) → d.change ≡ Some change
+    → ObeysUser user command d.reply accounts (with_user accounts user (change_made change))
+loud user command d change accounts own some =
+    let same : change_made change ≡ obeyed command d.reply.word =
+    λ i b. subst (λ (o : Option Change). change_made_if o b ≡ obeyed command d.reply.word b) some (own.2.changes b) i in
+    record { account = own.0; has = own.1; replies = own.2.replies; changed = ap (with_user accounts user) same }
+
+module _ (user : List ℕ) (command : Command) (a b : State) (r : Result Decision Refusal) (d : Decision) (was : r ≡ Ok d) (reads : Reads user (Decides command) a b r) where
+  own : HasCleanDisk b → (accounts : Accounts) → Presents a.now accounts → OfUser accounts user (Decides command d)
+  own clean accounts p = subst (λ q. IfOk q (λ x. OfUser accounts user (Decides command x))) was (reads.found clean accounts p)
+
+  -- nothing is to be written
+  pub obeys_quietly : (before behind : List ℕ) → d.change ≡ None → behind ≡ before ++ spelled d.reply → Acts (ObeyedTo user command done before behind) (MayObey user command) a b done
+  obeys_quietly before behind none told =
+      acts_read a b (ObeyedTo user command done before behind) (MayObey user command) done (glanced a b r reads.keeps)
+      (λ clean accounts shown. let p = (read_shows a b r d was reads.keeps clean accounts shown).0 in (d.reply, told, quiet user command d accounts (own clean accounts p) none))
+
+  module _ (c : State) (change : Change) (some : d.change ≡ Some change) (w : Result (Unit {0}) Refusal) (late : WritesUser user (change_made change) b c w) where
+    fits : HasCleanDisk b → (accounts : Accounts) → Presents a.now accounts → HasUser user accounts × ObeysUser user command d.reply accounts (with_user accounts user (change_made change))
+    fits clean accounts p =
+        let o = own clean accounts p in
+        (subst IsSome (sym o.1) refl, loud user command d change accounts o some)
+
+    pub obeys_made : (before behind : List ℕ) → behind ≡ before ++ spelled d.reply → (y : Unit {0}) → w ≡ Ok y → Acts (ObeyedTo user command done before behind) (MayObey user command) a c done
+    obeys_made before behind told y is =
+        acts_made a b c r d was reads.keeps (HasUser user) (λ all. with_user all user (change_made change)) w late (ObeyedTo user command done before behind) (MayObey user command) y tt is
+        (λ clean accounts p. let f = fits clean accounts p in (f.0, (d.reply, told, f.1), (d.reply, f.1)))
+
+    pub obeys_undone : (before behind : List ℕ) (e : Refusal) → w ≡ Err e → Acts (ObeyedTo user command (refused e) before behind) (MayObey user command) a c (refused e)
+    obeys_undone before behind e is =
+        acts_undone a b c r d was reads.keeps (HasUser user) (λ all. with_user all user (change_made change)) w late (ObeyedTo user command (refused e) before behind) (MayObey user command) e (refused e) is
+        (λ accounts. refl) (λ clean accounts p. let f = fits clean accounts p in (f.0, (d.reply, f.1)))

@@ -1,0 +1,33 @@
+-- What a call makes of the accounts that a store shows.
+use Rattle.std.specs.Prelude.{◌≡◌, Result, OnErr, IsTrue}
+use Rattle.sqlite_trees.specs.Tree.{Trees}
+use Rattle.sqlite.specs.State.{State, HasCleanDisk, Survives}
+use Rattle.mailstore.specs.declared.refusal.Refusal.{Refusal}
+use Rattle.mailstore.specs.Account.{Accounts}
+use Rattle.mailstore.specs.Connection.{StaysSame}
+use Rattle.mailstore.specs.Promises.{HasOurTables}
+use Rattle.mailstore.specs.Shows.{Presents, ShowsIn}
+
+-- the tables show the accounts; of a connection that a fault of the disk has shut nothing is said
+abbrev pub HasAccounts : State → Accounts → Type 0
+HasAccounts s accounts = IsTrue s.is_open → Presents s.now accounts
+
+-- whatever accounts the store showed, it then shows some that these turn into
+abbrev pub Carries : (Accounts → Accounts → Type 0) → State → State → Type 0
+Carries Turn old new = HasCleanDisk new → (accounts : Accounts) → HasAccounts old accounts → (later : Accounts) × Turn accounts later × HasAccounts new later
+
+-- what a crash leaves shows accounts that these may turn into, as a whole
+abbrev pub CrashLeaves : (Accounts → Accounts → Type 0) → State → Trees → Type 0
+CrashLeaves MayTurn s trees = (accounts : Accounts) → Presents s.now accounts → (later : Accounts) × MayTurn accounts later × ShowsIn trees later
+
+-- a call over the store: how the accounts turn; after a refusal all is as before; a crash leaves what it left before, or the accounts turned as they may be
+pub record Acts {X : Type 0} (Turn MayTurn : Accounts → Accounts → Type 0) (old new : State) (result : Result X Refusal) : Type 0 where
+  pub carries : Carries Turn old new
+  pub same : HasCleanDisk new → HasOurTables old.now → OnErr result (StaysSame old new)
+  pub crash : Survives old new (CrashLeaves MayTurn old)
+
+-- reads, if any: what the connection sees stays, one that a fault of the disk has shut stays shut, and a crash leaves what it left before
+pub record Glances (old new : State) : Type 0 where
+  pub same : HasCleanDisk new → HasOurTables old.now → StaysSame old new
+  pub shut : HasCleanDisk new → IsTrue new.is_open → IsTrue old.is_open
+  pub crash : Survives old new (λ _. HasOurTables old.now → ⊥)

@@ -1,0 +1,58 @@
+-- Commands that are answered over a store: what a step over one comes to.
+use Rattle.std.specs.Prelude.{◌≡◌, ◌⊎◌, ℕ, Bool, true, false, List, [], ◌++◌, Option, Some, Result, Ok, Err}
+use Rattle.std.specs.FinMap.{get}
+use Rattle.msproto.specs.declared.commands.Command.{Command}
+use Rattle.msproto.specs.declared.items.Item.TheVariants as item
+use Rattle.msproto.specs.declared.replies.Reply.{Reply}
+use Rattle.msproto.specs.Replies as octets_of
+use Rattle.mailstore.specs.declared.refusal.Refusal.{Refusal}
+use Rattle.mailstore.specs.declared.refusal.Refusal.TheVariants.{Memory, Store}
+use Rattle.mailstore.specs.Account.{Account, Accounts, with_user}
+use Rattle.sessions.specs.declared.progress.Progress.{Progress}
+use Rattle.sessions.specs.Clients.{Client, item_in}
+use Rattle.sessions.specs.Scripts.{RepliesTo, obeyed}
+use Rattle.sessions.specs.Steps.{IsStep, may_lack, may_fail, is_free}
+use Rattle.sessions.specs.Table.{is_early}
+
+-- ---- a command about a user's scripts
+
+-- the user's account is answered by a reply of the command's row, and changes as its word says
+pub record ObeysUser (user : List ℕ) (command : Command) (reply : Reply) (accounts later : Accounts) : Type 0 where
+  pub account : Account
+  pub has : get accounts user ≡ Some account
+  pub replies : RepliesTo account command reply
+  pub changed : later ≡ with_user accounts user (obeyed command reply.word)
+
+-- what the call wrote between two outputs is such a reply; after a refusal no account changed
+abbrev pub ObeyedTo : {X : Type 0} → List ℕ → Command → Result X Refusal → List ℕ → List ℕ → Accounts → Accounts → Type 0
+ObeyedTo user command (Ok x) before behind accounts later = (reply : Reply) × (behind ≡ before ++ octets_of.spelled reply) × ObeysUser user command reply accounts later
+ObeyedTo user command (Err refusal) before behind accounts later = later ≡ accounts
+
+-- what the accounts may turn into by the command
+abbrev pub MayObey : List ℕ → Command → Accounts → Accounts → Type 0
+MayObey user command accounts later = (reply : Reply) × ObeysUser user command reply accounts later
+
+-- ---- a step
+
+-- what the call wrote between two outputs answers a step that leaves the session and the accounts so; after a refusal nothing changed
+abbrev pub StepsTo : Client → Client → Result Progress Refusal → List ℕ → List ℕ → Accounts → Accounts → Type 0
+StepsTo c d (Ok progress) before behind accounts later = (octets : List ℕ) × (behind ≡ before ++ octets) × IsStep accounts c progress octets d later
+StepsTo c d (Err refusal) before behind accounts later = later ≡ accounts
+
+-- what the accounts may turn into by a step of the session
+abbrev pub MayStep : Client → Accounts → Accounts → Type 0
+MayStep c accounts later = (progress : Progress) × (octets : List ℕ) × (d : Client) × IsStep accounts c progress octets d later
+
+-- which refusals a step may give
+abbrev pub MayRefuse : Client → Refusal → Type 0
+MayRefuse c Memory = may_lack c ≡ true
+MayRefuse c Store = may_fail c ≡ true
+MayRefuse c _ = ⊥
+
+-- this command comes first, and is answered over the store
+pub record Asked (c : Client) (command : Command) : Type 0 where
+  pub live : c.closed ≡ false
+  pub used : ℕ
+  pub first : item_in c ≡ item.Command command used
+  pub late : is_early c command ≡ false
+  pub asks : is_free command ≡ false

@@ -1,0 +1,127 @@
+//! What a session reads of its user's account, and what it writes there.
+ghost use Rattle.std.specs.Prelude.{◌≡◌, ◌⊎◌, true, take, OnErr, IfErr};
+ghost use Rattle.sqlite.specs.Held.{state};
+ghost use Rattle.mailstore.specs.declared.refusal.Refusal.TheVariants.{NoUser};
+ghost use Rattle.mailstore.specs.Promises.{Reads, WritesUser};
+ghost use Rattle.mailstore.specs.Refusals.{IsPassing};
+ghost use Rattle.sessions.specs.Acts.{Acts};
+ghost use Rattle.sessions.specs.Decisions.{AreScripts, Decides, change_made};
+ghost use Rattle.sessions.specs.Orders.{ObeyedTo, MayObey};
+ghost use Rattle.sessions.specs.Replies.{value_of};
+ghost use Rattle.sessions.specs.Table.{is_about_scripts};
+
+use crate::decision::{Change, Decision};
+use crate::scripts::{decide, get_script};
+use mailstore::{Refusal, Store};
+use msproto::{Command, spell};
+use octets::{Octets, Texts};
+use sqlite::Alter;
+use std::alloc::Global;
+use std::mem;
+
+/// The names of an account's scripts, in the order of their octets, and the active one.
+#[derive(Drop)]
+pub(crate) struct KeptScripts {
+    pub names: Texts,
+    pub active: Option<Octets>,
+}
+
+/// Answers a command about the user's scripts: the account is read, the answer joins the output, and what the answer says is
+/// written as the last act. After a refusal the output and the store are as they were.
+pub(crate) fn obey<S: Alter>(
+    alloc: Global,
+    store: &mut Store<S>,
+    user: &[u8],
+    command: &Command,
+    out: &mut Octets,
+) -> Result<(), Refusal>
+    requires { is_about_scripts command.now ≡ true }
+    ensures acts { Acts (ObeyedTo user.now command.now result out.old out.new) (MayObey user.now command.now) (state S.Store store.old) (state S.Store store.new) result }
+    ensures err { OnErr result (out.new ≡ out.old) }
+    ensures named { IfErr result (λ e. (e ≡ NoUser) ⊎ IsPassing e) }
+{
+    let Decision { reply, change } = decision_on(alloc, store, user, command)?;
+    let before = out.len();
+    spell(alloc, &reply, out)?;
+    let Some(change) = change else {
+        return Ok(());
+    };
+    if let Err(refusal) = make(store, user, change) {
+        shorten(alloc, out, before);
+        return Err(refusal);
+    }
+    Ok(())
+}
+
+/// What a command about scripts comes to, decided from what the user's account has.
+fn decision_on<'a, S: Alter>(
+    alloc: Global,
+    store: &mut Store<S>,
+    user: &[u8],
+    command: &'a Command,
+) -> Result<Decision<'a>, Refusal>
+    requires { is_about_scripts command.now ≡ true }
+    ensures { Reads user.now (Decides command.entry.now) (state S.Store store.old) (state S.Store store.new) result }
+{
+    if let Command::GetScript(name) = command {
+        let text = store.script(user, name.as_slice())?;
+        let reply = get_script(alloc, text)?;
+        return Ok(Decision {
+            reply,
+            change: None,
+        });
+    }
+    let kept = kept_scripts(store, user)?;
+    let decision = decide(
+        alloc,
+        kept.names.as_slice(),
+        slice_of(&kept.active),
+        command,
+    )?;
+    Ok(decision)
+}
+
+/// The names of the user's scripts, and the active one.
+fn kept_scripts<S: Alter>(store: &mut Store<S>, user: &[u8]) -> Result<KeptScripts, Refusal>
+    ensures { Reads user.now (λ kept a. AreScripts kept.names kept.active a) (state S.Store store.old) (state S.Store store.new) result }
+{
+    let Some(profile) = store.account(user)? else {
+        return Err(Refusal::NoUser);
+    };
+    let names = store.scripts(user)?;
+    Ok(KeptScripts {
+        names,
+        active: profile.active,
+    })
+}
+
+/// Writes the change of the user's scripts, in one transaction.
+fn make<S: Alter>(store: &mut Store<S>, user: &[u8], change: Change) -> Result<(), Refusal>
+    ensures { WritesUser user.now (change_made change.entry) (state S.Store store.old) (state S.Store store.new) result }
+{
+    match change {
+        Change::Put { name, script } => store.put_script(user, name, script),
+        Change::Activate(name) => store.set_active(user, name),
+        Change::Delete(name) => store.delete(user, name),
+        Change::Rename { .. } => Err(Refusal::Store),
+    }
+}
+
+// The text's octets, if there is one.
+fn slice_of(text: &Option<Octets>) -> Option<&[u8]>
+    ensures { value_of result ≡ text.now }
+{
+    match text {
+        Some(text) => Some(text.as_slice()),
+        None => None,
+    }
+}
+
+// Takes off all but so many octets. Takes no memory.
+fn shorten(alloc: Global, out: &mut Octets, count: usize)
+    ensures { out.new ≡ take count out.old }
+{
+    let mut octets = mem::replace(out, Octets::new(alloc)).into_vec();
+    octets.truncate(count);
+    *out = Octets::from_vec(octets);
+}
