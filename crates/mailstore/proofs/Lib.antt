@@ -20,3 +20,4 @@ pub mod OneLemmas
 pub mod SchemaLemmas
 pub mod OpenLemmas
 pub mod ShowExamples
+mod OpenExamples
