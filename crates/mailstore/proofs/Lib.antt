@@ -24,3 +24,4 @@ pub mod SchemaLemmas
 pub mod OpenLemmas
 pub mod ShowExamples
 pub mod AccountExamples
+mod OpenExamples
