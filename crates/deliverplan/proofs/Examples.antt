@@ -14,7 +14,7 @@ use Rattle.mailstore.specs.Account.{Account, files_copies, notes, remembers}
 use Rattle.mailstore.specs.declared.queue.Kind.TheVariants.{Redirect, Reply}
 use Rattle.mailstore.specs.declared.report.VacationReport.TheVariants as V
 use Rattle.deliverplan.specs.Views.{last_reply, moment_under}
-use Rattle.deliverplan.specs.Delivered.{Disposition, Acts, Tells, Disposes, disposition_of, invalid_text, is_looping, is_received, kept, loop_text, Answer, Silent, Quiet, Sent, Answers, acts, answers, redirects, report_of, notice_report, CarriesOut, LeavesNotice, Delivers}
+use Rattle.deliverplan.specs.Delivered.{Disposition, Acts, Tells, Disposes, disposition_of, invalid_text, is_looping, is_received, kept, loop_text, Response, Silent, Quiet, Sent, Responds, acts, responds, redirects, report_of, notice_report, CarriesOut, LeavesNotice, Delivers}
 use Rattle.deliverplan.proofs.DeliveryLaws.{one_delivery}
 
 abbrev alice : Addr
@@ -64,17 +64,17 @@ looping_without_script = refl
 failures : (disposition_of (Failed TwoVacations) ≡ Tells (codes "vacation executed twice")) × (disposition_of (Failed TooManyRedirects) ≡ Tells (codes "more than 16 redirects"))
 failures = (refl, refl)
 
--- ---- the answer to the sender
+-- ---- the response to the sender
 
 -- the null sender is answered nothing, and nothing of it is kept; near miss: it is answered
-null_sender : Answers alice 5 (mail_with [] []) (λ key. None) (Some away) (Quiet R.NullSender)
+null_sender : Responds alice 5 (mail_with [] []) (λ key. None) (Some away) (Quiet R.NullSender)
 null_sender = refl
 
-null_sender_answered : (key reply : List ℕ) → Answers alice 5 (mail_with [] []) (λ key. None) (Some away) (Sent key reply) → ⊥
+null_sender_answered : (key reply : List ℕ) → Responds alice 5 (mail_with [] []) (λ key. None) (Some away) (Sent key reply) → ⊥
 null_sender_answered key reply is = cc
 
 -- without `vacation` there is no reason either
-no_vacation : (own : Addr) (mail : MailSpec) → Answers own 5 mail (λ key. None) None (Quiet R.NullSender) → ⊥
+no_vacation : (own : Addr) (mail : MailSpec) → Responds own 5 mail (λ key. None) None (Quiet R.NullSender) → ⊥
 no_vacation own mail is = cc
 
 -- a moment is kept under its own key
@@ -91,15 +91,15 @@ two_redirects : (a : Account) → (redirects (mail_with bob []) (alice ∷ carol
 two_redirects a = refl
 
 -- a response goes out from the empty sender
-reply_row : (a : Account) → (answers (mail_with bob []) 5 (Sent (codes "k") (codes "r")) a).queue
+reply_row : (a : Account) → (responds (mail_with bob []) 5 (Sent (codes "k") (codes "r")) a).queue
     ≡ a.queue ++ record { id = a.next_out; kind = Reply; sender = []; target = bob; message = codes "r" } ∷ []
 reply_row a = refl
 
 -- its moment is kept for the sender in lower case; where none is sent, nothing changes
-reply_moment : (a : Account) → (answers (mail_with bob []) 5 (Sent (codes "k") (codes "r")) a).replies ≡ (remembers (codes "k") (codes "bob@example.net") 5 a).replies
+reply_moment : (a : Account) → (responds (mail_with bob []) 5 (Sent (codes "k") (codes "r")) a).replies ≡ (remembers (codes "k") (codes "bob@example.net") 5 a).replies
 reply_moment a = refl
 
-quiet_changes_nothing : (a : Account) → answers (mail_with bob []) 5 (Quiet R.TooSoon) a ≡ a
+quiet_changes_nothing : (a : Account) → responds (mail_with bob []) 5 (Quiet R.TooSoon) a ≡ a
 quiet_changes_nothing a = refl
 
 -- ---- what is reported
@@ -116,7 +116,7 @@ delivered a =
     record {
       disposition = Acts kept;
       disposes = refl;
-      delivers = record { answer = Silent; is_answer = refl; reported = refl; changed = refl };
+      delivers = record { response = Silent; is_response = refl; reported = refl; changed = refl };
     }
 
 looped : (a : Account) → Delivers alice 5 (mail_with bob (replicate 101 (field (codes "Received")))) None a (notice_report loop_text) (notes 5 loop_text (files_copies (inbox ∷ []) (65 ∷ []) a))

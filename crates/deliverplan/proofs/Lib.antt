@@ -1,4 +1,4 @@
-pub mod ResponseLemmas
+pub mod VacationLemmas
 pub mod PlanLemmas
 pub mod DeliveryLemmas
 pub mod DeliveryLaws

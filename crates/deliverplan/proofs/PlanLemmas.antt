@@ -16,7 +16,7 @@ use Rattle.mailstore.specs.declared.report.Letter.TheVariants.{Redirect, Reply}
 use Rattle.mailstore.specs.declared.report.Plan.{Plan}
 use Rattle.deliverplan.specs.declared.view.View.{View}
 use Rattle.deliverplan.specs.Views.{IsViewOf, last_reply, moment_under}
-use Rattle.deliverplan.specs.Delivered.{Answer, Silent, Quiet, Sent, Answers, Follows, CarriesOut, LeavesNotice, acts, answers, redirects}
+use Rattle.deliverplan.specs.Delivered.{Response, Silent, Quiet, Sent, Responds, Follows, CarriesOut, LeavesNotice, acts, responds, redirects}
 use Rattle.deliverplan.specs.Plans.{IsActingPlan, IsNoticePlan, redirect_letters, reply_letter, reply_kept, with_letter}
 
 -- the letters of redirects, sent in order
@@ -27,11 +27,11 @@ letters_sent mail targets a = fold-map (λ b letter. sends mail.from mail.octets
 letter_last : (sender message : List ℕ) (letters : List Letter) (letter : Letter) (a : Account) → sends_all sender message (letters ++ letter ∷ []) a ≡ sends sender message letter (sends_all sender message letters a)
 letter_last sender message letters letter a = fold-append (λ b one. sends sender message one b) a letters (letter ∷ [])
 
--- the letters and what is remembered do what the deeds and the answer do
-done : (mail : MailSpec) (moment : ℕ) (deeds : Deeds) (answer : Answer) (a : Account)
-    → remembers_if_any (reply_kept mail.from moment answer)
-    (sends_all mail.from mail.octets (with_letter (redirect_letters deeds.sent) (reply_letter mail.from answer)) (files_copies deeds.filed mail.octets a))
-    ≡ answers mail moment answer (acts mail deeds a)
+-- the letters and what is remembered do what the deeds and the response do
+done : (mail : MailSpec) (moment : ℕ) (deeds : Deeds) (response : Response) (a : Account)
+    → remembers_if_any (reply_kept mail.from moment response)
+    (sends_all mail.from mail.octets (with_letter (redirect_letters deeds.sent) (reply_letter mail.from response)) (files_copies deeds.filed mail.octets a))
+    ≡ responds mail moment response (acts mail deeds a)
 done mail moment deeds Silent a = letters_sent mail deeds.sent (files_copies deeds.filed mail.octets a)
 done mail moment deeds (Quiet reason) a = letters_sent mail deeds.sent (files_copies deeds.filed mail.octets a)
 done mail moment deeds (Sent key reply) a =
@@ -40,12 +40,12 @@ done mail moment deeds (Sent key reply) a =
     (letter_last mail.from mail.octets (redirect_letters deeds.sent) (Reply mail.from reply) filed
     ∙ ap (sends mail.from mail.octets (Reply mail.from reply)) (letters_sent mail deeds.sent filed))
 
--- an answer where the same moments are kept
-answers_along : (own : Addr) (moment : ℕ) (mail : MailSpec) (last other : List ℕ → Option ℕ) (reply : Option VacArgs) (answer : Answer)
-    → ((key : List ℕ) → last key ≡ other key) → Answers own moment mail last reply answer → Answers own moment mail other reply answer
-answers_along own moment mail last other None answer same is = is
-answers_along own moment mail last other (Some args) answer same is =
-    let P : Option ℕ → Type 0 = λ kept. Follows own moment mail args (decision_of args mail own kept moment) answer in
+-- a response where the same moments are kept
+responds_along : (own : Addr) (moment : ℕ) (mail : MailSpec) (last other : List ℕ → Option ℕ) (reply : Option VacArgs) (response : Response)
+    → ((key : List ℕ) → last key ≡ other key) → Responds own moment mail last reply response → Responds own moment mail other reply response
+responds_along own moment mail last other None response same is = is
+responds_along own moment mail last other (Some args) response same is =
+    let P : Option ℕ → Type 0 = λ kept. Follows own moment mail args (decision_of args mail own kept moment) response in
     subst P (same (key_of (handle_of args))) is
 
 pub acting : (view : View) (moment : ℕ) (mail : MailSpec) (deeds : Deeds) (plan : Plan) (a : Account)
@@ -53,10 +53,10 @@ pub acting : (view : View) (moment : ℕ) (mail : MailSpec) (deeds : Deeds) (pla
     → CarriesOut view.address moment mail deeds a plan.report (delivers plan a)
 acting view moment mail deeds plan a is of =
     record {
-      answer = is.answer;
-      is_answer = answers_along view.address moment mail (moment_under view.replies) (last_reply a mail.from) deeds.reply is.answer of.replies is.is_answer;
+      response = is.response;
+      is_response = responds_along view.address moment mail (moment_under view.replies) (last_reply a mail.from) deeds.reply is.response of.replies is.is_response;
       reported = is.report;
-      changed = rw (is.notice, is.remember, is.outgoing, is.sender, is.message, is.copies) (done mail moment deeds is.answer a);
+      changed = rw (is.notice, is.remember, is.outgoing, is.sender, is.message, is.copies) (done mail moment deeds is.response a);
     }
 
 pub telling : (moment : ℕ) (mail : MailSpec) (text : List ℕ) (plan : Plan) (a : Account)

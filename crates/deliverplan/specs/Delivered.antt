@@ -80,25 +80,25 @@ DisposesIf false text mail disposition = DisposesUnder text mail disposition
 abbrev pub Disposes : Option (List ℕ) → MailSpec → Disposition → Type 0
 Disposes text mail disposition = DisposesIf (is_looping mail) text mail disposition
 
--- ---- the answer to the sender
+-- ---- the response to the sender
 
 -- no `vacation` was executed; a reason stands against a response; or a response with these octets is sent, known by this key
-pub data Answer : Type 0 where
-  Silent : Answer
-  Quiet : Reason → Answer
-  Sent : List ℕ → List ℕ → Answer
+pub data Response : Type 0 where
+  Silent : Response
+  Quiet : Reason → Response
+  Sent : List ℕ → List ℕ → Response
 
 -- what is answered where the decision on a response is made
-abbrev pub Follows : Addr → ℕ → MailSpec → VacArgs → Decision → Answer → Type 0
-Follows own moment mail args D.Send answer =
-    (reply : List ℕ) × (IsReply args mail own moment reply × (answer ≡ Sent (key_of (handle_of args)) reply))
-Follows own moment mail args (D.Quiet reason) answer = answer ≡ Quiet reason
+abbrev pub Follows : Addr → ℕ → MailSpec → VacArgs → Decision → Response → Type 0
+Follows own moment mail args D.Send response =
+    (reply : List ℕ) × (IsReply args mail own moment reply × (response ≡ Sent (key_of (handle_of args)) reply))
+Follows own moment mail args (D.Quiet reason) response = response ≡ Quiet reason
 
 -- what the sender is answered by the user with this address at this moment; last gives the moment that is kept under a key
-abbrev pub Answers : Addr → ℕ → MailSpec → (List ℕ → Option ℕ) → Option VacArgs → Answer → Type 0
-Answers own moment mail last None answer = answer ≡ Silent
-Answers own moment mail last (Some args) answer =
-    Follows own moment mail args (decision_of args mail own (last (key_of (handle_of args))) moment) answer
+abbrev pub Responds : Addr → ℕ → MailSpec → (List ℕ → Option ℕ) → Option VacArgs → Response → Type 0
+Responds own moment mail last None response = response ≡ Silent
+Responds own moment mail last (Some args) response =
+    Follows own moment mail args (decision_of args mail own (last (key_of (handle_of args))) moment) response
 
 -- ---- the account afterwards
 
@@ -111,20 +111,20 @@ abbrev pub acts : MailSpec → Deeds → Account → Account
 acts mail deeds a = redirects mail deeds.sent (files_copies deeds.filed mail.octets a)
 
 -- a response is queued for the sender, and its moment is kept; nothing is kept of one that isn't sent
-abbrev pub answers : MailSpec → ℕ → Answer → Account → Account
-answers mail moment Silent a = a
-answers mail moment (Quiet reason) a = a
-answers mail moment (Sent key reply) a = remembers key mail.from moment (queues kind.Reply [] mail.from reply a)
+abbrev pub responds : MailSpec → ℕ → Response → Account → Account
+responds mail moment Silent a = a
+responds mail moment (Quiet reason) a = a
+responds mail moment (Sent key reply) a = remembers key mail.from moment (queues kind.Reply [] mail.from reply a)
 
 -- ---- what is reported
 
-abbrev pub vacation_report : Answer → VacationReport
+abbrev pub vacation_report : Response → VacationReport
 vacation_report Silent = V.None
 vacation_report (Quiet reason) = V.Quiet (number_of reason)
 vacation_report (Sent key reply) = V.Sent
 
-abbrev pub report_of : Deeds → Answer → Report
-report_of deeds answer = record { filed = deeds.filed; sent = map spelling deeds.sent; vacation = vacation_report answer; notice = None }
+abbrev pub report_of : Deeds → Response → Report
+report_of deeds response = record { filed = deeds.filed; sent = map spelling deeds.sent; vacation = vacation_report response; notice = None }
 
 abbrev pub notice_report : List ℕ → Report
 notice_report text = record { filed = inbox ∷ []; sent = []; vacation = V.None; notice = Some text }
@@ -133,10 +133,10 @@ notice_report text = record { filed = inbox ∷ []; sent = []; vacation = V.None
 
 -- the deeds are carried out, and the sender is answered
 pub record CarriesOut (own : Addr) (moment : ℕ) (mail : MailSpec) (deeds : Deeds) (a : Account) (report : Report) (a2 : Account) : Type 0 where
-  pub answer : Answer
-  pub is_answer : Answers own moment mail (last_reply a mail.from) deeds.reply answer
-  pub reported : report ≡ report_of deeds answer
-  pub changed : a2 ≡ answers mail moment answer (acts mail deeds a)
+  pub response : Response
+  pub is_response : Responds own moment mail (last_reply a mail.from) deeds.reply response
+  pub reported : report ≡ report_of deeds response
+  pub changed : a2 ≡ responds mail moment response (acts mail deeds a)
 
 -- the message joins INBOX, and a notice the others; nothing is sent
 pub record LeavesNotice (moment : ℕ) (mail : MailSpec) (text : List ℕ) (a : Account) (report : Report) (a2 : Account) : Type 0 where

@@ -12,21 +12,21 @@ use Rattle.mailstore.specs.declared.report.Letter.TheVariants.{Redirect, Reply}
 use Rattle.mailstore.specs.declared.report.Remembered.{Remembered}
 use Rattle.mailstore.specs.declared.report.Plan.{Plan}
 use Rattle.mailstore.specs.declared.report.VacationReport.{VacationReport}
-use Rattle.deliverplan.specs.declared.response.Response.{Response}
-use Rattle.deliverplan.specs.Delivered.{Answer, Silent, Quiet, Sent, Answers, vacation_report, report_of, notice_report}
+use Rattle.deliverplan.specs.declared.vacation.VacationPlan.{VacationPlan}
+use Rattle.deliverplan.specs.Delivered.{Response, Silent, Quiet, Sent, Responds, vacation_report, report_of, notice_report}
 
 -- the letters that send a message on to these addresses
 abbrev pub redirect_letters : List Addr → List Letter
 redirect_letters targets = map (λ target. Redirect (spelling target)) targets
 
--- the letter of an answer to the sender, if one is sent
-abbrev pub reply_letter : List ℕ → Answer → Option Letter
+-- the letter of a response, if one is sent
+abbrev pub reply_letter : List ℕ → Response → Option Letter
 reply_letter sender Silent = None
 reply_letter sender (Quiet reason) = None
 reply_letter sender (Sent key reply) = Some (Reply sender reply)
 
--- the moment that is to be kept of an answer, if it is sent
-abbrev pub reply_kept : List ℕ → ℕ → Answer → Option Remembered
+-- the moment that is to be kept of a response, if one is sent
+abbrev pub reply_kept : List ℕ → ℕ → Response → Option Remembered
 reply_kept sender moment Silent = None
 reply_kept sender moment (Quiet reason) = None
 reply_kept sender moment (Sent key reply) = Some (record { handle = key; sender = sender; moment = moment })
@@ -36,37 +36,37 @@ abbrev pub with_letter : List Letter → Option Letter → List Letter
 with_letter letters None = letters
 with_letter letters (Some letter) = letters ++ letter ∷ []
 
--- what is to be done of an answer
-pub record IsResponse (own : Addr) (moment : ℕ) (mail : MailSpec) (last : List ℕ → Option ℕ) (reply : Option VacArgs) (response : Response) : Type 0 where
-  pub answer : Answer
-  pub is_answer : Answers own moment mail last reply answer
-  pub vacation : response.vacation ≡ vacation_report answer
-  pub letter : response.letter ≡ reply_letter mail.from answer
-  pub remember : response.remember ≡ reply_kept mail.from moment answer
+-- what is to be done about `vacation`
+pub record IsVacationPlan (own : Addr) (moment : ℕ) (mail : MailSpec) (last : List ℕ → Option ℕ) (reply : Option VacArgs) (plan : VacationPlan) : Type 0 where
+  pub response : Response
+  pub is_response : Responds own moment mail last reply response
+  pub vacation : plan.vacation ≡ vacation_report response
+  pub letter : plan.letter ≡ reply_letter mail.from response
+  pub remember : plan.remember ≡ reply_kept mail.from moment response
 
 -- a response with this key is sent
-pub record SendsReply (own : Addr) (moment : ℕ) (mail : MailSpec) (args : VacArgs) (key : List ℕ) (response : Response) : Type 0 where
+pub record SendsReply (own : Addr) (moment : ℕ) (mail : MailSpec) (args : VacArgs) (key : List ℕ) (plan : VacationPlan) : Type 0 where
   pub reply : List ℕ
   pub is_reply : IsReply args mail own moment reply
-  pub vacation : response.vacation ≡ vacation_report (Sent key reply)
-  pub letter : response.letter ≡ reply_letter mail.from (Sent key reply)
-  pub remember : response.remember ≡ reply_kept mail.from moment (Sent key reply)
+  pub vacation : plan.vacation ≡ vacation_report (Sent key reply)
+  pub letter : plan.letter ≡ reply_letter mail.from (Sent key reply)
+  pub remember : plan.remember ≡ reply_kept mail.from moment (Sent key reply)
 
 -- no response is sent, and nothing is kept
-abbrev pub unsent_response : VacationReport → Response
-unsent_response vacation = record { vacation = vacation; letter = None; remember = None }
+abbrev pub unsent_plan : VacationReport → VacationPlan
+unsent_plan vacation = record { vacation = vacation; letter = None; remember = None }
 
--- a plan that carries out deeds and an answer to the sender
+-- a plan that carries out deeds and a response to the sender
 pub record IsActingPlan (own : Addr) (moment : ℕ) (mail : MailSpec) (last : List ℕ → Option ℕ) (deeds : Deeds) (plan : Plan) : Type 0 where
-  pub answer : Answer
-  pub is_answer : Answers own moment mail last deeds.reply answer
+  pub response : Response
+  pub is_response : Responds own moment mail last deeds.reply response
   pub message : plan.message.now ≡ mail.octets
   pub sender : plan.sender.now ≡ mail.from
   pub copies : plan.copies ≡ deeds.filed
-  pub outgoing : plan.outgoing ≡ with_letter (redirect_letters deeds.sent) (reply_letter mail.from answer)
-  pub remember : plan.remember ≡ reply_kept mail.from moment answer
+  pub outgoing : plan.outgoing ≡ with_letter (redirect_letters deeds.sent) (reply_letter mail.from response)
+  pub remember : plan.remember ≡ reply_kept mail.from moment response
   pub notice : plan.notice ≡ None
-  pub report : plan.report ≡ report_of deeds answer
+  pub report : plan.report ≡ report_of deeds response
 
 -- a plan that files into INBOX and leaves a notice
 pub record IsNoticePlan (moment : ℕ) (mail : MailSpec) (text : List ℕ) (plan : Plan) : Type 0 where

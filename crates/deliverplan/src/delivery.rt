@@ -10,7 +10,7 @@ ghost use Rattle.deliverplan.specs.Views.{IsViewOf, moment_under};
 use crate::looping::is_looping;
 use crate::notice::{INVALID_TEXT, LOOP_TEXT, failure_text};
 use crate::outcome::outcome_on;
-use crate::response::{Response, respond};
+use crate::vacation::{VacationPlan, plan_vacation};
 use crate::texts::{copied, inbox, spelled};
 use crate::view::View;
 use addrparts::{Addr, spell};
@@ -109,11 +109,11 @@ fn act<'m>(
     let copies = copied(alloc, filed.as_slice())?;
     let sent = spelled(alloc, targets)?;
     let mut outgoing = redirects(alloc, targets)?;
-    let Response {
+    let VacationPlan {
         vacation,
         letter,
         remember,
-    } = respond(alloc, view, mail, moment, reply)?;
+    } = plan_vacation(alloc, view, mail, moment, reply)?;
     push_some(&mut outgoing, letter)?;
     Ok(Plan {
         message: mail.message(),

@@ -6,7 +6,7 @@ pub mod laws;
 mod looping;
 mod notice;
 mod outcome;
-mod response;
+mod vacation;
 mod texts;
 mod view;
 

@@ -1,6 +1,6 @@
 //! What is done about `vacation` (RFC 5230).
 ghost use Rattle.std.specs.Prelude.{◌≡◌, ◌≤◌, IfOk, option_copied};
-ghost use Rattle.deliverplan.specs.Plans.{IsResponse, SendsReply, unsent_response};
+ghost use Rattle.deliverplan.specs.Plans.{IsVacationPlan, SendsReply, unsent_plan};
 ghost use Rattle.deliverplan.specs.Views.{moment_under};
 
 use crate::view::View;
@@ -13,9 +13,9 @@ use vacreply::{
     AddressedMail, Decision, MAX_MOMENT, decide, handle_key, has_short_texts, reply_bytes,
 };
 
-/// What is to be done of an answer to the sender.
+/// What is to be done about `vacation`.
 #[derive(Drop)]
-pub struct Response {
+pub struct VacationPlan {
     pub vacation: VacationReport,
     /// The response, if one is sent.
     pub letter: Option<Letter>,
@@ -27,15 +27,15 @@ pub struct Response {
 ///
 /// The recipients of the mail are read where one was. A subject or `:from` of 2^32 octets and more, which no script within
 /// the limits has, is refused as lack of memory.
-pub(crate) fn respond(
+pub(crate) fn plan_vacation(
     alloc: Global,
     view: &View,
     mail: &Mail<'_>,
     moment: u64,
     reply: Option<&VacArgs>,
-) -> Result<Response, AllocError>
+) -> Result<VacationPlan, AllocError>
     requires { moment ≤ MAX_MOMENT }
-    ensures { IfOk result (IsResponse view.now.address moment mail.now (moment_under view.now.replies) (option_copied reply.entry)) }
+    ensures { IfOk result (IsVacationPlan view.now.address moment mail.now (moment_under view.now.replies) (option_copied reply.entry)) }
 {
     let Some(args) = reply else {
         return Ok(unsent(VacationReport::None));
@@ -53,10 +53,10 @@ pub(crate) fn respond(
 }
 
 /// No response is sent, and nothing is kept.
-fn unsent(vacation: VacationReport) -> Response
-    ensures { result ≡ unsent_response vacation }
+fn unsent(vacation: VacationReport) -> VacationPlan
+    ensures { result ≡ unsent_plan vacation }
 {
-    Response {
+    VacationPlan {
         vacation,
         letter: None,
         remember: None,
@@ -71,14 +71,14 @@ fn send(
     moment: u64,
     args: &VacArgs,
     key: Octets,
-) -> Result<Response, AllocError>
+) -> Result<VacationPlan, AllocError>
     requires { moment ≤ MAX_MOMENT }
     ensures { IfOk result (SendsReply view.now.address moment mail.now args.now key) }
 {
     let message = reply_bytes(alloc, args, mail, &view.address, moment)?;
     let target = Octets::copy(alloc, mail.from())?;
     let sender = Octets::copy(alloc, mail.from())?;
-    Ok(Response {
+    Ok(VacationPlan {
         vacation: VacationReport::Sent,
         letter: Some(Letter::Reply { target, message }),
         remember: Some(Remembered {

@@ -1,10 +1,10 @@
 use Rattle.std.proofs.Common.{◌≡◌, Some, option_copied, ap, ◌∙◌}
 use Rattle.std.proofs.lemmas.Result.{IfOk-weaker}
 use Rattle.mailstore.specs.declared.report.VacationReport.TheVariants as V
-use Rattle.deliverplan.specs.Plans.{SendsReply, IsResponse, unsent_response}
+use Rattle.deliverplan.specs.Plans.{SendsReply, IsVacationPlan, unsent_plan}
 use Rattle.deliverplan.specs.Views.{moment_under}
-use Rattle.deliverplan.proofs.ResponseLemmas.{sending, staying_quiet}
-use Rattle.deliverplan.proofs.response.respond.Goals as goal
+use Rattle.deliverplan.proofs.VacationLemmas.{sending, staying_quiet}
+use Rattle.deliverplan.proofs.vacation.plan_vacation.Goals as goal
 
 pub returns-in-Send : goal.returns-in-Send
 returns-in-Send c =
@@ -12,10 +12,10 @@ returns-in-Send c =
     let there : option_copied c.args.reply ≡ Some c.in-Some.args.now = ap option_copied c.in-Some.is in
     IfOk-weaker c.send.result
     (SendsReply c.args.view.now.address c.args.moment c.args.mail.now c.in-Some.args.now c.in_ok-key.key)
-    (IsResponse c.args.view.now.address c.args.moment c.args.mail.now last (option_copied c.args.reply))
-    (λ response is.
+    (IsVacationPlan c.args.view.now.address c.args.moment c.args.mail.now last (option_copied c.args.reply))
+    (λ plan is.
     sending c.args.view.now.address c.args.moment c.args.mail.now last (option_copied c.args.reply) c.in-Some.args.now there
-    c.in_ok-addressed.addressed c.in_ok-key.key c.moment_under-last.result response
+    c.in_ok-addressed.addressed c.in_ok-key.key c.moment_under-last.result plan
     c.in_ok-addressed.ensures c.in_ok-key.ensures (c.moment_under-last.ensures ∙ ap last c.as_slice.ensures) c.in-Send.ensures is)
     c.send.ensures
 
@@ -26,4 +26,4 @@ returns-in-Quiet c =
     staying_quiet c.args.view.now.address c.args.moment c.args.mail.now last (option_copied c.args.reply) c.in-Some.args.now there
     c.in_ok-addressed.addressed c.in_ok-key.key c.moment_under-last.result c.in-Quiet.reason c.unsent-in-Quiet.result
     c.in_ok-addressed.ensures c.in_ok-key.ensures (c.moment_under-last.ensures ∙ ap last c.as_slice.ensures) c.in-Quiet.ensures
-    (c.unsent-in-Quiet.ensures ∙ ap (λ n. unsent_response (V.Quiet n)) c.number.ensures)
+    (c.unsent-in-Quiet.ensures ∙ ap (λ n. unsent_plan (V.Quiet n)) c.number.ensures)

@@ -1,0 +1,49 @@
+-- What is to be done about `vacation`, by the decision that was made.
+use Rattle.std.proofs.Common.{◌≡◌, ℕ, List, Option, Some, None, refl, ap, ◌∙◌, subst, sym}
+use Rattle.addrparts.specs.declared.address.Addr.{Addr}
+use Rattle.sievesyntax.specs.declared.vacation.VacArgs.{VacArgs}
+use Rattle.sieveexec.specs.Mails.{MailSpec}
+use Rattle.vacreply.specs.Handles.{handle_of, key_of}
+use Rattle.vacreply.specs.Reasons.{decision_of, number_of}
+use Rattle.vacreply.specs.declared.reason.Reason.{Reason}
+use Rattle.vacreply.specs.declared.reason.Decision.{Decision}
+use Rattle.vacreply.specs.declared.reason.Decision.TheVariants as D
+use Rattle.mailstore.specs.declared.report.VacationReport.TheVariants as V
+use Rattle.deliverplan.specs.declared.vacation.VacationPlan.{VacationPlan}
+use Rattle.deliverplan.specs.Delivered.{Response, Quiet, Sent, Responds, Follows}
+use Rattle.deliverplan.specs.Plans.{SendsReply, IsVacationPlan, unsent_plan}
+
+module _ (own : Addr) (moment : ℕ) (mail : MailSpec) (last : List ℕ → Option ℕ) (reply : Option VacArgs) (args : VacArgs) (there : reply ≡ Some args) where
+  -- a response that follows from the decision that was made on the mail as it was read, with what is kept under the key
+  follows : (read : MailSpec) (key : List ℕ) (kept : Option ℕ) (decision : Decision) (response : Response)
+      → read ≡ mail → key ≡ key_of (handle_of args) → kept ≡ last key → decision ≡ decision_of args read own kept moment
+      → Follows own moment mail args decision response → Responds own moment mail last reply response
+  follows read key kept decision response same known found decided is =
+      let P : Decision → Type 0 = λ d. Follows own moment mail args d response in
+      let Q : Option VacArgs → Type 0 = λ r. Responds own moment mail last r response in
+      let now = decided ∙ (ap (λ m. decision_of args m own kept moment) same ∙ ap (λ k. decision_of args mail own k moment) (found ∙ ap last known)) in
+      subst Q (sym there) (subst P now is)
+
+  pub sending : (read : MailSpec) (key : List ℕ) (kept : Option ℕ) (plan : VacationPlan)
+      → read ≡ mail → key ≡ key_of (handle_of args) → kept ≡ last key → D.Send ≡ decision_of args read own kept moment
+      → SendsReply own moment mail args key plan → IsVacationPlan own moment mail last reply plan
+  sending read key kept plan same known found decided is =
+      record {
+        response = Sent key is.reply;
+        is_response = follows read key kept D.Send (Sent key is.reply) same known found decided (is.reply, (is.is_reply, ap (λ k. Sent k is.reply) known));
+        vacation = is.vacation;
+        letter = is.letter;
+        remember = is.remember;
+      }
+
+  pub staying_quiet : (read : MailSpec) (key : List ℕ) (kept : Option ℕ) (reason : Reason) (plan : VacationPlan)
+      → read ≡ mail → key ≡ key_of (handle_of args) → kept ≡ last key → D.Quiet reason ≡ decision_of args read own kept moment
+      → plan ≡ unsent_plan (V.Quiet (number_of reason)) → IsVacationPlan own moment mail last reply plan
+  staying_quiet read key kept reason plan same known found decided is =
+      record {
+        response = Quiet reason;
+        is_response = follows read key kept (D.Quiet reason) (Quiet reason) same known found decided refl;
+        vacation = ap (λ r. r.vacation) is;
+        letter = ap (λ r. r.letter) is;
+        remember = ap (λ r. r.remember) is;
+      }
