@@ -99,11 +99,7 @@ fn find_names<S: Alter>(conn: &mut Connection<S>, owner: &[u8]) -> Result<Vec<Ro
 }
 
 /// One name in place of another, where it is the active script's.
-fn active_renamed<'a>(
-    active: Option<&'a Octets>,
-    name: &[u8],
-    other: &'a [u8],
-) -> Option<&'a [u8]>
+fn active_renamed<'a>(active: Option<&'a Octets>, name: &[u8], other: &'a [u8]) -> Option<&'a [u8]>
     ensures { contents result ≡ option_map (other_name name.now other.now) (contents active.entry) }
 {
     let Some(active) = active else {
