@@ -4,7 +4,10 @@ use Rattle.std.specs.FinMap.{get, get-remove}
 use Rattle.std.proofs.lemmas.Cmp.{nat_list_cmp_total}
 use Rattle.sqlite_typed.proofs.TestLemmas.{bytes_eq_refl}
 use Rattle.mailstore.specs.declared.queue.Kind.TheVariants.{Redirect, Reply}
-use Rattle.mailstore.specs.Account.{Account, deletes_script, renames_script, queues, takes_out, remembers}
+use Rattle.mailstore.specs.declared.report.Letter.{Letter}
+use Rattle.mailstore.specs.declared.report.Letter.TheVariants as letter
+use Rattle.mailstore.specs.declared.report.Plan.{Plan}
+use Rattle.mailstore.specs.Account.{Account, deletes_script, renames_script, queues, takes_out, remembers, sends_all, delivers, files_copies}
 
 abbrev one : List ℕ
 one = codes "one"
@@ -40,3 +43,15 @@ other_keeps_name a is = rw is refl
 -- the sender's letters are folded, so one moment is kept for both spellings
 sender_is_folded : (a : Account) (handle : List ℕ) (moment : ℕ) → remembers handle (codes "Bob@Example.org") moment a ≡ remembers handle (codes "bob@example.org") moment a
 sender_is_folded a handle moment = refl
+
+-- a delivery of two letters: they have the account's next two numbers, in order, a redirect its sender and message, a reply its own
+abbrev letters : List Letter
+letters = letter.Redirect two ∷ letter.Reply one two ∷ []
+
+two_letters : (a : Account) → a.queue ≡ [] → a.next_out ≡ 7
+    → (sends_all one (codes "Hi") letters a).queue ≡ record { id = 7; kind = Redirect; sender = one; target = two; message = codes "Hi" } ∷ record { id = 8; kind = Reply; sender = []; target = one; message = two } ∷ []
+two_letters a none first = rw (none, first) refl
+
+-- near miss: nothing is remembered and no notice is left where the plan has none
+nothing_more : (plan : Plan) (a : Account) → plan.remember ≡ None → plan.notice ≡ None → plan.outgoing ≡ [] → delivers plan a ≡ files_copies plan.copies plan.message.now a
+nothing_more plan a forgets quiet sends = rw (forgets, quiet, sends) refl

@@ -301,3 +301,11 @@ writes_failed s Fit change q none named = record {
   crash = survives_same s (MayShow Fit change s);
   named = named;
 }
+
+pub reads_failed : {X : Type 0} (user : List ℕ) (Part : X → Account → Type 0) (s : State) (q : Result X Refusal) → OnOk q ⊥ → IfErr q IsPassing → Reads user Part s s q
+reads_failed user Part s q none named = record {
+  found = λ clean accounts p. none_if q (λ x. OfUser accounts user (Part x)) none;
+  absent = λ clean accounts p. passing_other q (IsFree user accounts) named;
+  keeps = keeps_all s q none;
+  named = passing_named q named;
+}

@@ -15,6 +15,7 @@ pub mod KeepLemmas
 pub mod AfterLemmas
 pub mod KeyLemmas
 pub mod MapLemmas
+pub mod ReplyLemmas
 pub mod DecodeLemmas
 pub mod TallyLemmas
 pub mod FolderLemmas

@@ -26,7 +26,7 @@ is_less Less h = refl
 is_less Equal h = absurd (true≢false (sym h))
 is_less Greater h = absurd (true≢false (sym h))
 
-tied_is : (o : Ordering) → is_eq o ≡ true → o ≡ Equal
+pub tied_is : (o : Ordering) → is_eq o ≡ true → o ≡ Equal
 tied_is Less h = absurd (true≢false (sym h))
 tied_is Equal h = refl
 tied_is Greater h = absurd (true≢false (sym h))

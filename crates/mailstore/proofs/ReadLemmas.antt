@@ -46,7 +46,7 @@ none_counted (Err e) rows own are h = λ none. no_rows_mapped own (sym are ∙ h
 abbrev AtUser : Accounts → List ℕ → (Account → Type 0) → Type 0
 AtUser accounts user P = IfSome (get accounts user) P
 
-at_user : (accounts : Accounts) (user : List ℕ) (tables : Tables) (shows : ShowsAccounts tables accounts) (P : Account → Type 0) → ((a : Account) → IsShown user (rows_of user tables) a → P a) → AtUser accounts user P
+pub at_user : (accounts : Accounts) (user : List ℕ) (tables : Tables) (shows : ShowsAccounts tables accounts) (P : Account → Type 0) → ((a : Account) → IsShown user (rows_of user tables) a → P a) → AtUser accounts user P
 at_user accounts user tables shows P each = go (get accounts user) (shows.users user)
   where
     go : (o : Option Account) → IsShownOrAbsent user (rows_of user tables) o → IfSome o P

@@ -17,7 +17,7 @@ use Rattle.mailstore.specs.ScriptTable.{insert_script, delete_script, select_nam
 use Rattle.mailstore.specs.CopyTable.{insert_copy, select_folders, select_folder, copy_tree}
 use Rattle.mailstore.specs.QueueTable.{outgoing_tree, select_queue, insert_outgoing, delete_outgoing}
 use Rattle.mailstore.specs.NoticeTable.{notice_tree, select_notices, insert_notice}
-use Rattle.mailstore.specs.ReplyTable.{reply_tree, insert_reply, delete_reply}
+use Rattle.mailstore.specs.ReplyTable.{reply_tree, insert_reply, delete_reply, select_moment, select_replies}
 
 abbrev pub by_one : List Term
 by_one = equals 1 0 ∷ []
@@ -225,3 +225,26 @@ insert_notice_is = refl
 pub insert_notice_plain : IsPlain (understood mail_schema insert_notice)
 unfolding understood everything
 insert_notice_plain = (refl, refl)
+
+pub select_moment_is : command_of (understood mail_schema select_moment) ≡ Select (over reply_tree by_three (col 1 4 ∷ []) []) (codes "moment" ∷ [])
+unfolding understood everything
+select_moment_is = refl
+
+pub select_moment_plain : IsPlain (understood mail_schema select_moment) × (reads_listing mail_schema select_moment ≡ false)
+unfolding understood everything
+select_moment_plain = ((refl, refl), refl)
+
+-- the replies of one owner to one sender
+abbrev pub by_sender : List Term
+by_sender = equals 1 0 ∷ equals 3 1 ∷ []
+
+abbrev pub replies_shown : List Term
+replies_shown = col 1 2 ∷ col 1 4 ∷ []
+
+pub select_replies_is : command_of (understood mail_schema select_replies) ≡ Select (over reply_tree by_sender replies_shown ((col 1 2, ascending Binary) ∷ [])) (codes "handle" ∷ codes "moment" ∷ [])
+unfolding understood everything
+select_replies_is = refl
+
+pub select_replies_plain : IsPlain (understood mail_schema select_replies) × (reads_listing mail_schema select_replies ≡ false)
+unfolding understood everything
+select_replies_plain = ((refl, refl), refl)

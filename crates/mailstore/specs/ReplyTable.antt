@@ -1,12 +1,14 @@
 -- The table of the moments of the last replies.
-use Rattle.std.specs.Prelude.{◌≡◌, ℕ, ℤ, pos, List, [], ◌∷◌, map, codes}
-use Rattle.std.specs.FinMap.{from_entries}
+use Rattle.std.specs.Prelude.{◌≡◌, ℕ, ℤ, pos, List, [], ◌∷◌, map, filter, codes, slice_get, option_map}
+use Rattle.std.specs.FinMap.{get, entries, from_entries}
+use Rattle.std.specs.Ordering.{is_eq}
 use Rattle.sqlite_schema.specs.declared.schema.Kind.TheVariants as kind
 use Rattle.sqlite_schema.specs.declared.schema.Table.{Table}
 use Rattle.sqlite_value.specs.declared.value.Value.TheVariants.{Int, Blob}
 use Rattle.sqlite_value.specs.Order.{Row}
 use Rattle.sqlrows.specs.Forms.{needed, keyed}
-use Rattle.mailstore.specs.Account.{Replies}
+use Rattle.mailstore.specs.declared.reply.KeptReply.{KeptReply}
+use Rattle.mailstore.specs.Account.{bytes_cmp, Account, Replies}
 use Rattle.mailstore.specs.AccountTable.{to_account}
 use Rattle.mailstore.specs.ScriptTable.{AreApart}
 
@@ -53,3 +55,24 @@ pub record ShowsReplies (user : List ℕ) (rows : List Row) (replies : Replies) 
   pub rows_are : rows ≡ map (reply_row user) entries
   pub shown : replies ≡ from_entries entries
   pub apart : AreApart entries
+
+-- ---- what is read of them
+
+-- the first row is the moment that is kept under the handle's key and the sender, if one is
+abbrev pub HasMomentRow : List ℕ × List ℕ → List Row → Account → Type 0
+HasMomentRow key rows a = slice_get rows 0 ≡ option_map (λ moment. Int (pos moment) ∷ []) (get a.replies key)
+
+-- the replies to one sender, in the order of the octets of their handles' keys
+abbrev pub replies_to : List ℕ → Replies → List ((List ℕ × List ℕ) × ℕ)
+replies_to sender replies = filter (λ e. is_eq (bytes_cmp e.0.1 sender)) (entries replies)
+
+abbrev pub kept_reply : (List ℕ × List ℕ) × ℕ → KeptReply
+kept_reply e = record { handle = e.0.0; moment = e.1 }
+
+-- what the query for the replies shows of one
+abbrev pub kept_cells : KeptReply → Row
+kept_cells kept = Blob kept.handle ∷ Int (pos kept.moment) ∷ []
+
+-- the rows are the replies to the sender, in that order
+abbrev pub AreReplyRows : List ℕ → List Row → Account → Type 0
+AreReplyRows sender rows a = rows ≡ map kept_cells (map kept_reply (replies_to sender a.replies))

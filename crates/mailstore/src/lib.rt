@@ -23,5 +23,6 @@ pub use notice::Notice;
 pub use profile::Profile;
 pub use queue::{Kind, Outgoing};
 pub use refusal::Refusal;
+pub use reply::KeptReply;
 pub use report::{Letter, Plan, Remembered, Report, VacationReport};
 pub use store::Store;

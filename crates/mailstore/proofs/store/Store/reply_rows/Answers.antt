@@ -1,0 +1,25 @@
+use Rattle.std.proofs.Common.{◌≡◌, Err, OnOk, IfErr, rules}
+use Rattle.sqlite.specs.Held.{state}
+use Rattle.mailstore.specs.Refusals.{IsPassing}
+use Rattle.mailstore.specs.ReplyTable.{AreReplyRows}
+use Rattle.mailstore.proofs.KeepLemmas.{reads_refused, query_read, query_refused}
+use Rattle.mailstore.proofs.store.Store.reply_rows.Goals as goal
+
+pub returns-in_err-require_account : goal.returns-in_err-require_account
+returns-in_err-require_account g c =
+    let is : c.from_residual.result ≡ Err c.in_err-require_account.field-0.0 = search rules in
+    reads_refused c.args.user.now _ _ (state g.S.Store c.args.self.now) (state g.S.Store c.require_account.new.self) c.in_err-require_account.field-0.0 c.from_residual.result is c.in_err-require_account.ensures
+
+pub returns-in_err-find_replies : goal.returns-in_err-find_replies
+returns-in_err-find_replies g c =
+    let here : c.self.inside.conn ≡ c.require_account.new.self = search rules in
+    let none : OnOk c.from_residual-in_err-find_replies.result ⊥ = search rules in
+    let passing : IfErr c.from_residual-in_err-find_replies.result IsPassing = search rules in
+    query_refused c.args.user.now _ (AreReplyRows c.args.sender.now) (state g.S.Store c.args.self.now) (state g.S.Store c.require_account.new.self) (state g.S.Store c.find_replies.new.conn) c.require_account.result c.in_ok-require_account.field-0 c.in_ok-require_account.was
+    c.require_account.ensures c.find_replies.result (rw here at c.find_replies.ensures.finds) c.from_residual-in_err-find_replies.result none passing
+
+pub returns : goal.returns
+returns g c =
+    let here : c.self.inside.conn ≡ c.require_account.new.self = search rules in
+    query_read c.args.user.now _ (AreReplyRows c.args.sender.now) (state g.S.Store c.args.self.now) (state g.S.Store c.require_account.new.self) (state g.S.Store c.find_replies.new.conn) c.require_account.result c.in_ok-require_account.field-0 c.in_ok-require_account.was
+    c.require_account.ensures c.find_replies.result c.in_ok-find_replies.field-0 c.in_ok-find_replies.was (rw here at c.find_replies.ensures.finds)
