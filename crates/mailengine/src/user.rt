@@ -47,6 +47,7 @@ pub fn add_user<S: Alter>(
 ) -> Result<(), Refusal>
     ensures event { IsEvent (AddUser name.now address.now salt password.now) (addition_told result) (state S.Store store.old) (state S.Store store.new) }
     ensures early { IfErr result (λ e. e ≡ BadUser → store.new ≡ store.old) }
+    ensures unasked { (IsNewUser name.now address.now password.now → ⊥) → store.new ≡ store.old }
     ensures settled { HasCleanDisk (state S.Store store.new) → OnOk result (IsSettled (state S.Store store.new)) }
     ensures same { HasCleanDisk (state S.Store store.new) → (accounts : Accounts) → Presents (state S.Store store.old).now accounts → OnErr result (StaysSame (state S.Store store.old) (state S.Store store.new)) }
     ensures crash { Survives (state S.Store store.old) (state S.Store store.new) (MayLeave (AddUser name.now address.now salt password.now) (state S.Store store.old)) }
