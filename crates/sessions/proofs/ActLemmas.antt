@@ -1,5 +1,5 @@
 -- Calls over a store: reads alone, and reads with one write behind them.
-use Rattle.std.proofs.Common.{◌≡◌, ◌⊎◌, ℕ, List, Option, Some, Ok, Err, Result, OnOk, OnErr, IsSome, IsTrue, refl, sym, ◌∙◌, subst}
+use Rattle.std.proofs.Common.{◌≡◌, ◌⊎◌, ℕ, List, Option, Some, Ok, Err, Result, OnOk, OnErr, IsSome, IsTrue, refl, sym, ◌∙◌, subst, inl, arith}
 use Rattle.sqlite_trees.specs.Tree.{Trees}
 use Rattle.sqlite.specs.State.{State, HasCleanDisk, Survives}
 use Rattle.sqlite.proofs.StateLemmas.{survives_then, survives_weaker}
@@ -16,6 +16,14 @@ use Rattle.sessions.specs.Acts.{HasAccounts, CrashLeaves, Acts, Glances}
 
 pub glanced : {X E : Type 0} (a b : State) (r : Result X E) → Keeps a b r → Glances a b
 glanced a b r k = record { same = k.same; shut = k.shut; crash = k.crash }
+
+-- nothing was asked
+pub no_glance : (a : State) → Glances a a
+no_glance a = record {
+  same = λ clean tables. record { now_is = λ is_open. refl; committed_is = λ is_open. refl };
+  shut = λ clean is_open. is_open;
+  crash = record { clean = omega arith; shield = λ shielded. shielded; counts = omega arith; limit = refl; closes = λ clean is_open. inl is_open; crash = λ clean db left. inl left };
+}
 
 -- the accounts that are shown stay
 pub accounts_stay : (a b : State) → Glances a b → HasCleanDisk b → (accounts : Accounts) → HasAccounts a accounts → HasAccounts b accounts

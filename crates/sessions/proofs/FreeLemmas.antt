@@ -43,7 +43,7 @@ command_first c h = by (reach_in c) refl (and_parts (not c.closed) (is_command (
     by reach.TooBig e h = absurd (false≢true h)
 
 -- its reach
-from_item : (pending : Bool) (unread : List ℕ) (r : Reach) (command : Command) (used : ℕ) → item_at pending unread r ≡ item.Command command used → r ≡ reach.Command used
+pub from_item : (pending : Bool) (unread : List ℕ) (r : Reach) (command : Command) (used : ℕ) → item_at pending unread r ≡ item.Command command used → r ≡ reach.Command used
 from_item pending unread reach.Need command used e = let no : item.Need ≡ item.Command command used = e in cc
 from_item pending unread (reach.Command n) command used e = at (command_in pending (take n unread)) e
   where

@@ -7,4 +7,6 @@ pub mod LawLemmas
 pub mod FreeLemmas
 pub mod ActLemmas
 pub mod OrderLemmas
+pub mod LoginLemmas
+pub mod AskedLemmas
 pub mod Examples

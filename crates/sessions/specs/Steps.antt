@@ -84,6 +84,11 @@ abbrev pub StepsFree : Client → Client → Stepped → List ℕ → List ℕ �
 StepsFree c d (Made progress) before later = StepsOver c d progress before later
 StepsFree c d (Asks command) before later = AsksFor c d command before later
 
+-- a fact for a step that wasn't made
+abbrev pub IfAsks : Stepped → Type 0 → Type 0
+IfAsks (Made progress) P = Unit {0}
+IfAsks (Asks command) P = P
+
 -- whether the store is asked about the item
 abbrev pub asks_store : Client → Item → Bool
 asks_store c (item.Command command used) = not (is_early c command) && not (is_free command)

@@ -1,20 +1,27 @@
 //! What a session reads of its user's account, and what it writes there.
-ghost use Rattle.std.specs.Prelude.{◌≡◌, ◌⊎◌, true, take, OnErr, IfErr};
+ghost use Rattle.std.specs.Prelude.{◌≡◌, ◌⊎◌, true, take, OnErr, IfOk, IfErr};
+ghost use Rattle.std.specs.FinMap.{get};
 ghost use Rattle.sqlite.specs.Held.{state};
+ghost use Rattle.sqlite.specs.State.{HasCleanDisk};
+ghost use Rattle.mailstore.specs.Account.{Accounts};
 ghost use Rattle.mailstore.specs.declared.refusal.Refusal.TheVariants.{NoUser};
 ghost use Rattle.mailstore.specs.Promises.{Reads, WritesUser};
 ghost use Rattle.mailstore.specs.Refusals.{IsPassing};
-ghost use Rattle.sessions.specs.Acts.{Acts};
+ghost use Rattle.sessions.specs.Acts.{HasAccounts, Acts, Glances};
 ghost use Rattle.sessions.specs.Decisions.{AreScripts, Decides, change_made};
+ghost use Rattle.sessions.specs.Logins.{checked_by};
 ghost use Rattle.sessions.specs.Orders.{ObeyedTo, MayObey};
 ghost use Rattle.sessions.specs.Replies.{value_of};
 ghost use Rattle.sessions.specs.Table.{is_about_scripts};
+ghost use Rattle.sessions.specs.Turns.{admitted_in};
 
 use crate::decision::{Change, Decision};
+use crate::login::has_password;
 use crate::scripts::{decide, get_script};
-use mailstore::{Refusal, Store};
+use mailstore::{Profile, Refusal, Store};
 use msproto::{Command, spell};
 use octets::{Octets, Texts};
+use saslplain::{Login, Record, plain};
 use sqlite::Alter;
 use std::alloc::Global;
 use std::mem;
@@ -51,6 +58,62 @@ pub(crate) fn obey<S: Alter>(
         return Err(refusal);
     }
     Ok(())
+}
+
+/// The user whom the text logs in, if there is a text and it logs someone in. Where it says no login no store is asked.
+pub(crate) fn admitted<S: Alter>(
+    alloc: Global,
+    store: &mut Store<S>,
+    text: Option<&[u8]>,
+) -> Result<Option<Octets>, Refusal>
+    ensures found { HasCleanDisk (state S.Store store.new) → (accounts : Accounts) → HasAccounts (state S.Store store.old) accounts → IfOk result (λ who. admitted_in accounts (value_of text.entry) ≡ who) }
+    ensures glances { Glances (state S.Store store.old) (state S.Store store.new) }
+    ensures named { IfErr result IsPassing }
+{
+    let Some(text) = text else {
+        return Ok(None);
+    };
+    let Some(login) = plain(alloc, text)? else {
+        return Ok(None);
+    };
+    checked(store, login)
+}
+
+/// The user of the login, if the account has the password.
+fn checked<S: Alter>(store: &mut Store<S>, login: Login) -> Result<Option<Octets>, Refusal>
+    ensures found { HasCleanDisk (state S.Store store.new) → (accounts : Accounts) → HasAccounts (state S.Store store.old) accounts → IfOk result (λ who. checked_by (login.user, login.password) (get accounts login.user) ≡ who) }
+    ensures glances { Glances (state S.Store store.old) (state S.Store store.new) }
+    ensures named { IfErr result IsPassing }
+{
+    let Some(profile) = store.account(login.user.as_slice())? else {
+        return Ok(None);
+    };
+    let kept = record_of(profile);
+    if !has_password(&login, &kept) {
+        return Ok(None);
+    }
+    Ok(Some(login.user))
+}
+
+/// What the account's password is tested against.
+fn record_of(profile: Profile) -> Record
+    ensures { result ≡ record { salt = profile.salt; rounds = profile.rounds; digest = profile.digest } }
+{
+    Record {
+        salt: profile.salt,
+        rounds: profile.rounds,
+        digest: profile.digest,
+    }
+}
+
+/// A refusal as a step has it: of a user who is logged in and has no account no answer is right.
+pub(crate) fn in_a_step(refusal: Refusal) -> Refusal
+    ensures { IsPassing result }
+{
+    match refusal {
+        Refusal::Memory => Refusal::Memory,
+        _ => Refusal::Store,
+    }
 }
 
 /// What a command about scripts comes to, decided from what the user's account has.

@@ -30,6 +30,13 @@ pub fn login_text<'a>(user: &Option<Octets>, command: &'a Command) -> Option<&'a
     }
 }
 
+/// Whether the command is of a login's exchange. Takes no memory.
+pub fn is_login(command: &Command) -> bool
+    ensures { result ≡ t.is_login command.now }
+{
+    matches!(command, Command::Authenticate { .. } | Command::Response(_))
+}
+
 /// Whether the login's password is the one that its user's account keeps. Takes no memory, and as long as `accepts`.
 pub fn has_password(login: &Login, kept: &Record) -> bool
     ensures { result ≡ s.has_password login.now.password (t.password_of kept.now) }

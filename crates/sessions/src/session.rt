@@ -1,22 +1,29 @@
 //! One client's session.
-ghost use Rattle.std.specs.Prelude.{◌≡◌, ◌≤◌, ◌++◌, cond, true, false, None, Some, is_none, IfSome, IfNone, IfOk, OnOk, OnErr};
+ghost use Rattle.std.specs.Prelude.{◌≡◌, ◌≤◌, ◌++◌, cond, true, false, None, Some, is_none, IfSome, IfNone, IfOk, IfErr, OnOk, OnErr};
 ghost use Rattle.msproto.specs.Replies.{spelled};
 ghost use Rattle.sessions.specs.Clients.{client_given, is_item, is_ready, item_in, reach_in, without_first, left};
 ghost use Rattle.sessions.specs.Counts.{new_session, given_more, looked_in, scanned_past};
 ghost use Rattle.sessions.specs.GivenUp.{text_given_up, client_given_up};
 ghost use Rattle.sessions.specs.Logins.{login_client};
 ghost use Rattle.sessions.specs.Replies as r;
-ghost use Rattle.sessions.specs.Steps.{progress_of, StepsOver, StepsFree, has_command, may_lack};
-ghost use Rattle.sessions.specs.Turns.{followed};
+ghost use Rattle.sqlite.specs.Held.{state};
+ghost use Rattle.mailstore.specs.Refusals.{IsPassing};
+ghost use Rattle.sessions.specs.Acts.{Acts};
+ghost use Rattle.sessions.specs.Orders.{StepsTo, MayStep, MayRefuse, Asked};
+ghost use Rattle.sessions.specs.Steps.{progress_of, StepsOver, StepsFree, IfAsks, has_command, may_lack};
+ghost use Rattle.sessions.specs.Turns.{followed, is_login as is_login_of};
 
+use crate::account::{admitted, in_a_step, obey};
 use crate::free::{early, free, is_free, needs_login};
-use crate::login::MAX_FAILURES;
+use crate::login::{MAX_FAILURES, exchange, is_login, login_text};
 use crate::progress::{Progress, Stepped};
 use crate::replies::capabilities;
 use crate::turn::{Sequel, Turn};
 use crate::unread::Unread;
-use msproto::{Item, Reach, Scan, item_at, spell};
+use mailstore::{Refusal, Store};
+use msproto::{Command, Item, Reach, Scan, item_at, spell};
 use octets::Octets;
+use sqlite::Alter;
 use std::alloc::{AllocError, Global};
 use std::marker::Model;
 
@@ -170,10 +177,12 @@ impl Session {
     /// A step that asks no store: all of `step_over`, a command that is sent before a login and needs one, and the commands
     /// of `free`. Any other command is given out, and nothing changes then.
     ///
-    /// Lack of memory is the only error; nothing changes then.
+    /// Lack of memory is the only error, where something is to be answered; nothing changes then.
     pub fn step_free(&mut self, out: &mut Octets) -> Result<Stepped, AllocError>
         ensures step { IfOk result (λ stepped. StepsFree self.old.client self.new.client stepped out.old out.new) }
+        ensures asks { IfOk result (λ stepped. IfAsks stepped (self.new ≡ self.old)) }
         ensures err { OnErr result ((self.new ≡ self.old) × (out.new ≡ out.old)) }
+        ensures lacks { OnErr result (may_lack self.old.client ≡ true) }
     {
         if let Some(progress) = self.step_over(out)? {
             return Ok(Stepped::Made(progress));
@@ -190,6 +199,88 @@ impl Session {
         }
         let turn = free(self.alloc, &self.user, &command)?;
         Ok(Stepped::Made(self.take_turn(turn, out)?))
+    }
+
+    /// A step over a store: the first item is taken off and answered, as `step_free` does it, or what its command needs of
+    /// the accounts is read, the answer joins the output, and what the answer says is written. A user who is logged in
+    /// and has no account any more is refused as `Store`.
+    ///
+    /// Memory and Store are the only refusals, each only where it may come; the session, the output and the store are then
+    /// as before. Time is linear in the octets of the item and in the names of the user's scripts, besides `check` for a
+    /// script and `accepts` for a login.
+    pub fn step<S: Alter>(
+        &mut self,
+        store: &mut Store<S>,
+        out: &mut Octets,
+    ) -> Result<Progress, Refusal>
+        ensures acts { Acts (StepsTo self.old.client self.new.client result out.old out.new) (MayStep self.old.client) (state S.Store store.old) (state S.Store store.new) result }
+        ensures err { OnErr result ((self.new ≡ self.old) × (out.new ≡ out.old)) }
+        ensures named { IfErr result (MayRefuse self.old.client) }
+    {
+        match self.step_free(out)? {
+            Stepped::Made(progress) => Ok(progress),
+            Stepped::Asks(command) => self.step_asked(store, &command, out),
+        }
+    }
+
+    // The step of a command that comes first and is answered over the store.
+    fn step_asked<S: Alter>(
+        &mut self,
+        store: &mut Store<S>,
+        command: &Command,
+        out: &mut Octets,
+    ) -> Result<Progress, Refusal>
+        requires { Asked self.old.client command.now }
+        ensures acts { Acts (StepsTo self.old.client self.new.client result out.old out.new) (MayStep self.old.client) (state S.Store store.old) (state S.Store store.new) result }
+        ensures err { OnErr result ((self.new ≡ self.old) × (out.new ≡ out.old)) }
+        ensures named { IfErr result IsPassing }
+    {
+        if is_login(command) {
+            return self.step_login(store, command, out);
+        }
+        self.step_scripts(store, command, out)
+    }
+
+    // `AUTHENTICATE`, or the answer to a challenge.
+    fn step_login<S: Alter>(
+        &mut self,
+        store: &mut Store<S>,
+        command: &Command,
+        out: &mut Octets,
+    ) -> Result<Progress, Refusal>
+        requires asked { Asked self.old.client command.now }
+        requires login { is_login_of command.now ≡ true }
+        ensures acts { Acts (StepsTo self.old.client self.new.client result out.old out.new) (MayStep self.old.client) (state S.Store store.old) (state S.Store store.new) result }
+        ensures err { OnErr result ((self.new ≡ self.old) × (out.new ≡ out.old)) }
+        ensures named { IfErr result IsPassing }
+    {
+        let who = admitted(self.alloc, store, login_text(&self.user, command))?;
+        let turn = exchange(self.alloc, &self.user, self.failures, command, who)?;
+        let progress = self.take_turn(turn, out)?;
+        Ok(progress)
+    }
+
+    // A command about the user's scripts: once the change is written, nothing asks for memory.
+    fn step_scripts<S: Alter>(
+        &mut self,
+        store: &mut Store<S>,
+        command: &Command,
+        out: &mut Octets,
+    ) -> Result<Progress, Refusal>
+        requires asked { Asked self.old.client command.now }
+        requires other { is_login_of command.now ≡ false }
+        ensures acts { Acts (StepsTo self.old.client self.new.client result out.old out.new) (MayStep self.old.client) (state S.Store store.old) (state S.Store store.new) result }
+        ensures err { OnErr result ((self.new ≡ self.old) × (out.new ≡ out.old)) }
+        ensures named { IfErr result IsPassing }
+    {
+        let Some(user) = &self.user else {
+            unreachable!();
+        };
+        if let Err(refusal) = obey(self.alloc, store, user.as_slice(), command, out) {
+            return Err(in_a_step(refusal));
+        }
+        self.follow(Sequel::Stay);
+        Ok(Progress::Done)
     }
 
     /// What comes first in the octets that are not yet taken off, with a command's value. Takes memory for a command's

@@ -6,6 +6,8 @@ use Rattle.sessions.specs.Steps.{has_command}
 use Rattle.sessions.specs.Table.{needs_login, is_early}
 use Rattle.sessions.proofs.LawLemmas.{turn_step}
 use Rattle.sessions.proofs.FreeLemmas.{live_first, command_first, nobody_by, turn_over, early_turn, both, not_first, not_second, free_other}
+use Rattle.sessions.proofs.AskedLemmas.{command_lacks}
+use Rattle.sessions.proofs.StepLemmas.{on_err}
 use Rattle.sessions.proofs.session.Session.step_free.Goals as goal
 use Rattle.sessions.proofs.session.Session.step_free.Goals.{else-is_none-via-then-is_none+else-needs_login, else-is_none-via-else-is_none}
 
@@ -50,3 +52,8 @@ returns-clause-step c =
     (ap (λ (v : SessionView). v.client) kept.0) kept.1 is c.in_ok-take_turn-2.ensures.session c.in_ok-take_turn-2.ensures.goes_on c.in_ok-take_turn-2.ensures.told
     (λ accounts. turn_step accounts first c.in-Command.command c.in-Command.field-1 c.in_ok-turn-2.turn (live_first first has, is) late other
     (turn.replies accounts (past c.in-Command.field-1 first) user) (turn.session accounts (past c.in-Command.field-1 first) user))
+
+pub returns-in_err-command-clause-lacks : goal.returns-in_err-command-clause-lacks
+returns-in_err-command-clause-lacks c =
+    let told = rw c.in_default.is at c.in_ok-progress.ensures.command in
+    on_err c.from_residual-in_err-command.result (command_lacks c.args.self.now.client (sym told))

@@ -1,0 +1,169 @@
+-- Steps over a store, from what their commands come to.
+use Rattle.std.proofs.Common.{◌≡◌, ◌⊎◌, ℕ, Bool, true, false, not, ◌&&◌, List, ◌++◌, Option, Some, None, Ok, Err, Result, OnOk, OnErr, is_none, refl, sym, ap, ◌∙◌, subst, inl, inr}
+use Rattle.std.proofs.lemmas.Bool.{false≢true}
+use Rattle.sqlite.specs.State.{State, HasCleanDisk}
+use Rattle.sqlite.proofs.StateLemmas.{survives_weaker}
+use Rattle.msproto.specs.declared.commands.Command.{Command}
+use Rattle.msproto.specs.declared.commands.Command.TheVariants.{Capability, Noop, Logout, Authenticate, Unauthenticate, HaveSpace, PutScript, CheckScript, ListScripts, SetActive, GetScript, DeleteScript, RenameScript, Response}
+use Rattle.msproto.specs.declared.items.Item.{Item}
+use Rattle.msproto.specs.declared.items.Item.TheVariants as item
+use Rattle.msproto.specs.declared.items.Reach.{Reach}
+use Rattle.msproto.specs.declared.items.Reach.TheVariants as reach
+use Rattle.msproto.specs.declared.replies.Reply.{Reply}
+use Rattle.msproto.specs.Replies.{spelled}
+use Rattle.mailstore.specs.declared.refusal.Refusal.{Refusal}
+use Rattle.mailstore.specs.Account.{Accounts}
+use Rattle.mailstore.specs.Refusals.{IsPassing}
+use Rattle.sessions.specs.declared.progress.Progress.{Progress}
+use Rattle.sessions.specs.declared.progress.Progress.TheVariants.{Done}
+use Rattle.sessions.specs.declared.turn.Sequel.TheVariants.{Stay}
+use Rattle.sessions.specs.declared.turn.Turn.{Turn}
+use Rattle.sessions.specs.Acts.{HasAccounts, CrashLeaves, Acts, Glances}
+use Rattle.sessions.specs.Clients.{Client, item_in, reach_in, past, without_first, is_item}
+use Rattle.sessions.specs.Orders.{ObeysUser, ObeyedTo, MayObey, StepsTo, MayStep, MayRefuse, Asked}
+use Rattle.sessions.specs.Steps.{IsStep, StepsOver, AsksFor, progress_of, is_free, asks_store, asks_memory, may_lack, may_fail, has_command}
+use Rattle.sessions.specs.Table.{needs_login, is_early, is_about_scripts}
+use Rattle.sessions.specs.Turns.{IsTurn, FitsLogin, followed, is_login, login_text, admitted_in}
+use Rattle.sessions.proofs.ActLemmas.{acts_read, no_glance}
+use Rattle.sessions.proofs.FreeLemmas.{from_item, live_first, command_first}
+use Rattle.sessions.proofs.LawLemmas.{turn_step, script_step}
+use Rattle.sessions.proofs.OrderLemmas.{done, refused}
+
+-- ---- which command it is
+
+pub asked_about : (command : Command) → is_free command ≡ false → is_login command ≡ false → is_about_scripts command ≡ true
+asked_about Capability f l = absurd (false≢true (sym f))
+asked_about (Noop tag) f l = absurd (false≢true (sym f))
+asked_about Logout f l = absurd (false≢true (sym f))
+asked_about (Authenticate mechanism response) f l = absurd (false≢true (sym l))
+asked_about Unauthenticate f l = absurd (false≢true (sym f))
+asked_about (HaveSpace name size) f l = refl
+asked_about (PutScript name script) f l = refl
+asked_about (CheckScript text) f l = absurd (false≢true (sym f))
+asked_about ListScripts f l = refl
+asked_about (SetActive name) f l = refl
+asked_about (GetScript name) f l = refl
+asked_about (DeleteScript name) f l = refl
+asked_about (RenameScript old new) f l = refl
+asked_about (Response text) f l = absurd (false≢true (sym l))
+
+pub login_other : (command : Command) → is_login command ≡ true → is_about_scripts command ≡ false
+login_other Capability l = refl
+login_other (Noop tag) l = refl
+login_other Logout l = refl
+login_other (Authenticate mechanism response) l = refl
+login_other Unauthenticate l = refl
+login_other (HaveSpace name size) l = absurd (false≢true l)
+login_other (PutScript name script) l = absurd (false≢true l)
+login_other (CheckScript text) l = refl
+login_other ListScripts l = absurd (false≢true l)
+login_other (SetActive name) l = absurd (false≢true l)
+login_other (GetScript name) l = absurd (false≢true l)
+login_other (DeleteScript name) l = absurd (false≢true l)
+login_other (RenameScript old new) l = absurd (false≢true l)
+login_other (Response text) l = refl
+
+-- of a command about scripts that isn't early someone is logged in
+pub asked_user : (c : Client) (command : Command) → is_early c command ≡ false → is_about_scripts command ≡ true → c.user ≡ None → ⊥
+asked_user c command late about none = go command about (subst (λ (o : Option (List ℕ)). (needs_login command && is_none o) ≡ false) none late)
+  where
+    go : (k : Command) → is_about_scripts k ≡ true → (needs_login k && true) ≡ false → ⊥
+    go Capability h e = false≢true h
+    go (Noop tag) h e = false≢true h
+    go Logout h e = false≢true h
+    go (Authenticate mechanism response) h e = false≢true h
+    go Unauthenticate h e = false≢true h
+    go (HaveSpace name size) h e = false≢true (sym e)
+    go (PutScript name script) h e = false≢true (sym e)
+    go (CheckScript text) h e = false≢true h
+    go ListScripts h e = false≢true (sym e)
+    go (SetActive name) h e = false≢true (sym e)
+    go (GetScript name) h e = false≢true (sym e)
+    go (DeleteScript name) h e = false≢true (sym e)
+    go (RenameScript old new) h e = false≢true (sym e)
+    go (Response text) h e = false≢true h
+
+-- ---- calls with another answer
+
+pub acts_other : {X Y : Type 0} (a b : State) (T U M N : Accounts → Accounts → Type 0) (r : Result X Refusal) (q : Result Y Refusal) → ((accounts later : Accounts) → T accounts later → U accounts later)
+    → ((accounts later : Accounts) → M accounts later → N accounts later) → ((P : Type 0) → OnErr r P → OnErr q P) → Acts T M a b r → Acts U N a b q
+acts_other a b T U M N r q turn may err acts = record {
+  carries = λ clean accounts shown. let it = acts.carries clean accounts shown in (it.0, turn accounts it.0 it.1, it.2);
+  same = λ clean tables. err _ (acts.same clean tables);
+  crash = survives_weaker a b (CrashLeaves M a) (CrashLeaves N a) (λ clean db left accounts p. let it = left accounts p in (it.0, may accounts it.0 it.1, it.2)) acts.crash;
+}
+
+-- ---- the steps
+
+-- of a session where this command comes first
+module _ (c : Client) (command : Command) (asked : Asked c command) where
+  pub first_reach : reach_in c ≡ reach.Command asked.used
+  first_reach = from_item c.pending c.unread (reach_in c) command asked.used asked.first
+
+  pub first_item : is_item (reach_in c) ≡ true
+  first_item = ap is_item first_reach
+
+  pub refused_may : (e : Refusal) → IsPassing e → MayRefuse c e
+  refused_may e (inl memory) = subst (MayRefuse c) (sym memory) (ap (λ (b : Bool). not b && asks_memory (item_in c)) asked.live ∙ ap asks_memory asked.first)
+  refused_may e (inr store) =
+      subst (MayRefuse c) (sym store)
+      (ap (λ (b : Bool). not b && asks_store c (item_in c)) asked.live ∙ ap (asks_store c) asked.first ∙ ap (λ (b : Bool). not b && not (is_free command)) asked.late ∙ ap not asked.asks)
+
+  module _ (user : List ℕ) (is : c.user ≡ Some user) (about : is_about_scripts command ≡ true) where
+    obeyed_step : (reply : Reply) (accounts later : Accounts) → ObeysUser user command reply accounts later → IsStep accounts c Done (spelled reply) (past asked.used c) later
+    obeyed_step reply accounts later o =
+        subst (IsStep accounts c Done (spelled reply) (past asked.used c)) (sym o.changed) (script_step accounts c command asked.used user o.account reply (asked.live, asked.first) about is o.has o.replies)
+
+    may_step : (accounts later : Accounts) → MayObey user command accounts later → MayStep c accounts later
+    may_step accounts later o = (Done, spelled o.0, past asked.used c, obeyed_step o.0 accounts later o.1)
+
+    pub scripts_refused : (a b : State) (e f : Refusal) (before behind : List ℕ) → Acts (ObeyedTo user command (refused e) before behind) (MayObey user command) a b (refused e)
+        → Acts {X = Progress} (StepsTo c c (Err f) before behind) (MayStep c) a b (Err f)
+    scripts_refused a b e f before behind acts =
+        acts_other {Y = Progress} a b (ObeyedTo user command (refused e) before behind) (StepsTo c c (Err f) before behind) (MayObey user command) (MayStep c) (refused e) (Err f) (λ accounts later same. same) may_step (λ P h. h) acts
+
+    pub scripts_answered : (a b : State) (d : Client) (before behind : List ℕ) → d ≡ followed Stay (without_first false (reach_in c) c) → Acts (ObeyedTo user command done before behind) (MayObey user command) a b done
+        → Acts {X = Progress} (StepsTo c d (Ok Done) before behind) (MayStep c) a b (Ok Done)
+    scripts_answered a b d before behind session acts =
+        acts_other {Y = Progress} a b (ObeyedTo user command done before behind) (StepsTo c d (Ok Done) before behind) (MayObey user command) (MayStep c) done (Ok Done)
+        (λ accounts later o. (spelled o.0, o.1, subst (λ (k : Client). IsStep accounts c Done (spelled o.0) k later) (sym left) (obeyed_step o.0 accounts later o.2))) may_step (λ P h. tt) acts
+      where
+        left : d ≡ past asked.used c
+        left = session ∙ ap (λ (r : Reach). without_first false r c) first_reach
+
+  -- a login, or a failed one
+  pub login_answered : (a b : State) (d : Client) (who : Option (List ℕ)) (turn : Turn) (progress : Progress) (before behind : List ℕ) → is_login command ≡ true → Glances a b
+      → (HasCleanDisk b → (accounts : Accounts) → HasAccounts a accounts → admitted_in accounts (login_text c.user command) ≡ who) → IsTurn (FitsLogin c.user c.failures command who) command turn
+      → behind ≡ before ++ spelled turn.reply → d ≡ followed turn.sequel (without_first false (reach_in c) c) → progress ≡ progress_of d
+      → Acts {X = Progress} (StepsTo c d (Ok progress) before behind) (MayStep c) a b (Ok progress)
+  login_answered a b d who turn progress before behind login glances found is told session goes =
+      acts_read a b (StepsTo c d (Ok progress) before behind) (MayStep c) (Ok progress) glances (λ clean accounts shown. (spelled turn.reply, told, step accounts (found clean accounts shown)))
+    where
+      left : d ≡ followed turn.sequel (past asked.used c)
+      left = session ∙ ap (λ (r : Reach). followed turn.sequel (without_first false r c)) first_reach
+
+      step : (accounts : Accounts) → admitted_in accounts (login_text c.user command) ≡ who → IsStep accounts c progress (spelled turn.reply) d accounts
+      step accounts admits =
+          let fits : FitsLogin c.user c.failures command who accounts (past asked.used c) = record { user_is = refl; failed = refl; admits = admits } in
+          subst (λ (p : Progress). IsStep accounts c p (spelled turn.reply) d accounts) (sym goes)
+          (subst (λ (e : Client). IsStep accounts c (progress_of e) (spelled turn.reply) e accounts) (sym left)
+          (turn_step accounts c command asked.used turn (asked.live, asked.first) asked.late (login_other command login) (is.replies accounts (past asked.used c) fits) (is.session accounts (past asked.used c) fits)))
+
+-- ---- steps that ask no store
+
+pub over_acts : (c d : Client) (progress : Progress) (before behind : List ℕ) (a : State) → StepsOver c d progress before behind → Acts {X = Progress} (StepsTo c d (Ok progress) before behind) (MayStep c) a a (Ok progress)
+over_acts c d progress before behind a over =
+    acts_read a a (StepsTo c d (Ok progress) before behind) (MayStep c) (Ok progress) (no_glance a) (λ clean accounts shown. (over.octets, over.written, over.step accounts))
+
+-- a step that is refused before anything is written
+pub refused_acts : (c d : Client) (q : Result Progress Refusal) (before behind : List ℕ) (a b : State) → OnOk q ⊥ → Glances a b → Acts (StepsTo c d q before behind) (MayStep c) a b q
+refused_acts c d (Ok progress) before behind a b none glances = absurd none
+refused_acts c d (Err e) before behind a b none glances = acts_read a b (StepsTo c d (Err e) before behind) (MayStep c) (Err e) glances (λ clean accounts shown. refl)
+
+-- a command that comes first asks for memory
+pub command_lacks : (c : Client) → has_command c ≡ true → may_lack c ≡ true
+command_lacks c h = ap (λ (b : Bool). not b && asks_memory (item_in c)) (live_first c h) ∙ ap asks_memory (command_first c h).2
+
+pub asked_by : (c d : Client) (command : Command) (before behind : List ℕ) → AsksFor c d command before behind → d ≡ c → Asked d command
+asked_by c d command before behind asks same =
+    subst (λ (k : Client). Asked k command) (sym same) (record { live = asks.live; used = asks.used; first = asks.first; late = asks.late; asks = asks.asks })
