@@ -6,8 +6,8 @@ pub mod laws;
 mod looping;
 mod notice;
 mod outcome;
-mod vacation;
 mod texts;
+mod vacation;
 mod view;
 
 pub use delivery::plan;
