@@ -6,7 +6,7 @@ use Rattle.sqlite.proofs.StateLemmas.{survives_then, survives_weaker}
 use Rattle.mailstore.specs.declared.refusal.Refusal.{Refusal}
 use Rattle.mailstore.specs.Account.{Accounts}
 use Rattle.mailstore.specs.Connection.{StaysSame}
-use Rattle.mailstore.specs.Promises.{HasOurTables, Keeps, Writes, MayShow}
+use Rattle.mailstore.specs.Promises.{HasOurTables, Keeps, Turns, MayShow}
 use Rattle.mailstore.specs.Shows.{Presents}
 use Rattle.mailstore.proofs.ResultLemmas.{on_ok, on_err_any}
 use Rattle.mailstore.proofs.WriteLemmas.{clean_before}
@@ -49,18 +49,19 @@ acts_read a b Turn MayTurn q k turn = record {
 -- ---- reads, and then one write
 
 module _ {X Y E : Type 0} (a b c : State) (r : Result X E) (x : X) (is : r ≡ Ok x) (k : Keeps a b r) (Fit : Accounts → Type 0) (change : Accounts → Accounts)
-    (w : Result Y Refusal) (late : Writes Fit change b c w) (Turn MayTurn : Accounts → Accounts → Type 0) where
+    (w : Result Y Refusal) (made_is : HasCleanDisk c → OnOk w (Turns Fit change b.now c.now)) (same_is : HasCleanDisk c → HasOurTables b.now → OnErr w (StaysSame b c))
+    (crash_is : Survives b c (MayShow Fit change b)) (Turn MayTurn : Accounts → Accounts → Type 0) where
   -- what the tables show between the two
   mid_shows : HasCleanDisk c → (accounts : Accounts) → HasAccounts a accounts → Presents a.now accounts × IsTrue b.is_open × Presents b.now accounts
-  mid_shows clean = read_shows a b r x is k (clean_before b c _ late.crash clean)
+  mid_shows clean = read_shows a b r x is k (clean_before b c _ crash_is clean)
 
   crash_turned : (HasCleanDisk b → (accounts : Accounts) → Presents a.now accounts → Fit accounts × MayTurn accounts (change accounts)) → Survives a c (CrashLeaves MayTurn a)
   crash_turned steps = survives_then a b c _ _ _ (λ clean db none accounts p. absurd (none (p.0, p.1)))
       (λ clean db may accounts p.
-      let before = clean_before b c _ late.crash clean in
+      let before = clean_before b c _ crash_is clean in
       let m = mid_shows clean accounts (λ o. p) in
       let step = steps before accounts p in
-      (change accounts, step.1, may accounts m.2 step.0)) k.crash late.crash
+      (change accounts, step.1, may accounts m.2 step.0)) k.crash crash_is
 
   -- the write was made
   pub acts_made : {Z : Type 0} (y : Y) (z : Z) → w ≡ Ok y
@@ -68,8 +69,8 @@ module _ {X Y E : Type 0} (a b c : State) (r : Result X E) (x : X) (is : r ≡ O
   acts_made y z was steps = record {
     carries = λ clean accounts shown.
         let m = mid_shows clean accounts shown in
-        let step = steps (clean_before b c _ late.crash clean) accounts m.0 in
-        (change accounts, step.1, λ is_open. on_ok w y was _ (late.made clean) accounts m.2 step.0);
+        let step = steps (clean_before b c _ crash_is clean) accounts m.0 in
+        (change accounts, step.1, λ is_open. on_ok w y was _ (made_is clean) accounts m.2 step.0);
     same = λ clean tables. tt;
     crash = crash_turned (λ clean accounts p. let step = steps clean accounts p in (step.0, step.2));
   }
@@ -80,13 +81,13 @@ module _ {X Y E : Type 0} (a b c : State) (r : Result X E) (x : X) (is : r ≡ O
   acts_undone e q was turn steps = record {
     carries = λ clean accounts shown.
         let m = mid_shows clean accounts shown in
-        let undone = undone_is clean in
+        let undone = undone_is clean (m.2.0, m.2.1) in
         (accounts, turn accounts, λ is_open. subst (λ db. Presents db accounts) (sym (undone.now_is is_open)) m.2);
     same = λ clean tables.
-        let before = clean_before b c _ late.crash clean in
+        let before = clean_before b c _ crash_is clean in
         let mid = on_ok r x is (IsTrue b.is_open) (k.live before) in
         let one = k.same before tables in
-        let two = undone_is clean in
+        let two = undone_is clean (subst HasOurTables (sym (one.now_is mid)) tables) in
         on_err_any q _ (record { now_is = λ o. two.now_is o ∙ one.now_is mid; committed_is = λ o. two.committed_is o ∙ one.committed_is mid });
     crash = crash_turned steps;
   }
@@ -95,5 +96,5 @@ module _ {X Y E : Type 0} (a b c : State) (r : Result X E) (x : X) (is : r ≡ O
       refused (Ok y) was P h = absurd (let no = was in cc)
       refused (Err f) was P h = h
 
-      undone_is : HasCleanDisk c → StaysSame b c
-      undone_is clean = refused w was _ (late.same clean)
+      undone_is : HasCleanDisk c → HasOurTables b.now → StaysSame b c
+      undone_is clean tables = refused w was _ (same_is clean tables)

@@ -1,5 +1,5 @@
 -- Commands about scripts, over a store.
-use Rattle.std.proofs.Common.{◌≡◌, ◌⊎◌, ℕ, Bool, true, false, cond, List, ◌++◌, Option, Some, None, option_map, Ok, Err, Result, OnOk, IfOk, IfErr, IsSome, refl, sym, ap, ◌∙◌, subst}
+use Rattle.std.proofs.Common.{◌≡◌, ◌⊎◌, ℕ, Bool, true, false, cond, List, ◌++◌, Option, Some, None, option_map, Ok, Err, Result, OnOk, IfOk, IfErr, IsSome, refl, sym, ap, ◌∙◌, subst, inl, inr}
 use Rattle.std.specs.Borrow.{Bor}
 use Rattle.std.specs.FinMap.{get, keys}
 use Rattle.sqlite.specs.State.{State, HasCleanDisk}
@@ -13,7 +13,7 @@ use Rattle.mailstore.specs.declared.refusal.Refusal.TheVariants.{NoUser}
 use Rattle.mailstore.specs.Account.{Account, Accounts, with_user}
 use Rattle.mailstore.specs.AccountTable.{profile_of}
 use Rattle.mailstore.specs.Cells.{contents}
-use Rattle.mailstore.specs.Promises.{HasUser, IsFree, OfUser, Keeps, Reads, ReadsProfile, WritesUser}
+use Rattle.mailstore.specs.Promises.{HasUser, IsFree, OfUser, Keeps, Reads, ReadsProfile, WritesUser, WritesAccount}
 use Rattle.mailstore.specs.Refusals.{IsPassing}
 use Rattle.mailstore.specs.Shows.{Presents}
 use Rattle.mailstore.proofs.KeepLemmas.{keeps_ok, keeps_refused, keeps_then, mid_shows}
@@ -101,6 +101,30 @@ loud user command d change accounts own some =
     λ i b. subst (λ (o : Option Change). change_made_if o b ≡ obeyed command d.reply.word b) some (own.2.changes b) i in
     record { account = own.0; has = own.1; replies = own.2.replies; changed = ap (with_user accounts user) same }
 
+-- ---- writes that never find the account absent
+
+passing_named : {X : Type 0} (w : Result X Refusal) → IfErr w IsPassing → IfErr w (λ e. (e ≡ NoUser) ⊎ IsPassing e)
+passing_named (Ok x) h = tt
+passing_named (Err e) h = inr h
+
+no_user_passes : IsPassing NoUser → ⊥
+no_user_passes h = elim h [ inl is ↦ (let e = is in cc) | inr is ↦ (let e = is in cc) ]
+
+never_absent : {X : Type 0} (user : List ℕ) (accounts : Accounts) (w : Result X Refusal) → IfErr w IsPassing → IfErr w (λ e. e ≡ NoUser → IsFree user accounts)
+never_absent user accounts (Ok x) h = tt
+never_absent user accounts (Err e) h = λ is. absurd (no_user_passes (subst IsPassing is h))
+
+-- such a write is one that asks whether there is an account
+pub written : {X : Type 0} (user : List ℕ) (change : Account → Account) (b c : State) (w : Result X Refusal) → WritesUser user change b c w → WritesAccount user change b c w
+written user change b c w late = record {
+  made = late.made;
+  settled = late.settled;
+  same = λ clean tables. late.same clean;
+  absent = λ clean accounts p. never_absent user accounts w late.named;
+  crash = late.crash;
+  named = passing_named w late.named;
+}
+
 module _ (user : List ℕ) (command : Command) (a b : State) (r : Result Decision Refusal) (d : Decision) (was : r ≡ Ok d) (reads : Reads user (Decides command) a b r) where
   own : HasCleanDisk b → (accounts : Accounts) → Presents a.now accounts → OfUser accounts user (Decides command d)
   own clean accounts p = subst (λ q. IfOk q (λ x. OfUser accounts user (Decides command x))) was (reads.found clean accounts p)
@@ -111,7 +135,7 @@ module _ (user : List ℕ) (command : Command) (a b : State) (r : Result Decisio
       acts_read a b (ObeyedTo user command done before behind) (MayObey user command) done (glanced a b r reads.keeps)
       (λ clean accounts shown. let p = (read_shows a b r d was reads.keeps clean accounts shown).0 in (d.reply, told, quiet user command d accounts (own clean accounts p) none))
 
-  module _ (c : State) (change : Change) (some : d.change ≡ Some change) (w : Result (Unit {0}) Refusal) (late : WritesUser user (change_made change) b c w) where
+  module _ (c : State) (change : Change) (some : d.change ≡ Some change) (w : Result (Unit {0}) Refusal) (late : WritesAccount user (change_made change) b c w) where
     fits : HasCleanDisk b → (accounts : Accounts) → Presents a.now accounts → HasUser user accounts × ObeysUser user command d.reply accounts (with_user accounts user (change_made change))
     fits clean accounts p =
         let o = own clean accounts p in
@@ -119,10 +143,10 @@ module _ (user : List ℕ) (command : Command) (a b : State) (r : Result Decisio
 
     pub obeys_made : (before behind : List ℕ) → behind ≡ before ++ spelled d.reply → (y : Unit {0}) → w ≡ Ok y → Acts (ObeyedTo user command done before behind) (MayObey user command) a c done
     obeys_made before behind told y is =
-        acts_made a b c r d was reads.keeps (HasUser user) (λ all. with_user all user (change_made change)) w late (ObeyedTo user command done before behind) (MayObey user command) y tt is
+        acts_made a b c r d was reads.keeps (HasUser user) (λ all. with_user all user (change_made change)) w late.made late.same late.crash (ObeyedTo user command done before behind) (MayObey user command) y tt is
         (λ clean accounts p. let f = fits clean accounts p in (f.0, (d.reply, told, f.1), (d.reply, f.1)))
 
     pub obeys_undone : (before behind : List ℕ) (e : Refusal) → w ≡ Err e → Acts (ObeyedTo user command (refused e) before behind) (MayObey user command) a c (refused e)
     obeys_undone before behind e is =
-        acts_undone a b c r d was reads.keeps (HasUser user) (λ all. with_user all user (change_made change)) w late (ObeyedTo user command (refused e) before behind) (MayObey user command) e (refused e) is
+        acts_undone a b c r d was reads.keeps (HasUser user) (λ all. with_user all user (change_made change)) w late.made late.same late.crash (ObeyedTo user command (refused e) before behind) (MayObey user command) e (refused e) is
         (λ accounts. refl) (λ clean accounts p. let f = fits clean accounts p in (f.0, (d.reply, f.1)))

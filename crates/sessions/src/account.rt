@@ -5,7 +5,7 @@ ghost use Rattle.sqlite.specs.Held.{state};
 ghost use Rattle.sqlite.specs.State.{HasCleanDisk};
 ghost use Rattle.mailstore.specs.Account.{Accounts};
 ghost use Rattle.mailstore.specs.declared.refusal.Refusal.TheVariants.{NoUser};
-ghost use Rattle.mailstore.specs.Promises.{Reads, WritesUser};
+ghost use Rattle.mailstore.specs.Promises.{Reads, WritesAccount};
 ghost use Rattle.mailstore.specs.Refusals.{IsPassing};
 ghost use Rattle.sessions.specs.Acts.{HasAccounts, Acts, Glances};
 ghost use Rattle.sessions.specs.Decisions.{AreScripts, Decides, change_made};
@@ -160,13 +160,13 @@ fn kept_scripts<S: Alter>(store: &mut Store<S>, user: &[u8]) -> Result<KeptScrip
 
 /// Writes the change of the user's scripts, in one transaction.
 fn make<S: Alter>(store: &mut Store<S>, user: &[u8], change: Change) -> Result<(), Refusal>
-    ensures { WritesUser user.now (change_made change.entry) (state S.Store store.old) (state S.Store store.new) result }
+    ensures { WritesAccount user.now (change_made change.entry) (state S.Store store.old) (state S.Store store.new) result }
 {
     match change {
         Change::Put { name, script } => store.put_script(user, name, script),
         Change::Activate(name) => store.set_active(user, name),
         Change::Delete(name) => store.delete(user, name),
-        Change::Rename { .. } => Err(Refusal::Store),
+        Change::Rename { old, new } => store.rename(user, old, new),
     }
 }
 
