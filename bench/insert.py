@@ -4,7 +4,7 @@
   bench/insert.py [SIEVED]       SIEVED: the program, crates/sieved/out/sieved where none is named
 
 It makes a program crate on `sqlite` in a folder of its own, which puts one value of 30,000,000 octets into a table of
-the shape of `copy` and closes the file, and proves and builds it with `rt run` (a minute). Prints the most memory that
+the shape of `message` and closes the file, and proves and builds it with `rt run` (a minute). Prints the most memory that
 each process had.
 """
 import os, resource, subprocess, sys, tempfile
@@ -18,8 +18,8 @@ use sqlite::{Connection, Error, params};
 use std::process::ExitCode;
 
 const TABLES: &str = "CREATE TABLE account (name BLOB NOT NULL PRIMARY KEY) STRICT; \\
-CREATE TABLE copy (owner BLOB NOT NULL REFERENCES account (name), folder BLOB NOT NULL, n INTEGER NOT NULL, \\
-message BLOB NOT NULL, PRIMARY KEY (owner, folder, n)) STRICT; INSERT INTO account VALUES (X'61')";
+CREATE TABLE message (owner BLOB NOT NULL REFERENCES account (name), id INTEGER NOT NULL, bytes BLOB NOT NULL, \\
+PRIMARY KEY (owner, id)) STRICT; INSERT INTO account VALUES (X'61')";
 
 fn main(rt: HostRuntime) -> ExitCode {
     match put(&rt) {
@@ -29,11 +29,11 @@ fn main(rt: HostRuntime) -> ExitCode {
 }
 
 fn put(rt: &HostRuntime) -> Result<(), Error> {
-    let mut conn = Connection::open(rt, "copy.db")?;
+    let mut conn = Connection::open(rt, "message.db")?;
     conn.execute_batch(TABLES)?;
     let mut text: Vec<u8> = Vec::new(rt.alloc());
     text.resize(30_000_000, 97)?;
-    conn.execute("INSERT INTO copy VALUES (X'61', X'62', 1, ?1)", params![text.as_slice()])?;
+    conn.execute("INSERT INTO message VALUES (X'61', 1, ?1)", params![text.as_slice()])?;
     conn.close()
 }
 """
@@ -55,7 +55,7 @@ with tempfile.TemporaryDirectory() as folder:
     open(f"{folder}/crates.txt", "w").write("insert: sqlite\n")
     open(f"{crate}/src/main.rt", "w").write(SOURCE)
     subprocess.run(["rt", "run"], cwd=crate, check=True, stdout=subprocess.DEVNULL)
-    os.remove(f"{crate}/copy.db")
+    os.remove(f"{crate}/message.db")
     alone = peak([f"{crate}/out/insert"], crate)
     db = ["--db", f"{folder}/mail.db"]
     peak([SIEVED, "init", *db], folder)

@@ -23,7 +23,7 @@ neither : (test : Bool) (x y : Kind) → is_opener x ≡ false → is_opener y �
 neither true x y first second = first
 neither false x y first second = second
 
--- what the table has behind its first three rows
+-- what the table has after its first three rows
 abbrev later : ℕ → Kind
 later octet =
     cond (octet == 60) K.Less (cond (octet == 62) K.Greater (cond (octet == 64) K.At (cond (octet == 44) K.Comma (cond (octet == 58) K.Colon

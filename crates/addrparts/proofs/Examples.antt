@@ -108,29 +108,29 @@ two_at_signs found are = addrs-only (97 ∷ 64 ∷ 64 ∷ 98 ∷ []) found are
 shown_octets : (is_fit (32 ∷ 126 ∷ []) ≡ true) × ((is_shown 9 ≡ false) × (is_shown 127 ≡ false))
 shown_octets = (refl, (refl, refl))
 
--- a display may begin with a blank, and not with a dot
+-- a display name may begin with a blank, and not with a dot
 words_first : BeginsWithWord (piece K.Blank (32 ∷ []) ∷ piece K.Atom (97 ∷ []) ∷ [])
 words_first = tt
 
 dot_first : BeginsWithWord (piece K.Dot (46 ∷ []) ∷ piece K.Atom (97 ∷ []) ∷ []) → ⊥
 dot_first begins = begins
 
--- `"A" <a@b>` has the display A
+-- `"A" <a@b>` has the display name A
 with_name : outbound (34 ∷ 65 ∷ 34 ∷ 32 ∷ 60 ∷ 97 ∷ 64 ∷ 98 ∷ 62 ∷ []) ≡ Some (65 ∷ [], address (97 ∷ []) (98 ∷ []))
 unfolding outbound pieces
 with_name = refl
 
 -- `<a@b>` names nothing, since it has no word
-no_name : (display : List ℕ) (found : Addr) → IsOutbound (60 ∷ 97 ∷ 64 ∷ 98 ∷ 62 ∷ []) display found → ⊥
+no_name : (display_name : List ℕ) (found : Addr) → IsOutbound (60 ∷ 97 ∷ 64 ∷ 98 ∷ 62 ∷ []) display_name found → ⊥
 unfolding outbound pieces
-no_name display found is = none-some (display, found) (outbound-again (60 ∷ 97 ∷ 64 ∷ 98 ∷ 62 ∷ []) display found is)
+no_name display_name found is = none-some (display_name, found) (outbound-again (60 ∷ 97 ∷ 64 ∷ 98 ∷ 62 ∷ []) display_name found is)
 
--- `a@b` is an address without display
+-- `a@b` is an address without display name
 bare_spec : bare (97 ∷ 64 ∷ 98 ∷ []) ≡ Some (address (97 ∷ []) (98 ∷ []))
 unfolding bare pieces
 bare_spec = refl
 
--- `""<a@b>` is not, though its display is empty
+-- `""<a@b>` is not, though its display name is empty
 empty_display : (found : Addr) → IsBareAddress (34 ∷ 34 ∷ 60 ∷ 97 ∷ 64 ∷ 98 ∷ 62 ∷ []) found → ⊥
 unfolding bare pieces
 empty_display found is = none-some found (bare-found (34 ∷ 34 ∷ 60 ∷ 97 ∷ 64 ∷ 98 ∷ 62 ∷ []) found is)

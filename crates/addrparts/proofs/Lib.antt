@@ -9,4 +9,5 @@ pub mod Shapes
 pub mod Lists
 pub mod Outbounds
 pub mod Spells
+pub mod DotLaws
 pub mod Examples

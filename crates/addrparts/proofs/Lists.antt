@@ -11,7 +11,8 @@ use Rattle.addrparts.specs.declared.draft.Draft.{Draft}
 use Rattle.addrparts.specs.declared.address.Addr.{Addr}
 use Rattle.addrparts.specs.Pieces.{Piece}
 use Rattle.addrparts.specs.Parts.{is_token, tokens, is_separator, is_open, is_open_after, IsUncut, Each, Part, AreParts, Gives, Answers, Collects, AreAddresses}
-use Rattle.addrparts.specs.Reading.{start, take_at, taken, is_outside, outcome, given, collected, pieces, addrs}
+use Rattle.addrparts.specs.Drafts.{start, take_at, taken, is_outside, outcome, given}
+use Rattle.addrparts.specs.Reading.{collected, pieces, addrs}
 use Rattle.addrparts.proofs.Cuts.{cut-only, cut-all}
 use Rattle.addrparts.proofs.Specs.{read-place}
 use Rattle.addrparts.proofs.PartLemmas.{runs, shape-again}

@@ -13,7 +13,8 @@ use Rattle.addrparts.specs.declared.address.Addr.{Addr}
 use Rattle.addrparts.specs.Pieces.{Piece, Cut, unquoted}
 use Rattle.addrparts.specs.Parts.{is_token, tokens, Each, IsSpec, IsNamed}
 use Rattle.addrparts.specs.Outbound.{is_fit, is_no_comment, is_phrase, BeginsWithWord, IsBare, IsPhrased, IsOutbound, IsBareAddress}
-use Rattle.addrparts.specs.Reading.{start, start_at, taken, outcome, sole, opening, with_display, outbound_at, outbound_fit, outbound, bare, pieces}
+use Rattle.addrparts.specs.Drafts.{start, start_at, taken, outcome}
+use Rattle.addrparts.specs.Reading.{addr_spec_only, opening, with_display, outbound_at, outbound_fit, outbound, bare, pieces}
 use Rattle.addrparts.proofs.Cuts.{cut-only, cut-all}
 use Rattle.addrparts.proofs.PartLemmas.{runs, Each-append, is_inner, spec-inner, bare-again, inside-again}
 use Rattle.addrparts.proofs.Shapes.{shape-is, closed-is}
@@ -25,21 +26,21 @@ is_no_less K.Less = false
 is_no_less _ = true
 
 -- without comment and opening bracket a text is read as its tokens are
-sole-step : (d : Draft) (kind : Kind) (text : List ℕ) (more : List Piece) → is_no_comment kind ≡ true → is_no_less kind ≡ true → sole d ((record { kind = kind; text = text }) ∷ more) ≡ sole (taken d kind text) more
-sole-step d K.Comment text more plain closed = absurd (false≢true plain)
-sole-step d K.Less text more plain closed = absurd (false≢true closed)
-sole-step d _ text more plain closed = refl
+addr_spec_only-step : (d : Draft) (kind : Kind) (text : List ℕ) (more : List Piece) → is_no_comment kind ≡ true → is_no_less kind ≡ true → addr_spec_only d ((record { kind = kind; text = text }) ∷ more) ≡ addr_spec_only (taken d kind text) more
+addr_spec_only-step d K.Comment text more plain closed = absurd (false≢true plain)
+addr_spec_only-step d K.Less text more plain closed = absurd (false≢true closed)
+addr_spec_only-step d _ text more plain closed = refl
 
 blank-taken : (d : Draft) (kind : Kind) (text : List ℕ) → is_token kind ≡ false → taken d kind text ≡ d
 blank-taken d K.Blank text gap = refl
 blank-taken d K.Comment text gap = refl
 blank-taken d _ text gap = absurd (false≢true (sym gap))
 
-sole-tokens : (all : List Piece) (d : Draft) → Each is_no_comment all → Each is_no_less all → sole d all ≡ outcome (runs d (tokens all))
-sole-tokens [] d plain closed = refl
-sole-tokens (piece ∷ more) d plain closed = elim (cases_Bool (is_token piece.kind)) [
-  | inl token ↦ sole-step d piece.kind piece.text more plain.0 closed.0 ∙ sole-tokens more (taken d piece.kind piece.text) plain.1 closed.1 ∙ ap (λ b. outcome (runs d (cond b (piece ∷ tokens more) (tokens more)))) (sym token)
-  | inr gap ↦ sole-step d piece.kind piece.text more plain.0 closed.0 ∙ ap (λ e. sole e more) (blank-taken d piece.kind piece.text gap) ∙ sole-tokens more d plain.1 closed.1 ∙ ap (λ b. outcome (runs d (cond b (piece ∷ tokens more) (tokens more)))) (sym gap)
+addr_spec_only-tokens : (all : List Piece) (d : Draft) → Each is_no_comment all → Each is_no_less all → addr_spec_only d all ≡ outcome (runs d (tokens all))
+addr_spec_only-tokens [] d plain closed = refl
+addr_spec_only-tokens (piece ∷ more) d plain closed = elim (cases_Bool (is_token piece.kind)) [
+  | inl token ↦ addr_spec_only-step d piece.kind piece.text more plain.0 closed.0 ∙ addr_spec_only-tokens more (taken d piece.kind piece.text) plain.1 closed.1 ∙ ap (λ b. outcome (runs d (cond b (piece ∷ tokens more) (tokens more)))) (sym token)
+  | inr gap ↦ addr_spec_only-step d piece.kind piece.text more plain.0 closed.0 ∙ ap (λ e. addr_spec_only e more) (blank-taken d piece.kind piece.text gap) ∙ addr_spec_only-tokens more d plain.1 closed.1 ∙ ap (λ b. outcome (runs d (cond b (piece ∷ tokens more) (tokens more)))) (sym gap)
 ]
 
 -- what is read so has no comment and opens no bracket
@@ -47,14 +48,14 @@ record IsSole (d : Draft) (all : List Piece) (address : Addr) : Type 0 where
   plain : Each is_no_comment all
   closed : Each is_no_less all
 
-sole-first : (d : Draft) (kind : Kind) (text : List ℕ) (more : List Piece) (address : Addr) → ((e : Draft) → sole e more ≡ Some address → IsSole e more address) → sole d ((record { kind = kind; text = text }) ∷ more) ≡ Some address → IsSole d ((record { kind = kind; text = text }) ∷ more) address
-sole-first d K.Comment text more address rec is = absurd (cc)
-sole-first d K.Less text more address rec is = absurd (cc)
-sole-first d kind text more address rec is = let s = rec (taken d kind text) is in record { plain = (refl, s.plain); closed = (refl, s.closed) }
+addr_spec_only-first : (d : Draft) (kind : Kind) (text : List ℕ) (more : List Piece) (address : Addr) → ((e : Draft) → addr_spec_only e more ≡ Some address → IsSole e more address) → addr_spec_only d ((record { kind = kind; text = text }) ∷ more) ≡ Some address → IsSole d ((record { kind = kind; text = text }) ∷ more) address
+addr_spec_only-first d K.Comment text more address rec is = absurd (cc)
+addr_spec_only-first d K.Less text more address rec is = absurd (cc)
+addr_spec_only-first d kind text more address rec is = let s = rec (taken d kind text) is in record { plain = (refl, s.plain); closed = (refl, s.closed) }
 
-sole-is : (all : List Piece) (d : Draft) (address : Addr) → sole d all ≡ Some address → IsSole d all address
-sole-is [] d address is = record { plain = tt; closed = tt }
-sole-is (piece ∷ more) d address is = sole-first d piece.kind piece.text more address (λ e rest. sole-is more e address rest) is
+addr_spec_only-is : (all : List Piece) (d : Draft) (address : Addr) → addr_spec_only d all ≡ Some address → IsSole d all address
+addr_spec_only-is [] d address is = record { plain = tt; closed = tt }
+addr_spec_only-is (piece ∷ more) d address is = addr_spec_only-first d piece.kind piece.text more address (λ e rest. addr_spec_only-is more e address rest) is
 
 -- tokens of an addr-spec open no bracket
 inner-closed : (kind : Kind) → is_inner kind ≡ true → is_no_less kind ≡ true
@@ -83,7 +84,7 @@ Each-weaker : (test other : Kind → Bool) → ((kind : Kind) → test kind ≡ 
 Each-weaker test other implies [] each = tt
 Each-weaker test other implies (piece ∷ more) each = (implies piece.kind each.0, Each-weaker test other implies more each.1)
 
--- without an opening bracket there is no display
+-- without an opening bracket there is no display name
 opening-none : (seen : Bool) (at : ℕ) (all : List Piece) → Each is_no_less all → opening seen at all ≡ None
 opening-none seen at [] closed = refl
 opening-none seen at (piece ∷ more) closed = by_kind piece.kind piece.text seen closed.0 (opening-none seen (at + length piece.text) more closed.1) (opening-none true (at + length piece.text) more closed.1)
@@ -102,18 +103,18 @@ spec-closed : (all : List Piece) (address : Addr) → IsSpec (tokens all) addres
 spec-closed all address spec = tokens-closed all (Each-weaker is_inner is_no_less inner-closed (tokens all) (spec-inner (tokens all) address spec))
 
 -- an addr-spec alone is read as one
-spec-read : (all : List Piece) (address : Addr) → Each is_no_comment all → IsSpec (tokens all) address → sole start all ≡ Some address
-spec-read all address plain spec = sole-tokens all start plain (spec-closed all address spec) ∙ bare-again (tokens all) address spec
+spec-read : (all : List Piece) (address : Addr) → Each is_no_comment all → IsSpec (tokens all) address → addr_spec_only start all ≡ Some address
+spec-read all address plain spec = addr_spec_only-tokens all start plain (spec-closed all address spec) ∙ bare-again (tokens all) address spec
 
-bare-read : (text display : List ℕ) (address : Addr) → Each is_no_comment (pieces text) → IsBare (pieces text) display address → outbound_fit text ≡ Some (display, address)
-bare-read text display address plain bare =
+bare-read : (text display_name : List ℕ) (address : Addr) → Each is_no_comment (pieces text) → IsBare (pieces text) display_name address → outbound_fit text ≡ Some (display_name, address)
+bare-read text display_name address plain bare =
     let all = pieces text in
     ap (outbound_at text) (opening-none false 0 all (spec-closed all address bare.spec)) ∙ ap (with_display []) (spec-read all address plain bare.spec) ∙ ap (λ d. shown d address) (sym bare.shown)
   where
     shown : List ℕ → Addr → Option (List ℕ × Addr)
     shown d a = Some (d, a)
 
--- the texts of pieces, one behind the other
+-- the texts of pieces, one after the other
 abbrev pub texts : List Piece → List ℕ
 texts all = flat_map (λ piece. piece.text) all
 
@@ -158,31 +159,31 @@ Each-back test [] back all = all
 Each-back test (token ∷ more) back all = Each-back test more back all.1
 
 -- words and an addr-spec in brackets are read so
-phrased-read : (text display : List ℕ) (address : Addr) → text ≡ texts (pieces text) → Each is_no_comment (pieces text) → IsPhrased (pieces text) display address → outbound_fit text ≡ Some (display, address)
-phrased-read text display address whole plain p =
+phrased-read : (text display_name : List ℕ) (address : Addr) → text ≡ texts (pieces text) → Each is_no_comment (pieces text) → IsPhrased (pieces text) display_name address → outbound_fit text ≡ Some (display_name, address)
+phrased-read text display_name address whole plain p =
     let n = length (texts p.phrase) in
     let before : take n text ≡ texts p.phrase = ap (take n) (whole ∙ ap texts p.cut ∙ texts-append p.phrase (p.less ∷ p.others)) ∙ take_at (texts p.phrase) (texts (p.less ∷ p.others)) n refl in
     let found : opening false 0 (pieces text) ≡ here n p.others = ap (opening false 0) p.cut ∙ opening-phrase p.phrase 0 p.less p.others p.opens p.words p.begins ∙ ap (λ m. here m p.others) (omega arith) in
     let plain' : Each is_no_comment p.others = (Each-back is_no_comment p.phrase (p.less ∷ p.others) (subst (Each is_no_comment) p.cut plain)).1 in
     let closed : Each is_no_less p.others = tokens-closed p.others (subst (Each is_no_less) (sym p.rest) (Each-append is_no_less p.inside (p.greater ∷ []) (Each-weaker is_inner is_no_less inner-closed p.inside (spec-inner p.inside address p.spec)) (ap is_no_less p.closes, tt))) in
-    let read : sole (start_at P.Inside) p.others ≡ Some address = sole-tokens p.others (start_at P.Inside) plain' closed ∙ ap (λ ts. outcome (runs (start_at P.Inside) ts)) p.rest ∙ inside-again p.inside address p.greater p.closes p.spec in
+    let read : addr_spec_only (start_at P.Inside) p.others ≡ Some address = addr_spec_only-tokens p.others (start_at P.Inside) plain' closed ∙ ap (λ ts. outcome (runs (start_at P.Inside) ts)) p.rest ∙ inside-again p.inside address p.greater p.closes p.spec in
     ap (outbound_at text) found ∙ ap (with_display (unquoted (trimmed (take n text)))) read ∙ ap (λ t. shown (unquoted (trimmed t)) address) before ∙ ap (λ d. shown d address) (sym p.shown)
   where
     shown : List ℕ → Addr → Option (List ℕ × Addr)
     shown d a = Some (d, a)
 
 -- each text that names an address is read as that one
-pub outbound-again : (text display : List ℕ) (address : Addr) → IsOutbound text display address → outbound text ≡ Some (display, address)
+pub outbound-again : (text display_name : List ℕ) (address : Addr) → IsOutbound text display_name address → outbound text ≡ Some (display_name, address)
 unfolding outbound
-outbound-again text display address o =
+outbound-again text display_name address o =
     let same = cut-only text o.pieces o.cut in
     let plain : Each is_no_comment (pieces text) = subst (Each is_no_comment) (sym same) o.no_comment in
     ap (λ b. cond b (outbound_fit text) None) o.fit ∙ (elim o.shape [
-      | inl bare ↦ bare-read text display address plain (subst (λ ps. IsBare ps display address) (sym same) bare)
-      | inr phrased ↦ phrased-read text display address (cut-texts text (pieces text) (cut-all text)) plain (subst (λ ps. IsPhrased ps display address) (sym same) phrased)
+      | inl bare ↦ bare-read text display_name address plain (subst (λ ps. IsBare ps display_name address) (sym same) bare)
+      | inr phrased ↦ phrased-read text display_name address (cut-texts text (pieces text) (cut-all text)) plain (subst (λ ps. IsPhrased ps display_name address) (sym same) phrased)
     ])
 
--- words and dots up to a bracket, and what stands behind it
+-- words and dots up to a bracket, and what stands after it
 record IsOpening (seen : Bool) (at : ℕ) (all : List Piece) (n : ℕ) (others : List Piece) : Type 0 where
   phrase : List Piece
   less : Piece
@@ -222,15 +223,15 @@ opening-is seen at (piece ∷ more) n others is = by_kind piece.kind piece.text 
     by_kind K.Less text false rec found = absurd (cc)
     by_kind _ text s rec found = absurd (cc)
 
--- what a display adds to
-record IsShown (display : List ℕ) (read : Option Addr) (shown : List ℕ) (address : Addr) : Type 0 where
+-- what a display name adds to
+record IsShown (display_name : List ℕ) (read : Option Addr) (shown : List ℕ) (address : Addr) : Type 0 where
   found : read ≡ Some address
-  same : shown ≡ display
+  same : shown ≡ display_name
 
-shown-is : (display : List ℕ) (read : Option Addr) (shown : List ℕ) (address : Addr) → with_display display read ≡ Some (shown, address) → IsShown display read shown address
-shown-is display None shown address is = absurd (cc)
-shown-is display (Some found) shown address is =
-    let both = some_pair (display, found) (shown, address) is in
+shown-is : (display_name : List ℕ) (read : Option Addr) (shown : List ℕ) (address : Addr) → with_display display_name read ≡ Some (shown, address) → IsShown display_name read shown address
+shown-is display_name None shown address is = absurd (cc)
+shown-is display_name (Some found) shown address is =
+    let both = some_pair (display_name, found) (shown, address) is in
     record { found = ap Some both.1; same = sym both.0 }
 
 no-less : (front back : List Piece) (less : Piece) → less.kind ≡ K.Less → Each is_no_less (front ++ less ∷ back) → ⊥
@@ -238,22 +239,22 @@ no-less front back less is closed = false≢true (sym (ap is_no_less is) ∙ (Ea
 
 bare-shape : (all : List Piece) (address : Addr) → Each is_no_less (tokens all) → IsSpec (tokens all) address ⊎ IsNamed (tokens all) address → IsSpec (tokens all) address
 bare-shape all address closed (inl spec) = spec
-bare-shape all address closed (inr n) = absurd (no-less n.display (n.inside ++ n.greater ∷ []) n.less n.opens (subst (Each is_no_less) n.cut closed))
+bare-shape all address closed (inr n) = absurd (no-less n.display_name (n.inside ++ n.greater ∷ []) n.less n.opens (subst (Each is_no_less) n.cut closed))
 
 -- what is read alone is an addr-spec
 record IsAlone (all : List Piece) (address : Addr) : Type 0 where
   plain : Each is_no_comment all
   spec : IsSpec (tokens all) address
 
-alone-is : (all : List Piece) (address : Addr) → sole start all ≡ Some address → IsAlone all address
+alone-is : (all : List Piece) (address : Addr) → addr_spec_only start all ≡ Some address → IsAlone all address
 alone-is all address found =
-    let read = sole-is all start address found in
-    let outcome-is : outcome (runs start (tokens all)) ≡ Some address = sym (sole-tokens all start read.plain read.closed) ∙ found in
+    let read = addr_spec_only-is all start address found in
+    let outcome-is : outcome (runs start (tokens all)) ≡ Some address = sym (addr_spec_only-tokens all start read.plain read.closed) ∙ found in
     record { plain = read.plain; spec = bare-shape all address (closed-tokens all read.closed) (shape-is (tokens all) address (tokens-each all) outcome-is) }
 
-bare-is : (text shown : List ℕ) (address : Addr) → is_fit text ≡ true → with_display [] (sole start (pieces text)) ≡ Some (shown, address) → IsOutbound text shown address
+bare-is : (text shown : List ℕ) (address : Addr) → is_fit text ≡ true → with_display [] (addr_spec_only start (pieces text)) ≡ Some (shown, address) → IsOutbound text shown address
 bare-is text shown address fit is =
-    let s = shown-is [] (sole start (pieces text)) shown address is in
+    let s = shown-is [] (addr_spec_only start (pieces text)) shown address is in
     let alone = alone-is (pieces text) address s.found in
     record { fit = fit; pieces = pieces text; cut = cut-all text; no_comment = alone.plain; shape = inl (record { spec = alone.spec; shown = s.same }) }
 
@@ -265,13 +266,13 @@ with-word : (phrase : List Piece) → (false ≡ true) ⊎ BeginsWithWord phrase
 with-word phrase (inl seen) = absurd (false≢true seen)
 with-word phrase (inr word) = word
 
-phrased-is : (text shown : List ℕ) (address : Addr) (n : ℕ) (others : List Piece) → is_fit text ≡ true → opening false 0 (pieces text) ≡ here n others → with_display (unquoted (trimmed (take n text))) (sole (start_at P.Inside) others) ≡ Some (shown, address) → IsOutbound text shown address
+phrased-is : (text shown : List ℕ) (address : Addr) (n : ℕ) (others : List Piece) → is_fit text ≡ true → opening false 0 (pieces text) ≡ here n others → with_display (unquoted (trimmed (take n text))) (addr_spec_only (start_at P.Inside) others) ≡ Some (shown, address) → IsOutbound text shown address
 phrased-is text shown address n others fit found is =
     let all = pieces text in
     let o = opening-is false 0 all n others found in
-    let s = shown-is (unquoted (trimmed (take n text))) (sole (start_at P.Inside) others) shown address is in
-    let read = sole-is others (start_at P.Inside) address s.found in
-    let outcome-is : outcome (runs (start_at P.Inside) (tokens others)) ≡ Some address = sym (sole-tokens others (start_at P.Inside) read.plain read.closed) ∙ s.found in
+    let s = shown-is (unquoted (trimmed (take n text))) (addr_spec_only (start_at P.Inside) others) shown address is in
+    let read = addr_spec_only-is others (start_at P.Inside) address s.found in
+    let outcome-is : outcome (runs (start_at P.Inside) (tokens others)) ≡ Some address = sym (addr_spec_only-tokens others (start_at P.Inside) read.plain read.closed) ∙ s.found in
     let c = closed-is (tokens others) address (tokens-each others) outcome-is in
     let long : length (texts o.phrase) ≡ n = omega (arith, o.long) in
     let before : take n text ≡ texts o.phrase = ap (take n) (cut-texts text all (cut-all text) ∙ ap texts o.cut ∙ texts-append o.phrase (o.less ∷ others)) ∙ take_at (texts o.phrase) (texts (o.less ∷ others)) n long in
@@ -303,10 +304,10 @@ fit-is text shown address None fit same is = bare-is text shown address fit is
 fit-is text shown address (Some (n, others)) fit same is = phrased-is text shown address n others fit same is
 
 -- what is read is named by the text
-pub outbound-is : (text display : List ℕ) (address : Addr) → outbound text ≡ Some (display, address) → IsOutbound text display address
+pub outbound-is : (text display_name : List ℕ) (address : Addr) → outbound text ≡ Some (display_name, address) → IsOutbound text display_name address
 unfolding outbound
-outbound-is text display address is = elim (fork (is_fit text) (outbound_fit text) None (Some (display, address)) is) [
-  | inl p ↦ fit-is text display address (opening false 0 (pieces text)) p.0 refl p.1
+outbound-is text display_name address is = elim (fork (is_fit text) (outbound_fit text) None (Some (display_name, address)) is) [
+  | inl p ↦ fit-is text display_name address (opening false 0 (pieces text)) p.0 refl p.1
   | inr p ↦ absurd (cc)
 ]
 
@@ -316,31 +317,31 @@ result-named text (Err e) is = is
 result-named text (Ok None) is = tt
 result-named text (Ok (Some found)) is = outbound-is text found.0 found.1 (sym is)
 
-pub result-only : {E : Type 0} (text : List ℕ) (result : Result (Option (List ℕ × Addr)) E) → IfOk result (λ found. found ≡ outbound text) → IfOk result (λ found. (display : List ℕ) (address : Addr) → IsOutbound text display address → found ≡ Some (display, address))
+pub result-only : {E : Type 0} (text : List ℕ) (result : Result (Option (List ℕ × Addr)) E) → IfOk result (λ found. found ≡ outbound text) → IfOk result (λ found. (display_name : List ℕ) (address : Addr) → IsOutbound text display_name address → found ≡ Some (display_name, address))
 result-only text (Err e) is = is
-result-only text (Ok found) is = λ display address o. is ∙ outbound-again text display address o
+result-only text (Ok found) is = λ display_name address o. is ∙ outbound-again text display_name address o
 
--- a text without display is read as its address
+-- a text without display name is read as its address
 pub bare-found : (text : List ℕ) (address : Addr) → IsBareAddress text address → bare text ≡ Some address
 unfolding bare
 bare-found text address b =
     let same = cut-only text b.pieces b.cut in
-    ap (λ fit. cond fit (sole start (pieces text)) None) b.fit
+    ap (λ fit. cond fit (addr_spec_only start (pieces text)) None) b.fit
     ∙ spec-read (pieces text) address (subst (Each is_no_comment) (sym same) b.no_comment) (subst (λ all. IsSpec (tokens all) address) (sym same) b.spec)
 
--- and what is read without display is a text's address
+-- and what is read without display name is a text's address
 pub bare-named : (text : List ℕ) (address : Addr) → bare text ≡ Some address → IsBareAddress text address
 unfolding bare
-bare-named text address is = elim (fork (is_fit text) (sole start (pieces text)) None (Some address) is) [
+bare-named text address is = elim (fork (is_fit text) (addr_spec_only start (pieces text)) None (Some address) is) [
   | inl p ↦ let alone = alone-is (pieces text) address p.1 in record { fit = p.0; pieces = pieces text; cut = cut-all text; no_comment = alone.plain; spec = alone.spec }
   | inr p ↦ absurd (cc)
 ]
 
--- it names that address, with an empty display
+-- it names that address, with an empty display name
 pub bare-outbound : (text : List ℕ) (address : Addr) → IsBareAddress text address → IsOutbound text [] address
 bare-outbound text address b = record { fit = b.fit; pieces = b.pieces; cut = b.cut; no_comment = b.no_comment; shape = inl (record { spec = b.spec; shown = refl }) }
 
--- the clauses of a result that is what the text is without display
+-- the clauses of a result that is what the text is without display name
 pub result-bare : {E : Type 0} (text : List ℕ) (result : Result (Option Addr) E) → IfOk result (λ found. found ≡ bare text) → IfOk result (λ found. IfSome found (λ address. IsBareAddress text address))
 result-bare text (Err e) is = is
 result-bare text (Ok None) is = tt

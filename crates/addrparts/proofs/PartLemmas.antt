@@ -9,7 +9,7 @@ use Rattle.addrparts.specs.declared.draft.Draft.{Draft}
 use Rattle.addrparts.specs.declared.address.Addr.{Addr}
 use Rattle.addrparts.specs.Pieces.{Piece}
 use Rattle.addrparts.specs.Parts.{is_token, is_plain, is_route, Each, IsWord, IsAtom, Dotted, IsLiteral, IsSpec, IsRouted, IsNamed}
-use Rattle.addrparts.specs.Reading.{read, start, start_at, take_at, taken, is_outside, outcome}
+use Rattle.addrparts.specs.Drafts.{read, start, start_at, take_at, taken, is_outside, outcome}
 use Rattle.addrparts.proofs.Specs.{reads, read-place, IsDone, spec-again}
 
 -- the tokens of a part, taken one after the other
@@ -97,7 +97,7 @@ pub bare-again : (tokens : List Piece) (address : Addr) → IsSpec tokens addres
 bare-again tokens address spec =
     ap outcome (front-reads tokens start refl (spec-inner tokens address spec)) ∙ done-outcome P.Front address (reads start tokens) refl (spec-again P.Front tokens address spec)
 
--- a display stays before the bracket
+-- a display name stays before the bracket
 plain-front : (d : Draft) (kind : Kind) (text : List ℕ) → d.place ≡ P.Front → is_plain kind ≡ true → (taken d kind text).place ≡ P.Front
 plain-front d K.Blank text place plain = place
 plain-front d K.Comment text place plain = place
@@ -113,14 +113,14 @@ plain-front d K.Semicolon text place plain = ap (λ p. (take_at p d K.Semicolon 
 plain-front d K.Dot text place plain = ap (λ p. (take_at p d K.Dot text).place) place ∙ read-place d K.Dot text ∙ place
 plain-front d K.Bad text place plain = ap (λ p. (take_at p d K.Bad text).place) place ∙ read-place d K.Bad text ∙ place
 
-pub display-front : (tokens : List Piece) (d : Draft) → d.place ≡ P.Front → Each is_plain tokens → (runs d tokens).place ≡ P.Front
-display-front [] d place plain = place
-display-front (token ∷ more) d place plain = display-front more (taken d token.kind token.text) (plain-front d token.kind token.text place plain.0) plain.1
+pub display_name-front : (tokens : List Piece) (d : Draft) → d.place ≡ P.Front → Each is_plain tokens → (runs d tokens).place ≡ P.Front
+display_name-front [] d place plain = place
+display_name-front (token ∷ more) d place plain = display_name-front more (taken d token.kind token.text) (plain-front d token.kind token.text place plain.0) plain.1
 
 pub less-opens : (d : Draft) (kind : Kind) (text : List ℕ) → d.place ≡ P.Front → kind ≡ K.Less → taken d kind text ≡ start_at P.Open
 less-opens d kind text place is = ap (λ k. taken d k text) is ∙ ap (λ p. take_at p d K.Less text) place
 
--- a word that stands right behind the bracket is read as one in brackets
+-- a word that stands right after the bracket is read as one in brackets
 open-word : (kind : Kind) (text value : List ℕ) → IsWord kind text value → taken (start_at P.Open) kind text ≡ taken (start_at P.Inside) kind text
 open-word K.Atom text value is = refl
 open-word K.Quoted text value is = refl
@@ -178,8 +178,8 @@ brackets-again tokens address greater is (inr routed) = routed-again tokens addr
 -- a name and an address in brackets give that address
 pub named-again : (tokens : List Piece) (address : Addr) → IsNamed tokens address → outcome (runs start tokens) ≡ Some address
 named-again tokens address n =
-    ap (λ ts. outcome (runs start ts)) n.cut ∙ ap outcome (runs-append start n.display (n.less ∷ (n.inside ++ n.greater ∷ [])))
-    ∙ ap (λ d. outcome (runs d (n.inside ++ n.greater ∷ []))) (less-opens (runs start n.display) n.less.kind n.less.text (display-front n.display start refl n.plain) n.opens)
+    ap (λ ts. outcome (runs start ts)) n.cut ∙ ap outcome (runs-append start n.display_name (n.less ∷ (n.inside ++ n.greater ∷ [])))
+    ∙ ap (λ d. outcome (runs d (n.inside ++ n.greater ∷ []))) (less-opens (runs start n.display_name) n.less.kind n.less.text (display_name-front n.display_name start refl n.plain) n.opens)
     ∙ brackets-again n.inside address n.greater n.closes n.spec
 
 -- what gives an address gives it to the draft

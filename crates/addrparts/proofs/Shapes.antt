@@ -11,7 +11,7 @@ use Rattle.addrparts.specs.declared.draft.Draft.{Draft}
 use Rattle.addrparts.specs.declared.address.Addr.{Addr}
 use Rattle.addrparts.specs.Pieces.{Piece}
 use Rattle.addrparts.specs.Parts.{is_token, is_plain, is_route, Each, IsSpec, IsRouted, IsNamed}
-use Rattle.addrparts.specs.Reading.{read, put, stage_after, value_of, start, start_at, take_at, taken, is_end, is_outside, is_whole, outcome}
+use Rattle.addrparts.specs.Drafts.{read, put, stage_after, value_of, start, start_at, take_at, taken, is_end, is_outside, is_whole, outcome}
 use Rattle.addrparts.proofs.Specs.{reads, read-place, spec-is, read_address}
 use Rattle.addrparts.proofs.PartLemmas.{runs, is_inner, front-reads}
 
@@ -188,19 +188,19 @@ open-is : (tokens : List Piece) (address : Addr) → Each is_token tokens → ou
 open-is [] address all is = absurd (cc)
 open-is (token ∷ more) address all is = open-first token.kind token.text more address all.0 all.1 is
 
--- a display, an opening bracket, and what follows it
+-- a display name, an opening bracket, and what follows it
 record IsDisplayed (tokens : List Piece) (address : Addr) : Type 0 where
-  display : List Piece
+  display_name : List Piece
   less : Piece
   others : List Piece
-  cut : tokens ≡ display ++ less ∷ others
-  plain : Each is_plain display
+  cut : tokens ≡ display_name ++ less ∷ others
+  plain : Each is_plain display_name
   opens : less.kind ≡ K.Less
   all : Each is_token others
   is : outcome (runs (start_at P.Open) others) ≡ Some address
 
 displayed-more : (token : Piece) (more : List Piece) (address : Addr) → is_plain token.kind ≡ true → IsDisplayed more address → IsDisplayed (token ∷ more) address
-displayed-more token more address plain d = record { display = token ∷ d.display; less = d.less; others = d.others; cut = ap (λ ts. token ∷ ts) d.cut; plain = (plain, d.plain); opens = d.opens; all = d.all; is = d.is }
+displayed-more token more address plain d = record { display_name = token ∷ d.display_name; less = d.less; others = d.others; cut = ap (λ ts. token ∷ ts) d.cut; plain = (plain, d.plain); opens = d.opens; all = d.all; is = d.is }
 
 front-more : (token : Piece) (more : List Piece) (address : Addr) → is_plain token.kind ≡ true → is_token token.kind ≡ true → Each is_inner more ⊎ IsDisplayed more address → Each is_inner (token ∷ more) ⊎ IsDisplayed (token ∷ more) address
 front-more token more address plain token' (inl inner) = inl (and_from (is_plain token.kind) (is_token token.kind) plain token', inner)
@@ -210,7 +210,7 @@ front-step : (d : Draft) (kind : Kind) (text : List ℕ) (more : List Piece) (ad
 front-step d K.Blank text more address place token all rec is = absurd (false≢true token)
 front-step d K.Comment text more address place token all rec is = absurd (false≢true token)
 front-step d K.Less text more address place token all rec is = inr (record {
-  display = [];
+  display_name = [];
   less = record { kind = K.Less; text = text };
   others = more;
   cut = refl;
@@ -236,7 +236,7 @@ bare-is tokens address inner is =
 named-is : (tokens : List Piece) (address : Addr) → IsDisplayed tokens address → IsNamed tokens address
 named-is tokens address d =
     let o = open-is d.others address d.all d.is in
-    record { display = d.display; less = d.less; inside = o.inside; greater = o.greater; cut = d.cut ∙ ap (λ ts. d.display ++ d.less ∷ ts) o.cut; plain = d.plain; opens = d.opens; spec = o.spec; closes = o.closes }
+    record { display_name = d.display_name; less = d.less; inside = o.inside; greater = o.greater; cut = d.cut ∙ ap (λ ts. d.display_name ++ d.less ∷ ts) o.cut; plain = d.plain; opens = d.opens; spec = o.spec; closes = o.closes }
 
 -- what a draft ends with has a shape
 pub shape-is : (tokens : List Piece) (address : Addr) → Each is_token tokens → outcome (runs start tokens) ≡ Some address → IsSpec tokens address ⊎ IsNamed tokens address

@@ -11,7 +11,7 @@ use Rattle.addrparts.specs.declared.draft.Draft.{Draft}
 use Rattle.addrparts.specs.declared.address.Addr.{Addr}
 use Rattle.addrparts.specs.Pieces.{Piece, unquoted}
 use Rattle.addrparts.specs.Parts.{IsWord, IsAtom, Dotted, IsLiteral, IsSpec}
-use Rattle.addrparts.specs.Reading.{read, put, stage_after, value_of, start_at, is_end}
+use Rattle.addrparts.specs.Drafts.{read, put, stage_after, value_of, start_at, is_end}
 
 abbrev pub draft : Place → Stage → List ℕ → List ℕ → Draft
 draft place stage local domain = record { place = place; stage = stage; local = local; domain = domain }
@@ -136,7 +136,7 @@ dotted-join : (IsItem : Kind → List ℕ → List ℕ → Type 0) (item : Piece
 dotted-join IsItem item [] first others is tail = subst (IsItem item.kind item.text) (sym (ap (λ v. first ++ v) tail ∙ append-nil first)) is
 dotted-join IsItem item (dot ∷ more) first others is (rest, (dots, (dotted, same))) = (first, rest, is, dots, dotted, ap (λ v. first ++ v) same)
 
--- the atoms behind the first, and where reading them ends
+-- the atoms after the first, and where reading them ends
 record NameEnd (place : Place) (local domain : List ℕ) (tokens : List Piece) : Type 0 where
   value : List ℕ
   tail : Tail IsAtom tokens value
@@ -174,7 +174,7 @@ name-one : (place : Place) (local domain : List ℕ) (kind : Kind) (text : List 
 name-one place local domain K.Dot text ends = false≢true ends
 name-one place local domain _ text ends = false≢true ends
 
--- what is read to an end behind an atom of the domain
+-- what is read to an end after an atom of the domain
 name-is : (place : Place) (local domain : List ℕ) (tokens : List Piece) → is_end (reads (draft place S.Name local domain) tokens).stage ≡ true → NameEnd place local domain tokens
 name-is place local domain [] ends = record { value = []; tail = refl; is_local = refl; is_domain = sym (append-nil domain) }
 name-is place local domain (token ∷ []) ends = absurd (name-one place local domain token.kind token.text ends)
@@ -203,12 +203,12 @@ host-first place local K.Atom text more ends = name-end place local text more (n
 host-first place local K.Literal text more ends = literal-end place local text more ends
 host-first place local _ text more ends = absurd (wrong-never place local [] more ends)
 
--- what is read to an end behind the `@`
+-- what is read to an end after the `@`
 host-is : (place : Place) (local : List ℕ) (tokens : List Piece) → is_end (reads (draft place S.At local []) tokens).stage ≡ true → HostEnd place local tokens
 host-is place local [] ends = absurd (false≢true ends)
 host-is place local (token ∷ more) ends = host-first place local token.kind token.text more ends
 
--- the words behind the first, the `@` and the domain
+-- the words after the first, the `@` and the domain
 record WordEnd (place : Place) (local : List ℕ) (tokens : List Piece) : Type 0 where
   words : List Piece
   at : Piece
@@ -264,7 +264,7 @@ word-one place local K.At text ends = false≢true ends
 word-one place local K.Dot text ends = false≢true ends
 word-one place local _ text ends = false≢true ends
 
--- what is read to an end behind a word
+-- what is read to an end after a word
 word-is : (place : Place) (local : List ℕ) (tokens : List Piece) → is_end (reads (draft place S.Word local []) tokens).stage ≡ true → WordEnd place local tokens
 word-is place local [] ends = absurd (false≢true ends)
 word-is place local (token ∷ []) ends = absurd (word-one place local token.kind token.text ends)

@@ -83,8 +83,8 @@ host-domain all value shaped (inr l) =
 spec-domain : (all : List Piece) (address : Addr) → Shaped all → IsSpec all address → IsDomain address.domain
 spec-domain all address shaped spec = host-domain spec.domain address.domain (shaped-back spec.local (spec.at ∷ spec.domain) (subst Shaped spec.cut shaped)).1 spec.host
 
-pub outbound-domain : (text display : List ℕ) (address : Addr) → IsOutbound text display address → IsDomain address.domain
-outbound-domain text display address o =
+pub outbound-domain : (text display_name : List ℕ) (address : Addr) → IsOutbound text display_name address → IsDomain address.domain
+outbound-domain text display_name address o =
     let shaped = cut-shaped text o.pieces o.cut in
     elim o.shape [
       | inl bare ↦ spec-domain (tokens o.pieces) address (tokens-shaped o.pieces shaped) bare.spec
@@ -100,7 +100,7 @@ gives-domain : (part : Part) (address : Addr) → Shaped part.tokens → Gives p
 gives-domain part address shaped gives = elim gives.shape [
   | inl spec ↦ spec-domain part.tokens address shaped spec
   | inr n ↦
-      let inside : Shaped n.inside = shaped-front n.inside (n.greater ∷ []) (shaped-back n.display (n.less ∷ (n.inside ++ n.greater ∷ [])) (subst Shaped n.cut shaped)).1 in
+      let inside : Shaped n.inside = shaped-front n.inside (n.greater ∷ []) (shaped-back n.display_name (n.less ∷ (n.inside ++ n.greater ∷ [])) (subst Shaped n.cut shaped)).1 in
       elim n.spec [ inl spec ↦ spec-domain n.inside address inside spec | inr routed ↦ routed-domain n.inside address inside routed ]
 ]
 
@@ -140,7 +140,7 @@ record IsJoined (text : List ℕ) : Type 0 where
   dotted : Dotted IsAtom pieces text
   cut : (rest : List ℕ) (more : List Piece) → IsNoAtom rest → Cut rest more → Cut (text ++ rest) (pieces ++ more)
 
--- what may stand behind the first octet of an atom
+-- what may stand after the first octet of an atom
 data Continued (text : List ℕ) : Type 0 where
   Ends : AreAtoms text → Continued text
   Goes : (run others : List ℕ) → AreAtoms run → text ≡ run ++ 46 ∷ others → IsJoined others → Continued text
@@ -299,7 +299,7 @@ inner-no_comment : (all : List Piece) → Each is_inner all → Each is_no_comme
 inner-no_comment [] inner = tt
 inner-no_comment (piece ∷ more) inner = (inner-plain piece.kind inner.0, inner-no_comment more inner.1)
 
--- what is spelled is the address, without display, if it is fit
+-- what is spelled is the address, without display name, if it is fit
 spelling-bare : (address : Addr) → IsDomain address.domain → is_fit (spelling address) ≡ true → IsBareAddress (spelling address) address
 spelling-bare address domain fit =
     let l = local-is address.local in

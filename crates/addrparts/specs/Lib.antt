@@ -2,4 +2,5 @@ pub mod Pieces
 pub mod Parts
 pub mod Outbound
 pub mod Spelling
+pub mod Drafts
 pub mod Reading

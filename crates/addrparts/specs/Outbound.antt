@@ -21,7 +21,7 @@ abbrev pub is_no_comment : Kind → Bool
 is_no_comment K.Comment = false
 is_no_comment _ = true
 
--- the piece may stand in a display
+-- the piece may stand in a display name
 abbrev pub is_phrase : Kind → Bool
 is_phrase K.Blank = true
 is_phrase K.Atom = true
@@ -40,8 +40,8 @@ BeginsWithWord (piece ∷ more) = WordFirst piece.kind (BeginsWithWord more)
     WordFirst K.Blank others = others
     WordFirst _ _ = ⊥
 
--- words, with dots behind the first, and an addr-spec in angle brackets (RFC 5322, 3.2.5 and 4.1: obs-phrase)
-pub record IsPhrased (pieces : List Piece) (display : List ℕ) (address : Addr) : Type 0 where
+-- words, with dots after the first, and an addr-spec in angle brackets (RFC 5322, 3.2.5 and 4.1: obs-phrase)
+pub record IsPhrased (pieces : List Piece) (display_name : List ℕ) (address : Addr) : Type 0 where
   pub phrase : List Piece
   pub less : Piece
   pub others : List Piece
@@ -54,22 +54,22 @@ pub record IsPhrased (pieces : List Piece) (display : List ℕ) (address : Addr)
   pub rest : tokens others ≡ inside ++ greater ∷ []
   pub closes : greater.kind ≡ K.Greater
   pub spec : IsSpec inside address
-  pub shown : display ≡ unquoted (trimmed (flat_map (λ piece. piece.text) phrase))
+  pub shown : display_name ≡ unquoted (trimmed (flat_map (λ piece. piece.text) phrase))
 
--- an addr-spec without display
-pub record IsBare (pieces : List Piece) (display : List ℕ) (address : Addr) : Type 0 where
+-- an addr-spec without display name
+pub record IsBare (pieces : List Piece) (display_name : List ℕ) (address : Addr) : Type 0 where
   pub spec : IsSpec (tokens pieces) address
-  pub shown : display ≡ []
+  pub shown : display_name ≡ []
 
--- the text names this address with this display: it is short, has no control characters and no comment, and is an addr-spec
--- alone or words and an addr-spec in angle brackets. The display is the text before the bracket without blanks at its ends,
+-- the text names this address with this display name: it is short, has no control characters and no comment, and is an addr-spec
+-- alone or words and an addr-spec in angle brackets. The display name is the text before the bracket without blanks at its ends,
 -- quotation marks taken off and quoted pairs replaced.
-pub record IsOutbound (text : List ℕ) (display : List ℕ) (address : Addr) : Type 0 where
+pub record IsOutbound (text : List ℕ) (display_name : List ℕ) (address : Addr) : Type 0 where
   pub fit : is_fit text ≡ true
   pub pieces : List Piece
   pub cut : Cut text pieces
   pub no_comment : Each is_no_comment pieces
-  pub shape : IsBare pieces display address ⊎ IsPhrased pieces display address
+  pub shape : IsBare pieces display_name address ⊎ IsPhrased pieces display_name address
 
 -- the text is this address and nothing beside it: short, without control characters and comments, and an addr-spec
 pub record IsBareAddress (text : List ℕ) (address : Addr) : Type 0 where

@@ -22,13 +22,13 @@ is_separator K.Colon = true
 is_separator K.Semicolon = true
 is_separator _ = false
 
--- whether an angle bracket is open behind a token, where it was or wasn't before
+-- whether an angle bracket is open after a token, where it was or wasn't before
 abbrev pub is_open : Bool → Kind → Bool
 is_open inside K.Less = true
 is_open inside K.Greater = false
 is_open inside _ = inside
 
--- whether an angle bracket is open behind these tokens
+-- whether an angle bracket is open after these tokens
 abbrev pub is_open_after : Bool → List Piece → Bool
 is_open_after inside [] = inside
 is_open_after inside (token ∷ more) = is_open_after (is_open inside token.kind) more
@@ -38,12 +38,12 @@ abbrev pub IsUncut : Bool → List Piece → Type 0
 IsUncut inside [] = Unit {0}
 IsUncut inside (token ∷ more) = ((is_separator token.kind && not inside) ≡ false) × IsUncut (is_open inside token.kind) more
 
--- a part: its tokens, and the kind of the separator behind it
+-- a part: its tokens, and the kind of the separator after it
 pub record Part : Type 0 where
   pub tokens : List Piece
   pub ending : Option Kind
 
--- the tokens are these parts, with a separator behind each but the last
+-- the tokens are these parts, with a separator after each but the last
 abbrev pub AreParts : List Piece → List Part → Type 0
 AreParts all [] = ⊥
 AreParts all (part ∷ []) = (all ≡ part.tokens) × (IsUncut false part.tokens × (part.ending ≡ None))
@@ -120,12 +120,12 @@ pub record IsRouted (tokens : List Piece) (address : Addr) : Type 0 where
 
 -- any tokens but angle brackets, and an addr-spec in angle brackets, perhaps with a route (RFC 5322, 3.4: name-addr)
 pub record IsNamed (tokens : List Piece) (address : Addr) : Type 0 where
-  pub display : List Piece
+  pub display_name : List Piece
   pub less : Piece
   pub inside : List Piece
   pub greater : Piece
-  pub cut : tokens ≡ display ++ less ∷ (inside ++ greater ∷ [])
-  pub plain : Each is_plain display
+  pub cut : tokens ≡ display_name ++ less ∷ (inside ++ greater ∷ [])
+  pub plain : Each is_plain display_name
   pub opens : less.kind ≡ K.Less
   pub spec : IsSpec inside address ⊎ IsRouted inside address
   pub closes : greater.kind ≡ K.Greater

@@ -39,7 +39,7 @@ pub record Piece : Type 0 where
   pub kind : Kind
   pub text : List ℕ
 
--- an octet alone, or behind a backslash (RFC 5322, 3.2.1: quoted-pair)
+-- an octet alone, or after a backslash (RFC 5322, 3.2.1: quoted-pair)
 pub data Inner : Type 0 where
   Plain : ℕ → Inner
   Pair : ℕ → Inner
@@ -56,13 +56,13 @@ IsInside close [] = Unit {0}
 IsInside close (Plain octet ∷ more) = ((octet == close) ≡ false) × (((octet == 92) ≡ false) × IsInside close more)
 IsInside close (Pair octet ∷ more) = IsInside close more
 
--- an opening octet, octets and pairs, and the first closing octet behind them
+-- an opening octet, octets and pairs, and the first closing octet after them
 pub record IsEnclosed (opening closing : ℕ) (text : List ℕ) : Type 0 where
   pub inside : List Inner
   pub plain : IsInside closing inside
   pub spelled : text ≡ opening ∷ written inside (closing ∷ [])
 
--- what octets and pairs stand for: a pair for the octet behind its backslash
+-- what octets and pairs stand for: a pair for the octet after its backslash
 abbrev pub valued : List Inner → List ℕ
 valued [] = []
 valued (Plain octet ∷ more) = octet ∷ valued more
@@ -142,7 +142,7 @@ IsShape K.Comment text behind = IsClosed K.Comment text
 IsShape K.Bad text behind = IsSingle K.Bad text ⊎ (IsUnclosed text × (behind ≡ []))
 IsShape kind text behind = IsSingle kind text
 
--- the value is these pieces, one behind the other
+-- the value is these pieces, one after the other
 abbrev pub Cut : List ℕ → List Piece → Type 0
 Cut value [] = value ≡ []
 Cut value (piece ∷ more) = (behind : List ℕ) × ((value ≡ piece.text ++ behind) × (IsShape piece.kind piece.text behind × Cut behind more))

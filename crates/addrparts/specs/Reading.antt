@@ -5,17 +5,15 @@ use Rattle.std.specs.List.{prefix_len}
 use Rattle.octets.specs.Ascii.{trimmed}
 use Rattle.addrparts.specs.declared.scanner.Kind.{Kind}
 use Rattle.addrparts.specs.declared.scanner.Kind.TheVariants as K
-use Rattle.addrparts.specs.declared.draft.Place.{Place}
 use Rattle.addrparts.specs.declared.draft.Place.TheVariants as P
-use Rattle.addrparts.specs.declared.draft.Stage.{Stage}
-use Rattle.addrparts.specs.declared.draft.Stage.TheVariants as S
 use Rattle.addrparts.specs.declared.draft.Draft.{Draft}
 use Rattle.addrparts.specs.declared.address.Addr.{Addr}
 use Rattle.addrparts.specs.Pieces.{Piece, kind_of, is_atom, unquoted}
 use Rattle.addrparts.specs.Parts.{is_separator}
 use Rattle.addrparts.specs.Outbound.{is_fit}
+use Rattle.addrparts.specs.Drafts.{start_at, start, taken, is_outside, outcome, given}
 
--- what stands behind the first closing octet that no backslash escapes; whether a backslash stands before the text
+-- what stands after the first closing octet that no backslash escapes; whether a backslash stands before the text
 abbrev pub behind : ℕ → Bool → List ℕ → Option (List ℕ)
 behind close escaped [] = None
 behind close true (octet ∷ more) = behind close false more
@@ -24,7 +22,7 @@ behind close false (octet ∷ more) =
     else (if octet == 92 then behind close true more
     else behind close false more)
 
--- what stands behind the end of a comment, with so many comments open in it
+-- what stands after the end of a comment, with that many comments open in it
 abbrev pub behind_comment : ℕ → Bool → List ℕ → Option (List ℕ)
 behind_comment depth escaped [] = None
 behind_comment depth true (octet ∷ more) = behind_comment depth false more
@@ -43,7 +41,7 @@ behind_comment (suc depth) false (octet ∷ more) =
 abbrev pub len_before : List ℕ → Option (List ℕ) → Option ℕ
 len_before text rest = option_map (λ found. length text - length found) rest
 
--- the kind and the length of a piece that is closed after so many octets, or is bad up to the end
+-- the kind and the length of a piece that is closed after that many octets, or is bad up to the end
 abbrev pub closed : Kind → List ℕ → Option ℕ → Kind × ℕ
 closed kind others (Some len) = (kind, 1 + len)
 closed kind others None = (K.Bad, 1 + length others)
@@ -59,7 +57,7 @@ front_of kind others = (kind, 1)
 abbrev pub front : ℕ → List ℕ → Kind × ℕ
 front octet others = front_of (kind_of octet) others
 
--- the pieces of a text of at most so many octets
+-- the pieces of a text of at most that many octets
 abbrev pub pieces_within : ℕ → List ℕ → List Piece
 pieces_within zero text = []
 pieces_within (suc more) [] = []
@@ -77,87 +75,6 @@ pub record IsNext (text : List ℕ) (kind : Kind) (first : List ℕ) (rest : Lis
   pub cut : text ≡ first ++ rest
   pub pieces : pieces text ≡ (record { kind = kind; text = first }) ∷ pieces rest
 
-abbrev pub stage_after : Stage → Kind → Stage
-stage_after S.Start K.Atom = S.Word
-stage_after S.Start K.Quoted = S.Word
-stage_after S.Dot K.Atom = S.Word
-stage_after S.Dot K.Quoted = S.Word
-stage_after S.Word K.Dot = S.Dot
-stage_after S.Word K.At = S.At
-stage_after S.At K.Atom = S.Name
-stage_after S.At K.Literal = S.Literal
-stage_after S.Name K.Dot = S.NameDot
-stage_after S.NameDot K.Atom = S.Name
-stage_after _ _ = S.Wrong
-
--- what a word, a dot or a literal adds
-abbrev pub value_of : Kind → List ℕ → List ℕ
-value_of K.Quoted text = unquoted text
-value_of K.Dot text = 46 ∷ []
-value_of _ text = text
-
-abbrev pub start_at : Place → Draft
-start_at place = record { place = place; stage = S.Start; local = []; domain = [] }
-
-abbrev pub start : Draft
-start = start_at P.Front
-
--- the draft with this added at this stage
-abbrev pub put : Stage → Draft → List ℕ → Draft
-put S.Word draft value = record draft { stage = S.Word; local = draft.local ++ value }
-put S.Dot draft value = record draft { stage = S.Dot; local = draft.local ++ value }
-put S.Name draft value = record draft { stage = S.Name; domain = draft.domain ++ value }
-put S.NameDot draft value = record draft { stage = S.NameDot; domain = draft.domain ++ value }
-put S.Literal draft value = record draft { stage = S.Literal; domain = draft.domain ++ value }
-put stage draft value = record draft { stage = stage }
-
-abbrev pub read : Draft → Kind → List ℕ → Draft
-read draft kind text = put (stage_after draft.stage kind) draft (value_of kind text)
-
-abbrev pub take_at : Place → Draft → Kind → List ℕ → Draft
-take_at P.Front draft K.Less text = start_at P.Open
-take_at P.Front draft K.Greater text = record draft { place = P.Behind; stage = S.Wrong }
-take_at P.Front draft kind text = read draft kind text
-take_at P.Open draft K.At text = record draft { place = P.Route }
-take_at P.Open draft K.Greater text = record draft { place = P.Behind }
-take_at P.Open draft kind text = read (record draft { place = P.Inside }) kind text
-take_at P.Route draft K.Colon text = record draft { place = P.Inside }
-take_at P.Route draft K.Greater text = record draft { place = P.Behind }
-take_at P.Route draft kind text = draft
-take_at P.Inside draft K.Greater text = record draft { place = P.Behind }
-take_at P.Inside draft kind text = read draft kind text
-take_at P.Behind draft K.Less text = record draft { place = P.Inside; stage = S.Wrong }
-take_at P.Behind draft kind text = record draft { place = P.Behind; stage = S.Wrong }
-
--- the draft behind a token that doesn't end the part
-abbrev pub taken : Draft → Kind → List ℕ → Draft
-taken draft K.Blank text = draft
-taken draft K.Comment text = draft
-taken draft kind text = take_at draft.place draft kind text
-
-abbrev pub is_outside : Place → Bool
-is_outside P.Front = true
-is_outside P.Behind = true
-is_outside _ = false
-
-abbrev pub is_end : Stage → Bool
-is_end S.Name = true
-is_end S.Literal = true
-is_end _ = false
-
--- an addr-spec has been read to its end
-abbrev pub is_whole : Draft → Bool
-is_whole draft = is_end draft.stage && is_outside draft.place
-
--- the address of a part that ends here
-abbrev pub outcome : Draft → Option Addr
-outcome draft = if is_whole draft then Some (record { local = draft.local; domain = draft.domain }) else None
-
--- the address of a part that ends at this mark
-abbrev pub given : Draft → Kind → Option Addr
-given draft K.Colon = None
-given draft _ = outcome draft
-
 -- the addresses that these pieces bring to an end
 abbrev pub collected : Draft → List Piece → List Addr
 collected draft [] = option_to_list (outcome draft)
@@ -171,16 +88,16 @@ unfoldable pub addrs : List ℕ → List Addr
 addrs value = collected start (pieces value)
 
 -- the address of a part without comment that opens no bracket any more
-abbrev pub sole : Draft → List Piece → Option Addr
-sole draft [] = outcome draft
-sole draft (piece ∷ more) = sole_at piece.kind (sole (taken draft piece.kind piece.text) more)
+abbrev pub addr_spec_only : Draft → List Piece → Option Addr
+addr_spec_only draft [] = outcome draft
+addr_spec_only draft (piece ∷ more) = addr_spec_at piece.kind (addr_spec_only (taken draft piece.kind piece.text) more)
   where
-    sole_at : Kind → Option Addr → Option Addr
-    sole_at K.Comment _ = None
-    sole_at K.Less _ = None
-    sole_at _ others = others
+    addr_spec_at : Kind → Option Addr → Option Addr
+    addr_spec_at K.Comment _ = None
+    addr_spec_at K.Less _ = None
+    addr_spec_at _ others = others
 
--- how many octets stand before the bracket behind the words of a display, and the pieces behind it; whether a word was seen
+-- how many octets stand before the bracket after the words of a display name, and the pieces after it; whether a word was seen
 abbrev pub opening : Bool → ℕ → List Piece → Option (ℕ × List Piece)
 opening seen at [] = None
 opening seen at (piece ∷ more) = opening_at piece.kind seen (at, more) (opening seen (at + length piece.text) more) (opening true (at + length piece.text) more)
@@ -193,23 +110,23 @@ opening seen at (piece ∷ more) = opening_at piece.kind seen (at, more) (openin
     opening_at K.Less seen here same word = if seen then Some here else None
     opening_at _ seen here same word = None
 
--- an address with its display
+-- an address with its display name
 abbrev pub with_display : List ℕ → Option Addr → Option (List ℕ × Addr)
-with_display display found = option_map (λ address. (display, address)) found
+with_display display_name found = option_map (λ address. (display_name, address)) found
 
--- the display and the address behind what opens them
+-- the display name and the address after what opens them
 abbrev pub outbound_at : List ℕ → Option (ℕ × List Piece) → Option (List ℕ × Addr)
-outbound_at text None = with_display [] (sole start (pieces text))
-outbound_at text (Some (at, behind)) = with_display (unquoted (trimmed (take at text))) (sole (start_at P.Inside) behind)
+outbound_at text None = with_display [] (addr_spec_only start (pieces text))
+outbound_at text (Some (at, behind)) = with_display (unquoted (trimmed (take at text))) (addr_spec_only (start_at P.Inside) behind)
 
--- the display and the address of a text that is fit
+-- the display name and the address of a text that is fit
 abbrev pub outbound_fit : List ℕ → Option (List ℕ × Addr)
 outbound_fit text = outbound_at text (opening false 0 (pieces text))
 
--- the display and the address that a text names
+-- the display name and the address that a text names
 unfoldable pub outbound : List ℕ → Option (List ℕ × Addr)
 outbound text = if is_fit text then outbound_fit text else None
 
--- the address that a text is, without display
+-- the address that a text is, without display name
 unfoldable pub bare : List ℕ → Option Addr
-bare text = if is_fit text then sole start (pieces text) else None
+bare text = if is_fit text then addr_spec_only start (pieces text) else None

@@ -1,7 +1,23 @@
 -- How an address is written.
-use Rattle.std.specs.Prelude.{◌≡◌, ℕ, ◌==◌, ◌||◌, ◌&&◌, ◌⊎◌, not, Bool, true, false, if◌then◌else◌, List, [], ◌∷◌, ◌++◌}
+use Rattle.std.specs.Prelude.{◌≡◌, ◌≢◌, ℕ, ◌==◌, ◌||◌, ◌&&◌, ◌⊎◌, not, Bool, true, false, if◌then◌else◌, List, [], ◌∷◌, ◌++◌}
 use Rattle.addrparts.specs.declared.address.Addr.{Addr}
-use Rattle.addrparts.specs.Pieces.{is_atom, IsEnclosed}
+use Rattle.addrparts.specs.Pieces.{is_atom, AreAtoms, IsEnclosed}
+
+-- an atom: one or more octets that may stand in one (RFC 5322, 3.2.3)
+pub record IsAtomText (text : List ℕ) : Type 0 where
+  pub present : text ≢ []
+  pub octets : AreAtoms text
+
+-- one or more atoms with dots between
+abbrev pub AreDotted : List (List ℕ) → List ℕ → Type 0
+AreDotted [] text = ⊥
+AreDotted (atom ∷ []) text = IsAtomText atom × (text ≡ atom)
+AreDotted (atom ∷ (next ∷ more)) text = (rest : List ℕ) × (IsAtomText atom × ((text ≡ atom ++ 46 ∷ rest) × AreDotted (next ∷ more) rest))
+
+-- a text that is atoms with dots between (RFC 5322, 3.2.3: dot-atom-text)
+pub record IsDotAtom (text : List ℕ) : Type 0 where
+  pub atoms : List (List ℕ)
+  pub dotted : AreDotted atoms text
 
 -- atom octets with single dots between; whether an atom octet is due
 abbrev pub is_dotted : Bool → List ℕ → Bool
@@ -10,7 +26,7 @@ is_dotted due (octet ∷ more) =
     if octet == 46 then not due && is_dotted true more
     else is_atom octet && is_dotted false more
 
--- atoms with dots between (RFC 5322, 3.2.3: dot-atom-text)
+-- whether a text is in IsDotAtom
 abbrev pub is_dot_atom : List ℕ → Bool
 is_dot_atom text = is_dotted true text
 

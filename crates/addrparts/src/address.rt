@@ -78,7 +78,7 @@ fn escape(out: &mut Octets, text: &[u8]) -> Result<(), AllocError>
 
 /// The address as a header or a command has it: the local part as it is if it is atoms with dots between, else as a quoted string.
 ///
-/// `sieve_address` gives the address back, with an empty display, and so does `bare_address`, exactly where the domain is one and
+/// `sieve_address` gives the address back, with an empty display name, and so does `bare_address`, exactly where the domain is one and
 /// what is written fits the limits. Linear in the address' length; memory for what is written alone.
 pub fn spell(alloc: Global, address: &Addr) -> Result<Octets, AllocError>
     ensures spelled { IfOk result (λ text. text ≡ spec.spelling address.now) }

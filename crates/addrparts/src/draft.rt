@@ -1,22 +1,22 @@
 //! The address that a part of a list gives, as far as its tokens have been read.
 ghost use Rattle.std.specs.Prelude.{◌≡◌, ◌++◌, IfOk, OnOk};
-ghost use Rattle.addrparts.specs.Reading as reading;
+ghost use Rattle.addrparts.specs.Drafts as drafts;
 
 use crate::address::Addr;
-use crate::gathered::Gathered;
+use crate::pieces::Pieces;
 use crate::scanner::Kind;
 use std::alloc::{AllocError, Global};
 
 /// Where in its part the next token stands.
 #[derive(Clone, Copy)]
 pub enum Place {
-    /// Before any angle bracket: in a display, or in an address without brackets.
+    /// Before any angle bracket: in a display name, or in an address without brackets.
     Front,
-    /// Right behind an opening bracket, where a route may begin.
+    /// Right after an opening bracket, where a route may begin.
     Open,
     /// In a route.
     Route,
-    /// In brackets, behind the route if there is one.
+    /// In brackets, after the route if there is one.
     Inside,
     /// Behind a closing bracket, where nothing more may stand.
     Behind,
@@ -47,12 +47,12 @@ pub enum Stage {
 pub struct Draft<'a> {
     pub place: Place,
     pub stage: Stage,
-    pub local: Gathered<'a>,
-    pub domain: Gathered<'a>,
+    pub local: Pieces<'a>,
+    pub domain: Pieces<'a>,
 }
 
 fn stage_after(stage: Stage, kind: Kind) -> Stage
-    ensures { result ≡ reading.stage_after stage kind }
+    ensures { result ≡ drafts.stage_after stage kind }
 {
     match stage {
         Stage::Start | Stage::Dot => match kind {
@@ -84,12 +84,12 @@ fn stage_after(stage: Stage, kind: Kind) -> Stage
 /// Appends what a word, a dot or a domain literal stands for.
 fn append<'a>(
     alloc: Global,
-    out: &mut Gathered<'a>,
+    out: &mut Pieces<'a>,
     kind: Kind,
     text: &[u8],
     from: &'a [u8],
 ) -> Result<(), AllocError>
-    ensures { OnOk result (out.new ≡ out.old ++ reading.value_of kind text.now) }
+    ensures { OnOk result (out.new ≡ out.old ++ drafts.value_of kind text.now) }
 {
     match kind {
         Kind::Quoted => out.add_unquoted(alloc, text),
@@ -104,19 +104,19 @@ impl<'a> Draft<'a> {
 
     /// Nothing read. Takes no memory.
     pub(crate) fn new(alloc: Global, place: Place) -> Draft<'a>
-        ensures { result ≡ reading.start_at place }
+        ensures { result ≡ drafts.start_at place }
     {
         Draft {
             place,
             stage: Stage::Start,
-            local: Gathered::new(alloc),
-            domain: Gathered::new(alloc),
+            local: Pieces::new(alloc),
+            domain: Pieces::new(alloc),
         }
     }
 
     /// No angle bracket is open.
     pub(crate) fn is_outside(&self) -> bool
-        ensures { result ≡ reading.is_outside self.now.place }
+        ensures { result ≡ drafts.is_outside self.now.place }
     {
         match self.place {
             Place::Front | Place::Behind => true,
@@ -124,9 +124,9 @@ impl<'a> Draft<'a> {
         }
     }
 
-    /// Begins anew behind an opening bracket.
+    /// Begins anew after an opening bracket.
     fn open(&mut self)
-        ensures { self.new ≡ reading.start_at P.Open }
+        ensures { self.new ≡ drafts.start_at P.Open }
     {
         self.place = Place::Open;
         self.stage = Stage::Start;
@@ -142,7 +142,7 @@ impl<'a> Draft<'a> {
         text: &[u8],
         from: &'a [u8],
     ) -> Result<(), AllocError>
-        ensures { OnOk result (self.new ≡ reading.read self.old kind text.now) }
+        ensures { OnOk result (self.new ≡ drafts.read self.old kind text.now) }
     {
         self.stage = stage_after(self.stage, kind);
         match self.stage {
@@ -166,12 +166,12 @@ impl<'a> Draft<'a> {
         text: &[u8],
         from: &'a [u8],
     ) -> Result<(), AllocError>
-        ensures { OnOk result (self.new ≡ reading.take_at self.old.place self.old kind text.now) }
+        ensures { OnOk result (self.new ≡ drafts.take_at self.old.place self.old kind text.now) }
     {
         match self.place {
             Place::Front => match kind {
                 Kind::Less => self.open(),
-                Kind::Greater => self.spoil(Place::Behind),
+                Kind::Greater => self.reject(Place::Behind),
                 _ => self.read(alloc, kind, text, from)?,
             },
             Place::Open => match kind {
@@ -192,15 +192,15 @@ impl<'a> Draft<'a> {
                 _ => self.read(alloc, kind, text, from)?,
             },
             Place::Behind => match kind {
-                Kind::Less => self.spoil(Place::Inside),
-                _ => self.spoil(Place::Behind),
+                Kind::Less => self.reject(Place::Inside),
+                _ => self.reject(Place::Behind),
             },
         }
         Ok(())
     }
 
     /// No address can come of this part any more.
-    fn spoil(&mut self, place: Place)
+    fn reject(&mut self, place: Place)
         ensures { self.new ≡ record self.old { place = place; stage = S.Wrong } }
     {
         self.place = place;
@@ -217,7 +217,7 @@ impl<'a> Draft<'a> {
         text: &[u8],
         from: &'a [u8],
     ) -> Result<(), AllocError>
-        ensures { OnOk result (self.new ≡ reading.taken self.old kind text.now) }
+        ensures { OnOk result (self.new ≡ drafts.taken self.old kind text.now) }
     {
         match kind {
             Kind::Blank | Kind::Comment => Ok(()),
@@ -227,7 +227,7 @@ impl<'a> Draft<'a> {
 
     /// An addr-spec has been read to its end.
     fn is_whole(&self) -> bool
-        ensures { result ≡ reading.is_whole self.now }
+        ensures { result ≡ drafts.is_whole self.now }
     {
         match self.stage {
             Stage::Name | Stage::Literal => self.is_outside(),
@@ -237,7 +237,7 @@ impl<'a> Draft<'a> {
 
     /// The address that the part gives, if it ends here.
     fn address(&self, alloc: Global) -> Result<Option<Addr>, AllocError>
-        ensures { IfOk result (λ found. found ≡ reading.outcome self.now) }
+        ensures { IfOk result (λ found. found ≡ drafts.outcome self.now) }
     {
         if !self.is_whole() {
             return Ok(None);
@@ -250,7 +250,7 @@ impl<'a> Draft<'a> {
 
     /// Begins the next part.
     pub(crate) fn restart(&mut self)
-        ensures { self.new ≡ reading.start }
+        ensures { self.new ≡ drafts.start }
     {
         self.open();
         self.place = Place::Front;
@@ -258,8 +258,8 @@ impl<'a> Draft<'a> {
 
     /// The address that the part gives, if it ends here. The next part begins.
     pub(crate) fn finish(&mut self, alloc: Global) -> Result<Option<Addr>, AllocError>
-        ensures found { IfOk result (λ found. found ≡ reading.outcome self.old) }
-        ensures anew { OnOk result (self.new ≡ reading.start) }
+        ensures found { IfOk result (λ found. found ≡ drafts.outcome self.old) }
+        ensures anew { OnOk result (self.new ≡ drafts.start) }
     {
         let found = self.address(alloc)?;
         self.restart();

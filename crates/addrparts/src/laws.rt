@@ -1,15 +1,21 @@
 //! Laws of the definitions, each the contract of a function that does nothing.
-ghost use Rattle.std.specs.Prelude.{◌≡◌, ◌↔◌, ℕ, List, [], Some};
+ghost use Rattle.std.specs.Prelude.{◌≡◌, ◌↔◌, ℕ, List, [], Some, true};
 ghost use Rattle.addrparts.specs.declared.address.Addr.{Addr};
 ghost use Rattle.addrparts.specs.Outbound.{IsOutbound, IsBareAddress};
 ghost use Rattle.addrparts.specs.Parts.{AreAddresses};
 ghost use Rattle.addrparts.specs.Pieces.{Piece, Cut, IsEnclosed, IsQuoted, unquoted};
+ghost use Rattle.addrparts.specs.Spelling.{IsDotAtom, is_dot_atom};
 ghost use Rattle.addrparts.specs.Reading.{pieces, addrs, outbound, bare};
 
 /// A value has one cut into pieces.
 pub fn pieces_of_a_value()
     ensures found { (value : List ℕ) → Cut value (pieces value) }
     ensures only { (value : List ℕ) (cut : List Piece) → Cut value cut → cut ≡ pieces value }
+{}
+
+/// A text is read as atoms with dots between exactly where it is that.
+pub fn atoms_with_dots()
+    ensures { (text : List ℕ) → (is_dot_atom text ≡ true) ↔ IsDotAtom text }
 {}
 
 /// A quoted string has one value, that of its octets and pairs.
@@ -23,13 +29,13 @@ pub fn addresses_of_a_value()
     ensures only { (value : List ℕ) (found : List Addr) → AreAddresses value found → found ≡ addrs value }
 {}
 
-/// A text names one display and address at most.
+/// A text names one display name and address at most.
 pub fn address_of_a_text()
-    ensures { (text display : List ℕ) (address : Addr) →
-        (outbound text ≡ Some (display, address)) ↔ IsOutbound text display address }
+    ensures { (text display_name : List ℕ) (address : Addr) →
+        (outbound text ≡ Some (display_name, address)) ↔ IsOutbound text display_name address }
 {}
 
-/// A text is one addr-spec at most, and names its address with an empty display.
+/// A text is one addr-spec at most, and names its address with an empty display name.
 pub fn address_without_display()
     ensures bare { (text : List ℕ) (address : Addr) → (bare text ≡ Some address) ↔ IsBareAddress text address }
     ensures named { (text : List ℕ) (address : Addr) → IsBareAddress text address → IsOutbound text [] address }

@@ -8,10 +8,10 @@
 
 pub mod address;
 mod draft;
-mod gathered;
 pub mod laws;
 pub mod list;
 pub mod outbound;
+mod pieces;
 mod scanner;
 
 pub use address::{Addr, quote, spell};

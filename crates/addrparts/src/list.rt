@@ -2,6 +2,7 @@
 ghost use Rattle.std.specs.Prelude.{◌≡◌, ◌++◌, List, IfOk, OnOk, All, option_to_list};
 ghost use Rattle.addrparts.specs.declared.address.Addr.{Addr};
 ghost use Rattle.addrparts.specs.Parts as spec;
+ghost use Rattle.addrparts.specs.Drafts as drafts;
 ghost use Rattle.addrparts.specs.Reading as reading;
 ghost use Rattle.addrparts.specs.Spelling.{IsDomain};
 
@@ -19,7 +20,7 @@ fn is_separator(kind: Kind) -> bool
     }
 }
 
-fn give(found: &mut Vec<Addr>, address: Option<Addr>) -> Result<(), AllocError>
+fn push_some(found: &mut Vec<Addr>, address: Option<Addr>) -> Result<(), AllocError>
     ensures { OnOk result (found.new.items ≡ found.old.items ++ option_to_list address) }
 {
     if let Some(address) = address {
@@ -37,15 +38,15 @@ fn end_part(
     mark: Kind,
     found: &mut Vec<Addr>,
 ) -> Result<(), AllocError>
-    ensures given { OnOk result (found.new.items ≡ found.old.items ++ option_to_list (reading.given draft.old mark)) }
-    ensures anew { OnOk result (draft.new ≡ reading.start) }
+    ensures given { OnOk result (found.new.items ≡ found.old.items ++ option_to_list (drafts.given draft.old mark)) }
+    ensures anew { OnOk result (draft.new ≡ drafts.start) }
 {
     if let Kind::Colon = mark {
         draft.restart();
         return Ok(());
     }
     let address = draft.finish(alloc)?;
-    give(found, address)
+    push_some(found, address)
 }
 
 /// The addresses of a header value, in order (RFC 5322, 3.4). The value is unfolded, and isn't decoded.
@@ -70,6 +71,6 @@ pub fn addresses(alloc: Global, value: &[u8]) -> Result<Vec<Addr>, AllocError>
         rest = after;
     }
     let last = draft.finish(alloc)?;
-    give(&mut found, last)?;
+    push_some(&mut found, last)?;
     Ok(found)
 }

@@ -3,17 +3,18 @@ ghost use Rattle.std.specs.Prelude.{◌≡◌, ℕ, ◌≤◌, false, List, leng
 ghost use Rattle.addrparts.specs.declared.address.Addr.{Addr};
 ghost use Rattle.std.specs.List.{list_all};
 ghost use Rattle.addrparts.specs.Outbound as spec;
+ghost use Rattle.addrparts.specs.Drafts as drafts;
 ghost use Rattle.addrparts.specs.Reading as reading;
 ghost use Rattle.addrparts.specs.Spelling.{IsDomain};
 
 use crate::address::Addr;
 use crate::draft::{Draft, Place};
-use crate::gathered::unquote;
+use crate::pieces::unquote;
 use crate::scanner::{Kind, next_token};
 use octets::{Octets, trim_blanks};
 use std::alloc::{AllocError, Global};
 
-/// The octets that an address which is sent to may have at most, with its display.
+/// The octets that an address which is sent to may have at most, with its display name.
 pub const MAX_LEN: usize = 512;
 
 /// No control character.
@@ -36,7 +37,7 @@ fn is_fit(text: &[u8]) -> bool
     text.len() <= MAX_LEN && all_shown(text)
 }
 
-/// The place of the `<` behind a display, which is one or more words with dots behind the first, and what follows it.
+/// The place of the `<` after a display name, which is one or more words with dots after the first, and what follows it.
 fn opening(text: &[u8]) -> Option<(usize, &[u8])>
     ensures is { let opens = reading.opening false 0 (reading.pieces text.now) in
         MatchOption result (opens ≡ None) (λ r. opens ≡ Some (r.0, reading.pieces r.1.now)) }
@@ -60,8 +61,8 @@ fn opening(text: &[u8]) -> Option<(usize, &[u8])>
 }
 
 /// The addr-spec that the text is, or that stands before a `>` at its end.
-fn sole(alloc: Global, place: Place, text: &[u8]) -> Result<Option<Addr>, AllocError>
-    ensures { IfOk result (λ found. found ≡ reading.sole (reading.start_at place) (reading.pieces text.now)) }
+fn addr_spec_only(alloc: Global, place: Place, text: &[u8]) -> Result<Option<Addr>, AllocError>
+    ensures { IfOk result (λ found. found ≡ reading.addr_spec_only (drafts.start_at place) (reading.pieces text.now)) }
 {
     let mut draft = Draft::new(alloc, place);
     let mut rest = text;
@@ -75,32 +76,33 @@ fn sole(alloc: Global, place: Place, text: &[u8]) -> Result<Option<Addr>, AllocE
     draft.finish(alloc)
 }
 
-/// The display and the address of a text that is fit.
+/// The display name and the address of a text that is fit.
 fn read_fit(alloc: Global, text: &[u8]) -> Result<Option<(Octets, Addr)>, AllocError>
     ensures { IfOk result (λ found. found ≡ reading.outbound_fit text.now) }
 {
-    let mut display = Octets::new(alloc);
+    let mut display_name = Octets::new(alloc);
     let found = match opening(text) {
-        None => sole(alloc, Place::Front, text)?,
+        None => addr_spec_only(alloc, Place::Front, text)?,
         Some((at, behind)) => {
             let (before, _) = text.split_at(at);
-            unquote(&mut display, trim_blanks(before))?;
-            sole(alloc, Place::Inside, behind)?
+            unquote(&mut display_name, trim_blanks(before))?;
+            addr_spec_only(alloc, Place::Inside, behind)?
         }
     };
-    Ok(found.map(|address| (display, address)))
+    Ok(found.map(|address| (display_name, address)))
 }
 
-/// The display and the address of a text that is an addr-spec, or words and an addr-spec in angle brackets (RFC 5228, 2.4.2.3).
-/// The display is empty where there are no words; it is without the marks around quoted strings, and without the backslashes
+/// The display name and the address of a text that is an addr-spec, or words and an addr-spec in angle brackets (RFC 5228, 2.4.2.3).
+/// The display name is empty where there are no words; it is without the marks around quoted strings, and without the backslashes
 /// of quoted pairs.
 ///
 /// None for any other text: one with a comment, a route, a control character, more than 512 octets, or more than one
-/// address. Linear in the text's length; memory for the display and the address alone.
+/// address. Linear in the text's length; memory for the display name and the address alone.
 pub fn sieve_address(alloc: Global, text: &[u8]) -> Result<Option<(Octets, Addr)>, AllocError>
+    ensures unfit { spec.is_fit text.now ≡ false → result ≡ Ok None }
     ensures found { IfOk result (λ found. IfSome found (λ r. spec.IsOutbound text.now r.0 r.1)) }
-    ensures only { IfOk result (λ found. (display : List ℕ) (address : Addr) →
-        spec.IsOutbound text.now display address → found ≡ Some (display, address)) }
+    ensures only { IfOk result (λ found. (display_name : List ℕ) (address : Addr) →
+        spec.IsOutbound text.now display_name address → found ≡ Some (display_name, address)) }
     ensures read { IfOk result (λ found. found ≡ reading.outbound text.now) }
     ensures domain { IfOk result (λ found. IfSome found (λ r. IsDomain r.1.domain)) }
 {
@@ -111,12 +113,13 @@ pub fn sieve_address(alloc: Global, text: &[u8]) -> Result<Option<(Octets, Addr)
     }
 }
 
-/// The address of a text that is an addr-spec alone, without display and angle brackets (RFC 5322, 3.4.1): `a@b`, and not
+/// The address of a text that is an addr-spec alone, without display name and angle brackets (RFC 5322, 3.4.1): `a@b`, and not
 /// `<a@b>` or `"" <a@b>`.
 ///
 /// None for any other text, and for one that `sieve_address` refuses. Linear in the text's length; memory for the address
 /// alone.
 pub fn bare_address(alloc: Global, text: &[u8]) -> Result<Option<Addr>, AllocError>
+    ensures unfit { spec.is_fit text.now ≡ false → result ≡ Ok None }
     ensures found { IfOk result (λ found. IfSome found (λ address. spec.IsBareAddress text.now address)) }
     ensures only { IfOk result (λ found. (address : Addr) → spec.IsBareAddress text.now address → found ≡ Some address) }
     ensures read { IfOk result (λ found. found ≡ reading.bare text.now) }
@@ -125,5 +128,5 @@ pub fn bare_address(alloc: Global, text: &[u8]) -> Result<Option<Addr>, AllocErr
     if !is_fit(text) {
         return Ok(None);
     }
-    sole(alloc, Place::Front, text)
+    addr_spec_only(alloc, Place::Front, text)
 }

@@ -135,7 +135,7 @@ fn atom_len(text: &[u8]) -> usize
     text.iter().take_while(|octet| is_atom(**octet)).count()
 }
 
-/// A piece that is closed after so many octets more, or is bad up to the end.
+/// A piece that is closed after that many octets more, or is bad up to the end.
 fn closed(kind: Kind, others: &[u8], len: Option<usize>) -> (Kind, usize)
     requires { IfSome len (λ n. n ≤ length others.now) }
     ensures { result ≡ reading.closed kind others.now len }

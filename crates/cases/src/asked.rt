@@ -61,6 +61,27 @@ fn add(out: &mut Octets, asked: Asked<'_>) -> Result<(), AllocError> {
             add_place(out, "show", place)?;
             add_texts(out, &[user, folder, number])
         }
+        Asked::Queue { place, user, id } => {
+            add_place(out, "queue", place)?;
+            add_texts(out, &[user, id.unwrap_or("no number")])
+        }
+        Asked::Done { place, user, id } => {
+            add_place(out, "done", place)?;
+            add_texts(out, &[user, id])
+        }
+        Asked::Notices { place, user } => {
+            add_place(out, "notices", place)?;
+            add_texts(out, &[user])
+        }
+        Asked::Serve {
+            place,
+            port,
+            sessions,
+        } => {
+            add_place(out, "serve", place)?;
+            add_texts(out, &[port, sessions.unwrap_or("no number")])
+        }
+        Asked::Session(place) => add_place(out, "session", place),
     }
 }
 

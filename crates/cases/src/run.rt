@@ -1,8 +1,8 @@
 //! Runs of the program: its words, its input, and what they leave.
 use crate::table::Answers;
+use crate::talk;
 use crate::text::words_of;
 use keepers::{Keeper, MemoryKeeper};
-use mailengine::whole;
 use octets::{Octets, parse_decimal, write_decimal};
 use sievedrun::drive::drive;
 use sievedrun::fault::Fault;
@@ -78,7 +78,8 @@ impl Answers for MemoryRuns {
     }
 }
 
-/// Appends what comes of a row that any keeper can have: `run` and `full` are runs of the program, `send` is a command.
+/// Appends what comes of a row that any keeper can have: `run` and `full` are runs of the program, `send` is a
+/// command, and `greet`, `talk`, `gone` and `deaf` are sessions.
 pub fn answer<K: Keeper>(
     alloc: Global,
     out: &mut Octets,
@@ -93,7 +94,14 @@ pub fn answer<K: Keeper>(
         b"run" => add_run(alloc, out, keeper, path, text_in(text), input.as_slice()),
         b"full" => add_full(alloc, out, keeper, path, text_in(text), input.as_slice()),
         b"told" => add_told(alloc, out, text_in(text)),
-        b"send" => add_sent(alloc, out, keeper, path, text.as_slice(), input.as_slice()),
+        b"send" => talk::add_sent(alloc, out, keeper, path, input.as_slice()),
+        b"greet" | b"talk" | b"gone" | b"deaf" => talk::answer(
+            alloc,
+            out,
+            keeper,
+            path,
+            (call.as_slice(), text.as_slice(), input.as_slice()),
+        ),
         _ => out.extend_from_slice(b"no such call"),
     }
 }
@@ -184,27 +192,6 @@ fn add_unread(out: &mut Octets, unread: usize) -> Result<(), AllocError> {
     }
     out.extend_from_slice(b"|unread ")?;
     write_decimal(out, unread as u64)
-}
-
-/// Appends the answer to a command of ManageSieve that a user sends.
-fn add_sent<K: Keeper>(
-    alloc: Global,
-    out: &mut Octets,
-    keeper: &mut K,
-    path: &str,
-    user: &[u8],
-    bytes: &[u8],
-) -> Result<(), AllocError> {
-    let Ok(mut store) = keeper.take(path, false) else {
-        return out.extend_from_slice(b"not taken");
-    };
-    let answer = whole(alloc, &mut store, user, bytes);
-    let closed = keeper.hand_back(store).is_ok();
-    match answer {
-        Ok(octets) if closed => out.extend_from_slice(octets.as_slice()),
-        Ok(_) => out.extend_from_slice(b"not closed"),
-        Err(refusal) => out.extend_from_slice(format!(in alloc; "{refusal}")?.as_bytes()),
-    }
 }
 
 /// An output that is full.

@@ -1,10 +1,14 @@
 //! Conversations: lists of events and what is answered, over a store in memory.
+use crate::cut::{add_answers, add_counts};
 use crate::section::{Section, sections};
 use crate::tally::Tally;
 use crate::text::{decoded, trimmed, with_ends};
-use mailengine::{Answer, Envelope, Event, Refusal, Report, World, run};
+use base64::engine::general_purpose::STANDARD;
+use mailengine::{Answer, Envelope, Event, Outgoing, Progress, Refusal, World, run};
 use mailstore::Store;
 use octets::{Octets, Texts, parse_decimal, write_decimal};
+use reportlines::of_report;
+use saslplain::digest;
 use sqlite::{Connection, MemStore};
 use std::alloc::{AllocError, Global};
 use std::format;
@@ -15,6 +19,8 @@ pub fn try_all(alloc: Global, tally: &mut Tally, file: &str) -> Result<(), Alloc
     let all = sections(alloc, file)?;
     let mut talk = Talk {
         events: Vec::new(alloc),
+        shown: Vec::new(alloc),
+        users: Vec::new(alloc),
         from: "",
         moment: 0,
     };
@@ -24,6 +30,13 @@ pub fn try_all(alloc: Global, tally: &mut Tally, file: &str) -> Result<(), Alloc
             talk.happen(alloc, &mut world, &mut answer)?;
             compare(alloc, tally, section, answer.as_slice())?;
             answer = Octets::new(alloc);
+        } else if section.name == "cut" {
+            let stream = octets_in(alloc, section)?;
+            add_answers(alloc, &mut world, &mut answer, stream.as_slice())?;
+        } else if section.name == "scan" {
+            let stream = octets_in(alloc, section)?;
+            let most = usize::try_from(number(section.note)).unwrap_or(0);
+            add_counts(alloc, &mut answer, stream.as_slice(), most)?;
         } else if !talk.take(alloc, section)? {
             ask(alloc, tally, &mut world.store, &mut answer, section)?;
         }
@@ -54,6 +67,10 @@ fn compare(
 #[derive(Drop)]
 struct Talk<'a> {
     events: Vec<Event>,
+    /// Of each event whether its answer is shown.
+    shown: Vec<bool>,
+    /// The users who send commands, each over a session of its own, whose number is the user's place here.
+    users: Vec<&'a str>,
     /// The sender of the messages that follow.
     from: &'a str,
     /// When they come, in seconds since 1970-01-01 UTC.
@@ -63,48 +80,63 @@ struct Talk<'a> {
 impl<'a> Talk<'a> {
     /// Takes a section that is an event or says something of those that follow, and says whether it was one.
     fn take(&mut self, alloc: Global, section: &Section<'a>) -> Result<bool, AllocError> {
-        if matches!(section.name, "send" | "deliver" | "adduser") {
-            self.add(alloc, section)?;
-            return Ok(true);
+        match section.name {
+            "from" => self.from = section.text.trim_ascii_end(),
+            "moment" => self.moment = number(section.text.trim_ascii_end()),
+            "send" => self.send(alloc, section)?,
+            _ => return self.add(alloc, section),
         }
-        if section.name == "from" {
-            self.from = section.text.trim_ascii_end();
-            return Ok(true);
-        }
-        if section.name == "moment" {
-            self.moment = number(section.text.trim_ascii_end());
-            return Ok(true);
-        }
-        Ok(false)
+        Ok(true)
     }
 
-    /// Takes an event so many times: `== send USER`, or `== deliver USER x300`.
-    fn add(&mut self, alloc: Global, section: &Section<'_>) -> Result<(), AllocError> {
-        let (user, times) = section.note.split_once(" x").unwrap_or((section.note, "1"));
+    /// Takes an event so many times: `== step 1`, or `== deliver USER x300`. Answers false where the section is no event.
+    fn add(&mut self, alloc: Global, section: &Section<'a>) -> Result<bool, AllocError> {
+        let (note, times) = section.note.split_once(" x").unwrap_or((section.note, "1"));
         for _ in 0..number(times) {
-            let event = self.event(alloc, section, user)?;
-            self.events.push(event)?;
+            let Some(event) = self.event(alloc, section, note)? else {
+                return Ok(false);
+            };
+            self.push(event, true)?;
         }
+        Ok(true)
+    }
+
+    fn push(&mut self, event: Event, is_shown: bool) -> Result<(), AllocError> {
+        self.shown.push(is_shown)?;
+        self.events.push(event)?;
         Ok(())
     }
 
-    fn event(&self, alloc: Global, section: &Section<'_>, user: &str) -> Result<Event, AllocError> {
-        if section.name == "adduser" {
-            return new_user(alloc, user, section.text);
-        }
-        let octets = with_ends(alloc, decoded(alloc, section.text)?, true)?;
-        let user = Octets::copy(alloc, user.as_bytes())?;
-        if section.name == "send" {
-            return Ok(Event::Whole {
-                user,
-                bytes: octets,
-            });
-        }
-        let envelope = self.envelope(alloc)?;
+    fn event(
+        &self,
+        alloc: Global,
+        section: &Section<'a>,
+        note: &str,
+    ) -> Result<Option<Event>, AllocError> {
+        Ok(Some(match section.name {
+            "open" => Event::Open(session(note)),
+            "give" => Event::Give(session(note), octets_in(alloc, section)?),
+            "piece" => Event::Give(session(note), decoded(alloc, section.text)?),
+            "step" => Event::Step(session(note)),
+            "giveup" => Event::GiveUp(session(note)),
+            "close" => Event::Close(session(note)),
+            "adduser" => new_user(alloc, note, section.text)?,
+            "deliver" => self.delivery(alloc, section, note)?,
+            "takeout" => row_taken(alloc, note)?,
+            _ => return Ok(None),
+        }))
+    }
+
+    fn delivery(
+        &self,
+        alloc: Global,
+        section: &Section<'a>,
+        user: &str,
+    ) -> Result<Event, AllocError> {
         Ok(Event::Deliver {
-            user,
-            envelope,
-            message: octets,
+            user: Octets::copy(alloc, user.as_bytes())?,
+            envelope: self.envelope(alloc)?,
+            message: octets_in(alloc, section)?,
             moment: self.moment,
         })
     }
@@ -115,7 +147,26 @@ impl<'a> Talk<'a> {
         Ok(Envelope { from, to })
     }
 
-    /// Lets the events happen, and appends a line for each answer.
+    /// Takes a command that a user sends, who logs in first over a session of its own. The answer to the command alone is
+    /// shown.
+    fn send(&mut self, alloc: Global, section: &Section<'a>) -> Result<(), AllocError> {
+        let known = self.users.iter().position(|user| *user == section.note);
+        let place = known.unwrap_or(self.users.len());
+        let number = FIRST_OWN.saturating_add(u32::try_from(place).unwrap_or(0));
+        if known.is_none() {
+            self.users.push(section.note)?;
+            self.push(Event::Open(number), false)?;
+            self.push(
+                Event::Give(number, login(alloc, section.note.as_bytes())?),
+                false,
+            )?;
+            self.push(Event::Step(number), false)?;
+        }
+        self.push(Event::Give(number, octets_in(alloc, section)?), false)?;
+        self.push(Event::Step(number), true)
+    }
+
+    /// Lets the events happen, and appends what is answered to those that are shown.
     fn happen(
         &mut self,
         alloc: Global,
@@ -123,15 +174,56 @@ impl<'a> Talk<'a> {
         out: &mut Octets,
     ) -> Result<(), AllocError> {
         let ran = run(world, &self.events);
-        self.events.clear();
         if !ran.whole {
             return Err(AllocError);
         }
-        for answer in ran.answers.iter() {
-            add_answer(alloc, out, answer)?;
+        for (answer, is_shown) in ran.answers.iter().zip(self.shown.iter()) {
+            if *is_shown {
+                add_answer(alloc, out, answer)?;
+            }
         }
+        self.events.clear();
+        self.shown.clear();
         Ok(())
     }
+}
+
+/// The number of the first session that a user has by `send`; those of `open` are smaller.
+const FIRST_OWN: u32 = 1_000_000;
+
+/// The password of every account that `account` adds.
+const PASSWORD: &[u8] = b"secret";
+
+/// The line that logs a user in whose password is `secret` (RFC 5804, 2.1; RFC 4616, 2).
+pub fn login(alloc: Global, user: &[u8]) -> Result<Octets, AllocError> {
+    let mut message = Octets::new(alloc);
+    message.push(0)?;
+    message.extend_from_slice(user)?;
+    message.push(0)?;
+    message.extend_from_slice(PASSWORD)?;
+    let text = STANDARD.encode(alloc, message.as_slice())?;
+    let mut line = Octets::copy(alloc, b"AUTHENTICATE \"PLAIN\" \"")?;
+    line.extend_from_slice(text.as_bytes())?;
+    line.extend_from_slice(b"\"\r\n")?;
+    Ok(line)
+}
+
+/// The octets of a section, each line end as CRLF.
+fn octets_in(alloc: Global, section: &Section<'_>) -> Result<Octets, AllocError> {
+    with_ends(alloc, decoded(alloc, section.text)?, true)
+}
+
+fn session(digits: &str) -> u32 {
+    u32::try_from(number(digits)).unwrap_or(0)
+}
+
+/// A row to be taken out: `USER ID`.
+fn row_taken(alloc: Global, note: &str) -> Result<Event, AllocError> {
+    let (user, id) = note.split_once(' ').unwrap_or((note, ""));
+    Ok(Event::TakeOut {
+        user: Octets::copy(alloc, user.as_bytes())?,
+        id: number(id),
+    })
 }
 
 /// A user to be added: the address is the first line, the password the second.
@@ -193,13 +285,8 @@ fn add_account(
     address: &str,
 ) -> Result<(), Refusal> {
     let address = decoded(alloc, address)?;
-    store.add_user(
-        user,
-        trimmed(address.as_slice()),
-        b"salt",
-        10_000,
-        b"digest",
-    )
+    let digest = digest(b"salt", 1, PASSWORD);
+    store.add_user(user, trimmed(address.as_slice()), b"salt", 1, &digest)
 }
 
 fn put(
@@ -213,28 +300,37 @@ fn put(
     store.put_script(user, name, text.as_slice())
 }
 
-/// Appends a line of what was answered: the octets without the CRLF at their end, the folders, or the refusal.
+/// Appends what was answered: how the session goes on, the report, the row, or the refusal.
 fn add_answer(alloc: Global, out: &mut Octets, answer: &Answer) -> Result<(), AllocError> {
     match answer {
-        Answer::Out(_, octets) => add_sent(out, octets.as_slice()),
-        Answer::Delivered(report) => add_report(out, report),
+        Answer::Out(progress, octets) => add_sent(out, *progress, octets.as_slice()),
+        Answer::Delivered(report) => { out.extend_from_slice(of_report(alloc, report)?.as_slice()) }
         Answer::Added => add_line(out, b"", b"added"),
+        Answer::Taken(row) => add_row(out, row),
+        Answer::Ignored => add_line(out, b"", b"ignored"),
         Answer::Refused(refusal) => add_refusal(alloc, out, *refusal),
     }
 }
 
-fn add_sent(out: &mut Octets, octets: &[u8]) -> Result<(), AllocError> {
+/// Appends what a client is sent, without the CRLF at its end, and a line `need` or `close` where the session waits for
+/// octets or has ended.
+fn add_sent(out: &mut Octets, progress: Progress, octets: &[u8]) -> Result<(), AllocError> {
     match octets.strip_suffix(b"\r\n") {
-        Some(line) => add_line(out, b"", line),
-        None => add_line(out, b"no line end: ", octets),
+        Some(line) => add_line(out, b"", line)?,
+        None if octets.is_empty() => {}
+        None => add_line(out, b"no line end: ", octets)?,
+    }
+    match progress {
+        Progress::Done => Ok(()),
+        Progress::Need => add_line(out, b"", b"need"),
+        Progress::Close => add_line(out, b"", b"close"),
     }
 }
 
-fn add_report(out: &mut Octets, report: &Report) -> Result<(), AllocError> {
-    if report.filed.is_empty() {
-        return add_line(out, b"", b"discard");
-    }
-    add_lines(out, b"file ", &report.filed)
+fn add_row(out: &mut Octets, row: &Outgoing) -> Result<(), AllocError> {
+    out.extend_from_slice(b"taken ")?;
+    write_decimal(out, row.id)?;
+    add_line(out, b" ", row.target.as_slice())
 }
 
 fn add_refusal(alloc: Global, out: &mut Octets, refusal: Refusal) -> Result<(), AllocError> {

@@ -28,10 +28,10 @@ pub fn answer(
 
 /// An input that gives its octets one by one, and fails from one of its calls on.
 #[derive(Drop)]
-struct Pieces<'a> {
-    left: &'a [u8],
-    calls: u64,
-    fails_as: ErrorKind,
+pub struct Pieces<'a> {
+    pub left: &'a [u8],
+    pub calls: u64,
+    pub fails_as: ErrorKind,
 }
 
 impl Read for Pieces<'_> {
@@ -47,9 +47,9 @@ impl Read for Pieces<'_> {
 
 /// An output that takes three octets at a time, and fails from one of its calls on.
 #[derive(Drop)]
-struct Takes {
-    taken: Vec<u8>,
-    calls: u64,
+pub struct Takes {
+    pub taken: Vec<u8>,
+    pub calls: u64,
 }
 
 impl Takes {

@@ -127,7 +127,7 @@ fn repeats_before<C: Comparator, K: Key>(key: &K, critical: usize, back: Spot) -
 }
 
 // Where to cut a key: at the later of its greatest suffixes by the two orders.
-fn made_cut<C: Comparator, K: Key>(key: &K) -> Cut
+fn find_critical_cut<C: Comparator, K: Key>(key: &K) -> Cut
     requires { 0 < K.size key.now }
     ensures cut { IsCut (image_at C.image_of (K.octet_at key.now)) (K.size key.now) result }
     ensures critical { K.is_spot key.now result.critical }
@@ -326,6 +326,6 @@ pub fn find<C: Comparator, K: Key>(key: &K, value: &[u8], from: usize) -> Option
     if value.len() - from < m {
         return None;
     }
-    let cut = made_cut::<C, K>(key);
+    let cut = find_critical_cut::<C, K>(key);
     find_cut::<C, K>(key, cut, value, from)
 }

@@ -1,8 +1,8 @@
 -- A delivery has one report, and the account is one afterwards.
 use Rattle.std.proofs.Common.{◌≡◌, ℕ, ◌⊎◌, Bool, true, false, List, Option, Some, None, ap, sym, ◌∙◌, subst, inl, inr}
 use Rattle.addrparts.specs.declared.address.Addr.{Addr}
-use Rattle.sievesyntax.specs.Meaning.{Deeds}
-use Rattle.sievesyntax.specs.declared.vacation.VacArgs.{VacArgs}
+use Rattle.sievesyntax.specs.Meaning.{Actions}
+use Rattle.sievesyntax.specs.declared.tree.vacation.VacArgs.{VacArgs}
 use Rattle.sieveexec.specs.Mails.{MailSpec}
 use Rattle.sieveexec.specs.Outcomes.{outcome_at}
 use Rattle.vacreply.specs.Handles.{handle_of, key_of}
@@ -39,7 +39,7 @@ one_response own moment mail last None one two is was = is ∙ sym was
 one_response own moment mail last (Some args) one two is was =
     one_follows own moment mail args (decision_of args mail own (last (key_of (handle_of args))) moment) one two is was
 
-one_carried : (own : Addr) (moment : ℕ) (mail : MailSpec) (deeds : Deeds) (a : Account) (one two : Report) (after other : Account)
+one_carried : (own : Addr) (moment : ℕ) (mail : MailSpec) (deeds : Actions) (a : Account) (one two : Report) (after other : Account)
     → CarriesOut own moment mail deeds a one after → CarriesOut own moment mail deeds a two other → (one ≡ two) × (after ≡ other)
 one_carried own moment mail deeds a one two after other is was =
     let same = one_response own moment mail (last_reply a mail.from) deeds.reply is.response was.response is.is_response was.is_response in

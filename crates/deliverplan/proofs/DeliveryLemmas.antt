@@ -4,8 +4,8 @@ use Rattle.std.specs.declared.alloc.AllocError.{AllocError}
 use Rattle.addrparts.specs.declared.address.Addr.{Addr}
 use Rattle.sievesyntax.specs.Tree.{Commands}
 use Rattle.sievesyntax.specs.Means.{Means}
-use Rattle.sievesyntax.specs.SoFar.{Failure}
-use Rattle.sievesyntax.specs.Meaning.{Deeds, Outcome, Done, Failed}
+use Rattle.sievesyntax.specs.RunState.{Failure}
+use Rattle.sievesyntax.specs.Meaning.{Actions, Outcome, Done, Failed}
 use Rattle.sieveexec.specs.Mails.{MailSpec}
 use Rattle.sieveexec.specs.Outcomes.{outcome_at}
 use Rattle.mailstore.specs.Account.{Account, delivers}
@@ -34,7 +34,7 @@ pub keeping : (view : View) (moment : ℕ) (mail : MailSpec) (plan : Plan) (a : 
 keeping view moment mail plan a calm is of =
     record { disposition = Acts kept; disposes = at_ease None mail (Acts kept) calm refl; delivers = acting view moment mail kept plan a is of }
 
-pub running : (view : View) (moment : ℕ) (mail : MailSpec) (text : List ℕ) (tree : Commands) (deeds done : Deeds) (plan : Plan) (a : Account)
+pub running : (view : View) (moment : ℕ) (mail : MailSpec) (text : List ℕ) (tree : Commands) (deeds done : Actions) (plan : Plan) (a : Account)
     → is_looping mail ≡ false → Means text tree → deeds ≡ done → Done done ≡ outcome_at mail tree
     → IsActingPlan view.address moment mail (moment_under view.replies) deeds plan → IsViewOf view mail.from a
     → Delivers view.address moment mail (Some text) a plan.report (delivers plan a)

@@ -3,9 +3,9 @@ use Rattle.std.proofs.Common.{◌≡◌, ℕ, suc, true, false, List, [], ◌∷
 use Rattle.std.specs.Prelude.{replicate}
 use Rattle.mailhead.specs.Fields.{FieldText}
 use Rattle.addrparts.specs.declared.address.Addr.{Addr}
-use Rattle.sievesyntax.specs.SoFar.{TwoVacations, TooManyRedirects, inbox}
-use Rattle.sievesyntax.specs.Meaning.{Deeds, Failed}
-use Rattle.sievesyntax.specs.declared.vacation.VacArgs.{VacArgs}
+use Rattle.sievesyntax.specs.RunState.{TwoVacations, TooManyRedirects, inbox}
+use Rattle.sievesyntax.specs.Meaning.{Actions, Failed}
+use Rattle.sievesyntax.specs.declared.tree.vacation.VacArgs.{VacArgs}
 use Rattle.sieveexec.specs.Mails.{MailSpec}
 use Rattle.vacreply.specs.Reasons.{decision_of}
 use Rattle.vacreply.specs.declared.reason.Decision.TheVariants as D

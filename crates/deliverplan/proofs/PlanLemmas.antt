@@ -4,9 +4,9 @@ use Rattle.std.proofs.lemmas.List.Sums.{fold-append}
 use Rattle.std.proofs.lemmas.List.Folds.{fold-map}
 use Rattle.addrparts.specs.declared.address.Addr.{Addr}
 use Rattle.addrparts.specs.Spelling.{spelling}
-use Rattle.sievesyntax.specs.SoFar.{inbox}
-use Rattle.sievesyntax.specs.Meaning.{Deeds}
-use Rattle.sievesyntax.specs.declared.vacation.VacArgs.{VacArgs}
+use Rattle.sievesyntax.specs.RunState.{inbox}
+use Rattle.sievesyntax.specs.Meaning.{Actions}
+use Rattle.sievesyntax.specs.declared.tree.vacation.VacArgs.{VacArgs}
 use Rattle.sieveexec.specs.Mails.{MailSpec}
 use Rattle.vacreply.specs.Handles.{handle_of, key_of}
 use Rattle.vacreply.specs.Reasons.{decision_of}
@@ -28,7 +28,7 @@ letter_last : (sender message : List ℕ) (letters : List Letter) (letter : Lett
 letter_last sender message letters letter a = fold-append (λ b one. sends sender message one b) a letters (letter ∷ [])
 
 -- the letters and what is remembered do what the deeds and the response do
-done : (mail : MailSpec) (moment : ℕ) (deeds : Deeds) (response : Response) (a : Account)
+done : (mail : MailSpec) (moment : ℕ) (deeds : Actions) (response : Response) (a : Account)
     → remembers_if_any (reply_kept mail.from moment response)
     (sends_all mail.from mail.octets (with_letter (redirect_letters deeds.sent) (reply_letter mail.from response)) (files_copies deeds.filed mail.octets a))
     ≡ responds mail moment response (acts mail deeds a)
@@ -48,7 +48,7 @@ responds_along own moment mail last other (Some args) response same is =
     let P : Option ℕ → Type 0 = λ kept. Follows own moment mail args (decision_of args mail own kept moment) response in
     subst P (same (key_of (handle_of args))) is
 
-pub acting : (view : View) (moment : ℕ) (mail : MailSpec) (deeds : Deeds) (plan : Plan) (a : Account)
+pub acting : (view : View) (moment : ℕ) (mail : MailSpec) (deeds : Actions) (plan : Plan) (a : Account)
     → IsActingPlan view.address moment mail (moment_under view.replies) deeds plan → IsViewOf view mail.from a
     → CarriesOut view.address moment mail deeds a plan.report (delivers plan a)
 acting view moment mail deeds plan a is of =

@@ -1,7 +1,7 @@
 -- What is to be done about `vacation`, by the decision that was made.
 use Rattle.std.proofs.Common.{◌≡◌, ℕ, List, Option, Some, None, refl, ap, ◌∙◌, subst, sym}
 use Rattle.addrparts.specs.declared.address.Addr.{Addr}
-use Rattle.sievesyntax.specs.declared.vacation.VacArgs.{VacArgs}
+use Rattle.sievesyntax.specs.declared.tree.vacation.VacArgs.{VacArgs}
 use Rattle.sieveexec.specs.Mails.{MailSpec}
 use Rattle.vacreply.specs.Handles.{handle_of, key_of}
 use Rattle.vacreply.specs.Reasons.{decision_of, number_of}

@@ -6,9 +6,9 @@ use Rattle.addrparts.specs.declared.address.Addr.{Addr}
 use Rattle.addrparts.specs.Spelling.{spelling}
 use Rattle.sievesyntax.specs.Tree.{Commands}
 use Rattle.sievesyntax.specs.Means.{Means}
-use Rattle.sievesyntax.specs.SoFar.{Failure, TwoVacations, TooManyRedirects, inbox}
-use Rattle.sievesyntax.specs.Meaning.{Deeds, Outcome, Done, Failed}
-use Rattle.sievesyntax.specs.declared.vacation.VacArgs.{VacArgs}
+use Rattle.sievesyntax.specs.RunState.{Failure, TwoVacations, TooManyRedirects, inbox}
+use Rattle.sievesyntax.specs.Meaning.{Actions, Outcome, Done, Failed}
+use Rattle.sievesyntax.specs.declared.tree.vacation.VacArgs.{VacArgs}
 use Rattle.sieveexec.specs.Mails.{MailSpec}
 use Rattle.sieveexec.specs.Outcomes.{outcome_at}
 use Rattle.vacreply.specs.Cases.{same_text}
@@ -29,7 +29,7 @@ use Rattle.deliverplan.specs.Views.{last_reply}
 
 -- what the script does is carried out; or the message goes into INBOX, and the user is left a notice with this text
 pub data Disposition : Type 0 where
-  Acts : Deeds → Disposition
+  Acts : Actions → Disposition
   Tells : List ℕ → Disposition
 
 -- the notice on a run that failed (RFC 5228, 2.10.6)
@@ -58,7 +58,7 @@ disposition_of (Done deeds) = Acts deeds
 disposition_of (Failed failure) = Tells (failure_text failure)
 
 -- the implicit keep, and nothing else (RFC 5228, 2.10.2)
-abbrev pub kept : Deeds
+abbrev pub kept : Actions
 kept = record { filed = inbox ∷ []; sent = []; reply = None }
 
 -- under the text of a script: what its tree comes to, where it means one
@@ -107,7 +107,7 @@ abbrev pub redirects : MailSpec → List Addr → Account → Account
 redirects mail targets a = fold (λ b target. queues kind.Redirect mail.from (spelling target) mail.octets b) a targets
 
 -- the message joins the end of each folder, and then it is queued
-abbrev pub acts : MailSpec → Deeds → Account → Account
+abbrev pub acts : MailSpec → Actions → Account → Account
 acts mail deeds a = redirects mail deeds.sent (files_copies deeds.filed mail.octets a)
 
 -- a response is queued for the sender, and its moment is kept; nothing is kept of one that isn't sent
@@ -123,7 +123,7 @@ vacation_report Silent = V.None
 vacation_report (Quiet reason) = V.Quiet (number_of reason)
 vacation_report (Sent key reply) = V.Sent
 
-abbrev pub report_of : Deeds → Response → Report
+abbrev pub report_of : Actions → Response → Report
 report_of deeds response = record { filed = deeds.filed; sent = map spelling deeds.sent; vacation = vacation_report response; notice = None }
 
 abbrev pub notice_report : List ℕ → Report
@@ -132,7 +132,7 @@ notice_report text = record { filed = inbox ∷ []; sent = []; vacation = V.None
 -- ---- a delivery
 
 -- the deeds are carried out, and the sender is answered
-pub record CarriesOut (own : Addr) (moment : ℕ) (mail : MailSpec) (deeds : Deeds) (a : Account) (report : Report) (a2 : Account) : Type 0 where
+pub record CarriesOut (own : Addr) (moment : ℕ) (mail : MailSpec) (deeds : Actions) (a : Account) (report : Report) (a2 : Account) : Type 0 where
   pub response : Response
   pub is_response : Responds own moment mail (last_reply a mail.from) deeds.reply response
   pub reported : report ≡ report_of deeds response

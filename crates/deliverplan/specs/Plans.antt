@@ -2,9 +2,9 @@
 use Rattle.std.specs.Prelude.{◌≡◌, ℕ, List, [], ◌∷◌, ◌++◌, map, Option, None, Some}
 use Rattle.addrparts.specs.declared.address.Addr.{Addr}
 use Rattle.addrparts.specs.Spelling.{spelling}
-use Rattle.sievesyntax.specs.SoFar.{inbox}
-use Rattle.sievesyntax.specs.Meaning.{Deeds}
-use Rattle.sievesyntax.specs.declared.vacation.VacArgs.{VacArgs}
+use Rattle.sievesyntax.specs.RunState.{inbox}
+use Rattle.sievesyntax.specs.Meaning.{Actions}
+use Rattle.sievesyntax.specs.declared.tree.vacation.VacArgs.{VacArgs}
 use Rattle.sieveexec.specs.Mails.{MailSpec}
 use Rattle.vacreply.specs.Layout.{IsReply}
 use Rattle.mailstore.specs.declared.report.Letter.{Letter}
@@ -57,7 +57,7 @@ abbrev pub unsent_plan : VacationReport → VacationPlan
 unsent_plan vacation = record { vacation = vacation; letter = None; remember = None }
 
 -- a plan that carries out deeds and a response to the sender
-pub record IsActingPlan (own : Addr) (moment : ℕ) (mail : MailSpec) (last : List ℕ → Option ℕ) (deeds : Deeds) (plan : Plan) : Type 0 where
+pub record IsActingPlan (own : Addr) (moment : ℕ) (mail : MailSpec) (last : List ℕ → Option ℕ) (deeds : Actions) (plan : Plan) : Type 0 where
   pub response : Response
   pub is_response : Responds own moment mail last deeds.reply response
   pub message : plan.message.now ≡ mail.octets

@@ -5,7 +5,7 @@ use Rattle.std.specs.Cmp.Lexicographic.{pointwise}
 use Rattle.octets.specs.Ascii.{lowered}
 use Rattle.addrparts.specs.Outbound.{IsBareAddress}
 use Rattle.mailstore.specs.Account.{Account}
-use Rattle.deliverplan.specs.declared.view.KeptReply.{KeptReply}
+use Rattle.mailstore.specs.declared.reply.KeptReply.{KeptReply}
 use Rattle.deliverplan.specs.declared.view.View.{View}
 
 -- the moment that an account keeps of a response to a sender, if one is kept; case ignored in the sender

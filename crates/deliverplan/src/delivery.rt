@@ -1,6 +1,6 @@
 //! What a delivery is to write and to report.
 ghost use Rattle.std.specs.Prelude.{◌≡◌, ◌≤◌, IfOk, OnOk, option_copied};
-ghost use Rattle.sievesyntax.specs.Meaning.{Deeds};
+ghost use Rattle.sievesyntax.specs.Meaning.{Actions};
 ghost use Rattle.mailstore.specs.Account.{Account, delivers};
 ghost use Rattle.mailstore.specs.Cells.{contents};
 ghost use Rattle.deliverplan.specs.Delivered.{Delivers};

@@ -11,6 +11,7 @@ mod vacation;
 mod view;
 
 pub use delivery::plan;
+pub use mailstore::KeptReply;
 pub use notice::failure_text;
 pub use outcome::outcome_on;
-pub use view::{KeptReply, View};
+pub use view::View;

@@ -1,7 +1,7 @@
 //! Lists of texts.
 ghost use Rattle.std.specs.Prelude.{◌≡◌, [], ◌∷◌, map, IfOk};
 ghost use Rattle.addrparts.specs.Spelling.{spelling};
-ghost use Rattle.sievesyntax.specs.SoFar.{inbox as inbox_of};
+ghost use Rattle.sievesyntax.specs.RunState.{inbox as inbox_of};
 
 use addrparts::{Addr, spell};
 use octets::{Octets, Texts};

@@ -3,16 +3,8 @@ ghost use Rattle.std.specs.Prelude.{◌≡◌};
 ghost use Rattle.deliverplan.specs.Views.{moment_under};
 
 use addrparts::Addr;
-use octets::{ListOf, Octets};
-
-/// The moment of the last response to a sender, by the key of its handle.
-#[derive(Debug, Drop)]
-pub struct KeptReply {
-    /// The key of the response's handle, any octets.
-    pub handle: Octets,
-    /// In seconds since 1 January 1970.
-    pub moment: u64,
-}
+use mailstore::KeptReply;
+use octets::ListOf;
 
 /// What a delivery has to know of the account, beside the text of its active script.
 #[derive(Debug, Drop)]

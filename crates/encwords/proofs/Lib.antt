@@ -8,3 +8,6 @@ pub mod ReadBackLemmas
 pub mod RunLaws
 pub mod PieceLaws
 pub mod QuotedLaws
+pub mod WordLaws
+pub mod TextLaws
+pub mod Examples

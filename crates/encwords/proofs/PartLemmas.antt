@@ -1,9 +1,9 @@
 -- Lemmas on the parts of a run between question marks.
-use Rattle.std.proofs.Common.{◌≡◌, ◌≢◌, ◌⊎◌, ℕ, zero, suc, ◌+◌, ◌<◌, ◌≤◌, Bool, true, false, cond, ◌==◌, ◌&&◌, Option, None, Some, List, [], ◌∷◌, ◌++◌, length, get_or, take, drop, refl, sym, ap, ◌∙◌, inl, inr, add-one, codes, bytes_eq, arith}
+use Rattle.std.proofs.Common.{◌≡◌, ◌⊎◌, ℕ, zero, suc, ◌+◌, ◌<◌, ◌≤◌, Bool, true, false, cond, ◌==◌, ◌&&◌, None, Some, List, [], ◌∷◌, length, get_or, take, drop, refl, ap, ◌∙◌, inl, inr, add-one, codes, bytes_eq, arith}
 use Rattle.std.proofs.lemmas.Bool.{false_from_ne_true}
 use Rattle.memchr.specs.Find.{IsFirstByte, is_byte}
 use Rattle.mailhead.specs.Lines.{at_front}
-use Rattle.encwords.specs.Words.{parts_of, meaning_of, meaning_in}
+use Rattle.encwords.specs.Words.{parts_of, meaning_in}
 
 parts_at : (text : List ℕ) (k : ℕ) → k < length text → (get_or text k 0 == 63) ≡ true → ((j : ℕ) → 0 ≤ j → j < k → (get_or text j 0 == 63) ≡ true → ⊥)
     → parts_of text ≡ take k text ∷ parts_of (drop (suc k) text)

@@ -1,11 +1,11 @@
 -- Lemmas on the pieces of a text and their words.
-use Rattle.std.proofs.Common.{◌≡◌, ◌≢◌, ℕ, zero, suc, ◌+◌, ◌<◌, ◌≤◌, Bool, true, false, List, [], ◌∷◌, ◌++◌, length, take, drop, refl, sym, ap, ◌∙◌, subst, ◌==◌, codes, arith}
+use Rattle.std.proofs.Common.{◌≡◌, ℕ, zero, suc, ◌+◌, ◌<◌, ◌≤◌, Bool, true, List, [], ◌∷◌, ◌++◌, length, take, drop, refl, sym, ap, ◌∙◌, subst, ◌==◌, arith}
 use Rattle.std.proofs.lemmas.List.{append-nil, append_assoc, take-append-drop, length-take-le, take_at, drop_at, nil_from_length}
 use Rattle.std.proofs.lemmas.Bool.{eqb-true}
 use Rattle.std.proofs.lemmas.Str.{IsCharBoundary-past_char, len_utf8_bounds, IsUtf8-take, IsUtf8-drop}
 use Rattle.std.specs.Char.{len_utf8}
-use Rattle.std.specs.Prelude.{IsUtf8, IsCharBoundary, encode_utf8, encode_utf8_all}
-use Rattle.encwords.specs.Headers.{IsPieceLength, CutsPiece, ArePieces, word_for, others_for, words_for, between, IsWorded}
+use Rattle.std.specs.Prelude.{IsUtf8, IsCharBoundary, encode_utf8_all}
+use Rattle.encwords.specs.Headers.{CutsPiece, ArePieces, word_for, others_for, words_for, between, IsWorded}
 
 -- pieces were cut off, and their words were written
 pub record IsWritten (text rest value : List ℕ) : Type 0 where

@@ -1,9 +1,9 @@
 -- A text in Q stands for the octets of its pieces.
-use Rattle.std.proofs.Common.{◌≡◌, ◌≢◌, ℕ, ◌+◌, ◌*◌, Bool, true, false, cond, ◌==◌, Option, None, Some, List, [], ◌∷◌, ◌++◌, refl, sym, ap, ◌∙◌}
+use Rattle.std.proofs.Common.{◌≡◌, ℕ, ◌+◌, ◌*◌, Bool, true, false, cond, ◌==◌, Option, None, Some, List, [], ◌∷◌, ◌++◌, refl, sym, ap, ◌∙◌}
 use Rattle.std.proofs.lemmas.Bool.{eqb-true}
-use Rattle.std.specs.Option.{option_map, option_and_then}
+use Rattle.std.specs.Option.{option_and_then}
 use Rattle.octets.proofs.Lists.{some_is}
-use Rattle.encwords.specs.declared.quoted.Mode.TheVariants.{InText, BehindMark, BehindDigit}
+use Rattle.encwords.specs.declared.quoted.Mode.TheVariants.{InText, AfterMark}
 use Rattle.encwords.specs.Quoted.{digit_of, Piece, Plain, Space, Escaped, spelling, octet_of, value_of, spellings, AreValues, IsQuoted, with_octet, quoted_from, quoted_of}
 
 plain_value : (octet first : ℕ) (mark low : Bool) → cond mark None (cond low None (Some octet)) ≡ Some first → (mark ≡ false) × ((low ≡ false) × (octet ≡ first))
@@ -65,8 +65,8 @@ none_digit (Some h) octets same = cc same
 
 first_way : (test : Bool) (octet : ℕ) (rest octets : List ℕ) → (octet == 61) ≡ test
     → ((rests : List ℕ) → quoted_of rest ≡ Some rests → IsQuoted rest rests)
-    → (quoted_from BehindMark rest ≡ Some octets → IsQuoted (61 ∷ rest) octets)
-    → cond test (quoted_from BehindMark rest) (with_octet (cond (octet == 95) 32 octet) (quoted_from InText rest)) ≡ Some octets → IsQuoted (octet ∷ rest) octets
+    → (quoted_from AfterMark rest ≡ Some octets → IsQuoted (61 ∷ rest) octets)
+    → cond test (quoted_from AfterMark rest) (with_octet (cond (octet == 95) 32 octet) (quoted_from InText rest)) ≡ Some octets → IsQuoted (octet ∷ rest) octets
 first_way true octet rest octets mark later escaped same = rw (eqb-true octet 61 mark) (escaped same)
 first_way false octet rest octets other later escaped same =
     let found = with_found (cond (octet == 95) 32 octet) (quoted_from InText rest) octets same in

@@ -5,7 +5,7 @@ use Rattle.std.specs.Option.{option_map}
 use Rattle.encwords.specs.declared.quoted.Mode.{Mode}
 use Rattle.std.proofs.lemmas.Bool.{false_from_ne_true, eqb-true}
 use Rattle.encwords.specs.declared.quoted.Mode.TheVariants.{InText}
-use Rattle.encwords.specs.Quoted.{IsMode, with_octet, quoted_from, quoted_of, with_read, behind_step}
+use Rattle.encwords.specs.Quoted.{IsMode, with_octet, quoted_from, quoted_of, with_read, after_step}
 
 -- octets before what is still to come
 abbrev pub onto : List ℕ → Option (List ℕ) → Option (List ℕ)
@@ -22,7 +22,7 @@ onto-push octets octet (Some rest) = ap Some (sym (append_assoc octets (octet �
 
 -- what a step says of the text from here on
 pub step_left : (text : List ℕ) (mode : Mode) (i octet : ℕ) (step : Option (Mode × Option ℕ)) → i < length text → octet ≡ get_or text i 0
-    → ((rest : List ℕ) → quoted_from mode (octet ∷ rest) ≡ behind_step step rest) → quoted_from mode (drop i text) ≡ behind_step step (drop (i + 1) text)
+    → ((rest : List ℕ) → quoted_from mode (octet ∷ rest) ≡ after_step step rest) → quoted_from mode (drop i text) ≡ after_step step (drop (i + 1) text)
 step_left text mode i octet step short is reads =
     ap (quoted_from mode) (drop_more text i 0 short ∙ ap (λ o. o ∷ drop (i + 1) text) (sym is)) ∙ reads (drop (i + 1) text)
 

@@ -1,6 +1,6 @@
 -- A text that was written in a header field is read back from it.
-use Rattle.std.proofs.Common.{◌≡◌, ◌≢◌, ℕ, zero, suc, ◌+◌, ◌-◌, ◌<◌, ◌≤◌, Bool, true, false, cond, ◌==◌, ◌&&◌, ◌||◌, not, nat_le, Option, None, Some, List, [], ◌∷◌, ◌++◌, length, get_or, take, drop, refl, sym, ap, ◌∙◌, subst, codes, bytes_eq, ⊎_elim, arith}
-use Rattle.std.proofs.lemmas.Bool.{false_from_ne_true, eqb-true, false≢true, cases_Bool}
+use Rattle.std.proofs.Common.{◌≡◌, ◌≢◌, ℕ, ◌+◌, ◌-◌, Bool, true, false, cond, ◌==◌, ◌&&◌, ◌||◌, not, nat_le, Option, None, Some, List, [], ◌∷◌, ◌++◌, length, get_or, refl, sym, ap, ◌∙◌, subst, codes, bytes_eq, ⊎_elim, arith}
+use Rattle.std.proofs.lemmas.Bool.{cases_Bool}
 use Rattle.std.proofs.lemmas.List.{append-nil, append_assoc, take_at, length-append, get_or-append-add}
 use Rattle.std.proofs.lemmas.List.Folds.{list_all-append}
 use Rattle.std.proofs.lemmas.Str.{is_utf8-from_IsUtf8}
@@ -11,17 +11,18 @@ use Rattle.std.specs.Option.{unwrap_or, is_some}
 use Rattle.octets.specs.Ascii.{is_blank, is_printable}
 use Rattle.base64.specs.Engines.{standard}
 use Rattle.base64.specs.GeneralPurpose.{IsBytes, encode_of, decoded_of}
-use Rattle.mailhead.specs.Lines.{is_feed, is_other, at_front, lines_of, begins_blank, goes_on, end_len, without_end}
+use Rattle.mailhead.specs.Lines.{is_other, at_front, lines_of, begins_blank, goes_on, end_len, without_end}
 use Rattle.mailhead.specs.Heads.{joined, unfold_of}
 use Rattle.mailhead.proofs.LineLemmas.{goes_on-lines_of}
 use Rattle.mailhead.proofs.FoldLemmas.{and_left, and_right, and_true}
 use Rattle.mailhead.proofs.CutLemmas.{cut_ended, cut_open}
-use Rattle.encwords.specs.Runs.{is_dark, begins_dark, before_runs, runs_of}
-use Rattle.encwords.specs.Words.{parts_of, is_visible, is_encoded_text, octets_of, meaning_of, meaning_in, word_of, is_word}
-use Rattle.encwords.specs.Values.{given_by, given_from, text_of}
-use Rattle.encwords.specs.Headers.{begins_question, has_mark, is_plain, CutsPiece, ArePieces, word_for, others_for, words_for, IsWorded, IsHeaderText}
+use Rattle.encwords.specs.Runs.{is_nonblank, begins_nonblank, before_runs, runs_of}
+use Rattle.encwords.specs.Words.{is_unmarked, parts_of, is_visible, meaning_in, word_of}
+use Rattle.encwords.specs.Values.{given_from, text_of}
+use Rattle.encwords.specs.Headers.{begins_question, has_mark, is_plain, ArePieces, word_for, others_for, words_for, IsWorded}
 use Rattle.encwords.specs.Laws.{IsReadBack}
 use Rattle.encwords.proofs.RunLemmas.{given_front}
+use Rattle.encwords.proofs.WordLaws.{parts_front}
 use Rattle.encwords.proofs.PieceLemmas.{after_valid, piece_valid}
 use Rattle.encwords.proofs.AlphabetLemmas.{is_safe, safe_encoding, encoding_present, encoding_decodes, bytes_front, bytes_back}
 
@@ -33,8 +34,8 @@ list_all-weaker p q (x ∷ xs) weaker all =
     let rest : list_all p xs ≡ true = and_right (p x) (list_all p xs) all in
     and_true _ _ (weaker x first) (list_all-weaker p q xs weaker rest)
 
-visible_dark : (octet : ℕ) → is_visible octet ≡ true → is_dark octet ≡ true
-visible_dark octet seen = grind arith
+visible_nonblank : (octet : ℕ) → is_visible octet ≡ true → is_nonblank octet ≡ true
+visible_nonblank octet seen = grind arith
 
 visible_other : (octet : ℕ) → is_visible octet ≡ true → is_other octet ≡ true
 visible_other octet seen = grind arith
@@ -49,21 +50,15 @@ not_true : (test : Bool) → not test ≡ true → test ≡ false
 not_true true h = absurd (cc h)
 not_true false h = refl
 
--- a part without question mark, and what follows
-parts_safe : (front rest : List ℕ) → list_all is_safe front ≡ true → parts_of (front ++ 63 ∷ rest) ≡ front ∷ parts_of rest
-parts_safe [] rest all = refl
-parts_safe (octet ∷ front) rest all =
-    let safe : is_safe octet ≡ true = and_left _ _ all in
-    let other : (octet == 63) ≡ false = not_true (octet == 63) (and_right (is_visible octet) (not (octet == 63)) safe) in
-    let later = parts_safe front rest (and_right (is_safe octet) (list_all is_safe front) all) in
-    rw (other, later) refl
+safe_unmarked : (octet : ℕ) → is_safe octet ≡ true → is_unmarked octet ≡ true
+safe_unmarked octet safe = and_right (is_visible octet) (is_unmarked octet) safe
 
 -- a word with this text in B
 word_with : (encoded piece : List ℕ) → list_all is_safe encoded ≡ true → (length encoded == 0) ≡ false → decoded_of standard encoded ≡ Some piece → is_utf8 piece ≡ true
     → word_of (codes "=?UTF-8?B?" ++ (encoded ++ codes "?=")) ≡ Some piece
 word_with encoded piece safe present decodes valid =
     let seen : list_all is_visible encoded ≡ true = list_all-weaker is_safe is_visible encoded safe_visible safe in
-    let parts = parts_safe encoded (codes "=") safe in
+    let parts = parts_front encoded (codes "=") (list_all-weaker is_safe is_unmarked encoded safe_unmarked safe) in
     rw (parts, present, seen, decodes, valid) refl
 
 -- a word that was written is recognised, and says its piece
@@ -139,10 +134,10 @@ unfold_words (piece ∷ more) front are all =
     let moved : front ++ others_for (piece ∷ more) ≡ (front ++ (13 ∷ 10 ∷ [])) ++ rest = sym (append_assoc front (13 ∷ 10 ∷ []) rest) in
     ap unfold_of moved ∙ (unfold_crlf front rest all refl ∙ ap (λ t. front ++ t) (unfold_words more word are.1 others))
 
-spaced_dark : (pieces : List (List ℕ)) → begins_dark (spaced pieces) ≡ false
+spaced_nonblank : (pieces : List (List ℕ)) → begins_nonblank (spaced pieces) ≡ false
 unfolding spaced
-spaced_dark [] = refl
-spaced_dark (piece ∷ more) = refl
+spaced_nonblank [] = refl
+spaced_nonblank (piece ∷ more) = refl
 
 -- what a recognised word and what stands before it give
 word_gives : (behind : Bool) (blanks word piece : List ℕ) (runs : List (List ℕ)) (found : Option (List ℕ)) → found ≡ Some piece
@@ -157,9 +152,9 @@ given_spaced : (pieces : List (List ℕ)) → AreTexts pieces → given_from tru
 unfolding AreTexts spaced
 given_spaced [] are = refl
 given_spaced (piece ∷ more) are =
-    let dark : list_all is_dark (word_for piece) ≡ true = list_all-weaker is_visible is_dark (word_for piece) visible_dark (word_visible piece are.0.0) in
+    let nonblank : list_all is_nonblank (word_for piece) ≡ true = list_all-weaker is_visible is_nonblank (word_for piece) visible_nonblank (word_visible piece are.0.0) in
     let read = word_read piece are.0.0 are.0.1.0 are.0.1.1 in
-    given_front true (32 ∷ []) (word_for piece) (spaced more) refl dark (spaced_dark more) (λ none. absurd (word_not_empty piece none))
+    given_front true (32 ∷ []) (word_for piece) (spaced more) refl nonblank (spaced_nonblank more) (λ none. absurd (word_not_empty piece none))
     ∙ (word_gives true (32 ∷ []) (word_for piece) piece (runs_of (spaced more)) (word_of (word_for piece)) read
     ∙ ap (λ t. piece ++ t) (given_spaced more are.1))
 
@@ -170,10 +165,10 @@ words_back [] are = refl
 words_back (piece ∷ more) are =
     let seen = word_visible piece are.0.0 in
     let others : list_all is_other (word_for piece) ≡ true = list_all-weaker is_visible is_other (word_for piece) visible_other seen in
-    let dark : list_all is_dark (word_for piece) ≡ true = list_all-weaker is_visible is_dark (word_for piece) visible_dark seen in
+    let nonblank : list_all is_nonblank (word_for piece) ≡ true = list_all-weaker is_visible is_nonblank (word_for piece) visible_nonblank seen in
     let read = word_read piece are.0.0 are.0.1.0 are.0.1.1 in
     ap text_of (unfold_words more (word_for piece) are.1 others)
-    ∙ (given_front false [] (word_for piece) (spaced more) refl dark (spaced_dark more) (λ none. absurd (word_not_empty piece none))
+    ∙ (given_front false [] (word_for piece) (spaced more) refl nonblank (spaced_nonblank more) (λ none. absurd (word_not_empty piece none))
     ∙ (word_gives false [] (word_for piece) piece (runs_of (spaced more)) (word_of (word_for piece)) read
     ∙ ap (λ t. piece ++ t) (given_spaced more are.1)))
 
@@ -243,7 +238,7 @@ concat_cond false octet run more = refl
 
 concat_before : (octet : ℕ) (runs : List (List ℕ)) → concat (before_runs octet runs) ≡ octet ∷ concat runs
 concat_before octet [] = refl
-concat_before octet (run ∷ more) = concat_cond (cond (is_blank octet) (begins_blank run) (begins_dark run)) octet run more
+concat_before octet (run ∷ more) = concat_cond (cond (is_blank octet) (begins_blank run) (begins_nonblank run)) octet run more
 
 -- the runs joined are the text
 pub concat-runs_of : (text : List ℕ) → concat (runs_of text) ≡ text
@@ -265,7 +260,7 @@ marks_cond false octet run more none no_mark = (both_no _ _ (second_no (octet ==
 marks_before : (octet : ℕ) (runs : List (List ℕ)) → NoMarks runs → (octet == 61 && begins_question (concat runs)) ≡ false → NoMarks (before_runs octet runs)
 marks_before octet [] none no_mark = (both_no _ _ (second_no (octet == 61)) refl, tt)
 marks_before octet (run ∷ more) none no_mark =
-    marks_cond (cond (is_blank octet) (begins_blank run) (begins_dark run)) octet run more none (question_front octet run (concat more) no_mark)
+    marks_cond (cond (is_blank octet) (begins_blank run) (begins_nonblank run)) octet run more none (question_front octet run (concat more) no_mark)
 
 -- the runs of a text without `=?`
 no_marks : (text : List ℕ) → has_mark text ≡ false → NoMarks (runs_of text)

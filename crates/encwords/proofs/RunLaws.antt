@@ -1,11 +1,10 @@
 -- A text has one list of runs.
-use Rattle.std.proofs.Common.{◌≡◌, ◌≢◌, ◌⊎◌, ℕ, Bool, true, false, cond, not, List, [], ◌∷◌, ◌++◌, refl, sym, ap, ◌∙◌, inl, inr}
-use Rattle.std.specs.List.{list_all}
+use Rattle.std.proofs.Common.{◌≡◌, ◌≢◌, ℕ, Bool, true, false, cond, not, List, [], ◌∷◌, ◌++◌, refl, sym, ap, ◌∙◌, inl, inr}
 use Rattle.octets.specs.Ascii.{is_blank}
 use Rattle.mailhead.specs.Lines.{begins_blank}
-use Rattle.mailhead.proofs.FoldLemmas.{and_left, and_right, and_true}
-use Rattle.encwords.specs.Runs.{is_dark, begins_dark, IsRun, AreRuns, before_runs, runs_of}
-use Rattle.encwords.proofs.RunLemmas.{runs_blank, runs_dark}
+use Rattle.mailhead.proofs.FoldLemmas.{and_left, and_true}
+use Rattle.encwords.specs.Runs.{begins_nonblank, IsRun, AreRuns, before_runs, runs_of}
+use Rattle.encwords.proofs.RunLemmas.{runs_blank, runs_nonblank}
 
 -- and no other list is
 pub runs_only : (text : List ℕ) (runs : List (List ℕ)) → AreRuns runs text → runs ≡ runs_of text
@@ -14,10 +13,10 @@ runs_only text (run ∷ more) (rest, (spelled, (present, (kind, are)))) =
     ap (λ t. run ∷ t) (runs_only rest more are) ∙ (first run rest present kind ∙ ap runs_of (sym spelled)) where
       first : (run rest : List ℕ) → run ≢ [] → IsRun run rest → run ∷ runs_of rest ≡ runs_of (run ++ rest)
       first run rest present (inl blank) = sym (runs_blank run rest present blank.0 blank.1)
-      first run rest present (inr dark) = sym (runs_dark run rest present dark.0 dark.1)
+      first run rest present (inr nonblank) = sym (runs_nonblank run rest present nonblank.0 nonblank.1)
 
 -- an octet before a run
-longer : (octet : ℕ) (run rest : List ℕ) (blank : Bool) → is_blank octet ≡ blank → run ≢ [] → IsRun run rest → cond blank (begins_blank run) (begins_dark run) ≡ true → IsRun (octet ∷ run) rest
+longer : (octet : ℕ) (run rest : List ℕ) (blank : Bool) → is_blank octet ≡ blank → run ≢ [] → IsRun run rest → cond blank (begins_blank run) (begins_nonblank run) ≡ true → IsRun (octet ∷ run) rest
 longer octet [] rest blank is present kind same = absurd (present refl)
 longer octet (next ∷ run) rest true is present (inl all) same = inl (and_true _ _ is all.0, all.1)
 longer octet (next ∷ run) rest true is present (inr all) same = absurd (differs (is_blank next) same (and_left _ _ all.0)) where
@@ -31,7 +30,7 @@ longer octet (next ∷ run) rest false is present (inl all) same = absurd (diffe
   differs false a b = cc b
 
 -- an octet apart from what follows
-apart : (octet : ℕ) (run rest : List ℕ) (blank : Bool) → is_blank octet ≡ blank → run ≢ [] → cond blank (begins_blank run) (begins_dark run) ≡ false → IsRun (octet ∷ []) (run ++ rest)
+apart : (octet : ℕ) (run rest : List ℕ) (blank : Bool) → is_blank octet ≡ blank → run ≢ [] → cond blank (begins_blank run) (begins_nonblank run) ≡ false → IsRun (octet ∷ []) (run ++ rest)
 apart octet [] rest blank is present other = absurd (present refl)
 apart octet (next ∷ run) rest true is present other = inl (and_true _ _ is refl, other)
 apart octet (next ∷ run) rest false is present other = inr (and_true _ _ (ap not is) refl, other)
@@ -40,19 +39,19 @@ alone : (octet : ℕ) (blank : Bool) → is_blank octet ≡ blank → IsRun (oct
 alone octet true is = inl (and_true _ _ is refl, refl)
 alone octet false is = inr (and_true _ _ (ap not is) refl, refl)
 
-found_before : (octet : ℕ) (rest : List ℕ) (run : List ℕ) (more : List (List ℕ)) (test : Bool) → cond (is_blank octet) (begins_blank run) (begins_dark run) ≡ test → AreRuns (run ∷ more) rest
+found_before : (octet : ℕ) (rest : List ℕ) (run : List ℕ) (more : List (List ℕ)) (test : Bool) → cond (is_blank octet) (begins_blank run) (begins_nonblank run) ≡ test → AreRuns (run ∷ more) rest
     → AreRuns (cond test ((octet ∷ run) ∷ more) ((octet ∷ []) ∷ run ∷ more)) (octet ∷ rest)
 found_before octet rest run more true same (behind, (spelled, (present, (kind, are)))) =
     (behind, (ap (λ t. octet ∷ t) spelled, ((λ none. absurd (cc none)), (longer octet run behind (is_blank octet) refl present kind same, are))))
 found_before octet rest run more false other (behind, (spelled, (present, (kind, are)))) =
     (rest, (refl, ((λ none. absurd (cc none)), (apart_at octet rest run behind spelled present other, (behind, (spelled, (present, (kind, are)))))))) where
-      apart_at : (octet : ℕ) (rest run behind : List ℕ) → rest ≡ run ++ behind → run ≢ [] → cond (is_blank octet) (begins_blank run) (begins_dark run) ≡ false → IsRun (octet ∷ []) rest
+      apart_at : (octet : ℕ) (rest run behind : List ℕ) → rest ≡ run ++ behind → run ≢ [] → cond (is_blank octet) (begins_blank run) (begins_nonblank run) ≡ false → IsRun (octet ∷ []) rest
       apart_at octet rest run behind spelled present other = rw spelled (apart octet run behind (is_blank octet) refl present other)
 
 -- an octet before the runs of what follows
 runs_step : (octet : ℕ) (rest : List ℕ) (runs : List (List ℕ)) → AreRuns runs rest → AreRuns (before_runs octet runs) (octet ∷ rest)
 runs_step octet rest [] are = ([], (ap (λ t. octet ∷ t) are, ((λ none. absurd (cc none)), (alone octet (is_blank octet) refl, refl))))
-runs_step octet rest (run ∷ more) are = found_before octet rest run more (cond (is_blank octet) (begins_blank run) (begins_dark run)) refl are
+runs_step octet rest (run ∷ more) are = found_before octet rest run more (cond (is_blank octet) (begins_blank run) (begins_nonblank run)) refl are
 
 -- the runs of a text are its runs
 pub runs_found : (text : List ℕ) → AreRuns (runs_of text) text

@@ -1,6 +1,6 @@
 -- Lemmas on the runs of a text, and on what they give.
-use Rattle.std.proofs.Common.{◌≡◌, ◌≢◌, ℕ, zero, suc, ◌+◌, ◌<◌, ◌≤◌, Bool, true, false, cond, ◌==◌, ◌&&◌, not, Option, None, Some, List, [], ◌∷◌, ◌++◌, length, take, drop, refl, sym, ap, ◌∙◌, arith}
-use Rattle.std.proofs.lemmas.List.{append-nil, append_assoc, take-append-drop, length-drop}
+use Rattle.std.proofs.Common.{◌≡◌, ◌≢◌, ℕ, ◌+◌, ◌<◌, Bool, true, false, cond, ◌==◌, ◌&&◌, not, Option, None, Some, List, [], ◌∷◌, ◌++◌, length, take, drop, refl, sym, ap, ◌∙◌, arith}
+use Rattle.std.proofs.lemmas.List.{append_assoc, take-append-drop, length-drop}
 use Rattle.std.specs.List.{list_all, prefix_len}
 use Rattle.std.specs.Option.{unwrap_or, is_some, option_map}
 use Rattle.std.proofs.lemmas.Bool.{true≢false}
@@ -9,9 +9,9 @@ use Rattle.octets.specs.Ascii.{is_blank}
 use Rattle.mailhead.specs.Lines.{begins_blank}
 use Rattle.mailhead.proofs.FoldLemmas.{and_left, and_right}
 use Rattle.mailhead.proofs.FormLemmas.{list_all-prefix, begins}
-use Rattle.encwords.specs.Runs.{is_dark, begins_dark, before_runs, runs_of}
+use Rattle.encwords.specs.Runs.{is_nonblank, begins_nonblank, before_runs, runs_of}
 use Rattle.encwords.specs.Words.{word_of, is_word}
-use Rattle.encwords.specs.Values.{given_by, given_from, word_first}
+use Rattle.encwords.specs.Values.{given_from}
 
 -- the first run begins as the text does
 pub record StartsRuns (octet : ℕ) (runs : List (List ℕ)) : Type 0 where
@@ -25,36 +25,36 @@ start_cond false octet run more = record { run = []; more = run ∷ more; is = r
 
 start_before : (octet : ℕ) (runs : List (List ℕ)) → StartsRuns octet (before_runs octet runs)
 start_before octet [] = record { run = []; more = []; is = refl }
-start_before octet (run ∷ more) = start_cond (cond (is_blank octet) (begins_blank run) (begins_dark run)) octet run more
+start_before octet (run ∷ more) = start_cond (cond (is_blank octet) (begins_blank run) (begins_nonblank run)) octet run more
 
-dark_from : (octet : ℕ) → is_dark octet ≡ true → is_blank octet ≡ false
-dark_from octet dark = not_true (is_blank octet) dark where
+not_blank_from : (octet : ℕ) → is_nonblank octet ≡ true → is_blank octet ≡ false
+not_blank_from octet nonblank = not_true (is_blank octet) nonblank where
   not_true : (test : Bool) → not test ≡ true → test ≡ false
   not_true true h = absurd (cc h)
   not_true false h = refl
 
-blank_from : (octet : ℕ) → is_dark octet ≡ false → is_blank octet ≡ true
+blank_from : (octet : ℕ) → is_nonblank octet ≡ false → is_blank octet ≡ true
 blank_from octet blank = not_false (is_blank octet) blank where
   not_false : (test : Bool) → not test ≡ false → test ≡ true
   not_false true h = refl
   not_false false h = absurd (cc h)
 
-apart_dark : (octet : ℕ) (after : List ℕ) → is_dark octet ≡ true → begins_dark after ≡ false → before_runs octet (runs_of after) ≡ (octet ∷ []) ∷ runs_of after
-apart_dark octet [] dark ends = refl
-apart_dark octet (next ∷ rest) dark ends =
+apart_nonblank : (octet : ℕ) (after : List ℕ) → is_nonblank octet ≡ true → begins_nonblank after ≡ false → before_runs octet (runs_of after) ≡ (octet ∷ []) ∷ runs_of after
+apart_nonblank octet [] nonblank ends = refl
+apart_nonblank octet (next ∷ rest) nonblank ends =
     let start = start_before next (runs_of rest) in
-    let blank = dark_from octet dark in
+    let blank = not_blank_from octet nonblank in
     rw (start.is, blank, ends) refl
 
 -- a run of other octets is the first run
-pub runs_dark : (run after : List ℕ) → run ≢ [] → list_all is_dark run ≡ true → begins_dark after ≡ false → runs_of (run ++ after) ≡ run ∷ runs_of after
-runs_dark [] after present all ends = absurd (present refl)
-runs_dark (octet ∷ []) after present all ends = apart_dark octet after (and_left _ _ all) ends
-runs_dark (octet ∷ (next ∷ run)) after present all ends =
-    let later = runs_dark (next ∷ run) after (λ none. absurd (cc none)) (and_right _ _ all) ends in
-    let blank = dark_from octet (and_left _ _ all) in
-    let dark : is_dark next ≡ true = and_left _ _ (and_right (is_dark octet) (list_all is_dark (next ∷ run)) all) in
-    rw (later, blank, dark) refl
+pub runs_nonblank : (run after : List ℕ) → run ≢ [] → list_all is_nonblank run ≡ true → begins_nonblank after ≡ false → runs_of (run ++ after) ≡ run ∷ runs_of after
+runs_nonblank [] after present all ends = absurd (present refl)
+runs_nonblank (octet ∷ []) after present all ends = apart_nonblank octet after (and_left _ _ all) ends
+runs_nonblank (octet ∷ (next ∷ run)) after present all ends =
+    let later = runs_nonblank (next ∷ run) after (λ none. absurd (cc none)) (and_right _ _ all) ends in
+    let blank = not_blank_from octet (and_left _ _ all) in
+    let nonblank : is_nonblank next ≡ true = and_left _ _ (and_right (is_nonblank octet) (list_all is_nonblank (next ∷ run)) all) in
+    rw (later, blank, nonblank) refl
 
 apart_blank : (octet : ℕ) (after : List ℕ) → is_blank octet ≡ true → begins_blank after ≡ false → before_runs octet (runs_of after) ≡ (octet ∷ []) ∷ runs_of after
 apart_blank octet [] blank ends = refl
@@ -72,9 +72,9 @@ runs_blank (octet ∷ (next ∷ run)) after present all ends =
     let other : is_blank next ≡ true = and_left _ _ (and_right (is_blank octet) (list_all is_blank (next ∷ run)) all) in
     rw (later, blank, other) refl
 
-dark_not_blank : (run : List ℕ) → list_all is_dark run ≡ true → begins_blank run ≡ false
-dark_not_blank [] all = refl
-dark_not_blank (octet ∷ run) all = dark_from octet (and_left _ _ all)
+nonblank_not_blank : (run : List ℕ) → list_all is_nonblank run ≡ true → begins_blank run ≡ false
+nonblank_not_blank [] all = refl
+nonblank_not_blank (octet ∷ run) all = not_blank_from octet (and_left _ _ all)
 
 blank_begins : (run : List ℕ) → run ≢ [] → list_all is_blank run ≡ true → begins_blank run ≡ true
 blank_begins [] present all = absurd (present refl)
@@ -85,33 +85,33 @@ begins-append [] after present = absurd (present refl)
 begins-append (octet ∷ run) after present = refl
 
 -- what a run of other octets gives, and what follows it
-given_dark : (behind : Bool) (run after : List ℕ) → run ≢ [] → list_all is_dark run ≡ true → begins_dark after ≡ false
+given_nonblank : (behind : Bool) (run after : List ℕ) → run ≢ [] → list_all is_nonblank run ≡ true → begins_nonblank after ≡ false
     → given_from behind (runs_of (run ++ after)) ≡ unwrap_or (word_of run) run ++ given_from (is_word run) (runs_of after)
-given_dark behind run after present all ends =
-    let runs = runs_dark run after present all ends in
-    let dark = dark_not_blank run all in
-    rw (runs, dark) refl
+given_nonblank behind run after present all ends =
+    let runs = runs_nonblank run after present all ends in
+    let nonblank = nonblank_not_blank run all in
+    rw (runs, nonblank) refl
 
 choice_nil : (test : Bool) → cond test [] (let none : List ℕ = [] in none) ≡ []
 choice_nil true = refl
 choice_nil false = refl
 
 -- the blanks of a front and the other octets behind them give this
-pub given_front : (behind : Bool) (blanks run after : List ℕ) → list_all is_blank blanks ≡ true → list_all is_dark run ≡ true → begins_dark after ≡ false → (run ≡ [] → after ≡ [])
+pub given_front : (behind : Bool) (blanks run after : List ℕ) → list_all is_blank blanks ≡ true → list_all is_nonblank run ≡ true → begins_nonblank after ≡ false → (run ≡ [] → after ≡ [])
     → given_from behind (runs_of (blanks ++ (run ++ after))) ≡ cond (behind && is_word run) [] blanks ++ (unwrap_or (word_of run) run ++ given_from (is_word run) (runs_of after))
-given_front behind [] [] after blank dark ends last = let none = last refl in rw (none, choice_nil (behind && is_word [])) refl
-given_front behind [] (octet ∷ run) after blank dark ends last =
-    let rest = given_dark behind (octet ∷ run) after (λ none. absurd (cc none)) dark ends in
+given_front behind [] [] after blank nonblank ends last = let none = last refl in rw (none, choice_nil (behind && is_word [])) refl
+given_front behind [] (octet ∷ run) after blank nonblank ends last =
+    let rest = given_nonblank behind (octet ∷ run) after (λ none. absurd (cc none)) nonblank ends in
     rest ∙ ap (λ t. t ++ (unwrap_or (word_of (octet ∷ run)) (octet ∷ run) ++ given_from (is_word (octet ∷ run)) (runs_of after))) (sym (choice_nil (behind && is_word (octet ∷ run))))
-given_front behind (blank ∷ blanks) [] after all dark ends last =
+given_front behind (blank ∷ blanks) [] after all nonblank ends last =
     let none = last refl in
     let runs = runs_blank (blank ∷ blanks) [] (λ empty. absurd (cc empty)) all refl in
     let first : is_blank blank ≡ true = and_left _ _ all in
     rw (none, runs, first) refl
-given_front behind (blank ∷ blanks) (octet ∷ run) after all dark ends last =
-    let other : is_blank octet ≡ false = dark_from octet (and_left _ _ dark) in
+given_front behind (blank ∷ blanks) (octet ∷ run) after all nonblank ends last =
+    let other : is_blank octet ≡ false = not_blank_from octet (and_left _ _ nonblank) in
     let runs = runs_blank (blank ∷ blanks) ((octet ∷ run) ++ after) (λ empty. absurd (cc empty)) all other in
-    let more = runs_dark (octet ∷ run) after (λ empty. absurd (cc empty)) dark ends in
+    let more = runs_nonblank (octet ∷ run) after (λ empty. absurd (cc empty)) nonblank ends in
     let first : is_blank blank ≡ true = and_left _ _ all in
     rw (runs, more, first, other) refl
 
@@ -122,51 +122,51 @@ stops p (octet ∷ rest) = stop (p octet) octet rest (prefix_len p rest) refl (s
   stop true octet rest n is later = rw one-add later
   stop false octet rest n is later = is
 
-begins_dark-is : (text : List ℕ) → begins_dark text ≡ begins is_dark text
-begins_dark-is [] = refl
-begins_dark-is (octet ∷ rest) = refl
+begins_nonblank-is : (text : List ℕ) → begins_nonblank text ≡ begins is_nonblank text
+begins_nonblank-is [] = refl
+begins_nonblank-is (octet ∷ rest) = refl
 
 -- where no octet but a blank begins what follows the blanks, nothing follows
-nothing_left : (behind : List ℕ) → begins is_blank behind ≡ false → take (prefix_len is_dark behind) behind ≡ [] → drop (prefix_len is_dark behind) behind ≡ []
+nothing_left : (behind : List ℕ) → begins is_blank behind ≡ false → take (prefix_len is_nonblank behind) behind ≡ [] → drop (prefix_len is_nonblank behind) behind ≡ []
 nothing_left [] begins none = refl
-nothing_left (octet ∷ rest) begins none = let dark : is_dark octet ≡ true = ap not begins in absurd (present (rw (dark, one-add) at none)) where
+nothing_left (octet ∷ rest) begins none = let nonblank : is_nonblank octet ≡ true = ap not begins in absurd (present (rw (nonblank, one-add) at none)) where
   present : {run : List ℕ} → octet ∷ run ≡ [] → ⊥
   present same = cc same
 
 -- the blanks at the front of a text and the other octets behind them give this
 pub given_step : (behind : Bool) (text blanks rest run after : List ℕ) → blanks ≡ take (prefix_len is_blank text) text → rest ≡ drop (prefix_len is_blank text) text
-    → run ≡ take (prefix_len is_dark rest) rest → after ≡ drop (prefix_len is_dark rest) rest
+    → run ≡ take (prefix_len is_nonblank rest) rest → after ≡ drop (prefix_len is_nonblank rest) rest
     → given_from behind (runs_of text) ≡ cond (behind && is_word run) [] blanks ++ (unwrap_or (word_of run) run ++ given_from (is_word run) (runs_of after))
 given_step behind text blanks rest run after b r d a =
     let blank : list_all is_blank blanks ≡ true = ap (list_all is_blank) b ∙ list_all-prefix is_blank text in
-    let dark : list_all is_dark run ≡ true = ap (list_all is_dark) d ∙ list_all-prefix is_dark rest in
-    let ends : begins_dark after ≡ false = begins_dark-is after ∙ (ap (begins is_dark) a ∙ stops is_dark rest) in
+    let nonblank : list_all is_nonblank run ≡ true = ap (list_all is_nonblank) d ∙ list_all-prefix is_nonblank rest in
+    let ends : begins_nonblank after ≡ false = begins_nonblank-is after ∙ (ap (begins is_nonblank) a ∙ stops is_nonblank rest) in
     let left : begins is_blank rest ≡ false = ap (begins is_blank) r ∙ stops is_blank text in
     let last = λ (none : run ≡ []). a ∙ nothing_left rest left (sym d ∙ none) in
-    let behind_blanks : rest ≡ run ++ after = sym (take-append-drop (prefix_len is_dark rest) rest) ∙ (ap (λ t. t ++ drop (prefix_len is_dark rest) rest) (sym d) ∙ ap (λ t. run ++ t) (sym a)) in
+    let behind_blanks : rest ≡ run ++ after = sym (take-append-drop (prefix_len is_nonblank rest) rest) ∙ (ap (λ t. t ++ drop (prefix_len is_nonblank rest) rest) (sym d) ∙ ap (λ t. run ++ t) (sym a)) in
     let whole : text ≡ blanks ++ (run ++ after) = sym (take-append-drop (prefix_len is_blank text) text) ∙ (ap (λ t. t ++ drop (prefix_len is_blank text) text) (sym b) ∙ ap (λ t. blanks ++ t) (sym r ∙ behind_blanks)) in
-    ap (λ t. given_from behind (runs_of t)) whole ∙ given_front behind blanks run after blank dark ends last
+    ap (λ t. given_from behind (runs_of t)) whole ∙ given_front behind blanks run after blank nonblank ends last
 
 -- one front more was read
-pub read_front : (value text with_blanks with_run rest blanks behind run after kept shown : List ℕ) (behind_word before now : Bool) (word : Option (List ℕ))
-    → text ++ given_from behind_word (runs_of rest) ≡ value
+pub read_front : (value text with_blanks with_run rest blanks behind run after kept shown : List ℕ) (after_word before now : Bool) (word : Option (List ℕ))
+    → text ++ given_from after_word (runs_of rest) ≡ value
     → blanks ≡ take (prefix_len is_blank rest) rest → behind ≡ drop (prefix_len is_blank rest) rest
-    → run ≡ take (prefix_len is_dark behind) behind → after ≡ drop (prefix_len is_dark behind) behind
+    → run ≡ take (prefix_len is_nonblank behind) behind → after ≡ drop (prefix_len is_nonblank behind) behind
     → word ≡ word_of run → before ≡ is_some word → now ≡ is_some word
-    → kept ≡ cond (behind_word && before) [] blanks → shown ≡ unwrap_or word run → with_blanks ≡ text ++ kept → with_run ≡ with_blanks ++ shown
+    → kept ≡ cond (after_word && before) [] blanks → shown ≡ unwrap_or word run → with_blanks ≡ text ++ kept → with_run ≡ with_blanks ++ shown
     → with_run ++ given_from now (runs_of after) ≡ value
-read_front value text with_blanks with_run rest blanks behind run after kept shown behind_word before now word so_far b r d a w f n k s first second =
-    let step = given_step behind_word rest blanks behind run after b r d a in
+read_front value text with_blanks with_run rest blanks behind run after kept shown after_word before now word so_far b r d a w f n k s first second =
+    let step = given_step after_word rest blanks behind run after b r d a in
     let more = given_from (is_word run) (runs_of after) in
     let known : is_some word ≡ is_word run = ap is_some w in
-    let keeps : kept ≡ cond (behind_word && is_word run) [] blanks = k ∙ ap (λ t. cond (behind_word && t) [] blanks) (f ∙ known) in
+    let keeps : kept ≡ cond (after_word && is_word run) [] blanks = k ∙ ap (λ t. cond (after_word && t) [] blanks) (f ∙ known) in
     let shows : shown ≡ unwrap_or (word_of run) run = s ∙ ap (λ t. unwrap_or t run) w in
     ap (λ t. with_run ++ given_from t (runs_of after)) (n ∙ known)
     ∙ (ap (λ t. t ++ more) (second ∙ ap (λ t. t ++ shown) first)
     ∙ (append_assoc (text ++ kept) shown more
     ∙ (append_assoc text kept (shown ++ more)
     ∙ (ap (λ t. text ++ (t ++ (shown ++ more))) keeps
-    ∙ (ap (λ t. text ++ (cond (behind_word && is_word run) [] blanks ++ (t ++ more))) shows
+    ∙ (ap (λ t. text ++ (cond (after_word && is_word run) [] blanks ++ (t ++ more))) shows
     ∙ (ap (λ t. text ++ t) (sym step) ∙ so_far))))))
 
 -- a mapped value is there where the value is
@@ -179,21 +179,21 @@ pub filled : (text : List ℕ) (test : Bool) → test ≡ (length text == 0) →
 filled [] test is fails = absurd (true≢false (sym is ∙ fails))
 filled (octet ∷ rest) test is fails = omega arith
 
-shorter_drop : (text : List ℕ) → 0 < length text → length (drop (prefix_len is_dark (drop (prefix_len is_blank text) text)) (drop (prefix_len is_blank text) text)) < length text
+shorter_drop : (text : List ℕ) → 0 < length text → length (drop (prefix_len is_nonblank (drop (prefix_len is_blank text) text)) (drop (prefix_len is_blank text) text)) < length text
 shorter_drop [] present = absurd (omega arith)
 shorter_drop (octet ∷ rest) present = way (is_blank octet) (prefix_len is_blank rest) refl where
   way : (test : Bool) (n : ℕ) → is_blank octet ≡ test
-      → length (drop (prefix_len is_dark (drop (cond test (1 + n) 0) (octet ∷ rest))) (drop (cond test (1 + n) 0) (octet ∷ rest))) < length (octet ∷ rest)
+      → length (drop (prefix_len is_nonblank (drop (cond test (1 + n) 0) (octet ∷ rest))) (drop (cond test (1 + n) 0) (octet ∷ rest))) < length (octet ∷ rest)
   way true n is =
       let behind = drop n rest in
       let a = length-drop n rest in
-      let b = length-drop (prefix_len is_dark behind) behind in
+      let b = length-drop (prefix_len is_nonblank behind) behind in
       rw one-add (omega (arith, a, b))
   way false n is =
-      let dark : is_dark octet ≡ true = ap not is in
-      let a = length-drop (prefix_len is_dark rest) rest in
-      rw (dark, one-add) (omega (arith, a))
+      let nonblank : is_nonblank octet ≡ true = ap not is in
+      let a = length-drop (prefix_len is_nonblank rest) rest in
+      rw (nonblank, one-add) (omega (arith, a))
 
 -- what follows a front is shorter
-pub shorter : (text behind after : List ℕ) → behind ≡ drop (prefix_len is_blank text) text → after ≡ drop (prefix_len is_dark behind) behind → 0 < length text → length after < length text
+pub shorter : (text behind after : List ℕ) → behind ≡ drop (prefix_len is_blank text) text → after ≡ drop (prefix_len is_nonblank behind) behind → 0 < length text → length after < length text
 shorter text behind after b a present = rw (a, b) (shorter_drop text present)

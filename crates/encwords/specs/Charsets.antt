@@ -1,5 +1,5 @@
 -- Character sets: their names, and what octets in them are as UTF-8.
-use Rattle.std.specs.Prelude.{◌≡◌, ℕ, ◌==◌, nat_le, nat_lt, Bool, true, false, cond, ◌&&◌, Option, None, Some, List, [], ◌∷◌, take, drop, codes, encode_utf8_all}
+use Rattle.std.specs.Prelude.{ℕ, ◌==◌, nat_le, nat_lt, Bool, cond, ◌&&◌, Option, None, Some, List, [], ◌∷◌, take, drop, codes, encode_utf8_all}
 use Rattle.std.specs.List.{list_all}
 use Rattle.std.specs.Str.{is_utf8, str_eq_ignore_ascii_case}
 use Rattle.encwords.specs.declared.charset.Charset.{Charset}

@@ -31,7 +31,7 @@ pub record CutsPiece (text piece rest : List ℕ) : Type 0 where
   pub present : piece ≢ []
   pub length_is : IsPieceLength text (length piece)
 
--- the longest prefixes of at most 45 octets that end at a character, of the text and of what is left behind each
+-- the longest prefixes of at most 45 octets that end at a character, of the text and of what is left after each
 abbrev pub ArePieces : List (List ℕ) → List ℕ → Type 0
 ArePieces [] text = text ≡ []
 ArePieces (piece ∷ more) text =

@@ -1,7 +1,7 @@
 -- The Q encoding (RFC 2047, section 4.2).
-use Rattle.std.specs.Prelude.{◌≡◌, ◌≢◌, ℕ, ◌+◌, ◌*◌, ◌-◌, ◌<◌, ◌==◌, nat_le, Bool, true, false, cond, ◌&&◌, Option, None, Some, List, [], ◌∷◌, ◌++◌, option_map, option_and_then}
+use Rattle.std.specs.Prelude.{◌≡◌, ℕ, ◌+◌, ◌*◌, ◌-◌, ◌<◌, ◌==◌, nat_le, cond, ◌&&◌, Option, None, Some, List, [], ◌∷◌, ◌++◌, option_map, option_and_then}
 use Rattle.encwords.specs.declared.quoted.Mode.{Mode}
-use Rattle.encwords.specs.declared.quoted.Mode.TheVariants.{InText, BehindMark, BehindDigit}
+use Rattle.encwords.specs.declared.quoted.Mode.TheVariants.{InText, AfterMark, AfterDigit}
 
 -- the value of a hexadecimal digit, of either case
 abbrev pub digit_of : ℕ → Option ℕ
@@ -54,20 +54,20 @@ pub record IsQuoted (text octets : List ℕ) : Type 0 where
 abbrev pub with_octet : ℕ → Option (List ℕ) → Option (List ℕ)
 with_octet octet more = option_map (λ octets. octet ∷ octets) more
 
--- the octets of a text in Q from here on: in the text, behind `=`, or behind its first digit
+-- the octets of a text in Q from here on: in the text, after `=`, or after its first digit
 abbrev pub quoted_from : Mode → List ℕ → Option (List ℕ)
 quoted_from InText [] = Some []
-quoted_from BehindMark [] = None
-quoted_from (BehindDigit high) [] = None
-quoted_from InText (octet ∷ rest) = cond (octet == 61) (quoted_from BehindMark rest) (with_octet (cond (octet == 95) 32 octet) (quoted_from InText rest))
-quoted_from BehindMark (octet ∷ rest) = option_and_then (λ high. quoted_from (BehindDigit high) rest) (digit_of octet)
-quoted_from (BehindDigit high) (octet ∷ rest) = option_and_then (λ low. with_octet (high * 16 + low) (quoted_from InText rest)) (digit_of octet)
+quoted_from AfterMark [] = None
+quoted_from (AfterDigit high) [] = None
+quoted_from InText (octet ∷ rest) = cond (octet == 61) (quoted_from AfterMark rest) (with_octet (cond (octet == 95) 32 octet) (quoted_from InText rest))
+quoted_from AfterMark (octet ∷ rest) = option_and_then (λ high. quoted_from (AfterDigit high) rest) (digit_of octet)
+quoted_from (AfterDigit high) (octet ∷ rest) = option_and_then (λ low. with_octet (high * 16 + low) (quoted_from InText rest)) (digit_of octet)
 
--- the digit behind `=` is one of sixteen
+-- the digit after `=` is one of sixteen
 abbrev pub IsMode : Mode → Type 0
 IsMode InText = Unit {0}
-IsMode BehindMark = Unit {0}
-IsMode (BehindDigit high) = high < 16
+IsMode AfterMark = Unit {0}
+IsMode (AfterDigit high) = high < 16
 
 -- an octet that was read before those to come, or none
 abbrev pub with_read : Option ℕ → Option (List ℕ) → Option (List ℕ)
@@ -75,9 +75,9 @@ with_read None more = more
 with_read (Some octet) more = with_octet octet more
 
 -- the octets of what follows one step, where it was made
-abbrev pub behind_step : Option (Mode × Option ℕ) → List ℕ → Option (List ℕ)
-behind_step None rest = None
-behind_step (Some step) rest = with_read step.1 (quoted_from step.0 rest)
+abbrev pub after_step : Option (Mode × Option ℕ) → List ℕ → Option (List ℕ)
+after_step None rest = None
+after_step (Some step) rest = with_read step.1 (quoted_from step.0 rest)
 
 -- the octets of a text in Q: the one list that is in IsQuoted with it
 abbrev pub quoted_of : List ℕ → Option (List ℕ)

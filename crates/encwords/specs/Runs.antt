@@ -5,19 +5,19 @@ use Rattle.octets.specs.Ascii.{is_blank}
 use Rattle.mailhead.specs.Lines.{begins_blank}
 
 -- neither SP nor TAB
-abbrev pub is_dark : ℕ → Bool
-is_dark octet = not (is_blank octet)
+abbrev pub is_nonblank : ℕ → Bool
+is_nonblank octet = not (is_blank octet)
 
 -- whether a text begins with an octet other than a blank
-abbrev pub begins_dark : List ℕ → Bool
-begins_dark [] = false
-begins_dark (octet ∷ rest) = is_dark octet
+abbrev pub begins_nonblank : List ℕ → Bool
+begins_nonblank [] = false
+begins_nonblank (octet ∷ rest) = is_nonblank octet
 
--- octets of one kind, with none of that kind behind them
+-- octets of one kind, with none of that kind after them
 abbrev pub IsRun : List ℕ → List ℕ → Type 0
 IsRun run rest =
     ((list_all is_blank run ≡ true) × (begins_blank rest ≡ false))
-    ⊎ ((list_all is_dark run ≡ true) × (begins_dark rest ≡ false))
+    ⊎ ((list_all is_nonblank run ≡ true) × (begins_nonblank rest ≡ false))
 
 -- the blank runs and other runs whose concatenation it is
 abbrev pub AreRuns : List (List ℕ) → List ℕ → Type 0
@@ -28,7 +28,7 @@ AreRuns (run ∷ more) text = (rest : List ℕ) × ((text ≡ run ++ rest) × ((
 abbrev pub before_runs : ℕ → List (List ℕ) → List (List ℕ)
 before_runs octet [] = (octet ∷ []) ∷ []
 before_runs octet (run ∷ more) =
-    cond (cond (is_blank octet) (begins_blank run) (begins_dark run)) ((octet ∷ run) ∷ more) ((octet ∷ []) ∷ run ∷ more)
+    cond (cond (is_blank octet) (begins_blank run) (begins_nonblank run)) ((octet ∷ run) ∷ more) ((octet ∷ []) ∷ run ∷ more)
 
 -- the runs of a text: the one list that is in AreRuns with it
 abbrev pub runs_of : List ℕ → List (List ℕ)

@@ -1,5 +1,5 @@
 -- Encoded words (RFC 2047, section 2).
-use Rattle.std.specs.Prelude.{ℕ, ◌==◌, nat_le, Bool, cond, not, ◌&&◌, Option, None, Some, List, [], ◌∷◌, length, codes, bytes_eq, option_and_then, is_some}
+use Rattle.std.specs.Prelude.{◌≡◌, ℕ, ◌==◌, nat_le, Bool, true, cond, not, ◌&&◌, Option, None, Some, List, [], ◌∷◌, ◌++◌, length, codes, bytes_eq, option_and_then, is_some}
 use Rattle.std.specs.List.{list_all}
 use Rattle.std.specs.Str.{str_eq_ignore_ascii_case}
 use Rattle.base64.specs.Engines.{standard}
@@ -8,7 +8,18 @@ use Rattle.mailhead.specs.Lines.{at_front}
 use Rattle.encwords.specs.Charsets.{charset_of, converted}
 use Rattle.encwords.specs.Quoted.{quoted_of}
 
--- the texts before, between and behind the question marks of a text
+-- any octet but a question mark
+abbrev pub is_unmarked : ℕ → Bool
+is_unmarked octet = not (octet == 63)
+
+-- `=?`, a charset, `?`, an encoding, `?`, a text and `?=`, without other question marks
+pub record IsWord (run charset encoding text : List ℕ) : Type 0 where
+  pub spelled : run ≡ codes "=?" ++ (charset ++ 63 ∷ (encoding ++ 63 ∷ (text ++ codes "?=")))
+  pub charset_unmarked : list_all is_unmarked charset ≡ true
+  pub encoding_unmarked : list_all is_unmarked encoding ≡ true
+  pub text_unmarked : list_all is_unmarked text ≡ true
+
+-- the texts before, between and after the question marks of a text
 abbrev pub parts_of : List ℕ → List (List ℕ)
 parts_of [] = [] ∷ []
 parts_of (octet ∷ rest) = cond (octet == 63) ([] ∷ parts_of rest) (at_front octet (parts_of rest))
@@ -39,7 +50,15 @@ meaning_in (front ∷ charset ∷ encoding ∷ text ∷ back ∷ []) =
     cond (bytes_eq front (codes "=") && bytes_eq back (codes "=")) (meaning_of charset encoding text) None
 meaning_in _ = None
 
--- the text of a run that is a recognised word
+-- a run that is a recognised word, and what it says
+pub record SaysWord (run said : List ℕ) : Type 0 where
+  pub charset : List ℕ
+  pub encoding : List ℕ
+  pub text : List ℕ
+  pub form : IsWord run charset encoding text
+  pub meaning : meaning_of charset encoding text ≡ Some said
+
+-- the text of a run that is a recognised word: the one that is in SaysWord with it
 abbrev pub word_of : List ℕ → Option (List ℕ)
 word_of run = meaning_in (parts_of run)
 

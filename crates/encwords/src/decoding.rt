@@ -2,7 +2,7 @@
 ghost use Rattle.std.specs.Prelude.{◌≡◌, ◌&&◌, [], if◌then◌else◌, IfOk, option_map, unwrap_or};
 ghost use Rattle.encwords.specs.Values.{text_of};
 
-use crate::run::{blank_run, dark_run};
+use crate::run::{blank_run, nonblank_run};
 use crate::word::word_text;
 use std::alloc::{AllocError, Global};
 
@@ -15,24 +15,24 @@ pub fn decoded(alloc: Global, value: &[u8]) -> Result<Vec<u8>, AllocError>
 {
     let mut text = Vec::with_capacity(alloc, value.len())?;
     let mut rest = value;
-    let mut behind_word = false;
+    let mut after_word = false;
     while !rest.is_empty() {
         let (blanks, behind) = blank_run(rest);
-        let (run, after) = dark_run(behind);
+        let (run, after) = nonblank_run(behind);
         let word = word_text(alloc, run)?;
-        text.extend_from_slice(kept_blanks(behind_word, word.is_some(), blanks))?;
+        text.extend_from_slice(kept_blanks(after_word, word.is_some(), blanks))?;
         text.extend_from_slice(shown(&word, run))?;
-        behind_word = word.is_some();
+        after_word = word.is_some();
         rest = after;
     }
     Ok(text)
 }
 
 /// The blanks of a run, but nothing between two recognised words.
-fn kept_blanks(behind_word: bool, before_word: bool, blanks: &[u8]) -> &[u8]
-    ensures { result.now ≡ (if behind_word && before_word then [] else blanks.now) }
+fn kept_blanks(after_word: bool, before_word: bool, blanks: &[u8]) -> &[u8]
+    ensures { result.now ≡ (if after_word && before_word then [] else blanks.now) }
 {
-    if behind_word && before_word {
+    if after_word && before_word {
         blanks.split_at(0).0
     } else {
         blanks

@@ -66,7 +66,7 @@ fn next_piece(text: &str) -> (&str, &str)
     text.split_at(text.floor_char_boundary(WORD_LEN))
 }
 
-/// Appends a word, on a line of its own behind other words.
+/// Appends a word, on a line of its own after other words.
 fn push_word(value: &mut String, piece: &str) -> Result<(), AllocError>
     ensures { OnOk result (string_bytes value.new
         ≡ string_bytes value.old ++ (between (string_bytes value.old) ++ word_for piece.now)) }

@@ -5,12 +5,25 @@ ghost use Rattle.base64.specs.GeneralPurpose.{IsBytes};
 ghost use Rattle.encwords.specs.Headers.{ArePieces, IsHeaderText};
 ghost use Rattle.encwords.specs.Quoted.{IsQuoted, quoted_of};
 ghost use Rattle.encwords.specs.Runs.{AreRuns, runs_of};
+ghost use Rattle.encwords.specs.Words.{IsWord, SaysWord, word_of};
+ghost use Rattle.encwords.specs.Values.{IsTextOf, text_of};
 ghost use Rattle.encwords.specs.Laws.{HasStandardAlphabet, IsReadBack};
 
 /// A value has one list of runs.
 pub fn runs_of_a_value()
     ensures found { (text : List ℕ) → AreRuns (runs_of text) text }
     ensures only { (text : List ℕ) (runs : List (List ℕ)) → AreRuns runs text → runs ≡ runs_of text }
+{}
+
+/// A run is a recognised word exactly where it has a word's form, and says what its parts stand for.
+pub fn form_of_a_word()
+    ensures form { (run said : List ℕ) → (word_of run ≡ Some said) ↔ SaysWord run said }
+    ensures only { (run a b c d e f : List ℕ) → IsWord run a b c → IsWord run d e f → (a ≡ d) × ((b ≡ e) × (c ≡ f)) }
+{}
+
+/// A value has one text: what its runs give, each by the runs before it and after it.
+pub fn text_of_a_value()
+    ensures { (value text : List ℕ) → (text ≡ text_of value) ↔ IsTextOf value text }
 {}
 
 /// A text in Q stands for the octets of its pieces, and for nothing where it has no pieces.

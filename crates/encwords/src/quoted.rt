@@ -8,10 +8,10 @@ use std::alloc::{AllocError, Global};
 #[derive(Clone, Copy)]
 pub enum Mode {
     InText,
-    /// Behind `=`.
-    BehindMark,
-    /// Behind `=` and its first digit, with that digit's value.
-    BehindDigit(u8),
+    /// After `=`.
+    AfterMark,
+    /// After `=` and its first digit, with that digit's value.
+    AfterDigit(u8),
 }
 
 /// The octets of a text in Q, if it is one.
@@ -31,27 +31,27 @@ pub(crate) fn from_quoted(alloc: Global, text: &[u8]) -> Result<Option<Vec<u8>>,
     }
     match mode {
         Mode::InText => Ok(Some(octets)),
-        Mode::BehindMark => Ok(None),
-        Mode::BehindDigit(_) => Ok(None),
+        Mode::AfterMark => Ok(None),
+        Mode::AfterDigit(_) => Ok(None),
     }
 }
 
-/// Where a reader stands behind one octet more, and the octet that it has read by then, if any.
+/// Where a reader stands after one octet more, and the octet that it has read by then, if any.
 fn step(mode: Mode, octet: u8) -> Option<(Mode, Option<u8>)>
     requires { quoted.IsMode mode }
-    ensures reads { (rest : List ℕ) → quoted.quoted_from mode (octet ∷ rest) ≡ quoted.behind_step result rest }
+    ensures reads { (rest : List ℕ) → quoted.quoted_from mode (octet ∷ rest) ≡ quoted.after_step result rest }
     ensures kept { IfSome result (λ p. quoted.IsMode p.0) }
 {
     match mode {
         Mode::InText => Some(if octet == b'=' {
-            (Mode::BehindMark, None)
+            (Mode::AfterMark, None)
         } else if octet == b'_' {
             (Mode::InText, Some(b' '))
         } else {
             (Mode::InText, Some(octet))
         }),
-        Mode::BehindMark => Some((Mode::BehindDigit(digit(octet)?), None)),
-        Mode::BehindDigit(high) => Some((Mode::InText, Some(high * 16 + digit(octet)?))),
+        Mode::AfterMark => Some((Mode::AfterDigit(digit(octet)?), None)),
+        Mode::AfterDigit(high) => Some((Mode::InText, Some(high * 16 + digit(octet)?))),
     }
 }
 

@@ -15,11 +15,11 @@ pub(crate) fn blank_run(text: &[u8]) -> (&[u8], &[u8])
 }
 
 /// The octets other than blanks at the front of a text, and what follows.
-pub(crate) fn dark_run(text: &[u8]) -> (&[u8], &[u8])
-    ensures front { result.0.now ≡ take (prefix_len runs.is_dark text.now) text.now }
-    ensures back { result.1.now ≡ drop (prefix_len runs.is_dark text.now) text.now }
+pub(crate) fn nonblank_run(text: &[u8]) -> (&[u8], &[u8])
+    ensures front { result.0.now ≡ take (prefix_len runs.is_nonblank text.now) text.now }
+    ensures back { result.1.now ≡ drop (prefix_len runs.is_nonblank text.now) text.now }
 {
-    text.split_at(dark_len(text))
+    text.split_at(nonblank_len(text))
 }
 
 fn blank_len(text: &[u8]) -> usize
@@ -29,8 +29,8 @@ fn blank_len(text: &[u8]) -> usize
     text.iter().take_while(|octet| is_blank(**octet)).count()
 }
 
-fn dark_len(text: &[u8]) -> usize
-    ensures value { result ≡ prefix_len runs.is_dark text.now }
+fn nonblank_len(text: &[u8]) -> usize
+    ensures value { result ≡ prefix_len runs.is_nonblank text.now }
     ensures within { result ≤ length text.now }
 {
     text.iter().take_while(|octet| !is_blank(**octet)).count()

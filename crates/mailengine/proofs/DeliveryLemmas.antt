@@ -1,56 +1,137 @@
--- A delivery: the read of the active script, and then the write.
-use Rattle.std.proofs.Common.{◌≡◌, ◌⊎◌, ℕ, List, Option, Some, None, Ok, Result, OnOk, IfErr, refl, sym, ◌∙◌, ap, subst, inl}
-use Rattle.std.specs.Borrow.{Bor}
-use Rattle.std.specs.Option.{option_copied}
-use Rattle.std.specs.FinMap.{get}
-use Rattle.sqlite.specs.State.{State, HasCleanDisk, Survives}
+-- A delivery: the limits, the reads, and then the write.
+use Rattle.std.proofs.Common.{◌≡◌, ◌≤◌, ◌⊎◌, ℕ, Bool, true, false, cond, not, nat_lt, length, List, Option, Some, None, Ok, Err, Result, OnOk, IfOk, IfErr, IsSome, IsTrue, refl, sym, ap, ◌∙◌, subst, inl, inr, arith}
+use Rattle.std.specs.FinMap.{get, insert}
+use Rattle.std.proofs.lemmas.Bool.{ltb-false}
+use Rattle.sqlite.specs.State.{State, HasCleanDisk}
+use Rattle.sieveexec.specs.declared.envelope.Envelope.{Envelope}
+use Rattle.sieveexec.specs.Mails.{MailSpec, mail_of}
+use Rattle.deliverplan.specs.Delivered.{Delivers}
+use Rattle.deliverplan.specs.declared.view.View.{View}
+use Rattle.deliverplan.specs.Views.{IsViewOf}
 use Rattle.mailstore.specs.declared.refusal.Refusal.{Refusal}
-use Rattle.mailstore.specs.declared.refusal.Refusal.TheVariants.{NoUser}
+use Rattle.mailstore.specs.declared.refusal.Refusal.TheVariants.{NoUser, TooLarge, BadEnvelope, BadMoment}
+use Rattle.mailstore.specs.declared.report.Plan.{Plan}
 use Rattle.mailstore.specs.declared.report.Report.{Report}
-use Rattle.mailstore.specs.Connection.{StaysSame}
-use Rattle.mailstore.specs.Cells.{contents}
-use Rattle.mailstore.specs.Account.{Account, Accounts, with_user, files_copies}
+use Rattle.mailstore.specs.Account.{Account, Accounts, in_place, with_user, delivers}
+use Rattle.mailstore.specs.Promises.{HasUser, IsFree, OfUser, WritesAccount}
 use Rattle.mailstore.specs.Refusals.{IsPassing}
 use Rattle.mailstore.specs.Shows.{Presents}
-use Rattle.mailstore.specs.Promises.{HasUser, IsFree, OfUser, Turns, MayShow, Keeps}
-use Rattle.sieveexec.specs.declared.envelope.Envelope.{Envelope}
-use Rattle.mailengine.specs.declared.event.Event.TheVariants.{Deliver}
-use Rattle.mailengine.specs.declared.answer.Answer.TheVariants.{Delivered}
-use Rattle.mailengine.specs.Limits.{cause_of}
-use Rattle.mailengine.specs.Delivered.{Files, active_text, delivered}
-use Rattle.mailengine.specs.World.{World, Next, SaysDelivery}
-use Rattle.mailengine.specs.Stands.{Stands, IsEvent, MayLeave, delivery_told}
-use Rattle.mailengine.proofs.StandLemmas.{delivery_refused, own_refusal}
-use Rattle.mailengine.proofs.StepLemmas.{turned, Steps, steps_user, event_made, stands_undone, step_crash}
+use Rattle.sessions.specs.Acts.{HasAccounts, Acts}
+use Rattle.sessions.proofs.ActLemmas.{no_glance, glanced, acts_read, acts_made, acts_undone}
+use Rattle.mailengine.specs.declared.answer.Answer.{Answer}
+use Rattle.mailengine.specs.declared.answer.Answer.TheVariants.{Delivered, Refused}
+use Rattle.mailengine.specs.declared.delivery.Lookup.{Lookup}
+use Rattle.mailengine.specs.AccountEvents.{Refuses, DeliversUser, DeliversIn, DeliversUnder, Delivery}
+use Rattle.mailengine.specs.Hosts.{TurnsBy, MayTurnBy, MayRefuseDelivery, RefusesDelivery, ActsDelivery}
+use Rattle.mailengine.specs.Limits.{limit_refusal, message_limit, is_envelope, moment_limit}
+use Rattle.mailengine.specs.Lookups.{LooksUp, IsLookup}
 
-pub delivered_next : (w : World) (user : List ℕ) (envelope : Envelope) (message : List ℕ) (moment : ℕ) (report : Report) (a : Account) → cause_of envelope message moment ≡ None → get w.accounts user ≡ Some a
-    → Files (active_text a) envelope message report.filed → Next w (Deliver user envelope message moment) (Delivered report) (record { accounts = with_user w.accounts user (delivered message report) })
-delivered_next w user envelope message moment report a is has files =
-    let answer = Delivered report in
-    (inl (subst (λ o. SaysDelivery o (get w.accounts user) moment envelope message answer) (sym is) (subst (λ o. SaysDelivery None o moment envelope message answer) (sym has) (report, refl, record { filed = files }))), refl)
+-- a moment that no limit stands against
+pub moment_within : (envelope : Envelope) (message : List ℕ) (moment : ℕ) → limit_refusal envelope message moment ≡ None → nat_lt moment_limit moment ≡ false
+moment_within envelope message moment none = go (nat_lt message_limit (length message)) (not (is_envelope envelope)) (nat_lt moment_limit moment) none
+  where
+    go : (large bad late : Bool) → cond large (Some TooLarge) (cond bad (Some BadEnvelope) (cond late (Some BadMoment) None)) ≡ None → late ≡ false
+    go true bad late is = absurd (let no = is in cc)
+    go false true late is = absurd (let no = is in cc)
+    go false false true is = absurd (let no = is in cc)
+    go false false false is = refl
 
-module _ (a b c : State) (r : Result (Option (List ℕ)) Refusal) (text : Option (List ℕ)) (is : r ≡ Ok text) (looks : Keeps a b r) (user : List ℕ) (envelope : Envelope) (message : List ℕ) (moment : ℕ)
-    (none : cause_of envelope message moment ≡ None) (found : HasCleanDisk b → (w : World) → Stands a w → OfUser w.accounts user (λ o. text ≡ active_text o)) (copies : List (List ℕ)) (whole : List ℕ) (report : Report)
-    (files : Files text envelope message report.filed) (all : copies ≡ report.filed) (same_message : whole ≡ message) (late : Survives b c (MayShow (HasUser user) (λ accounts. with_user accounts user (files_copies copies whole)) b)) where
-  steps : Steps (Deliver user envelope message moment) (Delivered report) (λ accounts. with_user accounts user (files_copies copies whole)) (HasUser user) (λ accounts. OfUser accounts user (λ o. text ≡ active_text o))
-  steps = steps_user (Deliver user envelope message moment) user (Delivered report) (files_copies copies whole) (λ o. text ≡ active_text o) (λ w o has own.
-      let same : delivered message report ≡ files_copies copies whole = sym (ap (λ l. files_copies l whole) all ∙ ap (files_copies report.filed) same_message) in
-      subst (λ f. Next w (Deliver user envelope message moment) (Delivered report) (turned (λ accounts. with_user accounts user f) w)) same
-      (delivered_next w user envelope message moment report o none has (subst (λ t. Files t envelope message report.filed) own files)))
+pub moment_fits : (envelope : Envelope) (message : List ℕ) (moment : ℕ) → limit_refusal envelope message moment ≡ None → moment ≤ 253402300799
+moment_fits envelope message moment none = ltb-false moment_limit moment (moment_within envelope message moment none)
 
-  pub event_delivered : (HasCleanDisk c → Turns (HasUser user) (λ accounts. with_user accounts user (files_copies copies whole)) b.now c.now) → IsEvent (Deliver user envelope message moment) (Delivered report) a c
-  event_delivered = event_made a b c r text is looks (Deliver user envelope message moment) (Delivered report) (λ accounts. with_user accounts user (files_copies copies whole)) (HasUser user) (λ accounts. OfUser accounts user (λ o. text ≡ active_text o)) found steps late
+-- the refusals of a write that asks for the account, behind the limits
+pub passing_refuses : {X : Type 0} (envelope : Envelope) (message : List ℕ) (moment : ℕ) (q : Result X Refusal) → limit_refusal envelope message moment ≡ None → IfErr q IsPassing → IfErr q (RefusesDelivery envelope message moment)
+passing_refuses envelope message moment (Ok x) none passing = tt
+passing_refuses envelope message moment (Err e) none passing = inr (none, inr passing)
 
-  pub event_undone : (q : Result Report Refusal) → OnOk q ⊥ → (HasCleanDisk c → (accounts : Accounts) → Presents b.now accounts → StaysSame b c)
-      → (HasCleanDisk c → (accounts : Accounts) → Presents b.now accounts → IfErr q (λ e. e ≡ NoUser → IsFree user accounts)) → IfErr q (λ e. (e ≡ NoUser) ⊎ IsPassing e) → IsEvent (Deliver user envelope message moment) (delivery_told q) a c
-  event_undone q undone same no_user named = delivery_refused a c user envelope message moment q undone none (λ clean w stands.
-      let m = stands_undone a b c r text is looks (Deliver user envelope message moment) (Delivered report) (λ accounts. with_user accounts user (files_copies copies whole)) (HasUser user) (λ accounts. OfUser accounts user (λ o. text ≡ active_text o)) found steps late same clean w stands in
-      (own_refusal q w.accounts user (no_user clean w.accounts m.0) named, m.1))
+-- what the plan says of the mail that was read, of the message under the envelope
+pub planned_at : (view : View) (text active : Option (List ℕ)) (mail : MailSpec) (envelope : Envelope) (message : List ℕ) (moment : ℕ) (plan : Plan) → mail ≡ mail_of message envelope → active ≡ text
+    → ((a : Account) → IsViewOf view mail.from a → Delivers view.address moment mail active a plan.report (delivers plan a))
+    → (a : Account) → IsViewOf view envelope.from a → Delivers view.address moment (mail_of message envelope) text a plan.report (delivers plan a)
+planned_at view text active mail envelope message moment plan read same planned =
+    subst (λ o. (a : Account) → IsViewOf view envelope.from a → Delivers view.address moment (mail_of message envelope) o a plan.report (delivers plan a)) same
+    (subst (λ (m : MailSpec). (a : Account) → IsViewOf view m.from a → Delivers view.address moment m active a plan.report (delivers plan a)) read planned)
 
-  pub delivery_crash : Survives a c (MayLeave (Deliver user envelope message moment) a)
-  delivery_crash = step_crash a b c r text is looks (Deliver user envelope message moment) (Delivered report) (λ accounts. with_user accounts user (files_copies copies whole)) (HasUser user) (λ accounts. OfUser accounts user (λ o. text ≡ active_text o)) found steps late
+module _ (user : List ℕ) (envelope : Envelope) (message : List ℕ) (moment : ℕ) where
+  abbrev Row : Accounts → Answer → Accounts → Type 0
+  Row accounts = Delivery accounts user envelope message moment
 
--- a text behind a reference is the text
-pub contents_is : (o : Option (Bor (List ℕ))) → contents o ≡ option_copied o
-contents_is None = refl
-contents_is (Some b) = refl
+  abbrev May : Refusal → Type 0
+  May = MayRefuseDelivery envelope message moment
+
+  -- a limit stands against it
+  pub delivery_limited : (a : State) (e : Refusal) → limit_refusal envelope message moment ≡ Some e → ActsDelivery user envelope message moment a a (Err e)
+  delivery_limited a e is = acts_read a a (TurnsBy Row May (Refused e)) (MayTurnBy Row) (Err e) (no_glance a)
+      (λ clean accounts shown. inl (subst (λ o. DeliversUnder o accounts user moment envelope message (Refused e) accounts) (sym is) (record { refused = refl; stays = refl })))
+
+  module _ (none : limit_refusal envelope message moment ≡ None) where
+    -- the event without visible cause
+    passing_turn : (e : Refusal) (accounts : Accounts) → IsPassing e → TurnsBy Row May (Refused e) accounts accounts
+    passing_turn e accounts passing = inr (e, (passing, none), refl, refl)
+
+    -- nothing was done for want of memory
+    pub delivery_lacks : (a : State) (q : Result Report Refusal) → OnOk q ⊥ → IfErr q IsPassing → ActsDelivery user envelope message moment a a q
+    delivery_lacks a (Ok report) undone passing = absurd undone
+    delivery_lacks a (Err e) undone passing = acts_read a a (TurnsBy Row May (Refused e)) (MayTurnBy Row) (Err e) (no_glance a) (λ clean accounts shown. passing_turn e accounts passing)
+
+    in_row : (accounts later : Accounts) (answer : Answer) → DeliversIn accounts user moment envelope message (get accounts user) answer later → Row accounts answer later
+    in_row accounts later answer is = subst (λ o. DeliversUnder o accounts user moment envelope message answer later) (sym none) is
+
+    -- the user has no account
+    absent_turn : (accounts : Accounts) → IsFree user accounts → TurnsBy Row May (Refused NoUser) accounts accounts
+    absent_turn accounts free =
+        inl (in_row accounts accounts (Refused NoUser) (subst (λ o. DeliversIn accounts user moment envelope message o (Refused NoUser) accounts) (sym free) (record { refused = refl; stays = refl })))
+
+    -- the account couldn't be read
+    pub delivery_unread : (a b : State) (e : Refusal) (q : Result Report Refusal) → q ≡ Err e → LooksUp user (IsLookup envelope.from) a b (Err e) → ActsDelivery user envelope message moment a b q
+    delivery_unread a b e q is look = subst (λ o. ActsDelivery user envelope message moment a b o) (sym is)
+        (acts_read a b (TurnsBy Row May (Refused e)) (MayTurnBy Row) (Err e) (glanced a b (Err e) look.reads.keeps) (λ clean accounts shown. turn clean accounts shown look.reads.named))
+      where
+        turn : HasCleanDisk b → (accounts : Accounts) → HasAccounts a accounts → (e ≡ NoUser) ⊎ IsPassing e → TurnsBy Row May (Refused e) accounts accounts
+        turn clean accounts shown (inl absent) =
+            subst (λ f. TurnsBy Row May (Refused f) accounts accounts) (sym absent) (absent_turn accounts (look.reads.absent clean accounts (shown (look.sure clean absent)) absent))
+        turn clean accounts shown (inr passing) = passing_turn e accounts passing
+
+    module _ (a b : State) (r : Result Lookup Refusal) (looked : Lookup) (was : r ≡ Ok looked) (look : LooksUp user (IsLookup envelope.from) a b r) where
+      -- no memory for the mail or the plan
+      pub delivery_failed : (q : Result Report Refusal) → OnOk q ⊥ → IfErr q IsPassing → ActsDelivery user envelope message moment a b q
+      delivery_failed (Ok report) undone passing = absurd undone
+      delivery_failed (Err e) undone passing =
+          acts_read a b (TurnsBy Row May (Refused e)) (MayTurnBy Row) (Err e) (glanced a b r look.reads.keeps) (λ clean accounts shown. passing_turn e accounts passing)
+
+      module _ (plan : Plan) (planned : (account : Account) → IsViewOf looked.view envelope.from account → Delivers looked.view.address moment (mail_of message envelope) looked.text account plan.report (delivers plan account))
+          (c : State) (w : Result (Unit {0}) Refusal) (late : WritesAccount user (delivers plan) b c w) where
+        -- what the plan does is the delivery
+        planned_row : (accounts : Accounts) → OfUser accounts user (IsLookup envelope.from looked) → Row accounts (Delivered plan.report) (with_user accounts user (delivers plan))
+        planned_row accounts own =
+            in_row accounts (with_user accounts user (delivers plan)) (Delivered plan.report)
+            (subst (λ o. DeliversIn accounts user moment envelope message o (Delivered plan.report) (in_place accounts user (delivers plan) o)) (sym own.1)
+            (record {
+              report = plan.report;
+              account = delivers plan own.0;
+              delivers = record {
+                own = looked.view.address;
+                address = own.2.view.address;
+                delivers = subst (λ text. Delivers looked.view.address moment (mail_of message envelope) text own.0 plan.report (delivers plan own.0)) own.2.text (planned own.0 own.2.view);
+              };
+              reported = refl;
+              changed = refl;
+            }))
+
+        found : HasCleanDisk b → (accounts : Accounts) → Presents a.now accounts → OfUser accounts user (IsLookup envelope.from looked)
+        found clean accounts p = subst (λ q. IfOk q (λ x. OfUser accounts user (IsLookup envelope.from x))) was (look.reads.found clean accounts p)
+
+        fits : HasCleanDisk b → (accounts : Accounts) → Presents a.now accounts → HasUser user accounts × Row accounts (Delivered plan.report) (with_user accounts user (delivers plan))
+        fits clean accounts p =
+            let own = found clean accounts p in
+            (subst IsSome (sym own.1) refl, planned_row accounts own)
+
+        pub delivery_made : (y : Unit {0}) → w ≡ Ok y → ActsDelivery user envelope message moment a c (Ok plan.report)
+        delivery_made y is =
+            acts_made a b c r looked was look.reads.keeps (HasUser user) (λ all. with_user all user (delivers plan)) w late.made late.settled late.same late.crash (TurnsBy Row May (Delivered plan.report)) (MayTurnBy Row) y plan.report is
+            (λ clean accounts p. let f = fits clean accounts p in (f.0, inl f.1, (Delivered plan.report, f.1)))
+
+        pub delivery_undone : (e : Refusal) (q : Result Report Refusal) → w ≡ Err e → q ≡ Err e → IsPassing e → ActsDelivery user envelope message moment a c q
+        delivery_undone e q is same passing = subst (λ o. ActsDelivery user envelope message moment a c o) (sym same)
+            (acts_undone a b c r looked was look.reads.keeps (HasUser user) (λ all. with_user all user (delivers plan)) w late.made late.settled late.same late.crash (TurnsBy Row May (Refused e)) (MayTurnBy Row) e (Err e) is
+            (λ told. told passing) (λ accounts. passing_turn e accounts passing) (λ clean accounts p. let f = fits clean accounts p in (f.0, (Delivered plan.report, f.1))))

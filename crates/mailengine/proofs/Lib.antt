@@ -1,10 +1,12 @@
-pub mod CommandLemmas
+pub mod ActLaws
+mod AloneExamples
+pub mod AloneLemmas
 pub mod DeliveryLemmas
-mod Examples
+pub mod HostLemmas
+pub mod KeptLemmas
+pub mod LookupLemmas
 pub mod RunLemmas
 pub mod SoundLemmas
-pub mod StandLemmas
-pub mod StepLemmas
+pub mod SpacingLemmas
+pub mod TakingLemmas
 pub mod UserLemmas
-pub mod ViewLemmas
-pub mod WholeLemmas

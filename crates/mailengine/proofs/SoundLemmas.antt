@@ -1,30 +1,38 @@
 -- Sound accounts stay sound, whatever happens to them.
-use Rattle.std.proofs.Common.{◌≡◌, ◌≢◌, ◌⊎◌, ℕ, ◌+◌, ◌<◌, ◌≤◌, Bool, true, false, cond, List, [], ◌∷◌, ◌++◌, Option, Some, None, IsSome, IfSome, refl, sym, ◌∙◌, ap, subst, inl, inr, arith}
+use Rattle.std.proofs.Common.{◌≡◌, ◌≢◌, ◌⊎◌, ℕ, ◌+◌, ◌-◌, ◌<◌, ◌≤◌, Bool, true, false, cond, List, [], ◌∷◌, ◌++◌, Option, Some, None, IsSome, IfSome, option_map, refl, sym, ◌∙◌, ap, subst, inl, inr, arith, true≢false}
 use Rattle.std.specs.declared.cmp.Ordering.{Ordering}
 use Rattle.std.specs.declared.cmp.Ordering.TheVariants.{Less, Equal, Greater}
 use Rattle.std.specs.Ordering.{is_eq}
-use Rattle.std.specs.FinMap.{FinMap, get, insert, len, contains_key, get-empty, get-insert, len-empty, len-insert}
+use Rattle.std.specs.FinMap.{FinMap, get, insert, remove, len, contains_key, get-empty, get-insert, get-remove, len-empty, len-insert, len-remove}
 use Rattle.std.proofs.lemmas.Cmp.{nat_list_cmp_total}
-use Rattle.sqlite.specs.State.{State}
+use Rattle.sqlite_typed.proofs.TestLemmas.{bytes_eq_refl, same_bytes}
+use Rattle.addrparts.specs.declared.address.Addr.{Addr}
+use Rattle.addrparts.specs.Spelling.{spelling}
+use Rattle.sievesyntax.specs.RunState.{inbox}
+use Rattle.sieveexec.specs.Mails.{MailSpec, mail_of}
 use Rattle.msproto.specs.declared.commands.Command.{Command}
-use Rattle.msproto.specs.declared.commands.Command.TheVariants.{PutScript, SetActive}
+use Rattle.msproto.specs.declared.commands.Command.TheVariants.{Capability, Noop, Logout, Authenticate, Unauthenticate, HaveSpace, PutScript, CheckScript, ListScripts, SetActive, GetScript, DeleteScript, RenameScript}
+use Rattle.msproto.specs.declared.commands.Command.TheVariants as verb
 use Rattle.msproto.specs.declared.replies.Reply.{Reply}
-use Rattle.msproto.specs.declared.replies.Code.{Code}
-use Rattle.msproto.specs.Replies.{spelled}
-use Rattle.mailstore.specs.Account.{bytes_cmp, Account, Accounts, Folders, keeps_script, activates, messages_in, filed, filed_in, files_copies, in_place, with_user}
-use Rattle.mailstore.proofs.AccountLemmas.{bytes_antisymmetric}
+use Rattle.mailstore.specs.Account.{bytes_cmp, Account, Accounts, Folders, keeps_script, activates, deletes_script, renames_script, moved, other_name, messages_in, filed, filed_in, files_copies, queues}
+use Rattle.mailstore.specs.declared.queue.Kind.TheVariants as kind
+use Rattle.mailstore.specs.declared.queue.Outgoing.{Outgoing}
+use Rattle.mailstore.specs.declared.report.Report.{Report}
 use Rattle.mailstore.specs.declared.refusal.Refusal.{Refusal}
+use Rattle.mailstore.proofs.AccountLemmas.{bytes_antisymmetric}
+use Rattle.sessions.specs.Limits.{scripts_limit, IsScriptName}
+use Rattle.sessions.specs.Replies.{is_ok}
+use Rattle.sessions.specs.Scripts.{HasRoom, RepliesToPut, RepliesToSet, RepliesToDelete, RepliesToRename, RepliesTo, chosen, carried_out, obeyed}
+use Rattle.deliverplan.specs.Delivered.{Disposition, Acts, Tells, Response, Silent, Quiet, Sent, acts, redirects, responds, DeliversAs}
 use Rattle.mailengine.specs.declared.event.Event.{Event}
-use Rattle.mailengine.specs.declared.event.Event.TheVariants.{Deliver, AddUser, Whole}
 use Rattle.mailengine.specs.declared.answer.Answer.{Answer}
-use Rattle.mailengine.specs.declared.answer.Answer.TheVariants.{Out, Delivered, Added, Refused}
-use Rattle.mailengine.specs.Limits.{scripts_limit, IsNewUser}
-use Rattle.mailengine.specs.Delivered.{delivered}
-use Rattle.mailengine.specs.Obeyed.{declined, is_ok, HasRoom, RepliesToPut, RepliesToSet, RepliesTo, chosen, obeyed, whole_of}
-use Rattle.mailengine.specs.World.{World, Says, SaysCommand, IsRefused, added, after, Next, Runs}
-use Rattle.mailengine.specs.Stands.{IsRun}
-use Rattle.mailengine.specs.Sound.{IsSoundScript, IsSound, AreSound, KeepsSound}
-use Rattle.mailstore.proofs.OneLemmas.{accounts_one}
+use Rattle.mailengine.specs.Limits.{limit_refusal, IsNewUser}
+use Rattle.mailengine.specs.AccountEvents.{row_with}
+use Rattle.mailengine.specs.OwnActs as own
+use Rattle.mailengine.specs.OwnActs.{Act, ActsAlone, Alone, CommandsAlone, RepliesAlone, ReceivesIn, JoinsIn, TakesRowAlone, TakesAloneIn, fresh}
+use Rattle.mailengine.specs.Sound.{IsSoundScript, IsSound, AreSound}
+use Rattle.mailengine.specs.World.{World, Next, Runs}
+use Rattle.mailengine.proofs.AloneLemmas.{next_alone, projection}
 
 -- ---- maps
 
@@ -52,6 +60,40 @@ few_more {X} m k v n room few = subst (λ l. l ≤ n) (sym (len-insert nat_list_
     go true is h = few
     go false is (inl there) = absurd (let no : true ≡ false = sym there ∙ is in cc)
     go false is (inr less) = omega arith
+
+-- what is there without a key was there
+removed_was : {X : Type 0} (m : FinMap bytes_cmp X) (k q : List ℕ) (x : X) → get (remove m k) q ≡ Some x → get m q ≡ Some x
+removed_was {X} m k q x is = go (is_eq (bytes_cmp q k)) (sym (get-remove nat_list_cmp_total m k q) ∙ is)
+  where
+    go : (b : Bool) → cond b None (get m q) ≡ Some x → get m q ≡ Some x
+    go true told = absurd (let never : None ≡ Some x = told in cc)
+    go false told = told
+
+-- and what has another key stays
+stays_there : {X : Type 0} (m : FinMap bytes_cmp X) (k q : List ℕ) → (q ≡ k → ⊥) → IsSome (get m q) → IsSome (get (remove m k) q)
+stays_there {X} m k q other there = subst IsSome (sym (get-remove nat_list_cmp_total m k q)) (go (is_eq (bytes_cmp q k)) refl)
+  where
+    go : (b : Bool) → is_eq (bytes_cmp q k) ≡ b → IsSome (cond b None (get m q))
+    go true same = absurd (other (same_bytes q k same))
+    go false apart = there
+
+fewer_less : {X : Type 0} (m : FinMap bytes_cmp X) (k : List ℕ) (n : ℕ) → len m ≤ n → len (remove m k) ≤ n
+fewer_less {X} m k n few = subst (λ l. l ≤ n) (sym (len-remove nat_list_cmp_total m k)) (go (contains_key m k))
+  where
+    go : (b : Bool) → cond b (len m - 1) (len m) ≤ n
+    go true = omega arith
+    go false = few
+
+-- an entry under another key in place of one that is there
+moved_few : {X : Type 0} (m : FinMap bytes_cmp X) (k j : List ℕ) (v : X) (n : ℕ) → IsSome (get m k) → 1 ≤ n → len m ≤ n → len (insert (remove m k) j v) ≤ n
+moved_few {X} m k j v n there some few = subst (λ l. l ≤ n) (sym (len-insert nat_list_cmp_total (remove m k) j v)) (go (contains_key (remove m k) j))
+  where
+    less : len (remove m k) ≡ len m - 1
+    less = len-remove nat_list_cmp_total m k ∙ ap (λ b. cond b (len m - 1) (len m)) there
+
+    go : (b : Bool) → cond b (len (remove m k)) (len (remove m k) + 1) ≤ n
+    go true = omega (arith, less)
+    go false = omega (arith, less)
 
 -- ---- one account
 
@@ -97,55 +139,133 @@ module _ (a : Account) (own : IsSound a) where
       there (octet ∷ rest) (inl none) = absurd (let no = none in cc)
       there (octet ∷ rest) (inr h) = h
 
+  -- a script that isn't the active one is gone
+  pub sound_deleted : (name : List ℕ) → (a.active ≡ Some name → ⊥) → IsSound (deletes_script name a)
+  sound_deleted name idle = record {
+    address = own.address;
+    scripts = λ n t is. own.scripts n t (removed_was a.scripts name n t is);
+    few = fewer_less a.scripts name scripts_limit own.few;
+    active = still a.active refl own.active;
+    filled = own.filled;
+  }
+    where
+      still : (o : Option (List ℕ)) → a.active ≡ o → IfSome o (λ n. IsSome (get a.scripts n)) → IfSome o (λ n. IsSome (get (remove a.scripts name) n))
+      still None is h = tt
+      still (Some n) is h = stays_there a.scripts name n (λ same. idle (is ∙ ap (λ m. Some m) same)) h
+
+  -- a script has another name, which was free
+  pub sound_renamed : (name other : List ℕ) → IsScriptName other → IsSome (get a.scripts name) → (IsSome (get a.scripts other) → ⊥) → IsSound (renames_script name other a)
+  sound_renamed name other named there free = go (get a.scripts name) refl there
+    where
+      go : (o : Option (List ℕ)) → get a.scripts name ≡ o → IsSome o → IsSound (record a { scripts = moved a.scripts name other o; active = option_map (other_name name other) a.active })
+      go None has some = absurd (let no_text = some in cc)
+      go (Some text) has some = record {
+        address = own.address;
+        scripts = λ n t is. each n t (inserted (remove a.scripts name) other text n t is);
+        few = moved_few a.scripts name other text scripts_limit (subst IsSome (sym has) some) (omega arith) own.few;
+        active = still a.active refl own.active;
+        filled = own.filled;
+      }
+        where
+          old : IsSoundScript name text
+          old = own.scripts name text has
+
+          each : (n t : List ℕ) → ((n ≡ other) × (text ≡ t)) ⊎ (get (remove a.scripts name) n ≡ Some t) → IsSoundScript n t
+          each n t (inl is) = subst (λ m. IsSoundScript m t) (sym is.0) (subst (IsSoundScript other) is.1 (record { named = named; short = old.short; valid = old.valid }))
+          each n t (inr was) = own.scripts n t (removed_was a.scripts name n t was)
+
+          still : (o : Option (List ℕ)) → a.active ≡ o → IfSome o (λ n. IsSome (get a.scripts n)) → IfSome (option_map (other_name name other) o) (λ n. IsSome (get (insert (remove a.scripts name) other text) n))
+          still None is h = tt
+          still (Some n) is h = by (is_eq (bytes_cmp n name)) refl
+            where
+              by : (b : Bool) → is_eq (bytes_cmp n name) ≡ b → IsSome (get (insert (remove a.scripts name) other text) (cond b other n))
+              by true same = subst IsSome (sym (get-insert nat_list_cmp_total (remove a.scripts name) other text other ∙ ap (λ e. cond e (Some text) (get (remove a.scripts name) other)) (bytes_eq_refl other))) refl
+              by false apart = still_there (remove a.scripts name) other text n (stays_there a.scripts name n (λ same. true≢false (sym (ap (λ m. is_eq (bytes_cmp m name)) same ∙ bytes_eq_refl name) ∙ apart)) h)
+
 -- ---- one command
 
--- an answer that declines isn't OK
-declined_no : (reply : Reply) (code : Option Code) (text : List ℕ) → is_ok (spelled reply) ≡ true → reply ≡ declined code text → ⊥
-declined_no reply code text ok is =
-    let near : is_ok (spelled (declined code text)) ≡ false = refl in
-    let no : true ≡ false = sym ok ∙ (ap (λ r. is_ok (spelled r)) is ∙ near) in cc
+-- a reply that declines isn't OK
+declined_no : {P : Type 0} (reply other : Reply) → is_ok reply.word ≡ true → is_ok other.word ≡ false → reply ≡ other → P
+declined_no reply other ok declined is = absurd (true≢false (sym ok ∙ (ap (λ (r : Reply). is_ok r.word) is ∙ declined)))
 
-module _ (a : Account) (own : IsSound a) (reply : Reply) (ok : is_ok (spelled reply) ≡ true) where
+module _ (a : Account) (own : IsSound a) (reply : Reply) (ok : is_ok reply.word ≡ true) where
   put_obeyed : (name text : List ℕ) → RepliesToPut a name text reply → IsSound (keeps_script name text a)
   put_obeyed name text (inl (named, inl (short, inl (room, inl (valid, is))))) = sound_put a own name text (record { named = named; short = short; valid = valid }) room
-  put_obeyed name text (inl (named, inl (short, inl (room, inr (none, fault))))) = absurd (declined_no reply _ _ ok fault.4)
-  put_obeyed name text (inl (named, inl (short, inr (many, is)))) = absurd (declined_no reply _ _ ok is)
-  put_obeyed name text (inl (named, inr (long, is))) = absurd (declined_no reply _ _ ok is)
-  put_obeyed name text (inr (other, is)) = absurd (declined_no reply _ _ ok is)
+  put_obeyed name text (inl (named, inl (short, inl (room, inr (none, fault))))) = declined_no reply _ ok refl fault.4
+  put_obeyed name text (inl (named, inl (short, inr (many, is)))) = declined_no reply _ ok refl is
+  put_obeyed name text (inl (named, inr (long, is))) = declined_no reply _ ok refl is
+  put_obeyed name text (inr (other, is)) = declined_no reply _ ok refl is
 
   set_obeyed : (name : List ℕ) → RepliesToSet a name reply → IsSound (activates (chosen name) a)
   set_obeyed name (inl (known, is)) = sound_set a own name known
-  set_obeyed name (inr (unknown, is)) = absurd (declined_no reply _ _ ok is)
+  set_obeyed name (inr (unknown, is)) = declined_no reply _ ok refl is
 
-pub sound_obeyed : (a : Account) → IsSound a → (command : Option Command) (reply : Reply) → RepliesTo a command reply → IsSound (obeyed command (is_ok (spelled reply)) a)
-sound_obeyed a own command reply told = go command (is_ok (spelled reply)) refl told
+  delete_obeyed : (name : List ℕ) → RepliesToDelete a name reply → IsSound (deletes_script name a)
+  delete_obeyed name (inl (there, inl (active, is))) = declined_no reply _ ok refl is
+  delete_obeyed name (inl (there, inr (idle, is))) = sound_deleted a own name idle
+  delete_obeyed name (inr (unknown, is)) = declined_no reply _ ok refl is
+
+  rename_obeyed : (old new : List ℕ) → RepliesToRename a old new reply → IsSound (renames_script old new a)
+  rename_obeyed old new (inl (there, inl (named, inl (taken, is)))) = declined_no reply _ ok refl is
+  rename_obeyed old new (inl (there, inl (named, inr (free, is)))) = sound_renamed a own old new named there free
+  rename_obeyed old new (inl (there, inr (bad, is))) = declined_no reply _ ok refl is
+  rename_obeyed old new (inr (unknown, is)) = declined_no reply _ ok refl is
+
+  carried_sound : (command : Command) → RepliesTo a command reply → IsSound (carried_out command a)
+  carried_sound Capability h = absurd h
+  carried_sound (Noop tag) h = absurd h
+  carried_sound Logout h = absurd h
+  carried_sound (Authenticate mechanism response) h = absurd h
+  carried_sound (verb.Response text) h = absurd h
+  carried_sound Unauthenticate h = absurd h
+  carried_sound (HaveSpace name size) h = own
+  carried_sound (PutScript name text) h = put_obeyed name text h
+  carried_sound (CheckScript text) h = absurd h
+  carried_sound ListScripts h = own
+  carried_sound (SetActive name) h = set_obeyed name h
+  carried_sound (GetScript name) h = own
+  carried_sound (DeleteScript name) h = delete_obeyed name h
+  carried_sound (RenameScript old new) h = rename_obeyed old new h
+
+pub sound_obeyed : (a : Account) → IsSound a → (command : Command) (reply : Reply) → RepliesTo a command reply → IsSound (obeyed command reply.word a)
+sound_obeyed a own command reply told = go (is_ok reply.word) refl
   where
-    go : (c : Option Command) (b : Bool) → is_ok (spelled reply) ≡ b → RepliesTo a c reply → IsSound (obeyed c b a)
-    go (Some (PutScript name text)) true ok h = put_obeyed a own reply ok name text h
-    go (Some (SetActive name)) true ok h = set_obeyed a own reply ok name h
-    go _ true ok h = own
-    go _ false ok h = own
+    go : (b : Bool) → is_ok reply.word ≡ b → IsSound (cond b (carried_out command a) a)
+    go true ok = carried_sound a own reply ok command told
+    go false ok = own
 
--- ---- the machine
+-- ---- one delivery
 
--- where one user's account is changed and stays sound, all accounts do
-sound_with : (accounts : Accounts) (user : List ℕ) (change : Account → Account) → AreSound accounts → ((a : Account) → get accounts user ≡ Some a → IsSound a → IsSound (change a)) → AreSound (with_user accounts user change)
-sound_with accounts user change sound keeps = go (get accounts user) refl
-  where
-    one : (a : Account) → get accounts user ≡ Some a → (other : List ℕ) (b : Account) → ((other ≡ user) × (change a ≡ b)) ⊎ (get accounts other ≡ Some b) → IsSound b
-    one a has other b (inl is) = subst IsSound is.1 (keeps a has (sound user a has))
-    one a has other b (inr old) = sound other b old
+-- redirects and answers leave all that soundness is about
+redirects_sound : (mail : MailSpec) (targets : List Addr) (a : Account) → IsSound a → IsSound (redirects mail targets a)
+redirects_sound mail [] a own = own
+redirects_sound mail (target ∷ more) a own =
+    redirects_sound mail more (queues kind.Redirect mail.from (spelling target) mail.octets a) (record { address = own.address; scripts = own.scripts; few = own.few; active = own.active; filled = own.filled })
 
-    go : (o : Option Account) → get accounts user ≡ o → AreSound (in_place accounts user change o)
-    go None has = sound
-    go (Some a) has = λ other b is. one a has other b (inserted accounts user (change a) other b is)
+responds_sound : (mail : MailSpec) (moment : ℕ) (response : Response) (a : Account) → IsSound a → IsSound (responds mail moment response a)
+responds_sound mail moment Silent a own = own
+responds_sound mail moment (Quiet reason) a own = own
+responds_sound mail moment (Sent key octets) a own = record { address = own.address; scripts = own.scripts; few = own.few; active = own.active; filled = own.filled }
+
+delivers_sound : (addr : Addr) (moment : ℕ) (mail : MailSpec) (disposition : Disposition) (a a2 : Account) (report : Report) → IsSound a → DeliversAs addr moment mail disposition a report a2 → IsSound a2
+delivers_sound addr moment mail (Acts deeds) a a2 report own is =
+    subst IsSound (sym is.changed) (responds_sound mail moment is.response (acts mail deeds a) (redirects_sound mail deeds.sent (files_copies deeds.filed mail.octets a) (sound_filed a own mail.octets deeds.filed)))
+delivers_sound addr moment mail (Tells text) a a2 report own is =
+    let kept = sound_filed a own mail.octets (inbox ∷ []) in
+    subst IsSound (sym is.changed) (record { address = kept.address; scripts = kept.scripts; few = kept.few; active = kept.active; filled = kept.filled })
+
+-- ---- the acts of one user
+
+-- an account, if there is one, is sound
+IsSoundIf : Option Account → Type 0
+IsSoundIf o = IfSome o IsSound
 
 -- an account that was just added
-sound_new : (name address salt password : List ℕ) → IsNewUser name address password → IsSound (added address salt password)
-sound_new name address salt password new = record {
+sound_fresh : (name address salt password : List ℕ) → IsNewUser name address password → IsSound (fresh address salt password)
+sound_fresh name address salt password new = record {
   address = new.addressed;
   scripts = λ script text is. absurd (none_some text (sym (get-empty bytes_cmp script) ∙ is));
-  few = let none : len (added address salt password).scripts ≡ 0 = len-empty bytes_cmp (List ℕ) in omega arith;
+  few = let none : len (fresh address salt password).scripts ≡ 0 = len-empty bytes_cmp (List ℕ) in omega arith;
   active = tt;
   filled = λ folder is. none_some {X = List (List ℕ)} [] (sym (get-empty bytes_cmp folder) ∙ is);
 }
@@ -153,57 +273,78 @@ sound_new name address salt password new = record {
     none_some : {X : Type 0} (x : X) → None ≡ Some x → ⊥
     none_some x is = cc
 
--- where an account that is sound is added, or put in place of another, all accounts are
-sound_more : (accounts : Accounts) (user : List ℕ) (a : Account) → AreSound accounts → IsSound a → AreSound (insert accounts user a)
-sound_more accounts user a sound own other b is = go (inserted accounts user a other b is)
+commands_sound : (account later : Option Account) (command : Command) (octets : List ℕ) → IfSome account IsSound → CommandsAlone account command octets later → IfSome later IsSound
+commands_sound account later command octets own is = subst (λ o. IfSome o IsSound) (sym is.changed) (go account command own is.replies)
   where
-    go : ((other ≡ user) × (a ≡ b)) ⊎ (get accounts other ≡ Some b) → IsSound b
-    go (inl new) = subst IsSound new.1 own
-    go (inr old) = sound other b old
+    go : (o : Option Account) (c : Command) → IfSome o IsSound → RepliesAlone o c is.reply → IfSome (option_map (obeyed c is.reply.word) o) IsSound
+    go None c sound told = tt
+    go (Some a) Unauthenticate sound told = quiet (is_ok is.reply.word)
+      where
+        quiet : (b : Bool) → IsSound (cond b a a)
+        quiet true = sound
+        quiet false = sound
+    go (Some a) (CheckScript text) sound told = quiet (is_ok is.reply.word)
+      where
+        quiet : (b : Bool) → IsSound (cond b a a)
+        quiet true = sound
+        quiet false = sound
+    go (Some a) Capability sound told = sound_obeyed a sound Capability is.reply told
+    go (Some a) (Noop tag) sound told = sound_obeyed a sound (Noop tag) is.reply told
+    go (Some a) Logout sound told = sound_obeyed a sound Logout is.reply told
+    go (Some a) (Authenticate mechanism response) sound told = sound_obeyed a sound (Authenticate mechanism response) is.reply told
+    go (Some a) (verb.Response text) sound told = sound_obeyed a sound (verb.Response text) is.reply told
+    go (Some a) (HaveSpace name size) sound told = sound_obeyed a sound (HaveSpace name size) is.reply told
+    go (Some a) (PutScript name text) sound told = sound_obeyed a sound (PutScript name text) is.reply told
+    go (Some a) ListScripts sound told = sound_obeyed a sound ListScripts is.reply told
+    go (Some a) (SetActive name) sound told = sound_obeyed a sound (SetActive name) is.reply told
+    go (Some a) (GetScript name) sound told = sound_obeyed a sound (GetScript name) is.reply told
+    go (Some a) (DeleteScript name) sound told = sound_obeyed a sound (DeleteScript name) is.reply told
+    go (Some a) (RenameScript old new) sound told = sound_obeyed a sound (RenameScript old new) is.reply told
 
--- an answer of one kind isn't one of another
-not_added : (refusal : Refusal) → Added ≡ Refused refusal → ⊥
-not_added refusal is = cc
-
-sound_added : (w : World) (name address salt password : List ℕ) → AreSound w.accounts → Says w (AddUser name address salt password) Added ⊎ IsRefused (AddUser name address salt password) Added
-    → AreSound (insert w.accounts name (added address salt password))
-sound_added w name address salt password sound (inl (inl (new, told))) = sound_more w.accounts name (added address salt password) sound (sound_new name address salt password new)
-sound_added w name address salt password sound (inl (inr (bad, told))) = absurd (not_added _ told)
-sound_added w name address salt password sound (inr refused) = absurd (not_added refused.0 refused.1)
-
-sound_after : (w : World) (event : Event) (answer : Answer) → AreSound w.accounts → Says w event answer ⊎ IsRefused event answer → AreSound (after w event answer).accounts
-sound_after w event (Refused refusal) sound told = sound
-sound_after w (Deliver user envelope message moment) (Delivered report) sound told = sound_with w.accounts user (delivered message report) sound (λ a has own. sound_filed a own message report.filed)
-sound_after w (Deliver user envelope message moment) (Out progress octets) sound told = sound
-sound_after w (Deliver user envelope message moment) Added sound told = sound
-sound_after w (AddUser name address salt password) Added sound told = sound_added w name address salt password sound told
-sound_after w (AddUser name address salt password) (Delivered report) sound told = sound
-sound_after w (AddUser name address salt password) (Out progress octets) sound told = sound
-sound_after w (Whole user bytes) (Delivered report) sound told = sound
-sound_after w (Whole user bytes) Added sound told = sound
-sound_after w (Whole user bytes) (Out progress octets) sound told = sound_with w.accounts user (obeyed (whole_of bytes) (is_ok octets)) sound (λ a has own. go a has own told)
+act_sound : (user : List ℕ) (account later : Option Account) (act : Act) → IfSome account IsSound → ActsAlone user account act later → IfSome later IsSound
+act_sound user account later (own.Commands command octets) sound is = commands_sound account later command octets sound is
+act_sound user account later (own.LogsIn password succeeds) sound is = subst (λ o. IfSome o IsSound) (sym is.stays) sound
+act_sound user account later (own.Receives envelope message moment answer) sound is = go (limit_refusal envelope message moment) account sound is
   where
-    go : (a : Account) → get w.accounts user ≡ Some a → IsSound a → Says w (Whole user bytes) (Out progress octets) ⊎ IsRefused (Whole user bytes) (Out progress octets) → IsSound (obeyed (whole_of bytes) (is_ok octets) a)
-    go a has own (inl says) =
-        let told : SaysCommand (Some a) (whole_of bytes) (Out progress octets) = subst (λ o. SaysCommand o (whole_of bytes) (Out progress octets)) has says in
-        let is : Out progress octets ≡ Out _ (spelled told.0) = told.1 in
-        let same : octets ≡ spelled told.0 = cc in
-        subst (λ o. IsSound (obeyed (whole_of bytes) (is_ok o) a)) (sym same) (sound_obeyed a own (whole_of bytes) told.0 told.2)
-    go a has own (inr refused) = absurd (let no : Out progress octets ≡ Refused refused.0 = refused.1 in cc)
+    go : (o : Option Refusal) (account : Option Account) → IfSome account IsSound → ReceivesIn o account envelope message moment answer later → IfSome later IsSound
+    go (Some refusal) account sound is = subst (λ o. IfSome o IsSound) (sym is.stays) sound
+    go None None sound is = subst (λ o. IfSome o IsSound) (sym is.stays) tt
+    go None (Some a) sound is = subst (λ o. IfSome o IsSound) (sym is.changed) (delivers_sound is.delivers.own moment (mail_of message envelope) is.delivers.delivers.disposition a is.after is.report sound is.delivers.delivers.delivers)
+act_sound user account later (own.Joins address salt password answer) sound (inl (new, is)) = go account sound is
+  where
+    go : (account : Option Account) → IfSome account IsSound → JoinsIn account address salt password answer later → IfSome later IsSound
+    go None sound is = subst (λ o. IfSome o IsSound) (sym is.changed) (sound_fresh user address salt password new)
+    go (Some a) sound is = subst (λ o. IfSome o IsSound) (sym is.stays) sound
+act_sound user account later (own.Joins address salt password answer) sound (inr (bad, is)) = subst (λ o. IfSome o IsSound) (sym is.stays) sound
+act_sound user account later (own.TakesOut id answer) sound is = go account sound is
+  where
+    row : (a : Account) (o : Option Outgoing) → IsSound a → TakesRowAlone a o answer later → IfSome later IsSound
+    row a None sound is = subst (λ o. IfSome o IsSound) (sym is.stays) sound
+    row a (Some out) sound is = subst (λ o. IfSome o IsSound) (sym is.changed) (record { address = sound.address; scripts = sound.scripts; few = sound.few; active = sound.active; filled = sound.filled })
 
--- an event keeps accounts sound
+    go : (account : Option Account) → IfSome account IsSound → TakesAloneIn account id answer later → IfSome later IsSound
+    go None sound is = subst (λ o. IfSome o IsSound) (sym is.stays) tt
+    go (Some a) sound is = row a (row_with id a.queue) sound is
+
+alone_sound : (user : List ℕ) (acts : List Act) (account end : Option Account) → IfSome account IsSound → Alone user account acts end → IfSome end IsSound
+alone_sound user [] account end sound is = subst (λ o. IfSome o IsSound) (sym is) sound
+alone_sound user (act ∷ more) account end sound is = alone_sound user more is.0 end (act_sound user account is.0 act sound is.1) is.2
+
+-- ---- the machine
+
+sound_at : (accounts : Accounts) (user : List ℕ) → AreSound accounts → IfSome (get accounts user) IsSound
+sound_at accounts user sound = go (get accounts user) refl
+  where
+    go : (o : Option Account) → get accounts user ≡ o → IfSome o IsSound
+    go None is = tt
+    go (Some a) is = sound user a is
+
+-- an event keeps accounts sound: each user's by the user's own acts
 pub next_sound : (w next : World) (event : Event) (answer : Answer) → AreSound w.accounts → Next w event answer next → AreSound next.accounts
-next_sound w next event answer sound step = subst (λ (v : World). AreSound v.accounts) (sym step.1) (sound_after w event answer sound step.0)
+next_sound w next event answer sound step user a is =
+    subst (λ o. IfSome o IsSound) is (alone_sound user (own.acts_in user w event answer) (get w.accounts user) (get next.accounts user) (sound_at w.accounts user sound) (next_alone user w next event answer step))
 
 -- and so do events in turn
 pub runs_sound : (events : List Event) (told : List Answer) (w end : World) → AreSound w.accounts → Runs w events told end → AreSound end.accounts
-runs_sound [] [] w end sound run = subst (λ (v : World). AreSound v.accounts) (sym run) sound
-runs_sound (event ∷ events) (answer ∷ told) w end sound run = runs_sound events told run.0 end (next_sound w run.0 event answer sound run.1) run.2
-runs_sound [] (answer ∷ told) w end sound run = absurd run
-runs_sound (event ∷ events) [] w end sound run = absurd run
-
--- a run from a store of sound accounts leaves sound accounts
-pub run_sound : (events : List Event) (told : List Answer) (old new : State) → IsRun events told old new → KeepsSound old new
-run_sound events told old new ran clean before later was sound live now =
-    let end = ran clean (record { accounts = before }) (λ o. was) in
-    subst AreSound (accounts_one new.now end.0.accounts later (end.2 live) now) (runs_sound events told (record { accounts = before }) end.0 sound end.1)
+runs_sound events told w end sound run user a is =
+    subst (λ o. IfSome o IsSound) is (alone_sound user (own.acts user w events told end run) (get w.accounts user) (get end.accounts user) (sound_at w.accounts user sound) (projection events told w end run user))

@@ -1,86 +1,82 @@
 -- A new user: the tests, the read of the account, and then the write.
-use Rattle.std.proofs.Common.{◌≡◌, ℕ, List, Option, Some, None, option_map, Ok, Err, Result, OnOk, OnErr, IfOk, IfErr, refl, sym, subst, inl, inr}
-use Rattle.std.specs.FinMap.{get, insert}
-use Rattle.sqlite.specs.State.{State, HasCleanDisk, Survives}
+use Rattle.std.proofs.Common.{◌≡◌, ◌⊎◌, ℕ, List, Option, Some, None, option_map, Ok, Err, Result, OnOk, IfOk, IfErr, refl, sym, ap, ◌∙◌, subst, inl, inr}
+use Rattle.std.specs.FinMap.{get}
+use Rattle.sqlite.specs.State.{State, HasCleanDisk}
+use Rattle.saslplain.specs.Password.{digest_of}
 use Rattle.mailstore.specs.declared.profile.Profile.{Profile}
 use Rattle.mailstore.specs.declared.refusal.Refusal.{Refusal}
 use Rattle.mailstore.specs.declared.refusal.Refusal.TheVariants.{Memory, UserExists, BadUser}
-use Rattle.mailstore.specs.Connection.{StaysSame}
-use Rattle.mailstore.specs.Account.{Account, Accounts}
-use Rattle.mailstore.specs.Refusals.{IsPassing}
+use Rattle.mailstore.specs.Account.{Account, Accounts, new_user}
 use Rattle.mailstore.specs.AccountTable.{profile_of}
+use Rattle.mailstore.specs.Promises.{IsFree, OfUser, ReadsProfile, Writes}
+use Rattle.mailstore.specs.Refusals.{IsPassing}
 use Rattle.mailstore.specs.Shows.{Presents}
-use Rattle.mailstore.specs.Promises.{IsFree, Turns, MayShow, Keeps}
-use Rattle.mailengine.specs.declared.event.Event.TheVariants.{AddUser}
+use Rattle.sessions.specs.Acts.{HasAccounts, Acts}
+use Rattle.sessions.proofs.ActLemmas.{no_glance, glanced, read_shows, acts_read, acts_made, acts_undone}
+use Rattle.mailengine.specs.declared.answer.Answer.{Answer}
 use Rattle.mailengine.specs.declared.answer.Answer.TheVariants.{Added, Refused}
+use Rattle.mailengine.specs.AccountEvents.{rounds, AddsUnder, Addition}
+use Rattle.mailengine.specs.Hosts.{TurnsBy, MayTurnBy, MayRefuseAddition, ActsAddition}
 use Rattle.mailengine.specs.Limits.{IsNewUser}
-use Rattle.mailengine.specs.World.{World, SaysNew, MayRefuse, added}
-use Rattle.mailengine.specs.Stands.{Stands, IsEvent, MayLeave, addition_told}
-use Rattle.mailengine.proofs.StandLemmas.{mid_presents, stands_kept, passing_next}
-use Rattle.mailengine.proofs.StepLemmas.{Steps, undone_then, event_made, stands_undone, step_crash}
-use Rattle.mailengine.proofs.ViewLemmas.{if_is, free_of}
-
--- a profile is an account's
-some_there : (accounts : Accounts) (user : List ℕ) (profile : Profile) → Some profile ≡ option_map profile_of (get accounts user) → (a : Account) × (get accounts user ≡ Some a)
-some_there accounts user profile is = go (get accounts user) refl is
-  where
-    go : (o : Option Account) → get accounts user ≡ o → Some profile ≡ option_map profile_of o → (a : Account) × (get accounts user ≡ Some a)
-    go None has e = absurd (let no = e in cc)
-    go (Some a) has e = (a, has)
+use Rattle.mailengine.proofs.LookupLemmas.{free_of, owned_by}
 
 module _ (name address salt password : List ℕ) where
+  abbrev Row : Accounts → Answer → Accounts → Type 0
+  Row accounts = Addition accounts name address salt password
+
+  abbrev May : Refusal → Type 0
+  May = MayRefuseAddition name address password
+
   -- what is given makes no account
-  pub bad_event : (a : State) → (IsNewUser name address password → ⊥) → IsEvent (AddUser name address salt password) (Refused BadUser) a a
-  bad_event a bad clean w stands = (w, (inl (inr (bad, refl)), refl), stands)
+  pub addition_bad : (a : State) → (IsNewUser name address password → ⊥) → ActsAddition name address salt password a a (Err BadUser)
+  addition_bad a bad = acts_read a a (TurnsBy Row May (Refused BadUser)) (MayTurnBy Row) (Err BadUser) (no_glance a) (λ clean accounts shown. inl (inr (bad, record { refused = refl; stays = refl })))
 
   -- no memory for the tests
-  pub lack_event : (a : State) (q : Result (Unit {0}) Refusal) → OnOk q ⊥ → IfErr q (λ e. e ≡ Memory) → IsEvent (AddUser name address salt password) (addition_told q) a a
-  lack_event a (Ok done) none is = absurd none
-  lack_event a (Err e) none is = λ clean w stands. (w, (inr (e, refl, subst (MayRefuse (AddUser name address salt password)) (sym is) tt), refl), stands)
+  pub addition_lacks : (a : State) (q : Result (Unit {0}) Refusal) → OnOk q ⊥ → IfErr q (λ e. e ≡ Memory) → ActsAddition name address salt password a a q
+  addition_lacks a (Ok done) undone lack = absurd undone
+  addition_lacks a (Err e) undone lack = acts_read a a (TurnsBy Row May (Refused e)) (MayTurnBy Row) (Err e) (no_glance a) (λ clean accounts shown. inr (e, inl lack, refl, refl))
 
-  -- a read or the write was refused
-  pub passing_event : (a c : State) (q : Result (Unit {0}) Refusal) → OnOk q ⊥ → IsNewUser name address password → IfErr q IsPassing → (HasCleanDisk c → (w : World) → Stands a w → Stands c w)
-      → IsEvent (AddUser name address salt password) (addition_told q) a c
-  passing_event a c (Ok done) none new passing kept = absurd none
-  passing_event a c (Err e) none new passing kept = λ clean w stands. (w, passing_next w (AddUser name address salt password) e tt new passing, kept clean w stands)
+  module _ (new : IsNewUser name address password) (a b : State) (r : Result (Option Profile) Refusal) (read : ReadsProfile name a b r) where
+    may : (e : Refusal) → IsPassing e → May e
+    may e (inl memory) = inl memory
+    may e (inr store) = inr (store, new)
 
-  module _ (a b : State) (r : Result (Option Profile) Refusal) (looks : Keeps a b r)
-      (found : HasCleanDisk b → (accounts : Accounts) → Presents a.now accounts → IfOk r (λ profile. profile ≡ option_map profile_of (get accounts name))) (new : IsNewUser name address password) where
-    seen : (found_is : Option Profile) → r ≡ Ok found_is → HasCleanDisk b → (w : World) → Stands a w → found_is ≡ option_map profile_of (get w.accounts name)
-    seen profile is clean w stands =
-        let shown = mid_presents a b r profile is looks clean w stands in
-        if_is r profile is (λ p. p ≡ option_map profile_of (get w.accounts name)) (found clean w.accounts (stands shown.0))
+    passing_turn : (e : Refusal) (accounts : Accounts) → IsPassing e → TurnsBy Row May (Refused e) accounts accounts
+    passing_turn e accounts passing = inr (e, may e passing, refl, refl)
+
+    found : (o : Option Profile) → r ≡ Ok o → HasCleanDisk b → (accounts : Accounts) → Presents a.now accounts → o ≡ option_map profile_of (get accounts name)
+    found o is clean accounts p = subst (λ q. IfOk q (λ profile. profile ≡ option_map profile_of (get accounts name))) is (read.found clean accounts p)
+
+    -- the account couldn't be read
+    pub addition_unread : (q : Result (Unit {0}) Refusal) → OnOk q ⊥ → IfErr q IsPassing → ActsAddition name address salt password a b q
+    addition_unread (Ok done) undone passing = absurd undone
+    addition_unread (Err e) undone passing = acts_read a b (TurnsBy Row May (Refused e)) (MayTurnBy Row) (Err e) (glanced a b r read.keeps) (λ clean accounts shown. passing_turn e accounts passing)
 
     -- the name has an account
-    pub exists_event : (profile : Profile) → r ≡ Ok (Some profile) → IsEvent (AddUser name address salt password) (Refused UserExists) a b
-    exists_event profile is clean w stands =
-        let there = some_there w.accounts name profile (seen (Some profile) is clean w stands) in
-        (w, (inl (inl (new, subst (λ o. SaysNew o (Refused UserExists)) (sym there.1) refl)), refl), stands_kept a b r looks clean w stands)
+    pub addition_taken : (profile : Profile) → r ≡ Ok (Some profile) → ActsAddition name address salt password a b (Err UserExists)
+    addition_taken profile is = acts_read a b (TurnsBy Row May (Refused UserExists)) (MayTurnBy Row) (Err UserExists) (glanced a b r read.keeps)
+        (λ clean accounts shown.
+        let p = (read_shows a b r (Some profile) is read.keeps clean accounts shown).0 in
+        let own = owned_by accounts name profile (found (Some profile) is clean accounts p) in
+        inl (inl (new, subst (λ o. AddsUnder accounts name address salt password o (Refused UserExists) accounts) (sym own.1) (record { refused = refl; stays = refl }))))
 
-    -- the name has none
-    pub found_free : r ≡ Ok None → HasCleanDisk b → (w : World) → Stands a w → IsFree name w.accounts
-    found_free is clean w stands = free_of w.accounts name (seen None is clean w stands)
+    -- the name has none, and the account is written
+    module _ (is : r ≡ Ok None) (c : State) (w : Result (Unit {0}) Refusal) (late : Writes (IsFree name) (new_user name address salt rounds (digest_of salt password rounds)) b c w) where
+      abbrev added : Accounts → Accounts
+      added = new_user name address salt rounds (digest_of salt password rounds)
 
-  -- and then the account joins the others
-  pub new_steps : IsNewUser name address password → Steps (AddUser name address salt password) Added (λ accounts. insert accounts name (added address salt password)) (IsFree name) (IsFree name)
-  new_steps new w free = (free, (inl (inl (new, subst (λ o. SaysNew o Added) (sym free) refl)), refl))
+      fits : HasCleanDisk b → (accounts : Accounts) → Presents a.now accounts → IsFree name accounts × Row accounts Added (added accounts)
+      fits clean accounts p =
+          let free = free_of accounts name (found None is clean accounts p) in
+          (free, inl (new, subst (λ o. AddsUnder accounts name address salt password o Added (added accounts)) (sym free) (record { added = refl; changed = refl })))
 
--- what the write leaves of the accounts
-module _ (name address salt password : List ℕ) (a b c : State) (r : Result (Option Profile) Refusal) (looks : Keeps a b r) (is : r ≡ Ok None)
-    (found : HasCleanDisk b → (accounts : Accounts) → Presents a.now accounts → IfOk r (λ profile. profile ≡ option_map profile_of (get accounts name))) (new : IsNewUser name address password)
-    (late : Survives b c (MayShow (IsFree name) (λ accounts. insert accounts name (added address salt password)) b)) where
-  pub add_event : (q : Result (Unit {0}) Refusal) → (HasCleanDisk c → OnOk q (Turns (IsFree name) (λ accounts. insert accounts name (added address salt password)) b.now c.now)) → (HasCleanDisk c → OnErr q (StaysSame b c))
-      → IfErr q IsPassing → IsEvent (AddUser name address salt password) (addition_told q) a c
-  add_event (Ok done) made same passing = event_made a b c r None is looks (AddUser name address salt password) Added (λ accounts. insert accounts name (added address salt password)) (IsFree name) (IsFree name)
-      (found_free name address salt password a b r looks found new is) (new_steps name address salt password new) late made
-  add_event (Err e) made same passing = passing_event name address salt password a c (Err e) tt new passing (λ clean w stands.
-      (stands_undone a b c r None is looks (AddUser name address salt password) Added (λ accounts. insert accounts name (added address salt password)) (IsFree name) (IsFree name)
-      (found_free name address salt password a b r looks found new is) (new_steps name address salt password new) late (λ clean accounts p. same clean) clean w stands).1)
-
-  pub add_same : (q : Result (Unit {0}) Refusal) → (HasCleanDisk c → OnErr q (StaysSame b c)) → HasCleanDisk c → (accounts : Accounts) → Presents a.now accounts → OnErr q (StaysSame a c)
-  add_same (Ok done) same clean accounts p = tt
-  add_same (Err e) same clean accounts p = undone_then a b c r None is looks late (λ clean accounts p. same clean) clean accounts p
-
-  pub add_crash : Survives a c (MayLeave (AddUser name address salt password) a)
-  add_crash = step_crash a b c r None is looks (AddUser name address salt password) Added (λ accounts. insert accounts name (added address salt password)) (IsFree name) (IsFree name)
-      (found_free name address salt password a b r looks found new is) (new_steps name address salt password new) late
+      pub addition_written : (q : Result (Unit {0}) Refusal) → q ≡ w → ActsAddition name address salt password a c q
+      addition_written q same = subst (λ o. ActsAddition name address salt password a c o) (sym same) (go w refl late.named)
+        where
+          go : (o : Result (Unit {0}) Refusal) → w ≡ o → IfErr o IsPassing → ActsAddition name address salt password a c o
+          go (Ok y) done passing =
+              acts_made a b c r None is read.keeps (IsFree name) added w late.made late.settled (λ clean tables. late.same clean) late.crash (TurnsBy Row May Added) (MayTurnBy Row) y y done
+              (λ clean accounts p. let f = fits clean accounts p in (f.0, inl f.1, (Added, f.1)))
+          go (Err e) refused passing =
+              acts_undone a b c r None is read.keeps (IsFree name) added w late.made late.settled (λ clean tables. late.same clean) late.crash (TurnsBy Row May (Refused e)) (MayTurnBy Row) e (Err e) refused
+              (λ told. told passing) (λ accounts. passing_turn e accounts passing) (λ clean accounts p. let f = fits clean accounts p in (f.0, (Added, f.1)))

@@ -1,11 +1,10 @@
-pub mod Delivered
+pub mod AccountEvents
+pub mod Hosts
 pub mod Limits
-pub mod Notices
-pub mod Obeyed
-pub mod Plans
+pub mod Lookups
+pub mod OwnActs
 pub mod Sound
-pub mod Stands
-pub mod Told
+pub mod Spacing
 pub mod World
 pub use Rattle.sievesyntax.specs.Meaning
 pub use Rattle.sievesyntax.specs.Means

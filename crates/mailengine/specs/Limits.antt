@@ -1,34 +1,12 @@
--- What the engine takes: sizes, names and moments.
-use Rattle.std.specs.Prelude.{◌≡◌, ℕ, ◌≤◌, Bool, true, false, cond, not, ◌&&◌, ◌||◌, ◌==◌, nat_le, nat_lt, List, length, Option, Some, None}
+-- What the engine takes: users, addresses, sizes and moments.
+use Rattle.std.specs.Prelude.{◌≡◌, ℕ, Bool, true, cond, not, ◌&&◌, ◌||◌, ◌==◌, nat_le, nat_lt, List, length, Option, Some, None}
 use Rattle.std.specs.List.{list_all, list_any}
-use Rattle.std.specs.Str.{IsUtf8, chars}
 use Rattle.octets.specs.Ascii.{is_letter, is_digit}
 use Rattle.addrparts.specs.declared.address.Addr.{Addr}
 use Rattle.addrparts.specs.Outbound.{IsBareAddress}
 use Rattle.mailstore.specs.declared.refusal.Refusal.{Refusal}
 use Rattle.mailstore.specs.declared.refusal.Refusal.TheVariants.{TooLarge, BadEnvelope, BadMoment}
 use Rattle.sieveexec.specs.declared.envelope.Envelope.{Envelope}
-
--- ---- scripts
-
--- how many octets a script may have
-abbrev pub script_limit : ℕ
-script_limit = 65536
-
--- how many scripts a user may have
-abbrev pub scripts_limit : ℕ
-scripts_limit = 32
-
--- a character that no script's name has: the control characters of both sets, and the separators of lines and of paragraphs (RFC 5804, 1.6)
-abbrev pub is_barred : ℕ → Bool
-is_barred c = nat_le c 0x1f || (nat_le 0x7f c && nat_le c 0x9f) || c == 0x2028 || c == 0x2029
-
--- a script's name: 1 to 128 characters in UTF-8, none of them barred
-pub record IsScriptName (name : List ℕ) : Type 0 where
-  pub utf8 : IsUtf8 name
-  pub present : 1 ≤ length (chars name)
-  pub short : length (chars name) ≤ 128
-  pub allowed : list_any is_barred (chars name) ≡ false
 
 -- ---- accounts
 
@@ -61,12 +39,12 @@ abbrev pub message_limit : ℕ
 message_limit = 33554432
 
 -- an octet that no envelope address has: NUL, LF, CR
-abbrev pub is_broken : ℕ → Bool
-is_broken octet = octet == 0 || octet == 10 || octet == 13
+abbrev pub is_forbidden_octet : ℕ → Bool
+is_forbidden_octet octet = octet == 0 || octet == 10 || octet == 13
 
 -- an envelope address that is taken, the null sender among them
 abbrev pub is_envelope_address : List ℕ → Bool
-is_envelope_address text = nat_le (length text) 1024 && not (list_any is_broken text)
+is_envelope_address text = nat_le (length text) 1024 && not (list_any is_forbidden_octet text)
 
 -- both addresses are taken
 abbrev pub is_envelope : Envelope → Bool
@@ -77,8 +55,8 @@ abbrev pub moment_limit : ℕ
 moment_limit = 253402300799
 
 -- why a delivery is refused before anything is looked up: the first cause in this order
-abbrev pub cause_of : Envelope → List ℕ → ℕ → Option Refusal
-cause_of envelope message moment =
+abbrev pub limit_refusal : Envelope → List ℕ → ℕ → Option Refusal
+limit_refusal envelope message moment =
     cond (nat_lt message_limit (length message)) (Some TooLarge)
     (cond (not (is_envelope envelope)) (Some BadEnvelope)
     (cond (nat_lt moment_limit moment) (Some BadMoment) None))

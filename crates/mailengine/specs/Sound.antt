@@ -4,8 +4,9 @@ use Rattle.std.specs.FinMap.{get, len}
 use Rattle.sqlite.specs.State.{State, HasCleanDisk}
 use Rattle.mailstore.specs.Account.{Account, Accounts}
 use Rattle.mailstore.specs.Shows.{Presents}
-use Rattle.mailengine.specs.Limits.{script_limit, scripts_limit, IsScriptName, IsOwnAddress}
-use Rattle.mailengine.specs.Obeyed.{IsValid}
+use Rattle.sessions.specs.Limits.{script_limit, scripts_limit, IsScriptName}
+use Rattle.sessions.specs.Scripts.{IsValid}
+use Rattle.mailengine.specs.Limits.{IsOwnAddress}
 
 -- a script as it may be kept: its name is a script's, its text is within the limit and means some tree
 pub record IsSoundScript (name text : List ℕ) : Type 0 where

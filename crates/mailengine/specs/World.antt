@@ -1,91 +1,142 @@
--- The machine: a map of names to accounts, which events change one after the other.
-use Rattle.std.specs.Prelude.{◌≡◌, ℕ, ◌⊎◌, List, [], ◌∷◌, Option, Some, None}
-use Rattle.std.specs.FinMap.{get, insert}
-use Rattle.msproto.specs.declared.commands.Command.{Command}
-use Rattle.msproto.specs.declared.replies.Reply.{Reply}
+-- The machine: accounts and sessions, which events change one after the other.
+use Rattle.std.specs.Prelude.{◌≡◌, ℕ, ◌⊎◌, Bool, true, false, cond, List, [], ◌∷◌, Option, Some, None}
+use Rattle.std.specs.FinMap.{FinMap, get, insert, remove}
+use Rattle.std.specs.Ordering.{nat_cmp}
 use Rattle.msproto.specs.Replies.{spelled}
-use Rattle.saslplain.specs.Password.{digest_of}
-use Rattle.mailstore.specs.Account.{Account, Accounts, new_account, with_user}
-use Rattle.mailstore.specs.declared.report.Report.{Report}
+use Rattle.mailstore.specs.Account.{Accounts}
 use Rattle.mailstore.specs.declared.refusal.Refusal.{Refusal}
-use Rattle.mailstore.specs.declared.refusal.Refusal.TheVariants.{Memory, Store, NoUser, UserExists, BadUser}
-use Rattle.sieveexec.specs.declared.envelope.Envelope.{Envelope}
+use Rattle.mailstore.specs.declared.refusal.Refusal.TheVariants.{Memory, Store}
+use Rattle.sessions.specs.Clients.{Client, new_client, client_given}
+use Rattle.sessions.specs.GivenUp.{text_given_up, client_given_up, progress_given_up}
+use Rattle.sessions.specs.Replies.{capabilities}
+use Rattle.sessions.specs.Steps.{IsStep, progress_of, may_lack, may_fail}
+use Rattle.sessions.specs.declared.progress.Progress.{Progress}
+use Rattle.sessions.specs.declared.progress.Progress.TheVariants as progress
 use Rattle.mailengine.specs.declared.event.Event.{Event}
-use Rattle.mailengine.specs.declared.event.Event.TheVariants.{Deliver, AddUser, Whole}
-use Rattle.mailengine.specs.declared.answer.Progress.TheVariants.{Done}
+use Rattle.mailengine.specs.declared.event.Event.TheVariants.{Open, Give, Step, GiveUp, Close, Deliver, AddUser, TakeOut}
 use Rattle.mailengine.specs.declared.answer.Answer.{Answer}
-use Rattle.mailengine.specs.declared.answer.Answer.TheVariants.{Out, Delivered, Added, Refused}
-use Rattle.mailengine.specs.Limits.{cause_of, IsNewUser}
-use Rattle.mailengine.specs.Delivered.{Reports, delivered}
-use Rattle.mailengine.specs.Obeyed.{Where, whole_of, RepliesTo, obeyed, is_ok}
+use Rattle.mailengine.specs.declared.answer.Answer.TheVariants.{Out, Ignored, Refused}
+use Rattle.mailengine.specs.Limits.{limit_refusal, IsNewUser}
+use Rattle.mailengine.specs.AccountEvents.{Delivery, Addition, Taking}
+
+-- open sessions by their numbers
+abbrev pub Clients : Type 0
+Clients = FinMap nat_cmp Client
 
 pub record World : Type 0 where
   pub accounts : Accounts
+  pub sessions : Clients
 
--- ---- what is answered: a relation, since the line and kind of a script's fault are open
+-- ---- events of a session
 
--- to a delivery: the cause that stands against it, or what its user's account makes of it
-abbrev pub SaysDelivery : Option Refusal → Option Account → ℕ → Envelope → List ℕ → Answer → Type 0
-SaysDelivery (Some refusal) account moment envelope message answer = answer ≡ Refused refusal
-SaysDelivery None None moment envelope message answer = answer ≡ Refused NoUser
-SaysDelivery None (Some a) moment envelope message answer = (report : Report) × (answer ≡ Delivered report) × Reports a moment envelope message report
+-- the session under a number becomes another, or is opened
+abbrev pub with_session : ℕ → Client → World → World
+with_session s c w = record { accounts = w.accounts; sessions = insert w.sessions s c }
 
--- to a new user, whose name has an account or has none
-abbrev pub SaysNew : Option Account → Answer → Type 0
-SaysNew None answer = answer ≡ Added
-SaysNew (Some a) answer = answer ≡ Refused UserExists
+-- the number is no longer in use
+abbrev pub without_session : ℕ → World → World
+without_session s w = record { accounts = w.accounts; sessions = remove w.sessions s }
 
--- to a command, or to octets that are none
-abbrev pub SaysCommand : Option Account → Option Command → Answer → Type 0
-SaysCommand None command answer = answer ≡ Refused NoUser
-SaysCommand (Some a) command answer = (reply : Reply) × (answer ≡ Out Done (spelled reply)) × RepliesTo a command reply
+-- the event isn't one for the number, and nothing changes
+pub record Ignores (w : World) (answer : Answer) (next : World) : Type 0 where
+  pub ignored : answer ≡ Ignored
+  pub stays : next ≡ w
 
--- what the machine answers to an event
-abbrev pub Says : World → Event → Answer → Type 0
-Says w (Deliver user envelope message moment) answer = SaysDelivery (cause_of envelope message moment) (get w.accounts user) moment envelope message answer
-Says w (AddUser name address salt password) answer = Where (IsNewUser name address password) (SaysNew (get w.accounts name) answer) (answer ≡ Refused BadUser)
-Says w (Whole user bytes) answer = SaysCommand (get w.accounts user) (whole_of bytes) answer
+-- this is answered, and the world is so afterwards
+pub record Becomes (said : Answer) (later : World) (answer : Answer) (next : World) : Type 0 where
+  pub says : answer ≡ said
+  pub changed : next ≡ later
 
--- ---- what changes: a function of the event and its answer
+-- the greeting, and a new session; on a number that is open nothing
+abbrev pub Opens : World → ℕ → Option Client → Answer → World → Type 0
+Opens w s None answer next = Becomes (Out progress.Done (spelled (capabilities None))) (with_session s new_client w) answer next
+Opens w s (Some c) answer next = Ignores w answer next
 
--- the account of a user who was just added: the password is kept as its digest after 10,000 rounds
-abbrev pub added : List ℕ → List ℕ → List ℕ → Account
-added address salt password = new_account address (record { salt = salt; rounds = 10000; digest = digest_of salt password 10000 })
+-- of an open session this; on a number that isn't open nothing
+abbrev pub InSession : World → Option Client → (Client → Answer → World → Type 0) → Answer → World → Type 0
+InSession w None row answer next = Ignores w answer next
+InSession w (Some c) row answer next = row c answer next
 
--- the world: a refused event changes nothing, and no event the account of another user
-abbrev pub after : World → Event → Answer → World
-after w event (Refused refusal) = w
-after w (Deliver user envelope message moment) (Delivered report) = record { accounts = with_user w.accounts user (delivered message report) }
-after w (AddUser name address salt password) Added = record { accounts = insert w.accounts name (added address salt password) }
-after w (Whole user bytes) (Out progress octets) = record { accounts = with_user w.accounts user (obeyed (whole_of bytes) (is_ok octets)) }
-after w event answer = w
+-- the first item is taken off and answered; the accounts may change
+pub record Steps (w : World) (s : ℕ) (c : Client) (answer : Answer) (next : World) : Type 0 where
+  pub goes_on : Progress
+  pub octets : List ℕ
+  pub client : Client
+  pub accounts : Accounts
+  pub step : IsStep w.accounts c goes_on octets client accounts
+  pub says : answer ≡ Out goes_on octets
+  pub changed : next ≡ record { accounts = accounts; sessions = insert w.sessions s client }
+
+-- ---- the table of events
+
+-- the accounts become these
+abbrev pub with_accounts : World → (Answer → Accounts → Type 0) → Answer → World → Type 0
+with_accounts w row answer next = (later : Accounts) × row answer later × (next ≡ record { accounts = later; sessions = w.sessions })
+
+-- what the machine answers to an event, and how it is afterwards
+abbrev pub Happens : World → Event → Answer → World → Type 0
+Happens w (Open s) answer next = Opens w s (get w.sessions s) answer next
+Happens w (Give s piece) answer next = InSession w (get w.sessions s) (λ c. Becomes (Out (progress_of c) []) (with_session s (client_given piece c) w)) answer next
+Happens w (Step s) answer next = InSession w (get w.sessions s) (Steps w s) answer next
+Happens w (GiveUp s) answer next = InSession w (get w.sessions s) (λ c. Becomes (Out (progress_given_up c) (text_given_up c)) (with_session s (client_given_up c) w)) answer next
+Happens w (Close s) answer next = InSession w (get w.sessions s) (λ c. Becomes (Out progress.Close []) (without_session s w)) answer next
+Happens w (Deliver user envelope message moment) answer next = with_accounts w (Delivery w.accounts user envelope message moment) answer next
+Happens w (AddUser name address salt password) answer next = with_accounts w (Addition w.accounts name address salt password) answer next
+Happens w (TakeOut user id) answer next = with_accounts w (Taking w.accounts user id) answer next
 
 -- ---- refusals without a cause in the machine
 
+-- whether an event of the session under a number may be refused, by what is tested of the session
+abbrev pub if_open : (Client → Bool) → Option Client → Bool
+if_open test None = false
+if_open test (Some c) = test c
+
+-- whether a number is free
+abbrev pub is_closed : Option Client → Bool
+is_closed None = true
+is_closed (Some c) = false
+
+-- whether no limit stands against a delivery
+abbrev pub is_within : Option Refusal → Bool
+is_within None = true
+is_within (Some refusal) = false
+
 -- whether the event may be refused for memory
-abbrev pub MayLack : Event → Type 0
-MayLack (Deliver user envelope message moment) = cause_of envelope message moment ≡ None
-MayLack event = Unit {0}
+abbrev pub MayLack : World → Event → Type 0
+MayLack w (Open s) = is_closed (get w.sessions s) ≡ true
+MayLack w (Give s piece) = if_open (λ c. true) (get w.sessions s) ≡ true
+MayLack w (Step s) = if_open may_lack (get w.sessions s) ≡ true
+MayLack w (GiveUp s) = ⊥
+MayLack w (Close s) = ⊥
+MayLack w (Deliver user envelope message moment) = limit_refusal envelope message moment ≡ None
+MayLack w (AddUser name address salt password) = Unit {0}
+MayLack w (TakeOut user id) = Unit {0}
 
--- whether the event may be refused by the store; one that asks no store isn't
-abbrev pub MayFail : Event → Type 0
-MayFail (Deliver user envelope message moment) = cause_of envelope message moment ≡ None
-MayFail (AddUser name address salt password) = IsNewUser name address password
-MayFail (Whole user bytes) = Unit {0}
+-- whether the event may be refused by the store: only one that asks it
+abbrev pub MayFail : World → Event → Type 0
+MayFail w (Step s) = if_open may_fail (get w.sessions s) ≡ true
+MayFail w (Deliver user envelope message moment) = limit_refusal envelope message moment ≡ None
+MayFail w (AddUser name address salt password) = IsNewUser name address password
+MayFail w (TakeOut user id) = Unit {0}
+MayFail w event = ⊥
 
-abbrev pub MayRefuse : Event → Refusal → Type 0
-MayRefuse event Memory = MayLack event
-MayRefuse event Store = MayFail event
-MayRefuse event _ = ⊥
+abbrev pub MayRefuse : World → Event → Refusal → Type 0
+MayRefuse w event Memory = MayLack w event
+MayRefuse w event Store = MayFail w event
+MayRefuse w event _ = ⊥
 
-abbrev pub IsRefused : Event → Answer → Type 0
-IsRefused event answer = (refusal : Refusal) × (answer ≡ Refused refusal) × MayRefuse event refusal
+-- the event is refused for memory or by the store, and nothing changes
+pub record IsRefused (w : World) (event : Event) (answer : Answer) (next : World) : Type 0 where
+  pub refusal : Refusal
+  pub may : MayRefuse w event refusal
+  pub refused : answer ≡ Refused refusal
+  pub stays : next ≡ w
 
 -- ---- runs
 
 -- one event
 abbrev pub Next : World → Event → Answer → World → Type 0
-Next w event answer next = (Says w event answer ⊎ IsRefused event answer) × (next ≡ after w event answer)
+Next w event answer next = Happens w event answer next ⊎ IsRefused w event answer next
 
 -- events in turn, each with its answer
 abbrev pub Runs : World → List Event → List Answer → World → Type 0

@@ -1,23 +1,21 @@
 //! What is answered to events.
-use mailstore::{Refusal, Report};
+use mailstore::{Outgoing, Refusal, Report};
 use octets::Octets;
-
-/// How a session goes on after an answer.
-#[derive(Clone, Copy, Debug, PartialEq, Eq)]
-pub enum Progress {
-    /// One command was answered.
-    Done,
-}
+use sessions::Progress;
 
 /// What is answered to an event.
 #[derive(Drop)]
 pub enum Answer {
-    /// The octets that the client is sent.
+    /// How the session goes on, and the octets that the client is sent.
     Out(Progress, Octets),
     /// A delivery was made.
     Delivered(Report),
     /// An account was made.
     Added,
+    /// A row was taken out of the queue.
+    Taken(Outgoing),
+    /// The event isn't one for the session's number.
+    Ignored,
     /// The event was refused, and changed nothing.
     Refused(Refusal),
 }

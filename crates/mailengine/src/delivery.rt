@@ -1,27 +1,38 @@
 //! The delivery of a message.
-ghost use Rattle.std.specs.Prelude.{◌≡◌, OnOk, OnErr, IfSome, Err};
+ghost use Rattle.std.specs.Prelude.{◌≡◌, Err, IfErr, IfSome};
 ghost use Rattle.sqlite.specs.Held.{state};
-ghost use Rattle.sqlite.specs.State.{HasCleanDisk, Survives};
-ghost use Rattle.mailstore.specs.Connection.{IsSettled, StaysSame};
-ghost use Rattle.mailstore.specs.Account.{Accounts};
-ghost use Rattle.mailstore.specs.Shows.{Presents};
-ghost use Rattle.mailengine.specs.declared.event.Event.TheVariants.{Deliver};
-ghost use Rattle.mailengine.specs.Limits.{cause_of};
-ghost use Rattle.mailengine.specs.Stands.{IsEvent, MayLeave, delivery_told};
+ghost use Rattle.mailstore.specs.Account.{delivers};
+ghost use Rattle.mailstore.specs.Cells.{contents};
+ghost use Rattle.mailstore.specs.Promises.{WritesAccount};
+ghost use Rattle.mailstore.specs.Refusals.{IsPassing};
+ghost use Rattle.mailengine.specs.Hosts.{ActsDelivery, RefusesDelivery};
+ghost use Rattle.mailengine.specs.Limits as limits;
+ghost use Rattle.mailengine.specs.Lookups.{LooksUp, IsLookup};
 
-use crate::limits::denied;
-use crate::plan::plan;
-use crate::view::active_text;
+use crate::account::{ActiveScript, active_script};
+use crate::limits::limit_refusal;
+use addrparts::bare_address;
+use deliverplan::{View, plan};
 use mailstore::{Plan, Refusal, Report, Store};
-use sieveexec::Envelope;
+use octets::Octets;
+use sieveexec::{Envelope, Mail};
 use sqlite::Alter;
 use std::alloc::Global;
 
+/// What a delivery has to know of the account.
+#[derive(Drop)]
+pub(crate) struct Lookup {
+    pub view: View,
+    /// The text of the active script, if one is active.
+    pub text: Option<Octets>,
+}
+
 /// Delivers a message to a user by the active script (RFC 5228, 2.10), in one transaction, which is its last act.
 ///
-/// `moment` is in seconds since 1970-01-01 UTC. The message is borrowed and written once for each folder. Without an
-/// active script, where its text is none, or where its run fails, the message goes into INBOX; one that is redirected
-/// goes there too, since nothing is sent on yet.
+/// `moment` is in seconds since 1970-01-01 UTC. The message is borrowed and read once; no copy of it is made beside what
+/// the store writes. What the script says is carried out: the message joins folders and the queue, and the sender is
+/// answered, at most once in a period. Without an active script it joins INBOX; where the text is no script, where its run
+/// fails, or where the message has more than 100 Received fields, it joins INBOX too, and the user is left a notice.
 ///
 /// # Errors
 ///
@@ -37,18 +48,56 @@ pub fn deliver<S: Alter>(
     message: &[u8],
     moment: u64,
 ) -> Result<Report, Refusal>
-    ensures event { IsEvent (Deliver user.now envelope message.now moment) (delivery_told result) (state S.Store store.old) (state S.Store store.new) }
-    ensures early { IfSome (cause_of envelope message.now moment) (λ refusal. (result ≡ Err refusal) × (store.new ≡ store.old)) }
-    ensures settled { HasCleanDisk (state S.Store store.new) → OnOk result (IsSettled (state S.Store store.new)) }
-    ensures same { HasCleanDisk (state S.Store store.new) → (accounts : Accounts) → Presents (state S.Store store.old).now accounts → OnErr result (StaysSame (state S.Store store.old) (state S.Store store.new)) }
-    ensures crash { Survives (state S.Store store.old) (state S.Store store.new) (MayLeave (Deliver user.now envelope message.now moment) (state S.Store store.old)) }
+    ensures acts { ActsDelivery user.now envelope message.now moment (state S.Store store.old) (state S.Store store.new) result }
+    ensures early { IfSome (limits.limit_refusal envelope message.now moment) (λ refusal. (result ≡ Err refusal) × (store.new ≡ store.old)) }
+    ensures named { IfErr result (RefusesDelivery envelope message.now moment) }
 {
-    if let Some(refusal) = denied(&envelope, message, moment) {
+    if let Some(refusal) = limit_refusal(&envelope, message, moment) {
         return Err(refusal);
     }
-    let text = active_text(store, user)?;
-    let plan = plan(alloc, text.as_ref(), envelope, message)?;
-    store.commit_delivery(user, &plan)?;
+    let Lookup { view, text } = look_up(alloc, store, user, envelope.from.as_slice())?;
+    let mail = Mail::read(alloc, message, envelope)?;
+    let plan = plan(alloc, &view, slice_of(&text), &mail, moment)?;
+    commit(store, user, &plan)?;
+    Ok(report_of(plan))
+}
+
+/// What a delivery has to know of the user's account. An account whose address is no addr-spec is refused as `Store`: no
+/// delivery to it is defined.
+fn look_up<S: Alter>(
+    alloc: Global,
+    store: &mut Store<S>,
+    user: &[u8],
+    sender: &[u8],
+) -> Result<Lookup, Refusal>
+    ensures { LooksUp user.now (IsLookup sender.now) (state S.Store store.old) (state S.Store store.new) result }
+{
+    let ActiveScript { profile, text } = active_script(store, user)?;
+    let Some(address) = bare_address(alloc, profile.address.as_slice())? else {
+        return Err(Refusal::Store);
+    };
+    let replies = store.replies(user, sender)?;
+    Ok(Lookup {
+        view: View { address, replies },
+        text,
+    })
+}
+
+/// Writes the delivery. An account that was read a moment ago is there: a store that finds none is refused as `Store`.
+fn commit<S: Alter>(store: &mut Store<S>, user: &[u8], plan: &Plan<'_>) -> Result<(), Refusal>
+    ensures writes { WritesAccount user.now (delivers plan.now) (state S.Store store.old) (state S.Store store.new) result }
+    ensures named { IfErr result IsPassing }
+{
+    match store.commit_delivery(user, plan) {
+        Err(Refusal::NoUser) => Err(Refusal::Store),
+        done => done,
+    }
+}
+
+/// What the plan reports.
+fn report_of(plan: Plan<'_>) -> Report
+    ensures { result ≡ plan.entry.report }
+{
     let Plan {
         message: _,
         sender: _,
@@ -59,5 +108,15 @@ pub fn deliver<S: Alter>(
         notice: _,
         report,
     } = plan;
-    Ok(report)
+    report
+}
+
+// The text's octets, if there is one.
+fn slice_of(text: &Option<Octets>) -> Option<&[u8]>
+    ensures { contents result ≡ text.now }
+{
+    match text {
+        Some(text) => Some(text.as_slice()),
+        None => None,
+    }
 }

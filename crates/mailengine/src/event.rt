@@ -1,10 +1,20 @@
-//! What happens to the accounts, one event after the other.
+//! What happens to the accounts and the sessions, one event after the other.
 use octets::Octets;
 use sieveexec::Envelope;
 
-/// What happens, with all that it brings from outside.
+/// What happens, with all that it brings from outside. A session goes by a number.
 #[derive(Drop)]
 pub enum Event {
+    /// A client comes.
+    Open(u32),
+    /// Octets come from a client.
+    Give(u32, Octets),
+    /// The first item that a client sent is taken off and answered.
+    Step(u32),
+    /// The first item that a client sent can't be answered now, and is dropped.
+    GiveUp(u32),
+    /// A client goes.
+    Close(u32),
     /// A message is delivered to a user.
     Deliver {
         /// The user's name.
@@ -26,11 +36,11 @@ pub enum Event {
         /// The password; its digest is kept.
         password: Octets,
     },
-    /// A user sends one `PUTSCRIPT` or `SETACTIVE` as a whole (RFC 5804, 2.6 and 2.8).
-    Whole {
-        /// The user's name; the user counts as logged in.
+    /// A row of a user's queue is taken out.
+    TakeOut {
+        /// The user's name.
         user: Octets,
-        /// The command with its line end, and nothing more.
-        bytes: Octets,
+        /// The row's number.
+        id: u64,
     },
 }

@@ -1,9 +1,30 @@
 //! Laws of the definitions, each the contract of a function that does nothing.
-ghost use Rattle.std.specs.Prelude.{List};
+ghost use Rattle.std.specs.Prelude.{◌≡◌, ℕ, List, Option};
 ghost use Rattle.mailengine.specs.declared.event.Event.{Event};
 ghost use Rattle.mailengine.specs.declared.answer.Answer.{Answer};
-ghost use Rattle.mailengine.specs.World.{World, Next, Runs};
 ghost use Rattle.mailengine.specs.Sound.{AreSound};
+ghost use Rattle.mailengine.specs.World.{World, Next, Runs};
+ghost use Rattle.deliverplan.specs.Delivered.{HasOneTree};
+ghost use Rattle.mailstore.specs.Account.{Account};
+ghost use Rattle.mailengine.specs.OwnActs.{Act, Alone, IsAlone};
+ghost use Rattle.mailengine.specs.Spacing.{IsSpacing, sent};
+
+/// What becomes of a user's account, and what it is answered, is by the user's own acts alone.
+pub fn each_user_alone()
+    ensures { (events : List Event) (told : List Answer) (w end : World) (run : Runs w events told end) → IsAlone w events told end run }
+{}
+
+/// The same acts leave a user with the same account, where each text means one tree at most, as `sievesyntax::check` says
+/// of each text that it takes: what others did between, and in what order, is nowhere in it.
+pub fn account_by_acts()
+    ensures { ((text : Option (List ℕ)) → HasOneTree text) → (user : List ℕ) (acts : List Act) (account one two : Option Account)
+        → Alone user account acts one → Alone user account acts two → one ≡ two }
+{}
+
+/// No sender gets two answers under one handle within the period.
+pub fn answers_spaced()
+    ensures { (events : List Event) (told : List Answer) (w end : World) (run : Runs w events told end) → IsSpacing w.accounts end.accounts (sent w events told end run) }
+{}
 
 /// Sound accounts stay sound, whatever happens to them and whatever is answered.
 pub fn sound_accounts()

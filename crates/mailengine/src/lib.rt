@@ -1,32 +1,27 @@
-//! What a script does with a message, and the delivery of messages to accounts.
+//! The machine: accounts and sessions of ManageSieve, which events change one after the other.
 #![tactic(auto)]
 
+mod account;
 mod answer;
+mod clients;
 mod delivery;
+mod evaluate;
 mod event;
-mod happening;
 pub mod laws;
 mod limits;
-mod notice;
-mod obey;
-mod one_command;
-mod plan;
-mod reply;
-mod runs;
-mod script_name;
-mod trial;
+mod machine;
+mod replay;
+mod taking;
 mod user;
-mod view;
-mod world;
 
-pub use answer::{Answer, Progress};
+pub use answer::Answer;
 pub use delivery::deliver;
+pub use evaluate::attempt;
 pub use event::Event;
-pub use mailstore::{Plan, Refusal, Report};
-pub use notice::notice_text;
-pub use one_command::whole;
-pub use runs::{Ran, run};
+pub use machine::World;
+pub use mailstore::{Kind, Outgoing, Refusal, Report};
+pub use replay::{Ran, run};
+pub use sessions::Progress;
 pub use sieveexec::{Envelope, Failure, Outcome};
-pub use trial::attempt;
+pub use taking::take_out;
 pub use user::add_user;
-pub use world::World;

@@ -1,29 +1,30 @@
 //! What is taken: sizes, names and moments.
 ghost use Rattle.std.specs.Prelude.{◌≡◌};
 ghost use Rattle.std.specs.List.{list_any};
-ghost use Rattle.mailengine.specs.Limits.{cause_of, is_envelope_address, is_broken};
+ghost use Rattle.mailengine.specs.Limits as limits;
+ghost use Rattle.mailengine.specs.Limits.{is_envelope_address, is_forbidden_octet};
 
 use mailstore::Refusal;
 use sieveexec::Envelope;
 
 /// How many octets a message may have.
-pub const MESSAGE_LIMIT: usize = 33_554_432;
+pub const MAX_MESSAGE: usize = 33_554_432;
 /// How many octets an envelope address may have.
-pub const ADDRESS_LIMIT: usize = 1_024;
+pub const MAX_ENVELOPE_ADDRESS: usize = 1_024;
 /// The last second of the year 9999.
-pub const MOMENT_LIMIT: u64 = 253_402_300_799;
+pub const MAX_MOMENT: u64 = 253_402_300_799;
 
 /// Why a delivery is refused before anything is looked up, the first cause in the order of these. Takes no memory.
-pub fn denied(envelope: &Envelope, message: &[u8], moment: u64) -> Option<Refusal>
-    ensures { result ≡ cause_of envelope.now message.now moment }
+pub fn limit_refusal(envelope: &Envelope, message: &[u8], moment: u64) -> Option<Refusal>
+    ensures { result ≡ limits.limit_refusal envelope.now message.now moment }
 {
-    if message.len() > MESSAGE_LIMIT {
+    if message.len() > MAX_MESSAGE {
         return Some(Refusal::TooLarge);
     }
     if !(is_address(envelope.from.as_slice()) && is_address(envelope.to.as_slice())) {
         return Some(Refusal::BadEnvelope);
     }
-    if moment > MOMENT_LIMIT {
+    if moment > MAX_MOMENT {
         return Some(Refusal::BadMoment);
     }
     None
@@ -33,11 +34,11 @@ pub fn denied(envelope: &Envelope, message: &[u8], moment: u64) -> Option<Refusa
 fn is_address(text: &[u8]) -> bool
     ensures { result ≡ is_envelope_address text.now }
 {
-    text.len() <= ADDRESS_LIMIT && !has_broken(text)
+    text.len() <= MAX_ENVELOPE_ADDRESS && !has_forbidden_octet(text)
 }
 
-fn has_broken(text: &[u8]) -> bool
-    ensures { result ≡ list_any is_broken text.now }
+fn has_forbidden_octet(text: &[u8]) -> bool
+    ensures { result ≡ list_any is_forbidden_octet text.now }
 {
     text.iter()
         .any(|octet| *octet == 0 || *octet == b'\n' || *octet == b'\r')

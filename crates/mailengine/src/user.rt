@@ -1,16 +1,11 @@
 //! New users.
-ghost use Rattle.std.specs.Prelude.{◌≡◌, ◌==◌, IfOk, IfErr, OnOk, OnErr, MatchBool};
+ghost use Rattle.std.specs.Prelude.{◌≡◌, ◌==◌, IfOk, IfErr, MatchBool};
 ghost use Rattle.std.specs.List.{list_all, list_any};
 ghost use Rattle.sqlite.specs.Held.{state};
-ghost use Rattle.sqlite.specs.State.{HasCleanDisk, Survives};
-ghost use Rattle.mailstore.specs.Connection.{IsSettled, StaysSame};
-ghost use Rattle.mailstore.specs.Account.{Accounts};
-ghost use Rattle.mailstore.specs.Shows.{Presents};
-ghost use Rattle.mailstore.specs.declared.refusal.Refusal.TheVariants.{Memory, BadUser};
-ghost use Rattle.mailengine.specs.declared.event.Event.TheVariants.{AddUser};
+ghost use Rattle.mailstore.specs.declared.refusal.Refusal.TheVariants.{BadUser};
+ghost use Rattle.mailengine.specs.Hosts.{ActsAddition, RefusesAddition};
 ghost use Rattle.mailengine.specs.Limits as limits;
 ghost use Rattle.mailengine.specs.Limits.{IsNewUser, IsOwnAddress};
-ghost use Rattle.mailengine.specs.Stands.{IsEvent, MayLeave, addition_told};
 
 use addrparts::bare_address;
 use mailstore::{Refusal, Store};
@@ -45,12 +40,10 @@ pub fn add_user<S: Alter>(
     salt: [u8; 16],
     password: &[u8],
 ) -> Result<(), Refusal>
-    ensures event { IsEvent (AddUser name.now address.now salt password.now) (addition_told result) (state S.Store store.old) (state S.Store store.new) }
+    ensures acts { ActsAddition name.now address.now salt password.now (state S.Store store.old) (state S.Store store.new) result }
     ensures early { IfErr result (λ e. e ≡ BadUser → store.new ≡ store.old) }
     ensures unasked { (IsNewUser name.now address.now password.now → ⊥) → store.new ≡ store.old }
-    ensures settled { HasCleanDisk (state S.Store store.new) → OnOk result (IsSettled (state S.Store store.new)) }
-    ensures same { HasCleanDisk (state S.Store store.new) → (accounts : Accounts) → Presents (state S.Store store.old).now accounts → OnErr result (StaysSame (state S.Store store.old) (state S.Store store.new)) }
-    ensures crash { Survives (state S.Store store.old) (state S.Store store.new) (MayLeave (AddUser name.now address.now salt password.now) (state S.Store store.old)) }
+    ensures named { IfErr result (RefusesAddition name.now address.now password.now) }
 {
     if !is_new_user(alloc, name, address, password)? {
         return Err(Refusal::BadUser);

@@ -1,6 +1,7 @@
--- The size of a message by example: what it is, and what is near it that it isn't.
-use Rattle.std.proofs.Common.{refl, ◌≡◌}
+-- The definitions at a few texts: what they hold of, and what is near it that they don't.
+use Rattle.std.proofs.Common.{refl, ◌≡◌, [], ◌∷◌, inl, inr, ⊎_elim}
 use Rattle.std.specs.Prelude.{codes}
+use Rattle.mailhead.specs.Lines.{HasEnd}
 use Rattle.mailhead.specs.Heads.{size_of}
 
 -- a, LF, b, CR, LF: the bare line feed counts twice
@@ -17,3 +18,11 @@ size-feed = refl
 
 size-crlf : size_of (codes "\r\n") ≡ 2
 size-crlf = refl
+
+-- a, CR, LF: the line end is both
+end-crlf : HasEnd (codes "a\r\n") (codes "a") (codes "\r\n")
+end-crlf = record { spelled = refl; kind = inl refl }
+
+-- and not the line feed alone
+end-not_feed : HasEnd (codes "a\r\n") (codes "a\r") (codes "\n") → ⊥
+end-not_feed has = ⊎_elim (λ both. cc both) (λ other. ⊎_elim (λ feed. feed.1 (codes "a") refl) (λ none. cc none.0) other) has.kind

@@ -6,4 +6,5 @@ pub mod FormLemmas
 pub mod CutLemmas
 pub mod PlaceLemmas
 pub mod SizeLemmas
+pub mod EndLaws
 pub mod Examples

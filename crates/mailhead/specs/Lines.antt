@@ -1,5 +1,5 @@
 -- Lines and logical lines (RFC 5322, sections 2.1 and 2.2.3).
-use Rattle.std.specs.Prelude.{◌≡◌, ◌≢◌, ◌⊎◌, ℕ, ◌-◌, ◌==◌, Bool, true, false, cond, ◌&&◌, not, List, [], ◌∷◌, ◌++◌, length, take, slice_index}
+use Rattle.std.specs.Prelude.{◌≡◌, ◌≢◌, ◌⊎◌, ℕ, ◌-◌, ◌==◌, Bool, true, false, cond, ◌&&◌, not, List, [], ◌∷◌, ◌++◌, length, take, drop, slice_index}
 use Rattle.std.specs.List.{list_all}
 use Rattle.octets.specs.Ascii.{is_blank}
 
@@ -75,10 +75,27 @@ abbrev pub body_lines : List (List ℕ) → List (List ℕ)
 body_lines [] = []
 body_lines (line ∷ more) = cond (is_empty_line line) more (body_lines more)
 
+-- CR is not the last octet
+abbrev pub EndsBare : List ℕ → Type 0
+EndsBare text = (front : List ℕ) → text ≢ front ++ 13 ∷ []
+
+-- LF is not the last octet
+abbrev pub IsUnended : List ℕ → Type 0
+IsUnended text = (front : List ℕ) → text ≢ front ++ 10 ∷ []
+
+-- a line's text, and its line end: CRLF, an LF without CR before it, or nothing
+pub record HasEnd (line text ending : List ℕ) : Type 0 where
+  pub spelled : line ≡ text ++ ending
+  pub kind : (ending ≡ 13 ∷ 10 ∷ []) ⊎ (((ending ≡ 10 ∷ []) × EndsBare text) ⊎ ((ending ≡ []) × IsUnended text))
+
 -- how many octets a line's end has: CRLF, LF, or none
 abbrev pub end_len : List ℕ → ℕ
 end_len line = cond (is_feed (slice_index line (length line - 1))) (cond (slice_index line (length line - 2) == 13) 2 1) 0
 
--- a line without its line end
+-- a line without its line end: the one text that is in HasEnd with it
 abbrev pub without_end : List ℕ → List ℕ
 without_end line = take (length line - end_len line) line
+
+-- a line's end
+abbrev pub end_of : List ℕ → List ℕ
+end_of line = drop (length line - end_len line) line

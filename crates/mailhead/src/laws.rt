@@ -1,8 +1,8 @@
 //! Laws of the definitions, each the contract of a function that does nothing.
-ghost use Rattle.std.specs.Prelude.{◌≡◌, ◌↔◌, ℕ, List, Some, drop};
+ghost use Rattle.std.specs.Prelude.{◌≡◌, ◌↔◌, ℕ, List, Some, drop, map};
 ghost use Rattle.mailhead.specs.Fields.{FieldText, IsField, field_of};
-ghost use Rattle.mailhead.specs.Heads.{body_of, body_start};
-ghost use Rattle.mailhead.specs.Lines.{AreLines, lines_of};
+ghost use Rattle.mailhead.specs.Heads.{body_of, body_start, fields_of, places_of, text_at};
+ghost use Rattle.mailhead.specs.Lines.{AreLines, HasEnd, end_of, lines_of, without_end};
 
 /// A text has one list of lines.
 pub fn lines_of_a_text()
@@ -10,9 +10,20 @@ pub fn lines_of_a_text()
     ensures only { (text : List ℕ) (lines : List (List ℕ)) → AreLines lines text → lines ≡ lines_of text }
 {}
 
+/// A line has one text and one line end.
+pub fn end_of_a_line()
+    ensures found { (line : List ℕ) → HasEnd line (without_end line) (end_of line) }
+    ensures only { (line text ending : List ℕ) → HasEnd line text ending → (text ≡ without_end line) × (ending ≡ end_of line) }
+{}
+
 /// A logical line is a field exactly where it has a field's form, and then one field alone.
 pub fn form_of_a_field()
     ensures { (line : List ℕ) (field : FieldText) → (field_of line ≡ Some field) ↔ IsField line field }
+{}
+
+/// The fields stand in the message at their places.
+pub fn places_of_the_fields()
+    ensures { (message : List ℕ) → map (text_at message) (places_of message) ≡ fields_of message }
 {}
 
 /// The body is the end of the message.

@@ -1,10 +1,10 @@
 //! The head of a message.
-ghost use Rattle.std.specs.Prelude.{◌≡◌, IfOk, map, option_copied};
+ghost use Rattle.std.specs.Prelude.{◌≡◌, IfOk, option_copied};
 ghost use Rattle.mailhead.specs.Cuts.{after_empty, rest_after_feed};
 ghost use Rattle.mailhead.specs.Lines.{lines_of};
 ghost use Rattle.mailhead.specs.Reads.{Reads};
 ghost use Rattle.mailhead.specs.Fields.{texts_of};
-ghost use Rattle.mailhead.specs.Heads.{fields_of, body_of, places_of, text_at, size_of};
+ghost use Rattle.mailhead.specs.Heads.{fields_of, body_of, size_of};
 
 use crate::header::{Field, read_field};
 use crate::line::{CR, LF, logical_line};
@@ -49,8 +49,7 @@ impl<'a> Head<'a> {
 
     /// The fields, in order: each logical line that is one. Other lines are passed over.
     pub fn fields(&self) -> &[Field<'a>]
-        ensures fields { texts_of result.now ≡ fields_of self.now }
-        ensures places { texts_of result.now ≡ map (text_at self.now) (places_of self.now) }
+        ensures { texts_of result.now ≡ fields_of self.now }
     {
         self.fields.as_slice()
     }

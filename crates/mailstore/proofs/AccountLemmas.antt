@@ -1,32 +1,31 @@
 -- What row changes make of the account that one user's rows show.
-use Rattle.std.proofs.Common.{◌≡◌, ◌≢◌, ◌==◌, ℕ, suc, pos, ◌+◌, ◌<◌, ◌≤◌, Bool, true, false, not, List, [], ◌∷◌, ◌++◌, map, fold, length, Option, Some, None, option_map, refl, sym, ap, ◌∙◌, subst, arith, is_eq, Ordering, Less, Equal, Greater, inl, inr, int_eq, eq-eqb, ne_eqb}
+use Rattle.std.proofs.Common.{◌≡◌, ◌==◌, ℕ, pos, Bool, false, not, List, [], ◌∷◌, ◌++◌, map, Option, Some, None, option_map, refl, sym, ap, ◌∙◌, subst, is_eq, Ordering, Less, Equal, Greater, inl, inr, int_eq, eq-eqb, ne_eqb}
 use Rattle.std.proofs.lemmas.Bool.{cases_eq}
 use Rattle.std.proofs.lemmas.Bool.Decides.{Decides-int_eq}
 use Rattle.sqlite_keyed.proofs.KeyedLemmas.{int_eq_apart}
 use Rattle.std.specs.Cmp.{IsTotalOrder, tied_then}
 use Rattle.std.specs.Ordering.{ordering_then}
-use Rattle.std.specs.List.{AllByRecursion}
-use Rattle.std.specs.FinMap.{empty, get, insert, IsAntisymmetric, slice_cmp-IsAntisymmetric, nat_cmp-IsAntisymmetric}
+use Rattle.std.specs.FinMap.{get, insert, IsAntisymmetric, slice_cmp-IsAntisymmetric, nat_cmp-IsAntisymmetric}
 use Rattle.std.proofs.lemmas.Cmp.{nat_list_cmp_total, then_total, on_total}
 use Rattle.std.proofs.lemmas.List.{map-append}
 use Rattle.sqlite_value.specs.declared.value.Value.TheVariants.{Blob, Int}
 use Rattle.sqlite_value.specs.Order.{Row}
 use Rattle.sqlite_sql.specs.declared.ops.CompareOp.TheVariants.{Eq}
 use Rattle.sqlite_keyed.specs.Lists.{update_where, delete_where}
-use Rattle.sqlite_keyed.proofs.ListLemmas.{filter-map, filter_same, all_weaker, all-append}
+use Rattle.sqlite_keyed.proofs.ListLemmas.{filter-map, filter_same}
 use Rattle.sqlite_typed.proofs.TestLemmas.{at_blobs, at_ints, last_term, then_term}
 use Rattle.sqlrows.specs.Rows.{Tables, has_key, added, removed, set_in}
 use Rattle.sqlrows.proofs.ListLemmas.{owner_key, pair_key, equal_itself}
 use Rattle.mailstore.specs.declared.queue.Outgoing.{Outgoing}
 use Rattle.mailstore.specs.Cells.{or_null}
-use Rattle.mailstore.specs.Changes.{copied}
-use Rattle.mailstore.specs.Account.{bytes_cmp, reply_cmp, Account, Folders, new_account, keeps_script, activates, deletes_script, renames_script, moved, other_name, takes_out, filed, files_copies}
-use Rattle.mailstore.specs.AccountTable.{account_cells, with_active, with_next_copy, account_tree}
+use Rattle.mailstore.specs.Account.{bytes_cmp, reply_cmp, Account, Replies, new_account, keeps_script, activates, deletes_script, renames_script, moved, other_name, takes_out}
+use Rattle.mailstore.specs.AccountTable.{account_cells, with_active, account_tree}
 use Rattle.mailstore.specs.ScriptTable.{script_cells, script_row, script_tree}
-use Rattle.mailstore.specs.CopyTable.{copy_cells, Copy, copy_row, copy_tree}
-use Rattle.mailstore.specs.ReplyTable.{reply_cells, reply_key, reply_row, reply_tree}
+use Rattle.mailstore.specs.MessageTable.{Message, message_key, message_row, message_tree}
+use Rattle.mailstore.specs.CopyTable.{copy_row, copy_tree}
+use Rattle.mailstore.specs.ReplyTable.{reply_cells, reply_key, reply_row, ShowsReplies}
 use Rattle.mailstore.specs.Shows.{IsShown, IsAbsent}
-use Rattle.mailstore.proofs.NumberLemmas.{numbered_none, numbered_push, numbered_up, numbered_without}
+use Rattle.mailstore.proofs.NumberLemmas.{numbered_none, numbered_without}
 use Rattle.mailstore.proofs.MapLemmas.{shown_put, shown_without, apart_put, apart_without}
 use Rattle.mailstore.specs.NoticeTable.{notice_row, notice_tree}
 use Rattle.mailstore.specs.QueueTable.{outgoing_tree, queue_key, queue_row}
@@ -74,6 +73,28 @@ same_numbers m n = elim (cases_eq m n) [
 pub queue_is : (user : List ℕ) (id : ℕ) (out : Outgoing) → has_key (queue_key user (pos id)) (queue_row user out) ≡ (out.id == id)
 queue_is user id out = rw (equal_itself user) (last_term (at_ints false Eq (pos out.id) (pos id)) ∙ same_numbers out.id id)
 
+-- a row of a message has a key of its owner and a number where the number is that
+pub message_is : (user : List ℕ) (id : ℕ) (m : Message) → has_key (message_key user (pos id)) (message_row user m) ≡ (m.id == id)
+message_is user id m = rw (equal_itself user) (last_term (at_ints false Eq (pos m.id) (pos id)) ∙ same_numbers m.id id)
+
+-- a reply in place of one with its key
+module _ (user : List ℕ) (rows : List Row) (replies : Replies) (s : ShowsReplies user rows replies) (key : List ℕ × List ℕ) where
+  -- the rows of the other replies
+  replies_left : delete_where (has_key (reply_key user key.0 key.1)) rows ≡ map (reply_row user) (delete_where (is_reply key) s.entries)
+  replies_left =
+      ap (delete_where (has_key (reply_key user key.0 key.1))) s.rows_are ∙ filter-map (λ r. not (has_key (reply_key user key.0 key.1) r)) (reply_row user) s.entries
+      ∙ ap (map (reply_row user)) (filter_same _ (λ e. not (is_reply key e)) (λ e. ap not (reply_is user key.0 key.1 e.0.0 e.0.1 (Int (pos e.1) ∷ []))) s.entries)
+
+  pub replies_put : (moment : ℕ) → ShowsReplies user (delete_where (has_key (reply_key user key.0 key.1)) rows ++ reply_cells user key.0 key.1 (pos moment) ∷ []) (insert replies key moment)
+  replies_put moment =
+      let left = delete_where (is_reply key) s.entries in
+      record {
+        entries = left ++ (key, moment) ∷ [];
+        rows_are = ap (λ l. l ++ reply_cells user key.0 key.1 (pos moment) ∷ []) replies_left ∙ sym (map-append (reply_row user) left ((key, moment) ∷ []));
+        shown = shown_put reply_cmp reply_total reply_antisymmetric replies s.entries key moment s.shown;
+        apart = apart_put reply_cmp reply_total reply_antisymmetric s.entries key moment s.apart;
+      }
+
 module _ (user : List ℕ) (own : Tables) (a : Account) (s : IsShown user own a) where
   -- the rows of the other names
   others_left : (name : List ℕ) → delete_where (has_key (pair_key user name)) (own script_tree) ≡ map (script_row user) (delete_where (is_named name) s.scripts.entries)
@@ -117,32 +138,6 @@ module _ (user : List ℕ) (own : Tables) (a : Account) (s : IsShown user own a)
         copies = s.copies;
       }
 
-  -- the rows of the other replies
-  replies_left : (key : List ℕ × List ℕ) → delete_where (has_key (reply_key user key.0 key.1)) (own reply_tree) ≡ map (reply_row user) (delete_where (is_reply key) s.replies.entries)
-  replies_left key =
-      ap (delete_where (has_key (reply_key user key.0 key.1))) s.replies.rows_are ∙ filter-map (λ r. not (has_key (reply_key user key.0 key.1) r)) (reply_row user) s.replies.entries
-      ∙ ap (map (reply_row user)) (filter_same _ (λ e. not (is_reply key e)) (λ e. ap not (reply_is user key.0 key.1 e.0.0 e.0.1 (Int (pos e.1) ∷ []))) s.replies.entries)
-
-  pub reply_put : (key : List ℕ × List ℕ) (moment : ℕ) → IsShown user (added reply_tree (reply_cells user key.0 key.1 (pos moment)) (removed reply_tree (reply_key user key.0 key.1) own))
-      (record a { replies = insert a.replies key moment })
-  reply_put key moment =
-      let left = delete_where (is_reply key) s.replies.entries in
-      record {
-        next_copy = s.next_copy;
-        next_notice = s.next_notice;
-        account_is = s.account_is;
-        scripts = s.scripts;
-        queue = s.queue;
-        replies = record {
-          entries = left ++ (key, moment) ∷ [];
-          rows_are = ap (λ l. l ++ reply_cells user key.0 key.1 (pos moment) ∷ []) (replies_left key) ∙ sym (map-append (reply_row user) left ((key, moment) ∷ []));
-          shown = shown_put reply_cmp reply_total reply_antisymmetric a.replies s.replies.entries key moment s.replies.shown;
-          apart = apart_put reply_cmp reply_total reply_antisymmetric s.replies.entries key moment s.replies.apart;
-        };
-        notices = s.notices;
-        copies = s.copies;
-      }
-
   -- the row with the number is gone from the queue
   pub queue_gone : (id : ℕ) → IsShown user (removed outgoing_tree (queue_key user (pos id)) own) (takes_out id a)
   queue_gone id = record {
@@ -168,55 +163,6 @@ module _ (user : List ℕ) (own : Tables) (a : Account) (s : IsShown user own a)
     copies = s.copies;
   }
 
-  -- the counter of copies goes up before they join
-  pub counter_put : (next : ℕ) → s.next_copy ≤ next → (t : IsShown user (set_in account_tree (owner_key user) (with_next_copy (pos next)) own) a) × (t.next_copy ≡ next) × (t.copies.entries ≡ s.copies.entries)
-  counter_put next up = (
-    record {
-      next_copy = next;
-      next_notice = s.next_notice;
-      account_is = ap (update_where (has_key (owner_key user)) (with_next_copy (pos next))) s.account_is ∙ rw (equal_itself user) refl;
-      scripts = s.scripts;
-      queue = s.queue;
-      replies = s.replies;
-      notices = s.notices;
-      copies = record {
-        entries = s.copies.entries;
-        numbered = numbered_up (λ c. c.n) (copy_row user) (own copy_tree) s.copies.entries s.next_copy next up s.copies.numbered;
-        shown = s.copies.shown;
-      };
-    },
-    refl,
-    refl,
-  )
-
-  -- a copy with a number above those that are there
-  pub copy_put : (name message : List ℕ) (n : ℕ) → AllByRecursion (λ c. c.n < n) s.copies.entries → 1 ≤ n → n < s.next_copy
-      → (t : IsShown user (added copy_tree (copy_cells user name (pos n) message) own) (record a { folders = filed a.folders name message })) × (t.next_copy ≡ s.next_copy)
-      × (t.copies.entries ≡ s.copies.entries ++ record { folder = name; n = n; message = message } ∷ [])
-  copy_put name message n above one low =
-      let c : Copy = record { folder = name; n = n; message = message } in (
-        record {
-          next_copy = s.next_copy;
-          next_notice = s.next_notice;
-          account_is = s.account_is;
-          scripts = s.scripts;
-          queue = s.queue;
-          replies = s.replies;
-          notices = s.notices;
-          copies = record {
-            entries = s.copies.entries ++ c ∷ [];
-            numbered = numbered_push (λ c. c.n) (copy_row user) (own copy_tree) s.copies.entries s.next_copy c above one low s.copies.numbered;
-            shown = ap (λ m. filed m name message) s.copies.shown ∙ sym (folded s.copies.entries empty c);
-          };
-        },
-        refl,
-        refl,
-      )
-    where
-      folded : (cs : List Copy) (from : Folders) (c : Copy) → fold (λ folders copy. filed folders copy.folder copy.message) from (cs ++ c ∷ []) ≡ filed (fold (λ folders copy. filed folders copy.folder copy.message) from cs) c.folder c.message
-      folded [] from c = refl
-      folded (d ∷ cs) from c = folded cs (filed from d.folder d.message) c
-
 -- a script under another name
 module _ (user name other : List ℕ) (active : Option (List ℕ)) (own : Tables) (a : Account) (s : IsShown user own a) (is : active ≡ option_map (other_name name other) a.active) where
   pub script_moved : (text : List ℕ) → Some text ≡ get a.scripts name
@@ -232,15 +178,6 @@ module _ (user name other : List ℕ) (active : Option (List ℕ)) (own : Tables
       let same : activates active a ≡ renames_script name other a = λ i. record a { scripts = moved a.scripts name other (none i); active = is i } in
       subst (IsShown user _) same (active_put user own a s active)
 
-pub copies_put : (user message : List ℕ) (names : List (List ℕ)) (n : ℕ) (own : Tables) (a : Account) (s : IsShown user own a) → AllByRecursion (λ c. c.n < n) s.copies.entries → 1 ≤ n → n + length names ≤ s.next_copy
-    → IsShown user (copied user message n names own) (files_copies names message a)
-copies_put user message [] n own a s above one fits = s
-copies_put user message (name ∷ names) n own a s above one fits =
-    let first = copy_put user own a s name message n above one (omega arith) in
-    let c : Copy = record { folder = name; n = n; message = message } in
-    let higher = subst (AllByRecursion (λ d. d.n < suc n)) (sym first.2) (all-append (λ d. d.n < suc n) s.copies.entries (c ∷ []) (all_weaker (λ d. d.n < n) (λ d. d.n < suc n) (λ d h. omega arith) _ above) (omega arith, tt)) in
-    copies_put user message names (suc n) _ _ first.0 higher (omega arith) (omega (arith, first.1))
-
 -- from no rows to a new account
 pub account_put : (user address salt : List ℕ) (rounds : ℕ) (digest : List ℕ) (own : Tables) → IsAbsent own
     → IsShown user (added account_tree (account_cells user address salt rounds digest) own) (new_account address (record { salt = salt; rounds = rounds; digest = digest }))
@@ -252,5 +189,12 @@ account_put user address salt rounds digest own s = record {
   queue = numbered_none (λ q. q.id) (queue_row user) (own outgoing_tree) s.queue;
   replies = record { entries = []; rows_are = s.replies; shown = refl; apart = tt };
   notices = record { entries = []; numbered = numbered_none (λ e. e.0) (notice_row user) (own notice_tree) s.notices; shown = refl };
-  copies = record { entries = []; numbered = numbered_none (λ c. c.n) (copy_row user) (own copy_tree) s.copies; shown = refl };
+  copies = record {
+    entries = [];
+    messages = [];
+    numbered = numbered_none (λ c. c.n) (copy_row user) (own copy_tree) s.copies;
+    stored = numbered_none (λ m. m.id) (message_row user) (own message_tree) s.messages;
+    kept = record { present = tt; used = tt; first = tt };
+    shown = refl;
+  };
 }

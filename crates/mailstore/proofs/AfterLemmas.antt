@@ -9,14 +9,13 @@ use Rattle.mailstore.specs.declared.refusal.Refusal.{Refusal}
 use Rattle.mailstore.specs.declared.refusal.Refusal.TheVariants.{NoUser}
 use Rattle.mailstore.specs.Schema.{mail_schema}
 use Rattle.mailstore.specs.Connection.{StaysSame, IsSettled}
-use Rattle.mailstore.specs.Changes.{made, AreOf, MayHave}
+use Rattle.mailstore.specs.Changes.{made, MayHave}
 use Rattle.mailstore.specs.Account.{Account, Accounts, with_user}
 use Rattle.mailstore.specs.Refusals.{IsPassing}
-use Rattle.mailstore.specs.Shows.{rows_of, IsShown, IsShownOrAbsent, ShowsAccounts, Presents}
+use Rattle.mailstore.specs.Shows.{ShowsAccounts, Presents}
 use Rattle.mailstore.specs.Promises.{HasUser, IsFree, OfUser, Turns, MayShow, HasOurTables, Keeps, Reads, MakesAll, ReadsProfile, WritesAccount, WritesKnown}
 use Rattle.mailstore.proofs.ResultLemmas.{on_ok}
 use Rattle.mailstore.proofs.WriteLemmas.{clean_before}
-use Rattle.mailstore.proofs.ShowLemmas.{shows_after}
 use Rattle.mailstore.proofs.KeepLemmas.{passing_named, passing_other, keeps_ok, keeps_refused, keeps_then, keeps_failed, none_if, mid_shows}
 use Rattle.mailstore.specs.declared.profile.Profile.{Profile}
 use Rattle.mailstore.specs.AccountTable.{profile_of}

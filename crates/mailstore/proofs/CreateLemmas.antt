@@ -78,7 +78,7 @@ pub shows_nobody : ShowsAccounts (added meta_tree version_row no_rows) no_accoun
 shows_nobody = record { version = refl; users = λ user. subst (IsShownOrAbsent user (rows_of user (added meta_tree version_row no_rows))) (sym (get-empty bytes_cmp user)) (absent user) }
   where
     absent : (user : List ℕ) → IsAbsent (rows_of user (added meta_tree version_row no_rows))
-    absent user = record { accounts = refl; scripts = refl; copies = refl; queue = refl; replies = refl; notices = refl }
+    absent user = record { accounts = refl; scripts = refl; messages = refl; copies = refl; queue = refl; replies = refl; notices = refl }
 
 -- an empty database holds no rows
 pub starts_empty : (db : Database) → db.schema ≡ no_schema → Holds no_schema db no_rows

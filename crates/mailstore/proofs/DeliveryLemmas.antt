@@ -1,78 +1,387 @@
--- The changes of a delivery, one more at a time, and what they leave.
-use Rattle.std.proofs.Common.{◌≡◌, ◌⊎◌, ℕ, suc, ℤ, pos, ◌+◌, ◌<◌, ◌≤◌, List, [], ◌∷◌, ◌++◌, length, take, get_or, slice_get, Option, Some, None, option_map, Ok, Err, Result, OnOk, OnErr, IsTrue, IsSome, IfErr, refl, sym, ap, ◌∙◌, subst, arith, inr}
+-- The changes of a delivery, one more at a time, and what they make of a user's rows.
+use Rattle.std.proofs.Common.{◌≡◌, ◌≤◌, ℕ, suc, ℤ, pos, ◌+◌, ◌<◌, List, [], ◌∷◌, ◌++◌, fold, length, take, get_or, slice_get, Option, Some, None, option_map, IsSome, IsTrue, Ok, Err, Result, OnOk, append-nil, refl, sym, ap, ◌∙◌, subst, arith}
 use Rattle.std.specs.Borrow.{Bor}
-use Rattle.std.specs.List.{AllByRecursion}
-use Rattle.std.specs.FinMap.{get}
-use Rattle.std.proofs.lemmas.List.{take_more, length-take}
-use Rattle.sqlite_value.specs.declared.value.Value.TheVariants.{Blob, Int}
-use Rattle.sqlite_value.specs.Order.{column}
-use Rattle.sqlite_keyed.proofs.ListLemmas.{all-append}
-use Rattle.sqlite.specs.State.{State, HasCleanDisk, Survives}
-use Rattle.sqlite.proofs.StateLemmas.{survives_then, survives_weaker}
-use Rattle.sqlrows.specs.Rows.{Tables, Holds, added, set_in}
+use Rattle.std.specs.FinMap.{empty, get}
+use Rattle.std.proofs.lemmas.List.{map-append, take_more, length-take}
+use Rattle.sqlite_value.specs.declared.value.Value.TheVariants.{Int}
+use Rattle.sqlite_keyed.proofs.ListLemmas.{all-append, all_weaker}
+use Rattle.sqlite_keyed.specs.Lists.{update_where}
+use Rattle.sqlrows.specs.Rows.{Tables, Holds, has_key, added}
+use Rattle.sqlrows.proofs.ListLemmas.{owner_key, equal_itself}
+use Rattle.octets.specs.Ascii.{lowered}
+use Rattle.mailstore.specs.declared.account.Counters.{Counters}
 use Rattle.mailstore.specs.declared.change.Change.{Change}
 use Rattle.mailstore.specs.declared.change.Change.TheVariants.{AddCopy}
+use Rattle.mailstore.specs.declared.notice.Notice.{Notice}
 use Rattle.mailstore.specs.declared.refusal.Refusal.{Refusal}
-use Rattle.mailstore.specs.declared.refusal.Refusal.TheVariants.{NoUser}
+use Rattle.mailstore.specs.declared.queue.Outgoing.{Outgoing}
+use Rattle.mailstore.specs.declared.queue.Kind.TheVariants as kind
+use Rattle.mailstore.specs.declared.report.Letter.{Letter}
+use Rattle.mailstore.specs.declared.report.Letter.TheVariants.{Redirect, Reply}
+use Rattle.mailstore.specs.declared.report.Remembered.{Remembered}
+use Rattle.mailstore.specs.declared.report.Plan.{Plan}
+use Rattle.mailstore.specs.Changes.{made, owner_of, AreOf, Extends, MakesOwn, MayHave, AreDelivery, in_turn, message_kept, copy_added, copies_added, copied, lettered, letter_added, reply_put, folded_sender, noticed, notice_count, counters_set, counters_raised, delivered}
+use Rattle.mailstore.specs.Account.{Account, Accounts, Folders, with_user, in_place, filed, files_copies, sends, sends_all, remembers_if_any, notes_if_any, delivers}
+use Rattle.mailstore.specs.AccountTable.{account_row, account_tree, counter_cells, shown_counters, with_counters, Counts}
+use Rattle.mailstore.specs.ScriptTable.{script_tree, ShowsScripts}
+use Rattle.mailstore.specs.QueueTable.{outgoing_tree, queue_row, ShowsQueue}
+use Rattle.mailstore.specs.ReplyTable.{reply_tree, ShowsReplies}
+use Rattle.mailstore.specs.NoticeTable.{notice_tree, notice_row, ShowsNotices}
+use Rattle.sqlite_rules.specs.Lists.{Has}
+use Rattle.sqlite_rules.proofs.ListLemmas.{has_left, has_last}
+use Rattle.std.specs.List.{AllByRecursion}
+use Rattle.mailstore.specs.MessageTable.{Message, message_cells, message_row, message_tree, once_for, GainsOnce}
+use Rattle.mailstore.specs.CopyTable.{Copy, copy_row, copy_tree, message_of, HasFirst, AreKept, ShowsCopies}
+use Rattle.mailstore.specs.Shows.{rows_of, IsShown, IsShownOrAbsent, ShowsAccounts}
 use Rattle.mailstore.specs.Schema.{mail_schema}
-use Rattle.mailstore.specs.Connection.{StaysSame, IsSettled}
-use Rattle.mailstore.specs.Changes.{made, owner_of, AreOf, copied, AreCopies, MayHave}
-use Rattle.mailstore.specs.Account.{Account, Accounts, with_user, in_place, files_copies}
-use Rattle.mailstore.specs.Refusals.{IsPassing}
-use Rattle.mailstore.specs.AccountTable.{with_next_copy, account_tree, next_copy_column, CountsCopies}
-use Rattle.mailstore.specs.CopyTable.{copy_cells, Copy, copy_tree}
-use Rattle.mailstore.specs.Shows.{rows_of, IsShown, IsShownOrAbsent, ShowsAccounts, Presents}
-use Rattle.mailstore.specs.Promises.{HasUser, Turns, MayShow, HasOurTables, IsFree, Keeps, MakesAll, WritesAccount}
+use Rattle.mailstore.specs.Promises.{HasUser, Keeps, MakesAll, StoresOnce}
+use Rattle.sqlite.specs.State.{State, HasCleanDisk, Survives}
 use Rattle.mailstore.proofs.ResultLemmas.{on_ok}
 use Rattle.mailstore.proofs.WriteLemmas.{made_push, clean_before}
 use Rattle.mailstore.proofs.ShowLemmas.{shows_after}
-use Rattle.mailstore.proofs.AccountLemmas.{counter_put, copies_put}
-use Rattle.mailstore.proofs.KeepLemmas.{passing_named, passing_other}
+use Rattle.mailstore.specs.Numbers.{AreNumbered}
+use Rattle.mailstore.proofs.NumberLemmas.{numbered_next, numbered_up}
+use Rattle.mailstore.proofs.AccountLemmas.{replies_put}
 
-copied_push : (user message : List ℕ) (names : List (List ℕ)) (n : ℕ) (name : List ℕ) (own : Tables)
-    → copied user message n (names ++ name ∷ []) own ≡ added copy_tree (copy_cells user name (pos (n + length names)) message) (copied user message n names own)
-copied_push user message [] n name own = let same : n ≡ n + 0 = omega arith in ap (λ k. added copy_tree (copy_cells user name (pos k) message) own) same
-copied_push user message (other ∷ names) n name own =
-    let same : suc n + length names ≡ n + suc (length names) = omega arith in
-    let inner = added copy_tree (copy_cells user other (pos n) message) own in
-    copied_push user message names (suc n) name inner ∙ ap (λ k. added copy_tree (copy_cells user name (pos k) message) (copied user message (suc n) names inner)) same
+-- ---- changes, one more at a time
 
-pub copies_more : (user message : Bor (List ℕ)) (folders : List (List ℕ)) (n last i : ℕ) (ds next : List Change) (folder : Bor (List ℕ)) (name : List ℕ) (k : ℤ) → i < length folders → folder.now ≡ get_or folders i name → k ≡ pos (n + i)
-    → next ≡ ds ++ AddCopy user folder k message ∷ [] → AreCopies user.now message.now (take i folders) n last ds → AreCopies user.now message.now (take (i + 1) folders) n last next
-copies_more user message folders n last i ds next folder name k within is number joined was = record {
-  owned = subst (AreOf user.now) (sym joined) (all-append (λ d. owner_of d ≡ user.now) ds (AddCopy user folder k message ∷ []) was.owned (refl, tt));
-  makes = λ own.
-      let start = set_in account_tree (Blob user.now ∷ []) (with_next_copy (pos last)) own in
-      let so_far : length (take i folders) ≡ i = length_taken i folders within in
-      ap (made own) joined ∙ made_push ds (AddCopy user folder k message) own
-      ∙ ap (λ t. added copy_tree (copy_cells user.now folder.now k message.now) t) (was.makes own)
-      ∙ ap (λ f. added copy_tree (copy_cells user.now f k message.now) (copied user.now message.now n (take i folders) start)) is
-      ∙ ap (λ x. added copy_tree (copy_cells user.now (get_or folders i name) x message.now) (copied user.now message.now n (take i folders) start)) (number ∙ ap (λ l. pos (n + l)) (sym so_far))
-      ∙ sym (copied_push user.now message.now (take i folders) n (get_or folders i name) start)
-      ∙ ap (λ l. copied user.now message.now n l start) (sym (take_more folders i name within));
+pub extends_none : (user : List ℕ) (ds : List Change) → Extends user (λ own. own) ds ds
+extends_none user ds = record { owned = λ were. were; makes = λ own. refl }
+
+pub extends_one : (user : List ℕ) (change : Tables → Tables) (ds next : List Change) (d : Change) → next ≡ ds ++ d ∷ [] → MakesOwn user change d → Extends user change ds next
+extends_one user change ds next d joined one = record {
+  owned = λ were. subst (AreOf user) (sym joined) (all-append (λ e. owner_of e ≡ user) ds (d ∷ []) were (one.owned, tt));
+  makes = λ own. ap (made own) joined ∙ made_push ds d own ∙ one.makes (made own ds);
 }
-  where
-    length_taken : (i : ℕ) (xs : List (List ℕ)) → i < length xs → length (take i xs) ≡ i
-    length_taken i xs h = omega (arith, length-take i xs)
 
--- the rows of a user, once the changes of a delivery are made from the counter that they had
-own_delivered : (user message : List ℕ) (names : List (List ℕ)) (n : ℕ) (ds : List Change) (own : Tables) (a : Account) → AreCopies user message names n (n + length names) ds → IsShown user own a
-    → CountsCopies (own account_tree) n → IsShown user (made own ds) (files_copies names message a)
-own_delivered user message names n ds own a copies s next =
-    let told : Some (Int (pos s.next_copy)) ≡ Some (Int (pos n)) = sym (ap (λ rows. option_map (λ cells. column cells next_copy_column) (slice_get rows 0)) s.account_is) ∙ next in
-    let same : s.next_copy ≡ n = cc in
-    let raised = counter_put user own a s (n + length names) (omega arith) in
-    let below = subst (λ k. AllByRecursion (λ c. c.n < k) s.copies.entries) same s.copies.numbered.below in
-    let one : 1 ≤ n = let first = s.copies.numbered.counter in omega arith in
-    let above = subst (AllByRecursion (λ (c : Copy). c.n < n)) (sym raised.2) below in
-    subst (λ t. IsShown user t (files_copies names message a)) (sym (copies.makes own)) (copies_put user message names n _ a raised.0 above one (omega (arith, raised.1)))
+pub extends_then : (user : List ℕ) (f g : Tables → Tables) (a b c : List Change) → Extends user f a b → Extends user g b c → Extends user (λ own. g (f own)) a c
+extends_then user f g a b c one two = record { owned = λ were. two.owned (one.owned were); makes = λ own. two.makes own ∙ ap g (one.makes own) }
 
-pub delivery_shows : (user message : List ℕ) (names : List (List ℕ)) (n : ℕ) (ds : List Change) → AreCopies user message names n (n + length names) ds → (tables : Tables) (accounts : Accounts) → ShowsAccounts tables accounts
-    → HasUser user accounts → CountsCopies (rows_of user tables account_tree) n → ShowsAccounts (made tables ds) (with_user accounts user (files_copies names message))
-delivery_shows user message names n ds copies tables accounts shows has next = go (get accounts user) refl has
+turn_push : {X : Type 0} (f : ℕ → X → Tables → Tables) (xs : List X) (n : ℕ) (x : X) (own : Tables) → in_turn f n (xs ++ x ∷ []) own ≡ f (n + length xs) x (in_turn f n xs own)
+turn_push f [] n x own = let same : n ≡ n + 0 = omega arith in ap (λ k. f k x own) same
+turn_push f (y ∷ xs) n x own =
+    let same : suc n + length xs ≡ n + suc (length xs) = omega arith in
+    turn_push f xs (suc n) x (f n y own) ∙ ap (λ k. f k x (in_turn f (suc n) xs (f n y own))) same
+
+-- one turn more
+pub turn_more : {X : Type 0} (user : List ℕ) (f : ℕ → X → Tables → Tables) (xs : List X) (n i : ℕ) (x : X) (a b c : List Change) → i < length xs → Extends user (in_turn f n (take i xs)) a b → Extends user (f (n + i) (get_or xs i x)) b c
+    → Extends user (in_turn f n (take (i + 1) xs)) a c
+turn_more user f xs n i x a b c within was more =
+    let both = extends_then user (in_turn f n (take i xs)) (f (n + i) (get_or xs i x)) a b c was more in
+    let so_far : length (take i xs) ≡ i = omega (arith, length-take i xs) in
+    record {
+      owned = both.owned;
+      makes = λ own.
+          both.makes own ∙ ap (λ l. f (n + l) (get_or xs i x) (in_turn f n (take i xs) (made own a))) (sym so_far) ∙ sym (turn_push f (take i xs) n (get_or xs i x) (made own a))
+          ∙ ap (λ l. in_turn f n l (made own a)) (sym (take_more xs i x within));
+    }
+
+pub copies_more : (user : Bor (List ℕ)) (folders : List (List ℕ)) (n i : ℕ) (name : List ℕ) (a b c : List Change) (folder : Bor (List ℕ)) (k id : ℤ) → i < length folders → folder.now ≡ get_or folders i name → k ≡ pos (n + i) → id ≡ pos n
+    → c ≡ b ++ AddCopy user folder k id ∷ [] → Extends user.now (copies_added user.now n n (take i folders)) a b → Extends user.now (copies_added user.now n n (take (i + 1) folders)) a c
+copies_more user folders n i name a b c folder k id within is number same joined was =
+    let f = λ (j : ℕ) (x : List ℕ). copy_added user.now x (pos j) (pos n) in
+    let one : MakesOwn user.now (f (n + i) (get_or folders i name)) (AddCopy user folder k id) = record {
+      owned = refl;
+      makes = λ own.
+          ap (λ x. copy_added user.now x k id own) is ∙ ap (λ j. copy_added user.now (get_or folders i name) j id own) number ∙ ap (λ j. copy_added user.now (get_or folders i name) (pos (n + i)) j own) same;
+    } in
+    turn_more user.now f folders n i name a b c within was (extends_one user.now (f (n + i) (get_or folders i name)) b c (AddCopy user folder k id) joined one)
+
+pub letters_more : (user sender message : List ℕ) (letters : List Letter) (n i : ℕ) (x letter : Letter) (a b c : List Change) (d : Change) (k : ℤ) → i < length letters → letter ≡ get_or letters i x → k ≡ pos (n + i) → c ≡ b ++ d ∷ []
+    → MakesOwn user (letter_added user sender message k letter) d → Extends user (lettered user sender message n (take i letters)) a b → Extends user (lettered user sender message n (take (i + 1) letters)) a c
+letters_more user sender message letters n i x letter a b c d k within is number joined makes was =
+    let f = λ (j : ℕ) (l : Letter). letter_added user sender message (pos j) l in
+    let one : MakesOwn user (f (n + i) (get_or letters i x)) d = record {
+      owned = makes.owned;
+      makes = λ own. makes.makes own ∙ ap (λ l. letter_added user sender message k l own) is ∙ ap (λ j. letter_added user sender message j (get_or letters i x) own) number;
+    } in
+    turn_more user f letters n i x a b c within was (extends_one user (f (n + i) (get_or letters i x)) b c d joined one)
+
+-- all of them, from no changes on
+pub are_delivery : (user sender : List ℕ) (c : Counters) (plan : Plan) (ds1 kept ds2 ds3 ds4 ds5 : List Change) → sender ≡ folded_sender plan.remember → Extends user (counters_raised user c plan) [] ds1
+    → Extends user (message_kept user plan.message.now c.copy plan.copies) ds1 kept → Extends user (copies_added user c.copy c.copy plan.copies) kept ds2 → Extends user (lettered user plan.sender.now plan.message.now c.out plan.outgoing) ds2 ds3 → Extends user (reply_put user sender plan.remember) ds3 ds4
+    → Extends user (noticed user c.notice plan.moment plan.notice) ds4 ds5 → AreDelivery user c plan ds5
+are_delivery user sender c plan ds1 kept ds2 ds3 ds4 ds5 is one message copies three four five =
+    let two = extends_then user (message_kept user plan.message.now c.copy plan.copies) (copies_added user c.copy c.copy plan.copies) ds1 kept ds2 message copies in
+    let first = extends_then user (counters_raised user c plan) (copied user plan.message.now c.copy plan.copies) [] ds1 ds2 one two in
+    let second = extends_then user _ (lettered user plan.sender.now plan.message.now c.out plan.outgoing) [] ds2 ds3 first three in
+    let third = extends_then user _ (reply_put user (folded_sender plan.remember) plan.remember) [] ds3 ds4 second (subst (λ s. Extends user (reply_put user s plan.remember) ds3 ds4) is four) in
+    let all = extends_then user _ (noticed user c.notice plan.moment plan.notice) [] ds4 ds5 third five in
+    record { owned = all.owned tt; makes = all.makes }
+
+-- ---- the rows of a user while a delivery is made
+
+-- the counters of the row went up first: copies and notices are numbered below others, and the queue below the account's own
+record IsShownBelow (user : List ℕ) (last : Counters) (copy notice : ℕ) (a : Account) (own : Tables) : Type 0 where
+  account_is : own account_tree ≡ account_row user (record a { next_out = last.out }) last.copy last.notice ∷ []
+  scripts : ShowsScripts user (own script_tree) a.scripts
+  queue : ShowsQueue user (own outgoing_tree) a.queue a.next_out
+  replies : ShowsReplies user (own reply_tree) a.replies
+  notices : ShowsNotices user (own notice_tree) a.notices notice
+  copies : ShowsCopies user (own copy_tree) (own message_tree) a.folders copy
+
+-- ---- messages and copies
+
+-- what has a first copy has it still, after one copy more
+used_still : (copies : List Copy) (messages : List Message) (c : Copy) → AreKept copies messages → AllByRecursion (HasFirst (copies ++ c ∷ [])) messages
+used_still copies messages c k = all_weaker (HasFirst copies) (HasFirst (copies ++ c ∷ [])) (λ m f. (f.0, has_left copies (c ∷ []) f.0 f.1, f.2, f.3)) messages k.used
+
+kept_push : (copies : List Copy) (messages : List Message) (c : Copy) → Has messages (message_of c) → c.id ≤ c.n → AreKept copies messages → AreKept (copies ++ c ∷ []) messages
+kept_push copies messages c there first k = record {
+  present = all-append _ copies (c ∷ []) k.present (there, tt);
+  used = used_still copies messages c k;
+  first = all-append _ copies (c ∷ []) k.first (first, tt);
+}
+
+kept_first : (copies : List Copy) (messages : List Message) (c : Copy) → c.id ≡ c.n → AreKept copies messages → AreKept (copies ++ c ∷ []) (messages ++ message_of c ∷ [])
+kept_first copies messages c same k = record {
+  present = all-append _ copies (c ∷ []) (all_weaker (λ d. Has messages (message_of d)) (λ d. Has (messages ++ message_of c ∷ []) (message_of d)) (λ d h. has_left messages (message_of c ∷ []) (message_of d) h) copies k.present)
+      (has_last (messages ++ message_of c ∷ []) messages (message_of c) refl, tt);
+  used = all-append _ messages (message_of c ∷ []) (used_still copies messages c k) ((c, has_last (copies ++ c ∷ []) copies c refl, sym same, refl), tt);
+  first = all-append _ copies (c ∷ []) k.first (omega (arith, same), tt);
+}
+
+module _ (user : List ℕ) (last : Counters) where
+  -- the counters go up
+  raised : (c : Counters) (own : Tables) (a : Account) → IsShown user own a → Counts (own account_tree) c
+      → IsShownBelow user last c.copy c.notice a (counters_set user (pos last.copy) (pos last.out) (pos last.notice) own) × (a.next_out ≡ c.out)
+  raised c own a s counts =
+      let told : Some (Int (pos s.next_copy) ∷ Int (pos a.next_out) ∷ Int (pos s.next_notice) ∷ []) ≡ Some (counter_cells c) =
+      sym (ap (λ rows. option_map shown_counters (slice_get rows 0)) s.account_is) ∙ counts in
+      let copy : s.next_copy ≡ c.copy = cc in
+      let out : a.next_out ≡ c.out = cc in
+      let notice : s.next_notice ≡ c.notice = cc in (
+        record {
+          account_is = ap (update_where (has_key (owner_key user)) (with_counters (pos last.copy) (pos last.out) (pos last.notice))) s.account_is ∙ rw (equal_itself user) refl;
+          scripts = s.scripts;
+          queue = s.queue;
+          replies = s.replies;
+          notices = subst (ShowsNotices user (own notice_tree) a.notices) notice s.notices;
+          copies = subst (ShowsCopies user (own copy_tree) (own message_tree) a.folders) copy s.copies;
+        },
+        out,
+      )
+
+  lowered_last : (copy notice : ℕ) (own : Tables) (a : Account) → IsShownBelow user last copy notice a own → copy ≡ last.copy → a.next_out ≡ last.out → notice ≡ last.notice → IsShown user own a
+  lowered_last copy notice own a s c o n = record {
+    next_copy = last.copy;
+    next_notice = last.notice;
+    account_is = s.account_is ∙ ap (λ out. account_row user (record a { next_out = out }) last.copy last.notice ∷ []) (sym o);
+    scripts = s.scripts;
+    queue = s.queue;
+    replies = s.replies;
+    notices = subst (ShowsNotices user (own notice_tree) a.notices) n s.notices;
+    copies = subst (ShowsCopies user (own copy_tree) (own message_tree) a.folders) c s.copies;
+  }
+
+  folded : (cs : List Copy) (from : Folders) (c : Copy) → fold (λ folders copy. filed folders copy.folder copy.message) from (cs ++ c ∷ []) ≡ filed (fold (λ folders copy. filed folders copy.folder copy.message) from cs) c.folder c.message
+  folded [] from c = refl
+  folded (d ∷ cs) from c = folded cs (filed from d.folder d.message) c
+
+  -- a copy of a message that is kept joins a folder
+  copy_joined : (c : Copy) (notice : ℕ) (own : Tables) (a : Account) (s : IsShownBelow user last c.n notice a own) → Has s.copies.messages (message_of c) → c.id ≤ c.n
+      → (t : IsShownBelow user last (suc c.n) notice (record a { folders = filed a.folders c.folder c.message }) (added copy_tree (copy_row user c) own)) × (t.copies.messages ≡ s.copies.messages)
+  copy_joined c notice own a s there first = (
+    record {
+      account_is = s.account_is;
+      scripts = s.scripts;
+      queue = s.queue;
+      replies = s.replies;
+      notices = s.notices;
+      copies = record {
+        entries = s.copies.entries ++ c ∷ [];
+        messages = s.copies.messages;
+        numbered = numbered_next (λ d. d.n) (copy_row user) (own copy_tree) s.copies.entries c.n c refl s.copies.numbered;
+        stored = numbered_up (λ m. m.id) (message_row user) (own message_tree) s.copies.messages c.n (suc c.n) (omega arith) s.copies.stored;
+        kept = kept_push s.copies.entries s.copies.messages c there first s.copies.kept;
+        shown = ap (λ m. filed m c.folder c.message) s.copies.shown ∙ sym (folded s.copies.entries empty c);
+      };
+    },
+    refl,
+  )
+
+  -- a message is kept, and its first copy joins a folder
+  first_joined : (c : Copy) (notice : ℕ) (own : Tables) (a : Account) → c.id ≡ c.n → IsShownBelow user last c.n notice a own
+      → (t : IsShownBelow user last (suc c.n) notice (record a { folders = filed a.folders c.folder c.message }) (added copy_tree (copy_row user c) (added message_tree (message_row user (message_of c)) own)))
+      × Has t.copies.messages (message_of c)
+  first_joined c notice own a same s = (
+    record {
+      account_is = s.account_is;
+      scripts = s.scripts;
+      queue = s.queue;
+      replies = s.replies;
+      notices = s.notices;
+      copies = record {
+        entries = s.copies.entries ++ c ∷ [];
+        messages = s.copies.messages ++ message_of c ∷ [];
+        numbered = numbered_next (λ d. d.n) (copy_row user) (own copy_tree) s.copies.entries c.n c refl s.copies.numbered;
+        stored = numbered_next (λ m. m.id) (message_row user) (own message_tree) s.copies.messages c.n (message_of c) same s.copies.stored;
+        kept = kept_first s.copies.entries s.copies.messages c same s.copies.kept;
+        shown = ap (λ m. filed m c.folder c.message) s.copies.shown ∙ sym (folded s.copies.entries empty c);
+      };
+    },
+    has_last (s.copies.messages ++ message_of c ∷ []) s.copies.messages (message_of c) refl,
+  )
+
+  more_joined : (message : List ℕ) (id : ℕ) (names : List (List ℕ)) (copy notice : ℕ) (own : Tables) (a : Account) (s : IsShownBelow user last copy notice a own) → Has s.copies.messages (record { id = id; bytes = message }) → id ≤ copy
+      → IsShownBelow user last (copy + length names) notice (files_copies names message a) (copies_added user id copy names own)
+  more_joined message id [] copy notice own a s there first = let same : copy ≡ copy + 0 = omega arith in subst (λ n. IsShownBelow user last n notice a own) same s
+  more_joined message id (name ∷ names) copy notice own a s there first =
+      let same : suc copy + length names ≡ copy + suc (length names) = omega arith in
+      let c : Copy = record { folder = name; n = copy; id = id; message = message } in
+      let one = copy_joined c notice own a s there first in
+      subst (λ n. IsShownBelow user last n notice (files_copies (name ∷ names) message a) (copies_added user id copy (name ∷ names) own)) same
+      (more_joined message id names (suc copy) notice _ _ one.0 (subst (λ l. Has l (message_of c)) (sym one.1) there) (omega arith))
+
+  copies_joined : (message : List ℕ) (names : List (List ℕ)) (copy notice : ℕ) (own : Tables) (a : Account) → IsShownBelow user last copy notice a own
+      → IsShownBelow user last (copy + length names) notice (files_copies names message a) (copied user message copy names own)
+  copies_joined message [] copy notice own a s = let same : copy ≡ copy + 0 = omega arith in subst (λ n. IsShownBelow user last n notice a own) same s
+  copies_joined message (name ∷ names) copy notice own a s =
+      let same : suc copy + length names ≡ copy + suc (length names) = omega arith in
+      let one = first_joined (record { folder = name; n = copy; id = copy; message = message }) notice own a refl s in
+      subst (λ n. IsShownBelow user last n notice (files_copies (name ∷ names) message a) (copied user message copy (name ∷ names) own)) same
+      (more_joined message copy names (suc copy) notice _ _ one.0 one.1 (omega arith))
+
+  -- a message joins the queue
+  queued : (out : Outgoing) (copy notice : ℕ) (own : Tables) (a : Account) → out.id ≡ a.next_out → IsShownBelow user last copy notice a own
+      → IsShownBelow user last copy notice (record a { queue = a.queue ++ out ∷ []; next_out = suc a.next_out }) (added outgoing_tree (queue_row user out) own)
+  queued out copy notice own a is s = record {
+    account_is = s.account_is;
+    scripts = s.scripts;
+    queue = numbered_next (λ q. q.id) (queue_row user) (own outgoing_tree) a.queue a.next_out out is s.queue;
+    replies = s.replies;
+    notices = s.notices;
+    copies = s.copies;
+  }
+
+  letters_joined : (sender message : List ℕ) (letters : List Letter) (copy notice : ℕ) (own : Tables) (a : Account) → IsShownBelow user last copy notice a own
+      → IsShownBelow user last copy notice (sends_all sender message letters a) (lettered user sender message a.next_out letters own)
+  letters_joined sender message [] copy notice own a s = s
+  letters_joined sender message (Redirect target ∷ letters) copy notice own a s =
+      letters_joined sender message letters copy notice _ (sends sender message (Redirect target) a)
+      (queued (record { id = a.next_out; kind = kind.Redirect; sender = sender; target = target; message = message }) copy notice own a refl s)
+  letters_joined sender message (Reply target reply ∷ letters) copy notice own a s =
+      letters_joined sender message letters copy notice _ (sends sender message (Reply target reply) a)
+      (queued (record { id = a.next_out; kind = kind.Reply; sender = []; target = target; message = reply }) copy notice own a refl s)
+
+  -- the reply is remembered
+  reply_joined : (reply : Option Remembered) (copy notice : ℕ) (own : Tables) (a : Account) → IsShownBelow user last copy notice a own
+      → IsShownBelow user last copy notice (remembers_if_any reply a) (reply_put user (folded_sender reply) reply own)
+  reply_joined None copy notice own a s = s
+  reply_joined (Some reply) copy notice own a s = record {
+    account_is = s.account_is;
+    scripts = s.scripts;
+    queue = s.queue;
+    replies = replies_put user (own reply_tree) a.replies s.replies (reply.handle, lowered reply.sender) reply.moment;
+    notices = s.notices;
+    copies = s.copies;
+  }
+
+  -- the notice joins the others
+  notice_joined : (moment : ℕ) (text : Option (List ℕ)) (copy notice : ℕ) (own : Tables) (a : Account) → IsShownBelow user last copy notice a own
+      → IsShownBelow user last copy (notice + notice_count text) (notes_if_any moment text a) (noticed user notice moment text own)
+  notice_joined moment None copy notice own a s = let same : notice ≡ notice + 0 = omega arith in subst (λ n. IsShownBelow user last copy n a own) same s
+  notice_joined moment (Some text) copy notice own a s =
+      let one : Notice = record { moment = moment; text = text } in
+      let same : suc notice ≡ notice + 1 = omega arith in
+      record {
+        account_is = s.account_is;
+        scripts = s.scripts;
+        queue = s.queue;
+        replies = s.replies;
+        notices = record {
+          entries = s.notices.entries ++ (notice, one) ∷ [];
+          numbered = subst (AreNumbered (λ e. e.0) (notice_row user) (own notice_tree ++ notice_row user (notice, one) ∷ []) (s.notices.entries ++ (notice, one) ∷ [])) same
+              (numbered_next (λ e. e.0) (notice_row user) (own notice_tree) s.notices.entries notice (notice, one) refl s.notices.numbered);
+          shown = ap (λ l. l ++ one ∷ []) s.notices.shown ∙ sym (map-append (λ (e : ℕ × Notice). e.1) s.notices.entries ((notice, one) ∷ []));
+        };
+        copies = s.copies;
+      }
+
+sent_out : (sender message : List ℕ) (letters : List Letter) (a : Account) → (sends_all sender message letters a).next_out ≡ a.next_out + length letters
+sent_out sender message [] a = omega arith
+sent_out sender message (Redirect target ∷ letters) a = let more = sent_out sender message letters (sends sender message (Redirect target) a) in omega (arith, more)
+sent_out sender message (Reply target reply ∷ letters) a = let more = sent_out sender message letters (sends sender message (Reply target reply) a) in omega (arith, more)
+
+remembered_out : (reply : Option Remembered) (a : Account) → (remembers_if_any reply a).next_out ≡ a.next_out
+remembered_out None a = refl
+remembered_out (Some reply) a = refl
+
+noted_out : (moment : ℕ) (text : Option (List ℕ)) (a : Account) → (notes_if_any moment text a).next_out ≡ a.next_out
+noted_out moment None a = refl
+noted_out moment (Some text) a = refl
+
+-- the rows of a user whose counters were these, once the changes of a delivery are made
+own_delivered : (user : List ℕ) (c : Counters) (plan : Plan) (own : Tables) (a : Account) → IsShown user own a → Counts (own account_tree) c → IsShown user (delivered user c plan own) (delivers plan a)
+own_delivered user c plan own a s counts =
+    let last : Counters = record { copy = c.copy + length plan.copies; out = c.out + length plan.outgoing; notice = c.notice + notice_count plan.notice } in
+    let up = raised user last c own a s counts in
+    let filed = files_copies plan.copies plan.message.now a in
+    let sent = sends_all plan.sender.now plan.message.now plan.outgoing filed in
+    let kept = remembers_if_any plan.remember sent in
+    let copies = copies_joined user last plan.message.now plan.copies c.copy c.notice _ a up.0 in
+    let letters = subst (λ n. IsShownBelow user last last.copy c.notice sent (lettered user plan.sender.now plan.message.now n plan.outgoing (copied user plan.message.now c.copy plan.copies (counters_set user (pos last.copy) (pos last.out) (pos last.notice) own)))) up.1
+    (letters_joined user last plan.sender.now plan.message.now plan.outgoing last.copy c.notice _ filed copies) in
+    let reply = reply_joined user last plan.remember last.copy c.notice _ sent letters in
+    let all = notice_joined user last plan.moment plan.notice last.copy c.notice _ kept reply in
+    let out = noted_out plan.moment plan.notice kept ∙ remembered_out plan.remember sent ∙ sent_out plan.sender.now plan.message.now plan.outgoing filed ∙ ap (λ n. n + length plan.outgoing) up.1 in
+    lowered_last user last last.copy last.notice _ _ all refl out refl
+
+pub delivery_shows : (user : List ℕ) (c : Counters) (plan : Plan) (ds : List Change) → AreDelivery user c plan ds → (tables : Tables) (accounts : Accounts) → ShowsAccounts tables accounts → HasUser user accounts
+    → Counts (rows_of user tables account_tree) c → ShowsAccounts (made tables ds) (with_user accounts user (delivers plan))
+delivery_shows user c plan ds delivery tables accounts shows has counts = go (get accounts user) refl has
   where
-    go : (o : Option Account) → get accounts user ≡ o → IsSome o → ShowsAccounts (made tables ds) (in_place accounts user (files_copies names message) (get accounts user))
+    go : (o : Option Account) → get accounts user ≡ o → IsSome o → ShowsAccounts (made tables ds) (in_place accounts user (delivers plan) (get accounts user))
     go None is some = absurd (let e = some in cc)
     go (Some a) is some =
         let here = subst (IsShownOrAbsent user (rows_of user tables)) is (shows.users user) in
-        rw is (shows_after tables accounts user ds (files_copies names message a) copies.owned shows (own_delivered user message names n ds (rows_of user tables) a copies here next))
+        let own = own_delivered user c plan (rows_of user tables) a here counts in
+        rw is (shows_after tables accounts user ds (delivers plan a) delivery.owned shows (subst (λ t. IsShown user t (delivers plan a)) (sym (delivery.makes (rows_of user tables))) own))
+
+-- ---- the table of messages
+
+turn_beside : {X : Type 0} (f : ℕ → X → Tables → Tables) → ((n : ℕ) (x : X) (own : Tables) → f n x own message_tree ≡ own message_tree) → (xs : List X) (n : ℕ) (own : Tables) → in_turn f n xs own message_tree ≡ own message_tree
+turn_beside f beside [] n own = refl
+turn_beside f beside (x ∷ xs) n own = turn_beside f beside xs (suc n) (f n x own) ∙ beside n x own
+
+letter_beside : (user sender message : List ℕ) (n : ℕ) (letter : Letter) (own : Tables) → letter_added user sender message (pos n) letter own message_tree ≡ own message_tree
+letter_beside user sender message n (Redirect target) own = refl
+letter_beside user sender message n (Reply target reply) own = refl
+
+reply_beside : (user sender : List ℕ) (reply : Option Remembered) (own : Tables) → reply_put user sender reply own message_tree ≡ own message_tree
+reply_beside user sender None own = refl
+reply_beside user sender (Some reply) own = refl
+
+notice_beside : (user : List ℕ) (n moment : ℕ) (text : Option (List ℕ)) (own : Tables) → noticed user n moment text own message_tree ≡ own message_tree
+notice_beside user n moment None own = refl
+notice_beside user n moment (Some text) own = refl
+
+message_gained : (user message : List ℕ) (names : List (List ℕ)) (n : ℕ) (own : Tables) → message_kept user message n names own message_tree ≡ own message_tree ++ once_for names (message_cells user (pos n) message)
+message_gained user message [] n own = sym (append-nil (own message_tree))
+message_gained user message (name ∷ names) n own = refl
+
+delivered_once : (user : List ℕ) (c : Counters) (plan : Plan) (own : Tables) → delivered user c plan own message_tree ≡ own message_tree ++ once_for plan.copies (message_cells user (pos c.copy) plan.message.now)
+delivered_once user c plan own =
+    let up = counters_raised user c plan own in
+    let kept = message_kept user plan.message.now c.copy plan.copies up in
+    let filed = copies_added user c.copy c.copy plan.copies kept in
+    let sent = lettered user plan.sender.now plan.message.now c.out plan.outgoing filed in
+    let replied = reply_put user (folded_sender plan.remember) plan.remember sent in
+    notice_beside user c.notice plan.moment plan.notice replied ∙ reply_beside user (folded_sender plan.remember) plan.remember sent
+    ∙ turn_beside (λ n letter. letter_added user plan.sender.now plan.message.now (pos n) letter) (letter_beside user plan.sender.now plan.message.now) plan.outgoing c.out filed
+    ∙ turn_beside (λ n folder. copy_added user folder (pos n) (pos c.copy)) (λ n folder own. refl) plan.copies c.copy kept ∙ message_gained user plan.message.now plan.copies c.copy up
+
+-- after a read that kept the tables, the changes of a delivery store its message once
+pub stores_once : {X E Y : Type 0} (a b d : State) (r : Result X E) (x : X) → r ≡ Ok x → Keeps a b r → (user : List ℕ) (c : Counters) (plan : Plan) (ds : List Change) → AreDelivery user c plan ds → Survives b d (MayHave ds b)
+    → (q : Result Y Refusal) → MakesAll ds b d q → StoresOnce user plan a d q
+stores_once {Y = Y} a b d r x ok kept user c plan ds delivery survives q wrote clean tables h = go q wrote
+  where
+    early : HasCleanDisk b
+    early = clean_before b d _ survives clean
+
+    mid : Holds mail_schema b.now tables
+    mid = subst (λ n. Holds mail_schema n tables) (sym ((kept.same early (tables, h)).now_is (on_ok r x ok (IsTrue b.is_open) (kept.live early)))) h
+
+    go : (o : Result Y Refusal) → MakesAll ds b d o → OnOk o ((after : Tables) × Holds mail_schema d.now after × GainsOnce user plan.message.now plan.copies (tables message_tree) (after message_tree))
+    go (Err e) made_all = tt
+    go (Ok y) made_all = (made tables ds, made_all clean tables mid, (pos c.copy, ap (λ (t : Tables). t message_tree) (delivery.makes tables) ∙ delivered_once user c plan tables))

@@ -1,9 +1,8 @@
 -- Reads and writes as one promise each: from a query, after an earlier read, with another answer.
-use Rattle.std.proofs.Common.{◌≡◌, ◌⊎◌, ℕ, pos, List, [], map, Option, Some, None, option_map, slice_get, Ok, Err, Result, Vec, OnOk, OnErr, IfOk, IfErr, IfSome, IsTrue, refl, sym, ap, ◌∙◌, subst, inl, inr, arith}
+use Rattle.std.proofs.Common.{◌≡◌, ◌⊎◌, ℕ, List, [], map, Option, Some, None, option_map, slice_get, Ok, Err, Result, Vec, OnOk, OnErr, IfOk, IfErr, IfSome, IsTrue, refl, sym, ap, ◌∙◌, subst, inl, inr, arith}
 use Rattle.std.specs.declared.alloc.Global.{Global}
 use Rattle.std.specs.FinMap.{get}
-use Rattle.sqlite_value.specs.declared.value.Value.TheVariants.{Int}
-use Rattle.sqlite_value.specs.Order.{Row, column}
+use Rattle.sqlite_value.specs.Order.{Row}
 use Rattle.sqlite_trees.specs.Tree.{Trees}
 use Rattle.sqlite.specs.Listing.{understood}
 use Rattle.sqlite.specs.declared.error.Error.{Error}
@@ -11,6 +10,8 @@ use Rattle.sqlite.specs.State.{State, HasCleanDisk, Survives, CommitsShowing, Sh
 use Rattle.sqlite.proofs.Callers.{IsPlain}
 use Rattle.sqlite.proofs.StateLemmas.{survives_then}
 use Rattle.sqlrows.specs.Rows.{Tables, Holds}
+use Rattle.mailstore.specs.Cells.{first_three}
+use Rattle.mailstore.specs.declared.account.Counters.{Counters}
 use Rattle.mailstore.specs.declared.change.Change.{Change}
 use Rattle.mailstore.specs.declared.profile.Profile.{Profile}
 use Rattle.mailstore.specs.declared.refusal.Refusal.{Refusal}
@@ -20,13 +21,13 @@ use Rattle.mailstore.specs.Connection.{StaysSame, IsSettled}
 use Rattle.mailstore.specs.Changes.{MayHave}
 use Rattle.mailstore.specs.Account.{Account, Accounts}
 use Rattle.mailstore.specs.Refusals.{IsPassing}
-use Rattle.mailstore.specs.AccountTable.{account_tree, next_copy_column, shown_account, shown_next_copy, profile_row, profile_of, IsRead, CountsCopies}
+use Rattle.mailstore.specs.AccountTable.{account_tree, counter_cells, shown_account, shown_counters, profile_row, profile_of, IsRead, Counts}
 use Rattle.mailstore.specs.Shows.{rows_of, IsShownOrAbsent, ShowsAccounts, Presents}
-use Rattle.mailstore.specs.Promises.{HasOurTables, IsFree, OfUser, MakesAll, Keeps, FindsOwn, Finds, Reads, ReadsRows, Requires, ReadsCounter, ReadsProfile, Writes, Turns, MayShow}
+use Rattle.mailstore.specs.Promises.{HasOurTables, IsFree, OfUser, MakesAll, Keeps, FindsOwn, Finds, Reads, ReadsRows, Requires, ReadsCounters, ReadsProfile, Writes, Turns, MayShow}
 use Rattle.mailstore.proofs.ResultLemmas.{on_ok, on_any, on_err_any}
 use Rattle.mailstore.proofs.WriteLemmas.{clean_before}
 use Rattle.mailstore.proofs.QueryLemmas.{query_same, query_quiet, stays_shut, if_shown}
-use Rattle.mailstore.proofs.ReadLemmas.{number_is, none_counted, profile_first}
+use Rattle.mailstore.proofs.ReadLemmas.{counters_are, none_counted, profile_first}
 use Rattle.mailstore.proofs.OneLemmas.{or_null_one}
 use Rattle.mailstore.proofs.CallLemmas.{Carries, applied, crashed}
 
@@ -170,31 +171,31 @@ module _ {X : Type 0} (user : List ℕ) (P : X → Account → Type 0) (Part : L
 -- ---- the counter of copies, and the test for an account
 
 -- what was read of the row of the account
-pub counter_read : (user : List ℕ) (a b : State) (r : Result (Vec Row Global) Error) (rows : Vec Row Global) → r ≡ Ok rows → FindsOwn user account_tree shown_next_copy a b r → (q : Result ℕ Refusal)
-    → IfOk q (λ n. option_map (λ row. column row 0) (slice_get rows.items 0) ≡ Some (Int (pos n))) → IfErr q (λ e. e ≡ NoUser → rows.items ≡ []) → IfErr q (λ e. (e ≡ NoUser) ⊎ IsPassing e) → ReadsCounter user a b q
+pub counter_read : (user : List ℕ) (a b : State) (r : Result (Vec Row Global) Error) (rows : Vec Row Global) → r ≡ Ok rows → FindsOwn user account_tree shown_counters a b r → (q : Result Counters Refusal)
+    → IfOk q (λ c. option_map first_three (slice_get rows.items 0) ≡ Some (counter_cells c)) → IfErr q (λ e. e ≡ NoUser → rows.items ≡ []) → IfErr q (λ e. (e ≡ NoUser) ⊎ IsPassing e) → ReadsCounters user a b q
 counter_read user a b r rows was h q told none named = record {
-  found = λ clean tables held. number_is q rows.items (rows_of user tables account_tree) (found clean tables held) told;
+  found = λ clean tables held. counters_are q rows.items (rows_of user tables account_tree) (found clean tables held) told;
   absent = λ clean tables held. none_counted q rows.items (rows_of user tables account_tree) (found clean tables held) none;
   keeps = keeps_ok a b r rows q was h.keeps;
   named = named;
 }
   where
-    found : HasCleanDisk b → (tables : Tables) → Holds mail_schema a.now tables → rows.items ≡ map shown_next_copy (rows_of user tables account_tree)
-    found clean tables held = subst (λ o. IfOk o (λ all. all.items ≡ map shown_next_copy (rows_of user tables account_tree))) was (h.found clean tables held)
+    found : HasCleanDisk b → (tables : Tables) → Holds mail_schema a.now tables → rows.items ≡ map shown_counters (rows_of user tables account_tree)
+    found clean tables held = subst (λ o. IfOk o (λ all. all.items ≡ map shown_counters (rows_of user tables account_tree))) was (h.found clean tables held)
 
-pub counter_refused : (user : List ℕ) (a b : State) (r : Result (Vec Row Global) Error) → FindsOwn user account_tree shown_next_copy a b r → (q : Result ℕ Refusal) → OnOk q ⊥ → IfErr q IsPassing → ReadsCounter user a b q
+pub counter_refused : (user : List ℕ) (a b : State) (r : Result (Vec Row Global) Error) → FindsOwn user account_tree shown_counters a b r → (q : Result Counters Refusal) → OnOk q ⊥ → IfErr q IsPassing → ReadsCounters user a b q
 counter_refused user a b r h q none passing = record {
-  found = λ clean tables held. none_if q (CountsCopies (rows_of user tables account_tree)) none;
+  found = λ clean tables held. none_if q (Counts (rows_of user tables account_tree)) none;
   absent = λ clean tables held. passing_other q (rows_of user tables account_tree ≡ []) passing;
   keeps = keeps_failed a b r q none h.keeps;
   named = passing_named q passing;
 }
 
-account_there : (accounts : Accounts) (user : List ℕ) (tables : Tables) (n : ℕ) → ShowsAccounts tables accounts → CountsCopies (rows_of user tables account_tree) n → OfUser accounts user (λ _. Unit {0})
-account_there accounts user tables n shows told = go (get accounts user) refl (shows.users user)
+account_there : (accounts : Accounts) (user : List ℕ) (tables : Tables) (c : Counters) → ShowsAccounts tables accounts → Counts (rows_of user tables account_tree) c → OfUser accounts user (λ _. Unit {0})
+account_there accounts user tables c shows told = go (get accounts user) refl (shows.users user)
   where
     go : (o : Option Account) → get accounts user ≡ o → IsShownOrAbsent user (rows_of user tables) o → OfUser accounts user (λ _. Unit {0})
-    go None is h = absurd (let none = sym told ∙ ap (λ l. option_map (λ (cells : Row). column cells next_copy_column) (slice_get l 0)) h.accounts in cc)
+    go None is h = absurd (let none = sym told ∙ ap (λ l. option_map shown_counters (slice_get l 0)) h.accounts in cc)
     go (Some a) is h = (a, is, tt)
 
 pub account_absent : (accounts : Accounts) (user : List ℕ) (tables : Tables) → ShowsAccounts tables accounts → rows_of user tables account_tree ≡ [] → IsFree user accounts
@@ -204,15 +205,15 @@ account_absent accounts user tables shows none = go (get accounts user) refl (sh
     go None is h = is
     go (Some a) is h = absurd (let row = sym none ∙ h.account_is in cc)
 
-pub account_required : (user : List ℕ) (a b : State) (r : Result ℕ Refusal) (n : ℕ) → r ≡ Ok n → ReadsCounter user a b r → (done : Unit {0}) → Requires user a b (Ok done)
+pub account_required : (user : List ℕ) (a b : State) (r : Result Counters Refusal) (n : Counters) → r ≡ Ok n → ReadsCounters user a b r → (done : Unit {0}) → Requires user a b (Ok done)
 account_required user a b r n was h done = record {
-  found = λ clean accounts p. account_there accounts user p.0 n p.2 (subst (λ o. IfOk o (CountsCopies (rows_of user p.0 account_tree))) was (h.found clean p.0 p.1));
+  found = λ clean accounts p. account_there accounts user p.0 n p.2 (subst (λ o. IfOk o (Counts (rows_of user p.0 account_tree))) was (h.found clean p.0 p.1));
   absent = λ clean accounts p. tt;
   keeps = keeps_ok a b r n (Ok done) was h.keeps;
   named = tt;
 }
 
-pub account_refused : (user : List ℕ) (a b : State) (e : Refusal) (q : Result (Unit {0}) Refusal) → q ≡ Err e → ReadsCounter user a b (Err e) → Requires user a b q
+pub account_refused : (user : List ℕ) (a b : State) (e : Refusal) (q : Result (Unit {0}) Refusal) → q ≡ Err e → ReadsCounters user a b (Err e) → Requires user a b q
 account_refused user a b e q is h = record {
   found = λ clean accounts p. subst (λ o. IfOk o (λ done. OfUser accounts user (λ account. Unit {0}))) (sym is) tt;
   absent = λ clean accounts p. subst (λ o. IfErr o (λ f. f ≡ NoUser → IsFree user accounts)) (sym is) (λ none. account_absent accounts user p.0 p.2 (h.absent clean p.0 p.1 none));

@@ -1,5 +1,5 @@
 -- Entries with numbers of their own: none, one more, a higher counter, and that the rows tell the entries.
-use Rattle.std.proofs.Common.{◌≡◌, Bool, not, ℕ, zero, suc, ◌+◌, ◌<◌, ◌≤◌, List, [], ◌∷◌, ◌++◌, map, length, get_or, refl, sym, ap, ◌∙◌, subst, arith, is_lt, Less, Greater, IsPermutation, IsSorted}
+use Rattle.std.proofs.Common.{◌≡◌, Bool, not, ℕ, zero, suc, ◌+◌, ◌<◌, ◌≤◌, ◌==◌, false, inl, inr, filter, eq-eqb, ne_eqb, List, [], ◌∷◌, ◌++◌, map, length, get_or, refl, sym, ap, ◌∙◌, subst, arith, is_lt, Less, Greater, IsPermutation, IsSorted}
 use Rattle.std.specs.List.{AllByRecursion}
 use Rattle.std.specs.Cmp.{nat_cmp_is}
 use Rattle.std.specs.Ordering.{nat_cmp, on}
@@ -8,7 +8,9 @@ use Rattle.std.proofs.lemmas.List.{map-append}
 use Rattle.std.proofs.lemmas.List.Sorted.{IsPermutation-map, IsPermutation-sym, IsPermutation-trans, IsPermutation-append_left}
 use Rattle.sqlite_value.specs.Order.{Row}
 use Rattle.sqlite_trees.specs.Tree.{IsAscending}
-use Rattle.sqlite_keyed.proofs.ListLemmas.{IsPermutation-same, IsPermutation-filter, filter-map, filter_same, all_weaker, all-append, all-filter, ascending-append, ascending-filter, ascending_weaker, map_back}
+use Rattle.sqlite_keyed.proofs.ListLemmas.{filter_none, IsPermutation-same, IsPermutation-filter, filter-map, filter_same, all_weaker, all-append, all-filter, ascending-append, ascending-filter, ascending_weaker, map_back}
+use Rattle.sqlite_rules.specs.Lists.{Has}
+use Rattle.sqlite_rules.proofs.ListLemmas.{all_has}
 use Rattle.sqlite_keyed.specs.Lists.{delete_where}
 use Rattle.sqlite_keyed.proofs.SortLemmas.{sorted_unique}
 use Rattle.mailstore.specs.Numbers.{AreNumbered}
@@ -36,6 +38,13 @@ module _ {X : Type 0} (number : X → ℕ) (row : X → Row) where
     below = all-append _ entries (x ∷ []) h.below (low, tt);
     counter = h.counter;
   }
+
+  -- an entry with the next number
+  pub numbered_next : (rows : List Row) (entries : List X) (next : ℕ) (x : X) → number x ≡ next → AreNumbered number row rows entries next → AreNumbered number row (rows ++ row x ∷ []) (entries ++ x ∷ []) (suc next)
+  numbered_next rows entries next x is h =
+      let above = all_weaker (λ y. number y < next) (λ y. number y < number x) (λ y low. omega (arith, is, low)) entries h.below in
+      let one = h.counter in
+      numbered_push rows entries (suc next) x above (omega (arith, is, one)) (omega (arith, is)) (numbered_up rows entries next (suc next) (omega arith) h)
 
   -- the entries with a number are gone
   pub numbered_without : (gone : Row → Bool) (left : X → Bool) → ((x : X) → gone (row x) ≡ left x) → (rows : List Row) (entries : List X) (next : ℕ) → AreNumbered number row rows entries next
@@ -67,3 +76,14 @@ module _ {X : Type 0} (number : X → ℕ) (row : X → Row) where
       let entries = subst (λ l. IsPermutation l (map back (map row ys))) (map_back row back turns xs) (IsPermutation-map back _ _ ordered) in
       let permuted = subst (IsPermutation xs) (map_back row back turns ys) entries in
       sym (sorted_unique (on number nat_cmp) (on_total number nat_cmp_total) xs ys (ascending_weaker _ _ (λ x y low. sym (nat_cmp_is (number x) (number y) Less low)) xs h.rise) permuted (rising_sorted ys k.rise))
+
+  -- of entries that rise, one has the number
+  pub alone_at : (xs : List X) → IsAscending (λ x y. number x < number y) xs → (x : X) → Has xs x → filter (λ y. number y == number x) xs ≡ x ∷ []
+  alone_at [] up x there = absurd there
+  alone_at (y ∷ ys) up x (inl same) =
+      let none = filter_none (λ z. number z == number x) ys
+      (all_weaker (λ z. number y < number z) (λ z. (number z == number x) ≡ false) (λ z low. ne_eqb (number z) (number x) (λ e. let here : number x ≡ number y = ap number same in omega (arith, e, here, low))) ys up.0) in
+      rw (eq-eqb (number y) (number x) (ap number (sym same)), none) (ap (λ z. z ∷ []) (sym same))
+  alone_at (y ∷ ys) up x (inr later) =
+      let low = all_has (λ z. number y < number z) ys x up.0 later in
+      rw (ne_eqb (number y) (number x) (λ e. omega (arith, e, low))) (alone_at ys up.1 x later)

@@ -1,5 +1,5 @@
 -- The tables show one map of accounts alone.
-use Rattle.std.proofs.Common.{◌≡◌, ℕ, ℤ, pos, List, [], ◌∷◌, map, filter, Option, Some, None, refl, sym, ◌∙◌, ap, ◌==◌, cond}
+use Rattle.std.proofs.Common.{◌≡◌, ℕ, ℤ, pos, List, [], ◌∷◌, map, filter, Option, Some, None, refl, sym, ◌∙◌, ap, ap₂, ◌==◌, cond, subst, ◌<◌, ◌≤◌, IsPermutation}
 use Rattle.std.specs.FinMap.{get, from_entries, same_map}
 use Rattle.std.proofs.lemmas.Cmp.{nat_list_cmp_total}
 use Rattle.sqlite_value.specs.declared.value.Value.{Value}
@@ -21,12 +21,18 @@ use Rattle.mailstore.specs.ScriptTable.{script, script_row, script_tree}
 use Rattle.mailstore.specs.QueueTable.{outgoing, queue_row, outgoing_tree, kind_number}
 use Rattle.mailstore.specs.ReplyTable.{reply, reply_row, reply_tree}
 use Rattle.mailstore.specs.NoticeTable.{notice, notice_row, notice_tree}
-use Rattle.mailstore.specs.CopyTable.{copy, Copy, copy_row, folders_from, copy_tree, folder_column, message_column, n_column}
+use Rattle.sqlite_trees.specs.Tree.{IsAscending}
+use Rattle.sqlite_keyed.proofs.ListLemmas.{map-map, ascending-map}
+use Rattle.std.specs.List.{AllByRecursion}
+use Rattle.mailstore.specs.Numbers.{AreNumbered}
+use Rattle.mailstore.specs.MessageTable.{message, Message, message_row, message_tree, message_id_column, bytes_column}
+use Rattle.mailstore.specs.CopyTable.{copy, Copy, copy_cells, copy_row, folders_from, copy_tree, folder_column, id_column, message_of, n_column}
 use Rattle.mailstore.specs.Shows.{rows_of, IsShown, IsShownOrAbsent, Presents}
 use Rattle.mailstore.proofs.AccountLemmas.{bytes_antisymmetric}
-use Rattle.mailstore.proofs.SchemaFacts.{account_listed, copy_listed, notice_listed, outgoing_listed, reply_listed, script_listed}
+use Rattle.mailstore.proofs.SchemaFacts.{account_listed, copy_listed, message_listed, notice_listed, outgoing_listed, reply_listed, script_listed}
 use Rattle.std.proofs.Math.IntN.{nat_abs}
-use Rattle.mailstore.proofs.NumberLemmas.{numbered_one}
+use Rattle.mailstore.proofs.NumberLemmas.{numbered_one, alone_at}
+use Rattle.mailstore.proofs.OrderLemmas.{all_mapped}
 
 pub map_one : {X Y : Type 0} (f : X → Y) → ((x y : X) → f x ≡ f y → x ≡ y) → (xs ys : List X) → map f xs ≡ map f ys → xs ≡ ys
 map_one f one [] [] e = refl
@@ -54,6 +60,7 @@ held_one rows a b h k = h.cells_are ∙ ap (map cells_of) (map_one stored stored
 record AreAlike (a b : Tables) : Type 0 where
   accounts : a account_tree ≡ b account_tree
   scripts : a script_tree ≡ b script_tree
+  messages : a message_tree ≡ b message_tree
   copies : a copy_tree ≡ b copy_tree
   queue : a outgoing_tree ≡ b outgoing_tree
   replies : a reply_tree ≡ b reply_tree
@@ -63,6 +70,7 @@ tables_one : (db : Database) (a b : Tables) → Holds mail_schema db a → Holds
 tables_one db a b h k = record {
   accounts = both account account_listed;
   scripts = both script script_listed;
+  messages = both message message_listed;
   copies = both copy copy_listed;
   queue = both outgoing outgoing_listed;
   replies = both reply reply_listed;
@@ -76,6 +84,7 @@ own_alike : (user : List ℕ) (a b : Tables) → AreAlike a b → AreAlike (rows
 own_alike user a b same = record {
   accounts = ap own same.accounts;
   scripts = ap own same.scripts;
+  messages = ap own same.messages;
   copies = ap own same.copies;
   queue = ap own same.queue;
   replies = ap own same.replies;
@@ -108,13 +117,62 @@ number_in : Row → ℕ → ℕ
 unfolding int_in
 number_in row place = nat_abs (int_in (column row place))
 
-copy_in : Row → Copy
+message_in : Row → Message
 unfolding number_in
-copy_in row = record { folder = bytes (column row folder_column); n = number_in row n_column; message = bytes (column row message_column) }
+message_in row = record { id = number_in row message_id_column; bytes = bytes (column row bytes_column) }
 
-copy_back : (user : List ℕ) (c : Copy) → copy_in (copy_row user c) ≡ c
-unfolding copy_in
-copy_back user c = refl
+message_back : (user : List ℕ) (m : Message) → message_in (message_row user m) ≡ m
+unfolding message_in
+message_back user m = refl
+
+-- what the row of a copy tells: the folder, its number, and its message's
+abbrev Filing : Type 0
+Filing = List ℕ × ℕ × ℕ
+
+abbrev filing_of : Copy → Filing
+filing_of c = (c.folder, c.n, c.id)
+
+abbrev filing_row : List ℕ → Filing → Row
+filing_row user f = copy_cells user f.0 (pos f.1) (pos f.2)
+
+filing_in : Row → Filing
+unfolding number_in
+filing_in row = (bytes (column row folder_column), number_in row n_column, number_in row id_column)
+
+filing_back : (user : List ℕ) (f : Filing) → filing_in (filing_row user f) ≡ f
+unfolding filing_in
+filing_back user f = refl
+
+filings_numbered : (user : List ℕ) (rows : List Row) (copies : List Copy) (next : ℕ) → AreNumbered (λ c. c.n) (copy_row user) rows copies next → AreNumbered (λ f. f.1) (filing_row user) rows (map filing_of copies) next
+filings_numbered user rows copies next h = record {
+  rows_are = subst (λ l. IsPermutation l rows) (sym (map-map (filing_row user) filing_of copies)) h.rows_are;
+  rise = ascending-map (λ (x y : Filing). x.1 < y.1) filing_of copies h.rise;
+  from_one = all_mapped (λ (f : Filing). 1 ≤ f.1) filing_of copies h.from_one;
+  below = all_mapped (λ (f : Filing). f.1 < next) filing_of copies h.below;
+  counter = h.counter;
+}
+
+-- messages of one number are one
+message_one : (messages : List Message) → IsAscending (λ x y. x.id < y.id) messages → (m o : Message) → Has messages m → Has messages o → m.id ≡ o.id → m ≡ o
+message_one messages rise m o there other same =
+    let row = message_row [] in
+    let both : m ∷ [] ≡ o ∷ [] = sym (alone_at (λ x. x.id) row messages rise m there) ∙ ap (λ n. filter (λ (x : Message). x.id == n) messages) same ∙ alone_at (λ x. x.id) row messages rise o other in
+    cc
+
+copies_one : (messages : List Message) → IsAscending (λ x y. x.id < y.id) messages → (xs ys : List Copy) → map filing_of xs ≡ map filing_of ys → AllByRecursion (λ c. Has messages (message_of c)) xs
+    → AllByRecursion (λ c. Has messages (message_of c)) ys → xs ≡ ys
+copies_one messages rise [] [] e h k = refl
+copies_one messages rise [] (y ∷ ys) e h k = absurd (let no = e in cc)
+copies_one messages rise (x ∷ xs) [] e h k = absurd (let no = e in cc)
+copies_one messages rise (x ∷ xs) (y ∷ ys) e h k =
+    let head : filing_of x ≡ filing_of y = cc in
+    let folder : x.folder ≡ y.folder = ap (λ f. f.0) head in
+    let n : x.n ≡ y.n = ap (λ f. f.1) head in
+    let id : x.id ≡ y.id = ap (λ f. f.2) head in
+    let text = ap (λ (m : Message). m.bytes) (message_one messages rise (message_of x) (message_of y) h.0 k.0 id) in
+    let same : x ≡ y = λ i. record { folder = folder i; n = n i; id = id i; message = text i } in
+    let rest : map filing_of xs ≡ map filing_of ys = cc in
+    ap₂ ◌∷◌ same (copies_one messages rise xs ys rest h.1 k.1)
 
 kind_in : ℕ → Kind
 kind_in n = cond (n == 1) Redirect Reply
@@ -163,7 +221,10 @@ module _ (user : List ℕ) (own other : Tables) (alike : AreAlike own other) whe
       let next_out : a.next_out ≡ b.next_out = cc in
       let scripts : a.scripts ≡ b.scripts =
       s.scripts.shown ∙ ap from_entries (map_one (script_row user) (script_one user) s.scripts.entries t.scripts.entries (sym s.scripts.rows_are ∙ alike.scripts ∙ t.scripts.rows_are)) ∙ sym t.scripts.shown in
-      let copies = numbered_one (λ c. c.n) (copy_row user) copy_in (copy_back user) _ _ alike.copies s.copies.entries t.copies.entries _ _ s.copies.numbered t.copies.numbered in
+      let messages = numbered_one (λ m. m.id) (message_row user) message_in (message_back user) _ _ alike.messages s.copies.messages t.copies.messages _ _ s.copies.stored t.copies.stored in
+      let filings = numbered_one (λ f. f.1) (filing_row user) filing_in (filing_back user) _ _ alike.copies (map filing_of s.copies.entries) (map filing_of t.copies.entries) _ _ (filings_numbered user _ s.copies.entries _ s.copies.numbered)
+      (filings_numbered user _ t.copies.entries _ t.copies.numbered) in
+      let copies = copies_one s.copies.messages s.copies.stored.rise s.copies.entries t.copies.entries filings s.copies.kept.present (subst (λ l. AllByRecursion (λ c. Has l (message_of c)) t.copies.entries) (sym messages) t.copies.kept.present) in
       let folders : a.folders ≡ b.folders = s.copies.shown ∙ ap folders_from copies ∙ sym t.copies.shown in
       let queue : a.queue ≡ b.queue = numbered_one (λ q. q.id) (queue_row user) queued_in (queued_back user) _ _ alike.queue a.queue b.queue _ _ s.queue t.queue in
       let replies : a.replies ≡ b.replies =

@@ -1,5 +1,5 @@
 -- Examples of databases that are ours, and near misses.
-use Rattle.std.proofs.Common.{◌≡◌, ◌==◌, ℕ, pos, cond, codes, List, [], ◌∷◌, length, None, true, false, Ok, refl, sym, ap, ◌∙◌, arith}
+use Rattle.std.proofs.Common.{◌≡◌, ◌==◌, pos, cond, codes, List, [], ◌∷◌, length, None, true, false, Ok, refl, sym, ap, ◌∙◌, arith}
 use Rattle.sqlite_value.specs.declared.value.Value.TheVariants.{Int, Text, Null}
 use Rattle.sqlite_value.specs.declared.keys.Collation.TheVariants.{Binary}
 use Rattle.sqlite_value.specs.Order.{Row, column, value_cmp}
@@ -23,34 +23,34 @@ use Rattle.mailstore.specs.Shows.{IsOurs}
 abbrev with_versions : List Row → Database
 with_versions rows = record { schema = mail_schema; trees = λ tree. cond (tree == meta_tree) rows [] }
 
-abbrev says_1 : Row
-says_1 = Int (pos 1) ∷ version_row
+abbrev says_2 : Row
+says_2 = Int (pos 1) ∷ version_row
 
-ours : IsOurs (with_versions (says_1 ∷ []))
+ours : IsOurs (with_versions (says_2 ∷ []))
 unfolding binary value_cmp lib.Ieee.is_nan lib.Ieee.lt
-ours = record { schema = refl; row = says_1; only = refl; says = refl }
+ours = record { schema = refl; row = says_2; only = refl; says = refl }
 
 -- near miss: no row of the version
 not_without_version : IsOurs (with_versions []) → ⊥
 not_without_version o = let e = o.only in cc
 
--- near miss: version 2
-abbrev says_2 : Row
-says_2 = Int (pos 1) ∷ Text (codes "version") ∷ Int (pos 2) ∷ []
+-- near miss: version 1
+abbrev says_1 : Row
+says_1 = Int (pos 1) ∷ Text (codes "version") ∷ Int (pos 1) ∷ []
 
 abbrev first_of : List Row → Row
 first_of [] = []
 first_of (row ∷ rows) = row
 
-two_not_one : Int (pos 2) ≡ Int (pos 1) → ⊥
-two_not_one e = cc
+one_not_two : Int (pos 1) ≡ Int (pos 2) → ⊥
+one_not_two e = cc
 
-not_version_2 : IsOurs (with_versions (says_2 ∷ [])) → ⊥
+not_version_1 : IsOurs (with_versions (says_1 ∷ [])) → ⊥
 unfolding binary value_cmp lib.Ieee.is_nan lib.Ieee.lt
-not_version_2 o = two_not_one (ap (λ rows. column (first_of rows) stored_value_column) o.only ∙ o.says)
+not_version_1 o = one_not_two (ap (λ rows. column (first_of rows) stored_value_column) o.only ∙ o.says)
 
 -- near miss: a second row of the version
-not_twice : IsOurs (with_versions (says_1 ∷ says_2 ∷ [])) → ⊥
+not_twice : IsOurs (with_versions (says_2 ∷ says_1 ∷ [])) → ⊥
 unfolding binary value_cmp lib.Ieee.is_nan lib.Ieee.lt
 not_twice o = let same : 2 ≡ 1 = ap (λ rows. length rows) o.only in omega (arith, same)
 

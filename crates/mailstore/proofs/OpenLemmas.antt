@@ -25,7 +25,7 @@ use Rattle.sqlrows.proofs.ReadLemmas.{shown_same, fails_same, answered, quiet}
 use Rattle.mailstore.specs.Schema.{mail_schema}
 use Rattle.mailstore.specs.Connection.{StaysSame, SeesCommit}
 use Rattle.mailstore.specs.Account.{Accounts}
-use Rattle.mailstore.specs.MetaTable.{meta, select_version, version_key, version_row, version_rows, SaysOne, meta_tree, stored_value_column, AreVersions}
+use Rattle.mailstore.specs.MetaTable.{meta, select_version, version_key, version_row, version_rows, SaysTwo, meta_tree, stored_value_column, AreVersions}
 use Rattle.mailstore.specs.Shows.{IsOurs, ShowsIn, Presents}
 use Rattle.mailstore.proofs.TextFacts.{by_one, select_version_is, select_version_plain}
 use Rattle.mailstore.proofs.QueryLemmas.{same_unchanged, same_undone}
@@ -71,7 +71,7 @@ pub version_found : (old new : State) (rows : List Row) → old.now.schema ≡ m
 version_found old new rows ours shown =
     numbers_are old.now.trees rows (answered mail_schema select_version version_key old new ours select_version_plain.0 meta_tree by_one (col 1 2 ∷ []) [] _ select_version_is select_version_plain.1 rows shown)
 
-says_ours : (db : Database) (rows found : List Row) → db.schema ≡ mail_schema → version_rows db.trees ≡ found → IsPermutation (map (λ r. column r stored_value_column ∷ []) found) rows → SaysOne rows ↔ IsOurs db
+says_ours : (db : Database) (rows found : List Row) → db.schema ≡ mail_schema → version_rows db.trees ≡ found → IsPermutation (map (λ r. column r stored_value_column ∷ []) found) rows → SaysTwo rows ↔ IsOurs db
 says_ours db rows [] ours are same = (
   λ one. absurd (let none = length_permutation _ _ (subst (IsPermutation []) one.1 same) in omega (arith, none)),
   λ h. absurd (let none = sym are ∙ h.only in cc),
@@ -90,11 +90,11 @@ says_ours db rows (r ∷ q ∷ more) ours are same = (
   λ h. absurd (let one = sym are ∙ h.only in let many : length (r ∷ q ∷ more) ≡ 1 = ap length one in omega (arith, many)),
 )
 
-pub row_says : (rows : List Row) (row : Row) → rows ≡ row ∷ [] → (r : Result Bool Error) → IfOk r (λ is. IsTrue is ↔ (column row 0 ≡ Int (pos 1))) → IfOk r (λ is. IsTrue is ↔ SaysOne rows)
+pub row_says : (rows : List Row) (row : Row) → rows ≡ row ∷ [] → (r : Result Bool Error) → IfOk r (λ is. IsTrue is ↔ (column row 0 ≡ Int (pos 2))) → IfOk r (λ is. IsTrue is ↔ SaysTwo rows)
 row_says rows row are (Err e) said = tt
 row_says rows row are (Ok is) said = (λ e. (row, are, said.0 e), λ h. let same : row ∷ [] ≡ h.0 ∷ [] = sym are ∙ h.1 in let one : row ≡ h.0 = cc in said.1 (ap (λ (x : Row). column x 0) one ∙ h.2))
 
-pub version_says : (db : Database) (rows : List Row) → db.schema ≡ mail_schema → IsPermutation (map (λ r. column r stored_value_column ∷ []) (version_rows db.trees)) rows → (r : Result Bool Error) → IfOk r (λ is. IsTrue is ↔ SaysOne rows)
+pub version_says : (db : Database) (rows : List Row) → db.schema ≡ mail_schema → IsPermutation (map (λ r. column r stored_value_column ∷ []) (version_rows db.trees)) rows → (r : Result Bool Error) → IfOk r (λ is. IsTrue is ↔ SaysTwo rows)
     → IfOk r (λ is. IsTrue is ↔ IsOurs db)
 version_says db rows ours same (Err e) said = tt
 version_says db rows ours same (Ok is) said = let both = says_ours db rows _ ours refl same in (λ e. both.0 (said.0 e), λ h. said.1 (both.1 h))
@@ -123,7 +123,7 @@ asks_refused {Q = Q} old new r e q is h = record {
 }
 
 -- and what its rows say
-pub says_version : (old new : State) (r : Result (Vec Row Global) Error) (rows : Vec Row Global) → r ≡ Ok rows → Asks (AreVersions old.now.trees) old new r → (q : Result Bool Error) → IfOk q (λ is. IsTrue is ↔ SaysOne rows.items)
+pub says_version : (old new : State) (r : Result (Vec Row Global) Error) (rows : Vec Row Global) → r ≡ Ok rows → Asks (AreVersions old.now.trees) old new r → (q : Result Bool Error) → IfOk q (λ is. IsTrue is ↔ SaysTwo rows.items)
     → Asks (λ is. IsTrue is ↔ IsOurs old.now) old new q
 says_version old new r rows was h q said = record {
   found = λ ours clean. version_says old.now rows.items ours (subst (λ o. IfOk o (AreVersions old.now.trees)) was (h.found ours clean)) q said;

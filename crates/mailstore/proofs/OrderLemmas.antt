@@ -1,12 +1,10 @@
 -- What the queries that are in order find.
-use Rattle.std.proofs.Common.{◌≡◌, ◌≢◌, ℕ, pos, ◌<◌, Bool, true, false, cond, T, List, [], ◌∷◌, ◌++◌, map, filter, fold, length, append-nil, append_assoc, Some, None, unwrap_or, refl, sym, ap, ◌∙◌, subst, arith, true≢false, is_eq, is_lt, Ordering, Less, Equal, Greater, IsPermutation}
+use Rattle.std.proofs.Common.{◌≡◌, ◌==◌, ◌&&◌, ap₂, ℕ, pos, ◌<◌, Bool, true, false, cond, List, [], ◌∷◌, ◌++◌, map, filter, fold, append-nil, append_assoc, Some, unwrap_or, refl, sym, ap, ◌∙◌, subst, arith, true≢false, is_eq, Less, IsPermutation}
 use Rattle.std.specs.List.{AllByRecursion}
-use Rattle.std.specs.FinMap.{FinMap, empty, get, entries, keys, from_entries, find, put, is_sorted, len-entries, len-empty, get-entries, get-from_entries, entries_sorted, entries-insert, get-insert, get-empty}
-use Rattle.std.specs.FinMap.Entries.{by_order, below_all}
-use Rattle.std.proofs.lemmas.Bool.{and_parts}
+use Rattle.std.specs.FinMap.{FinMap, empty, get, entries, keys, from_entries, get-insert, get-empty}
 use Rattle.std.proofs.lemmas.Int.{ints}
 use Rattle.std.proofs.lemmas.Cmp.{nat_list_cmp_total}
-use Rattle.std.proofs.lemmas.List.Sorted.{IsPermutation-refl, IsPermutation-map, IsPermutation-trans, IsPermutation-sym, IsPermutation-cons, IsPermutation-middle}
+use Rattle.std.proofs.lemmas.List.Sorted.{All-permutation, IsPermutation-map, IsPermutation-trans, IsPermutation-sym}
 use Rattle.sqlite_value.specs.declared.value.Value.TheVariants.{Int, Blob}
 use Rattle.sqlite_value.specs.declared.keys.Collation.TheVariants.{Binary}
 use Rattle.sqlite_value.specs.Keys.{ascending}
@@ -14,17 +12,17 @@ use Rattle.sqlite_value.specs.Order.{Row, column}
 use Rattle.sqlite_value.proofs.OrderLemmas.{value_cmp-Int, value_cmp-Blob}
 use Rattle.sqlite_trees.specs.Tree.{IsAscending}
 use Rattle.sqlite_sql.specs.Term.{col}
-use Rattle.sqlite_sql.specs.Query.{Query, Output, output_cmp}
+use Rattle.sqlite_sql.specs.Query.{Query, inner, end, Output, output_cmp}
 use Rattle.sqlite_sql.proofs.QueryLemmas.{output_cmp_total}
-use Rattle.sqlite_keyed.proofs.ListLemmas.{map-map, filter-map, filter_same, filter-filter, ascending-map, ascending-filter, ascending_weaker, IsPermutation-filter}
+use Rattle.sqlite_keyed.proofs.ListLemmas.{map-map, all_weaker, all-filter, filter-map, filter_same, filter-filter, ascending-map, ascending-filter, ascending_weaker, IsPermutation-filter}
 use Rattle.sqlite_keyed.proofs.KeyedLemmas.{Less-from_lt}
 use Rattle.sqlite_keyed.proofs.SortLemmas.{sorted_unique}
 use Rattle.sqlite_typed.proofs.TestLemmas.{last_key, same_bytes, bytes_eq_refl}
 use Rattle.sqlite.specs.State.{State, Shown}
-use Rattle.sqlrows.specs.Forms.{over}
+use Rattle.sqlrows.specs.Forms.{over, over_two}
 use Rattle.sqlrows.specs.Rows.{Tables, Holds, has_key}
-use Rattle.sqlrows.proofs.AnswerLemmas.{cells_in_order}
-use Rattle.sqlrows.proofs.ReadLemmas.{answered}
+use Rattle.sqlrows.proofs.AnswerLemmas.{cells_in_order, cells_joined}
+use Rattle.sqlrows.proofs.ReadLemmas.{answered, answered_from}
 use Rattle.sqlrows.proofs.ListLemmas.{owner_key, pair_key, pair_owned}
 use Rattle.mailstore.specs.declared.queue.Outgoing.{Outgoing}
 use Rattle.mailstore.specs.declared.notice.Notice.{Notice}
@@ -33,22 +31,76 @@ use Rattle.mailstore.specs.NoticeTable.{notice, notice_cells, notice_row, notice
 use Rattle.mailstore.specs.Schema.{mail_schema}
 use Rattle.mailstore.specs.Account.{bytes_cmp, Folders, messages_in, filed}
 use Rattle.mailstore.specs.ScriptTable.{script, select_names, script_row, AreApart, script_tree}
-use Rattle.mailstore.specs.CopyTable.{copy, select_folder, Copy, copy_row, folders_from, copy_tree}
+use Rattle.mailstore.specs.MessageTable.{message, Message, message_key, message_row, message_tree, bytes_column}
+use Rattle.mailstore.specs.CopyTable.{copy, select_folder, Copy, copy_row, folders_from, copy_tree, id_column, n_column, message_of}
 use Rattle.mailstore.specs.Shows.{rows_of}
-use Rattle.mailstore.proofs.TextFacts.{by_one, by_two, select_names_is, select_names_plain, select_folder_is, select_folder_plain, notices_shown, queue_shown, select_notices_is, select_notices_plain, select_queue_is, select_queue_plain}
-use Rattle.mailstore.proofs.AccountLemmas.{pair_is, bytes_antisymmetric}
+use Rattle.mailstore.proofs.TextFacts.{by_one, of_message, select_names_is, select_names_plain, select_folder_is, select_folder_plain, notices_shown, queue_shown, select_notices_is, select_notices_plain, select_queue_is, select_queue_plain}
+use Rattle.mailstore.proofs.AccountLemmas.{pair_is, message_is, bytes_antisymmetric}
+use Rattle.mailstore.proofs.NumberLemmas.{alone_at}
+use Rattle.mailstore.proofs.KeyLemmas.{key_owned}
+use Rattle.sqlite.proofs.Callers.{one_permutation}
+use Rattle.sqlite_rules.specs.Lists.{Has}
+use Rattle.sqlite_rules.proofs.ListLemmas.{all_has, has_kept}
+use Rattle.sqlite_schema.specs.Rules.{equal}
+use Rattle.std.proofs.lemmas.List.Elements.{recursion_from_All, All-from_recursion}
 use Rattle.mailstore.proofs.MapLemmas.{entries_permutation, entries_rise}
-use Rattle.mailstore.proofs.SchemaFacts.{copy_listed, script_listed, notice_listed, outgoing_listed}
+use Rattle.mailstore.proofs.SchemaFacts.{copy_listed, message_listed, script_listed, notice_listed, outgoing_listed}
 
 -- the rows with a key of two are among the owner's
 pub of_owner : (owner name : List ℕ) (tables : Tables) (tree : ℕ) → filter (has_key (pair_key owner name)) (tables tree) ≡ filter (has_key (pair_key owner name)) (rows_of owner tables tree)
 of_owner owner name tables tree = sym (filter-filter (has_key (pair_key owner name)) (has_key (owner_key owner)) (pair_owned owner name) (tables tree))
 
-abbrev by_number : Query
-by_number = (over copy_tree by_two (col 1 4 ∷ []) ((col 1 3, ascending Binary) ∷ [])).body
-
 number_output : Copy → Output
 number_output c = (Int (pos c.n) ∷ [], Blob c.message ∷ [])
+
+pub all_mapped : {X Y : Type 0} (P : Y → Type 0) (f : X → Y) (xs : List X) → AllByRecursion (λ x. P (f x)) xs → AllByRecursion P (map f xs)
+all_mapped P f [] h = tt
+all_mapped P f (x ∷ xs) h = (h.0, all_mapped P f xs h.1)
+
+-- the row of a message is that of a copy's row where it has the copy's owner and its message's number
+abbrev pub is_of : Row → Row → Bool
+is_of copied = has_key (column copied 0 ∷ column copied id_column ∷ [])
+
+abbrev first_of : List Row → Row
+first_of [] = []
+first_of (row ∷ rows) = row
+
+abbrev partner : List Row → Row → Row
+partner others copied = first_of (filter (is_of copied) others)
+
+abbrev shown_pair : Row → Row → Output
+shown_pair copied other = (column copied n_column ∷ [], column other bytes_column ∷ [])
+
+module _ (tables : Tables) (owner : List ℕ) (messages : List Message) (are : IsPermutation (map (message_row owner) messages) (rows_of owner tables message_tree)) (rise : IsAscending (λ x y. x.id < y.id) messages) where
+  message_found : (c : Copy) → Has messages (message_of c) → filter (is_of (copy_row owner c)) (tables message_tree) ≡ message_row owner (message_of c) ∷ []
+  message_found c there =
+      let key = has_key (message_key owner (pos c.id)) in
+      let mine = sym (filter-filter key (has_key (owner_key owner)) (key_owned owner (Int (pos c.id) ∷ [])) (tables message_tree)) in
+      let one : filter key (map (message_row owner) messages) ≡ message_row owner (message_of c) ∷ [] =
+      filter-map key (message_row owner) messages ∙ ap (map (message_row owner)) (filter_same _ (λ m. m.id == c.id) (λ m. message_is owner c.id m) messages ∙ alone_at (λ m. m.id) (message_row owner) messages rise (message_of c) there) in
+      mine ∙ one_permutation (message_row owner (message_of c)) _ (subst (λ l. IsPermutation l (filter key (rows_of owner tables message_tree))) one (IsPermutation-filter key _ _ are))
+
+  abbrev IsPaired : Row → Type 0
+  IsPaired row = filter (is_of row) (tables message_tree) ≡ partner (tables message_tree) row ∷ []
+
+  copy_paired : (c : Copy) → Has messages (message_of c) → IsPaired (copy_row owner c)
+  copy_paired c there = let found = message_found c there in found ∙ ap (λ r. r ∷ []) (sym (ap first_of found))
+
+  -- each copy of the owner has one message
+  rows_paired : (copies : List Copy) → IsPermutation (map (copy_row owner) copies) (rows_of owner tables copy_tree) → AllByRecursion (λ c. Has messages (message_of c)) copies
+      → (row : Row) → Has (tables copy_tree) row → has_key (owner_key owner) row ≡ true → IsPaired row
+  rows_paired copies same present row there mine =
+      let each = all_mapped IsPaired (copy_row owner) copies (all_weaker (λ c. Has messages (message_of c)) (λ c. IsPaired (copy_row owner c)) copy_paired copies present) in
+      let all = recursion_from_All IsPaired _ (All-permutation IsPaired _ _ same (All-from_recursion IsPaired _ each)) in
+      all_has IsPaired (rows_of owner tables copy_tree) row all (has_kept (has_key (owner_key owner)) (tables copy_tree) row there mine)
+
+  pairs_shown : (copies : List Copy) → AllByRecursion (λ c. Has messages (message_of c)) copies → map (λ row. shown_pair row (partner (tables message_tree) row)) (map (copy_row owner) copies) ≡ map number_output copies
+  unfolding number_output
+  pairs_shown [] present = refl
+  pairs_shown (c ∷ copies) present = ap₂ ◌∷◌ (ap (λ r. shown_pair (copy_row owner c) (first_of r)) (message_found c present.0)) (pairs_shown copies present.1)
+
+abbrev by_number : Query
+by_number = (over_two copy_tree message_tree of_message (col 2 3 ∷ []) ((col 1 3, ascending Binary) ∷ [])).body
 
 numbers_rise : (c d : Copy) → c.n < d.n → output_cmp by_number (number_output c) (number_output d) ≡ Less
 unfolding number_output
@@ -57,23 +109,36 @@ numbers_rise c d low = last_key (value_cmp-Int (pos c.n) (pos d.n) ∙ Less-from
 abbrev pub is_in : List ℕ → Copy → Bool
 is_in folder c = is_eq (bytes_cmp c.folder folder)
 
+-- the terms of the copy's table apart from those of both
+turned : (a b p : Bool) → (a && (b && p)) ≡ (p && (a && (b && true)))
+turned true true true = refl
+turned true true false = refl
+turned true false true = refl
+turned true false false = refl
+turned false b true = refl
+turned false b false = refl
+
 module _ (old new : State) (rows : List Row) (tables : Tables) (h : Holds mail_schema old.now tables) where
-  pub folder_found : (owner folder : List ℕ) (copies : List Copy) → IsPermutation (map (copy_row owner) copies) (rows_of owner tables copy_tree) → IsAscending (λ c d. c.n < d.n) copies
+  pub folder_found : (owner folder : List ℕ) (copies : List Copy) (messages : List Message) → IsPermutation (map (copy_row owner) copies) (rows_of owner tables copy_tree) → IsAscending (λ c d. c.n < d.n) copies
+      → IsPermutation (map (message_row owner) messages) (rows_of owner tables message_tree) → IsAscending (λ x y. x.id < y.id) messages → AllByRecursion (λ c. Has messages (message_of c)) copies
       → Shown select_folder (pair_key owner folder) old new rows → rows ≡ map (λ c. Blob c.message ∷ []) (filter (is_in folder) copies)
   unfolding number_output
-  folder_found owner folder copies are rise shown =
+  folder_found owner folder copies messages are rise kept up present shown =
       let key = pair_key owner folder in
       let p = has_key key in
       let few = filter (is_in folder) copies in
-      let show = λ (cells : Row). let o : Output = (column cells 2 ∷ [], column cells 3 ∷ []) in o in
-      let found = cells_in_order old.now.trees copy_tree by_two (col 1 4 ∷ []) ((col 1 3, ascending Binary) ∷ []) key (tables copy_tree) (h.each copy copy_listed) p (λ n cells. refl) show (λ n cells. refl) rows
-      (answered mail_schema select_folder key old new h.is select_folder_plain.0 copy_tree by_two (col 1 4 ∷ []) _ _ select_folder_is select_folder_plain.1 rows shown) in
+      let other = partner (tables message_tree) in
+      let show = λ (row : Row). shown_pair row (other row) in
+      let found = cells_joined old.now.trees copy_tree message_tree of_message (col 2 3 ∷ []) ((col 1 3, ascending Binary) ∷ []) key (tables copy_tree) (tables message_tree) (h.each copy copy_listed) (h.each message message_listed) p is_of
+      (λ n m a b. turned (equal Binary (column b 0) (column a 0)) (equal Binary (column b 1) (column a 3)) (p a)) shown_pair (λ n m a b. refl) other
+      (λ row there passes. rows_paired tables owner messages kept up copies are present row there (pair_owned owner folder row passes)) rows
+      (answered_from mail_schema select_folder key old new h.is select_folder_plain.0 (inner copy_tree (inner message_tree end)) of_message (col 2 3 ∷ []) _ _ select_folder_is select_folder_plain.1 rows shown) in
       let mine : filter p (map (copy_row owner) copies) ≡ map (copy_row owner) few =
-      filter-map p (copy_row owner) copies ∙ ap (map (copy_row owner)) (filter_same _ (is_in folder) (λ c. pair_is owner folder c.folder (Int (pos c.n) ∷ Blob c.message ∷ [])) copies) in
+      filter-map p (copy_row owner) copies ∙ ap (map (copy_row owner)) (filter_same _ (is_in folder) (λ c. pair_is owner folder c.folder (Int (pos c.n) ∷ Int (pos c.id) ∷ [])) copies) in
       let cells : IsPermutation (map (copy_row owner) few) (filter p (tables copy_tree)) =
       subst (λ l. IsPermutation l (filter p (tables copy_tree))) mine (subst (IsPermutation _) (sym (of_owner owner folder tables copy_tree)) (IsPermutation-filter p _ _ are)) in
       let outs : IsPermutation (map number_output few) (map show (filter p (tables copy_tree))) =
-      subst (λ l. IsPermutation l (map show (filter p (tables copy_tree)))) (map-map show (copy_row owner) few) (IsPermutation-map show _ _ cells) in
+      subst (λ l. IsPermutation l (map show (filter p (tables copy_tree)))) (pairs_shown tables owner messages kept up few (all-filter _ (is_in folder) copies present)) (IsPermutation-map show _ _ cells) in
       let rising = ascending-map (λ x y. output_cmp by_number x y ≡ Less) number_output few
       (ascending-filter (λ c d. output_cmp by_number (number_output c) (number_output d) ≡ Less) (is_in folder) copies (ascending_weaker _ (λ c d. output_cmp by_number (number_output c) (number_output d) ≡ Less) numbers_rise copies rise)) in
       let is = sorted_unique (output_cmp by_number) (output_cmp_total by_number) (map number_output few) found.0 rising (IsPermutation-trans _ _ _ outs found.1) found.2 in

@@ -16,10 +16,10 @@ use Rattle.sqlrows.proofs.ReadLemmas.{shown_same, fails_same, answered}
 use Rattle.sqlrows.proofs.ListLemmas.{owner_key, pair_key}
 use Rattle.mailstore.specs.Schema.{mail_schema}
 use Rattle.mailstore.specs.Connection.{StaysSame}
-use Rattle.mailstore.specs.AccountTable.{account, select_account, select_next_copy, shown_account, account_tree, shown_next_copy}
+use Rattle.mailstore.specs.AccountTable.{account, select_account, select_counters, shown_account, account_tree, shown_counters}
 use Rattle.mailstore.specs.ScriptTable.{script, select_script, script_tree, text_column}
 use Rattle.mailstore.specs.Shows.{rows_of}
-use Rattle.mailstore.proofs.TextFacts.{by_one, by_two, account_shown, select_account_is, select_account_plain, select_next_copy_is, select_next_copy_plain, select_script_is, select_script_plain}
+use Rattle.mailstore.proofs.TextFacts.{by_one, by_two, account_shown, counters_shown, select_account_is, select_account_plain, select_counters_is, select_counters_plain, select_script_is, select_script_plain}
 use Rattle.mailstore.proofs.StatementLemmas.{account_index, script_index, account_agrees, script_agrees}
 use Rattle.mailstore.specs.Promises.{HasOurTables}
 
@@ -72,11 +72,11 @@ module _ (old new : State) (rows : List Row) (tables : Tables) (h : Holds mail_s
       by_one (owner_key name) (λ n cells. refl) account_shown shown_account (λ n cells. refl) [] rows
       (answered mail_schema select_account (owner_key name) old new h.is select_account_plain.0 account_tree by_one account_shown [] _ select_account_is select_account_plain.1 rows shown)
 
-  pub next_copy_found : (name : List ℕ) → Shown select_next_copy (owner_key name) old new rows → rows ≡ map shown_next_copy (rows_of name tables account_tree)
-  next_copy_found name shown =
+  pub counters_found : (name : List ℕ) → Shown select_counters (owner_key name) old new rows → rows ≡ map shown_counters (rows_of name tables account_tree)
+  counters_found name shown =
       cells_by_key mail_schema account (inr (inl refl)) account_index (inr (inl refl)) refl (owner_key name) (0 ∷ []) (account_agrees name) old.now.trees h.fits (tables account_tree) (h.each account (inr (inl refl)))
-      by_one (owner_key name) (λ n cells. refl) (col 1 7 ∷ []) shown_next_copy (λ n cells. refl) [] rows
-      (answered mail_schema select_next_copy (owner_key name) old new h.is select_next_copy_plain.0 account_tree by_one (col 1 7 ∷ []) [] _ select_next_copy_is select_next_copy_plain.1 rows shown)
+      by_one (owner_key name) (λ n cells. refl) counters_shown shown_counters (λ n cells. refl) [] rows
+      (answered mail_schema select_counters (owner_key name) old new h.is select_counters_plain.0 account_tree by_one counters_shown [] _ select_counters_is select_counters_plain.1 rows shown)
 
   pub script_found : (owner name : List ℕ) → Shown select_script (pair_key owner name) old new rows → rows ≡ map (λ c. column c text_column ∷ []) (filter (has_key (pair_key owner name)) (tables script_tree))
   script_found owner name shown =

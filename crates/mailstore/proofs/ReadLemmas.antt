@@ -1,19 +1,20 @@
 -- From the rows that a query finds to what a read answers.
-use Rattle.std.proofs.Common.{◌≡◌, ℕ, pos, Bool, true, false, cond, List, [], ◌∷◌, map, filter, Option, Some, None, option_map, slice_get, Ok, Err, Result, IfOk, IfErr, IfSome, is_eq, refl, sym, ap, ◌∙◌}
-use Rattle.std.specs.FinMap.{get, keys, find, get-from_entries}
+use Rattle.std.proofs.Common.{◌≡◌, ℕ, List, [], ◌∷◌, map, filter, Option, Some, None, option_map, slice_get, Ok, Err, Result, IfOk, IfErr, IfSome, refl, sym, ap, ◌∙◌}
+use Rattle.std.specs.FinMap.{get, keys, get-from_entries}
 use Rattle.std.proofs.lemmas.Cmp.{nat_list_cmp_total}
-use Rattle.sqlite_value.specs.declared.value.Value.TheVariants.{Int, Blob}
+use Rattle.sqlite_value.specs.declared.value.Value.TheVariants.{Blob}
 use Rattle.sqlite_value.specs.Order.{Row, column}
 use Rattle.sqlite_keyed.proofs.ListLemmas.{map-map, filter-map, filter_same}
-use Rattle.sqlite_typed.proofs.TestLemmas.{same_bytes, bytes_eq_refl, turn_eq}
 use Rattle.sqlite.specs.Effect.{Database}
 use Rattle.sqlite.specs.State.{State, Shown}
 use Rattle.sqlrows.specs.Rows.{Tables, has_key}
 use Rattle.sqlrows.proofs.ListLemmas.{owner_key, pair_key}
+use Rattle.mailstore.specs.Cells.{first_three}
+use Rattle.mailstore.specs.declared.account.Counters.{Counters}
 use Rattle.mailstore.specs.declared.refusal.Refusal.{Refusal}
 use Rattle.mailstore.specs.declared.refusal.Refusal.TheVariants.{NoUser}
 use Rattle.mailstore.specs.Account.{bytes_cmp, Account, Accounts, messages_in}
-use Rattle.mailstore.specs.AccountTable.{shown_account, profile_row, account_tree, next_copy_column, CountsCopies, shown_next_copy}
+use Rattle.mailstore.specs.AccountTable.{shown_account, profile_row, account_tree, counter_cells, Counts, shown_counters}
 use Rattle.mailstore.specs.ScriptTable.{select_names, select_script, script_row, script_tree, text_column, AreNameRows, HasTextRow}
 use Rattle.mailstore.specs.CopyTable.{select_folder, Copy, AreMessageRows}
 use Rattle.mailstore.specs.Shows.{rows_of, IsShown, IsShownOrAbsent, ShowsAccounts, Presents}
@@ -24,20 +25,20 @@ use Rattle.mailstore.proofs.OrderLemmas.{of_owner, is_in, folder_found, names_fo
 use Rattle.mailstore.specs.NoticeTable.{AreNoticeRows, notice_cells, select_notices}
 use Rattle.mailstore.specs.QueueTable.{AreQueueRows, select_queue}
 
-first_mapped : (own : List Row) → option_map (λ r. column r 0) (slice_get (map shown_next_copy own) 0) ≡ option_map (λ cells. column cells next_copy_column) (slice_get own 0)
+first_mapped : (own : List Row) → option_map first_three (slice_get (map shown_counters own) 0) ≡ option_map shown_counters (slice_get own 0)
 first_mapped [] = refl
 first_mapped (r ∷ own) = refl
 
-pub number_is : (r : Result ℕ Refusal) (rows own : List Row) → rows ≡ map shown_next_copy own → IfOk r (λ n. option_map (λ r. column r 0) (slice_get rows 0) ≡ Some (Int (pos n))) → IfOk r (CountsCopies own)
-number_is (Err e) rows own are h = tt
-number_is (Ok n) rows own are h = sym (first_mapped own) ∙ ap (λ l. option_map (λ r. column r 0) (slice_get l 0)) (sym are) ∙ h
+pub counters_are : (r : Result Counters Refusal) (rows own : List Row) → rows ≡ map shown_counters own → IfOk r (λ c. option_map first_three (slice_get rows 0) ≡ Some (counter_cells c)) → IfOk r (Counts own)
+counters_are (Err e) rows own are h = tt
+counters_are (Ok c) rows own are h = sym (first_mapped own) ∙ ap (λ l. option_map first_three (slice_get l 0)) (sym are) ∙ h
 
-no_rows_mapped : (own : List Row) → map shown_next_copy own ≡ [] → own ≡ []
+no_rows_mapped : (own : List Row) → map shown_counters own ≡ [] → own ≡ []
 no_rows_mapped [] e = refl
 no_rows_mapped (r ∷ own) e = absurd (let no = e in cc)
 
-pub none_counted : (r : Result ℕ Refusal) (rows own : List Row) → rows ≡ map shown_next_copy own → IfErr r (λ e. e ≡ NoUser → rows ≡ []) → IfErr r (λ e. e ≡ NoUser → own ≡ [])
-none_counted (Ok n) rows own are h = tt
+pub none_counted : (r : Result Counters Refusal) (rows own : List Row) → rows ≡ map shown_counters own → IfErr r (λ e. e ≡ NoUser → rows ≡ []) → IfErr r (λ e. e ≡ NoUser → own ≡ [])
+none_counted (Ok c) rows own are h = tt
 none_counted (Err e) rows own are h = λ none. no_rows_mapped own (sym are ∙ h none)
 
 -- ---- what a query shows of an account
@@ -67,7 +68,7 @@ module _ (old new : State) (rows : List Row) (accounts : Accounts) (p : Presents
 
   pub messages_read : (folder : List ℕ) → Shown select_folder (pair_key user folder) old new rows → IfSome (get accounts user) (AreMessageRows folder rows)
   messages_read folder shown = at_user accounts user p.0 p.2 _ (λ a s.
-      folder_found old new rows p.0 p.1 user folder s.copies.entries s.copies.numbered.rows_are s.copies.numbered.rise shown ∙ sym (map-map (λ (m : List ℕ). Blob m ∷ []) (λ (c : Copy). c.message) (filter (is_in folder) s.copies.entries))
+      folder_found old new rows p.0 p.1 user folder s.copies.entries s.copies.messages s.copies.numbered.rows_are s.copies.numbered.rise s.copies.stored.rows_are s.copies.stored.rise s.copies.kept.present shown ∙ sym (map-map (λ (m : List ℕ). Blob m ∷ []) (λ (c : Copy). c.message) (filter (is_in folder) s.copies.entries))
       ∙ ap (map (λ m. Blob m ∷ [])) (sym (messages_are s.copies.entries folder)) ∙ ap (λ m. map (λ t. Blob t ∷ []) (messages_in m folder)) (sym s.copies.shown))
 
   pub queue_read : Shown select_queue (owner_key user) old new rows → IfSome (get accounts user) (AreQueueRows rows)

@@ -1,8 +1,8 @@
 -- What the queries for the replies find, and what is read of their rows.
-use Rattle.std.proofs.Common.{◌≡◌, ◌≢◌, ℕ, pos, Bool, true, false, ◌&&◌, List, [], ◌∷◌, map, filter, Option, Some, None, option_map, slice_get, Ok, Err, Result, IfOk, IfSome, cond, refl, sym, ap, ◌∙◌, subst, inl, inr, is_eq, Ordering, Less, Equal, Greater, IsPermutation}
+use Rattle.std.proofs.Common.{◌≡◌, ℕ, pos, Bool, true, false, ◌&&◌, List, [], ◌∷◌, map, filter, Option, Some, None, option_map, slice_get, Ok, Err, Result, IfOk, IfSome, cond, refl, sym, ap, ◌∙◌, subst, inl, inr, is_eq, Ordering, Less, Equal, Greater, IsPermutation}
 use Rattle.std.specs.List.{AllByRecursion}
 use Rattle.std.specs.Ordering.{ordering_then}
-use Rattle.std.specs.FinMap.{FinMap, get, entries, from_entries, get-from_entries}
+use Rattle.std.specs.FinMap.{get, entries, from_entries, get-from_entries}
 use Rattle.std.proofs.lemmas.Bool.{and_parts, and_from}
 use Rattle.std.proofs.lemmas.List.Sorted.{IsPermutation-map, IsPermutation-trans, IsPermutation-sym}
 use Rattle.sqlite_value.specs.declared.value.Value.TheVariants.{Int, Blob}
@@ -16,7 +16,7 @@ use Rattle.sqlite_sql.specs.Term.{col}
 use Rattle.sqlite_sql.specs.Query.{Query, Output, output_cmp}
 use Rattle.sqlite_sql.proofs.QueryLemmas.{output_cmp_total}
 use Rattle.sqlite_schema.specs.Rules.{equal}
-use Rattle.sqlite_keyed.proofs.ListLemmas.{map-map, filter-map, filter_same, filter-filter, filter_all, ascending-map, ascending-filter, all_both, IsPermutation-filter}
+use Rattle.sqlite_keyed.proofs.ListLemmas.{map-map, filter-map, filter_same, filter-filter, ascending-map, ascending-filter, all_both, IsPermutation-filter}
 use Rattle.sqlite_keyed.proofs.SortLemmas.{sorted_unique}
 use Rattle.sqlite_typed.proofs.TestLemmas.{at_blobs, last_key, last_term, same_bytes, bytes_eq_refl}
 use Rattle.sqlite.specs.State.{State, Shown}
@@ -28,7 +28,7 @@ use Rattle.sqlrows.proofs.ListLemmas.{owner_key, pair_key, equal_itself}
 use Rattle.mailstore.specs.declared.reply.KeptReply.{KeptReply}
 use Rattle.mailstore.specs.Schema.{mail_schema}
 use Rattle.mailstore.specs.Cells.{first_two}
-use Rattle.mailstore.specs.Account.{bytes_cmp, reply_cmp, Account, Accounts, Replies}
+use Rattle.mailstore.specs.Account.{bytes_cmp, reply_cmp, Accounts, Replies}
 use Rattle.mailstore.specs.ScriptTable.{AreApart}
 use Rattle.mailstore.specs.ReplyTable.{reply, reply_tree, reply_key, reply_row, select_moment, select_replies, HasMomentRow, AreReplyRows, replies_to, kept_reply, kept_cells}
 use Rattle.mailstore.specs.Shows.{rows_of, Presents}

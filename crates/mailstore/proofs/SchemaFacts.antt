@@ -14,13 +14,14 @@ use Rattle.sqlite_catalog.specs.Change.{created}
 use Rattle.sqlite_tied.specs.Compute.{everything}
 use Rattle.sqlite.specs.Listing.{understood}
 use Rattle.sqlite.proofs.Callers.{IsPlain, command_of, statement_of}
-use Rattle.mailstore.specs.Schema.{no_schema, the_indexes, mail_schema, schema_1, schema_2, schema_3, schema_4, schema_5, schema_6}
+use Rattle.mailstore.specs.Schema.{no_schema, the_indexes, mail_schema, schema_1, schema_2, schema_3, schema_4, schema_5, schema_6, schema_7}
 use Rattle.mailstore.specs.MetaTable.{meta, create_meta, meta_tree}
 use Rattle.mailstore.specs.AccountTable.{account, create_account, account_tree}
 use Rattle.mailstore.specs.ScriptTable.{script, create_script, script_tree}
 use Rattle.mailstore.specs.QueueTable.{outgoing, create_outgoing, outgoing_tree}
 use Rattle.mailstore.specs.ReplyTable.{reply, create_reply, reply_tree}
 use Rattle.mailstore.specs.NoticeTable.{notice, create_notice, notice_tree}
+use Rattle.mailstore.specs.MessageTable.{message, create_message, message_tree}
 use Rattle.mailstore.specs.CopyTable.{copy, create_copy, copy_tree}
 
 -- where each table stands in the schema
@@ -42,15 +43,18 @@ reply_listed = inr (inr (inr (inr (inl refl))))
 pub notice_listed : Has mail_schema.tables notice
 notice_listed = inr (inr (inr (inr (inr (inl refl)))))
 
+pub message_listed : Has mail_schema.tables message
+message_listed = inr (inr (inr (inr (inr (inr (inl refl))))))
+
 pub copy_listed : Has mail_schema.tables copy
-copy_listed = inr (inr (inr (inr (inr (inr (inl refl))))))
+copy_listed = inr (inr (inr (inr (inr (inr (inr (inl refl)))))))
 
 pub no_works : (depth tree : ℕ) (olds news : List Row) → works mail_schema Enforced depth tree olds news ≡ []
 no_works depth tree olds news =
     elim (length news == 0) as (λ b. flat_map (λ child. filter_map (λ ref. work_by depth tree (pairs olds news) child ref (deed_of Enforced b (cond b ref.on_delete ref.on_update)) (parent_key mail_schema.tables ref)) child.references) mail_schema.tables ≡ [])
     [ true ↦ refl | false ↦ refl ]
 
-pub schemas_are : created schema_6 (record copy { tree = 0 }) ≡ mail_schema
+pub schemas_are : created schema_7 (record copy { tree = 0 }) ≡ mail_schema
 schemas_are = refl
 
 pub meta_defined : table_defined_by create_meta ≡ Ok (record meta { tree = 0 })
@@ -64,6 +68,10 @@ account_defined = refl
 pub script_defined : table_defined_by create_script ≡ Ok (record script { tree = 0 })
 unfolding understood everything
 script_defined = refl
+
+pub message_defined : table_defined_by create_message ≡ Ok (record message { tree = 0 })
+unfolding understood everything
+message_defined = refl
 
 pub copy_defined : table_defined_by create_copy ≡ Ok (record copy { tree = 0 })
 unfolding understood everything
@@ -93,7 +101,11 @@ pub script_creates : (command_of (understood schema_2 create_script) ≡ CreateT
 unfolding understood everything
 script_creates = (refl, refl, (refl, refl))
 
-pub copy_creates : (command_of (understood schema_6 create_copy) ≡ CreateTable) × (statement_of create_copy (understood schema_6 create_copy) ≡ create_copy) × IsPlain (understood schema_6 create_copy)
+pub message_creates : (command_of (understood schema_6 create_message) ≡ CreateTable) × (statement_of create_message (understood schema_6 create_message) ≡ create_message) × IsPlain (understood schema_6 create_message)
+unfolding understood everything
+message_creates = (refl, refl, (refl, refl))
+
+pub copy_creates : (command_of (understood schema_7 create_copy) ≡ CreateTable) × (statement_of create_copy (understood schema_7 create_copy) ≡ create_copy) × IsPlain (understood schema_7 create_copy)
 unfolding understood everything
 copy_creates = (refl, refl, (refl, refl))
 
@@ -117,7 +129,7 @@ named_indexes =
     index_named (codes "sqlite_autoindex_meta_1") meta_tree (1 ∷ []) ∷ index_named (codes "sqlite_autoindex_account_1") account_tree (1 ∷ [])
     ∷ index_named (codes "sqlite_autoindex_script_1") script_tree (1 ∷ 2 ∷ []) ∷ index_named (codes "sqlite_autoindex_outgoing_1") outgoing_tree (1 ∷ 2 ∷ [])
     ∷ index_named (codes "sqlite_autoindex_reply_1") reply_tree (1 ∷ 2 ∷ 3 ∷ []) ∷ index_named (codes "sqlite_autoindex_notice_1") notice_tree (1 ∷ 2 ∷ [])
-    ∷ index_named (codes "sqlite_autoindex_copy_1") copy_tree (1 ∷ 2 ∷ 3 ∷ []) ∷ []
+    ∷ index_named (codes "sqlite_autoindex_message_1") message_tree (1 ∷ 2 ∷ []) ∷ index_named (codes "sqlite_autoindex_copy_1") copy_tree (1 ∷ 2 ∷ 3 ∷ []) ∷ []
 
 pub indexes_are : named_indexes ≡ the_indexes
 unfolding everything

@@ -1,9 +1,9 @@
 -- Examples of what tables show, and near misses.
-use Rattle.std.proofs.Common.{◌≡◌, ◌==◌, ℕ, pos, ◌<◌, ◌≤◌, cond, List, [], ◌∷◌, map, length, codes, None, refl, sym, ◌∙◌, arith}
+use Rattle.std.proofs.Common.{◌≡◌, ◌==◌, ℕ, pos, ◌<◌, ◌≤◌, cond, List, [], ◌∷◌, map, length, codes, None, inl, inr, refl, sym, ◌∙◌, arith}
 use Rattle.std.specs.FinMap.{empty, insert}
 use Rattle.std.specs.List.{AllByRecursion}
 use Rattle.std.proofs.lemmas.List.Elements.{recursion_from_All, All-from_recursion}
-use Rattle.std.proofs.lemmas.List.Sorted.{IsPermutation-append_comm, IsPermutation-sym, length_permutation, All-permutation}
+use Rattle.std.proofs.lemmas.List.Sorted.{IsPermutation-refl, IsPermutation-append_comm, IsPermutation-sym, length_permutation, All-permutation}
 use Rattle.sqlite_value.specs.declared.value.Value.TheVariants.{Int, Text}
 use Rattle.sqlite_value.specs.Order.{Row, column}
 use Rattle.sqlite_trees.specs.Tree.{IsAscending}
@@ -14,7 +14,10 @@ use Rattle.mailstore.specs.AccountTable.{account_tree, account_row}
 use Rattle.mailstore.specs.ScriptTable.{script_tree, script_cells}
 use Rattle.mailstore.specs.QueueTable.{queue_row}
 use Rattle.mailstore.specs.NoticeTable.{notice_row}
-use Rattle.mailstore.specs.CopyTable.{copy_tree, n_column, Copy, copy_row, folders_from, ShowsCopies}
+use Rattle.sqlite_rules.specs.Lists.{Has}
+use Rattle.mailstore.specs.Changes.{copied}
+use Rattle.mailstore.specs.MessageTable.{Message, message_cells, message_row, message_tree}
+use Rattle.mailstore.specs.CopyTable.{copy_tree, n_column, Copy, copy_cells, copy_row, folders_from, message_of, HasFirst, ShowsCopies}
 use Rattle.mailstore.specs.Shows.{IsShown, IsAbsent, ShowsAccounts}
 use Rattle.mailstore.proofs.NumberLemmas.{numbered_none}
 use Rattle.mailstore.proofs.OrderLemmas.{messages_are}
@@ -23,19 +26,22 @@ abbrev alice : List ℕ
 alice = codes "alice"
 
 abbrev first : Copy
-first = record { folder = codes "INBOX"; n = 1; message = codes "one" }
+first = record { folder = codes "lists"; n = 1; id = 1; message = codes "one" }
 
 abbrev second : Copy
-second = record { folder = codes "INBOX"; n = 2; message = codes "two" }
+second = record { folder = codes "INBOX"; n = 2; id = 1; message = codes "one" }
 
--- an account with two messages in INBOX and one script
+abbrev third : Copy
+third = record { folder = codes "INBOX"; n = 3; id = 3; message = codes "two" }
+
+-- an account with two messages in INBOX, of which one is in another folder too, and one script
 abbrev hers : Account
 hers = record {
   address = codes "alice@example.org";
   password = record { salt = codes "salt"; rounds = 10000; digest = codes "digest" };
   scripts = insert empty (codes "main") (codes "keep;");
   active = None;
-  folders = folders_from (first ∷ second ∷ []);
+  folders = folders_from (first ∷ second ∷ third ∷ []);
   queue = [];
   replies = empty;
   notices = [];
@@ -43,14 +49,18 @@ hers = record {
 }
 
 -- her rows: those of the copies stand in another order than their numbers
-abbrev her_rows : ℕ → List Row → Tables
-her_rows next_copy copies tree =
+abbrev her_rows : ℕ → List Row → List Row → Tables
+her_rows next_copy messages copies tree =
     cond (tree == account_tree) (account_row alice hers next_copy 1 ∷ [])
-    (cond (tree == script_tree) (script_cells alice (codes "main") (codes "keep;") ∷ []) (cond (tree == copy_tree) copies []))
+    (cond (tree == script_tree) (script_cells alice (codes "main") (codes "keep;") ∷ []) (cond (tree == message_tree) messages (cond (tree == copy_tree) copies [])))
 
-rows_show_account : IsShown alice (her_rows 3 (copy_row alice second ∷ copy_row alice first ∷ [])) hers
+-- one row of a message for its two copies
+abbrev her_messages : List Row
+her_messages = message_row alice (message_of first) ∷ message_row alice (message_of third) ∷ []
+
+rows_show_account : IsShown alice (her_rows 4 her_messages (copy_row alice third ∷ copy_row alice first ∷ copy_row alice second ∷ [])) hers
 rows_show_account = record {
-  next_copy = 3;
+  next_copy = 4;
   next_notice = 1;
   account_is = refl;
   scripts = record { entries = (codes "main", codes "keep;") ∷ []; rows_are = refl; shown = refl; apart = (tt, tt) };
@@ -58,13 +68,20 @@ rows_show_account = record {
   replies = record { entries = []; rows_are = refl; shown = refl; apart = tt };
   notices = record { entries = []; numbered = numbered_none (λ e. e.0) (notice_row alice) [] refl; shown = refl };
   copies = record {
-    entries = first ∷ second ∷ [];
+    entries = first ∷ second ∷ third ∷ [];
+    messages = message_of first ∷ message_of third ∷ [];
     numbered = record {
-      rows_are = IsPermutation-append_comm (copy_row alice first ∷ []) (copy_row alice second ∷ []);
-      rise = ((omega arith, tt), (tt, tt));
-      from_one = (omega arith, (omega arith, tt));
-      below = (omega arith, (omega arith, tt));
+      rows_are = IsPermutation-append_comm (copy_row alice first ∷ copy_row alice second ∷ []) (copy_row alice third ∷ []);
+      rise = ((omega arith, (omega arith, tt)), ((omega arith, tt), (tt, tt)));
+      from_one = (omega arith, (omega arith, (omega arith, tt)));
+      below = (omega arith, (omega arith, (omega arith, tt)));
       counter = omega arith;
+    };
+    stored = record { rows_are = IsPermutation-refl her_messages; rise = ((omega arith, tt), (tt, tt)); from_one = (omega arith, (omega arith, tt)); below = (omega arith, (omega arith, tt)); counter = omega arith };
+    kept = record {
+      present = (inl refl, (inl refl, (inr (inl refl), tt)));
+      used = ((first, inl refl, refl, refl), ((third, inr (inr (inl refl)), refl, refl), tt));
+      first = (omega arith, (omega arith, (omega arith, tt)));
     };
     shown = refl;
   };
@@ -72,31 +89,63 @@ rows_show_account = record {
 
 -- the folder is the list in the order of the numbers
 messages_by_number : messages_in hers.folders (codes "INBOX") ≡ codes "one" ∷ codes "two" ∷ []
-messages_by_number = messages_are (first ∷ second ∷ []) (codes "INBOX")
+messages_by_number = messages_are (first ∷ second ∷ third ∷ []) (codes "INBOX")
+
+-- a message in three folders has one row, with the number of its first copy
+abbrev filed_thrice : Tables
+filed_thrice = copied alice (codes "M1") 1 (codes "a" ∷ codes "b" ∷ codes "INBOX" ∷ []) (λ tree. [])
+
+one_message_row : filed_thrice message_tree ≡ message_cells alice (pos 1) (codes "M1") ∷ []
+one_message_row = refl
+
+a_row_a_folder : filed_thrice copy_tree ≡ copy_cells alice (codes "a") (pos 1) (pos 1) ∷ copy_cells alice (codes "b") (pos 2) (pos 1) ∷ copy_cells alice (codes "INBOX") (pos 3) (pos 1) ∷ []
+a_row_a_folder = refl
+
+-- and one that is filed nowhere has none
+not_kept_unfiled : copied alice (codes "M1") 1 [] (λ tree. []) message_tree ≡ []
+not_kept_unfiled = refl
 
 -- near miss: a number that is not below the counter of the row
-not_at_counter : (a : Account) → IsShown alice (her_rows 1 (copy_row alice first ∷ [])) a → ⊥
+not_at_counter : (a : Account) → IsShown alice (her_rows 1 her_messages (copy_row alice first ∷ [])) a → ⊥
 not_at_counter a s = go s.copies
   where
     next_is : s.next_copy ≡ 1
     next_is = let e = s.account_is in cc
 
-    go : ShowsCopies alice (copy_row alice first ∷ []) a.folders s.next_copy → ⊥
+    go : ShowsCopies alice (copy_row alice first ∷ []) her_messages a.folders s.next_copy → ⊥
     go c = at c.entries (length_permutation _ _ c.numbered.rows_are) c.numbered.from_one c.numbered.below
       where
         at : (es : List Copy) → length (copy_row alice first ∷ []) ≡ length (map (copy_row alice) es) → AllByRecursion (λ e. 1 ≤ e.n) es → AllByRecursion (λ e. e.n < s.next_copy) es → ⊥
         at [] same one below = omega (arith, same)
         at (e ∷ es) same one below = let low = below.0 in let least = one.0 in omega (arith, low, least, next_is)
 
+-- near miss: a copy whose message has no row
+not_without_message : (a : Account) (next : ℕ) → ShowsCopies alice (copy_row alice first ∷ []) [] a.folders next → ⊥
+not_without_message a next c = at c.entries c.messages (length_permutation _ _ c.numbered.rows_are) (length_permutation _ _ c.stored.rows_are) c.kept.present
+  where
+    at : (es : List Copy) (ms : List Message) → 1 ≡ length (map (copy_row alice) es) → 0 ≡ length (map (message_row alice) ms) → AllByRecursion (λ e. Has ms (message_of e)) es → ⊥
+    at [] ms same none present = omega (arith, same)
+    at (e ∷ es) [] same none present = present.0
+    at (e ∷ es) (m ∷ ms) same none present = omega (arith, none)
+
+-- near miss: a message that no folder has
+not_without_copy : (a : Account) (next : ℕ) → ShowsCopies alice [] (message_row alice (message_of first) ∷ []) a.folders next → ⊥
+not_without_copy a next c = at c.entries c.messages (length_permutation _ _ c.numbered.rows_are) (length_permutation _ _ c.stored.rows_are) c.kept.used
+  where
+    at : (es : List Copy) (ms : List Message) → 0 ≡ length (map (copy_row alice) es) → 1 ≡ length (map (message_row alice) ms) → AllByRecursion (HasFirst es) ms → ⊥
+    at es [] none same used = omega (arith, same)
+    at [] (m ∷ ms) none same used = used.0.1
+    at (e ∷ es) (m ∷ ms) none same used = omega (arith, none)
+
 abbrev IsOne : Row → Type 0
 IsOne row = column row n_column ≡ Int (pos 1)
 
 -- near miss: two copies with one number, though in different folders
 abbrev twice : List Row
-twice = copy_row alice first ∷ copy_row alice (record { folder = codes "work"; n = 1; message = codes "two" }) ∷ []
+twice = copy_row alice first ∷ copy_row alice (record { folder = codes "work"; n = 1; id = 1; message = codes "one" }) ∷ []
 
-not_twice : (a : Account) (next : ℕ) → ShowsCopies alice twice a.folders next → ⊥
-not_twice a next c = at c.entries (length_permutation _ _ c.numbered.rows_are) ones c.numbered.rise
+not_twice : (a : Account) (messages : List Row) (next : ℕ) → ShowsCopies alice twice messages a.folders next → ⊥
+not_twice a messages next c = at c.entries (length_permutation _ _ c.numbered.rows_are) ones c.numbered.rise
   where
     ones : AllByRecursion IsOne (map (copy_row alice) c.entries)
     ones = recursion_from_All IsOne _ (All-permutation IsOne twice _ (IsPermutation-sym _ _ c.numbered.rows_are) (All-from_recursion IsOne twice (refl, (refl, tt))))
@@ -115,5 +164,5 @@ not_orphaned : IsAbsent (λ tree. cond (tree == script_tree) (script_cells alice
 not_orphaned s = let e = s.scripts in cc
 
 -- near miss: another version
-not_version_2 : (tables : Tables) (accounts : Accounts) → tables meta_tree ≡ (Text (codes "version") ∷ Int (pos 2) ∷ []) ∷ [] → ShowsAccounts tables accounts → ⊥
-not_version_2 tables accounts is s = let e = sym is ∙ s.version in cc
+not_version_1 : (tables : Tables) (accounts : Accounts) → tables meta_tree ≡ (Text (codes "version") ∷ Int (pos 1) ∷ []) ∷ [] → ShowsAccounts tables accounts → ⊥
+not_version_1 tables accounts is s = let e = sym is ∙ s.version in cc

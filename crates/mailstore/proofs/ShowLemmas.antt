@@ -11,12 +11,13 @@ use Rattle.sqlite_keyed.specs.Lists.{update_where, delete_where}
 use Rattle.sqlrows.specs.Rows.{Tables, has_key}
 use Rattle.sqlrows.proofs.ListLemmas.{owner_key, pair_key, owned_by, owners_apart, pair_apart, filter_pushed, filter_beside, filter_kept, filter_unset}
 use Rattle.mailstore.specs.declared.change.Change.{Change}
-use Rattle.mailstore.specs.declared.change.Change.TheVariants.{AddAccount, SetActive, SetNextCopy, AddScript, RemoveScript, AddCopy, AddOutgoing, RemoveOutgoing, AddReply, RemoveReply, AddNotice}
+use Rattle.mailstore.specs.declared.change.Change.TheVariants.{AddAccount, SetActive, SetCounters, AddScript, RemoveScript, AddMessage, AddCopy, AddOutgoing, RemoveOutgoing, AddReply, RemoveReply, AddNotice}
 use Rattle.mailstore.specs.Cells.{or_null, contents}
 use Rattle.mailstore.specs.Changes.{made_one, made, owner_of, AreOf}
 use Rattle.mailstore.specs.Account.{bytes_cmp, Account, Accounts}
-use Rattle.mailstore.specs.AccountTable.{account_cells, with_active, with_next_copy, account_tree}
+use Rattle.mailstore.specs.AccountTable.{account_cells, with_active, with_counters, account_tree}
 use Rattle.mailstore.specs.ScriptTable.{script_cells, script_tree}
+use Rattle.mailstore.specs.MessageTable.{message_cells, message_tree}
 use Rattle.mailstore.specs.CopyTable.{copy_cells, copy_tree}
 use Rattle.mailstore.specs.QueueTable.{queue_cells, queue_key, outgoing_tree}
 use Rattle.mailstore.specs.ReplyTable.{reply_cells, reply_key, reply_tree}
@@ -77,12 +78,13 @@ others_one : (d : Change) (user : List ℕ) (tables : Tables) → user ≢ owner
 others_one (AddAccount name address salt rounds digest) user tables differ = same_trees user tables account_tree _ (filter_beside (has_key (owner_key user)) (tables account_tree) _ (begins_apart user name.now differ (drop 1 (account_cells name.now address.now salt.now rounds digest.now))))
 others_one (SetActive name active) user tables differ =
     same_trees user tables account_tree _ (filter_unset (has_key (owner_key user)) (has_key (owner_key name.now)) (owners_apart user name.now differ) (with_active (or_null (contents active))) (owners_apart user name.now differ) (tables account_tree))
-others_one (SetNextCopy name next) user tables differ =
-    same_trees user tables account_tree _ (filter_unset (has_key (owner_key user)) (has_key (owner_key name.now)) (owners_apart user name.now differ) (with_next_copy next) (owners_apart user name.now differ) (tables account_tree))
+others_one (SetCounters name copy out notice) user tables differ =
+    same_trees user tables account_tree _ (filter_unset (has_key (owner_key user)) (has_key (owner_key name.now)) (owners_apart user name.now differ) (with_counters copy out notice) (owners_apart user name.now differ) (tables account_tree))
 others_one (AddScript owner name text) user tables differ = same_trees user tables script_tree _ (filter_beside (has_key (owner_key user)) (tables script_tree) _ (begins_apart user owner.now differ (drop 1 (script_cells owner.now name.now text.now))))
 others_one (RemoveScript owner name) user tables differ =
     same_trees user tables script_tree _ (filter_kept (has_key (owner_key user)) (has_key (pair_key owner.now name.now)) (pair_apart user name.now owner.now differ) (tables script_tree))
-others_one (AddCopy owner folder n message) user tables differ = same_trees user tables copy_tree _ (filter_beside (has_key (owner_key user)) (tables copy_tree) _ (begins_apart user owner.now differ (drop 1 (copy_cells owner.now folder.now n message.now))))
+others_one (AddMessage owner id bytes) user tables differ = same_trees user tables message_tree _ (filter_beside (has_key (owner_key user)) (tables message_tree) _ (begins_apart user owner.now differ (drop 1 (message_cells owner.now id bytes.now))))
+others_one (AddCopy owner folder n id) user tables differ = same_trees user tables copy_tree _ (filter_beside (has_key (owner_key user)) (tables copy_tree) _ (begins_apart user owner.now differ (drop 1 (copy_cells owner.now folder.now n id))))
 others_one (AddOutgoing owner id kind sender target message) user tables differ =
     same_trees user tables outgoing_tree _ (filter_beside (has_key (owner_key user)) (tables outgoing_tree) _ (begins_apart user owner.now differ (drop 1 (queue_cells owner.now id kind sender.now target.now message.now))))
 others_one (RemoveOutgoing owner id) user tables differ =
@@ -99,11 +101,12 @@ own_one : (d : Change) (tables : Tables) → rows_of (owner_of d) (made_one d ta
 own_one (AddAccount name address salt rounds digest) tables = own_trees name.now tables account_tree _ _ (filter_pushed (has_key (owner_key name.now)) (tables account_tree) _ (owned_by name.now (drop 1 (account_cells name.now address.now salt.now rounds digest.now))))
 own_one (SetActive name active) tables =
     own_trees name.now tables account_tree _ _ (update_swapped (has_key (owner_key name.now)) (has_key (owner_key name.now)) (with_active (or_null (contents active))) (λ r h. (h, h)) (tables account_tree))
-own_one (SetNextCopy name next) tables =
-    own_trees name.now tables account_tree _ _ (update_swapped (has_key (owner_key name.now)) (has_key (owner_key name.now)) (with_next_copy next) (λ r h. (h, h)) (tables account_tree))
+own_one (SetCounters name copy out notice) tables =
+    own_trees name.now tables account_tree _ _ (update_swapped (has_key (owner_key name.now)) (has_key (owner_key name.now)) (with_counters copy out notice) (λ r h. (h, h)) (tables account_tree))
 own_one (AddScript owner name text) tables = own_trees owner.now tables script_tree _ _ (filter_pushed (has_key (owner_key owner.now)) (tables script_tree) _ (owned_by owner.now (drop 1 (script_cells owner.now name.now text.now))))
 own_one (RemoveScript owner name) tables = own_trees owner.now tables script_tree _ _ (filter_swapped (has_key (owner_key owner.now)) (has_key (pair_key owner.now name.now)) (tables script_tree))
-own_one (AddCopy owner folder n message) tables = own_trees owner.now tables copy_tree _ _ (filter_pushed (has_key (owner_key owner.now)) (tables copy_tree) _ (owned_by owner.now (drop 1 (copy_cells owner.now folder.now n message.now))))
+own_one (AddMessage owner id bytes) tables = own_trees owner.now tables message_tree _ _ (filter_pushed (has_key (owner_key owner.now)) (tables message_tree) _ (owned_by owner.now (drop 1 (message_cells owner.now id bytes.now))))
+own_one (AddCopy owner folder n id) tables = own_trees owner.now tables copy_tree _ _ (filter_pushed (has_key (owner_key owner.now)) (tables copy_tree) _ (owned_by owner.now (drop 1 (copy_cells owner.now folder.now n id))))
 own_one (AddOutgoing owner id kind sender target message) tables =
     own_trees owner.now tables outgoing_tree _ _ (filter_pushed (has_key (owner_key owner.now)) (tables outgoing_tree) _ (owned_by owner.now (drop 1 (queue_cells owner.now id kind sender.now target.now message.now))))
 own_one (RemoveOutgoing owner id) tables = own_trees owner.now tables outgoing_tree _ _ (filter_swapped (has_key (owner_key owner.now)) (has_key (queue_key owner.now id)) (tables outgoing_tree))
@@ -115,10 +118,11 @@ own_one (AddNotice owner id moment text) tables = own_trees owner.now tables not
 version_one : (d : Change) (tables : Tables) → made_one d tables meta_tree ≡ tables meta_tree
 version_one (AddAccount name address salt rounds digest) tables = refl
 version_one (SetActive name active) tables = refl
-version_one (SetNextCopy name next) tables = refl
+version_one (SetCounters name copy out notice) tables = refl
 version_one (AddScript owner name text) tables = refl
 version_one (RemoveScript owner name) tables = refl
-version_one (AddCopy owner folder n message) tables = refl
+version_one (AddMessage owner id bytes) tables = refl
+version_one (AddCopy owner folder n id) tables = refl
 version_one (AddOutgoing owner id kind sender target message) tables = refl
 version_one (RemoveOutgoing owner id) tables = refl
 version_one (AddReply owner handle sender moment) tables = refl

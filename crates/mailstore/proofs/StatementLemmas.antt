@@ -24,15 +24,16 @@ use Rattle.sqlrows.proofs.ColumnLemmas.{column_is_of, cast_integer}
 use Rattle.mailstore.specs.Schema.{mail_schema}
 use Rattle.mailstore.specs.Cells.{or_null, contents}
 use Rattle.mailstore.specs.MetaTable.{meta, insert_version, meta_tree}
-use Rattle.mailstore.specs.AccountTable.{account, insert_account, update_active, update_next_copy, account_cells, with_active, with_next_copy, account_tree, next_copy_column, next_notice_column, next_out_column, rounds_column}
+use Rattle.mailstore.specs.AccountTable.{account, insert_account, update_active, update_counters, account_cells, with_active, with_counters, account_tree, next_copy_column, next_notice_column, next_out_column, rounds_column}
 use Rattle.mailstore.specs.ScriptTable.{script, insert_script, delete_script, script_cells, script_tree}
+use Rattle.mailstore.specs.MessageTable.{message, insert_message, message_cells, message_tree}
 use Rattle.mailstore.specs.CopyTable.{copy, insert_copy, copy_cells, copy_tree}
 use Rattle.mailstore.specs.declared.queue.Kind.{Kind}
 use Rattle.mailstore.specs.QueueTable.{outgoing, insert_outgoing, delete_outgoing, queue_cells, queue_key, outgoing_tree, kind_number}
 use Rattle.mailstore.specs.ReplyTable.{reply, insert_reply, delete_reply, reply_cells, reply_key, reply_tree}
 use Rattle.mailstore.specs.NoticeTable.{notice, insert_notice, notice_row_cells, notice_tree}
-use Rattle.mailstore.proofs.SchemaFacts.{no_works, copy_listed, script_listed, outgoing_listed, reply_listed, notice_listed}
-use Rattle.mailstore.proofs.TextFacts.{by_one, by_two, by_three, six_terms, insert_outgoing_is, insert_outgoing_plain, delete_outgoing_is, delete_outgoing_plain, insert_reply_is, insert_reply_plain, delete_reply_is, delete_reply_plain, insert_notice_is, insert_notice_plain, version_terms, account_terms, active_columns, next_copy_columns, three_terms, four_terms, insert_version_is, insert_version_plain, insert_account_is, insert_account_plain, update_active_is, update_active_plain, update_next_copy_is, update_next_copy_plain, insert_script_is, insert_script_plain, delete_script_is, delete_script_plain, insert_copy_is, insert_copy_plain}
+use Rattle.mailstore.proofs.SchemaFacts.{no_works, message_listed, copy_listed, script_listed, outgoing_listed, reply_listed, notice_listed}
+use Rattle.mailstore.proofs.TextFacts.{by_one, by_two, by_three, six_terms, insert_outgoing_is, insert_outgoing_plain, delete_outgoing_is, delete_outgoing_plain, insert_reply_is, insert_reply_plain, delete_reply_is, delete_reply_plain, insert_notice_is, insert_notice_plain, version_terms, account_terms, active_columns, counter_columns, three_terms, four_terms, insert_version_is, insert_version_plain, insert_account_is, insert_account_plain, update_active_is, update_active_plain, update_counters_is, update_counters_plain, insert_script_is, insert_script_plain, delete_script_is, delete_script_plain, insert_message_is, insert_message_plain, insert_copy_is, insert_copy_plain}
 
 -- what a statement that ran, or failed, leaves of the tables and of the last commit
 abbrev pub MakesNow : State → State → Result ℕ Error → (Tables → Tables) → Type 0
@@ -98,16 +99,30 @@ inserts_script old new owner name text (Ok count) ran = (
   ),
 )
 
-pub inserts_copy : (old new : State) (owner folder : List ℕ) (n : ℤ) (message : List ℕ) (r : Result ℕ Error) → ExecutesInside 0 insert_copy (copy_cells owner folder n message) old new r
-    → MakesNow old new r (added copy_tree (copy_cells owner folder n message))
-inserts_copy old new owner folder n message (Err e) ran = (kept _ _ old new (Err e) ran, tt)
-inserts_copy old new owner folder n message (Ok count) ran = (
+pub inserts_message : (old new : State) (owner : List ℕ) (id : ℤ) (bytes : List ℕ) (r : Result ℕ Error) → ExecutesInside 0 insert_message (message_cells owner id bytes) old new r
+    → MakesNow old new r (added message_tree (message_cells owner id bytes))
+inserts_message old new owner id bytes (Err e) ran = (kept _ _ old new (Err e) ran, tt)
+inserts_message old new owner id bytes (Ok count) ran = (
   kept _ _ old new (Ok count) ran,
   (
     λ tables h.
-        let params = copy_cells owner folder n message in
-        let on = on_insert mail_schema insert_copy params old new tables h insert_copy_plain count ran.0 6 copy refl _ insert_copy_is in
-        insert_holds mail_schema no_works copy.name copy_tree copy.primary copy.references copy.columns params old new tables h copy_listed 6 four_terms 5 params on.0 refl (rw cast_int) on.1,
+        let params = message_cells owner id bytes in
+        let on = on_insert mail_schema insert_message params old new tables h insert_message_plain count ran.0 6 message refl _ insert_message_is in
+        insert_holds mail_schema no_works message.name message_tree message.primary message.references message.columns params old new tables h message_listed 6 three_terms 4 params on.0 refl (rw cast_int) on.1,
+    ran.1,
+  ),
+)
+
+pub inserts_copy : (old new : State) (owner folder : List ℕ) (n id : ℤ) (r : Result ℕ Error) → ExecutesInside 0 insert_copy (copy_cells owner folder n id) old new r
+    → MakesNow old new r (added copy_tree (copy_cells owner folder n id))
+inserts_copy old new owner folder n id (Err e) ran = (kept _ _ old new (Err e) ran, tt)
+inserts_copy old new owner folder n id (Ok count) ran = (
+  kept _ _ old new (Ok count) ran,
+  (
+    λ tables h.
+        let params = copy_cells owner folder n id in
+        let on = on_insert mail_schema insert_copy params old new tables h insert_copy_plain count ran.0 7 copy refl _ insert_copy_is in
+        insert_holds mail_schema no_works copy.name copy_tree copy.primary copy.references copy.columns params old new tables h copy_listed 7 four_terms 5 params on.0 refl (rw (cast_int n, cast_int id)) on.1,
     ran.1,
   ),
 )
@@ -127,15 +142,15 @@ inserts_account old new name address salt rounds digest (Ok count) ran = (
   ),
 )
 
-pub inserts_version : (old new : State) (r : Result ℕ Error) → ExecutesInside 0 insert_version [] old new r → MakesNow old new r (added meta_tree (Text (codes "version") ∷ Int (pos 1) ∷ []))
+pub inserts_version : (old new : State) (r : Result ℕ Error) → ExecutesInside 0 insert_version [] old new r → MakesNow old new r (added meta_tree (Text (codes "version") ∷ Int (pos 2) ∷ []))
 inserts_version old new (Err e) ran = (kept _ _ old new (Err e) ran, tt)
 inserts_version old new (Ok count) ran = (
   kept _ _ old new (Ok count) ran,
   (
     λ tables h.
         let on = on_insert mail_schema insert_version [] old new tables h insert_version_plain count ran.0 0 meta refl _ insert_version_is in
-        insert_holds mail_schema no_works meta.name meta_tree meta.primary meta.references meta.columns [] old new tables h (inl refl) 0 version_terms 3 (Text (codes "version") ∷ Int (pos 1) ∷ []) on.0 refl
-        (rw (cast_int (pos 1))) on.1,
+        insert_holds mail_schema no_works meta.name meta_tree meta.primary meta.references meta.columns [] old new tables h (inl refl) 0 version_terms 3 (Text (codes "version") ∷ Int (pos 2) ∷ []) on.0 refl
+        (rw (cast_int (pos 2))) on.1,
     ran.1,
   ),
 )
@@ -149,8 +164,8 @@ module _ (old : State) (tables : Tables) (h : Holds mail_schema old.now tables) 
   active_fits : (v : Value) → cast_all account.columns (with_active v cells) ≡ with_active v cells
   active_fits v = rw (whole rounds_column _ refl, whole next_copy_column _ refl, whole next_out_column _ refl, whole next_notice_column _ refl)
 
-  next_copy_fits : (n : ℤ) → cast_all account.columns (with_next_copy n cells) ≡ with_next_copy n cells
-  next_copy_fits n = rw (whole rounds_column _ refl, cast_int n, whole next_out_column _ refl, whole next_notice_column _ refl)
+  counters_fit : (copy out notice : ℤ) → cast_all account.columns (with_counters copy out notice cells) ≡ with_counters copy out notice cells
+  counters_fit copy out notice = rw (whole rounds_column _ refl, cast_int copy, cast_int out, cast_int notice)
 
 pub sets_active : (old new : State) (name : List ℕ) (v : Value) (r : Result ℕ Error) → ExecutesInside 0 update_active (Blob name ∷ v ∷ []) old new r → MakesNow old new r (set_in account_tree (owner_key name) (with_active v))
 sets_active old new name v (Err e) ran = (kept _ _ old new (Err e) ran, tt)
@@ -166,17 +181,17 @@ sets_active old new name v (Ok count) ran = (
   ),
 )
 
-pub sets_next_copy : (old new : State) (name : List ℕ) (next : ℤ) (r : Result ℕ Error) → ExecutesInside 0 update_next_copy (Blob name ∷ Int next ∷ []) old new r
-    → MakesNow old new r (set_in account_tree (owner_key name) (with_next_copy next))
-sets_next_copy old new name next (Err e) ran = (kept _ _ old new (Err e) ran, tt)
-sets_next_copy old new name next (Ok count) ran = (
+pub sets_counters : (old new : State) (name : List ℕ) (copies outs notices : ℤ) (r : Result ℕ Error) → ExecutesInside 0 update_counters (Blob name ∷ Int copies ∷ Int outs ∷ Int notices ∷ []) old new r
+    → MakesNow old new r (set_in account_tree (owner_key name) (with_counters copies outs notices))
+sets_counters old new name copies outs notices (Err e) ran = (kept _ _ old new (Err e) ran, tt)
+sets_counters old new name copies outs notices (Ok count) ran = (
   kept _ _ old new (Ok count) ran,
   (
     λ tables h.
-        let params : Row = Blob name ∷ Int next ∷ [] in
-        let on = on_update mail_schema update_next_copy params old new tables h update_next_copy_plain count ran.0 1 account refl _ update_next_copy_is in
+        let params : Row = Blob name ∷ Int copies ∷ Int outs ∷ Int notices ∷ [] in
+        let on = on_update mail_schema update_counters params old new tables h update_counters_plain count ran.0 1 account refl _ update_counters_is in
         update_holds mail_schema no_works account.name account_tree account.primary account.references account.columns params old new tables h (inr (inl refl)) account_index (inr (inl refl)) refl (owner_key name) (0 ∷ [])
-        (account_agrees name) by_one (λ n cells. refl) (with_next_copy next) (λ cells there. next_copy_fits old tables h cells there next) next_copy_columns (λ n cells. refl) 1 on.0 on.1,
+        (account_agrees name) by_one (λ n cells. refl) (with_counters copies outs notices) (λ cells there. counters_fit old tables h cells there copies outs notices) counter_columns (λ n cells. refl) 1 on.0 on.1,
     ran.1,
   ),
 )

@@ -3,17 +3,20 @@ use Rattle.std.proofs.Common.{◌≡◌, pos, false, List, [], ◌∷◌, codes,
 use Rattle.sqlite_value.specs.declared.value.Value.TheVariants.{Null, Int, Text}
 use Rattle.sqlite_value.specs.declared.keys.Collation.TheVariants.{Binary}
 use Rattle.sqlite_value.specs.Keys.{ascending}
-use Rattle.sqlite_sql.specs.Term.{Term, lit, col}
+use Rattle.sqlite_sql.specs.Term.{Term, lit, col, op2}
+use Rattle.sqlite_sql.specs.declared.ops.BinaryOp.TheVariants.{Compare}
+use Rattle.sqlite_sql.specs.declared.ops.CompareOp.TheVariants.{Eq}
 use Rattle.sqlite_schema.specs.declared.command.Source.TheVariants.{Values}
 use Rattle.sqlite_schema.specs.declared.command.Command.TheVariants.{Insert, Update, Delete, Select}
 use Rattle.sqlite_tied.specs.Compute.{everything}
 use Rattle.sqlite.specs.Listing.{understood, reads_listing}
 use Rattle.sqlite.proofs.Callers.{IsPlain, command_of}
-use Rattle.sqlrows.specs.Forms.{equals, over}
+use Rattle.sqlrows.specs.Forms.{equals, over, over_two}
 use Rattle.mailstore.specs.Schema.{mail_schema}
 use Rattle.mailstore.specs.MetaTable.{insert_version, select_version, meta_tree}
-use Rattle.mailstore.specs.AccountTable.{insert_account, update_active, update_next_copy, select_account, select_next_copy, account_tree}
+use Rattle.mailstore.specs.AccountTable.{insert_account, update_active, update_counters, select_account, select_counters, account_tree}
 use Rattle.mailstore.specs.ScriptTable.{insert_script, delete_script, select_names, select_script, script_tree}
+use Rattle.mailstore.specs.MessageTable.{insert_message, message_tree}
 use Rattle.mailstore.specs.CopyTable.{insert_copy, select_folders, select_folder, copy_tree}
 use Rattle.mailstore.specs.QueueTable.{outgoing_tree, select_queue, insert_outgoing, delete_outgoing}
 use Rattle.mailstore.specs.NoticeTable.{notice_tree, select_notices, insert_notice}
@@ -26,7 +29,7 @@ abbrev pub by_two : List Term
 by_two = equals 1 0 ∷ equals 2 1 ∷ []
 
 abbrev pub version_terms : List Term
-version_terms = lit (Text (codes "version")) ∷ lit (Int (pos 1)) ∷ []
+version_terms = lit (Text (codes "version")) ∷ lit (Int (pos 2)) ∷ []
 
 pub insert_version_is : command_of (understood mail_schema insert_version) ≡ Insert 0 (Values (lit Null ∷ version_terms) 3)
 unfolding understood everything
@@ -58,16 +61,16 @@ pub update_active_plain : IsPlain (understood mail_schema update_active)
 unfolding understood everything
 update_active_plain = (refl, refl)
 
-abbrev pub next_copy_columns : List Term
-next_copy_columns = col 1 0 ∷ col 1 0 ∷ col 1 1 ∷ col 1 2 ∷ col 1 3 ∷ col 1 4 ∷ col 1 5 ∷ col 1 6 ∷ col 0 1 ∷ col 1 8 ∷ col 1 9 ∷ []
+abbrev pub counter_columns : List Term
+counter_columns = col 1 0 ∷ col 1 0 ∷ col 1 1 ∷ col 1 2 ∷ col 1 3 ∷ col 1 4 ∷ col 1 5 ∷ col 1 6 ∷ col 0 1 ∷ col 0 2 ∷ col 0 3 ∷ []
 
-pub update_next_copy_is : command_of (understood mail_schema update_next_copy) ≡ Update 1 (over account_tree by_one next_copy_columns [])
+pub update_counters_is : command_of (understood mail_schema update_counters) ≡ Update 1 (over account_tree by_one counter_columns [])
 unfolding understood everything
-update_next_copy_is = refl
+update_counters_is = refl
 
-pub update_next_copy_plain : IsPlain (understood mail_schema update_next_copy)
+pub update_counters_plain : IsPlain (understood mail_schema update_counters)
 unfolding understood everything
-update_next_copy_plain = (refl, refl)
+update_counters_plain = (refl, refl)
 
 abbrev pub three_terms : List Term
 three_terms = col 0 0 ∷ col 0 1 ∷ col 0 2 ∷ []
@@ -91,7 +94,15 @@ delete_script_plain = (refl, refl)
 abbrev pub four_terms : List Term
 four_terms = col 0 0 ∷ col 0 1 ∷ col 0 2 ∷ col 0 3 ∷ []
 
-pub insert_copy_is : command_of (understood mail_schema insert_copy) ≡ Insert 6 (Values (lit Null ∷ four_terms) 5)
+pub insert_message_is : command_of (understood mail_schema insert_message) ≡ Insert 6 (Values (lit Null ∷ three_terms) 4)
+unfolding understood everything
+insert_message_is = refl
+
+pub insert_message_plain : IsPlain (understood mail_schema insert_message)
+unfolding understood everything
+insert_message_plain = (refl, refl)
+
+pub insert_copy_is : command_of (understood mail_schema insert_copy) ≡ Insert 7 (Values (lit Null ∷ four_terms) 5)
 unfolding understood everything
 insert_copy_is = refl
 
@@ -118,13 +129,16 @@ pub select_version_plain : IsPlain (understood mail_schema select_version) × (r
 unfolding understood everything
 select_version_plain = ((refl, refl), refl)
 
-pub select_next_copy_is : command_of (understood mail_schema select_next_copy) ≡ Select (over account_tree by_one (col 1 7 ∷ []) []) (codes "next_copy" ∷ [])
-unfolding understood everything
-select_next_copy_is = refl
+abbrev pub counters_shown : List Term
+counters_shown = col 1 7 ∷ col 1 8 ∷ col 1 9 ∷ []
 
-pub select_next_copy_plain : IsPlain (understood mail_schema select_next_copy) × (reads_listing mail_schema select_next_copy ≡ false)
+pub select_counters_is : command_of (understood mail_schema select_counters) ≡ Select (over account_tree by_one counters_shown []) (codes "next_copy" ∷ codes "next_out" ∷ codes "next_notice" ∷ [])
 unfolding understood everything
-select_next_copy_plain = ((refl, refl), refl)
+select_counters_is = refl
+
+pub select_counters_plain : IsPlain (understood mail_schema select_counters) × (reads_listing mail_schema select_counters ≡ false)
+unfolding understood everything
+select_counters_plain = ((refl, refl), refl)
 
 pub select_names_is : command_of (understood mail_schema select_names) ≡ Select (over script_tree by_one (col 1 2 ∷ []) ((col 1 2, ascending Binary) ∷ [])) (codes "name" ∷ [])
 unfolding understood everything
@@ -150,7 +164,11 @@ pub select_folders_plain : IsPlain (understood mail_schema select_folders) × (r
 unfolding understood everything
 select_folders_plain = ((refl, refl), refl)
 
-pub select_folder_is : command_of (understood mail_schema select_folder) ≡ Select (over copy_tree by_two (col 1 4 ∷ []) ((col 1 3, ascending Binary) ∷ [])) (codes "message" ∷ [])
+-- the message of a copy, which has the copy's owner and number, of the copies in a folder
+abbrev pub of_message : List Term
+of_message = op2 (Compare Eq Binary) (col 2 1) (col 1 1) ∷ op2 (Compare Eq Binary) (col 2 2) (col 1 4) ∷ by_two
+
+pub select_folder_is : command_of (understood mail_schema select_folder) ≡ Select (over_two copy_tree message_tree of_message (col 2 3 ∷ []) ((col 1 3, ascending Binary) ∷ [])) (codes "bytes" ∷ [])
 unfolding understood everything
 select_folder_is = refl
 

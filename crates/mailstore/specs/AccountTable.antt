@@ -8,6 +8,7 @@ use Rattle.sqlite_value.specs.declared.value.Value.{Value}
 use Rattle.sqlite_value.specs.declared.value.Value.TheVariants.{Null, Int, Blob}
 use Rattle.sqlite_value.specs.Order.{Row, column}
 use Rattle.sqlrows.specs.Forms.{needed, maybe, keyed}
+use Rattle.mailstore.specs.declared.account.Counters.{Counters}
 use Rattle.mailstore.specs.declared.profile.Profile.{Profile}
 use Rattle.mailstore.specs.Cells.{or_null}
 use Rattle.mailstore.specs.Account.{Account}
@@ -65,14 +66,14 @@ insert_account = codes "INSERT INTO account (name, address, salt, rounds, digest
 abbrev pub update_active : List ℕ
 update_active = codes "UPDATE account SET active = ?2 WHERE name = ?1"
 
-abbrev pub update_next_copy : List ℕ
-update_next_copy = codes "UPDATE account SET next_copy = ?2 WHERE name = ?1"
+abbrev pub update_counters : List ℕ
+update_counters = codes "UPDATE account SET next_copy = ?2, next_out = ?3, next_notice = ?4 WHERE name = ?1"
 
 abbrev pub select_account : List ℕ
 select_account = codes "SELECT address, salt, rounds, digest, active FROM account WHERE name = ?1"
 
-abbrev pub select_next_copy : List ℕ
-select_next_copy = codes "SELECT next_copy FROM account WHERE name = ?1"
+abbrev pub select_counters : List ℕ
+select_counters = codes "SELECT next_copy, next_out, next_notice FROM account WHERE name = ?1"
 
 -- ---- its rows
 
@@ -91,11 +92,11 @@ with_active active cells =
     column cells 0 ∷ column cells address_column ∷ column cells salt_column ∷ column cells rounds_column ∷ column cells digest_column
     ∷ active ∷ column cells next_copy_column ∷ column cells next_out_column ∷ column cells next_notice_column ∷ []
 
--- the account's row with another counter of copies
-abbrev pub with_next_copy : ℤ → Row → Row
-with_next_copy next cells =
+-- the account's row with other counters: of copies, of messages on their way out, and of notices
+abbrev pub with_counters : ℤ → ℤ → ℤ → Row → Row
+with_counters copy out notice cells =
     column cells 0 ∷ column cells address_column ∷ column cells salt_column ∷ column cells rounds_column ∷ column cells digest_column
-    ∷ column cells active_column ∷ Int next ∷ column cells next_out_column ∷ column cells next_notice_column ∷ []
+    ∷ column cells active_column ∷ Int copy ∷ Int out ∷ Int notice ∷ []
 
 -- ---- what is read of them
 
@@ -103,9 +104,13 @@ with_next_copy next cells =
 abbrev pub shown_account : Row → Row
 shown_account cells = column cells address_column ∷ column cells salt_column ∷ column cells rounds_column ∷ column cells digest_column ∷ column cells active_column ∷ []
 
--- what the query for the counter of copies shows of a row
-abbrev pub shown_next_copy : Row → Row
-shown_next_copy cells = column cells next_copy_column ∷ []
+-- what the query for the counters shows of a row
+abbrev pub shown_counters : Row → Row
+shown_counters cells = column cells next_copy_column ∷ column cells next_out_column ∷ column cells next_notice_column ∷ []
+
+-- what the query for the counters shows of these
+abbrev pub counter_cells : Counters → Row
+counter_cells c = Int (pos c.copy) ∷ Int (pos c.out) ∷ Int (pos c.notice) ∷ []
 
 -- what the query for an account shows of an account
 abbrev pub profile_row : Account → Row
@@ -122,6 +127,6 @@ IsRead None (Some row) = ⊥
 IsRead (Some p) None = ⊥
 IsRead (Some p) (Some row) = (column row 0 ≡ Blob p.address) × (column row 1 ≡ Blob p.salt) × (column row 2 ≡ Int (pos p.rounds)) × (column row 3 ≡ Blob p.digest) × (column row 4 ≡ or_null p.active)
 
--- the first of the rows has this counter of copies
-abbrev pub CountsCopies : List Row → ℕ → Type 0
-CountsCopies rows n = option_map (λ cells. column cells next_copy_column) (slice_get rows 0) ≡ Some (Int (pos n))
+-- the first of the rows has these counters
+abbrev pub Counts : List Row → Counters → Type 0
+Counts rows c = option_map shown_counters (slice_get rows 0) ≡ Some (counter_cells c)

@@ -53,5 +53,5 @@ MakesTable old new result schema next =
 -- a table has one of our names, as the database compares them
 abbrev pub has_our_name : Schema → Bool
 has_our_name schema =
-    is_some (table_named schema (codes "meta")) || is_some (table_named schema (codes "account")) || is_some (table_named schema (codes "script")) || is_some (table_named schema (codes "copy"))
-    || is_some (table_named schema (codes "outgoing")) || is_some (table_named schema (codes "reply")) || is_some (table_named schema (codes "notice"))
+    is_some (table_named schema (codes "meta")) || is_some (table_named schema (codes "account")) || is_some (table_named schema (codes "script")) || is_some (table_named schema (codes "message"))
+    || is_some (table_named schema (codes "copy")) || is_some (table_named schema (codes "outgoing")) || is_some (table_named schema (codes "reply")) || is_some (table_named schema (codes "notice"))

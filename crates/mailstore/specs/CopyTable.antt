@@ -1,17 +1,22 @@
--- The table of the copies of messages, which are the folders.
-use Rattle.std.specs.Prelude.{◌≡◌, ℕ, ℤ, pos, List, [], ◌∷◌, fold, map, codes}
+-- The table of the copies of messages, which are the folders: a row says which message a folder has.
+use Rattle.std.specs.Prelude.{◌≡◌, ◌≤◌, false, ℕ, ℤ, pos, List, [], ◌∷◌, fold, map, codes}
+use Rattle.std.specs.List.{AllByRecursion}
 use Rattle.std.specs.FinMap.{empty}
+use Rattle.sqlite_schema.specs.declared.schema.Action.TheVariants.{NoAction}
 use Rattle.sqlite_schema.specs.declared.schema.Kind.TheVariants as kind
+use Rattle.sqlite_schema.specs.declared.schema.Reference.{Reference}
 use Rattle.sqlite_schema.specs.declared.schema.Table.{Table}
 use Rattle.sqlite_value.specs.declared.value.Value.TheVariants.{Int, Blob}
 use Rattle.sqlite_value.specs.Order.{Row}
+use Rattle.sqlite_rules.specs.Lists.{Has}
 use Rattle.sqlrows.specs.Forms.{needed, keyed}
 use Rattle.mailstore.specs.Account.{Account, Folders, messages_in, filed}
-use Rattle.mailstore.specs.AccountTable.{to_account}
+use Rattle.mailstore.specs.AccountTable.{account_reference}
 use Rattle.mailstore.specs.Numbers.{AreNumbered}
+use Rattle.mailstore.specs.MessageTable.{Message, message_row}
 
 abbrev pub copy_tree : ℕ
-copy_tree = 12
+copy_tree = 14
 
 -- ---- the columns
 
@@ -21,49 +26,75 @@ folder_column = 1
 abbrev pub n_column : ℕ
 n_column = 2
 
-abbrev pub message_column : ℕ
-message_column = 3
+abbrev pub id_column : ℕ
+id_column = 3
+
+-- `REFERENCES message (owner, id)` at the columns of the owner and of the message's number
+abbrev pub message_reference : Reference
+message_reference = record { columns = 1 ∷ 4 ∷ []; parent = codes "message"; parent_columns = codes "owner" ∷ codes "id" ∷ []; on_delete = NoAction; on_update = NoAction; is_deferred = false }
+
+abbrev pub to_message : List Reference
+to_message = account_reference ∷ message_reference ∷ []
 
 abbrev pub copy : Table
-copy = keyed (codes "copy") copy_tree (1 ∷ 2 ∷ 3 ∷ []) to_account
-    (needed (codes "owner") kind.Blob ∷ needed (codes "folder") kind.Blob ∷ needed (codes "n") kind.Integer ∷ needed (codes "message") kind.Blob ∷ [])
+copy = keyed (codes "copy") copy_tree (1 ∷ 2 ∷ 3 ∷ []) to_message
+    (needed (codes "owner") kind.Blob ∷ needed (codes "folder") kind.Blob ∷ needed (codes "n") kind.Integer ∷ needed (codes "id") kind.Integer ∷ [])
 
 -- ---- its statements
 
 abbrev pub create_copy : List ℕ
-create_copy = codes "CREATE TABLE copy (owner BLOB NOT NULL REFERENCES account (name), folder BLOB NOT NULL, n INTEGER NOT NULL, message BLOB NOT NULL, PRIMARY KEY (owner, folder, n)) STRICT"
+create_copy =
+    codes "CREATE TABLE copy (owner BLOB NOT NULL REFERENCES account (name), folder BLOB NOT NULL, n INTEGER NOT NULL, id INTEGER NOT NULL, PRIMARY KEY (owner, folder, n), FOREIGN KEY (owner, id) REFERENCES message (owner, id)) STRICT"
 
 abbrev pub insert_copy : List ℕ
-insert_copy = codes "INSERT INTO copy (owner, folder, n, message) VALUES (?1, ?2, ?3, ?4)"
+insert_copy = codes "INSERT INTO copy (owner, folder, n, id) VALUES (?1, ?2, ?3, ?4)"
 
 abbrev pub select_folders : List ℕ
 select_folders = codes "SELECT folder FROM copy WHERE owner = ?1 ORDER BY folder"
 
 abbrev pub select_folder : List ℕ
-select_folder = codes "SELECT message FROM copy WHERE owner = ?1 AND folder = ?2 ORDER BY n"
+select_folder =
+    codes "SELECT message.bytes FROM copy JOIN message ON message.owner = copy.owner AND message.id = copy.id WHERE copy.owner = ?1 AND copy.folder = ?2 ORDER BY copy.n"
 
 -- ---- its rows
 
-abbrev pub copy_cells : List ℕ → List ℕ → ℤ → List ℕ → Row
-copy_cells owner folder n message = Blob owner ∷ Blob folder ∷ Int n ∷ Blob message ∷ []
+abbrev pub copy_cells : List ℕ → List ℕ → ℤ → ℤ → Row
+copy_cells owner folder n id = Blob owner ∷ Blob folder ∷ Int n ∷ Int id ∷ []
 
--- a copy of a message in a folder, with its number
+-- a copy in a folder, with its number, and the message that it is a copy of
 pub record Copy : Type 0 where
   pub folder : List ℕ
   pub n : ℕ
+  pub id : ℕ
   pub message : List ℕ
 
 abbrev pub copy_row : List ℕ → Copy → Row
-copy_row user copy = copy_cells user copy.folder (pos copy.n) copy.message
+copy_row user copy = copy_cells user copy.folder (pos copy.n) (pos copy.id)
+
+abbrev pub message_of : Copy → Message
+message_of copy = record { id = copy.id; bytes = copy.message }
 
 -- the folders that the copies make, in the order of their numbers
 abbrev pub folders_from : List Copy → Folders
 folders_from = fold (λ folders copy. filed folders copy.folder copy.message) empty
 
--- the rows are those of the user's copies: a folder is the list of its copies in the order of their numbers, and one without copies is none
-pub record ShowsCopies (user : List ℕ) (rows : List Row) (folders : Folders) (next : ℕ) : Type 0 where
+-- the message has a first copy, whose number is its own
+abbrev pub HasFirst : List Copy → Message → Type 0
+HasFirst copies m = (c : Copy) × Has copies c × (c.n ≡ m.id) × (c.id ≡ m.id)
+
+-- each copy's message is kept, and each message that is kept has a copy, of which the first has its number
+pub record AreKept (copies : List Copy) (messages : List Message) : Type 0 where
+  pub present : AllByRecursion (λ c. Has messages (message_of c)) copies
+  pub used : AllByRecursion (HasFirst copies) messages
+  pub first : AllByRecursion (λ c. c.id ≤ c.n) copies
+
+-- the rows are those of the user's copies and of their messages: a folder is the list of its copies in the order of their numbers, and one without copies is none
+pub record ShowsCopies (user : List ℕ) (rows message_rows : List Row) (folders : Folders) (next : ℕ) : Type 0 where
   pub entries : List Copy
+  pub messages : List Message
   pub numbered : AreNumbered (λ c. c.n) (copy_row user) rows entries next
+  pub stored : AreNumbered (λ m. m.id) (message_row user) message_rows messages next
+  pub kept : AreKept entries messages
   pub shown : folders ≡ folders_from entries
 
 -- ---- what is read of them

@@ -4,6 +4,7 @@ pub mod Cells
 pub mod Changes
 pub mod Connection
 pub mod CopyTable
+pub mod MessageTable
 pub mod MetaTable
 pub mod NoticeTable
 pub mod Numbers

@@ -23,7 +23,7 @@ abbrev pub create_meta : List ℕ
 create_meta = codes "CREATE TABLE meta (item TEXT NOT NULL PRIMARY KEY, value INTEGER NOT NULL) STRICT"
 
 abbrev pub insert_version : List ℕ
-insert_version = codes "INSERT INTO meta (item, value) VALUES ('version', 1)"
+insert_version = codes "INSERT INTO meta (item, value) VALUES ('version', 2)"
 
 abbrev pub select_version : List ℕ
 select_version = codes "SELECT value FROM meta WHERE item = ?1"
@@ -32,15 +32,15 @@ abbrev pub version_key : Row
 version_key = value.Text (codes "version") ∷ []
 
 abbrev pub version_row : Row
-version_row = value.Text (codes "version") ∷ value.Int (pos 1) ∷ []
+version_row = value.Text (codes "version") ∷ value.Int (pos 2) ∷ []
 
 -- the rows of the version, each with its rowid
 abbrev pub version_rows : Trees → List Row
 version_rows trees = filter (has_key_from 1 version_key) (trees meta_tree)
 
--- there is one row, and it begins with 1
-abbrev pub SaysOne : List Row → Type 0
-SaysOne rows = (row : Row) × (rows ≡ row ∷ []) × (column row 0 ≡ value.Int (pos 1))
+-- there is one row, and it begins with 2
+abbrev pub SaysTwo : List Row → Type 0
+SaysTwo rows = (row : Row) × (rows ≡ row ∷ []) × (column row 0 ≡ value.Int (pos 2))
 
 -- the rows are the numbers of the version, in any order
 abbrev pub AreVersions : Trees → Vec Row Global → Type 0

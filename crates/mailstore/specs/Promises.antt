@@ -8,7 +8,9 @@ use Rattle.sqlite.specs.Effect.{Database}
 use Rattle.sqlite.specs.State.{State, HasCleanDisk, Survives}
 use Rattle.sqlrows.specs.Rows.{Tables, Holds}
 use Rattle.mailstore.specs.declared.change.Change.{Change}
+use Rattle.mailstore.specs.declared.account.Counters.{Counters}
 use Rattle.mailstore.specs.declared.profile.Profile.{Profile}
+use Rattle.mailstore.specs.declared.report.Plan.{Plan}
 use Rattle.mailstore.specs.declared.refusal.Refusal.{Refusal}
 use Rattle.mailstore.specs.declared.refusal.Refusal.TheVariants.{NoUser}
 use Rattle.mailstore.specs.Schema.{mail_schema}
@@ -16,7 +18,8 @@ use Rattle.mailstore.specs.Connection.{SeesCommit, IsSettled, StaysSame}
 use Rattle.mailstore.specs.Changes.{made}
 use Rattle.mailstore.specs.Account.{Account, Accounts, with_user}
 use Rattle.mailstore.specs.Refusals.{IsPassing}
-use Rattle.mailstore.specs.AccountTable.{account_tree, CountsCopies, profile_of}
+use Rattle.mailstore.specs.AccountTable.{account_tree, Counts, profile_of}
+use Rattle.mailstore.specs.MessageTable.{message_tree, GainsOnce}
 use Rattle.mailstore.specs.Shows.{rows_of, Presents}
 
 -- a database of our tables
@@ -69,9 +72,9 @@ ReadsRows user Part = Reads user (λ rows. Part rows.items)
 abbrev pub Requires : List ℕ → State → State → Result (Unit {0}) Refusal → Type 0
 Requires user = Reads user (λ done account. Unit {0})
 
--- the read of the counter of copies, in the row of the user's account
-pub record ReadsCounter (user : List ℕ) (old new : State) (result : Result ℕ Refusal) : Type 0 where
-  pub found : HasCleanDisk new → (tables : Tables) → Holds mail_schema old.now tables → IfOk result (CountsCopies (rows_of user tables account_tree))
+-- the read of the counters in the row of the user's account
+pub record ReadsCounters (user : List ℕ) (old new : State) (result : Result Counters Refusal) : Type 0 where
+  pub found : HasCleanDisk new → (tables : Tables) → Holds mail_schema old.now tables → IfOk result (Counts (rows_of user tables account_tree))
   pub absent : HasCleanDisk new → (tables : Tables) → Holds mail_schema old.now tables → IfErr result (λ e. e ≡ NoUser → rows_of user tables account_tree ≡ [])
   pub keeps : Keeps old new result
   pub named : IfErr result (λ e. (e ≡ NoUser) ⊎ IsPassing e)
@@ -90,6 +93,12 @@ pub record Asks {X E : Type 0} (P : X → Type 0) (old new : State) (result : Re
   pub crash : old.now.schema ≡ mail_schema → Survives old new (λ _. ⊥)
 
 -- ---- writes
+
+-- after Ok the table of messages has the plan's message once more
+abbrev pub StoresOnce : {X E : Type 0} → List ℕ → Plan → State → State → Result X E → Type 0
+StoresOnce user plan old new result =
+    HasCleanDisk new → (tables : Tables) → Holds mail_schema old.now tables
+    → OnOk result ((after : Tables) × Holds mail_schema new.now after × GainsOnce user plan.message.now plan.copies (tables message_tree) (after message_tree))
 
 -- after Ok all row changes are made
 abbrev pub MakesAll : {X E : Type 0} → List Change → State → State → Result X E → Type 0

@@ -1,7 +1,8 @@
--- The tables of version 1, as the texts of their CREATE statements define them.
+-- The tables of version 2, as the texts of their CREATE statements define them.
 use Rattle.std.specs.Prelude.{◌≡◌, ◌+◌, true, false, None, List, [], ◌∷◌, ◌++◌}
 use Rattle.sqlite_schema.specs.declared.schema.Column.{Column}
 use Rattle.sqlite_schema.specs.declared.schema.Index.{Index}
+use Rattle.sqlite_schema.specs.declared.schema.Reference.{Reference}
 use Rattle.sqlite_schema.specs.declared.schema.Table.{Table}
 use Rattle.sqlite_schema.specs.declared.schema.Schema.{Schema}
 use Rattle.sqlite_catalog.specs.Change.{automatics, created}
@@ -9,17 +10,20 @@ use Rattle.sqlite_value.specs.declared.value.Value.TheVariants.{Null}
 use Rattle.sqlite_value.specs.declared.keys.Collation.TheVariants.{Binary}
 use Rattle.sqlite_value.specs.Keys.{plain}
 use Rattle.mailstore.specs.declared.schema.Form.{Form}
+use Rattle.mailstore.specs.declared.schema.Parents.{Parents}
+use Rattle.mailstore.specs.declared.schema.Parents.TheVariants.{Nothing, Account, AccountAndMessage}
 use Rattle.mailstore.specs.declared.schema.KeyForm.{KeyForm}
 use Rattle.mailstore.specs.MetaTable.{meta_tree, meta}
-use Rattle.mailstore.specs.AccountTable.{account_tree, account}
+use Rattle.mailstore.specs.AccountTable.{account_tree, account, to_account}
 use Rattle.mailstore.specs.ScriptTable.{script_tree, script}
 use Rattle.mailstore.specs.QueueTable.{outgoing_tree, outgoing}
 use Rattle.mailstore.specs.ReplyTable.{reply_tree, reply}
 use Rattle.mailstore.specs.NoticeTable.{notice_tree, notice}
-use Rattle.mailstore.specs.CopyTable.{copy_tree, copy}
+use Rattle.mailstore.specs.MessageTable.{message_tree, message}
+use Rattle.mailstore.specs.CopyTable.{copy_tree, copy, to_message}
 
 abbrev pub the_tables : List Table
-the_tables = meta ∷ account ∷ script ∷ outgoing ∷ reply ∷ notice ∷ copy ∷ []
+the_tables = meta ∷ account ∷ script ∷ outgoing ∷ reply ∷ notice ∷ message ∷ copy ∷ []
 
 abbrev pub no_schema : Schema
 no_schema = record { tables = []; indexes = []; views = [] }
@@ -29,7 +33,7 @@ abbrev pub the_indexes : List Index
 the_indexes =
     automatics meta 0 (meta_tree + 1) meta.uniques ++ automatics account 0 (account_tree + 1) account.uniques ++ automatics script 0 (script_tree + 1) script.uniques
     ++ automatics outgoing 0 (outgoing_tree + 1) outgoing.uniques ++ automatics reply 0 (reply_tree + 1) reply.uniques ++ automatics notice 0 (notice_tree + 1) notice.uniques
-    ++ automatics copy 0 (copy_tree + 1) copy.uniques
+    ++ automatics message 0 (message_tree + 1) message.uniques ++ automatics copy 0 (copy_tree + 1) copy.uniques
 
 abbrev pub mail_schema : Schema
 mail_schema = record { tables = the_tables; indexes = the_indexes; views = [] }
@@ -53,9 +57,17 @@ schema_5 = created schema_4 (record reply { tree = 0 })
 abbrev pub schema_6 : Schema
 schema_6 = created schema_5 (record notice { tree = 0 })
 
+abbrev pub schema_7 : Schema
+schema_7 = created schema_6 (record message { tree = 0 })
+
 -- the column of this form, without a default
 abbrev pub column_of : Form → Column
 column_of form = record { name = form.name.now; kind = form.kind; is_strict = true; not_null = form.not_null; default = Null; collation = Binary }
+
+abbrev pub references_to : Parents → List Reference
+references_to Nothing = []
+references_to Account = to_account
+references_to AccountAndMessage = to_message
 
 -- no INTEGER PRIMARY KEY, CHECK, default that is no literal, or AUTOINCREMENT
 abbrev pub HasNoOtherRule : Table → Type 0

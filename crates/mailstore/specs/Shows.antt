@@ -15,6 +15,7 @@ use Rattle.mailstore.specs.ScriptTable.{script_tree, ShowsScripts}
 use Rattle.mailstore.specs.QueueTable.{outgoing_tree, ShowsQueue}
 use Rattle.mailstore.specs.ReplyTable.{reply_tree, ShowsReplies}
 use Rattle.mailstore.specs.NoticeTable.{notice_tree, ShowsNotices}
+use Rattle.mailstore.specs.MessageTable.{message_tree}
 use Rattle.mailstore.specs.CopyTable.{copy_tree, ShowsCopies}
 
 -- the rows of one user, in each table that has an owner and in the table of accounts
@@ -30,7 +31,7 @@ pub record IsShown (user : List ℕ) (own : Tables) (a : Account) : Type 0 where
   pub queue : ShowsQueue user (own outgoing_tree) a.queue a.next_out
   pub replies : ShowsReplies user (own reply_tree) a.replies
   pub notices : ShowsNotices user (own notice_tree) a.notices next_notice
-  pub copies : ShowsCopies user (own copy_tree) a.folders next_copy
+  pub copies : ShowsCopies user (own copy_tree) (own message_tree) a.folders next_copy
 
 -- a name without an account has no row in any table
 pub record IsAbsent (own : Tables) : Type 0 where
@@ -39,6 +40,7 @@ pub record IsAbsent (own : Tables) : Type 0 where
   pub queue : own outgoing_tree ≡ []
   pub replies : own reply_tree ≡ []
   pub notices : own notice_tree ≡ []
+  pub messages : own message_tree ≡ []
   pub copies : own copy_tree ≡ []
 
 abbrev pub IsShownOrAbsent : List ℕ → Tables → Option Account → Type 0
@@ -54,12 +56,12 @@ pub record ShowsAccounts (tables : Tables) (accounts : Accounts) : Type 0 where
 abbrev pub Presents : Database → Accounts → Type 0
 Presents db accounts = (tables : Tables) × Holds mail_schema db tables × ShowsAccounts tables accounts
 
--- a database of our tables, whose one row of the version says 1
+-- a database of our tables, whose one row of the version says 2
 pub record IsOurs (db : Database) : Type 0 where
   pub schema : db.schema ≡ mail_schema
   pub row : Row
   pub only : version_rows db.trees ≡ row ∷ []
-  pub says : column row stored_value_column ≡ Int (pos 1)
+  pub says : column row stored_value_column ≡ Int (pos 2)
 
 -- the trees are those of a database that shows the accounts
 abbrev pub ShowsIn : Trees → Accounts → Type 0

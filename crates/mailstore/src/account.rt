@@ -1,12 +1,12 @@
 //! The table of accounts: its rows are the users.
 ghost use Rattle.std.specs.Prelude.{◌≡◌, false, ◌⊎◌, [], pos, Some, option_map, slice_get, IfOk, IfErr};
 ghost use Rattle.sqlite.specs.Held.{state};
-ghost use Rattle.mailstore.specs.AccountTable.{account_tree, shown_account, shown_next_copy, IsRead};
-ghost use Rattle.mailstore.specs.Promises.{FindsOwn, Reads, ReadsCounter, ReadsProfile, Requires, IsFree, Writes, WritesUser};
+ghost use Rattle.mailstore.specs.AccountTable.{account_tree, shown_account, shown_counters, counter_cells, IsRead};
+ghost use Rattle.mailstore.specs.Promises.{FindsOwn, Reads, ReadsCounters, ReadsProfile, Requires, IsFree, Writes, WritesUser};
 ghost use Rattle.sqlite.specs.State.{Survives};
 ghost use Rattle.mailstore.specs.Connection.{Makes, MakesTable};
-ghost use Rattle.mailstore.specs.Cells.{contents, or_null};
-ghost use Rattle.mailstore.specs.Changes.{account_added, active_set, next_copy_set};
+ghost use Rattle.mailstore.specs.Cells.{contents, first_three, or_null};
+ghost use Rattle.mailstore.specs.Changes.{account_added, active_set, counters_set};
 ghost use Rattle.mailstore.specs.Schema.{schema_1, schema_2};
 ghost use Rattle.mailstore.specs.Account.{activates, new_user};
 ghost use Rattle.mailstore.specs.Refusals.{IsPassing};
@@ -20,6 +20,15 @@ use crate::refusal::Refusal;
 use crate::store::Store;
 use octets::Octets;
 use sqlite::{Alter, Connection, Error, Row, Transaction, params};
+
+/// The numbers that an account gives next: to a copy, to a message on its way out, and to a notice. Each counts from 1
+/// on its own, and no number is given twice.
+#[derive(Clone, Copy, Debug)]
+pub struct Counters {
+    pub copy: u64,
+    pub out: u64,
+    pub notice: u64,
+}
 
 /// Makes the table `account`, inside a transaction.
 pub fn make_account<S: Alter>(tx: &mut Transaction<'_, S>) -> Result<(), Error>
@@ -71,19 +80,21 @@ pub fn set_active<S: Alter>(
     Ok(())
 }
 
-/// Another counter of copies. Inside a transaction.
-pub fn set_next_copy<S: Alter>(
+/// Other counters: of copies, of messages on their way out, and of notices. Inside a transaction.
+pub fn set_counters<S: Alter>(
     tx: &mut Transaction<'_, S>,
     name: &[u8],
-    next: &i64,
+    copy: &i64,
+    out: &i64,
+    notice: &i64,
 ) -> Result<(), Error>
     ensures same_reference { tx.new.conn.ghost_name ≡ tx.old.conn.ghost_name }
-    ensures made { Makes (state S.Store tx.old.conn.now) (state S.Store tx.new.conn.now) result (next_copy_set name.now next.now) }
+    ensures made { Makes (state S.Store tx.old.conn.now) (state S.Store tx.new.conn.now) result (counters_set name.now copy.now out.now notice.now) }
     ensures survives { Survives (state S.Store tx.old.conn.now) (state S.Store tx.new.conn.now) (λ _. ⊥) }
 {
     tx.execute(
-        "UPDATE account SET next_copy = ?2 WHERE name = ?1",
-        params![name, next],
+        "UPDATE account SET next_copy = ?2, next_out = ?3, next_notice = ?4 WHERE name = ?1",
+        params![name, copy, out, notice],
     )?;
     Ok(())
 }
@@ -102,31 +113,41 @@ fn find_account<S: Alter>(conn: &mut Connection<S>, name: &[u8]) -> Result<Vec<R
     )
 }
 
-/// The number of the account's next copy.
-fn find_next_copy<S: Alter>(conn: &mut Connection<S>, name: &[u8]) -> Result<Vec<Row>, Error>
+/// The counters of the account.
+fn find_counters<S: Alter>(conn: &mut Connection<S>, name: &[u8]) -> Result<Vec<Row>, Error>
     requires { conn.old.in_transaction ≡ false }
     ensures ended { conn.new.in_transaction ≡ false }
     ensures limit { conn.new.step_limit ≡ conn.old.step_limit }
-    ensures finds { FindsOwn name.now account_tree shown_next_copy (state S.Store conn.old) (state S.Store conn.new) result }
+    ensures finds { FindsOwn name.now account_tree shown_counters (state S.Store conn.old) (state S.Store conn.new) result }
 {
     let _settled = conn.is_autocommit();
     conn.query_all(
-        "SELECT next_copy FROM account WHERE name = ?1",
+        "SELECT next_copy, next_out, next_notice FROM account WHERE name = ?1",
         params![name],
     )
 }
 
-/// The number in the first row; without a row the user has no account.
-fn only_number(rows: &[Row]) -> Result<u64, Refusal>
-    ensures ok { IfOk result (λ n. option_map (λ r. column r 0) (slice_get rows.now 0) ≡ Some (Int (pos n))) }
+/// The counters that the row shows.
+fn counters_in(row: &Row) -> Result<Counters, Error>
+    ensures copy { IfOk result (λ c. column row.now 0 ≡ Int (pos c.copy)) }
+    ensures out { IfOk result (λ c. column row.now 1 ≡ Int (pos c.out)) }
+    ensures notice { IfOk result (λ c. column row.now 2 ≡ Int (pos c.notice)) }
+{
+    Ok(Counters {
+        copy: row.get(0)?,
+        out: row.get(1)?,
+        notice: row.get(2)?,
+    })
+}
+
+/// The counters in the first row; without a row the user has no account.
+fn first_counters(rows: &[Row]) -> Result<Counters, Refusal>
+    ensures ok { IfOk result (λ c. option_map first_three (slice_get rows.now 0) ≡ Some (counter_cells c)) }
     ensures absent { IfErr result (λ e. e ≡ Refusal.NoUser → rows.now ≡ []) }
     ensures named { IfErr result (λ e. (e ≡ Refusal.NoUser) ⊎ IsPassing e) }
 {
     match rows.first() {
-        Some(row) => {
-            let number: u64 = row.get(0)?;
-            Ok(number)
-        }
+        Some(row) => Ok(counters_in(row)?),
         None => Err(Refusal::NoUser),
     }
 }
@@ -163,19 +184,19 @@ fn first_profile(rows: &[Row]) -> Result<Option<Profile>, Refusal>
 }
 
 impl<S: Alter> Store<S> {
-    /// The number of the user's next copy.
-    pub(crate) fn next_copy(&mut self, user: &[u8]) -> Result<u64, Refusal>
-        ensures { ReadsCounter user.now (state S.Store self.old) (state S.Store self.new) result }
+    /// The counters of the user's account.
+    pub(crate) fn counters(&mut self, user: &[u8]) -> Result<Counters, Refusal>
+        ensures { ReadsCounters user.now (state S.Store self.old) (state S.Store self.new) result }
     {
-        let rows = find_next_copy(&mut self.conn, user)?;
-        only_number(&rows)
+        let rows = find_counters(&mut self.conn, user)?;
+        first_counters(&rows)
     }
 
     /// Asks whether the user has an account.
     pub(crate) fn require_account(&mut self, user: &[u8]) -> Result<(), Refusal>
         ensures { Requires user.now (state S.Store self.old) (state S.Store self.new) result }
     {
-        self.next_copy(user)?;
+        self.counters(user)?;
         Ok(())
     }
 

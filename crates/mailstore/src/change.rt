@@ -7,8 +7,9 @@ ghost use Rattle.mailstore.specs.Connection.{Makes, IsSettled, StaysSame};
 ghost use Rattle.mailstore.specs.Changes.{MayHave, made_one};
 ghost use Rattle.mailstore.specs.Refusals.{IsPassing};
 
-use crate::account::{add_account, set_active, set_next_copy};
+use crate::account::{add_account, set_active, set_counters};
 use crate::folder::add_copy;
+use crate::message::add_message;
 use crate::notice::add_notice;
 use crate::queue::{Kind, add_outgoing, remove_outgoing};
 use crate::refusal::Refusal;
@@ -31,9 +32,11 @@ pub enum Change<'a> {
         name: &'a [u8],
         active: Option<&'a [u8]>,
     },
-    SetNextCopy {
+    SetCounters {
         name: &'a [u8],
-        next: i64,
+        copy: i64,
+        out: i64,
+        notice: i64,
     },
     AddScript {
         owner: &'a [u8],
@@ -44,11 +47,16 @@ pub enum Change<'a> {
         owner: &'a [u8],
         name: &'a [u8],
     },
+    AddMessage {
+        owner: &'a [u8],
+        id: i64,
+        bytes: &'a [u8],
+    },
     AddCopy {
         owner: &'a [u8],
         folder: &'a [u8],
         n: i64,
-        message: &'a [u8],
+        id: i64,
     },
     AddOutgoing {
         owner: &'a [u8],
@@ -96,15 +104,21 @@ fn make<S: Alter>(tx: &mut Transaction<'_, S>, change: &Change<'_>) -> Result<()
             digest,
         } => add_account(tx, name, address, salt, *rounds, digest),
         Change::SetActive { name, active } => set_active(tx, name, *active),
-        Change::SetNextCopy { name, next } => set_next_copy(tx, name, next),
+        Change::SetCounters {
+            name,
+            copy,
+            out,
+            notice,
+        } => set_counters(tx, name, copy, out, notice),
         Change::AddScript { owner, name, text } => add_script(tx, owner, name, text),
         Change::RemoveScript { owner, name } => remove_script(tx, owner, name),
+        Change::AddMessage { owner, id, bytes } => add_message(tx, owner, id, bytes),
         Change::AddCopy {
             owner,
             folder,
             n,
-            message,
-        } => add_copy(tx, owner, folder, n, message),
+            id,
+        } => add_copy(tx, owner, folder, n, id),
         Change::AddOutgoing {
             owner,
             id,

@@ -7,7 +7,7 @@ ghost use Rattle.mailstore.specs.Tally.{AreFolderRows, tallied, AreFolders, coun
 ghost use Rattle.sqlite.specs.State.{Survives};
 ghost use Rattle.mailstore.specs.Connection.{Makes, MakesTable};
 ghost use Rattle.mailstore.specs.Changes.{copy_added};
-ghost use Rattle.mailstore.specs.Schema.{mail_schema, schema_6};
+ghost use Rattle.mailstore.specs.Schema.{mail_schema, schema_7};
 ghost use Rattle.mailstore.specs.Account.{messages_in};
 ghost use Rattle.mailstore.specs.Refusals.{IsPassing};
 ghost use Rattle.sqlite_value.specs.declared.value.Value.TheVariants.{Blob};
@@ -30,31 +30,31 @@ pub struct Folder {
 /// Makes the table `copy`, inside a transaction.
 pub fn make_copy<S: Alter>(tx: &mut Transaction<'_, S>) -> Result<(), Error>
     ensures same_reference { tx.new.conn.ghost_name ≡ tx.old.conn.ghost_name }
-    ensures made { MakesTable (state S.Store tx.old.conn.now) (state S.Store tx.new.conn.now) result schema_6 mail_schema }
+    ensures made { MakesTable (state S.Store tx.old.conn.now) (state S.Store tx.new.conn.now) result schema_7 mail_schema }
     ensures survives { Survives (state S.Store tx.old.conn.now) (state S.Store tx.new.conn.now) (λ _. ⊥) }
 {
     tx.execute(
-        "CREATE TABLE copy (owner BLOB NOT NULL REFERENCES account (name), folder BLOB NOT NULL, n INTEGER NOT NULL, message BLOB NOT NULL, PRIMARY KEY (owner, folder, n)) STRICT",
+        "CREATE TABLE copy (owner BLOB NOT NULL REFERENCES account (name), folder BLOB NOT NULL, n INTEGER NOT NULL, id INTEGER NOT NULL, PRIMARY KEY (owner, folder, n), FOREIGN KEY (owner, id) REFERENCES message (owner, id)) STRICT",
         &[],
     )?;
     Ok(())
 }
 
-/// A copy of a message in a folder, with its number. Inside a transaction.
+/// A copy in a folder, with its number, of the message with the number `id`, which is there. Inside a transaction.
 pub fn add_copy<S: Alter>(
     tx: &mut Transaction<'_, S>,
     owner: &[u8],
     folder: &[u8],
     n: &i64,
-    message: &[u8],
+    id: &i64,
 ) -> Result<(), Error>
     ensures same_reference { tx.new.conn.ghost_name ≡ tx.old.conn.ghost_name }
-    ensures made { Makes (state S.Store tx.old.conn.now) (state S.Store tx.new.conn.now) result (copy_added owner.now folder.now n.now message.now) }
+    ensures made { Makes (state S.Store tx.old.conn.now) (state S.Store tx.new.conn.now) result (copy_added owner.now folder.now n.now id.now) }
     ensures survives { Survives (state S.Store tx.old.conn.now) (state S.Store tx.new.conn.now) (λ _. ⊥) }
 {
     tx.execute(
-        "INSERT INTO copy (owner, folder, n, message) VALUES (?1, ?2, ?3, ?4)",
-        params![owner, folder, n, message],
+        "INSERT INTO copy (owner, folder, n, id) VALUES (?1, ?2, ?3, ?4)",
+        params![owner, folder, n, id],
     )?;
     Ok(())
 }
@@ -72,7 +72,7 @@ fn find_messages<S: Alter>(
 {
     let _settled = conn.is_autocommit();
     conn.query_all(
-        "SELECT message FROM copy WHERE owner = ?1 AND folder = ?2 ORDER BY n",
+        "SELECT message.bytes FROM copy JOIN message ON message.owner = copy.owner AND message.id = copy.id WHERE copy.owner = ?1 AND copy.folder = ?2 ORDER BY copy.n",
         params![owner, folder],
     )
 }

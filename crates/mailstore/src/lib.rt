@@ -6,6 +6,7 @@ mod cell;
 mod change;
 mod delivery;
 mod folder;
+mod message;
 mod notice;
 mod profile;
 mod queue;

@@ -9,6 +9,7 @@ ghost use Rattle.mailstore.specs.ScriptTable as script_table;
 ghost use Rattle.mailstore.specs.QueueTable as queue_table;
 ghost use Rattle.mailstore.specs.ReplyTable as reply_table;
 ghost use Rattle.mailstore.specs.NoticeTable as notice_table;
+ghost use Rattle.mailstore.specs.MessageTable as message_table;
 ghost use Rattle.mailstore.specs.CopyTable as copy_table;
 
 use sqlite_items::Items;
@@ -82,6 +83,15 @@ fn is_only_text(texts: &[Bytes], text: &[u8]) -> bool
     only.as_slice() == text
 }
 
+fn are_two_texts(texts: &[Bytes], first: &[u8], last: &[u8]) -> bool
+    ensures { IsTrue result ↔ (texts.now ≡ first.now ∷ last.now ∷ []) }
+{
+    let [one, other] = texts else {
+        return false;
+    };
+    one.as_slice() == first && other.as_slice() == last
+}
+
 /// Whether this is `REFERENCES account (name)` at the first column.
 fn is_to_account(reference: &Reference) -> bool
     ensures { IsTrue result ↔ (reference.now ≡ account_table.account_reference) }
@@ -94,13 +104,36 @@ fn is_to_account(reference: &Reference) -> bool
         && !reference.is_deferred
 }
 
-/// Whether the one reference is to the account, or there is none.
-fn refer(references: &[Reference], is_owned: bool) -> bool
-    ensures { IsTrue result ↔ (references.now ≡ (if is_owned then account_table.to_account else [])) }
+/// Whether this is `REFERENCES message (owner, id)` at the columns of a copy.
+fn is_to_message(reference: &Reference) -> bool
+    ensures { IsTrue result ↔ (reference.now ≡ copy_table.message_reference) }
 {
-    match references {
-        [] => !is_owned,
-        [reference] => is_owned && is_to_account(reference),
+    reference.columns.as_slice() == [1, 4].as_slice()
+        && reference.parent.as_slice() == b"message".as_slice()
+        && are_two_texts(reference.parent_columns.as_slice(), b"owner", b"id")
+        && reference.on_delete == Action::NoAction
+        && reference.on_update == Action::NoAction
+        && !reference.is_deferred
+}
+
+/// What the rows of a table refer to.
+#[derive(Clone, Copy)]
+pub enum Parents {
+    Nothing,
+    Account,
+    AccountAndMessage,
+}
+
+/// Whether these are the references to the parents.
+fn refer(references: &[Reference], parents: Parents) -> bool
+    ensures { IsTrue result ↔ (references.now ≡ spec.references_to parents) }
+{
+    match (parents, references) {
+        (Parents::Nothing, []) => true,
+        (Parents::Account, [account]) => is_to_account(account),
+        (Parents::AccountAndMessage, [account, message]) => {
+            is_to_account(account) && is_to_message(message)
+        }
         _ => false,
     }
 }
@@ -145,21 +178,21 @@ fn has_no_other_rule(table: &Table) -> bool
         && !table.is_counted
 }
 
-/// Whether the table has this name, tree, key and columns. One that is owned refers to the account.
+/// Whether the table has this name, tree, key, columns and references.
 fn is_table(
     table: &Table,
     name: &[u8],
     tree: u32,
     primary: &[usize],
-    is_owned: bool,
+    parents: Parents,
     forms: &[Form<'_>],
 ) -> bool
-    ensures { IsTrue result ↔ (table.now ≡ keyed name.now tree primary.now (if is_owned then account_table.to_account else []) (map spec.column_of forms.now)) }
+    ensures { IsTrue result ↔ (table.now ≡ keyed name.now tree primary.now (spec.references_to parents) (map spec.column_of forms.now)) }
 {
     table.name.as_slice() == name
         && table.tree == tree
         && has_one_key(table, primary)
-        && refer(table.references.as_slice(), is_owned)
+        && refer(table.references.as_slice(), parents)
         && are_columns(table.columns.as_slice(), forms)
         && has_no_other_rule(table)
 }
@@ -168,7 +201,7 @@ fn is_meta(table: &Table) -> bool
     ensures { IsTrue result ↔ (table.now ≡ meta_table.meta) }
 {
     let forms = [needed(b"item", Kind::Text), needed(b"value", Kind::Integer)];
-    is_table(table, b"meta", 0, &[1], false, &forms)
+    is_table(table, b"meta", 0, &[1], Parents::Nothing, &forms)
 }
 
 fn is_account(table: &Table) -> bool
@@ -185,7 +218,7 @@ fn is_account(table: &Table) -> bool
         needed(b"next_out", Kind::Integer),
         needed(b"next_notice", Kind::Integer),
     ];
-    is_table(table, b"account", 2, &[1], false, &forms)
+    is_table(table, b"account", 2, &[1], Parents::Nothing, &forms)
 }
 
 fn is_script(table: &Table) -> bool
@@ -196,7 +229,7 @@ fn is_script(table: &Table) -> bool
         needed(b"name", Kind::Blob),
         needed(b"text", Kind::Blob),
     ];
-    is_table(table, b"script", 4, &[1, 2], true, &forms)
+    is_table(table, b"script", 4, &[1, 2], Parents::Account, &forms)
 }
 
 fn is_outgoing(table: &Table) -> bool
@@ -210,7 +243,7 @@ fn is_outgoing(table: &Table) -> bool
         needed(b"target", Kind::Blob),
         needed(b"message", Kind::Blob),
     ];
-    is_table(table, b"outgoing", 6, &[1, 2], true, &forms)
+    is_table(table, b"outgoing", 6, &[1, 2], Parents::Account, &forms)
 }
 
 fn is_reply(table: &Table) -> bool
@@ -222,7 +255,7 @@ fn is_reply(table: &Table) -> bool
         needed(b"sender", Kind::Blob),
         needed(b"moment", Kind::Integer),
     ];
-    is_table(table, b"reply", 8, &[1, 2, 3], true, &forms)
+    is_table(table, b"reply", 8, &[1, 2, 3], Parents::Account, &forms)
 }
 
 fn is_notice(table: &Table) -> bool
@@ -234,7 +267,18 @@ fn is_notice(table: &Table) -> bool
         needed(b"moment", Kind::Integer),
         needed(b"text", Kind::Blob),
     ];
-    is_table(table, b"notice", 10, &[1, 2], true, &forms)
+    is_table(table, b"notice", 10, &[1, 2], Parents::Account, &forms)
+}
+
+fn is_message(table: &Table) -> bool
+    ensures { IsTrue result ↔ (table.now ≡ message_table.message) }
+{
+    let forms = [
+        needed(b"owner", Kind::Blob),
+        needed(b"id", Kind::Integer),
+        needed(b"bytes", Kind::Blob),
+    ];
+    is_table(table, b"message", 12, &[1, 2], Parents::Account, &forms)
 }
 
 fn is_copy(table: &Table) -> bool
@@ -244,18 +288,28 @@ fn is_copy(table: &Table) -> bool
         needed(b"owner", Kind::Blob),
         needed(b"folder", Kind::Blob),
         needed(b"n", Kind::Integer),
-        needed(b"message", Kind::Blob),
+        needed(b"id", Kind::Integer),
     ];
-    is_table(table, b"copy", 12, &[1, 2, 3], true, &forms)
+    let parents = Parents::AccountAndMessage;
+    is_table(table, b"copy", 14, &[1, 2, 3], parents, &forms)
+}
+
+fn are_folders(tables: &[Table]) -> bool
+    ensures { IsTrue result ↔ (tables.now ≡ message_table.message ∷ copy_table.copy ∷ []) }
+{
+    let [message, copy] = tables else {
+        return false;
+    };
+    is_message(message) && is_copy(copy)
 }
 
 fn are_last(tables: &[Table]) -> bool
-    ensures { IsTrue result ↔ (tables.now ≡ queue_table.outgoing ∷ reply_table.reply ∷ notice_table.notice ∷ copy_table.copy ∷ []) }
+    ensures { IsTrue result ↔ (tables.now ≡ queue_table.outgoing ∷ reply_table.reply ∷ notice_table.notice ∷ message_table.message ∷ copy_table.copy ∷ []) }
 {
-    let [outgoing, reply, notice, copy] = tables else {
+    let [outgoing, reply, notice, others @ ..] = tables else {
         return false;
     };
-    is_outgoing(outgoing) && is_reply(reply) && is_notice(notice) && is_copy(copy)
+    is_outgoing(outgoing) && is_reply(reply) && is_notice(notice) && are_folders(others)
 }
 
 fn are_tables(tables: &[Table]) -> bool
@@ -326,7 +380,8 @@ fn are_keys(indexes: &[Index]) -> bool
         key_of(b"sqlite_autoindex_outgoing_1", 7, 6, &[1, 2]),
         key_of(b"sqlite_autoindex_reply_1", 9, 8, &[1, 2, 3]),
         key_of(b"sqlite_autoindex_notice_1", 11, 10, &[1, 2]),
-        key_of(b"sqlite_autoindex_copy_1", 13, 12, &[1, 2, 3]),
+        key_of(b"sqlite_autoindex_message_1", 13, 12, &[1, 2]),
+        key_of(b"sqlite_autoindex_copy_1", 15, 14, &[1, 2, 3]),
     ];
     are_indexes(indexes, &forms)
 }

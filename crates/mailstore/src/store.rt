@@ -92,7 +92,7 @@ impl<S: Alter> Store<S> {
 
     /// Opens a database that `create` made.
     ///
-    /// Where its tables are not exactly ours, or have no row of version 1, it is `NotOurs`. No table but that
+    /// Where its tables are not exactly ours, or have no row of version 2, it is `NotOurs`. No table but that
     /// of the version is read. The connection comes back beside a refusal, with its tables as they are.
     pub fn open(
         alloc: Global,

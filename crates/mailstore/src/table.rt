@@ -4,11 +4,12 @@ ghost use Rattle.sqlite.specs.Held.{state};
 ghost use Rattle.mailstore.specs.Shows.{Presents, MayCreate};
 ghost use Rattle.sqlite.specs.State.{Survives, HasCleanDisk};
 ghost use Rattle.mailstore.specs.Connection.{MakesTable, IsSettled, StaysSame, has_our_name};
-ghost use Rattle.mailstore.specs.Schema.{no_schema, mail_schema, schema_3};
+ghost use Rattle.mailstore.specs.Schema.{no_schema, mail_schema, schema_3, schema_6};
 ghost use Rattle.mailstore.specs.Account.{no_accounts};
 
 use crate::account::make_account;
 use crate::folder::make_copy;
+use crate::message::make_message;
 use crate::notice::make_notice;
 use crate::queue::make_outgoing;
 use crate::reply::make_reply;
@@ -24,6 +25,7 @@ pub fn is_taken(schema: &Schema) -> bool
     schema.table_named(b"meta").is_some()
         || schema.table_named(b"account").is_some()
         || schema.table_named(b"script").is_some()
+        || schema.table_named(b"message").is_some()
         || schema.table_named(b"copy").is_some()
         || schema.table_named(b"outgoing").is_some()
         || schema.table_named(b"reply").is_some()
@@ -50,7 +52,17 @@ fn make_first<S: Alter>(tx: &mut Transaction<'_, S>) -> Result<(), Error>
     make_script(tx)
 }
 
-/// The other four, inside a transaction.
+/// The tables of messages and copies, which are the folders, inside a transaction.
+fn make_folders<S: Alter>(tx: &mut Transaction<'_, S>) -> Result<(), Error>
+    ensures same_reference { tx.new.conn.ghost_name ≡ tx.old.conn.ghost_name }
+    ensures made { MakesTable (state S.Store tx.old.conn.now) (state S.Store tx.new.conn.now) result schema_6 mail_schema }
+    ensures survives { Survives (state S.Store tx.old.conn.now) (state S.Store tx.new.conn.now) (λ _. ⊥) }
+{
+    make_message(tx)?;
+    make_copy(tx)
+}
+
+/// The other five, inside a transaction.
 fn make_others<S: Alter>(tx: &mut Transaction<'_, S>) -> Result<(), Error>
     ensures same_reference { tx.new.conn.ghost_name ≡ tx.old.conn.ghost_name }
     ensures made { MakesTable (state S.Store tx.old.conn.now) (state S.Store tx.new.conn.now) result schema_3 mail_schema }
@@ -59,7 +71,7 @@ fn make_others<S: Alter>(tx: &mut Transaction<'_, S>) -> Result<(), Error>
     make_outgoing(tx)?;
     make_reply(tx)?;
     make_notice(tx)?;
-    make_copy(tx)
+    make_folders(tx)
 }
 
 /// Makes all tables and the row of their version, in one transaction.

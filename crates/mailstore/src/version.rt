@@ -2,7 +2,7 @@
 ghost use Rattle.std.specs.Prelude.{◌≡◌, false, ◌↔◌, IsTrue, pos, IfOk};
 ghost use Rattle.sqlite.specs.Held.{state};
 ghost use Rattle.mailstore.specs.Shows.{IsOurs};
-ghost use Rattle.mailstore.specs.MetaTable.{AreVersions, version_row, meta_tree, SaysOne};
+ghost use Rattle.mailstore.specs.MetaTable.{AreVersions, version_row, meta_tree, SaysTwo};
 ghost use Rattle.mailstore.specs.Promises.{Asks};
 ghost use Rattle.sqlite.specs.State.{Survives};
 ghost use Rattle.mailstore.specs.Connection.{Makes, MakesTable};
@@ -32,7 +32,7 @@ pub fn add_version<S: Alter>(tx: &mut Transaction<'_, S>) -> Result<(), Error>
     ensures made { Makes (state S.Store tx.old.conn.now) (state S.Store tx.new.conn.now) result (added meta_tree version_row) }
     ensures survives { Survives (state S.Store tx.old.conn.now) (state S.Store tx.new.conn.now) (λ _. ⊥) }
 {
-    tx.execute("INSERT INTO meta (item, value) VALUES ('version', 1)", &[])?;
+    tx.execute("INSERT INTO meta (item, value) VALUES ('version', 2)", &[])?;
     Ok(())
 }
 
@@ -47,7 +47,7 @@ fn find_version<S: Alter>(conn: &mut Connection<S>) -> Result<Vec<Row>, Error>
     conn.query_all("SELECT value FROM meta WHERE item = ?1", params!["version"])
 }
 
-/// Whether the row of the version is there once, and says 1.
+/// Whether the row of the version is there once, and says 2.
 pub fn has_version<S: Alter>(conn: &mut Connection<S>) -> Result<bool, Error>
     requires { conn.old.in_transaction ≡ false }
     ensures ended { conn.new.in_transaction ≡ false }
@@ -55,23 +55,23 @@ pub fn has_version<S: Alter>(conn: &mut Connection<S>) -> Result<bool, Error>
     ensures asks { Asks (λ is. IsTrue is ↔ IsOurs (state S.Store conn.old).now) (state S.Store conn.old) (state S.Store conn.new) result }
 {
     let rows = find_version(conn)?;
-    says_version_1(&rows)
+    says_version_2(&rows)
 }
 
-/// Whether the first number of the row is 1.
-fn says_1(row: &Row) -> Result<bool, Error>
-    ensures { IfOk result (λ is. IsTrue is ↔ (column row.now 0 ≡ Int (pos 1))) }
+/// Whether the first number of the row is 2.
+fn says_2(row: &Row) -> Result<bool, Error>
+    ensures { IfOk result (λ is. IsTrue is ↔ (column row.now 0 ≡ Int (pos 2))) }
 {
     let number: i64 = row.get(0)?;
-    Ok(number == 1)
+    Ok(number == 2)
 }
 
-/// Whether there is one row, and it says 1.
-fn says_version_1(rows: &[Row]) -> Result<bool, Error>
-    ensures { IfOk result (λ is. IsTrue is ↔ SaysOne rows.now) }
+/// Whether there is one row, and it says 2.
+fn says_version_2(rows: &[Row]) -> Result<bool, Error>
+    ensures { IfOk result (λ is. IsTrue is ↔ SaysTwo rows.now) }
 {
     match rows {
-        [row] => says_1(row),
+        [row] => says_2(row),
         _ => Ok(false),
     }
 }

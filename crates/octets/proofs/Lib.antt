@@ -1,3 +1,4 @@
 pub mod AsciiLemmas
 pub mod DecimalLemmas
 pub mod Lists
+pub mod TrimLaws

@@ -5,6 +5,7 @@
 
 pub mod ascii;
 pub mod decimal;
+pub mod laws;
 pub mod list;
 pub mod string;
 

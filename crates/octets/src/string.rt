@@ -93,7 +93,7 @@ impl Octets {
         self.items.extend_from_slice(more)
     }
 
-    /// Makes room for so many octets more, so that appending them grows nothing.
+    /// Asks for room for that many octets more. The text stays as it was.
     pub fn reserve(&mut self, more: usize) -> Result<(), AllocError>
         ensures { self.new ≡ self.old }
     {

@@ -1,9 +1,12 @@
--- Reports by example: right ones, and what is near them.
-use Rattle.std.proofs.Common.{◌≡◌, refl, [], ◌∷◌, None}
+-- Reports and listings by example: right ones, and what is near them.
+use Rattle.std.proofs.Common.{◌≡◌, ℕ, List, refl, ap, get_or, [], ◌∷◌, Some, None, arith}
 use Rattle.std.specs.Prelude.{codes}
 use Rattle.sievesyntax.specs.Meaning.{Done, Failed}
-use Rattle.sievesyntax.specs.SoFar.{TooManyRedirects}
-use Rattle.reportlines.specs.Reports.{report_of}
+use Rattle.sievesyntax.specs.RunState.{TooManyRedirects}
+use Rattle.mailstore.specs.declared.queue.Kind.TheVariants.{Redirect, Reply}
+use Rattle.mailstore.specs.declared.report.VacationReport.TheVariants as vacation
+use Rattle.reportlines.specs.Reports.{delivery_report, report_of}
+use Rattle.reportlines.specs.Listings.{notice_line, notice_listing, queue_line, queue_listing}
 
 -- nothing done is told by `discard`, and mailboxes by a line each
 report-nothing : report_of (Done (record { filed = []; sent = []; reply = None })) ≡ codes "discard\n"
@@ -18,3 +21,45 @@ report-beside e = cc
 
 report-failed : report_of (Failed TooManyRedirects) ≡ codes "failed: more than 16 redirects\n"
 report-failed = refl
+
+-- a delivery tells of its folders, addresses, vacation reply and notice, in this order
+delivery-whole :
+    delivery_report (record { filed = codes "INBOX" ∷ []; sent = codes "c@example.com" ∷ []; vacation = vacation.Quiet 9; notice = Some (codes "script is not valid") })
+    ≡ codes "file INBOX\nsend c@example.com\nvacation quiet 9\nnotice script is not valid\n"
+unfolding Rattle.std.specs.Fmt.digits
+delivery-whole = refl
+
+delivery-nothing : delivery_report (record { filed = []; sent = []; vacation = vacation.None; notice = None }) ≡ codes "discard\n"
+delivery-nothing = refl
+
+-- a reply alone isn't `discard`
+delivery-reply : delivery_report (record { filed = []; sent = []; vacation = vacation.Sent; notice = None }) ≡ codes "discard\n" → ⊥
+delivery-reply e = cc
+
+-- a message on its way out, and a reply, whose sender is empty
+queue-redirect : queue_line (record { id = 1; kind = Redirect; sender = codes "bob@example.net"; target = codes "c@example.com"; message = codes "Subject: hi\r\n\r\nx\r\n" }) ≡ codes "1 redirect <bob@example.net> <c@example.com> 18"
+unfolding Rattle.std.specs.Fmt.digits
+queue-redirect = refl
+
+queue-reply : queue_line (record { id = 12; kind = Reply; sender = []; target = codes "bob@example.net"; message = codes "x" }) ≡ codes "12 reply <> <bob@example.net> 1"
+unfolding Rattle.std.specs.Fmt.digits
+queue-reply = refl
+
+-- the sender comes first
+distinct : (x y : ℕ) → x ≡ 97 → y ≡ 98 → x ≡ y → ⊥
+distinct x y a b same = omega arith
+
+queue-order : queue_line (record { id = 1; kind = Redirect; sender = codes "a"; target = codes "b"; message = [] }) ≡ codes "1 redirect <b> <a> 0" → ⊥
+unfolding Rattle.std.specs.Fmt.digits
+queue-order e = distinct 97 98 refl refl (ap (λ (l : List ℕ). get_or l 12 0) e)
+
+queue-none : queue_listing [] ≡ []
+queue-none = refl
+
+notice-five : notice_line (record { moment = 5; text = codes "vacation executed twice" }) ≡ codes "5 vacation executed twice"
+unfolding Rattle.std.specs.Fmt.digits
+notice-five = refl
+
+notice-two : notice_listing (record { moment = 5; text = codes "a" } ∷ record { moment = 6; text = codes "b" } ∷ []) ≡ codes "5 a\n6 b\n"
+unfolding Rattle.std.specs.Fmt.digits
+notice-two = refl

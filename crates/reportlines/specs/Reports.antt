@@ -1,11 +1,13 @@
--- What the program prints of an outcome or of a fault of the script.
-use Rattle.std.specs.Prelude.{ℕ, List, [], ◌∷◌, ◌++◌, codes, map, Bool, true, false, is_some}
+-- What the program prints of an outcome, of a delivery, or of a fault of the script.
+use Rattle.std.specs.Prelude.{ℕ, List, [], ◌∷◌, ◌++◌, codes, decimal, map, Bool, true, false, is_some, Option, Some, None}
 use Rattle.std.specs.List.{flat_map}
 use Rattle.addrparts.specs.declared.address.Addr.{Addr}
 use Rattle.addrparts.specs.Spelling.{spelling}
 use Rattle.sievesyntax.specs.Meaning.{Outcome, Done, Failed}
 use Rattle.mailstore.specs.declared.report.Report.{Report}
-use Rattle.mailengine.specs.Notices.{notice_of}
+use Rattle.mailstore.specs.declared.report.VacationReport.{VacationReport}
+use Rattle.mailstore.specs.declared.report.VacationReport.TheVariants as vacation
+use Rattle.deliverplan.specs.Delivered.{failure_text}
 
 -- a line with its end
 abbrev pub with_end : List ℕ → List ℕ
@@ -15,9 +17,9 @@ with_end line = line ++ 10 ∷ []
 abbrev pub file_line : List ℕ → List ℕ
 file_line mailbox = codes "file " ++ mailbox
 
--- the line of an address that the message is sent to
-abbrev pub send_line : Addr → List ℕ
-send_line target = codes "send " ++ spelling target
+-- the line of an address, as it is spelled, that the message goes on to
+abbrev pub send_line : List ℕ → List ℕ
+send_line target = codes "send " ++ target
 
 -- the line that tells of an answer to the sender
 abbrev pub reply_lines : Bool → List (List ℕ)
@@ -26,12 +28,12 @@ reply_lines false = []
 
 -- the lines on mailboxes, addresses and an answer, in this order
 abbrev pub lines_of : List (List ℕ) → List Addr → Bool → List (List ℕ)
-lines_of filed sent answers = map file_line filed ++ (map send_line sent ++ reply_lines answers)
+lines_of filed sent answers = map file_line filed ++ (map (λ target. send_line (spelling target)) sent ++ reply_lines answers)
 
 -- the lines on what is done; on a failure one line, which tells of it
 abbrev pub deed_lines : Outcome → List (List ℕ)
 deed_lines (Done deeds) = lines_of deeds.filed deeds.sent (is_some deeds.reply)
-deed_lines (Failed failure) = (codes "failed: " ++ notice_of failure) ∷ []
+deed_lines (Failed failure) = (codes "failed: " ++ failure_text failure) ∷ []
 
 -- `discard` stands where no other line does
 abbrev pub or_discard : List (List ℕ) → List (List ℕ)
@@ -42,6 +44,21 @@ or_discard (line ∷ more) = line ∷ more
 abbrev pub report_of : Outcome → List ℕ
 report_of outcome = flat_map with_end (or_discard (deed_lines outcome))
 
+-- the line on a vacation reply that joined the queue, or on the rule that forbade one
+abbrev pub vacation_lines : VacationReport → List (List ℕ)
+vacation_lines vacation.None = []
+vacation_lines vacation.Sent = codes "vacation sent" ∷ []
+vacation_lines (vacation.Quiet reason) = (codes "vacation quiet " ++ decimal reason) ∷ []
+
+-- the line of a notice that the user was left
+abbrev pub notice_lines : Option (List ℕ) → List (List ℕ)
+notice_lines None = []
+notice_lines (Some notice) = (codes "notice " ++ notice) ∷ []
+
+-- the lines on what a delivery did: its folders, addresses, vacation reply and notice, in this order
+abbrev pub delivery_lines : Report → List (List ℕ)
+delivery_lines report = map file_line report.filed ++ (map send_line report.sent ++ (vacation_lines report.vacation ++ notice_lines report.notice))
+
 -- the report on a delivery that was made
 abbrev pub delivery_report : Report → List ℕ
-delivery_report report = flat_map with_end (or_discard (map file_line report.filed))
+delivery_report report = flat_map with_end (or_discard (delivery_lines report))

@@ -1,6 +1,10 @@
-//! The report: what is printed of a script's outcome, a line for each thing that is done, or of a fault of the script.
+//! The report: what is printed of a script's outcome, a line for each thing that is done, of a fault of the script, and of
+//! a user's queue and notices, a line for each row.
 #![tactic(auto)]
 
+mod line;
+pub mod listing;
 pub mod report;
 
+pub use listing::{of_notices, of_queue};
 pub use report::{of_fault, of_outcome, of_report};

@@ -1,16 +1,16 @@
 -- Calls over a store: reads alone, and reads with one write behind them.
-use Rattle.std.proofs.Common.{◌≡◌, ◌⊎◌, ℕ, List, Option, Some, Ok, Err, Result, OnOk, OnErr, IsSome, IsTrue, refl, sym, ◌∙◌, subst, inl, arith}
+use Rattle.std.proofs.Common.{◌≡◌, Ok, Err, Result, OnOk, OnErr, IsTrue, refl, sym, ◌∙◌, subst, inl, inr, arith}
 use Rattle.sqlite_trees.specs.Tree.{Trees}
 use Rattle.sqlite.specs.State.{State, HasCleanDisk, Survives}
 use Rattle.sqlite.proofs.StateLemmas.{survives_then, survives_weaker}
 use Rattle.mailstore.specs.declared.refusal.Refusal.{Refusal}
 use Rattle.mailstore.specs.Account.{Accounts}
-use Rattle.mailstore.specs.Connection.{StaysSame}
+use Rattle.mailstore.specs.Connection.{StaysSame, IsSettled}
 use Rattle.mailstore.specs.Promises.{HasOurTables, Keeps, Turns, MayShow}
 use Rattle.mailstore.specs.Shows.{Presents}
 use Rattle.mailstore.proofs.ResultLemmas.{on_ok, on_err_any}
 use Rattle.mailstore.proofs.WriteLemmas.{clean_before}
-use Rattle.sessions.specs.Acts.{HasAccounts, CrashLeaves, Acts, Glances}
+use Rattle.sessions.specs.Acts.{HasAccounts, CrashLeaves, Acts, Glances, IsAnswered, Stays}
 
 -- ---- reads
 
@@ -37,19 +37,28 @@ read_shows a b r x is k clean accounts shown =
     let live = on_ok r x is (IsTrue b.is_open) (k.live clean) in
     (shown (k.shut clean live), live, accounts_stay a b (glanced a b r k) clean accounts shown live)
 
+-- nothing changed
+pub glance_stays : (a b : State) → Glances a b → HasCleanDisk b → HasOurTables a.now → Stays a b
+glance_stays a b k clean tables = record { same = k.same clean tables; crash = record { faults = k.crash.clean; alone = alone } }
+  where
+    alone : HasCleanDisk b → (db : Trees) → b.may_leave db → a.may_leave db
+    alone again db left = elim (k.crash.crash again db left) [ inl before ↦ before | inr none ↦ absurd (none tables) ]
+
 -- reads alone, with whatever answer
 pub acts_read : {Y : Type 0} (a b : State) (Turn MayTurn : Accounts → Accounts → Type 0) (q : Result Y Refusal) → Glances a b
     → (HasCleanDisk b → (accounts : Accounts) → HasAccounts a accounts → Turn accounts accounts) → Acts Turn MayTurn a b q
 acts_read a b Turn MayTurn q k turn = record {
   carries = λ clean accounts shown. (accounts, turn clean accounts shown, accounts_stay a b k clean accounts shown);
   same = λ clean tables. on_err_any q _ (k.same clean tables);
+  shut = k.shut;
   crash = survives_weaker a b _ (CrashLeaves MayTurn a) (λ clean db none accounts p. absurd (none (p.0, p.1))) k.crash;
+  durable = λ clean tables answered. inr (glance_stays a b k clean tables);
 }
 
 -- ---- reads, and then one write
 
 module _ {X Y E : Type 0} (a b c : State) (r : Result X E) (x : X) (is : r ≡ Ok x) (k : Keeps a b r) (Fit : Accounts → Type 0) (change : Accounts → Accounts)
-    (w : Result Y Refusal) (made_is : HasCleanDisk c → OnOk w (Turns Fit change b.now c.now)) (same_is : HasCleanDisk c → HasOurTables b.now → OnErr w (StaysSame b c))
+    (w : Result Y Refusal) (made_is : HasCleanDisk c → OnOk w (Turns Fit change b.now c.now)) (settled_is : HasCleanDisk c → OnOk w (IsSettled c)) (same_is : HasCleanDisk c → HasOurTables b.now → OnErr w (StaysSame b c))
     (crash_is : Survives b c (MayShow Fit change b)) (Turn MayTurn : Accounts → Accounts → Type 0) where
   -- what the tables show between the two
   mid_shows : HasCleanDisk c → (accounts : Accounts) → HasAccounts a accounts → Presents a.now accounts × IsTrue b.is_open × Presents b.now accounts
@@ -63,6 +72,9 @@ module _ {X Y E : Type 0} (a b c : State) (r : Result X E) (x : X) (is : r ≡ O
       let step = steps before accounts p in
       (change accounts, step.1, may accounts m.2 step.0)) k.crash crash_is
 
+  was_open : HasCleanDisk c → IsTrue a.is_open
+  was_open clean = let before = clean_before b c _ crash_is clean in k.shut before (on_ok r x is (IsTrue b.is_open) (k.live before))
+
   -- the write was made
   pub acts_made : {Z : Type 0} (y : Y) (z : Z) → w ≡ Ok y
       → (HasCleanDisk b → (accounts : Accounts) → Presents a.now accounts → Fit accounts × Turn accounts (change accounts) × MayTurn accounts (change accounts)) → Acts Turn MayTurn a c (Ok z)
@@ -72,13 +84,15 @@ module _ {X Y E : Type 0} (a b c : State) (r : Result X E) (x : X) (is : r ≡ O
         let step = steps (clean_before b c _ crash_is clean) accounts m.0 in
         (change accounts, step.1, λ is_open. on_ok w y was _ (made_is clean) accounts m.2 step.0);
     same = λ clean tables. tt;
+    shut = λ clean is_open. was_open clean;
     crash = crash_turned (λ clean accounts p. let step = steps clean accounts p in (step.0, step.2));
+    durable = λ clean tables answered. inl (on_ok w y was _ (settled_is clean));
   }
 
-  -- the write was refused
-  pub acts_undone : {Z : Type 0} (e : Refusal) (q : Result Z Refusal) → w ≡ Err e → ((accounts : Accounts) → Turn accounts accounts)
+  -- the write was refused, without a visible cause
+  pub acts_undone : {Z : Type 0} (e : Refusal) (q : Result Z Refusal) → w ≡ Err e → (IsAnswered q → ⊥) → ((accounts : Accounts) → Turn accounts accounts)
       → (HasCleanDisk b → (accounts : Accounts) → Presents a.now accounts → Fit accounts × MayTurn accounts (change accounts)) → Acts Turn MayTurn a c q
-  acts_undone e q was turn steps = record {
+  acts_undone e q was passing turn steps = record {
     carries = λ clean accounts shown.
         let m = mid_shows clean accounts shown in
         let undone = undone_is clean (m.2.0, m.2.1) in
@@ -89,7 +103,9 @@ module _ {X Y E : Type 0} (a b c : State) (r : Result X E) (x : X) (is : r ≡ O
         let one = k.same before tables in
         let two = undone_is clean (subst HasOurTables (sym (one.now_is mid)) tables) in
         on_err_any q _ (record { now_is = λ o. two.now_is o ∙ one.now_is mid; committed_is = λ o. two.committed_is o ∙ one.committed_is mid });
+    shut = λ clean is_open. was_open clean;
     crash = crash_turned steps;
+    durable = λ clean tables answered. absurd (passing answered);
   }
     where
       refused : (w : Result Y Refusal) → w ≡ Err e → (P : Type 0) → OnErr w P → P

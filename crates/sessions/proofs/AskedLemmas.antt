@@ -1,12 +1,10 @@
 -- Steps over a store, from what their commands come to.
-use Rattle.std.proofs.Common.{◌≡◌, ◌⊎◌, ℕ, Bool, true, false, not, ◌&&◌, List, ◌++◌, Option, Some, None, Ok, Err, Result, OnOk, OnErr, is_none, refl, sym, ap, ◌∙◌, subst, inl, inr}
+use Rattle.std.proofs.Common.{◌≡◌, ℕ, Bool, true, false, not, ◌&&◌, List, ◌++◌, Option, Some, None, Ok, Err, Result, OnOk, OnErr, is_none, refl, sym, ap, ◌∙◌, subst, inl, inr}
 use Rattle.std.proofs.lemmas.Bool.{false≢true}
 use Rattle.sqlite.specs.State.{State, HasCleanDisk}
 use Rattle.sqlite.proofs.StateLemmas.{survives_weaker}
 use Rattle.msproto.specs.declared.commands.Command.{Command}
 use Rattle.msproto.specs.declared.commands.Command.TheVariants.{Capability, Noop, Logout, Authenticate, Unauthenticate, HaveSpace, PutScript, CheckScript, ListScripts, SetActive, GetScript, DeleteScript, RenameScript, Response}
-use Rattle.msproto.specs.declared.items.Item.{Item}
-use Rattle.msproto.specs.declared.items.Item.TheVariants as item
 use Rattle.msproto.specs.declared.items.Reach.{Reach}
 use Rattle.msproto.specs.declared.items.Reach.TheVariants as reach
 use Rattle.msproto.specs.declared.replies.Reply.{Reply}
@@ -18,10 +16,10 @@ use Rattle.sessions.specs.declared.progress.Progress.{Progress}
 use Rattle.sessions.specs.declared.progress.Progress.TheVariants.{Done}
 use Rattle.sessions.specs.declared.turn.Sequel.TheVariants.{Stay}
 use Rattle.sessions.specs.declared.turn.Turn.{Turn}
-use Rattle.sessions.specs.Acts.{HasAccounts, CrashLeaves, Acts, Glances}
+use Rattle.sessions.specs.Acts.{HasAccounts, CrashLeaves, Acts, Glances, IsAnswered}
 use Rattle.sessions.specs.Clients.{Client, item_in, reach_in, past, without_first, is_item}
 use Rattle.sessions.specs.Orders.{ObeysUser, ObeyedTo, MayObey, StepsTo, MayStep, MayRefuse, Asked}
-use Rattle.sessions.specs.Steps.{IsStep, StepsOver, AsksFor, progress_of, is_free, asks_store, asks_memory, may_lack, may_fail, has_command}
+use Rattle.sessions.specs.Steps.{IsStep, StepsOver, AsksFor, progress_of, is_free, asks_store, asks_memory, may_lack, has_command}
 use Rattle.sessions.specs.Table.{needs_login, is_early, is_about_scripts}
 use Rattle.sessions.specs.Turns.{IsTurn, FitsLogin, followed, is_login, login_text, admitted_in}
 use Rattle.sessions.proofs.ActLemmas.{acts_read, no_glance}
@@ -86,11 +84,14 @@ asked_user c command late about none = go command about (subst (λ (o : Option (
 -- ---- calls with another answer
 
 pub acts_other : {X Y : Type 0} (a b : State) (T U M N : Accounts → Accounts → Type 0) (r : Result X Refusal) (q : Result Y Refusal) → ((accounts later : Accounts) → T accounts later → U accounts later)
-    → ((accounts later : Accounts) → M accounts later → N accounts later) → ((P : Type 0) → OnErr r P → OnErr q P) → Acts T M a b r → Acts U N a b q
-acts_other a b T U M N r q turn may err acts = record {
+    → ((accounts later : Accounts) → M accounts later → N accounts later) → ((P : Type 0) → OnErr r P → OnErr q P) → (IsAnswered q → IsAnswered r)
+    → Acts T M a b r → Acts U N a b q
+acts_other a b T U M N r q turn may err answered acts = record {
   carries = λ clean accounts shown. let it = acts.carries clean accounts shown in (it.0, turn accounts it.0 it.1, it.2);
   same = λ clean tables. err _ (acts.same clean tables);
+  shut = acts.shut;
   crash = survives_weaker a b (CrashLeaves M a) (CrashLeaves N a) (λ clean db left accounts p. let it = left accounts p in (it.0, may accounts it.0 it.1, it.2)) acts.crash;
+  durable = λ clean tables told. acts.durable clean tables (answered told);
 }
 
 -- ---- the steps
@@ -117,16 +118,17 @@ module _ (c : Client) (command : Command) (asked : Asked c command) where
     may_step : (accounts later : Accounts) → MayObey user command accounts later → MayStep c accounts later
     may_step accounts later o = (Done, spelled o.0, past asked.used c, obeyed_step o.0 accounts later o.1)
 
-    pub scripts_refused : (a b : State) (e f : Refusal) (before behind : List ℕ) → Acts (ObeyedTo user command (refused e) before behind) (MayObey user command) a b (refused e)
+    pub scripts_refused : (a b : State) (e f : Refusal) (before behind : List ℕ) → IsPassing f → Acts (ObeyedTo user command (refused e) before behind) (MayObey user command) a b (refused e)
         → Acts {X = Progress} (StepsTo c c (Err f) before behind) (MayStep c) a b (Err f)
-    scripts_refused a b e f before behind acts =
-        acts_other {Y = Progress} a b (ObeyedTo user command (refused e) before behind) (StepsTo c c (Err f) before behind) (MayObey user command) (MayStep c) (refused e) (Err f) (λ accounts later same. same) may_step (λ P h. h) acts
+    scripts_refused a b e f before behind passing acts =
+        acts_other {Y = Progress} a b (ObeyedTo user command (refused e) before behind) (StepsTo c c (Err f) before behind) (MayObey user command) (MayStep c) (refused e) (Err f) (λ accounts later same. same) may_step (λ P h. h)
+        (λ told. absurd (told passing)) acts
 
     pub scripts_answered : (a b : State) (d : Client) (before behind : List ℕ) → d ≡ followed Stay (without_first false (reach_in c) c) → Acts (ObeyedTo user command done before behind) (MayObey user command) a b done
         → Acts {X = Progress} (StepsTo c d (Ok Done) before behind) (MayStep c) a b (Ok Done)
     scripts_answered a b d before behind session acts =
         acts_other {Y = Progress} a b (ObeyedTo user command done before behind) (StepsTo c d (Ok Done) before behind) (MayObey user command) (MayStep c) done (Ok Done)
-        (λ accounts later o. (spelled o.0, o.1, subst (λ (k : Client). IsStep accounts c Done (spelled o.0) k later) (sym left) (obeyed_step o.0 accounts later o.2))) may_step (λ P h. tt) acts
+        (λ accounts later o. (spelled o.0, o.1, subst (λ (k : Client). IsStep accounts c Done (spelled o.0) k later) (sym left) (obeyed_step o.0 accounts later o.2))) may_step (λ P h. tt) (λ told. tt) acts
       where
         left : d ≡ past asked.used c
         left = session ∙ ap (λ (r : Reach). without_first false r c) first_reach

@@ -13,7 +13,7 @@ use Rattle.mailstore.specs.declared.refusal.Refusal.TheVariants.{NoUser}
 use Rattle.mailstore.specs.Account.{Account, Accounts, with_user}
 use Rattle.mailstore.specs.AccountTable.{profile_of}
 use Rattle.mailstore.specs.Cells.{contents}
-use Rattle.mailstore.specs.Promises.{HasUser, IsFree, OfUser, Keeps, Reads, ReadsProfile, WritesUser, WritesAccount}
+use Rattle.mailstore.specs.Promises.{HasUser, IsFree, OfUser, Reads, ReadsProfile, WritesUser, WritesAccount}
 use Rattle.mailstore.specs.Refusals.{IsPassing}
 use Rattle.mailstore.specs.Shows.{Presents}
 use Rattle.mailstore.proofs.KeepLemmas.{keeps_ok, keeps_refused, keeps_then, mid_shows}
@@ -21,7 +21,7 @@ use Rattle.mailstore.proofs.WriteLemmas.{clean_before}
 use Rattle.sessions.specs.declared.account.KeptScripts.{KeptScripts}
 use Rattle.sessions.specs.declared.decision.Change.{Change}
 use Rattle.sessions.specs.declared.decision.Decision.{Decision}
-use Rattle.sessions.specs.Acts.{HasAccounts, Acts}
+use Rattle.sessions.specs.Acts.{Acts}
 use Rattle.sessions.specs.Decisions.{AreScripts, Decides, change_made, change_made_if}
 use Rattle.sessions.specs.Orders.{ObeysUser, ObeyedTo, MayObey}
 use Rattle.sessions.specs.Replies.{is_ok, value_of}
@@ -143,10 +143,10 @@ module _ (user : List ℕ) (command : Command) (a b : State) (r : Result Decisio
 
     pub obeys_made : (before behind : List ℕ) → behind ≡ before ++ spelled d.reply → (y : Unit {0}) → w ≡ Ok y → Acts (ObeyedTo user command done before behind) (MayObey user command) a c done
     obeys_made before behind told y is =
-        acts_made a b c r d was reads.keeps (HasUser user) (λ all. with_user all user (change_made change)) w late.made late.same late.crash (ObeyedTo user command done before behind) (MayObey user command) y tt is
+        acts_made a b c r d was reads.keeps (HasUser user) (λ all. with_user all user (change_made change)) w late.made late.settled late.same late.crash (ObeyedTo user command done before behind) (MayObey user command) y tt is
         (λ clean accounts p. let f = fits clean accounts p in (f.0, (d.reply, told, f.1), (d.reply, f.1)))
 
-    pub obeys_undone : (before behind : List ℕ) (e : Refusal) → w ≡ Err e → Acts (ObeyedTo user command (refused e) before behind) (MayObey user command) a c (refused e)
-    obeys_undone before behind e is =
-        acts_undone a b c r d was reads.keeps (HasUser user) (λ all. with_user all user (change_made change)) w late.made late.same late.crash (ObeyedTo user command (refused e) before behind) (MayObey user command) e (refused e) is
-        (λ accounts. refl) (λ clean accounts p. let f = fits clean accounts p in (f.0, (d.reply, f.1)))
+    pub obeys_undone : (before behind : List ℕ) (e f : Refusal) → w ≡ Err e → IsPassing f → Acts (ObeyedTo user command (refused f) before behind) (MayObey user command) a c (refused f)
+    obeys_undone before behind e f is passing =
+        acts_undone a b c r d was reads.keeps (HasUser user) (λ all. with_user all user (change_made change)) w late.made late.settled late.same late.crash (ObeyedTo user command (refused f) before behind) (MayObey user command) e (refused f) is
+        (λ told. told passing) (λ accounts. refl) (λ clean accounts p. let f = fits clean accounts p in (f.0, (d.reply, f.1)))

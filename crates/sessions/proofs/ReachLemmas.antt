@@ -6,7 +6,8 @@ use Rattle.msproto.specs.Replies.{spelled}
 use Rattle.msproto.specs.Scanning.{EndsAt, is_reached}
 use Rattle.sessions.specs.Clients.{Client, reach_in, is_item, is_ready, without_first}
 use Rattle.sessions.specs.Counts.{SessionView, looked_in, scanned_past}
-use Rattle.sessions.specs.GivenUp.{text_by, client_by, text_given_up, client_given_up}
+use Rattle.sessions.specs.GivenUp.{text_by, client_by, text_given_up, client_given_up, progress_by, progress_given_up}
+use Rattle.sessions.specs.declared.progress.Progress.TheVariants as p
 use Rattle.sessions.specs.Replies.{try_later}
 
 -- an item of so many octets was reached
@@ -88,6 +89,15 @@ given_up_text c r live is = ap text_by is ∙ sym (ap (λ (b : Bool). cond b [] 
 
 pub given_up_client : (c : Client) (r : Reach) → c.closed ≡ false → r ≡ reach_in c → client_by r c ≡ client_given_up c
 given_up_client c r live is = ap (λ (q : Reach). client_by q c) is ∙ sym (ap (λ (b : Bool). cond b c (client_by (reach_in c) c)) live)
+
+pub given_up_progress : (c : Client) (r : Reach) → c.closed ≡ false → r ≡ reach_in c → progress_by r ≡ progress_given_up c
+given_up_progress c r live is = ap progress_by is ∙ sym (ap (λ (b : Bool). cond b p.Close (progress_by (reach_in c))) live)
+
+pub item_progress : (r : Reach) → (r ≡ Need → ⊥) → (r ≡ TooBig → ⊥) → p.Done ≡ progress_by r
+item_progress Need f g = absurd (f refl)
+item_progress (Command count) f g = refl
+item_progress (Bad count) f g = refl
+item_progress TooBig f g = absurd (g refl)
 
 pub item_text : (r : Reach) → (r ≡ Need → ⊥) → (r ≡ TooBig → ⊥) → spelled try_later ≡ text_by r
 item_text Need f g = absurd (f refl)

@@ -1,11 +1,12 @@
 -- What a call makes of the accounts that a store shows.
-use Rattle.std.specs.Prelude.{◌≡◌, Result, OnErr, IsTrue}
+use Rattle.std.specs.Prelude.{◌⊎◌, Result, Ok, Err, OnErr, IsTrue}
 use Rattle.sqlite_trees.specs.Tree.{Trees}
 use Rattle.sqlite.specs.State.{State, HasCleanDisk, Survives}
 use Rattle.mailstore.specs.declared.refusal.Refusal.{Refusal}
 use Rattle.mailstore.specs.Account.{Accounts}
-use Rattle.mailstore.specs.Connection.{StaysSame}
+use Rattle.mailstore.specs.Connection.{StaysSame, IsSettled, Leaves}
 use Rattle.mailstore.specs.Promises.{HasOurTables}
+use Rattle.mailstore.specs.Refusals.{IsPassing}
 use Rattle.mailstore.specs.Shows.{Presents, ShowsIn}
 
 -- the tables show the accounts; of a connection that a fault of the disk has shut nothing is said
@@ -20,11 +21,23 @@ Carries Turn old new = HasCleanDisk new → (accounts : Accounts) → HasAccount
 abbrev pub CrashLeaves : (Accounts → Accounts → Type 0) → State → Trees → Type 0
 CrashLeaves MayTurn s trees = (accounts : Accounts) → Presents s.now accounts → (later : Accounts) × MayTurn accounts later × ShowsIn trees later
 
--- a call over the store: how the accounts turn; after a refusal all is as before; a crash leaves what it left before, or the accounts turned as they may be
+-- the call answered, and by no refusal that may come without visible cause
+abbrev pub IsAnswered : {X : Type 0} → Result X Refusal → Type 0
+IsAnswered (Ok x) = Unit {0}
+IsAnswered (Err refusal) = IsPassing refusal → ⊥
+
+-- nothing changed: what the connection sees stays, and a crash leaves what it left before
+pub record Stays (old new : State) : Type 0 where
+  pub same : StaysSame old new
+  pub crash : Leaves old new
+
+-- a call over the store: how the accounts turn; after a refusal all is as before; a connection that a fault of the disk has shut stays shut; a crash leaves what it left before, or the accounts turned as they may be; and after an answer it leaves the accounts alone, as they then are, unless nothing changed
 pub record Acts {X : Type 0} (Turn MayTurn : Accounts → Accounts → Type 0) (old new : State) (result : Result X Refusal) : Type 0 where
   pub carries : Carries Turn old new
   pub same : HasCleanDisk new → HasOurTables old.now → OnErr result (StaysSame old new)
+  pub shut : HasCleanDisk new → IsTrue new.is_open → IsTrue old.is_open
   pub crash : Survives old new (CrashLeaves MayTurn old)
+  pub durable : HasCleanDisk new → HasOurTables old.now → IsAnswered result → IsSettled new ⊎ Stays old new
 
 -- reads, if any: what the connection sees stays, one that a fault of the disk has shut stays shut, and a crash leaves what it left before
 pub record Glances (old new : State) : Type 0 where

@@ -34,6 +34,10 @@ looked_in s = min (s.scanned + (scan_in s.client).looked) greatest
 abbrev pub scanned_past : SessionView → ℕ
 scanned_past s = cond (is_item (reach_in s.client)) (looked_in s) s.scanned
 
+-- the same where the session may have ended, which takes nothing off
+abbrev pub scanned_in_step : SessionView → ℕ
+scanned_in_step s = cond s.client.closed s.scanned (scanned_past s)
+
 -- the scan is that of the unread octets, and no more were looked at than came
 pub record IsScanned (pending : Bool) (scan : ScanView) (unread : List ℕ) (scanned given : ℕ) : Type 0 where
   pub until : scan ≡ fed_until (new_scan pending) unread

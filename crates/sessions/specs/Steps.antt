@@ -84,6 +84,11 @@ abbrev pub StepsFree : Client → Client → Stepped → List ℕ → List ℕ �
 StepsFree c d (Made progress) before later = StepsOver c d progress before later
 StepsFree c d (Asks command) before later = AsksFor c d command before later
 
+-- a fact for a step that was made
+abbrev pub IfMade : Stepped → Type 0 → Type 0
+IfMade (Made progress) P = P
+IfMade (Asks command) P = Unit {0}
+
 -- a fact for a step that wasn't made
 abbrev pub IfAsks : Stepped → Type 0 → Type 0
 IfAsks (Made progress) P = Unit {0}

@@ -55,7 +55,7 @@ pub(crate) fn obey<S: Alter>(
     };
     if let Err(refusal) = make(store, user, change) {
         shorten(alloc, out, before);
-        return Err(refusal);
+        return Err(in_a_step(refusal));
     }
     Ok(())
 }

@@ -2,15 +2,15 @@
 ghost use Rattle.std.specs.Prelude.{◌≡◌, ◌≤◌, ◌++◌, cond, true, false, None, Some, is_none, IfSome, IfNone, IfOk, IfErr, OnOk, OnErr};
 ghost use Rattle.msproto.specs.Replies.{spelled};
 ghost use Rattle.sessions.specs.Clients.{client_given, is_item, is_ready, item_in, reach_in, without_first, left};
-ghost use Rattle.sessions.specs.Counts.{new_session, given_more, looked_in, scanned_past};
-ghost use Rattle.sessions.specs.GivenUp.{text_given_up, client_given_up};
+ghost use Rattle.sessions.specs.Counts.{new_session, given_more, looked_in, scanned_past, scanned_in_step};
+ghost use Rattle.sessions.specs.GivenUp.{text_given_up, client_given_up, progress_given_up};
 ghost use Rattle.sessions.specs.Logins.{login_client};
 ghost use Rattle.sessions.specs.Replies as r;
 ghost use Rattle.sqlite.specs.Held.{state};
 ghost use Rattle.mailstore.specs.Refusals.{IsPassing};
 ghost use Rattle.sessions.specs.Acts.{Acts};
 ghost use Rattle.sessions.specs.Orders.{StepsTo, MayStep, MayRefuse, Asked};
-ghost use Rattle.sessions.specs.Steps.{progress_of, StepsOver, StepsFree, IfAsks, has_command, may_lack};
+ghost use Rattle.sessions.specs.Steps.{progress_of, StepsOver, StepsFree, IfAsks, IfMade, has_command, may_lack};
 ghost use Rattle.sessions.specs.Turns.{followed, is_login as is_login_of};
 
 use crate::account::{admitted, in_a_step, obey};
@@ -118,6 +118,41 @@ impl Session {
         !self.closed && !matches!(self.scan.state(), Reach::Need)
     }
 
+    /// What giving up would answer: nothing where no item is whole, or the session has ended. Takes no memory.
+    pub fn text_given_up(&self) -> &'static [u8]
+        ensures { result.now ≡ text_given_up self.now.client }
+    {
+        if self.closed {
+            return b"";
+        }
+        match self.scan.state() {
+            Reach::Need => b"",
+            Reach::TooBig => TOO_BIG,
+            _ => TRY_LATER,
+        }
+    }
+
+    /// How the session would go on behind giving up: it waits where no item is whole. Takes no memory.
+    pub fn progress_given_up(&self) -> Progress
+        ensures { result ≡ progress_given_up self.now.client }
+    {
+        if self.closed {
+            return Progress::Close;
+        }
+        match self.scan.state() {
+            Reach::Need => Progress::Need,
+            Reach::TooBig => Progress::Close,
+            _ => Progress::Done,
+        }
+    }
+
+    /// Whether the session has ended: nothing more is taken from the client. Takes no memory.
+    pub fn is_closed(&self) -> bool
+        ensures { result ≡ self.now.client.closed }
+    {
+        self.closed
+    }
+
     /// Drops the first item, which can't be answered now, and a pending challenge with it, and gives what to answer: where
     /// no item is whole, or the session has ended, nothing, and nothing changes. What is too big ends the session.
     /// Takes no memory, and time linear in the octets up to the end of the next item.
@@ -125,7 +160,7 @@ impl Session {
         ensures text { result.now ≡ text_given_up self.old.client }
         ensures client { self.new.client ≡ client_given_up self.old.client }
         ensures counts { self.new.given ≡ self.old.given }
-        ensures scans { self.new.scanned ≡ cond self.old.client.closed self.old.scanned (scanned_past self.old) }
+        ensures scans { self.new.scanned ≡ scanned_in_step self.old }
     {
         if self.closed {
             return b"";
@@ -150,7 +185,7 @@ impl Session {
         ensures step { IfOk result (λ told. IfSome told (λ progress. StepsOver self.old.client self.new.client progress out.old out.new)) }
         ensures command { IfOk result (λ told. is_none told ≡ has_command self.old.client) }
         ensures counts { OnOk result (self.new.given ≡ self.old.given) }
-        ensures scans { IfOk result (λ told. IfSome told (λ _. self.new.scanned ≡ cond self.old.client.closed self.old.scanned (scanned_past self.old))) }
+        ensures scans { IfOk result (λ told. IfSome told (λ _. self.new.scanned ≡ scanned_in_step self.old)) }
         ensures same { IfOk result (λ told. IfNone told ((self.new ≡ self.old) × (out.new ≡ out.old))) }
         ensures err { OnErr result ((self.new ≡ self.old) × (out.new ≡ out.old)) }
         ensures lacks { OnErr result (may_lack self.old.client ≡ true) }
@@ -180,6 +215,8 @@ impl Session {
     /// Lack of memory is the only error, where something is to be answered; nothing changes then.
     pub fn step_free(&mut self, out: &mut Octets) -> Result<Stepped, AllocError>
         ensures step { IfOk result (λ stepped. StepsFree self.old.client self.new.client stepped out.old out.new) }
+        ensures counts { OnOk result (self.new.given ≡ self.old.given) }
+        ensures scans { IfOk result (λ stepped. IfMade stepped (self.new.scanned ≡ scanned_in_step self.old)) }
         ensures asks { IfOk result (λ stepped. IfAsks stepped (self.new ≡ self.old)) }
         ensures err { OnErr result ((self.new ≡ self.old) × (out.new ≡ out.old)) }
         ensures lacks { OnErr result (may_lack self.old.client ≡ true) }
@@ -214,6 +251,8 @@ impl Session {
         out: &mut Octets,
     ) -> Result<Progress, Refusal>
         ensures acts { Acts (StepsTo self.old.client self.new.client result out.old out.new) (MayStep self.old.client) (state S.Store store.old) (state S.Store store.new) result }
+        ensures counts { OnOk result (self.new.given ≡ self.old.given) }
+        ensures scans { OnOk result (self.new.scanned ≡ scanned_in_step self.old) }
         ensures err { OnErr result ((self.new ≡ self.old) × (out.new ≡ out.old)) }
         ensures named { IfErr result (MayRefuse self.old.client) }
     {
@@ -232,6 +271,8 @@ impl Session {
     ) -> Result<Progress, Refusal>
         requires { Asked self.old.client command.now }
         ensures acts { Acts (StepsTo self.old.client self.new.client result out.old out.new) (MayStep self.old.client) (state S.Store store.old) (state S.Store store.new) result }
+        ensures counts { OnOk result (self.new.given ≡ self.old.given) }
+        ensures scans { OnOk result (self.new.scanned ≡ scanned_past self.old) }
         ensures err { OnErr result ((self.new ≡ self.old) × (out.new ≡ out.old)) }
         ensures named { IfErr result IsPassing }
     {
@@ -251,6 +292,8 @@ impl Session {
         requires asked { Asked self.old.client command.now }
         requires login { is_login_of command.now ≡ true }
         ensures acts { Acts (StepsTo self.old.client self.new.client result out.old out.new) (MayStep self.old.client) (state S.Store store.old) (state S.Store store.new) result }
+        ensures counts { OnOk result (self.new.given ≡ self.old.given) }
+        ensures scans { OnOk result (self.new.scanned ≡ scanned_past self.old) }
         ensures err { OnErr result ((self.new ≡ self.old) × (out.new ≡ out.old)) }
         ensures named { IfErr result IsPassing }
     {
@@ -270,6 +313,8 @@ impl Session {
         requires asked { Asked self.old.client command.now }
         requires other { is_login_of command.now ≡ false }
         ensures acts { Acts (StepsTo self.old.client self.new.client result out.old out.new) (MayStep self.old.client) (state S.Store store.old) (state S.Store store.new) result }
+        ensures counts { OnOk result (self.new.given ≡ self.old.given) }
+        ensures scans { OnOk result (self.new.scanned ≡ scanned_past self.old) }
         ensures err { OnErr result ((self.new ≡ self.old) × (out.new ≡ out.old)) }
         ensures named { IfErr result IsPassing }
     {
@@ -331,8 +376,8 @@ impl Session {
         self.given
     }
 
-    // How the session goes on.
-    fn progress(&self) -> Progress
+    /// How the session goes on: it waits for octets or a step, or it has ended. Takes no memory.
+    pub fn progress(&self) -> Progress
         ensures { result ≡ progress_of self.now.client }
     {
         if self.closed {

@@ -1,9 +1,9 @@
 -- Right examples and near misses of the definitions.
 use Rattle.std.proofs.Common.{◌≡◌, ℕ, zero, suc, ◌<◌, Bool, true, false, List, [], ◌∷◌, Option, Some, None, refl, ap, subst, arith}
 use Rattle.std.proofs.lemmas.Option.{same_Some}
-use Rattle.sievesyntax.specs.declared.action.Action.TheVariants.{Discard}
-use Rattle.sievesyntax.specs.declared.checks.Check.{Check}
-use Rattle.sievesyntax.specs.SoFar.{inbox}
+use Rattle.sievesyntax.specs.declared.tree.action.Action.TheVariants.{Discard}
+use Rattle.sievesyntax.specs.declared.tree.checks.Check.{Check}
+use Rattle.sievesyntax.specs.RunState.{inbox}
 use Rattle.sievesyntax.specs.Tree.{no, choose, branch, no_branches, Commands, command, no_commands}
 use Rattle.sievesyntax.specs.Tree as T
 use Rattle.sievesyntax.specs.Meaning.{Outcome, Done, Failed}

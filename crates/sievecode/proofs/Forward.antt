@@ -4,8 +4,8 @@ use Rattle.std.specs.Prelude.{slice_get}
 use Rattle.std.specs.Option.{option_map}
 use Rattle.std.proofs.lemmas.List.{length-drop, length-map, drop-drop}
 use Rattle.std.proofs.lemmas.Option.{same_Some, slice_get-map, slice_get_past}
-use Rattle.sievesyntax.specs.declared.checks.Check.{Check}
-use Rattle.sievesyntax.specs.SoFar.{SoFar, at_first, Flow, Going, Stopped, Failed, and_then, acted}
+use Rattle.sievesyntax.specs.declared.tree.checks.Check.{Check}
+use Rattle.sievesyntax.specs.RunState.{RunState, at_first, Flow, Going, Stopped, Failed, and_then, performed}
 use Rattle.sievesyntax.specs.Tree.{TestTree, yes, no, looks, not_of, all_of, any_of, Tests, no_tests, test, CommandTree, require, choose, stop, act, Branches, no_branches, branch, Commands, no_commands, command}
 use Rattle.sievecode.specs.Instructions.{Instruction, set, look, flip, jump, jump_if, jump_unless}
 use Rattle.sievecode.specs.Instructions as I
@@ -96,14 +96,14 @@ something_at back k instr rest e =
 
 -- what comes next does what the code does that is left there
 abbrev Goes : (Check → Bool) → List Instruction → ℕ → Run → Type 0
-Goes truth back n next = (place : ℕ) (flag : Bool) (so_far : SoFar) → length back ≤ place + n → next place flag so_far ≡ Some (run truth zero (drop place back) flag so_far)
+Goes truth back n next = (place : ℕ) (flag : Bool) (so_far : RunState) → length back ≤ place + n → next place flag so_far ≡ Some (run truth zero (drop place back) flag so_far)
 
 module _ (truth : Check → Bool) (back : List Instruction) (n : ℕ) (next : Run) (place : ℕ) (rest : List Instruction) (enough : length back ≤ place + suc n) (left : length back ≡ place + suc (length rest)) (behind : drop (suc place) back ≡ rest) where
-  goes_next : Goes truth back n next → (flag : Bool) (so_far : SoFar) → next (place + 1) flag so_far ≡ Some (run truth zero rest flag so_far)
+  goes_next : Goes truth back n next → (flag : Bool) (so_far : RunState) → next (place + 1) flag so_far ≡ Some (run truth zero rest flag so_far)
   goes_next goes flag so_far =
       goes (place + 1) flag so_far (omega arith) ∙ ap (λ k. Some (run truth zero (drop k back) flag so_far)) (add-one place) ∙ ap (λ code. Some (run truth zero code flag so_far)) behind
 
-  goes_on : Goes truth back n next → (until : ℕ) (flag : Bool) (so_far : SoFar) → until ≤ length rest → next (length back - until) flag so_far ≡ Some (run truth (length rest - until) rest flag so_far)
+  goes_on : Goes truth back n next → (until : ℕ) (flag : Bool) (so_far : RunState) → until ≤ length rest → next (length back - until) flag so_far ≡ Some (run truth (length rest - until) rest flag so_far)
   goes_on goes until flag so_far le =
       let there : length back - until ≡ suc place + (length rest - until) = omega arith in
       goes (length back - until) flag so_far (omega arith)
@@ -112,7 +112,7 @@ module _ (truth : Check → Bool) (back : List Instruction) (n : ℕ) (next : Ru
       ∙ ap Some (sym (past truth (length rest - until) rest flag so_far))
 
   -- one turn
-  turn_goes : Goes truth back n next → (instr : Instruction) → IsWithin (length rest) instr → (flag : Bool) (so_far : SoFar) → turn truth next (forward (length back) instr) place flag so_far ≡ Some (run truth zero (instr ∷ rest) flag so_far)
+  turn_goes : Goes truth back n next → (instr : Instruction) → IsWithin (length rest) instr → (flag : Bool) (so_far : RunState) → turn truth next (forward (length back) instr) place flag so_far ≡ Some (run truth zero (instr ∷ rest) flag so_far)
   turn_goes goes (set value) within flag so_far = goes_next goes value so_far
   turn_goes goes (look check) within flag so_far = goes_next goes (truth check) so_far
   turn_goes goes flip within flag so_far = goes_next goes (not flag) so_far
@@ -121,7 +121,7 @@ module _ (truth : Check → Bool) (back : List Instruction) (n : ℕ) (next : Ru
   turn_goes goes (jump_if until) within false so_far = goes_next goes false so_far
   turn_goes goes (jump_unless until) within true so_far = goes_next goes true so_far
   turn_goes goes (jump_unless until) within false so_far = goes_on goes until false so_far within
-  turn_goes goes (I.act action) within flag so_far = acts (acted action so_far)
+  turn_goes goes (I.act action) within flag so_far = acts (performed action so_far)
     where
       acts : (flow : Flow) → after_action flow (next (place + 1) flag) ≡ Some (and_then flow (run truth zero rest flag))
       acts (Going so_far) = goes_next goes flag so_far
@@ -130,7 +130,7 @@ module _ (truth : Check → Bool) (back : List Instruction) (n : ℕ) (next : Ru
   turn_goes goes I.stop within flag so_far = refl
 
 -- from each place it does what the code does that is left there
-follows : (truth : Check → Bool) (back : List Instruction) → AreWithin back → (n place : ℕ) (flag : Bool) (so_far : SoFar) (rest : List Instruction) → drop place back ≡ rest → length back ≤ place + n → jumps_from truth (turned back) n place flag so_far ≡ Some (run truth zero rest flag so_far)
+follows : (truth : Check → Bool) (back : List Instruction) → AreWithin back → (n place : ℕ) (flag : Bool) (so_far : RunState) (rest : List Instruction) → drop place back ≡ rest → length back ≤ place + n → jumps_from truth (turned back) n place flag so_far ≡ Some (run truth zero rest flag so_far)
 follows truth back within zero place flag so_far [] e enough =
     ap (λ o. at_place o (λ instr. None) so_far) (nothing_at back place e)
 follows truth back within zero place flag so_far (instr ∷ rest) e enough =

@@ -1,9 +1,9 @@
 -- Code is written from the last test, branch or command to the first.
 use Rattle.std.proofs.Common.{◌≡◌, ℕ, List, [], ◌∷◌, ◌++◌, length, reverse, refl, sym, ap, ◌∙◌, rules}
 use Rattle.std.proofs.lemmas.List.{length-reverse, length-map}
-use Rattle.sievesyntax.specs.declared.tree.Test.{Test}
-use Rattle.sievesyntax.specs.declared.tree.Branch.{Branch}
-use Rattle.sievesyntax.specs.declared.tree.Command.{Command, the_lemmas}
+use Rattle.sievesyntax.specs.declared.tree.test.Test.{Test}
+use Rattle.sievesyntax.specs.declared.tree.command.Branch.{Branch}
+use Rattle.sievesyntax.specs.declared.tree.command.Command.{Command, the_lemmas}
 use Rattle.sievesyntax.specs.Tree.{TestTree, Commands}
 use Rattle.sievesyntax.specs.View.{test_view, tests_view, command_view, commands_view, branch_view, branches_view}
 use Rattle.sievecode.specs.declared.instr.Instr.{Instr}

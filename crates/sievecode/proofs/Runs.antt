@@ -1,8 +1,8 @@
 -- Code that is read from its front, with targets counted from the end, does what the tree does.
 use Rattle.std.proofs.Common.{◌≡◌, ℕ, zero, suc, ◌-◌, ◌≤◌, Bool, true, false, not, ◌&&◌, ◌||◌, cond, List, [], ◌∷◌, ◌++◌, length, drop, refl, sym, ap, ◌∙◌, arith, append_assoc, length-append}
 use Rattle.std.proofs.lemmas.List.{drop_at}
-use Rattle.sievesyntax.specs.declared.checks.Check.{Check}
-use Rattle.sievesyntax.specs.SoFar.{SoFar, Flow, Going, Stopped, Failed, and_then, acted}
+use Rattle.sievesyntax.specs.declared.tree.checks.Check.{Check}
+use Rattle.sievesyntax.specs.RunState.{RunState, Flow, Going, Stopped, Failed, and_then, performed}
 use Rattle.sievesyntax.specs.Tree.{TestTree, yes, no, looks, not_of, all_of, any_of, Tests, no_tests, test, CommandTree, require, choose, stop, act, Branches, no_branches, branch, Commands, no_commands, command}
 use Rattle.sievesyntax.specs.Meaning.{holds, all_hold, some_holds, does, chooses, does_all}
 use Rattle.sievecode.specs.Instructions.{Instruction, set, look, flip, jump, jump_if, jump_unless}
@@ -10,7 +10,7 @@ use Rattle.sievecode.specs.Instructions as I
 use Rattle.sievecode.specs.Layout.{test_code, all_code, any_code, command_code, branches_code, commands_code}
 
 -- what code does after it has passed over so many instructions
-abbrev pub run : (Check → Bool) → ℕ → List Instruction → Bool → SoFar → Flow
+abbrev pub run : (Check → Bool) → ℕ → List Instruction → Bool → RunState → Flow
 run truth k [] flag so_far = Going so_far
 run truth (suc k) (instr ∷ code) flag so_far = run truth k code flag so_far
 run truth zero (set value ∷ code) flag so_far = run truth zero code value so_far
@@ -19,10 +19,10 @@ run truth zero (flip ∷ code) flag so_far = run truth zero code (not flag) so_f
 run truth zero (jump left ∷ code) flag so_far = run truth (length code - left) code flag so_far
 run truth zero (jump_if left ∷ code) flag so_far = run truth (cond flag (length code - left) zero) code flag so_far
 run truth zero (jump_unless left ∷ code) flag so_far = run truth (cond flag zero (length code - left)) code flag so_far
-run truth zero (I.act action ∷ code) flag so_far = and_then (acted action so_far) (run truth zero code flag)
+run truth zero (I.act action ∷ code) flag so_far = and_then (performed action so_far) (run truth zero code flag)
 run truth zero (I.stop ∷ code) flag so_far = Stopped so_far
 
-pub past : (truth : Check → Bool) (k : ℕ) (code : List Instruction) (flag : Bool) (so_far : SoFar) → run truth k code flag so_far ≡ run truth zero (drop k code) flag so_far
+pub past : (truth : Check → Bool) (k : ℕ) (code : List Instruction) (flag : Bool) (so_far : RunState) → run truth k code flag so_far ≡ run truth zero (drop k code) flag so_far
 past truth zero code flag so_far = refl
 past truth (suc k) [] flag so_far = refl
 past truth (suc k) (instr ∷ code) flag so_far = past truth k code flag so_far
@@ -44,7 +44,7 @@ ends_through code middle rest a b = record { front = a.front ++ b.front; is = a.
 pub ends_length : (code rest : List Instruction) → Ends code rest → length rest ≤ length code
 ends_length code rest e = omega (arith, ap length e.is, length-append e.front rest)
 
-skips : (truth : Check → Bool) (code rest : List Instruction) → Ends code rest → (flag : Bool) (so_far : SoFar) → run truth (length code - length rest) code flag so_far ≡ run truth zero rest flag so_far
+skips : (truth : Check → Bool) (code rest : List Instruction) → Ends code rest → (flag : Bool) (so_far : RunState) → run truth (length code - length rest) code flag so_far ≡ run truth zero rest flag so_far
 skips truth code rest e flag so_far =
     let n = length code - length rest in
     let front : length e.front ≡ n = omega (arith, ap length e.is, length-append e.front rest) in
@@ -95,7 +95,7 @@ mutual
 
 -- the code of a test sets the flag to whether the test holds
 mutual
-  pub test_runs : (truth : Check → Bool) (tree : TestTree) (rest : List Instruction) (flag : Bool) (so_far : SoFar) → run truth zero (test_code tree rest) flag so_far ≡ run truth zero rest (holds truth tree) so_far
+  pub test_runs : (truth : Check → Bool) (tree : TestTree) (rest : List Instruction) (flag : Bool) (so_far : RunState) → run truth zero (test_code tree rest) flag so_far ≡ run truth zero rest (holds truth tree) so_far
   test_runs truth yes rest flag so_far = refl
   test_runs truth no rest flag so_far = refl
   test_runs truth (looks check) rest flag so_far = refl
@@ -103,7 +103,7 @@ mutual
   test_runs truth (all_of inner) rest flag so_far = all_runs truth inner rest flag so_far
   test_runs truth (any_of inner) rest flag so_far = any_runs truth inner rest flag so_far
 
-  all_runs : (truth : Check → Bool) (tests : Tests) (rest : List Instruction) (flag : Bool) (so_far : SoFar) → run truth zero (all_code tests (length rest) (set true ∷ rest)) flag so_far ≡ run truth zero rest (all_hold truth tests) so_far
+  all_runs : (truth : Check → Bool) (tests : Tests) (rest : List Instruction) (flag : Bool) (so_far : RunState) → run truth zero (all_code tests (length rest) (set true ∷ rest)) flag so_far ≡ run truth zero rest (all_hold truth tests) so_far
   all_runs truth no_tests rest flag so_far = refl
   all_runs truth (test first more) rest flag so_far =
       let after = all_code more (length rest) (set true ∷ rest) in
@@ -114,7 +114,7 @@ mutual
         | false ↦ skips truth after rest ends false so_far
       ])
 
-  any_runs : (truth : Check → Bool) (tests : Tests) (rest : List Instruction) (flag : Bool) (so_far : SoFar) → run truth zero (any_code tests (length rest) (set false ∷ rest)) flag so_far ≡ run truth zero rest (some_holds truth tests) so_far
+  any_runs : (truth : Check → Bool) (tests : Tests) (rest : List Instruction) (flag : Bool) (so_far : RunState) → run truth zero (any_code tests (length rest) (set false ∷ rest)) flag so_far ≡ run truth zero rest (some_holds truth tests) so_far
   any_runs truth no_tests rest flag so_far = refl
   any_runs truth (test first more) rest flag so_far =
       let after = any_code more (length rest) (set false ∷ rest) in
@@ -130,26 +130,26 @@ abbrev Comes : (Check → Bool) → List Instruction → Flow → Flow → Type 
 Comes truth rest effect whole = (flag : Bool) × (whole ≡ and_then effect (run truth zero rest flag))
 
 -- one effect after another
-comes_on : (truth : Check → Bool) (middle rest : List Instruction) (effect : Flow) (next : SoFar → Flow) (whole : Flow) → Comes truth middle effect whole → ((flag : Bool) (so_far : SoFar) → Comes truth rest (next so_far) (run truth zero middle flag so_far)) → Comes truth rest (and_then effect next) whole
+comes_on : (truth : Check → Bool) (middle rest : List Instruction) (effect : Flow) (next : RunState → Flow) (whole : Flow) → Comes truth middle effect whole → ((flag : Bool) (so_far : RunState) → Comes truth rest (next so_far) (run truth zero middle flag so_far)) → Comes truth rest (and_then effect next) whole
 comes_on truth middle rest (Going so_far) next whole a b = let c = b a.0 so_far in (c.0, a.1 ∙ c.1)
 comes_on truth middle rest (Stopped so_far) next whole a b = (false, a.1)
 comes_on truth middle rest (Failed failure) next whole a b = (false, a.1)
 
 -- code that goes on elsewhere
-comes_to : (truth : Check → Bool) (middle rest : List Instruction) (effect whole : Flow) → ((flag : Bool) (so_far : SoFar) → run truth zero middle flag so_far ≡ run truth zero rest flag so_far) → Comes truth middle effect whole → Comes truth rest effect whole
+comes_to : (truth : Check → Bool) (middle rest : List Instruction) (effect whole : Flow) → ((flag : Bool) (so_far : RunState) → run truth zero middle flag so_far ≡ run truth zero rest flag so_far) → Comes truth middle effect whole → Comes truth rest effect whole
 comes_to truth middle rest (Going so_far) whole same a = (a.0, a.1 ∙ same a.0 so_far)
 comes_to truth middle rest (Stopped so_far) whole same a = (false, a.1)
 comes_to truth middle rest (Failed failure) whole same a = (false, a.1)
 
 -- the code of commands does what they do
 mutual
-  pub command_runs : (truth : Check → Bool) (tree : CommandTree) (rest : List Instruction) (flag : Bool) (so_far : SoFar) → Comes truth rest (does truth tree so_far) (run truth zero (command_code tree rest) flag so_far)
+  pub command_runs : (truth : Check → Bool) (tree : CommandTree) (rest : List Instruction) (flag : Bool) (so_far : RunState) → Comes truth rest (does truth tree so_far) (run truth zero (command_code tree rest) flag so_far)
   command_runs truth (require names) rest flag so_far = (flag, refl)
   command_runs truth (choose branches) rest flag so_far = branches_run truth branches rest flag so_far
   command_runs truth stop rest flag so_far = (flag, refl)
   command_runs truth (act action) rest flag so_far = (flag, refl)
 
-  branches_run : (truth : Check → Bool) (branches : Branches) (rest : List Instruction) (flag : Bool) (so_far : SoFar) → Comes truth rest (chooses truth branches so_far) (run truth zero (branches_code branches (length rest) rest) flag so_far)
+  branches_run : (truth : Check → Bool) (branches : Branches) (rest : List Instruction) (flag : Bool) (so_far : RunState) → Comes truth rest (chooses truth branches so_far) (run truth zero (branches_code branches (length rest) rest) flag so_far)
   branches_run truth no_branches rest flag so_far = (flag, refl)
   branches_run truth (branch condition block more) rest flag so_far =
       let after = branches_code more (length rest) rest in
@@ -165,13 +165,13 @@ mutual
       ] in
       (chosen.0, tested ∙ chosen.1)
 
-  pub commands_run : (truth : Check → Bool) (commands : Commands) (rest : List Instruction) (flag : Bool) (so_far : SoFar) → Comes truth rest (does_all truth commands so_far) (run truth zero (commands_code commands rest) flag so_far)
+  pub commands_run : (truth : Check → Bool) (commands : Commands) (rest : List Instruction) (flag : Bool) (so_far : RunState) → Comes truth rest (does_all truth commands so_far) (run truth zero (commands_code commands rest) flag so_far)
   commands_run truth no_commands rest flag so_far = (flag, refl)
   commands_run truth (command first more) rest flag so_far =
       comes_on truth (commands_code more rest) rest (does truth first so_far) (does_all truth more) _ (command_runs truth first (commands_code more rest) flag so_far) (λ flag so_far. commands_run truth more rest flag so_far)
 
 -- a whole script
-pub whole_runs : (truth : Check → Bool) (commands : Commands) (so_far : SoFar) → run truth zero (commands_code commands []) false so_far ≡ does_all truth commands so_far
+pub whole_runs : (truth : Check → Bool) (commands : Commands) (so_far : RunState) → run truth zero (commands_code commands []) false so_far ≡ does_all truth commands so_far
 whole_runs truth commands so_far = let run = commands_run truth commands [] false so_far in run.1 ∙ nothing_more (does_all truth commands so_far)
   where
     nothing_more : (flow : Flow) → and_then flow Going ≡ flow

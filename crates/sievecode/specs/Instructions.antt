@@ -1,7 +1,7 @@
 -- Instructions, as contracts see them.
 use Rattle.std.specs.Prelude.{ℕ, Bool, List, map, reverse}
-use Rattle.sievesyntax.specs.declared.action.Action.{Action}
-use Rattle.sievesyntax.specs.declared.checks.Check.{Check}
+use Rattle.sievesyntax.specs.declared.tree.action.Action.{Action}
+use Rattle.sievesyntax.specs.declared.tree.checks.Check.{Check}
 use Rattle.sievecode.specs.declared.instr.Instr.{Instr}
 use Rattle.sievecode.specs.declared.instr.Instr.TheVariants.{Set, Look, Flip, Jump, JumpIf, JumpUnless, Act, Stop}
 

@@ -1,17 +1,17 @@
 -- What flat code does, over any truth of the tests that look at the message.
 use Rattle.std.specs.Prelude.{◌≡◌, ℕ, zero, suc, ◌+◌, ◌<◌, ◌≤◌, Bool, false, not, cond, List, length, Option, Some, None, slice_get}
-use Rattle.sievesyntax.specs.declared.checks.Check.{Check}
-use Rattle.sievesyntax.specs.SoFar.{SoFar, at_first, Flow, Going, Stopped, Failed, acted}
+use Rattle.sievesyntax.specs.declared.tree.checks.Check.{Check}
+use Rattle.sievesyntax.specs.RunState.{RunState, at_first, Flow, Going, Stopped, Failed, performed}
 use Rattle.sievesyntax.specs.Tree.{Commands}
 use Rattle.sievesyntax.specs.Meaning.{Outcome, ended, outcome}
 use Rattle.sievecode.specs.Instructions.{Instruction, set, look, flip, jump, jump_if, jump_unless, act, stop}
 
 -- how a run stands that is over, from a place, a flag and what was done so far; none where it is still going
 abbrev pub Run : Type 0
-Run = ℕ → Bool → SoFar → Option Flow
+Run = ℕ → Bool → RunState → Option Flow
 
 -- a run goes on after an action that didn't fail
-abbrev pub after_action : Flow → (SoFar → Option Flow) → Option Flow
+abbrev pub after_action : Flow → (RunState → Option Flow) → Option Flow
 after_action (Going so_far) next = next so_far
 after_action (Stopped so_far) next = Some (Stopped so_far)
 after_action (Failed failure) next = Some (Failed failure)
@@ -24,11 +24,11 @@ turn truth next flip place flag so_far = next (place + 1) (not flag) so_far
 turn truth next (jump target) place flag so_far = next target flag so_far
 turn truth next (jump_if target) place flag so_far = next (cond flag target (place + 1)) flag so_far
 turn truth next (jump_unless target) place flag so_far = next (cond flag (place + 1) target) flag so_far
-turn truth next (act action) place flag so_far = after_action (acted action so_far) (next (place + 1) flag)
+turn truth next (act action) place flag so_far = after_action (performed action so_far) (next (place + 1) flag)
 turn truth next stop place flag so_far = Some (Stopped so_far)
 
 -- at the end of the code a run is over, without a turn
-abbrev pub at_place : Option Instruction → (Instruction → Option Flow) → SoFar → Option Flow
+abbrev pub at_place : Option Instruction → (Instruction → Option Flow) → RunState → Option Flow
 at_place None go so_far = Some (Going so_far)
 at_place (Some instr) go so_far = go instr
 

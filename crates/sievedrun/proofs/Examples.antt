@@ -1,10 +1,16 @@
--- Framing by example: right ones, and what is near them.
+-- Framing and rounds of a session by example: right ones, and what is near them.
 use Prim.Native.Nat.{zero}
-use Rattle.std.proofs.Common.{true, false, suc, ◌<◌, get_or, refl, ◌≡◌, ◌≢◌, ℕ, List, [], ◌∷◌, ◌++◌, Option, Some, None, arith}
+use Rattle.std.proofs.Common.{true, false, inl, inr, lit≤, suc, ◌<◌, get_or, refl, ◌≡◌, ◌≢◌, ℕ, List, [], ◌∷◌, ◌++◌, Option, Some, None, arith}
 use Rattle.std.specs.Prelude.{codes, length}
 use Rattle.octets.specs.Ascii.{is_digit}
 use Rattle.octets.specs.Decimal.{Writes, number_of}
+use Rattle.msproto.specs.Machine.{rows as machine_rows}
+use Rattle.mailstore.specs.Account.{no_accounts}
+use Rattle.sessions.specs.declared.progress.Progress.TheVariants.{Done}
+use Rattle.sessions.specs.Clients.{Client, new_client}
+use Rattle.sessions.specs.Replies.{done}
 use Rattle.sievedrun.specs.Framing.{IsFramed}
+use Rattle.sievedrun.specs.Serving.{Round, Hears, Steps, GivesUp, Leads, came_in, said_in}
 
 five-digits : (k d : ℕ) → k < 1 → is_digit (get_or (codes "5") k d) ≡ true
 five-digits zero d k<1 = refl
@@ -31,3 +37,49 @@ longer (d ∷ x ∷ more) w e = let feed : x ≡ 10 = cc in not_feed x feed (w.d
 
 framed-longer : IsFramed (codes "6\nkeep;") (codes "keep;") [] → ⊥
 framed-longer h = longer h.digits h.written h.spelled
+
+-- ---- rounds of a session
+
+abbrev crlf : List ℕ
+crlf = 13 ∷ 10 ∷ []
+
+-- a new session to which these octets came
+abbrev after : List ℕ → Client
+after octets = record new_client { unread = octets }
+
+abbrev hears : List ℕ → Client → Round
+hears octets c = record { came = octets; said = []; accounts = no_accounts; client = c }
+
+-- `NOOP` in two pieces: both are heard, and then it is answered
+abbrev noop_rounds : List Round
+noop_rounds =
+    hears (codes "NO") (after (codes "NO")) ∷ hears (codes "OP" ++ crlf) (after (codes "NOOP" ++ crlf)) ∷ record { came = []; said = codes "OK \"Done.\"" ++ crlf; accounts = no_accounts; client = new_client } ∷ []
+
+noop : Leads no_accounts new_client noop_rounds no_accounts new_client
+unfolding machine_rows
+noop = (
+  inl (record { waits = refl; short = lit≤ tt; silent = refl; joins = refl; same = refl }),
+  (
+    inl (record { waits = refl; short = lit≤ tt; silent = refl; joins = refl; same = refl }),
+    (inr (inl (record { ready = refl; none = refl; progress = Done; step = record { reply = done; replies = refl; spelled = refl; session = refl; goes_on = refl; changed = refl } })), (refl, refl)),
+  ),
+)
+
+noop_came : came_in noop_rounds ≡ codes "NOOP" ++ crlf
+noop_came = refl
+
+noop_said : said_in noop_rounds ≡ codes "OK \"Done.\"" ++ crlf
+noop_said = refl
+
+-- it may be given up; but nothing more is heard while it waits, and nothing is answered that isn't whole
+noop_given_up : GivesUp no_accounts (after (codes "NOOP" ++ crlf)) (record { came = []; said = codes "NO (TRYLATER) \"Try later.\"" ++ crlf; accounts = no_accounts; client = new_client })
+unfolding machine_rows
+noop_given_up = record { ready = refl; none = refl; told = refl; drops = refl; same = refl }
+
+noop_late : (r : Round) → Hears no_accounts (after (codes "NOOP" ++ crlf)) r → ⊥
+unfolding machine_rows
+noop_late r h = let waits : true ≡ false = h.waits in cc
+
+half_answered : (r : Round) → Steps no_accounts (after (codes "NOOP")) r → ⊥
+unfolding machine_rows
+half_answered r s = let ready : false ≡ true = s.ready in cc

@@ -6,19 +6,25 @@ use Rattle.sqlite.specs.State.{State, HasCleanDisk}
 use Rattle.mailstore.specs.Account.{Accounts, no_accounts}
 use Rattle.mailstore.specs.Schema.{no_schema, mail_schema}
 use Rattle.mailstore.specs.Shows.{Presents}
-use Rattle.mailstore.specs.Promises.{Keeps}
+use Rattle.mailstore.specs.Connection.{StaysSame}
+use Rattle.mailstore.specs.Promises.{HasOurTables, Keeps}
 use Rattle.mailstore.specs.Refusals.{IsPassing}
 use Rattle.mailstore.specs.declared.refusal.Refusal.{Refusal}
 use Rattle.mailengine.specs.declared.event.Event.{Event}
-use Rattle.mailengine.specs.declared.event.Event.TheVariants.{Deliver, AddUser, Whole}
+use Rattle.mailengine.specs.declared.event.Event.TheVariants.{Deliver, AddUser, TakeOut}
 use Rattle.mailengine.specs.declared.answer.Answer.{Answer}
-use Rattle.mailengine.specs.declared.answer.Answer.TheVariants.{Refused}
-use Rattle.mailengine.specs.World.{World, Next, after}
-use Rattle.mailengine.specs.Stands.{IsEvent}
+use Rattle.mailengine.specs.declared.answer.Answer.TheVariants.{Delivered, Added, Taken}
+use Rattle.mailengine.specs.AccountEvents.{Delivery, Addition, Taking}
+use Rattle.mailengine.specs.Hosts.{TurnsBy, MayRefuseDelivery, MayRefuseAddition}
+use Rattle.mailengine.specs.World.{Next}
+use Rattle.sessions.specs.Acts.{Carries}
+use Rattle.sieveexec.specs.declared.envelope.Envelope.{Envelope}
+use Rattle.mailstore.specs.declared.queue.Outgoing.{Outgoing}
+use Rattle.mailstore.specs.declared.report.Report.{Report}
 use Rattle.sievedrun.specs.declared.fault.Fault.{Fault}
 use Rattle.sievedrun.specs.declared.fault.Fault.TheVariants.{Stream}
 use Rattle.sievedrun.specs.Faults.{status_of, fault_of, IsFailure}
-use Rattle.sievedrun.specs.Promise.{status_after, Brings, MayFollow, ShowsAfter, Leaves, LeavesAll, LeavesAfter, LeavesNew, LeavesSound}
+use Rattle.sievedrun.specs.Promise.{status_after, Brings, Takes, MayFollow, world_of, ShowsAfter, Leaves, LeavesAll, LeavesAfter, LeavesNew, LeavesSound}
 
 -- what was left alone
 pub leaves_same : (Changed : Accounts → Database → Type 0) (Made : Database → Type 0) (old new : Database) → new ≡ old → Leaves Changed Made old new
@@ -50,11 +56,22 @@ leaves_new held seen new made blank back = record {
   none = λ _. inr (subst (λ db. Presents db no_accounts) (sym back) made);
 }
 
--- a refused event changes nothing
-pub refused_world : (w : World) (event : Event) (refusal : Refusal) → after w event (Refused refusal) ≡ w
-refused_world w (Deliver user envelope message moment) refusal = refl
-refused_world w (AddUser name address salt password) refusal = refl
-refused_world w (Whole user bytes) refusal = refl
+-- a delivery that was made is the machine's
+pub delivered_next : (user : List ℕ) (envelope : Envelope) (message : List ℕ) (moment : ℕ) (report : Report) (accounts later : Accounts)
+    → TurnsBy (λ all. Delivery all user envelope message moment) (MayRefuseDelivery envelope message moment) (Delivered report) accounts later → Next (world_of accounts) (Deliver user envelope message moment) (Delivered report) (world_of later)
+delivered_next user envelope message moment report accounts later (inl row) = inl (later, row, refl)
+delivered_next user envelope message moment report accounts later (inr refused) = absurd (let no = refused.2 in cc)
+
+-- and so is a new user
+pub added_next : (name address salt password : List ℕ) (accounts later : Accounts)
+    → TurnsBy (λ all. Addition all name address salt password) (MayRefuseAddition name address password) Added accounts later → Next (world_of accounts) (AddUser name address salt password) Added (world_of later)
+added_next name address salt password accounts later (inl row) = inl (later, row, refl)
+added_next name address salt password accounts later (inr refused) = absurd (let no = refused.2 in cc)
+
+-- and a row that was taken out
+pub taken_next : (user : List ℕ) (id : ℕ) (row : Outgoing) (accounts later : Accounts) → TurnsBy (λ all. Taking all user id) IsPassing (Taken row) accounts later → Next (world_of accounts) (TakeOut user id) (Taken row) (world_of later)
+taken_next user id row accounts later (inl turned) = inl (later, turned, refl)
+taken_next user id row accounts later (inr refused) = absurd (let no = refused.2 in cc)
 
 -- a store that saw what was held, and was handed back, open and over a disk that keeps what is written
 module _ (held new : Database) (taken given : State) (seen : taken.now ≡ held) (ours : held.schema ≡ mail_schema) (clean : HasCleanDisk given) (live : IsTrue given.is_open) (back : new ≡ given.now) where
@@ -64,21 +81,21 @@ module _ (held new : Database) (taken given : State) (seen : taken.now ≡ held)
   told : (accounts : Accounts) → Presents given.now accounts → Presents new accounts
   told accounts p = subst (λ db. Presents db accounts) (sym back) p
 
-  pub event_refused : (Changed : Accounts → Database → Type 0) (Made : Database → Type 0) (event : Event) (refusal : Refusal) → IsEvent event (Refused refusal) taken given → Leaves Changed Made held new
-  event_refused Changed Made event refusal is = record {
+  -- a refused call left it alone
+  pub event_refused : (Changed : Accounts → Database → Type 0) (Made : Database → Type 0) → (HasCleanDisk given → HasOurTables taken.now → StaysSame taken given) → Leaves Changed Made held new
+  event_refused Changed Made same = record {
     accounts = λ accounts p.
-        let w : World = record { accounts = accounts } in
-        let h = is clean w (λ _. stood accounts p) in
-        let same : h.0 ≡ w = h.1.1 ∙ refused_world w event refusal in
-        inl (told accounts (subst (λ (x : World). Presents given.now x.accounts) same (h.2 live)));
+        let was = stood accounts p in
+        inl (told accounts (subst (λ db. Presents db accounts) (sym ((same clean (was.0, was.1)).now_is live)) was));
     none = λ blank. absurd (ours_not_none held ours blank);
   }
 
-  pub event_made : (OfThese : Event → Type 0) (status : ℕ) (event : Event) (answer : Answer) → IsEvent event answer taken given → OfThese event → MayFollow status → LeavesAfter OfThese status held new
-  event_made OfThese status event answer is of_these may = record {
+  pub event_made : (OfThese : Event → Type 0) (status : ℕ) (event : Event) (answer : Answer) (Turn : Accounts → Accounts → Type 0) → Carries Turn taken given
+      → ((accounts later : Accounts) → Turn accounts later → Next (world_of accounts) event answer (world_of later)) → OfThese event → MayFollow status → LeavesAfter OfThese status held new
+  event_made OfThese status event answer Turn carries made of_these may = record {
     accounts = λ accounts p.
-        let h = is clean (record { accounts = accounts }) (λ _. stood accounts p) in
-        inr (record { told = may; event = event; is_of = of_these; answer = answer; next = h.0; made = h.1; shown = told h.0.accounts (h.2 live) });
+        let h = carries clean accounts (λ _. stood accounts p) in
+        inr (record { told = may; event = event; is_of = of_these; answer = answer; next = world_of h.0; made = made accounts h.0 h.1; shown = told h.0 (h.2 live) });
     none = λ blank. absurd (ours_not_none held ours blank);
   }
 
@@ -127,6 +144,10 @@ pub sound_after : (given : Option (List ℕ)) (status told : ℕ) (old new : Dat
 sound_after given status told old new is leaves =
     leaves_wider (ShowsAfter (Brings given) status) (ShowsAfter (Brings given) told) (λ _. ⊥) (λ db. Presents db no_accounts) old new
     (λ accounts h. subst (λ s. ShowsAfter (Brings given) s accounts new) (sym is) h) (λ h. absurd h) leaves
+
+pub sound_taken : (given : Option (List ℕ)) (status : ℕ) (user digits : List ℕ) (old new : Database) → LeavesAfter (Takes user digits) status old new → LeavesSound given status old new
+sound_taken given status user digits old new leaves =
+    sound_after given status status old new refl (after_later (Takes user digits) (Brings given) status status (λ event h. subst (Brings given) (sym h.2) tt) (λ may. may) old new leaves)
 
 -- a step that may fail to write, or to get memory, doesn't deny what came before it
 pub step_may_follow : {X : Type 0} (r : Result X Fault) → IfErr r IsFailure → MayFollow (status_after r)

@@ -1,12 +1,14 @@
 -- What a run leaves of the accounts behind a keeper.
 use Rattle.std.specs.Prelude.{◌≡◌, ◌⊎◌, ℕ, Bool, ◌==◌, not, List, take, Option, Result, Ok, Err}
 use Rattle.std.specs.List.{prefix_len}
+use Rattle.std.specs.FinMap.{empty}
+use Rattle.octets.specs.Decimal.{Writes}
 use Rattle.sqlite.specs.Effect.{Database}
 use Rattle.mailstore.specs.Account.{Accounts, no_accounts}
 use Rattle.mailstore.specs.Schema.{no_schema}
 use Rattle.mailstore.specs.Shows.{Presents}
 use Rattle.mailengine.specs.declared.event.Event.{Event}
-use Rattle.mailengine.specs.declared.event.Event.TheVariants.{Deliver, AddUser, Whole}
+use Rattle.mailengine.specs.declared.event.Event.TheVariants.{Deliver, AddUser, TakeOut}
 use Rattle.mailengine.specs.declared.answer.Answer.{Answer}
 use Rattle.mailengine.specs.World.{World, Next}
 use Rattle.sievedrun.specs.declared.fault.Fault.{Fault}
@@ -21,11 +23,16 @@ is_in_line octet = not (octet == 10)
 abbrev pub first_line : List ℕ → List ℕ
 first_line text = take (prefix_len is_in_line text) text
 
--- the event brings what was read: its message is all of it, its password the first line
+-- the event brings what was read: its message is all of it, its password the first line; a row that is taken out brings nothing
 abbrev pub Brings : Option (List ℕ) → Event → Type 0
 Brings given (Deliver user envelope message moment) = ReadsAll given message
 Brings given (AddUser name address salt password) = (octets : List ℕ) × ReadsAll given octets × (password ≡ first_line octets)
-Brings given (Whole user bytes) = ⊥
+Brings given (TakeOut user id) = Unit {0}
+Brings given event = ⊥
+
+-- the message with the number that these digits write leaves the user's queue
+abbrev pub Takes : List ℕ → List ℕ → Event → Type 0
+Takes user digits event = (id : ℕ) × Writes digits id × (event ≡ TakeOut user id)
 
 -- the exit status of what was done or went wrong
 abbrev pub status_after : {X : Type 0} → Result X Fault → ℕ
@@ -36,6 +43,10 @@ status_after (Err fault) = status_of fault
 abbrev pub MayFollow : ℕ → Type 0
 MayFollow status = (status ≡ 0) ⊎ (status ≡ 75)
 
+-- the machine with these accounts, and without sessions
+abbrev pub world_of : Accounts → World
+world_of accounts = record { accounts = accounts; sessions = empty }
+
 -- the tables show the accounts as they are after one event of these, and the status doesn't deny it
 pub record ShowsAfter (OfThese : Event → Type 0) (status : ℕ) (accounts : Accounts) (new : Database) : Type 0 where
   pub told : MayFollow status
@@ -43,7 +54,7 @@ pub record ShowsAfter (OfThese : Event → Type 0) (status : ℕ) (accounts : Ac
   pub is_of : OfThese event
   pub answer : Answer
   pub next : World
-  pub made : Next (record { accounts = accounts }) event answer next
+  pub made : Next (world_of accounts) event answer next
   pub shown : Presents new next.accounts
 
 -- what becomes of tables that showed accounts, and of a database without tables: they stay so, or this

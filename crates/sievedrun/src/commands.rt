@@ -261,7 +261,7 @@ fn numbered(messages: &[Octets], number: u64) -> Option<&[u8]> {
 }
 
 /// The store at a place: the one that is there, or with `fresh` a new one.
-fn taken<K: Keeper>(place: Place<'_>, fresh: bool, keeper: &mut K) -> Result<Store<K::S>, Fault>
+pub fn taken<K: Keeper>(place: Place<'_>, fresh: bool, keeper: &mut K) -> Result<Store<K::S>, Fault>
     ensures late { status_after result ≢ 64 }
     ensures taken { IfOk result (λ store. IsTrue K.tells → IsTaken fresh (K.holds keeper.old) (state K.S.Store store).now) }
     ensures refused { OnErr result (IsTrue K.tells → K.holds keeper.new ≡ K.holds keeper.old) }

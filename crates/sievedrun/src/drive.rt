@@ -1,11 +1,12 @@
 //! A run of the program: the words, and what comes of them.
 ghost use Rattle.std.specs.Prelude.{◌≡◌, false, IsTrue};
-ghost use Rattle.sievedrun.specs.Promise.{LeavesSound, status_after};
+ghost use Rattle.sievedrun.specs.Promise.{LeavesAll, LeavesSound, status_after};
 
 use crate::commands::{
     NewUser, Posting, run_adduser, run_deliver, run_folders, run_init, run_show,
 };
 use crate::fault::{Fault, refuse};
+use crate::queue::{run_done, run_notices, run_queue, run_queued};
 use crate::stream::write_all;
 use crate::trial::try_run;
 use crate::values::envelope_of;
@@ -44,6 +45,7 @@ pub fn drive<R: Read, W: Write, F: Write, K: Keeper>(
     }
 }
 
+/// Does what the words ask for, and answers the exit status.
 fn run<R: Read, W: Write, F: Write, K: Keeper>(
     alloc: Global,
     asked: Asked<'_>,
@@ -57,12 +59,32 @@ fn run<R: Read, W: Write, F: Write, K: Keeper>(
     ensures back { K.is_out keeper.old ≡ false → K.is_out keeper.new ≡ false }
     ensures leaves { IsTrue K.tells → LeavesSound (R.remaining input.old) result (K.holds keeper.old) (K.holds keeper.new) }
 {
-    match asked {
-        Asked::Try { from, to } => match envelope_of(alloc, from, to) {
+    if let Asked::Try { from, to } = asked {
+        return match envelope_of(alloc, from, to) {
             Ok(envelope) => try_run(alloc, envelope, input, output, faults),
             Err(_) => refuse(faults, Fault::Memory),
-        },
-        Asked::Init(place) => ended(run_init(place, output, keeper), faults, keeper),
+        };
+    }
+    let done = act(alloc, asked, input, output, keeper, clock);
+    ended(done, faults, keeper)
+}
+
+/// Does what a word asks for that works on a store. A word that writes none, or asks for more than one event, is none
+/// of these.
+fn act<R: Read, W: Write, K: Keeper>(
+    alloc: Global,
+    asked: Asked<'_>,
+    input: &mut R,
+    output: &mut W,
+    keeper: &mut K,
+    clock: Option<u64>,
+) -> Result<(), Fault>
+    ensures unread { status_after result ≡ 64 → input.new ≡ input.old }
+    ensures back { K.is_out keeper.old ≡ false → K.is_out keeper.new ≡ false }
+    ensures leaves { IsTrue K.tells → LeavesSound (R.remaining input.old) (status_after result) (K.holds keeper.old) (K.holds keeper.new) }
+{
+    match asked {
+        Asked::Init(place) => run_init(place, output, keeper),
         Asked::AddUser {
             place,
             salt,
@@ -74,11 +96,7 @@ fn run<R: Read, W: Write, F: Write, K: Keeper>(
                 name,
                 address,
             };
-            ended(
-                run_adduser(alloc, place, user, input, output, keeper),
-                faults,
-                keeper,
-            )
+            run_adduser(alloc, place, user, input, output, keeper)
         }
         Asked::Deliver {
             place,
@@ -88,27 +106,43 @@ fn run<R: Read, W: Write, F: Write, K: Keeper>(
             user,
         } => {
             let posting = Posting { from, to, at, user };
-            ended(
-                run_deliver(alloc, place, posting, clock, input, output, keeper),
-                faults,
-                keeper,
-            )
+            run_deliver(alloc, place, posting, clock, input, output, keeper)
         }
-        Asked::Folders { place, user } => ended(
-            run_folders(alloc, place, user, output, keeper),
-            faults,
-            keeper,
-        ),
+        Asked::Done { place, user, id } => run_done(alloc, place, user, id, output, keeper),
+        _ => look(alloc, asked, output, keeper),
+    }
+}
+
+/// Prints what a word asks for of a store, which stays as it is. Any other word is refused.
+fn look<W: Write, K: Keeper>(
+    alloc: Global,
+    asked: Asked<'_>,
+    output: &mut W,
+    keeper: &mut K,
+) -> Result<(), Fault>
+    ensures back { K.is_out keeper.old ≡ false → K.is_out keeper.new ≡ false }
+    ensures leaves { IsTrue K.tells → LeavesAll (K.holds keeper.old) (K.holds keeper.new) }
+{
+    match asked {
+        Asked::Folders { place, user } => run_folders(alloc, place, user, output, keeper),
         Asked::Show {
             place,
             user,
             folder,
             number,
-        } => ended(
-            run_show(place, user, folder, number, output, keeper),
-            faults,
-            keeper,
-        ),
+        } => run_show(place, user, folder, number, output, keeper),
+        Asked::Queue {
+            place,
+            user,
+            id: None,
+        } => run_queue(alloc, place, user, output, keeper),
+        Asked::Queue {
+            place,
+            user,
+            id: Some(id),
+        } => run_queued(place, user, id, output, keeper),
+        Asked::Notices { place, user } => run_notices(alloc, place, user, output, keeper),
+        _ => Err(Fault::BadArgument),
     }
 }
 

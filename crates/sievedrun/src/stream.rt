@@ -49,7 +49,7 @@ fn make_room(octets: &mut Vec<u8>, filled: usize) -> Result<(), AllocError>
 
 /// One read into the room from `at` on: how many octets came, none of them where a signal came first,
 /// or `None` at the end of the input.
-fn read_at<R: Read>(input: &mut R, room: &mut [u8], at: usize) -> Result<Option<usize>, Fault>
+pub fn read_at<R: Read>(input: &mut R, room: &mut [u8], at: usize) -> Result<Option<usize>, Fault>
     requires { at < length room.old }
     ensures front { take at room.new ≡ take at room.old }
     ensures fits { IfOk result (λ more. at + unwrap_or more 0 ≤ length room.new) }

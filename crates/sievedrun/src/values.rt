@@ -1,6 +1,7 @@
 //! Values that stand in the words, and the first line of an input.
-ghost use Rattle.std.specs.Prelude.{◌≡◌, IfErr};
+ghost use Rattle.std.specs.Prelude.{◌≡◌, IfOk, IfErr};
 ghost use Rattle.std.specs.List.{prefix_len};
+ghost use Rattle.octets.specs.Decimal.{Writes};
 ghost use Rattle.sievedrun.specs.Promise as promise;
 ghost use Rattle.sievedrun.specs.Promise.{is_in_line};
 
@@ -12,9 +13,21 @@ use std::alloc::{AllocError, Global};
 
 /// A number in decimal digits, without a sign.
 pub fn decimal(text: &str) -> Result<u64, Fault>
-    ensures { IfErr result (λ fault. fault ≡ Fault.BadArgument) }
+    ensures ok { IfOk result (λ number. Writes text.now number) }
+    ensures fault { IfErr result (λ fault. fault ≡ Fault.BadArgument) }
 {
     parse_decimal(text.as_bytes()).ok_or(Fault::BadArgument)
+}
+
+/// A port, in decimal digits; at most 65,535.
+pub fn port_of(text: &str) -> Result<u16, Fault>
+    ensures ok { IfOk result (λ port. Writes text.now port) }
+    ensures fault { IfErr result (λ fault. fault ≡ Fault.BadArgument) }
+{
+    match u16::try_from(decimal(text)?) {
+        Ok(port) => Ok(port),
+        Err(_) => Err(Fault::BadArgument),
+    }
 }
 
 /// A salt in 32 hexadecimal digits.

@@ -62,6 +62,38 @@ pub enum Asked<'a> {
         /// The message's number in the folder, from 1, in decimal.
         number: &'a str,
     },
+    /// `queue`: a user's messages on their way out, or one of them.
+    Queue {
+        place: Place<'a>,
+        /// The account's name.
+        user: &'a str,
+        /// The number of the one message that is asked for, in decimal; all are listed where it is left out.
+        id: Option<&'a str>,
+    },
+    /// `done`: a message left the queue.
+    Done {
+        place: Place<'a>,
+        /// The account's name.
+        user: &'a str,
+        /// The message's number in the queue, in decimal.
+        id: &'a str,
+    },
+    /// `notices`: what went wrong in a user's deliveries.
+    Notices {
+        place: Place<'a>,
+        /// The account's name.
+        user: &'a str,
+    },
+    /// `serve`: clients of ManageSieve on the loopback address, one after the other.
+    Serve {
+        place: Place<'a>,
+        /// The port, in decimal.
+        port: &'a str,
+        /// After how many sessions to end, in decimal; never where it is left out.
+        sessions: Option<&'a str>,
+    },
+    /// `session`: one client of ManageSieve, over standard input and output.
+    Session(Place<'a>),
 }
 
 /// What the words ask for. They are those after the program's name; without a word it is `try` with an empty envelope.
@@ -104,6 +136,26 @@ fn asked_by<'a>(word: &str, given: &ArgMatches<'a>) -> Asked<'a> {
             folder: text(given, "folder"),
             number: text(given, "number"),
         },
+        "queue" => Asked::Queue {
+            place: place_in(given),
+            user: text(given, "user"),
+            id: given.get_str("id"),
+        },
+        "done" => Asked::Done {
+            place: place_in(given),
+            user: text(given, "user"),
+            id: text(given, "id"),
+        },
+        "notices" => Asked::Notices {
+            place: place_in(given),
+            user: text(given, "user"),
+        },
+        "serve" => Asked::Serve {
+            place: place_in(given),
+            port: text(given, "port"),
+            sessions: given.get_str("sessions"),
+        },
+        "session" => Asked::Session(place_in(given)),
         _ => Asked::Try {
             from: text(given, "from"),
             to: text(given, "to"),

@@ -7,7 +7,7 @@ pub fn sieved<'a>(alloc: Global) -> Result<Command<'a>, AllocError> {
     Command::new(alloc, "sieved")
         .bin_name("sieved")?
         .version("1.0.0")
-        .about("Files mail by each user's Sieve script")
+        .about("Files mail by each user's Sieve script, and serves the scripts by ManageSieve")
         .after_help("Without a command it is `try` with an empty envelope.")
         .propagate_version(true)
         .no_binary_name(true)
@@ -17,7 +17,12 @@ pub fn sieved<'a>(alloc: Global) -> Result<Command<'a>, AllocError> {
         .subcommand(adduser(alloc)?)?
         .subcommand(deliver(alloc)?)?
         .subcommand(folders(alloc)?)?
-        .subcommand(show(alloc)?)
+        .subcommand(show(alloc)?)?
+        .subcommand(queue(alloc)?)?
+        .subcommand(done(alloc)?)?
+        .subcommand(notices(alloc)?)?
+        .subcommand(serve(alloc)?)?
+        .subcommand(session(alloc)?)
 }
 
 fn try_word<'a>(alloc: Global) -> Result<Command<'a>, AllocError> {
@@ -70,7 +75,7 @@ fn deliver<'a>(alloc: Global) -> Result<Command<'a>, AllocError> {
         alloc,
         "deliver",
         "Delivers a message to a user by the active script",
-        "Reads the message. Prints `file NAME`, `notice TEXT`, or `discard`.
+        "Reads the message. Prints `file NAME`, `send ADDRESS`, `vacation sent`, `vacation quiet N`, `notice TEXT`, or `discard`.
 Status 0: delivered, and on the disk. 64: wrong words or values. 65: refused for good. 67: no such user. 75: try again later.",
     )?
     .arg(option(alloc, "from", "A", "The envelope's sender [default: none]"))?
@@ -111,6 +116,74 @@ Status 0: shown. 64: wrong words or number. 65: no such message or store. 67: no
         "N",
         "The message's number in the folder, from 1",
     ))
+}
+
+fn queue<'a>(alloc: Global) -> Result<Command<'a>, AllocError> {
+    let id = operand(alloc, "id", "ID", "The message's number in the queue");
+    stored(
+        alloc,
+        "queue",
+        "Lists a user's messages on their way out, or shows one",
+        "Reads nothing. Prints `ID KIND <SENDER> <TARGET> OCTETS` for each, or with ID the message as it goes out.
+Status 0: listed or shown. 64: wrong words or number. 65: no such row or store. 67: no such user. 75: try again later.",
+    )?
+    .arg(operand(alloc, "user", "USER", "The account's name"))?
+    .arg(id.required(false))
+}
+
+fn done<'a>(alloc: Global) -> Result<Command<'a>, AllocError> {
+    stored(
+        alloc,
+        "done",
+        "Takes a message that went out off the queue",
+        "Reads nothing. Prints `taken ID`.
+Status 0: taken, and on the disk. 64: wrong words or number. 65: no such row or store. 67: no such user. 75: try again later.",
+    )?
+    .arg(operand(alloc, "user", "USER", "The account's name"))?
+    .arg(operand(
+        alloc,
+        "id",
+        "ID",
+        "The message's number, as `queue` prints it",
+    ))
+}
+
+fn notices<'a>(alloc: Global) -> Result<Command<'a>, AllocError> {
+    stored(
+        alloc,
+        "notices",
+        "Lists what went wrong in a user's deliveries",
+        "Reads nothing. Prints `MOMENT TEXT` for each, the moment in seconds since 1970.
+Status 0: listed. 64: wrong words. 65: no such store. 67: no such user. 75: try again later.",
+    )?
+    .arg(operand(alloc, "user", "USER", "The account's name"))
+}
+
+fn serve<'a>(alloc: Global) -> Result<Command<'a>, AllocError> {
+    stored(
+        alloc,
+        "serve",
+        "Serves ManageSieve on the loopback address, one client after the other",
+        "Prints `listening on 127.0.0.1:P` once it listens.
+Status 0: as many sessions as asked for have ended. 64: wrong words or numbers. 75: can't listen, or try again later.",
+    )?
+    .arg(option(alloc, "port", "P", "The port; 0 for any that is free").required(true))?
+    .arg(option(
+        alloc,
+        "sessions",
+        "N",
+        "Ends after N sessions [default: never]",
+    ))
+}
+
+fn session<'a>(alloc: Global) -> Result<Command<'a>, AllocError> {
+    stored(
+        alloc,
+        "session",
+        "Serves one ManageSieve client over standard input and output",
+        "For inetd, a systemd socket with Accept=yes, or ssh.
+Status 0: the session has ended. 64: wrong words. 75: memory, input or output failed.",
+    )
 }
 
 /// A word that works on a store.

@@ -1,10 +1,10 @@
 -- The definitions at a few mails: what they fit, and what is near it that they don't.
 use Rattle.std.proofs.Common.{◌≡◌, true, false, inl, inr, [], ◌∷◌, ◌++◌, codes, refl, arith}
-use Rattle.sievesyntax.specs.declared.checks.Matching.TheVariants.{Is, Contains}
-use Rattle.sievesyntax.specs.declared.checks.AddressPart.TheVariants.{LocalPart, Domain}
-use Rattle.sievesyntax.specs.declared.checks.AddressPart.TheVariants as part
-use Rattle.sievesyntax.specs.declared.checks.Bound.TheVariants.{Over, Under}
-use Rattle.sievesyntax.specs.declared.checks.Collation.TheVariants.{Octet, AsciiCasemap}
+use Rattle.sievesyntax.specs.declared.tree.checks.Matching.TheVariants.{Is, Contains}
+use Rattle.sievesyntax.specs.declared.tree.checks.AddressPart.TheVariants.{LocalPart, Domain}
+use Rattle.sievesyntax.specs.declared.tree.checks.AddressPart.TheVariants as part
+use Rattle.sievesyntax.specs.declared.tree.checks.Bound.TheVariants.{Over, Under}
+use Rattle.sievesyntax.specs.declared.tree.checks.Collation.TheVariants.{Octet, AsciiCasemap}
 use Rattle.sieveexec.specs.Mails.{MailSpec, mail_of, values_of, text_shown, is_address_key, addresses_of}
 use Rattle.sieveexec.specs.Matches.{matches_key, matches_some, image_by}
 use Rattle.sieveexec.specs.Parts.{part_of, Cuts, CutsAtLast, IsPart, part_in}
@@ -26,12 +26,12 @@ values-colon : values_of sample (codes "to:") ≡ []
 values-colon = refl
 
 -- the blanks at the ends of a text are off, those inside stay
-shown-inside : text_shown (codes " a b ") ≡ codes "a b"
-shown-inside = refl
+joined-inside : text_shown (codes " a b ") ≡ codes "a b"
+joined-inside = refl
 
 -- and they are taken off once the text is decoded
-shown-decoded : text_shown (codes "=?us-ascii?q?_a_?=") ≡ codes "a"
-shown-decoded = refl
+joined-decoded : text_shown (codes "=?us-ascii?q?_a_?=") ≡ codes "a"
+joined-decoded = refl
 
 -- `to` has addresses, and `subject` has none
 to_has_addresses : is_address_key (codes "to") ≡ true

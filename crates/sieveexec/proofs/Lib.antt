@@ -3,7 +3,7 @@ pub mod MatchLemmas
 pub mod PartLemmas
 pub mod TruthLemmas
 pub mod IndexLemmas
-pub mod ShownLemmas
+pub mod JoinedLemmas
 pub mod NameLemmas
 mod Examples
 pub mod MachineLemmas

@@ -7,7 +7,7 @@ use Rattle.std.specs.List.{list_any}
 use Rattle.std.specs.Ordering.{nat_cmp}
 use Rattle.std.specs.Cmp.Lexicographic.{pointwise, slice_cmp}
 use Rattle.std.specs.BTreeSet.{BTreeSet, contains, Updates}
-use Rattle.sievesyntax.specs.SoFar.{with_mailbox}
+use Rattle.sievesyntax.specs.RunState.{with_mailbox}
 
 -- whether a mailbox is there
 abbrev pub is_there : List (List ℕ) → List ℕ → Bool

@@ -7,9 +7,9 @@ use Rattle.collation.specs.Comparators.{ContainsBy}
 use Rattle.globmatch.specs.Glob.{items, Glob}
 use Rattle.globmatch.specs.declared.pattern.Item.{Item}
 use Rattle.globmatch.specs.declared.pattern.Item.TheVariants.{Star, One, Exact}
-use Rattle.sievesyntax.specs.declared.checks.Collation.{Collation}
-use Rattle.sievesyntax.specs.declared.checks.Matching.{Matching}
-use Rattle.sievesyntax.specs.declared.checks.Matching.TheVariants.{Is, Contains, Matches}
+use Rattle.sievesyntax.specs.declared.tree.checks.Collation.{Collation}
+use Rattle.sievesyntax.specs.declared.tree.checks.Matching.{Matching}
+use Rattle.sievesyntax.specs.declared.tree.checks.Matching.TheVariants.{Is, Contains, Matches}
 use Rattle.sieveexec.specs.Matches.{image_by, MatchesKey, MatchesSome, begins_with, some_end, is_contained, is_globbed, matches_key, matches_some}
 use Rattle.sieveexec.proofs.Decisions.{decides_as, any_decides}
 

@@ -6,8 +6,8 @@ use Rattle.std.proofs.lemmas.Bool.{eqb-true, cond-true, cond-false, false_from_n
 use Rattle.std.proofs.lemmas.List.{get_or-drop, get_or_default, take-append-drop}
 use Rattle.std.proofs.lemmas.List.Folds.{list_any_none}
 use Rattle.memchr.specs.Find.{Nowhere, NoneAfter, Passes, is_byte}
-use Rattle.sievesyntax.specs.declared.checks.AddressPart.{AddressPart}
-use Rattle.sievesyntax.specs.declared.checks.AddressPart.TheVariants.{All, LocalPart, Domain}
+use Rattle.sievesyntax.specs.declared.tree.checks.AddressPart.{AddressPart}
+use Rattle.sievesyntax.specs.declared.tree.checks.AddressPart.TheVariants.{All, LocalPart, Domain}
 use Rattle.sieveexec.specs.Parts.{is_at, has_at, CutsAtLast, Cuts, local_of, domain_of, IsPart, part_in}
 
 -- an octet other than the last `@`

@@ -2,11 +2,11 @@
 use Rattle.std.proofs.Common.{◌≡◌, ◌≢◌, ℕ, Bool, true, ◌⊎◌, inl, inr, List, [], ◌∷◌, refl, subst}
 use Rattle.std.specs.Bool.{Decides}
 use Rattle.std.proofs.lemmas.Bool.Decides.{Decides-and, Decides-or, Decides-ltb}
-use Rattle.sievesyntax.specs.declared.checks.Bound.{Bound}
-use Rattle.sievesyntax.specs.declared.checks.Bound.TheVariants.{Over, Under}
-use Rattle.sievesyntax.specs.declared.checks.EnvelopeTest.{EnvelopeTest}
-use Rattle.sievesyntax.specs.declared.checks.Check.{Check}
-use Rattle.sievesyntax.specs.declared.checks.Check.TheVariants.{Size, Exists, Header, Address, Envelope}
+use Rattle.sievesyntax.specs.declared.tree.checks.Bound.{Bound}
+use Rattle.sievesyntax.specs.declared.tree.checks.Bound.TheVariants.{Over, Under}
+use Rattle.sievesyntax.specs.declared.tree.checks.EnvelopeTest.{EnvelopeTest}
+use Rattle.sievesyntax.specs.declared.tree.checks.Check.{Check}
+use Rattle.sievesyntax.specs.declared.tree.checks.Check.TheVariants.{Size, Exists, Header, Address, Envelope}
 use Rattle.sieveexec.specs.Mails.{MailSpec, values_of, texts_of, addresses_of}
 use Rattle.sieveexec.specs.Matches.{MatchesSome}
 use Rattle.sieveexec.specs.Parts.{part_of, IsPart, part_in}

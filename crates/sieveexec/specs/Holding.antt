@@ -1,11 +1,11 @@
 -- Which tests hold of a mail (RFC 5228, 5).
 use Rattle.std.specs.Prelude.{◌≡◌, ◌≢◌, ◌<◌, ◌⊎◌, ℕ, true, List, []}
 use Rattle.std.specs.List.{All, Any}
-use Rattle.sievesyntax.specs.declared.checks.Bound.{Bound}
-use Rattle.sievesyntax.specs.declared.checks.Bound.TheVariants.{Over, Under}
-use Rattle.sievesyntax.specs.declared.checks.EnvelopeParts.{EnvelopeParts}
-use Rattle.sievesyntax.specs.declared.checks.Check.{Check}
-use Rattle.sievesyntax.specs.declared.checks.Check.TheVariants.{Size, Exists, Header, Address, Envelope}
+use Rattle.sievesyntax.specs.declared.tree.checks.Bound.{Bound}
+use Rattle.sievesyntax.specs.declared.tree.checks.Bound.TheVariants.{Over, Under}
+use Rattle.sievesyntax.specs.declared.tree.checks.EnvelopeParts.{EnvelopeParts}
+use Rattle.sievesyntax.specs.declared.tree.checks.Check.{Check}
+use Rattle.sievesyntax.specs.declared.tree.checks.Check.TheVariants.{Size, Exists, Header, Address, Envelope}
 use Rattle.sieveexec.specs.Mails.{MailSpec, values_of, texts_of, addresses_of}
 use Rattle.sieveexec.specs.Matches.{MatchesSome}
 use Rattle.sieveexec.specs.Parts.{IsPart, part_of}

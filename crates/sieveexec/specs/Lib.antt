@@ -4,7 +4,7 @@ pub mod Parts
 pub mod Holding
 pub mod Truth
 pub mod Indexes
-pub mod Shown
+pub mod Joined
 pub mod Outcomes
 pub mod Mailboxes
 pub mod Runs

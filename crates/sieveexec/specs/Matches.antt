@@ -7,10 +7,10 @@ use Rattle.collation.specs.Comparators.{EqualBy, ContainsBy}
 use Rattle.globmatch.specs.Glob.{items, Glob}
 use Rattle.globmatch.specs.declared.pattern.Item.{Item}
 use Rattle.globmatch.specs.declared.pattern.Item.TheVariants.{Star, One, Exact}
-use Rattle.sievesyntax.specs.declared.checks.Collation.{Collation}
-use Rattle.sievesyntax.specs.declared.checks.Collation.TheVariants.{Octet, AsciiCasemap}
-use Rattle.sievesyntax.specs.declared.checks.Matching.{Matching}
-use Rattle.sievesyntax.specs.declared.checks.Matching.TheVariants.{Is, Contains, Matches}
+use Rattle.sievesyntax.specs.declared.tree.checks.Collation.{Collation}
+use Rattle.sievesyntax.specs.declared.tree.checks.Collation.TheVariants.{Octet, AsciiCasemap}
+use Rattle.sievesyntax.specs.declared.tree.checks.Matching.{Matching}
+use Rattle.sievesyntax.specs.declared.tree.checks.Matching.TheVariants.{Is, Contains, Matches}
 
 -- the image of an octet: octets are the same where their images are
 abbrev pub image_by : Collation → (ℕ → ℕ)

@@ -3,8 +3,8 @@ use Rattle.std.specs.Prelude.{◌≡◌, ◌==◌, ℕ, Bool, false, ◌&&◌, �
 use Rattle.std.specs.List.{list_any}
 use Rattle.addrparts.specs.declared.address.Addr.{Addr}
 use Rattle.addrparts.specs.Spelling.{all_of}
-use Rattle.sievesyntax.specs.declared.checks.AddressPart.{AddressPart}
-use Rattle.sievesyntax.specs.declared.checks.AddressPart.TheVariants.{All, LocalPart, Domain}
+use Rattle.sievesyntax.specs.declared.tree.checks.AddressPart.{AddressPart}
+use Rattle.sievesyntax.specs.declared.tree.checks.AddressPart.TheVariants.{All, LocalPart, Domain}
 
 -- a part of an address of a field
 abbrev pub part_of : AddressPart → Addr → List ℕ

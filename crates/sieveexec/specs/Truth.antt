@@ -1,13 +1,13 @@
 -- The truth of tests at a mail: true exactly where the test holds (`truth_of_a_check` of laws.rt).
 use Rattle.std.specs.Prelude.{ℕ, Bool, true, false, ◌&&◌, ◌||◌, nat_lt, List, [], ◌∷◌}
 use Rattle.std.specs.List.{list_any, list_all}
-use Rattle.sievesyntax.specs.declared.checks.Bound.{Bound}
-use Rattle.sievesyntax.specs.declared.checks.Bound.TheVariants.{Over, Under}
-use Rattle.sievesyntax.specs.declared.checks.Header.{Header as HeaderTest}
-use Rattle.sievesyntax.specs.declared.checks.Address.{Address as AddressTest}
-use Rattle.sievesyntax.specs.declared.checks.EnvelopeTest.{EnvelopeTest}
-use Rattle.sievesyntax.specs.declared.checks.Check.{Check}
-use Rattle.sievesyntax.specs.declared.checks.Check.TheVariants.{Size, Exists, Header, Address, Envelope}
+use Rattle.sievesyntax.specs.declared.tree.checks.Bound.{Bound}
+use Rattle.sievesyntax.specs.declared.tree.checks.Bound.TheVariants.{Over, Under}
+use Rattle.sievesyntax.specs.declared.tree.checks.Header.{Header as HeaderTest}
+use Rattle.sievesyntax.specs.declared.tree.checks.Address.{Address as AddressTest}
+use Rattle.sievesyntax.specs.declared.tree.checks.EnvelopeTest.{EnvelopeTest}
+use Rattle.sievesyntax.specs.declared.tree.checks.Check.{Check}
+use Rattle.sievesyntax.specs.declared.tree.checks.Check.TheVariants.{Size, Exists, Header, Address, Envelope}
 use Rattle.addrparts.specs.declared.address.Addr.{Addr}
 use Rattle.sieveexec.specs.Mails.{MailSpec, values_of, texts_of, addresses_of}
 use Rattle.sieveexec.specs.Matches.{matches_some}

@@ -10,9 +10,9 @@ ghost use Rattle.sieveexec.specs.Mails.{is_address_key, addresses_of, addresses_
 ghost use Rattle.sieveexec.specs.Truth.{address_matches, address_holds};
 ghost use Rattle.sieveexec.specs.Indexes.{AreKnown};
 
+use crate::joined_address::{JoinedAddress, push_joined};
 use crate::mail::Mail;
 use crate::matching::matches_some;
-use crate::shown::{Shown, show};
 use addrparts::addresses;
 use mailhead::unfolded;
 use octets::{ListOf, Octets, lowered};
@@ -43,7 +43,7 @@ const ADDRESS_FIELDS: [&[u8]; 14] = [
 #[derive(Drop)]
 pub struct AddressCache<'m, 'a> {
     mail: &'m Mail<'a>,
-    known: BTreeMap<Octets, ListOf<Shown>>,
+    known: BTreeMap<Octets, ListOf<JoinedAddress>>,
 }
 
 impl<'m, 'a> Model for AddressCache<'m, 'a> {
@@ -88,7 +88,7 @@ impl<'m, 'a> AddressCache<'m, 'a> {
         ensures kept { self.new ≡ self.old }
     {
         let key = lowered(alloc, name)?;
-        know(alloc, self.mail, &mut self.known, &key)?;
+        load(alloc, self.mail, &mut self.known, &key)?;
         match self.known.get(&key) {
             Some(found) => Ok(address_matches(address, found.as_slice())),
             None => Ok(false),
@@ -97,10 +97,10 @@ impl<'m, 'a> AddressCache<'m, 'a> {
 }
 
 /// Reads the addresses in the fields of a name, unless they are known.
-fn know(
+fn load(
     alloc: Global,
     mail: &Mail<'_>,
-    known: &mut BTreeMap<Octets, ListOf<Shown>>,
+    known: &mut BTreeMap<Octets, ListOf<JoinedAddress>>,
     key: &Octets,
 ) -> Result<(), AllocError>
     requires { AreKnown (addresses_keyed mail.now) known.old }
@@ -121,7 +121,7 @@ fn addresses_under(
     alloc: Global,
     mail: &Mail<'_>,
     key: &Octets,
-) -> Result<ListOf<Shown>, AllocError>
+) -> Result<ListOf<JoinedAddress>, AllocError>
     ensures { IfOk result (λ found. found ≡ addresses_keyed mail.now key.now) }
 {
     if !is_address_key(key.as_slice()) {
@@ -141,20 +141,20 @@ fn is_address_key(key: &[u8]) -> bool
 }
 
 /// The addresses in raw values, which are unfolded and not decoded. Linear in the values.
-fn addresses_in(alloc: Global, raws: &[&[u8]]) -> Result<ListOf<Shown>, AllocError>
+fn addresses_in(alloc: Global, raws: &[&[u8]]) -> Result<ListOf<JoinedAddress>, AllocError>
     ensures { IfOk result (λ found. found ≡ flat_map addrs (map unfold_of (map (λ raw. raw.now) raws.now))) }
 {
     let mut found = ListOf::new(alloc);
     for raw in raws {
         let value = unfolded(alloc, raw)?;
         let more = addresses(alloc, value.as_slice())?;
-        show(alloc, &mut found, more.as_slice())?;
+        push_joined(alloc, &mut found, more.as_slice())?;
     }
     Ok(found)
 }
 
 /// Whether the part of some address matches some key.
-fn address_matches(address: &Address, found: &[Shown]) -> bool
+fn address_matches(address: &Address, found: &[JoinedAddress]) -> bool
     ensures { result ≡ list_any (address_matches address.now) found.now }
 {
     for one in found {

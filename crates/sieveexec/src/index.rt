@@ -3,7 +3,7 @@ ghost use Rattle.std.specs.Prelude.{◌≡◌, IfOk};
 ghost use Rattle.mailhead.specs.Fields.{texts_of};
 ghost use Rattle.sieveexec.specs.Indexes.{IsIndex};
 
-use crate::raws::Raws;
+use crate::raw_values::RawValues;
 use mailhead::Field;
 use octets::{Octets, lowered};
 use std::alloc::{AllocError, Global};
@@ -15,13 +15,13 @@ use std::collections::BTreeMap;
 pub(crate) fn index_of<'a>(
     alloc: Global,
     fields: &[Field<'a>],
-) -> Result<BTreeMap<Octets, Raws<'a>>, AllocError>
+) -> Result<BTreeMap<Octets, RawValues<'a>>, AllocError>
     ensures { IfOk result (λ index. IsIndex (texts_of fields.now) index) }
 {
     let mut index = BTreeMap::new(alloc);
     for field in fields {
         let name = lowered(alloc, field.name)?;
-        let raws = index.entry(name)?.or_insert(Raws::new(alloc));
+        let raws = index.entry(name)?.or_insert(RawValues::new(alloc));
         raws.push(field.raw)?;
     }
     Ok(index)

@@ -2,7 +2,7 @@
 ghost use Rattle.std.specs.Prelude.{◌≡◌, ◌↔◌, ◌⊎◌, ℕ, List, [], IsTrue, false};
 ghost use Rattle.std.specs.List.{list_all};
 ghost use Rattle.mailhead.specs.Fields.{is_name};
-ghost use Rattle.sievesyntax.specs.declared.checks.Check.{Check};
+ghost use Rattle.sievesyntax.specs.declared.tree.checks.Check.{Check};
 ghost use Rattle.sieveexec.specs.declared.envelope.Envelope.{Envelope};
 ghost use Rattle.sieveexec.specs.Mails.{MailSpec, mail_of, values_of};
 ghost use Rattle.sieveexec.specs.Parts.{Cuts, local_of, domain_of};

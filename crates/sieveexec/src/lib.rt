@@ -2,22 +2,22 @@
 #![tactic(auto)]
 
 mod address_cache;
+mod cached_mail;
 mod copies;
 mod envelope;
 mod index;
+mod joined_address;
 pub mod laws;
-mod looked;
 mod machine;
 mod mail;
 mod matching;
 mod outcome;
-mod raws;
-mod shown;
-mod so_far;
+mod raw_values;
+mod run_state;
 mod text_cache;
 
+pub use cached_mail::CachedMail;
 pub use envelope::{Envelope, part_in};
-pub use looked::Looked;
 pub use machine::run;
 pub use mail::Mail;
 pub use outcome::{Failure, Outcome};

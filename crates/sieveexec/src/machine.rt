@@ -1,15 +1,15 @@
 //! The run of flat code.
 ghost use Rattle.std.specs.Prelude.{◌≡◌, ℕ, ◌<◌, ◌+◌, ◌^◌, Option, Some, length, IfOk, OnOk};
 ghost use Rattle.sieveexec.specs.Truth.{truth_at};
-ghost use Rattle.sieveexec.specs.Runs.{so_far_of, outcome_view, after_turn, MovesOn};
-ghost use Rattle.sievesyntax.specs.Meaning.{Done, deeds_of};
+ghost use Rattle.sieveexec.specs.Runs.{run_state_of, outcome_view, after_turn, MovesOn};
+ghost use Rattle.sievesyntax.specs.Meaning.{Done, actions_of};
 ghost use Rattle.sievecode.specs.Instructions.{instr_view};
 ghost use Rattle.sievecode.specs.Jumps.{LeadsForward, Run, jumps, turn as turn_of};
 
-use crate::looked::Looked;
+use crate::cached_mail::CachedMail;
 use crate::mail::Mail;
 use crate::outcome::{Failure, Outcome};
-use crate::so_far::SoFar;
+use crate::run_state::RunState;
 use sievecode::{Code, Instr};
 use std::alloc::{AllocError, Global};
 
@@ -26,9 +26,9 @@ pub enum Turn {
 /// What a run has looked at and done so far, with the flag that tests set.
 #[derive(Drop)]
 pub struct Machine<'m, 'a> {
-    looked: Looked<'m, 'a>,
+    cached: CachedMail<'m, 'a>,
     flag: bool,
-    so_far: SoFar,
+    state: RunState,
 }
 
 /// Runs the code of a script on a mail (RFC 5228, 2.10 and 3).
@@ -44,42 +44,42 @@ pub fn run(alloc: Global, code: &Code<'_>, mail: &Mail<'_>) -> Result<Outcome, A
 {
     let instrs = code.instrs();
     let mut machine = Machine {
-        looked: Looked::new(alloc, mail),
+        cached: CachedMail::new(alloc, mail),
         flag: false,
-        so_far: SoFar::new(alloc),
+        state: RunState::new(alloc),
     };
     let mut place = 0;
     while place < instrs.len() {
         match machine.turn(alloc, &instrs[place], place)? {
             Turn::Next(next) => place = next,
-            Turn::Stopped => return machine.end(alloc),
+            Turn::Stopped => return machine.finish(alloc),
             Turn::Failed(failure) => return Ok(Outcome::Failed(failure)),
         }
     }
-    machine.end(alloc)
+    machine.finish(alloc)
 }
 
 impl<'m, 'a> Machine<'m, 'a> {
     /// The outcome of a run that is over.
-    fn end(self, alloc: Global) -> Result<Outcome, AllocError>
-        ensures { IfOk result (λ done. outcome_view done ≡ Done (deeds_of (so_far_of self.entry.so_far))) }
+    fn finish(self, alloc: Global) -> Result<Outcome, AllocError>
+        ensures { IfOk result (λ done. outcome_view done ≡ Done (actions_of (run_state_of self.entry.state))) }
     {
-        self.so_far.end(alloc)
+        self.state.finish(alloc)
     }
 
     /// One turn: the instruction at this place is carried out.
     fn turn(&mut self, alloc: Global, instr: &Instr<'_>, place: usize) -> Result<Turn, AllocError>
         requires { place + 1 < 2 ^ 64 }
         ensures turn { IfOk result (λ turn. (next : Run) →
-            turn_of (truth_at self.old.looked) next (instr_view instr.now) place self.old.flag (so_far_of self.old.so_far)
-            ≡ after_turn turn next self.new.flag (so_far_of self.new.so_far)) }
+            turn_of (truth_at self.old.cached) next (instr_view instr.now) place self.old.flag (run_state_of self.old.state)
+            ≡ after_turn turn next self.new.flag (run_state_of self.new.state)) }
         ensures forward { IfOk result (λ turn. (len : ℕ) → LeadsForward place len (instr_view instr.now) → MovesOn place turn) }
-        ensures kept { OnOk result (self.new.looked ≡ self.old.looked) }
+        ensures kept { OnOk result (self.new.cached ≡ self.old.cached) }
     {
         let next = place + 1;
         match instr {
             Instr::Set(value) => self.flag = *value,
-            Instr::Look(check) => self.flag = self.looked.holds(alloc, check)?,
+            Instr::Look(check) => self.flag = self.cached.evaluate(alloc, check)?,
             Instr::Flip => self.flag = !self.flag,
             Instr::Jump(target) => return Ok(Turn::Next(*target)),
             Instr::JumpIf(target) => return Ok(Turn::Next(if self.flag { *target } else { next })),
@@ -87,7 +87,7 @@ impl<'m, 'a> Machine<'m, 'a> {
                 return Ok(Turn::Next(if self.flag { next } else { *target }));
             }
             Instr::Act(action) => {
-                if let Some(failure) = self.so_far.act(alloc, action)? {
+                if let Some(failure) = self.state.act(alloc, action)? {
                     return Ok(Turn::Failed(failure));
                 }
             }

@@ -6,7 +6,7 @@ ghost use Rattle.sieveexec.specs.Truth.{is_beyond, is_some_there, all_exist};
 
 use crate::envelope::Envelope;
 use crate::index::index_of;
-use crate::raws::Raws;
+use crate::raw_values::RawValues;
 use mailhead::{Field, Head};
 use octets::{Octets, lowered};
 use sievesyntax::{Bound, Size};
@@ -21,7 +21,7 @@ pub struct Mail<'a> {
     head: Head<'a>,
     envelope: Envelope,
     size: u64,
-    index: BTreeMap<Octets, Raws<'a>>,
+    index: BTreeMap<Octets, RawValues<'a>>,
 }
 
 impl<'a> Model for Mail<'a> {
@@ -98,7 +98,7 @@ impl<'a> Mail<'a> {
     /// The raw values of the fields that have this name in lower case; none where no field has it.
     ///
     /// No pass over the fields: log n comparisons of names where the fields have n names.
-    pub(crate) fn raws(&self, key: &Octets) -> Option<&Raws<'a>>
+    pub(crate) fn raws(&self, key: &Octets) -> Option<&RawValues<'a>>
         ensures { unwrap_or (option_copied result) [] ≡ raws_keyed self.now.fields key.now }
     {
         self.index.get(key)

@@ -68,7 +68,7 @@ impl<'m, 'a> TextCache<'m, 'a> {
         ensures kept { self.new ≡ self.old }
     {
         let key = lowered(alloc, name)?;
-        know(alloc, self.mail, &mut self.known, &key)?;
+        load(alloc, self.mail, &mut self.known, &key)?;
         match self.known.get(&key) {
             Some(texts) => Ok(text_matches(header, texts.as_slice())),
             None => Ok(false),
@@ -77,7 +77,7 @@ impl<'m, 'a> TextCache<'m, 'a> {
 }
 
 /// Reads the texts of the fields of a name, unless they are known.
-fn know(
+fn load(
     alloc: Global,
     mail: &Mail<'_>,
     known: &mut BTreeMap<Octets, Texts>,

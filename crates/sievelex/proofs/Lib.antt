@@ -16,4 +16,5 @@ pub mod Scanned
 pub mod Several
 pub mod Spaces
 pub mod Strings
+pub mod TokenLaws
 pub mod Worded

@@ -48,14 +48,14 @@ pub line_within : (text : List ℕ) (n line : ℕ) → line ≡ 1 + line_ends (t
 line_within text n line le m e = (omega arith, omega (arith, sum_by-take-le (λ b. cond (is_line_feed b) 1 0) text n))
 
 -- the next token stands within the text
-next_inside : (text : List ℕ) (at : ℕ) (t : Token) → IsNext text at t → t.start < length text
+pub next_inside : (text : List ℕ) (at : ℕ) (t : Token) → IsNext text at t → t.start < length text
 next_inside text at t h = elim (cases_lt t.start (length text)) [
   | inl l ↦ l
   | inr ge ↦ absurd (empty_none (drop t.start text) t.kind t.value _ _ (omega (arith, length-drop t.start text)) h.token.shape)
 ]
 
 -- behind the white space
-next_start : (text : List ℕ) (at : ℕ) (t : Token) → IsNext text at t → space_from Between (drop at text) ≡ Some (drop t.start text)
+pub next_start : (text : List ℕ) (at : ℕ) (t : Token) → IsNext text at t → space_from Between (drop at text) ≡ Some (drop t.start text)
 next_start text at t h =
     let ahead : at ≤ t.start = h.ahead in
     let n : ℕ = t.end - t.start in

@@ -23,7 +23,7 @@ use Rattle.sievelex.proofs.Opening.Opens.{Named, Worded, Numbered, Tagged, Quote
 use Rattle.sievelex.proofs.Best.{IsBest, IsFound, best_found, best_too_large, found_at}
 
 -- no multiplier is a digit
-letter_no_digit : (c f : ℕ) → factor_of (c ∷ []) ≡ Some f → is_digit c ≡ false
+pub letter_no_digit : (c f : ℕ) → factor_of (c ∷ []) ≡ Some f → is_digit c ≡ false
 letter_no_digit c f h = grind (arith, nat_tests)
 
 -- where a digit stands first, only a number does

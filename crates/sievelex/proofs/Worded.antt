@@ -34,7 +34,7 @@ pub record IsWord (octets : List ℕ) : Type 0 where
 colon_is : (e : ℕ) → to_ascii_lowercase e ≡ 58 → e ≡ 58
 colon_is e h = grind (arith, nat_tests)
 
-short : (s : List ℕ) → lowered s ≡ codes "text:" → length s ≡ 5
+pub short : (s : List ℕ) → lowered s ≡ codes "text:" → length s ≡ 5
 short s h = sym (length-map s to_ascii_lowercase) ∙ ap length h
 
 -- the word in five octets

@@ -4,6 +4,7 @@
 mod class;
 mod fault;
 mod front;
+pub mod laws;
 mod multiline;
 mod number;
 mod packed;

@@ -2,8 +2,8 @@
 use Rattle.std.proofs.Common.{◌≡◌, ℕ, List, [], ◌∷◌, ◌++◌, ◌<◌, ◌≤◌, length, refl, sym, ap, ◌∙◌, subst, arith}
 use Rattle.sievelex.specs.declared.token.Kind.{Kind}
 use Rattle.sievelex.specs.declared.token.Kind.TheVariants as K
-use Rattle.sievesyntax.specs.declared.argument.Argument.{Argument}
-use Rattle.sievesyntax.specs.declared.argument.Argument.TheVariants as A
+use Rattle.sievesyntax.specs.declared.parser.argument.Argument.{Argument}
+use Rattle.sievesyntax.specs.declared.parser.argument.Argument.TheVariants as A
 use Rattle.sievesyntax.specs.Chains.{Chain}
 use Rattle.sievesyntax.specs.Lexemes.{Lexeme, text, mark}
 use Rattle.sievesyntax.specs.Arguments.{IsOther, AreStrings, IsArgument, IsEnd, AreArguments}

@@ -1,16 +1,17 @@
 -- Lemmas on blocks and branches.
 use Rattle.std.proofs.Common.{◌≡◌, inl, inr, ◌++◌, ℕ, ◌≤◌, ◌<◌, ◌+◌, List, [], ◌∷◌, length, refl, sym, ap, ◌∙◌, subst, arith, max, suc}
 use Rattle.sievelex.specs.declared.token.Kind.TheVariants as K
-use Rattle.sievesyntax.specs.declared.lexeme.Word.{Word}
-use Rattle.sievesyntax.specs.declared.lexeme.Word.TheVariants as W
-use Rattle.sievesyntax.specs.declared.granted.Granted.{Granted}
-use Rattle.sievesyntax.specs.Lexemes.{Lexeme, word, tag, number, text, mark}
+use Rattle.sievesyntax.specs.declared.table.keyword.Keyword.{Keyword}
+use Rattle.sievesyntax.specs.declared.table.keyword.Keyword.TheVariants as W
+use Rattle.sievesyntax.specs.declared.table.capability.Capabilities.{Capabilities}
+use Rattle.sievesyntax.specs.Lexemes.{Lexeme, keyword, tag, number, text, mark}
 use Rattle.sievesyntax.specs.Chains.{Chain}
 use Rattle.sievesyntax.specs.Tree.{TestTree, yes, CommandTree, require, choose, stop, act, Branches, no_branches, branch, Commands, no_commands, command, depth, depth_of, branches_depth}
 use Rattle.sievesyntax.specs.View.{commands_of, branches_of}
-use Rattle.sievesyntax.specs.Valid.{MayAsk, MayAllStand, MayBranch}
-use Rattle.sievesyntax.specs.Tests.{TakesTest}
-use Rattle.sievesyntax.specs.Reading.{IsStatement, IsCommand, IsChoice, AreBranches, AreCommands, TakesBranch, TakesElsif, TakesElsifs, TakesElse, IsPastElsif, IsPastBranches, ReadsCommand, TakesCommand, TakesBehind, TakesBlock, TakesAll, IsStop}
+use Rattle.sievesyntax.specs.Valid.{max_lists, max_nots, MayAsk, MayAllStand, MayBranch}
+use Rattle.sievesyntax.specs.Steps.{TakesTest}
+use Rattle.sievesyntax.specs.Grammar.{IsStatement, IsCommand, IsChoice, AreBranches, AreCommands, IsPastBranches, ReadsCommand}
+use Rattle.sievesyntax.specs.Steps.{TakesBranch, TakesElsif, TakesElsifs, TakesElse, IsPastElsif, TakesCommand, TakesAfter, TakesBlock, TakesAll, IsStop}
 use Rattle.sievesyntax.proofs.Chains.{IsSoFar, chain_more, chain_ends, chain_fails}
 use Rattle.sievesyntax.proofs.TestLemmas.{arguments_longer, reads_test_longer}
 
@@ -23,7 +24,7 @@ pub commands_of-list_of : (cs : Commands) → commands_of (list_of cs) ≡ cs
 commands_of-list_of no_commands = refl
 commands_of-list_of (command first more) = ap (command first) (commands_of-list_of more)
 
-module _ (granted : Granted) (room : ℕ) where
+module _ (granted : Capabilities) (room : ℕ) where
   -- a row of commands that may stand there, as a block
   pub chain_is : (trees : List CommandTree) (from to : List Lexeme) → Chain (TakesCommand granted room) trees from to → AreCommands (commands_of trees) from to × (MayAllStand granted (commands_of trees) × (depth (commands_of trees) ≤ room))
   chain_is [] from to same = (same, (tt, omega arith))
@@ -45,17 +46,17 @@ module _ (granted : Granted) (room : ℕ) where
   pub stop_none : (from : List Lexeme) → IsStop from → (tree : CommandTree) (to : List Lexeme) → TakesCommand granted room tree from to → ⊥
   stop_none from stops tree to takes = subst IsStop takes.0.1.1.0 stops
 
-statement_longer : (tree : CommandTree) (name : Word) (behind to : List Lexeme) → IsStatement tree name behind to → length to < length behind
+statement_longer : (tree : CommandTree) (name : Keyword) (behind to : List Lexeme) → IsStatement tree name behind to → length to < length behind
 statement_longer tree name behind to is = omega (arith, arguments_longer is.0 behind (mark K.Semicolon ∷ to) is.1.0.spelled)
 
 mutual
-  command_longer : (tree : CommandTree) (name : Word) (behind to : List Lexeme) → IsCommand tree name behind to → length to < length behind
+  command_longer : (tree : CommandTree) (name : Keyword) (behind to : List Lexeme) → IsCommand tree name behind to → length to < length behind
   command_longer (require names) name behind to is = statement_longer (require names) name behind to is
   command_longer (choose branches) name behind to is = choice_longer branches name behind to is
   command_longer stop name behind to is = statement_longer stop name behind to is
   command_longer (act action) name behind to is = statement_longer (act action) name behind to is
 
-  choice_longer : (branches : Branches) (name : Word) (behind to : List Lexeme) → IsChoice branches name behind to → length to < length behind
+  choice_longer : (branches : Branches) (name : Keyword) (behind to : List Lexeme) → IsChoice branches name behind to → length to < length behind
   choice_longer no_branches name behind to is = absurd is
   choice_longer (branch condition block more) name behind to is =
       let next = is.1.0 in
@@ -88,7 +89,7 @@ mutual
 pub reads_longer : (tree : CommandTree) (from to : List Lexeme) → ReadsCommand tree from to → length to < length from
 reads_longer tree from to reads = omega (arith, ap length reads.1.1.0, command_longer tree reads.0 reads.1.0 to reads.1.1.1)
 
-module _ (granted : Granted) (room inner_room : ℕ) (more_room : room ≡ inner_room + 1) (from inside : List Lexeme) (opens : from ≡ mark K.OpenBrace ∷ inside) where
+module _ (granted : Capabilities) (room inner_room : ℕ) (more_room : room ≡ inner_room + 1) (from inside : List Lexeme) (opens : from ≡ mark K.OpenBrace ∷ inside) where
   -- a block has commands inside it
   block_chain : (block : Commands) (to : List Lexeme) → TakesBlock granted room block from to → TakesAll granted inner_room (list_of block) inside (mark K.CloseBrace ∷ to)
   block_chain block to takes =
@@ -127,8 +128,8 @@ branches_of-list_of : (bs : Branches) → branches_of (list_of_branches bs) ≡ 
 branches_of-list_of no_branches = refl
 branches_of-list_of (branch condition block more) = ap (branch condition block) (branches_of-list_of more)
 
--- branches behind the first: each `elsif`, and an `else` or none
-pub record AreParted (granted : Granted) (room : ℕ) (all : List (TestTree × Commands)) (from to : List Lexeme) : Type 0 where
+-- branches after the first: each `elsif`, and an `else` or none
+pub record AreParted (granted : Capabilities) (room : ℕ) (all : List (TestTree × Commands)) (from to : List Lexeme) : Type 0 where
   pub each : List (TestTree × Commands)
   pub last : List (TestTree × Commands)
   pub middle : List Lexeme
@@ -138,33 +139,33 @@ pub record AreParted (granted : Granted) (room : ℕ) (all : List (TestTree × C
 
 past_elsif : (from : List Lexeme) → IsPastBranches from → IsPastElsif from
 past_elsif [] past = tt
-past_elsif (word W.Require ∷ _) past = tt
-past_elsif (word W.If ∷ _) past = tt
-past_elsif (word W.Elsif ∷ _) past = past
-past_elsif (word W.Else ∷ _) past = tt
-past_elsif (word W.Stop ∷ _) past = tt
-past_elsif (word W.Keep ∷ _) past = tt
-past_elsif (word W.Discard ∷ _) past = tt
-past_elsif (word W.FileInto ∷ _) past = tt
-past_elsif (word W.Redirect ∷ _) past = tt
-past_elsif (word W.Vacation ∷ _) past = tt
-past_elsif (word W.True ∷ _) past = tt
-past_elsif (word W.False ∷ _) past = tt
-past_elsif (word W.Not ∷ _) past = tt
-past_elsif (word W.AllOf ∷ _) past = tt
-past_elsif (word W.AnyOf ∷ _) past = tt
-past_elsif (word W.Size ∷ _) past = tt
-past_elsif (word W.Exists ∷ _) past = tt
-past_elsif (word W.Header ∷ _) past = tt
-past_elsif (word W.Address ∷ _) past = tt
-past_elsif (word W.Envelope ∷ _) past = tt
-past_elsif (word W.Other ∷ _) past = tt
+past_elsif (keyword W.Require ∷ _) past = tt
+past_elsif (keyword W.If ∷ _) past = tt
+past_elsif (keyword W.Elsif ∷ _) past = past
+past_elsif (keyword W.Else ∷ _) past = tt
+past_elsif (keyword W.Stop ∷ _) past = tt
+past_elsif (keyword W.Keep ∷ _) past = tt
+past_elsif (keyword W.Discard ∷ _) past = tt
+past_elsif (keyword W.FileInto ∷ _) past = tt
+past_elsif (keyword W.Redirect ∷ _) past = tt
+past_elsif (keyword W.Vacation ∷ _) past = tt
+past_elsif (keyword W.True ∷ _) past = tt
+past_elsif (keyword W.False ∷ _) past = tt
+past_elsif (keyword W.Not ∷ _) past = tt
+past_elsif (keyword W.AllOf ∷ _) past = tt
+past_elsif (keyword W.AnyOf ∷ _) past = tt
+past_elsif (keyword W.Size ∷ _) past = tt
+past_elsif (keyword W.Exists ∷ _) past = tt
+past_elsif (keyword W.Header ∷ _) past = tt
+past_elsif (keyword W.Address ∷ _) past = tt
+past_elsif (keyword W.Envelope ∷ _) past = tt
+past_elsif (keyword W.Other ∷ _) past = tt
 past_elsif (tag _ ∷ _) past = tt
 past_elsif (number _ ∷ _) past = tt
 past_elsif (text _ ∷ _) past = tt
 past_elsif (mark _ ∷ _) past = tt
 
-module _ (granted : Granted) (room : ℕ) where
+module _ (granted : Capabilities) (room : ℕ) where
   pub branches_parted : (bs : Branches) (from to : List Lexeme) → AreBranches bs from to → MayBranch granted bs → branches_depth bs + 1 ≤ room → AreParted granted room (list_of_branches bs) from to
   branches_parted no_branches from to are may low =
       let past : IsPastBranches from = subst IsPastBranches (sym are.0) are.1 in
@@ -201,7 +202,7 @@ module _ (granted : Granted) (room : ℕ) where
   last_joined (one ∷ []) from to some ends =
       let block = ends.1.1.1 in
       let low : depth one.1 + 1 ≤ room = block.1.1 in
-      (inr (ends.0, (ends.1.0, (block.0, (ends.1.1.0, refl)))), ((subst (MayAsk granted 32 32) (sym ends.1.1.0) (tt, (omega arith, omega arith)), (block.1.0, tt)), omega (arith, low, some)))
+      (inr (ends.0, (ends.1.0, (block.0, (ends.1.1.0, refl)))), ((subst (MayAsk granted max_lists max_nots) (sym ends.1.1.0) (tt, (omega arith, omega arith)), (block.1.0, tt)), omega (arith, low, some)))
   last_joined (one ∷ (two ∷ more)) from to some none = absurd none
 
   branches_joined : (each last : List (TestTree × Commands)) (from middle to : List Lexeme) → 1 ≤ room → Chain (TakesElsif granted room) each from middle → TakesElse granted room last middle to → AreBranches (branches_of (each ++ last)) from to × (MayBranch granted (branches_of (each ++ last)) × (branches_depth (branches_of (each ++ last)) + 1 ≤ room))
@@ -215,7 +216,7 @@ module _ (granted : Granted) (room : ℕ) where
       (inl (at.0, (at.1.0, (chain.0, ((at.1.1.0, (at.1.1.1.0.0, block.0)), rest.0)))), ((at.1.1.1.0.1, (block.1.0, rest.1.0)), omega (arith, low, lower)))
 
 -- the parts of an `if`
-pub record IsIf (granted : Granted) (room : ℕ) (tree : CommandTree) (behind to : List Lexeme) : Type 0 where
+pub record IsIf (granted : Capabilities) (room : ℕ) (tree : CommandTree) (behind to : List Lexeme) : Type 0 where
   pub one : TestTree × Commands
   pub more : Branches
   pub tree_is : tree ≡ choose (branch one.0 one.1 more)
@@ -223,8 +224,8 @@ pub record IsIf (granted : Granted) (room : ℕ) (tree : CommandTree) (behind to
   pub first : TakesBranch granted room one behind next
   pub others : AreParted granted room (list_of_branches more) next to
 
-module _ (granted : Granted) (room : ℕ) (behind : List Lexeme) where
-  if_parts : (tree : CommandTree) (to : List Lexeme) → TakesBehind granted room W.If tree behind to → IsIf granted room tree behind to
+module _ (granted : Capabilities) (room : ℕ) (behind : List Lexeme) where
+  if_parts : (tree : CommandTree) (to : List Lexeme) → TakesAfter granted room W.If tree behind to → IsIf granted room tree behind to
   if_parts (require names) to takes = absurd takes.0.1.1
   if_parts (choose no_branches) to takes = absurd takes.0
   if_parts (choose (branch condition block more)) to takes =
@@ -244,7 +245,7 @@ module _ (granted : Granted) (room : ℕ) (behind : List Lexeme) where
   if_parts (act action) to takes = absurd takes.0.1.1
 
   -- no test and block
-  pub if_no_first : ((one : TestTree × Commands) (to : List Lexeme) → TakesBranch granted room one behind to → ⊥) → (tree : CommandTree) (to : List Lexeme) → TakesBehind granted room W.If tree behind to → ⊥
+  pub if_no_first : ((one : TestTree × Commands) (to : List Lexeme) → TakesBranch granted room one behind to → ⊥) → (tree : CommandTree) (to : List Lexeme) → TakesAfter granted room W.If tree behind to → ⊥
   if_no_first none tree to takes = let p = if_parts tree to takes in none p.one p.next p.first
 
   module _ (one : TestTree × Commands) (next : List Lexeme) (found : TakesBranch granted room one behind next × ((other : TestTree × Commands) (to : List Lexeme) → TakesBranch granted room other behind to → (other ≡ one) × (to ≡ next))) where
@@ -252,7 +253,7 @@ module _ (granted : Granted) (room : ℕ) (behind : List Lexeme) where
     others_at tree to p = subst (λ l. TakesElsifs granted room p.others.each l p.others.middle) (found.1 p.one p.next p.first).1 p.others.elsifs
 
     -- no good `elsif`
-    pub if_no_elsifs : ((each : List (TestTree × Commands)) (to : List Lexeme) → TakesElsifs granted room each next to → ⊥) → (tree : CommandTree) (to : List Lexeme) → TakesBehind granted room W.If tree behind to → ⊥
+    pub if_no_elsifs : ((each : List (TestTree × Commands)) (to : List Lexeme) → TakesElsifs granted room each next to → ⊥) → (tree : CommandTree) (to : List Lexeme) → TakesAfter granted room W.If tree behind to → ⊥
     if_no_elsifs none tree to takes = let p = if_parts tree to takes in none p.others.each p.others.middle (others_at tree to p)
 
     module _ (all : List (TestTree × Commands)) (mid : List Lexeme) (only : (each : List (TestTree × Commands)) (to : List Lexeme) → TakesElsifs granted room each next to → (all ≡ one ∷ each) × (to ≡ mid)) where
@@ -260,12 +261,12 @@ module _ (granted : Granted) (room : ℕ) (behind : List Lexeme) where
       last_at tree to p = subst (λ l. TakesElse granted room p.others.last l to) (only p.others.each p.others.middle (others_at tree to p)).1 p.others.ends
 
       -- no good `else`
-      pub if_no_else : ((last : List (TestTree × Commands)) (to : List Lexeme) → TakesElse granted room last mid to → ⊥) → (tree : CommandTree) (to : List Lexeme) → TakesBehind granted room W.If tree behind to → ⊥
+      pub if_no_else : ((last : List (TestTree × Commands)) (to : List Lexeme) → TakesElse granted room last mid to → ⊥) → (tree : CommandTree) (to : List Lexeme) → TakesAfter granted room W.If tree behind to → ⊥
       if_no_else none tree to takes = let p = if_parts tree to takes in none p.others.last to (last_at tree to p)
 
       module _ (whole : List (TestTree × Commands)) (to : List Lexeme) (alone : (last : List (TestTree × Commands)) (end : List Lexeme) → TakesElse granted room last mid end → (whole ≡ all ++ last) × (end ≡ to)) where
         -- the one `if`
-        pub if_only : (tree : CommandTree) (end : List Lexeme) → TakesBehind granted room W.If tree behind end → (tree ≡ choose (branches_of whole)) × (end ≡ to)
+        pub if_only : (tree : CommandTree) (end : List Lexeme) → TakesAfter granted room W.If tree behind end → (tree ≡ choose (branches_of whole)) × (end ≡ to)
         if_only tree end takes =
             let p = if_parts tree end takes in
             let first = found.1 p.one p.next p.first in
@@ -277,7 +278,7 @@ module _ (granted : Granted) (room : ℕ) (behind : List Lexeme) where
             (p.tree_is ∙ ap (λ o. choose (branch o.0 o.1 p.more)) first.0 ∙ sym again, last.1)
 
         -- what was read is one
-        pub if_takes : (each last : List (TestTree × Commands)) → all ≡ one ∷ each → TakesElsifs granted room each next mid → whole ≡ all ++ last → TakesElse granted room last mid to → TakesBehind granted room W.If (choose (branches_of whole)) behind to
+        pub if_takes : (each last : List (TestTree × Commands)) → all ≡ one ∷ each → TakesElsifs granted room each next mid → whole ≡ all ++ last → TakesElse granted room last mid to → TakesAfter granted room W.If (choose (branches_of whole)) behind to
         if_takes each last all_is elsifs whole_is ends =
             let first = found.0 in
             let block = first.1.1 in
@@ -285,21 +286,21 @@ module _ (granted : Granted) (room : ℕ) (behind : List Lexeme) where
             let rest = branches_joined granted room each last next mid to (omega (arith, low)) elsifs.0 ends in
             let lower : branches_depth (branches_of (each ++ last)) + 1 ≤ room = rest.1.1 in
             let same : branch one.0 one.1 (branches_of (each ++ last)) ≡ branches_of whole = ap branches_of (sym (whole_is ∙ ap (λ l. l ++ last) all_is)) in
-            let takes : TakesBehind granted room W.If (choose (branch one.0 one.1 (branches_of (each ++ last)))) behind to = ((refl, (next, ((first.0, (first.1.0.0, block.0)), rest.0))), ((first.1.0.1, (block.1.0, rest.1.0)), omega (arith, low, lower))) in
-            subst (λ bs. TakesBehind granted room W.If (choose bs) behind to) same takes
+            let takes : TakesAfter granted room W.If (choose (branch one.0 one.1 (branches_of (each ++ last)))) behind to = ((refl, (next, ((first.0, (first.1.0.0, block.0)), rest.0))), ((first.1.0.1, (block.1.0, rest.1.0)), omega (arith, low, lower))) in
+            subst (λ bs. TakesAfter granted room W.If (choose bs) behind to) same takes
 
-module _ (granted : Granted) (room : ℕ) (behind : List Lexeme) where
+module _ (granted : Capabilities) (room : ℕ) (behind : List Lexeme) where
   -- no test
-  pub branch_no_test : ((condition : TestTree) (to : List Lexeme) → TakesTest granted 32 32 condition behind to → ⊥) → (one : TestTree × Commands) (to : List Lexeme) → TakesBranch granted room one behind to → ⊥
+  pub branch_no_test : ((condition : TestTree) (to : List Lexeme) → TakesTest granted max_lists max_nots condition behind to → ⊥) → (one : TestTree × Commands) (to : List Lexeme) → TakesBranch granted room one behind to → ⊥
   branch_no_test none one to takes = none one.0 takes.0 takes.1.0
 
-  module _ (condition : TestTree) (start : List Lexeme) (only : (other : TestTree) (to : List Lexeme) → TakesTest granted 32 32 other behind to → (other ≡ condition) × (to ≡ start)) where
+  module _ (condition : TestTree) (start : List Lexeme) (only : (other : TestTree) (to : List Lexeme) → TakesTest granted max_lists max_nots other behind to → (other ≡ condition) × (to ≡ start)) where
     -- no block
     pub branch_no_block : ((block : Commands) (to : List Lexeme) → TakesBlock granted room block start to → ⊥) → (one : TestTree × Commands) (to : List Lexeme) → TakesBranch granted room one behind to → ⊥
     branch_no_block none one to takes = none one.1 to (subst (λ l. TakesBlock granted room one.1 l to) (only one.0 takes.0 takes.1.0).1 takes.1.1)
 
     -- the one branch
-    pub branch_found : TakesTest granted 32 32 condition behind start → (block : Commands) (to : List Lexeme) → TakesBlock granted room block start to × ((other : Commands) (end : List Lexeme) → TakesBlock granted room other start end → (other ≡ block) × (end ≡ to)) → TakesBranch granted room (condition, block) behind to × ((other : TestTree × Commands) (end : List Lexeme) → TakesBranch granted room other behind end → (other ≡ (condition, block)) × (end ≡ to))
+    pub branch_found : TakesTest granted max_lists max_nots condition behind start → (block : Commands) (to : List Lexeme) → TakesBlock granted room block start to × ((other : Commands) (end : List Lexeme) → TakesBlock granted room other start end → (other ≡ block) × (end ≡ to)) → TakesBranch granted room (condition, block) behind to × ((other : TestTree × Commands) (end : List Lexeme) → TakesBranch granted room other behind end → (other ≡ (condition, block)) × (end ≡ to))
     branch_found tested block to found = (
       (start, (tested, found.0)),
       λ other end takes.
@@ -309,7 +310,7 @@ module _ (granted : Granted) (room : ℕ) (behind : List Lexeme) where
     )
 
 -- an `elsif` read
-module _ (granted : Granted) (room : ℕ) (whole : List Lexeme) (each : List (TestTree × Commands)) (rest : List Lexeme) (so : IsSoFar (TakesElsif granted room) IsPastElsif whole each rest) where
+module _ (granted : Capabilities) (room : ℕ) (whole : List Lexeme) (each : List (TestTree × Commands)) (rest : List Lexeme) (so : IsSoFar (TakesElsif granted room) IsPastElsif whole each rest) where
   past_no_elsif : IsPastElsif rest → (one : TestTree × Commands) (to : List Lexeme) → TakesElsif granted room one rest to → ⊥
   past_no_elsif past one to takes = subst IsPastElsif takes.1.0 past
 
@@ -317,10 +318,10 @@ module _ (granted : Granted) (room : ℕ) (whole : List Lexeme) (each : List (Te
   pub elsifs_end : IsPastElsif rest → (others : List (TestTree × Commands)) (to : List Lexeme) → TakesElsifs granted room others whole to → (others ≡ each) × (to ≡ rest)
   elsifs_end past others to takes = chain_ends (TakesElsif granted room) IsPastElsif whole each rest so (past_no_elsif past) others to takes.0 takes.1
 
-  module _ (mid : List Lexeme) (opens : rest ≡ word W.Elsif ∷ mid) where
+  module _ (mid : List Lexeme) (opens : rest ≡ keyword W.Elsif ∷ mid) where
     behind_elsif : (one : TestTree × Commands) (to : List Lexeme) → TakesElsif granted room one rest to → TakesBranch granted room one mid to
     behind_elsif one to takes =
-        let same : word W.Elsif ∷ takes.0 ≡ word W.Elsif ∷ mid = sym takes.1.0 ∙ opens in
+        let same : keyword W.Elsif ∷ takes.0 ≡ keyword W.Elsif ∷ mid = sym takes.1.0 ∙ opens in
         let there : takes.0 ≡ mid = cc in
         subst (λ l. TakesBranch granted room one l to) there takes.1.1
 
@@ -341,12 +342,12 @@ module _ (granted : Granted) (room : ℕ) (whole : List Lexeme) (each : List (Te
         omega (arith, ap length opens, reads_test_longer one.0 mid takes.0 takes.1.0.0, ap length braced.1.0, all_longer one.1 braced.0 (mark K.CloseBrace ∷ next) braced.1.1)
 
 -- an `else` read
-module _ (granted : Granted) (room : ℕ) (from mid : List Lexeme) (opens : from ≡ word W.Else ∷ mid) where
+module _ (granted : Capabilities) (room : ℕ) (from mid : List Lexeme) (opens : from ≡ keyword W.Else ∷ mid) where
   -- a bad block
   pub else_fails : ((block : Commands) (to : List Lexeme) → TakesBlock granted room block mid to → ⊥) → (last : List (TestTree × Commands)) (to : List Lexeme) → TakesElse granted room last from to → ⊥
   else_fails none [] to takes = subst IsPastBranches opens takes.1
   else_fails none (one ∷ []) to takes =
-      let same : word W.Else ∷ takes.0 ≡ word W.Else ∷ mid = sym takes.1.0 ∙ opens in
+      let same : keyword W.Else ∷ takes.0 ≡ keyword W.Else ∷ mid = sym takes.1.0 ∙ opens in
       let there : takes.0 ≡ mid = cc in
       none one.1 to (subst (λ l. TakesBlock granted room one.1 l to) there takes.1.1.1)
   else_fails none (one ∷ (two ∷ more)) to takes = takes
@@ -355,7 +356,7 @@ module _ (granted : Granted) (room : ℕ) (from mid : List Lexeme) (opens : from
   pub else_only : (block : Commands) (to : List Lexeme) → ((other : Commands) (end : List Lexeme) → TakesBlock granted room other mid end → (other ≡ block) × (end ≡ to)) → (last : List (TestTree × Commands)) (end : List Lexeme) → TakesElse granted room last from end → (last ≡ (yes, block) ∷ []) × (end ≡ to)
   else_only block to only [] end takes = absurd (subst IsPastBranches opens takes.1)
   else_only block to only (one ∷ []) end takes =
-      let same : word W.Else ∷ takes.0 ≡ word W.Else ∷ mid = sym takes.1.0 ∙ opens in
+      let same : keyword W.Else ∷ takes.0 ≡ keyword W.Else ∷ mid = sym takes.1.0 ∙ opens in
       let there : takes.0 ≡ mid = cc in
       let found = only one.1 end (subst (λ l. TakesBlock granted room one.1 l end) there takes.1.1.1) in
       let pair : one ≡ (yes, block) = λ i. (takes.1.1.0 i, found.0 i) in
@@ -363,12 +364,12 @@ module _ (granted : Granted) (room : ℕ) (from mid : List Lexeme) (opens : from
   else_only block to only (one ∷ (two ∷ more)) end takes = absurd takes
 
 -- no `else` read
-pub else_none : (granted : Granted) (room : ℕ) (from : List Lexeme) → IsPastBranches from → (last : List (TestTree × Commands)) (to : List Lexeme) → TakesElse granted room last from to → (last ≡ []) × (to ≡ from)
+pub else_none : (granted : Capabilities) (room : ℕ) (from : List Lexeme) → IsPastBranches from → (last : List (TestTree × Commands)) (to : List Lexeme) → TakesElse granted room last from to → (last ≡ []) × (to ≡ from)
 else_none granted room from past [] to takes = (refl, sym takes.0)
 else_none granted room from past (one ∷ []) to takes = absurd (subst IsPastBranches takes.1.0 past)
 else_none granted room from past (one ∷ (two ∷ more)) to takes = absurd takes
 
-module _ (granted : Granted) (room : ℕ) (whole : List Lexeme) (so_far : List CommandTree) (rest : List Lexeme) (so : IsSoFar (TakesCommand granted room) IsStop whole so_far rest) where
+module _ (granted : Capabilities) (room : ℕ) (whole : List Lexeme) (so_far : List CommandTree) (rest : List Lexeme) (so : IsSoFar (TakesCommand granted room) IsStop whole so_far rest) where
   -- neither a command nor the end of commands
   pub commands_stop : (IsStop rest → ⊥) → ((tree : CommandTree) (to : List Lexeme) → TakesCommand granted room tree rest to → ⊥) → (trees : List CommandTree) (to : List Lexeme) → TakesAll granted room trees whole to → ⊥
   commands_stop goes_on none trees to all = chain_fails (TakesCommand granted room) IsStop whole so_far rest so goes_on none trees to all.0 all.1

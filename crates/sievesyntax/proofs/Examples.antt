@@ -2,29 +2,29 @@
 use Rattle.std.proofs.Common.{◌≡◌, ℕ, Bool, true, false, List, [], ◌∷◌, Some, None, refl, sym, arith, subst, inl, inr}
 use Rattle.std.specs.Prelude.{codes}
 use Rattle.sievelex.specs.declared.token.Kind.TheVariants as K
-use Rattle.sievesyntax.specs.declared.lexeme.Word.TheVariants as W
-use Rattle.sievesyntax.specs.declared.lexeme.Tag.TheVariants as T
-use Rattle.sievesyntax.specs.declared.argument.Argument.TheVariants as A
-use Rattle.sievesyntax.specs.declared.setting.Setting.{Setting}
-use Rattle.sievesyntax.specs.declared.setting.Setting.TheVariants as S
-use Rattle.sievesyntax.specs.declared.setting.Slot.TheVariants as P
-use Rattle.sievesyntax.specs.declared.argument.Argument.{Argument}
-use Rattle.sievesyntax.specs.declared.checks.Matching.TheVariants as M
-use Rattle.sievesyntax.specs.declared.checks.Collation.TheVariants as C
-use Rattle.sievesyntax.specs.declared.checks.Check.TheVariants as L
-use Rattle.sievesyntax.specs.declared.checks.Check.{Check}
-use Rattle.sievesyntax.specs.declared.vacation.VacArgs.{VacArgs}
-use Rattle.sievesyntax.specs.declared.action.Action.TheVariants as D
-use Rattle.sievesyntax.specs.Lexemes.{Lexeme, word, tag, number, text, mark}
+use Rattle.sievesyntax.specs.declared.table.keyword.Keyword.TheVariants as W
+use Rattle.sievesyntax.specs.declared.table.tag.Tag.TheVariants as T
+use Rattle.sievesyntax.specs.declared.parser.argument.Argument.TheVariants as A
+use Rattle.sievesyntax.specs.declared.table.tag_group.TagValue.{TagValue}
+use Rattle.sievesyntax.specs.declared.table.tag_group.TagValue.TheVariants as S
+use Rattle.sievesyntax.specs.declared.table.tag_group.TagGroup.TheVariants as P
+use Rattle.sievesyntax.specs.declared.parser.argument.Argument.{Argument}
+use Rattle.sievesyntax.specs.declared.tree.checks.Matching.TheVariants as M
+use Rattle.sievesyntax.specs.declared.tree.checks.Collation.TheVariants as C
+use Rattle.sievesyntax.specs.declared.tree.checks.Check.TheVariants as L
+use Rattle.sievesyntax.specs.declared.tree.checks.Check.{Check}
+use Rattle.sievesyntax.specs.declared.tree.vacation.VacArgs.{VacArgs}
+use Rattle.sievesyntax.specs.declared.tree.action.Action.TheVariants as D
+use Rattle.sievesyntax.specs.Lexemes.{Lexeme, keyword, tag, number, text, mark}
 use Rattle.sievesyntax.specs.Arguments.{AreStrings, AreArguments}
-use Rattle.sievesyntax.specs.Settings.{IsPlain, IsArranged}
-use Rattle.sievesyntax.specs.Rows.{IsPlainTest, IsPlainCommand, parts_of}
+use Rattle.sievesyntax.specs.Tags.{IsPlain, IsSplit}
+use Rattle.sievesyntax.specs.Table.{IsPlainTest, IsPlainCommand, parts_of}
 use Rattle.sievesyntax.specs.Tests.{IsTest, ReadsTest}
-use Rattle.sievesyntax.specs.Reading.{Reads}
+use Rattle.sievesyntax.specs.Grammar.{Reads}
 use Rattle.sievesyntax.specs.Tree.{TestTree, yes, looks, not_of, all_of, any_of, no_tests, test, list_depth, not_depth, CommandTree, choose, stop, act, no_branches, branch, Commands, no_commands, command, depth}
 use Rattle.sievesyntax.specs.Valid.{IsMailbox, IsValid, is_capability}
 use Rattle.sievesyntax.specs.Means.{Means}
-use Rattle.sievesyntax.specs.SoFar.{TwoVacations}
+use Rattle.sievesyntax.specs.RunState.{TwoVacations}
 use Rattle.sievesyntax.specs.Meaning.{outcome, Done, Failed}
 
 -- `:over 5` and no more before a semicolon
@@ -37,21 +37,21 @@ no_strings [] to end are = are
 no_strings (x ∷ more) to end are = let e : mark K.CloseBracket ∷ to ≡ text x ∷ are.0 = are.1.0 in absurd (cc e)
 
 -- `:comparator "i;octet" :contains "a"`
-settings : IsArranged (P.Comparator ∷ (P.Matching ∷ [])) (A.Tag T.Comparator ∷ (A.Text (codes "i;octet") ∷ (A.Tag T.Contains ∷ (A.Text (codes "a") ∷ [])))) (S.Comparator C.Octet ∷ (S.Matching M.Contains ∷ [])) (A.Text (codes "a") ∷ [])
-settings = record {
+tag_values : IsSplit (P.Comparator ∷ (P.Matching ∷ [])) (A.Tag T.Comparator ∷ (A.Text (codes "i;octet") ∷ (A.Tag T.Contains ∷ (A.Text (codes "a") ∷ [])))) (S.Comparator C.Octet ∷ (S.Matching M.Contains ∷ [])) (A.Text (codes "a") ∷ [])
+tag_values = record {
   written = (A.Tag T.Contains ∷ (A.Text (codes "a") ∷ []), ((refl, inl refl), (A.Text (codes "a") ∷ [], ((refl, inr (inl refl)), refl))));
   plain = tt;
   once = (λ among. elim among [ inl e ↦ cc e | inr none ↦ none ], (λ none. none, tt));
 }
 
 -- a tag where no setting is allowed
-no_setting : (settings : List Setting) (positional : List Argument) → IsArranged [] (A.Tag T.Mime ∷ []) settings positional → ⊥
-no_setting [] positional is = let e : A.Tag T.Mime ∷ [] ≡ positional = is.written in subst IsPlain (sym e) is.plain
-no_setting (s ∷ more) positional is = is.written.1.0.1
+no_tag_value : (tag_values : List TagValue) (positional : List Argument) → IsSplit [] (A.Tag T.Mime ∷ []) tag_values positional → ⊥
+no_tag_value [] positional is = let e : A.Tag T.Mime ∷ [] ≡ positional = is.written in subst IsPlain (sym e) is.plain
+no_tag_value (s ∷ more) positional is = is.written.1.0.1
 
 -- `header "a" "b"` compares by `:is` and `i;ascii-casemap`
 header : IsPlainTest W.Header (A.Text (codes "a") ∷ (A.Text (codes "b") ∷ [])) (looks (L.Header (record { comparator = C.AsciiCasemap; matching = M.Is; fields = codes "a" ∷ []; keys = codes "b" ∷ [] })))
-header = (record { comparator = C.AsciiCasemap; matching = M.Is; fields = codes "a" ∷ []; keys = codes "b" ∷ [] }, (record { settings = []; positional = A.Text (codes "a") ∷ (A.Text (codes "b") ∷ []); arranged = record { written = refl; plain = tt; once = tt }; said = refl }, refl))
+header = (record { comparator = C.AsciiCasemap; matching = M.Is; fields = codes "a" ∷ []; keys = codes "b" ∷ [] }, (record { tag_values = []; positional = A.Text (codes "a") ∷ (A.Text (codes "b") ∷ []); split_tags = record { written = refl; plain = tt; once = tt }; said = refl }, refl))
 
 -- `keep "a"`
 no_keep : (tree : CommandTree) → IsPlainCommand W.Keep (A.Text (codes "a") ∷ []) tree → ⊥
@@ -65,15 +65,15 @@ no_parts : parts_of (codes "from" ∷ (codes "auth" ∷ [])) ≡ None
 no_parts = refl
 
 -- `not true`
-not_true : ReadsTest (not_of yes) (word W.Not ∷ (word W.True ∷ (mark K.Semicolon ∷ []))) (mark K.Semicolon ∷ [])
-not_true = (W.Not, (word W.True ∷ (mark K.Semicolon ∷ []), (refl, (refl, (W.True, (mark K.Semicolon ∷ [], (refl, ([], (record { spelled = refl; all = tt }, (refl, refl))))))))))
+not_true : ReadsTest (not_of yes) (keyword W.Not ∷ (keyword W.True ∷ (mark K.Semicolon ∷ []))) (mark K.Semicolon ∷ [])
+not_true = (W.Not, (keyword W.True ∷ (mark K.Semicolon ∷ []), (refl, (refl, (W.True, (mark K.Semicolon ∷ [], (refl, ([], (record { spelled = refl; all = tt }, (refl, refl))))))))))
 
 -- `not` alone
 not_nothing : (inner : TestTree) (to : List Lexeme) → IsTest (not_of inner) W.Not (mark K.Semicolon ∷ []) to → ⊥
-not_nothing inner to is = let e : mark K.Semicolon ∷ [] ≡ word is.1.0 ∷ is.1.1.0 = is.1.1.1.0 in absurd (cc e)
+not_nothing inner to is = let e : mark K.Semicolon ∷ [] ≡ keyword is.1.0 ∷ is.1.1.0 = is.1.1.1.0 in absurd (cc e)
 
 -- `keep;` is a `keep` and no `stop`
-keep : Reads (command (act D.Keep) no_commands) (word W.Keep ∷ (mark K.Semicolon ∷ []))
+keep : Reads (command (act D.Keep) no_commands) (keyword W.Keep ∷ (mark K.Semicolon ∷ []))
 keep = ([], ((W.Keep, (mark K.Semicolon ∷ [], (refl, ([], (record { spelled = refl; all = tt }, (refl, refl)))))), refl))
 
 -- a name of one octet is a mailbox, the empty one isn't
@@ -115,7 +115,7 @@ inbox_twice truth = refl
 once : (truth : Check → Bool) → outcome truth (command (act (D.Redirect (record { local = codes "c"; domain = codes "d" }))) (command (act (D.Redirect (record { local = codes "c"; domain = codes "d" }))) no_commands)) ≡ Done (record { filed = []; sent = record { local = codes "c"; domain = codes "d" } ∷ []; reply = None })
 once truth = refl
 
--- `vacation` keeps the message; a second one fails, behind a `discard` too
+-- `vacation` keeps the message; a second one fails, after a `discard` too
 answered : (truth : Check → Bool) (args : VacArgs) → outcome truth (command (act (D.Vacation args)) no_commands) ≡ Done (record { filed = codes "INBOX" ∷ []; sent = []; reply = Some args })
 answered truth args = refl
 

@@ -1,6 +1,6 @@
 -- How faults go through.
-use Rattle.sievesyntax.specs.declared.refusal.ReadError.{ReadError}
-use Rattle.sievesyntax.specs.declared.refusal.ReadError.TheVariants.{Memory, Fault}
+use Rattle.sievesyntax.specs.declared.error.ReadError.{ReadError}
+use Rattle.sievesyntax.specs.declared.error.ReadError.TheVariants.{Memory, Fault}
 use Rattle.sievesyntax.specs.Parsing.{OnFault}
 
 -- what follows from what holds at a fault holds there too

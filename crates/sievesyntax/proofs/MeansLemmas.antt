@@ -9,7 +9,7 @@ use Rattle.sievelex.specs.Unpacked.{Saying}
 use Rattle.sievelex.specs.Said.{says}
 use Rattle.sievesyntax.specs.Lexemes.{Lexeme, lexeme_of, lexemes, lexemes_said}
 use Rattle.sievesyntax.specs.Tree.{Commands}
-use Rattle.sievesyntax.specs.Reading.{Reads}
+use Rattle.sievesyntax.specs.Grammar.{Reads}
 use Rattle.sievesyntax.specs.Valid.{IsValid}
 use Rattle.sievesyntax.specs.Means.{Means}
 

@@ -1,19 +1,20 @@
 -- Lemmas on tests, commands and blocks.
 use Rattle.std.proofs.Common.{◌≡◌, ℕ, ◌≤◌, List, ◌∷◌, sym, ◌∙◌, subst, arith}
 use Rattle.sievelex.specs.declared.token.Kind.TheVariants as K
-use Rattle.sievesyntax.specs.declared.lexeme.Word.{Word}
-use Rattle.sievesyntax.specs.declared.lexeme.Word.TheVariants as W
-use Rattle.sievesyntax.specs.declared.argument.Argument.{Argument}
-use Rattle.sievesyntax.specs.declared.granted.Granted.{Granted}
+use Rattle.sievesyntax.specs.declared.table.keyword.Keyword.{Keyword}
+use Rattle.sievesyntax.specs.declared.table.keyword.Keyword.TheVariants as W
+use Rattle.sievesyntax.specs.declared.parser.argument.Argument.{Argument}
+use Rattle.sievesyntax.specs.declared.table.capability.Capabilities.{Capabilities}
 use Rattle.sievesyntax.specs.Lexemes.{Lexeme, mark}
 use Rattle.sievesyntax.specs.Arguments.{AreArguments}
-use Rattle.sievesyntax.specs.Rows.{IsPlainCommand}
+use Rattle.sievesyntax.specs.Table.{IsPlainCommand}
 use Rattle.sievesyntax.specs.Tree.{CommandTree, require, choose, stop, act, Branches, no_branches, branch, depth_of}
 use Rattle.sievesyntax.specs.Valid.{MayStand}
-use Rattle.sievesyntax.specs.Reading.{IsStatement, IsCommand, TakesBehind}
+use Rattle.sievesyntax.specs.Grammar.{IsStatement, IsCommand}
+use Rattle.sievesyntax.specs.Steps.{TakesAfter}
 
 -- an `if` is no statement
-not_choose : (name : Word) (args : List Argument) (branches : Branches) → IsPlainCommand name args (choose branches) → ⊥
+not_choose : (name : Keyword) (args : List Argument) (branches : Branches) → IsPlainCommand name args (choose branches) → ⊥
 not_choose W.Require args chosen is = let e = is.1.1 in cc
 not_choose W.If args chosen is = is
 not_choose W.Elsif args chosen is = is
@@ -37,49 +38,49 @@ not_choose W.Envelope args chosen is = is
 not_choose W.Other args chosen is = is
 
 -- a statement has no block
-plain_depth : (name : Word) (args : List Argument) (tree : CommandTree) (room : ℕ) → IsPlainCommand name args tree → depth_of tree ≤ room
+plain_depth : (name : Keyword) (args : List Argument) (tree : CommandTree) (room : ℕ) → IsPlainCommand name args tree → depth_of tree ≤ room
 plain_depth name args (require names) room is = omega arith
 plain_depth name args (choose branches) room is = absurd (not_choose name args branches is)
 plain_depth name args stop room is = omega arith
 plain_depth name args (act action) room is = omega arith
 
 -- a statement is a command
-statement_is : (tree : CommandTree) (name : Word) (behind to : List Lexeme) → IsStatement tree name behind to → IsCommand tree name behind to
+statement_is : (tree : CommandTree) (name : Keyword) (behind to : List Lexeme) → IsStatement tree name behind to → IsCommand tree name behind to
 statement_is (require names) name behind to is = is
 statement_is (choose branches) name behind to is = absurd (not_choose name is.0 branches is.1.1)
 statement_is stop name behind to is = is
 statement_is (act action) name behind to is = is
 
 -- a command that doesn't begin with `if` is a statement
-is_statement : (tree : CommandTree) (name : Word) (behind to : List Lexeme) → (name ≡ W.If → ⊥) → IsCommand tree name behind to → IsStatement tree name behind to
+is_statement : (tree : CommandTree) (name : Keyword) (behind to : List Lexeme) → (name ≡ W.If → ⊥) → IsCommand tree name behind to → IsStatement tree name behind to
 is_statement (require names) name behind to not_if is = is
 is_statement (choose no_branches) name behind to not_if is = absurd is
 is_statement (choose (branch test block more)) name behind to not_if is = absurd (not_if is.0)
 is_statement stop name behind to not_if is = is
 is_statement (act action) name behind to not_if is = is
 
-module _ (granted : Granted) (room : ℕ) (name : Word) (not_if : name ≡ W.If → ⊥) (behind : List Lexeme) where
+module _ (granted : Capabilities) (room : ℕ) (name : Keyword) (not_if : name ≡ W.If → ⊥) (behind : List Lexeme) where
   -- no arguments
-  pub statement_no_args : ((args : List Argument) (to : List Lexeme) → AreArguments args behind to → ⊥) → (tree : CommandTree) (to : List Lexeme) → TakesBehind granted room name tree behind to → ⊥
+  pub statement_no_args : ((args : List Argument) (to : List Lexeme) → AreArguments args behind to → ⊥) → (tree : CommandTree) (to : List Lexeme) → TakesAfter granted room name tree behind to → ⊥
   statement_no_args none tree to takes = let is = is_statement tree name behind to not_if takes.0 in none is.0 (mark K.Semicolon ∷ to) is.1.0
 
   module _ (args : List Argument) (next : List Lexeme) (only : (other : List Argument) (to : List Lexeme) → AreArguments other behind to → (other ≡ args) × (to ≡ next)) where
     -- no command with these arguments
-    pub statement_no_row : ((tree : CommandTree) → IsPlainCommand name args tree → MayStand granted tree → ⊥) → (tree : CommandTree) (to : List Lexeme) → TakesBehind granted room name tree behind to → ⊥
+    pub statement_no_row : ((tree : CommandTree) → IsPlainCommand name args tree → MayStand granted tree → ⊥) → (tree : CommandTree) (to : List Lexeme) → TakesAfter granted room name tree behind to → ⊥
     statement_no_row none tree to takes =
         let is = is_statement tree name behind to not_if takes.0 in
         let same = only is.0 (mark K.Semicolon ∷ to) is.1.0 in
         none tree (subst (λ a. IsPlainCommand name a tree) same.0 is.1.1) takes.1.0
 
     -- no semicolon
-    pub statement_no_end : ((to : List Lexeme) → next ≡ mark K.Semicolon ∷ to → ⊥) → (tree : CommandTree) (to : List Lexeme) → TakesBehind granted room name tree behind to → ⊥
+    pub statement_no_end : ((to : List Lexeme) → next ≡ mark K.Semicolon ∷ to → ⊥) → (tree : CommandTree) (to : List Lexeme) → TakesAfter granted room name tree behind to → ⊥
     statement_no_end none tree to takes =
         let is = is_statement tree name behind to not_if takes.0 in
         let same = only is.0 (mark K.Semicolon ∷ to) is.1.0 in
         none to (sym same.1)
 
     -- the one statement
-    pub statement_found : AreArguments args behind next → (tree : CommandTree) → IsPlainCommand name args tree × MayStand granted tree → ((other : CommandTree) → IsPlainCommand name args other → other ≡ tree) → (to : List Lexeme) → next ≡ mark K.Semicolon ∷ to → TakesBehind granted room name tree behind to × ((other : CommandTree) (end : List Lexeme) → TakesBehind granted room name other behind end → (other ≡ tree) × (end ≡ to))
+    pub statement_found : AreArguments args behind next → (tree : CommandTree) → IsPlainCommand name args tree × MayStand granted tree → ((other : CommandTree) → IsPlainCommand name args other → other ≡ tree) → (to : List Lexeme) → next ≡ mark K.Semicolon ∷ to → TakesAfter granted room name tree behind to × ((other : CommandTree) (end : List Lexeme) → TakesAfter granted room name other behind end → (other ≡ tree) × (end ≡ to))
     statement_found are tree row alone to semicolon = (
       (
         statement_is tree name behind to (args, (subst (AreArguments args behind) semicolon are, row.0)),

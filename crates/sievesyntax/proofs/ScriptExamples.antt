@@ -19,16 +19,16 @@ use Rattle.sievelex.proofs.Named.{identifier_found}
 use Rattle.sievelex.proofs.Marks.{mark_found}
 use Rattle.sievelex.proofs.Gaps.{tail_all}
 use Rattle.sievelex.proofs.Next.{IsAhead, next_found, next_only, next_further}
-use Rattle.sievesyntax.specs.declared.lexeme.Word.{Word}
-use Rattle.sievesyntax.specs.declared.lexeme.Word.TheVariants as W
-use Rattle.sievesyntax.specs.declared.argument.Argument.{Argument}
-use Rattle.sievesyntax.specs.declared.argument.Argument.TheVariants as A
-use Rattle.sievesyntax.specs.declared.action.Action.TheVariants as D
+use Rattle.sievesyntax.specs.declared.table.keyword.Keyword.{Keyword}
+use Rattle.sievesyntax.specs.declared.table.keyword.Keyword.TheVariants as W
+use Rattle.sievesyntax.specs.declared.parser.argument.Argument.{Argument}
+use Rattle.sievesyntax.specs.declared.parser.argument.Argument.TheVariants as A
+use Rattle.sievesyntax.specs.declared.tree.action.Action.TheVariants as D
 use Rattle.sievesyntax.specs.Chains.{Chain}
-use Rattle.sievesyntax.specs.Lexemes.{Lexeme, word, tag, number, text, mark, lexemes}
+use Rattle.sievesyntax.specs.Lexemes.{Lexeme, keyword, tag, number, text, mark, lexemes}
 use Rattle.sievesyntax.specs.Arguments.{IsArgument}
 use Rattle.sievesyntax.specs.Tree.{CommandTree, require, choose, stop, act, no_branches, branch, Commands, no_commands, command}
-use Rattle.sievesyntax.specs.Reading.{IsStatement, IsCommand, Reads}
+use Rattle.sievesyntax.specs.Grammar.{IsStatement, IsCommand, Reads}
 use Rattle.sievesyntax.specs.Means.{Means}
 
 -- what no octet of a text is stands at no place of it
@@ -107,20 +107,20 @@ no_arguments (A.Number n ∷ more) to h = let e : [] ≡ number n ∷ h.0 = h.1.
 no_arguments (A.Text s ∷ more) to h = let e : [] ≡ text s ∷ h.0 = h.1.0 in cc
 no_arguments (A.Strings xs ∷ more) to h = let e : [] ≡ mark K.OpenBracket ∷ h.1.0.0 = h.1.0.1.0 in cc
 
-no_statement : (tree : CommandTree) (name : Word) (to : List Lexeme) → IsStatement tree name [] to → ⊥
+no_statement : (tree : CommandTree) (name : Keyword) (to : List Lexeme) → IsStatement tree name [] to → ⊥
 no_statement tree name to h = no_arguments h.0 to h.1.0.spelled
 
-no_command : (tree : CommandTree) (name : Word) (to : List Lexeme) → (W.Keep ≡ name) → IsCommand tree name [] to → ⊥
+no_command : (tree : CommandTree) (name : Keyword) (to : List Lexeme) → (W.Keep ≡ name) → IsCommand tree name [] to → ⊥
 no_command (require names) name to e h = no_statement (require names) name to h
 no_command (choose no_branches) name to e h = h
 no_command (choose (branch condition block more)) name to e h = let if_is : name ≡ W.If = h.0 in cc
 no_command stop name to e h = no_statement stop name to h
 no_command (act action) name to e h = no_statement (act action) name to h
 
-word_alone : (tree : Commands) → Reads tree (word W.Keep ∷ []) → ⊥
-word_alone no_commands e = let z : word W.Keep ∷ [] ≡ [] = e in cc
-word_alone (command first more) h =
-    let e : word W.Keep ∷ [] ≡ word h.1.0.0 ∷ h.1.0.1.0 = h.1.0.1.1.0 in
+keyword_alone : (tree : Commands) → Reads tree (keyword W.Keep ∷ []) → ⊥
+keyword_alone no_commands e = let z : keyword W.Keep ∷ [] ≡ [] = e in cc
+keyword_alone (command first more) h =
+    let e : keyword W.Keep ∷ [] ≡ keyword h.1.0.0 ∷ h.1.0.1.0 = h.1.0.1.1.0 in
     let behind : h.1.0.1.0 ≡ [] = cc in
     let P : List Lexeme → Type 0 = λ l. IsCommand first h.1.0.0 l h.0 in
     no_command first h.1.0.0 h.0 (cc) (subst P behind h.1.0.1.1.1)
@@ -146,4 +146,4 @@ bare_tokens (t ∷ ts) h =
 keeps_nothing : (tree : Commands) → Means (codes "keep") tree → ⊥
 keeps_nothing tree m =
     let P : List Token → Type 0 = λ ts. Reads tree (lexemes ts) in
-    word_alone tree (subst P (bare_tokens m.tokens m.spelled.spelled) m.read)
+    keyword_alone tree (subst P (bare_tokens m.tokens m.spelled.spelled) m.read)

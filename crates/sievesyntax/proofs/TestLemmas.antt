@@ -1,18 +1,19 @@
 -- Lemmas on tests.
 use Rattle.std.proofs.Common.{◌≡◌, ◌++◌, ℕ, ◌≤◌, ◌<◌, ◌+◌, List, [], ◌∷◌, length, refl, sym, ap, ◌∙◌, subst, arith, max, suc}
 use Rattle.sievelex.specs.declared.token.Kind.TheVariants as K
-use Rattle.sievesyntax.specs.declared.lexeme.Word.{Word}
-use Rattle.sievesyntax.specs.declared.lexeme.Word.TheVariants as W
-use Rattle.sievesyntax.specs.declared.argument.Argument.{Argument}
-use Rattle.sievesyntax.specs.declared.granted.Granted.{Granted}
-use Rattle.sievesyntax.specs.Lexemes.{Lexeme, word, mark}
+use Rattle.sievesyntax.specs.declared.table.keyword.Keyword.{Keyword}
+use Rattle.sievesyntax.specs.declared.table.keyword.Keyword.TheVariants as W
+use Rattle.sievesyntax.specs.declared.parser.argument.Argument.{Argument}
+use Rattle.sievesyntax.specs.declared.table.capability.Capabilities.{Capabilities}
+use Rattle.sievesyntax.specs.Lexemes.{Lexeme, keyword, mark}
 use Rattle.sievesyntax.specs.Arguments.{IsArgument, AreArguments}
 use Rattle.sievesyntax.specs.Chains.{Chain}
-use Rattle.sievesyntax.specs.Rows.{IsPlainTest}
+use Rattle.sievesyntax.specs.Table.{IsPlainTest}
 use Rattle.sievesyntax.specs.Tree.{TestTree, yes, no, looks, not_of, all_of, any_of, Tests, no_tests, test, list_depth, lists_depth, not_depth, nots_depth}
 use Rattle.sievesyntax.specs.View.{tests_of}
 use Rattle.sievesyntax.specs.Valid.{MayTest, MayAllTest}
-use Rattle.sievesyntax.specs.Tests.{IsPlain, IsTest, AreTests, AreMoreTests, ReadsTest, TakesTest, AsksBehind, TakesNextTest, TakesTests}
+use Rattle.sievesyntax.specs.Tests.{IsPlain, IsTest, AreTests, AreMoreTests, ReadsTest}
+use Rattle.sievesyntax.specs.Steps.{TakesTest, AsksAfter, TakesNextTest, TakesTests}
 use Rattle.sievesyntax.proofs.Chains.{IsSoFar, chain_more, chain_ends, chain_fails}
 use Rattle.sievesyntax.proofs.ArgumentLemmas.{IsMarked, argument_longer}
 
@@ -26,7 +27,7 @@ IsLeaf (all_of inner) = ⊥
 IsLeaf (any_of inner) = ⊥
 
 -- a row of the table is such a test
-plain_leaf : (name : Word) (args : List Argument) (t : TestTree) → IsPlainTest name args t → IsLeaf t
+plain_leaf : (name : Keyword) (args : List Argument) (t : TestTree) → IsPlainTest name args t → IsLeaf t
 plain_leaf W.Require args t is = absurd is
 plain_leaf W.If args t is = absurd is
 plain_leaf W.Elsif args t is = absurd is
@@ -65,7 +66,7 @@ leaf_nots (not_of inner) leaf = absurd leaf
 leaf_nots (all_of inner) leaf = absurd leaf
 leaf_nots (any_of inner) leaf = absurd leaf
 
-plain_is : (t : TestTree) (name : Word) (behind to : List Lexeme) → IsLeaf t → IsPlain t name behind to → IsTest t name behind to
+plain_is : (t : TestTree) (name : Keyword) (behind to : List Lexeme) → IsLeaf t → IsPlain t name behind to → IsTest t name behind to
 plain_is yes name behind to leaf is = is
 plain_is no name behind to leaf is = is
 plain_is (looks check) name behind to leaf is = is
@@ -73,8 +74,8 @@ plain_is (not_of inner) name behind to leaf is = absurd leaf
 plain_is (all_of inner) name behind to leaf is = absurd leaf
 plain_is (any_of inner) name behind to leaf is = absurd leaf
 
-module _ (name : Word) (no_not : name ≡ W.Not → ⊥) (no_allof : name ≡ W.AllOf → ⊥) (no_anyof : name ≡ W.AnyOf → ⊥) (behind : List Lexeme) where
-  is_plain : (t : TestTree) (to : List Lexeme) → IsTest t name behind to → IsPlain t name behind to
+module _ (name : Keyword) (no_not : name ≡ W.Not → ⊥) (no_allof : name ≡ W.AllOf → ⊥) (no_anyof : name ≡ W.AnyOf → ⊥) (behind : List Lexeme) where
+  pub is_plain : (t : TestTree) (to : List Lexeme) → IsTest t name behind to → IsPlain t name behind to
   is_plain yes to is = is
   is_plain no to is = is
   is_plain (looks check) to is = is
@@ -82,21 +83,21 @@ module _ (name : Word) (no_not : name ≡ W.Not → ⊥) (no_allof : name ≡ W.
   is_plain (all_of inner) to is = absurd (no_allof is.0)
   is_plain (any_of inner) to is = absurd (no_anyof is.0)
 
-  module _ (granted : Granted) (lists nots : ℕ) where
+  module _ (granted : Capabilities) (lists nots : ℕ) where
     -- no arguments
-    pub plain_no_args : ((args : List Argument) (to : List Lexeme) → AreArguments args behind to → ⊥) → (t : TestTree) (to : List Lexeme) → AsksBehind granted lists nots name t behind to → ⊥
+    pub plain_no_args : ((args : List Argument) (to : List Lexeme) → AreArguments args behind to → ⊥) → (t : TestTree) (to : List Lexeme) → AsksAfter granted lists nots name t behind to → ⊥
     plain_no_args none t to asks = let is = is_plain t to asks.0 in none is.0 to is.1.0
 
     module _ (args : List Argument) (next : List Lexeme) (only : (other : List Argument) (to : List Lexeme) → AreArguments other behind to → (other ≡ args) × (to ≡ next)) where
       -- no test with these arguments
-      pub plain_no_row : ((t : TestTree) → IsPlainTest name args t → MayTest granted t → ⊥) → (t : TestTree) (to : List Lexeme) → AsksBehind granted lists nots name t behind to → ⊥
+      pub plain_no_row : ((t : TestTree) → IsPlainTest name args t → MayTest granted t → ⊥) → (t : TestTree) (to : List Lexeme) → AsksAfter granted lists nots name t behind to → ⊥
       plain_no_row none t to asks =
           let is = is_plain t to asks.0 in
           let same = only is.0 to is.1.0 in
           none t (subst (λ a. IsPlainTest name a t) same.0 is.1.1) asks.1.0
 
       -- the one test
-      pub plain_found : AreArguments args behind next → (t : TestTree) → IsPlainTest name args t × MayTest granted t → ((other : TestTree) → IsPlainTest name args other → other ≡ t) → AsksBehind granted lists nots name t behind next × ((other : TestTree) (end : List Lexeme) → AsksBehind granted lists nots name other behind end → (other ≡ t) × (end ≡ next))
+      pub plain_found : AreArguments args behind next → (t : TestTree) → IsPlainTest name args t × MayTest granted t → ((other : TestTree) → IsPlainTest name args other → other ≡ t) → AsksAfter granted lists nots name t behind next × ((other : TestTree) (end : List Lexeme) → AsksAfter granted lists nots name other behind end → (other ≡ t) × (end ≡ next))
       plain_found are t row alone =
           let leaf = plain_leaf name args t row.0 in
           let no_lists = leaf_lists t leaf in
@@ -108,9 +109,9 @@ module _ (name : Word) (no_not : name ≡ W.Not → ⊥) (no_allof : name ≡ W.
                 (alone other (subst (λ a. IsPlainTest name a other) same.0 is.1.1), same.1),
           )
 
-module _ (granted : Granted) (lists nots : ℕ) (behind : List Lexeme) where
+module _ (granted : Capabilities) (lists nots : ℕ) (behind : List Lexeme) where
   -- the test of a `not`
-  not_parts : (t : TestTree) (to : List Lexeme) → AsksBehind granted lists nots W.Not t behind to → (inner : TestTree) × ((t ≡ not_of inner) × (ReadsTest inner behind to × (MayTest granted inner × ((list_depth inner ≤ lists) × (not_depth inner + 1 ≤ nots)))))
+  not_parts : (t : TestTree) (to : List Lexeme) → AsksAfter granted lists nots W.Not t behind to → (inner : TestTree) × ((t ≡ not_of inner) × (ReadsTest inner behind to × (MayTest granted inner × ((list_depth inner ≤ lists) × (not_depth inner + 1 ≤ nots)))))
   not_parts yes to asks = absurd asks.0.1.1
   not_parts no to asks = absurd asks.0.1.1
   not_parts (looks check) to asks = absurd asks.0.1.1
@@ -119,19 +120,19 @@ module _ (granted : Granted) (lists nots : ℕ) (behind : List Lexeme) where
   not_parts (any_of inner) to asks = let e : W.Not ≡ W.AnyOf = asks.0.0 in cc
 
   -- no `not` may stand there
-  pub not_deep : nots ≡ 0 → (t : TestTree) (to : List Lexeme) → AsksBehind granted lists nots W.Not t behind to → ⊥
+  pub not_deep : nots ≡ 0 → (t : TestTree) (to : List Lexeme) → AsksAfter granted lists nots W.Not t behind to → ⊥
   not_deep none t to asks = let low = (not_parts t to asks).1.1.1.1.1 in absurd (omega (arith, low, none))
 
   module _ (fewer : ℕ) (more : nots ≡ fewer + 1) where
-    not_takes : (t : TestTree) (to : List Lexeme) → AsksBehind granted lists nots W.Not t behind to → (inner : TestTree) × ((t ≡ not_of inner) × TakesTest granted lists fewer inner behind to)
+    not_takes : (t : TestTree) (to : List Lexeme) → AsksAfter granted lists nots W.Not t behind to → (inner : TestTree) × ((t ≡ not_of inner) × TakesTest granted lists fewer inner behind to)
     not_takes t to asks = let p = not_parts t to asks in let low : not_depth p.0 + 1 ≤ nots = p.1.1.1.1.1 in (p.0, (p.1.0, (p.1.1.0, (p.1.1.1.0, (p.1.1.1.1.0, omega (arith, low, more))))))
 
-    -- no test behind it
-    pub not_none : ((t : TestTree) (to : List Lexeme) → TakesTest granted lists fewer t behind to → ⊥) → (t : TestTree) (to : List Lexeme) → AsksBehind granted lists nots W.Not t behind to → ⊥
+    -- no test after it
+    pub not_none : ((t : TestTree) (to : List Lexeme) → TakesTest granted lists fewer t behind to → ⊥) → (t : TestTree) (to : List Lexeme) → AsksAfter granted lists nots W.Not t behind to → ⊥
     not_none none t to asks = let p = not_takes t to asks in none p.0 to p.1.1
 
     -- the one `not`
-    pub not_found : (inner : TestTree) (to : List Lexeme) → TakesTest granted lists fewer inner behind to × ((other : TestTree) (end : List Lexeme) → TakesTest granted lists fewer other behind end → (other ≡ inner) × (end ≡ to)) → AsksBehind granted lists nots W.Not (not_of inner) behind to × ((other : TestTree) (end : List Lexeme) → AsksBehind granted lists nots W.Not other behind end → (other ≡ not_of inner) × (end ≡ to))
+    pub not_found : (inner : TestTree) (to : List Lexeme) → TakesTest granted lists fewer inner behind to × ((other : TestTree) (end : List Lexeme) → TakesTest granted lists fewer other behind end → (other ≡ inner) × (end ≡ to)) → AsksAfter granted lists nots W.Not (not_of inner) behind to × ((other : TestTree) (end : List Lexeme) → AsksAfter granted lists nots W.Not other behind end → (other ≡ not_of inner) × (end ≡ to))
     not_found inner to found =
         let low : not_depth inner ≤ fewer = found.0.1.1.1 in (
           ((refl, found.0.0), (found.0.1.0, (found.0.1.1.0, omega (arith, low, more)))),
@@ -142,7 +143,7 @@ module _ (granted : Granted) (lists nots : ℕ) (behind : List Lexeme) where
         )
 
   -- the tests of an `allof`
-  all_parts : (t : TestTree) (to : List Lexeme) → AsksBehind granted lists nots W.AllOf t behind to → (inner : Tests) × ((t ≡ all_of inner) × TakesTests granted lists nots inner behind to)
+  all_parts : (t : TestTree) (to : List Lexeme) → AsksAfter granted lists nots W.AllOf t behind to → (inner : Tests) × ((t ≡ all_of inner) × TakesTests granted lists nots inner behind to)
   all_parts yes to asks = absurd asks.0.1.1
   all_parts no to asks = absurd asks.0.1.1
   all_parts (looks check) to asks = absurd asks.0.1.1
@@ -150,10 +151,10 @@ module _ (granted : Granted) (lists nots : ℕ) (behind : List Lexeme) where
   all_parts (all_of inner) to asks = let low : suc (lists_depth inner) ≤ lists = asks.1.1.0 in (inner, (refl, (asks.0.1, (asks.1.0, (omega (arith, low), asks.1.1.1)))))
   all_parts (any_of inner) to asks = let e : W.AllOf ≡ W.AnyOf = asks.0.0 in cc
 
-  pub all_none : ((inner : Tests) (to : List Lexeme) → TakesTests granted lists nots inner behind to → ⊥) → (t : TestTree) (to : List Lexeme) → AsksBehind granted lists nots W.AllOf t behind to → ⊥
+  pub all_none : ((inner : Tests) (to : List Lexeme) → TakesTests granted lists nots inner behind to → ⊥) → (t : TestTree) (to : List Lexeme) → AsksAfter granted lists nots W.AllOf t behind to → ⊥
   all_none none t to asks = let p = all_parts t to asks in none p.0 to p.1.1
 
-  pub all_found : (inner : Tests) (to : List Lexeme) → TakesTests granted lists nots inner behind to × ((other : Tests) (end : List Lexeme) → TakesTests granted lists nots other behind end → (other ≡ inner) × (end ≡ to)) → AsksBehind granted lists nots W.AllOf (all_of inner) behind to × ((other : TestTree) (end : List Lexeme) → AsksBehind granted lists nots W.AllOf other behind end → (other ≡ all_of inner) × (end ≡ to))
+  pub all_found : (inner : Tests) (to : List Lexeme) → TakesTests granted lists nots inner behind to × ((other : Tests) (end : List Lexeme) → TakesTests granted lists nots other behind end → (other ≡ inner) × (end ≡ to)) → AsksAfter granted lists nots W.AllOf (all_of inner) behind to × ((other : TestTree) (end : List Lexeme) → AsksAfter granted lists nots W.AllOf other behind end → (other ≡ all_of inner) × (end ≡ to))
   all_found inner to found =
       let low : lists_depth inner + 1 ≤ lists = found.0.1.1.0 in (
         ((refl, found.0.0), (found.0.1.0, (omega (arith, low), found.0.1.1.1))),
@@ -164,7 +165,7 @@ module _ (granted : Granted) (lists nots : ℕ) (behind : List Lexeme) where
       )
 
   -- the tests of an `anyof`
-  any_parts : (t : TestTree) (to : List Lexeme) → AsksBehind granted lists nots W.AnyOf t behind to → (inner : Tests) × ((t ≡ any_of inner) × TakesTests granted lists nots inner behind to)
+  any_parts : (t : TestTree) (to : List Lexeme) → AsksAfter granted lists nots W.AnyOf t behind to → (inner : Tests) × ((t ≡ any_of inner) × TakesTests granted lists nots inner behind to)
   any_parts yes to asks = absurd asks.0.1.1
   any_parts no to asks = absurd asks.0.1.1
   any_parts (looks check) to asks = absurd asks.0.1.1
@@ -172,10 +173,10 @@ module _ (granted : Granted) (lists nots : ℕ) (behind : List Lexeme) where
   any_parts (all_of inner) to asks = let e : W.AnyOf ≡ W.AllOf = asks.0.0 in cc
   any_parts (any_of inner) to asks = let low : suc (lists_depth inner) ≤ lists = asks.1.1.0 in (inner, (refl, (asks.0.1, (asks.1.0, (omega (arith, low), asks.1.1.1)))))
 
-  pub any_none : ((inner : Tests) (to : List Lexeme) → TakesTests granted lists nots inner behind to → ⊥) → (t : TestTree) (to : List Lexeme) → AsksBehind granted lists nots W.AnyOf t behind to → ⊥
+  pub any_none : ((inner : Tests) (to : List Lexeme) → TakesTests granted lists nots inner behind to → ⊥) → (t : TestTree) (to : List Lexeme) → AsksAfter granted lists nots W.AnyOf t behind to → ⊥
   any_none none t to asks = let p = any_parts t to asks in none p.0 to p.1.1
 
-  pub any_found : (inner : Tests) (to : List Lexeme) → TakesTests granted lists nots inner behind to × ((other : Tests) (end : List Lexeme) → TakesTests granted lists nots other behind end → (other ≡ inner) × (end ≡ to)) → AsksBehind granted lists nots W.AnyOf (any_of inner) behind to × ((other : TestTree) (end : List Lexeme) → AsksBehind granted lists nots W.AnyOf other behind end → (other ≡ any_of inner) × (end ≡ to))
+  pub any_found : (inner : Tests) (to : List Lexeme) → TakesTests granted lists nots inner behind to × ((other : Tests) (end : List Lexeme) → TakesTests granted lists nots other behind end → (other ≡ inner) × (end ≡ to)) → AsksAfter granted lists nots W.AnyOf (any_of inner) behind to × ((other : TestTree) (end : List Lexeme) → AsksAfter granted lists nots W.AnyOf other behind end → (other ≡ any_of inner) × (end ≡ to))
   any_found inner to found =
       let low : lists_depth inner + 1 ≤ lists = found.0.1.1.0 in (
         ((refl, found.0.0), (found.0.1.0, (omega (arith, low), found.0.1.1.1))),
@@ -185,33 +186,33 @@ module _ (granted : Granted) (lists nots : ℕ) (behind : List Lexeme) where
             (p.1.0 ∙ ap any_of same.0, same.1),
       )
 
--- a test behind its name, and at the front
-module _ (granted : Granted) (lists nots : ℕ) (from behind : List Lexeme) (name : Word) (opens : from ≡ word name ∷ behind) where
-  asks_behind : (t : TestTree) (to : List Lexeme) → TakesTest granted lists nots t from to → AsksBehind granted lists nots name t behind to
+-- a test after its name, and at the front
+module _ (granted : Capabilities) (lists nots : ℕ) (from behind : List Lexeme) (name : Keyword) (opens : from ≡ keyword name ∷ behind) where
+  asks_behind : (t : TestTree) (to : List Lexeme) → TakesTest granted lists nots t from to → AsksAfter granted lists nots name t behind to
   asks_behind t to takes =
-      let same : word takes.0.0 ∷ takes.0.1.0 ≡ word name ∷ behind = sym takes.0.1.1.0 ∙ opens in
+      let same : keyword takes.0.0 ∷ takes.0.1.0 ≡ keyword name ∷ behind = sym takes.0.1.1.0 ∙ opens in
       let named : takes.0.0 ≡ name = cc in
       let there : takes.0.1.0 ≡ behind = cc in
       (subst (λ b. IsTest t name b to) there (subst (λ w. IsTest t w takes.0.1.0 to) named takes.0.1.1.1), takes.1)
 
-  pub test_none : ((t : TestTree) (to : List Lexeme) → AsksBehind granted lists nots name t behind to → ⊥) → (t : TestTree) (to : List Lexeme) → TakesTest granted lists nots t from to → ⊥
+  pub test_none : ((t : TestTree) (to : List Lexeme) → AsksAfter granted lists nots name t behind to → ⊥) → (t : TestTree) (to : List Lexeme) → TakesTest granted lists nots t from to → ⊥
   test_none none t to takes = none t to (asks_behind t to takes)
 
-  pub test_found : (t : TestTree) (to : List Lexeme) → AsksBehind granted lists nots name t behind to × ((other : TestTree) (end : List Lexeme) → AsksBehind granted lists nots name other behind end → (other ≡ t) × (end ≡ to)) → TakesTest granted lists nots t from to × ((other : TestTree) (end : List Lexeme) → TakesTest granted lists nots other from end → (other ≡ t) × (end ≡ to))
+  pub test_found : (t : TestTree) (to : List Lexeme) → AsksAfter granted lists nots name t behind to × ((other : TestTree) (end : List Lexeme) → AsksAfter granted lists nots name other behind end → (other ≡ t) × (end ≡ to)) → TakesTest granted lists nots t from to × ((other : TestTree) (end : List Lexeme) → TakesTest granted lists nots other from end → (other ≡ t) × (end ≡ to))
   test_found t to found = (((name, (behind, (opens, found.0.0))), found.0.1), λ other end takes. found.1 other end (asks_behind other end takes))
 
 -- an `allof` or an `anyof` at the front
-module _ (granted : Granted) (lists nots : ℕ) (from behind : List Lexeme) where
-  pub allof_none : from ≡ word W.AllOf ∷ behind → ((inner : Tests) (to : List Lexeme) → TakesTests granted lists nots inner behind to → ⊥) → (t : TestTree) (to : List Lexeme) → TakesTest granted lists nots t from to → ⊥
+module _ (granted : Capabilities) (lists nots : ℕ) (from behind : List Lexeme) where
+  pub allof_none : from ≡ keyword W.AllOf ∷ behind → ((inner : Tests) (to : List Lexeme) → TakesTests granted lists nots inner behind to → ⊥) → (t : TestTree) (to : List Lexeme) → TakesTest granted lists nots t from to → ⊥
   allof_none opens none = test_none granted lists nots from behind W.AllOf opens (all_none granted lists nots behind none)
 
-  pub allof_found : from ≡ word W.AllOf ∷ behind → (inner : Tests) (to : List Lexeme) → TakesTests granted lists nots inner behind to × ((other : Tests) (end : List Lexeme) → TakesTests granted lists nots other behind end → (other ≡ inner) × (end ≡ to)) → TakesTest granted lists nots (all_of inner) from to × ((other : TestTree) (end : List Lexeme) → TakesTest granted lists nots other from end → (other ≡ all_of inner) × (end ≡ to))
+  pub allof_found : from ≡ keyword W.AllOf ∷ behind → (inner : Tests) (to : List Lexeme) → TakesTests granted lists nots inner behind to × ((other : Tests) (end : List Lexeme) → TakesTests granted lists nots other behind end → (other ≡ inner) × (end ≡ to)) → TakesTest granted lists nots (all_of inner) from to × ((other : TestTree) (end : List Lexeme) → TakesTest granted lists nots other from end → (other ≡ all_of inner) × (end ≡ to))
   allof_found opens inner to found = test_found granted lists nots from behind W.AllOf opens (all_of inner) to (all_found granted lists nots behind inner to found)
 
-  pub anyof_none : from ≡ word W.AnyOf ∷ behind → ((inner : Tests) (to : List Lexeme) → TakesTests granted lists nots inner behind to → ⊥) → (t : TestTree) (to : List Lexeme) → TakesTest granted lists nots t from to → ⊥
+  pub anyof_none : from ≡ keyword W.AnyOf ∷ behind → ((inner : Tests) (to : List Lexeme) → TakesTests granted lists nots inner behind to → ⊥) → (t : TestTree) (to : List Lexeme) → TakesTest granted lists nots t from to → ⊥
   anyof_none opens none = test_none granted lists nots from behind W.AnyOf opens (any_none granted lists nots behind none)
 
-  pub anyof_found : from ≡ word W.AnyOf ∷ behind → (inner : Tests) (to : List Lexeme) → TakesTests granted lists nots inner behind to × ((other : Tests) (end : List Lexeme) → TakesTests granted lists nots other behind end → (other ≡ inner) × (end ≡ to)) → TakesTest granted lists nots (any_of inner) from to × ((other : TestTree) (end : List Lexeme) → TakesTest granted lists nots other from end → (other ≡ any_of inner) × (end ≡ to))
+  pub anyof_found : from ≡ keyword W.AnyOf ∷ behind → (inner : Tests) (to : List Lexeme) → TakesTests granted lists nots inner behind to × ((other : Tests) (end : List Lexeme) → TakesTests granted lists nots other behind end → (other ≡ inner) × (end ≡ to)) → TakesTest granted lists nots (any_of inner) from to × ((other : TestTree) (end : List Lexeme) → TakesTest granted lists nots other from end → (other ≡ any_of inner) × (end ≡ to))
   anyof_found opens inner to found = test_found granted lists nots from behind W.AnyOf opens (any_of inner) to (any_found granted lists nots behind inner to found)
 
 -- tests as a list
@@ -223,8 +224,8 @@ tests_of-list_of : (ts : Tests) → tests_of (list_of_tests ts) ≡ ts
 tests_of-list_of no_tests = refl
 tests_of-list_of (test first more) = ap (test first) (tests_of-list_of more)
 
-module _ (granted : Granted) (lists nots : ℕ) where
-  -- the tests of a list behind the first one, one after another
+module _ (granted : Capabilities) (lists nots : ℕ) where
+  -- the tests of a list after the first one, one after another
   more_chain : (ts : Tests) (from to : List Lexeme) → AreMoreTests ts from to → MayAllTest granted ts → lists_depth ts ≤ lists → nots_depth ts ≤ nots → Chain (TakesNextTest granted lists nots) (list_of_tests ts) from (mark K.CloseParen ∷ to)
   more_chain no_tests from to are may low lower = are
   more_chain (test first more) from to are may low lower =
@@ -247,7 +248,7 @@ module _ (granted : Granted) (lists nots : ℕ) where
       ((one.0, (one.1.0, (chain.0, (one.1.1.0, rest.0)))), ((one.1.1.1.0, rest.1.0), (omega (arith, low, low_more), omega (arith, lower, lower_more))))
 
 -- a test list at the front
-module _ (granted : Granted) (lists nots : ℕ) (from inside : List Lexeme) (opens : from ≡ mark K.OpenParen ∷ inside) where
+module _ (granted : Capabilities) (lists nots : ℕ) (from inside : List Lexeme) (opens : from ≡ mark K.OpenParen ∷ inside) where
   -- too many lists
   pub tests_deep : lists ≡ 0 → (ts : Tests) (to : List Lexeme) → TakesTests granted lists nots ts from to → ⊥
   tests_deep none ts to takes = let low : lists_depth ts + 1 ≤ lists = takes.1.1.0 in absurd (omega (arith, low, none))
@@ -278,7 +279,7 @@ module _ (granted : Granted) (lists nots : ℕ) (from inside : List Lexeme) (ope
           let same = found.1 p.0 p.1.1.1.0 p.1.1.1.1.0 in
           (p.1.0, (p.1.1.0 ∙ ap (λ t. test t p.1.0) same.0, subst (λ l. Chain (TakesNextTest granted fewer nots) (list_of_tests p.1.0) l (mark K.CloseParen ∷ to)) same.1 p.1.1.1.1.1))
 
-      -- no good tests behind it
+      -- no good tests after it
       pub tests_no_more : ((trees : List TestTree) (to : List Lexeme) → Chain (TakesNextTest granted fewer nots) trees next (mark K.CloseParen ∷ to) → ⊥) → (ts : Tests) (to : List Lexeme) → TakesTests granted lists nots ts from to → ⊥
       tests_no_more none ts to takes = let p = others_at ts to takes in none (list_of_tests p.0) to p.1.1
 
@@ -299,7 +300,7 @@ module _ (granted : Granted) (lists nots : ℕ) (from inside : List Lexeme) (ope
                 (p.1.0 ∙ ap (test first) (sym (tests_of-list_of p.0)) ∙ ap tests_of (sym same.0), same.1),
           )
 
-module _ (granted : Granted) (lists nots : ℕ) (whole : List Lexeme) (so_far : List TestTree) (rest : List Lexeme) (so : IsSoFar (TakesNextTest granted lists nots) (IsMarked K.CloseParen) whole so_far rest) where
+module _ (granted : Capabilities) (lists nots : ℕ) (whole : List Lexeme) (so_far : List TestTree) (rest : List Lexeme) (so : IsSoFar (TakesNextTest granted lists nots) (IsMarked K.CloseParen) whole so_far rest) where
   -- neither a comma nor the close parenthesis
   pub next_stops : ((to : List Lexeme) → rest ≡ mark K.Comma ∷ to → ⊥) → ((to : List Lexeme) → rest ≡ mark K.CloseParen ∷ to → ⊥) → (more : List TestTree) (to : List Lexeme) → Chain (TakesNextTest granted lists nots) more whole (mark K.CloseParen ∷ to) → ⊥
   next_stops no_comma no_close more to chain =
@@ -334,11 +335,11 @@ pub arguments_longer : (args : List Argument) (from to : List Lexeme) → Chain 
 arguments_longer [] from to same = omega (arith, ap length same)
 arguments_longer (a ∷ as') from to chain = omega (arith, argument_longer a from chain.0 chain.1.0, arguments_longer as' chain.0 to chain.1.1)
 
-plain_longer : (t : TestTree) (name : Word) (behind to : List Lexeme) → IsPlain t name behind to → length to ≤ length behind
+plain_longer : (t : TestTree) (name : Keyword) (behind to : List Lexeme) → IsPlain t name behind to → length to ≤ length behind
 plain_longer t name behind to is = omega (arith, arguments_longer is.0 behind to is.1.0.spelled)
 
 mutual
-  test_longer : (t : TestTree) (name : Word) (behind to : List Lexeme) → IsTest t name behind to → length to ≤ length behind
+  test_longer : (t : TestTree) (name : Keyword) (behind to : List Lexeme) → IsTest t name behind to → length to ≤ length behind
   test_longer yes name behind to is = plain_longer yes name behind to is
   test_longer no name behind to is = plain_longer no name behind to is
   test_longer (looks check) name behind to is = plain_longer (looks check) name behind to is

@@ -6,14 +6,14 @@ use Rattle.octets.proofs.Lists.{some_is, some_pair}
 use Rattle.addrparts.specs.declared.address.Addr.{Addr}
 use Rattle.addrparts.specs.Outbound.{IsOutbound}
 use Rattle.addrparts.proofs.Outbounds.{outbound-again}
-use Rattle.sievesyntax.specs.declared.vacation.VacArgs.{VacArgs}
-use Rattle.sievesyntax.specs.declared.vacation.ReplyFrom.{ReplyFrom}
-use Rattle.sievesyntax.specs.declared.argument.Argument.{Argument}
-use Rattle.sievesyntax.specs.declared.setting.Setting.{Setting}
-use Rattle.sievesyntax.specs.Settings.{IsArranged}
-use Rattle.sievesyntax.specs.Lookups.{from_in, addresses_in}
-use Rattle.sievesyntax.specs.Rows.{IsText, IsRedirect}
-use Rattle.sievesyntax.specs.Vacations.{Names, IsReplyFrom, IsGivenFrom, AreNamed, AddsNamed, SaysVacation, vacation_slots, IsVacation}
+use Rattle.sievesyntax.specs.declared.tree.vacation.VacArgs.{VacArgs}
+use Rattle.sievesyntax.specs.declared.tree.vacation.ReplyFrom.{ReplyFrom}
+use Rattle.sievesyntax.specs.declared.parser.argument.Argument.{Argument}
+use Rattle.sievesyntax.specs.declared.table.tag_group.TagValue.{TagValue}
+use Rattle.sievesyntax.specs.Tags.{IsSplit}
+use Rattle.sievesyntax.specs.TagValues.{from_in, addresses_in}
+use Rattle.sievesyntax.specs.Table.{IsText, IsRedirect}
+use Rattle.sievesyntax.specs.Vacations.{Names, IsReplyFrom, IsGivenFrom, AreNamed, AddsNamed, SaysVacation, vacation_groups, IsVacation}
 
 -- a text names one address with one display
 pub outbound_only : (text d e : List ℕ) (a b : Addr) → IsOutbound text d a → IsOutbound text e b → (d ≡ e) × (a ≡ b)
@@ -78,29 +78,29 @@ given_from_only (Some text) None two are also = absurd are
 given_from_only (Some text) (Some one) None are also = absurd also
 given_from_only (Some text) (Some one) (Some two) are also = ap Some (reply_from_only text one two are also)
 
-pub says_only : (settings : List Setting) (positional : List Argument) (one two : VacArgs) → SaysVacation settings positional one → SaysVacation settings positional two → two ≡ one
-says_only settings positional one two are also =
+pub says_only : (tag_values : List TagValue) (positional : List Argument) (one two : VacArgs) → SaysVacation tag_values positional one → SaysVacation tag_values positional two → two ≡ one
+says_only tag_values positional one two are also =
     let days : two.days ≡ one.days = also.days ∙ sym are.days in
     let subject : two.subject ≡ one.subject = also.subject ∙ sym are.subject in
-    let from : two.from ≡ one.from = given_from_only (from_in settings) one.from two.from are.from also.from in
-    let addresses : two.addresses ≡ one.addresses = named_only (addresses_in settings) one.addresses two.addresses are.addresses also.addresses in
+    let from : two.from ≡ one.from = given_from_only (from_in tag_values) one.from two.from are.from also.from in
+    let addresses : two.addresses ≡ one.addresses = named_only (addresses_in tag_values) one.addresses two.addresses are.addresses also.addresses in
     let mime : two.mime ≡ one.mime = also.mime ∙ sym are.mime in
     let handle : two.handle ≡ one.handle = also.handle ∙ sym are.handle in
     let spelled : Some two.reason ≡ Some one.reason = sym also.reason ∙ are.reason in
     let reason : two.reason ≡ one.reason = some_is two.reason one.reason spelled in
     λ i. record { days = days i; subject = subject i; from = from i; addresses = addresses i; mime = mime i; handle = handle i; reason = reason i }
 
-module _ (args : List Argument) (settings : List Setting) (positional : List Argument) (only : (others : List Setting) (behind : List Argument) → IsArranged vacation_slots args others behind → (others ≡ settings) × (behind ≡ positional)) where
-  vacation_says : (v : VacArgs) → IsVacation args v → SaysVacation settings positional v
-  vacation_says v is = let same = only is.0 is.1.0 is.1.1.0 in subst (λ p. SaysVacation settings p v) same.1 (subst (λ s. SaysVacation s is.1.0 v) same.0 is.1.1.1)
+module _ (args : List Argument) (tag_values : List TagValue) (positional : List Argument) (only : (others : List TagValue) (behind : List Argument) → IsSplit vacation_groups args others behind → (others ≡ tag_values) × (behind ≡ positional)) where
+  vacation_says : (v : VacArgs) → IsVacation args v → SaysVacation tag_values positional v
+  vacation_says v is = let same = only is.0 is.1.0 is.1.1.0 in subst (λ p. SaysVacation tag_values p v) same.1 (subst (λ s. SaysVacation s is.1.0 v) same.0 is.1.1.1)
 
   -- the arguments say nothing
-  pub vacation_none : ((v : VacArgs) → SaysVacation settings positional v → ⊥) → (v : VacArgs) → IsVacation args v → ⊥
+  pub vacation_none : ((v : VacArgs) → SaysVacation tag_values positional v → ⊥) → (v : VacArgs) → IsVacation args v → ⊥
   vacation_none none v is = none v (vacation_says v is)
 
   -- they say one thing
-  pub vacation_found : IsArranged vacation_slots args settings positional → (v : VacArgs) → SaysVacation settings positional v → IsVacation args v × ((w : VacArgs) → IsVacation args w → w ≡ v)
-  vacation_found arranged v says = ((settings, (positional, (arranged, says))), λ w is. says_only settings positional v w says (vacation_says w is))
+  pub vacation_found : IsSplit vacation_groups args tag_values positional → (v : VacArgs) → SaysVacation tag_values positional v → IsVacation args v × ((w : VacArgs) → IsVacation args w → w ≡ v)
+  vacation_found split_tags v says = ((tag_values, (positional, (split_tags, says))), λ w is. says_only tag_values positional v w says (vacation_says w is))
 
 -- the address of a `redirect`
 module _ (args : List Argument) where

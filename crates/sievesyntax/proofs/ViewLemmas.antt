@@ -1,12 +1,12 @@
 -- The view, case by case.
 use Rattle.std.proofs.Common.{◌≡◌, ◌∙◌, ap, ℕ, List, [], ◌∷◌, ◌++◌, map, rules, Vec, Box, Global}
 use Rattle.std.proofs.lemmas.List.{map-append}
-use Rattle.sievesyntax.specs.declared.action.Action.{Action}
-use Rattle.sievesyntax.specs.declared.checks.Check.{Check}
-use Rattle.sievesyntax.specs.declared.tree.Test.{Test}
-use Rattle.sievesyntax.specs.declared.tree.Test as Test
-use Rattle.sievesyntax.specs.declared.tree.Branch.{Branch, roll-Branch}
-use Rattle.sievesyntax.specs.declared.tree.Command.{Command, Require, If, Stop, Act, the_lemmas}
+use Rattle.sievesyntax.specs.declared.tree.action.Action.{Action}
+use Rattle.sievesyntax.specs.declared.tree.checks.Check.{Check}
+use Rattle.sievesyntax.specs.declared.tree.test.Test.{Test}
+use Rattle.sievesyntax.specs.declared.tree.test.Test as Test
+use Rattle.sievesyntax.specs.declared.tree.command.Branch.{Branch, roll-Branch}
+use Rattle.sievesyntax.specs.declared.tree.command.Command.{Command, Require, If, Stop, Act, the_lemmas}
 use Rattle.sievesyntax.specs.Tree.{require, choose, stop, act, yes, no, looks, not_of, all_of, any_of}
 use Rattle.sievesyntax.specs.View.{test_view, tests_view, branch_view, command_view, commands_view, branches_view}
 

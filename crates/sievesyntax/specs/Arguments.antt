@@ -1,16 +1,16 @@
 -- Arguments, by the grammar alone (RFC 5228, 8.2).
 use Rattle.std.specs.Prelude.{◌≡◌, ℕ, List, [], ◌∷◌}
 use Rattle.sievelex.specs.declared.token.Kind.TheVariants as K
-use Rattle.sievesyntax.specs.declared.argument.Argument.{Argument}
-use Rattle.sievesyntax.specs.declared.argument.Argument.TheVariants as A
+use Rattle.sievesyntax.specs.declared.parser.argument.Argument.{Argument}
+use Rattle.sievesyntax.specs.declared.parser.argument.Argument.TheVariants as A
 use Rattle.sievesyntax.specs.Chains.{Chain}
-use Rattle.sievesyntax.specs.Lexemes.{Lexeme, word, tag, number, text, mark}
+use Rattle.sievesyntax.specs.Lexemes.{Lexeme, keyword, tag, number, text, mark}
 
 -- a string after the first of a list
 abbrev pub IsOther : List ℕ → List Lexeme → List Lexeme → Type 0
 IsOther string from to = from ≡ mark K.Comma ∷ (text string ∷ to)
 
--- the strings of a list in brackets, behind the open bracket: one or more
+-- the strings of a list in brackets, after the open bracket: one or more
 abbrev pub AreStrings : List (List ℕ) → List Lexeme → List Lexeme → Type 0
 AreStrings [] from to = ⊥
 AreStrings (first ∷ more) from to = (rest : List Lexeme) × ((from ≡ text first ∷ rest) × Chain IsOther more rest (mark K.CloseBracket ∷ to))
@@ -25,7 +25,7 @@ IsArgument (A.Strings strings) from to = (rest : List Lexeme) × ((from ≡ mark
 -- no argument begins here
 abbrev pub IsEnd : List Lexeme → Type 0
 IsEnd [] = Unit {0}
-IsEnd (word _ ∷ _) = Unit {0}
+IsEnd (keyword _ ∷ _) = Unit {0}
 IsEnd (tag _ ∷ _) = ⊥
 IsEnd (number _ ∷ _) = ⊥
 IsEnd (text _ ∷ _) = ⊥

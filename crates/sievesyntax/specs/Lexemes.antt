@@ -8,20 +8,20 @@ use Rattle.sievelex.specs.declared.token.Value.{Value}
 use Rattle.sievelex.specs.declared.token.Value.TheVariants as V
 use Rattle.sievelex.specs.declared.token.Token.{Token}
 use Rattle.sievelex.specs.Unpacked.{Saying}
-use Rattle.sievesyntax.specs.declared.lexeme.Word.{Word}
-use Rattle.sievesyntax.specs.declared.lexeme.Word.TheVariants as W
-use Rattle.sievesyntax.specs.declared.lexeme.Tag.{Tag}
-use Rattle.sievesyntax.specs.declared.lexeme.Tag.TheVariants as T
-use Rattle.sievesyntax.specs.declared.lexeme.Seen.{Seen}
-use Rattle.sievesyntax.specs.declared.lexeme.Seen.TheVariants as S
+use Rattle.sievesyntax.specs.declared.table.keyword.Keyword.{Keyword}
+use Rattle.sievesyntax.specs.declared.table.keyword.Keyword.TheVariants as W
+use Rattle.sievesyntax.specs.declared.table.tag.Tag.{Tag}
+use Rattle.sievesyntax.specs.declared.table.tag.Tag.TheVariants as T
+use Rattle.sievesyntax.specs.declared.parser.lexeme.Lexeme.{Lexeme as BorrowedLexeme}
+use Rattle.sievesyntax.specs.declared.parser.lexeme.Lexeme.TheVariants as S
 
 -- names are compared without ASCII case (RFC 5228, 2.1)
 abbrev pub same_name : List ℕ → List ℕ → Bool
-same_name name keyword = pointwise nat_eq (lowered name) (lowered keyword)
+same_name name other = pointwise nat_eq (lowered name) (lowered other)
 
 -- the command or test of this name
-abbrev pub word_of : List ℕ → Word
-word_of name =
+abbrev pub keyword_of : List ℕ → Keyword
+keyword_of name =
     cond (same_name name (codes "require")) W.Require
     (cond (same_name name (codes "if")) W.If
     (cond (same_name name (codes "elsif")) W.Elsif
@@ -66,14 +66,18 @@ tag_of name =
 
 -- a word of the grammar (RFC 5228, 8.2); a mark is known by its kind
 pub data Lexeme : Type 0 where
-  word : Word → Lexeme
+  keyword : Keyword → Lexeme
   tag : Tag → Lexeme
   number : ℕ → Lexeme
   text : List ℕ → Lexeme
   mark : Kind → Lexeme
 
+-- lexemes in a row
+abbrev pub Lexemes : Type 0
+Lexemes = List Lexeme
+
 abbrev pub lexeme : Value → Kind → Lexeme
-lexeme (V.Chars name) K.Identifier = word (word_of name)
+lexeme (V.Chars name) K.Identifier = keyword (keyword_of name)
 lexeme (V.Chars name) K.Tag = tag (tag_of name)
 lexeme (V.Chars value) K.Text = text value
 lexeme (V.Amount n) K.Number = number n
@@ -95,10 +99,10 @@ lexeme_said saying = lexeme saying.1 saying.0
 abbrev pub lexemes_said : List Saying → List Lexeme
 lexemes_said sayings = map lexeme_said sayings
 
--- what a look at a token tells
-abbrev pub lexeme_seen : Seen → Lexeme
-lexeme_seen (S.Word w) = word w
-lexeme_seen (S.Tag t) = tag t
-lexeme_seen (S.Number n) = number n
-lexeme_seen (S.Text value) = text value.now
-lexeme_seen (S.Mark kind) = mark kind
+-- the lexeme that a borrowed one stands for
+abbrev pub lexeme_view : BorrowedLexeme → Lexeme
+lexeme_view (S.Keyword w) = keyword w
+lexeme_view (S.Tag t) = tag t
+lexeme_view (S.Number n) = number n
+lexeme_view (S.Text value) = text value.now
+lexeme_view (S.Mark kind) = mark kind

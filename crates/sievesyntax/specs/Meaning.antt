@@ -1,10 +1,10 @@
 -- What commands do, over any truth of the tests that look at the message (RFC 5228, 2.10, 3).
 use Rattle.std.specs.Prelude.{ℕ, Bool, true, false, not, cond, ◌&&◌, ◌||◌, List, Option}
 use Rattle.addrparts.specs.declared.address.Addr.{Addr}
-use Rattle.sievesyntax.specs.declared.checks.Check.{Check}
-use Rattle.sievesyntax.specs.declared.vacation.VacArgs.{VacArgs}
-use Rattle.sievesyntax.specs.SoFar.{SoFar, at_first, Failure, Flow, and_then, inbox, with_mailbox, acted}
-use Rattle.sievesyntax.specs.SoFar as F
+use Rattle.sievesyntax.specs.declared.tree.checks.Check.{Check}
+use Rattle.sievesyntax.specs.declared.tree.vacation.VacArgs.{VacArgs}
+use Rattle.sievesyntax.specs.RunState.{RunState, at_first, Failure, Flow, and_then, inbox, with_mailbox, performed}
+use Rattle.sievesyntax.specs.RunState as F
 use Rattle.sievesyntax.specs.Tree.{TestTree, yes, no, looks, not_of, all_of, any_of, Tests, no_tests, test, CommandTree, require, choose, stop, act, Branches, no_branches, branch, Commands, no_commands, command}
 
 -- whether a test holds (RFC 5228, 5)
@@ -29,39 +29,39 @@ abbrev mutual
 
 -- what commands do, in turn (RFC 5228, 3)
 abbrev mutual
-  pub does : (Check → Bool) → CommandTree → SoFar → Flow
+  pub does : (Check → Bool) → CommandTree → RunState → Flow
   does truth (require names) so_far = F.Going so_far
   does truth (choose branches) so_far = chooses truth branches so_far
   does truth stop so_far = F.Stopped so_far
-  does truth (act action) so_far = acted action so_far
+  does truth (act action) so_far = performed action so_far
 
   -- the first block whose test holds is run, and no other
-  pub chooses : (Check → Bool) → Branches → SoFar → Flow
+  pub chooses : (Check → Bool) → Branches → RunState → Flow
   chooses truth no_branches so_far = F.Going so_far
   chooses truth (branch condition block more) so_far = cond (holds truth condition) (does_all truth block so_far) (chooses truth more so_far)
 
-  pub does_all : (Check → Bool) → Commands → SoFar → Flow
+  pub does_all : (Check → Bool) → Commands → RunState → Flow
   does_all truth no_commands so_far = F.Going so_far
   does_all truth (command first more) so_far = and_then (does truth first so_far) (does_all truth more)
 
 -- what is done in the end: the mailboxes and the addresses, in order, and the answer to the sender if there is one
-pub record Deeds : Type 0 where
+pub record Actions : Type 0 where
   pub filed : List (List ℕ)
   pub sent : List Addr
   pub reply : Option VacArgs
 
 -- what a script comes to: where it failed, nothing of it is done
 pub data Outcome : Type 0 where
-  Done : Deeds → Outcome
+  Done : Actions → Outcome
   Failed : Failure → Outcome
 
 -- the implicit keep comes last, unless it is cancelled
-abbrev pub deeds_of : SoFar → Deeds
-deeds_of so_far = record { filed = cond so_far.cancelled so_far.filed (with_mailbox so_far.filed inbox); sent = so_far.sent; reply = so_far.reply }
+abbrev pub actions_of : RunState → Actions
+actions_of so_far = record { filed = cond so_far.cancelled so_far.filed (with_mailbox so_far.filed inbox); sent = so_far.sent; reply = so_far.reply }
 
 abbrev pub ended : Flow → Outcome
-ended (F.Going so_far) = Done (deeds_of so_far)
-ended (F.Stopped so_far) = Done (deeds_of so_far)
+ended (F.Going so_far) = Done (actions_of so_far)
+ended (F.Stopped so_far) = Done (actions_of so_far)
 ended (F.Failed failure) = Failed failure
 
 -- the outcome of a script, where the tests that look at the message have this truth

@@ -4,7 +4,7 @@ use Rattle.sievelex.specs.declared.token.Token.{Token}
 use Rattle.sievelex.specs.Spelling.{Spells}
 use Rattle.sievesyntax.specs.Lexemes.{lexemes}
 use Rattle.sievesyntax.specs.Tree.{Commands}
-use Rattle.sievesyntax.specs.Reading.{Reads}
+use Rattle.sievesyntax.specs.Grammar.{Reads}
 use Rattle.sievesyntax.specs.Valid.{IsValid}
 
 -- some tokens spell the text, read as this tree, and the tree is valid

@@ -1,8 +1,9 @@
 -- What a part of the parser answers.
-use Rattle.std.specs.Prelude.{◌≡◌, List, Result, Ok, Err}
-use Rattle.sievesyntax.specs.declared.refusal.ReadError.{ReadError}
-use Rattle.sievesyntax.specs.declared.refusal.ReadError.TheVariants.{Memory, Fault}
-use Rattle.sievesyntax.specs.Lexemes.{Lexeme}
+use Rattle.std.specs.Prelude.{◌≡◌, List, ◌∷◌, ◌++◌, Result, Ok, Err}
+use Rattle.sievesyntax.specs.declared.error.ReadError.{ReadError}
+use Rattle.sievesyntax.specs.declared.error.ReadError.TheVariants.{Memory, Fault}
+use Rattle.sievelex.specs.declared.token.Kind.{Kind}
+use Rattle.sievesyntax.specs.Lexemes.{Lexeme, mark}
 
 -- this holds where the error is a fault of the script; lack of memory says nothing
 abbrev pub OnFault : ReadError → Type 0 → Type 0
@@ -23,3 +24,23 @@ Finds {X} P (Err e) = OnFault e ((y : X) → P y → ⊥)
 abbrev pub Parses : {X Y : Type 0} → (X → Y) → (Y → List Lexeme → List Lexeme → Type 0) → List Lexeme → List Lexeme → Result X ReadError → Type 0
 Parses {X} {Y} view P from to (Ok x) = P (view x) from to × ((y : Y) (end : List Lexeme) → P y from end → (y ≡ view x) × (end ≡ to))
 Parses {X} {Y} view P from to (Err e) = OnFault e ((y : Y) (end : List Lexeme) → P y from end → ⊥)
+
+-- nothing with P stands at the front of `from` but this, up to `to`
+abbrev pub StandsAlone : {Y : Type 0} → (Y → List Lexeme → List Lexeme → Type 0) → Y → List Lexeme → List Lexeme → Type 0
+StandsAlone {Y} P y from to = (other : Y) (end : List Lexeme) → P other from end → (other ≡ y) × (end ≡ to)
+
+-- nothing with P stands at the front of `from`
+abbrev pub StandsNowhere : {Y : Type 0} → (Y → List Lexeme → List Lexeme → Type 0) → List Lexeme → Type 0
+StandsNowhere {Y} P from = (y : Y) (end : List Lexeme) → P y from end → ⊥
+
+-- those with P at the front of `from`, up to `to`, were added after the old ones
+abbrev pub Extends : {Y : Type 0} → (List Y → List Lexeme → List Lexeme → Type 0) → List Y → List Y → List Lexeme → List Lexeme → Type 0
+Extends {Y} P old new from to = (more : List Y) × ((new ≡ old ++ more) × P more from to)
+
+-- none but those that were added stand there
+abbrev pub ExtendsAlone : {Y : Type 0} → (List Y → List Lexeme → List Lexeme → Type 0) → List Y → List Y → List Lexeme → List Lexeme → Type 0
+ExtendsAlone {Y} P old new from to = (more : List Y) (end : List Lexeme) → P more from end → (new ≡ old ++ more) × (end ≡ to)
+
+-- what stands there up to a mark, and the mark
+abbrev pub Closed : {Y : Type 0} → Kind → (Y → List Lexeme → List Lexeme → Type 0) → Y → List Lexeme → List Lexeme → Type 0
+Closed kind P y from to = P y from (mark kind ∷ to)

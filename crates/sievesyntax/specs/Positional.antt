@@ -1,8 +1,8 @@
 -- Positional arguments (RFC 5228, 2.6.1).
 use Rattle.std.specs.Prelude.{ℕ, List, [], ◌∷◌, Option, Some, None}
-use Rattle.sievesyntax.specs.declared.argument.Argument.{Argument}
-use Rattle.sievesyntax.specs.declared.argument.Argument.TheVariants as A
-use Rattle.sievesyntax.specs.Settings.{strings_of}
+use Rattle.sievesyntax.specs.declared.parser.argument.Argument.{Argument}
+use Rattle.sievesyntax.specs.declared.parser.argument.Argument.TheVariants as A
+use Rattle.sievesyntax.specs.Tags.{strings_of}
 
 -- both, where both are there
 abbrev pub pair : {X Y : Type 0} → Option X → Option Y → Option (X × Y)

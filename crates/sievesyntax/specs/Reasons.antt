@@ -1,10 +1,10 @@
 -- The reason of a `vacation`.
-use Rattle.std.specs.Prelude.{◌≡◌, ℕ, ◌==◌, ◌&&◌, ◌||◌, nat_le, Bool, true, false, List, take, codes, Option, Some, None, length}
+use Rattle.std.specs.Prelude.{◌≡◌, ℕ, ◌==◌, ◌&&◌, ◌||◌, nat_le, Bool, true, false, List, ◌∷◌, ◌++◌, take, codes, Option, Some, None, length, All}
 use Rattle.std.specs.List.{list_all, list_any}
 use Rattle.mailhead.specs.Lines.{lines_of, is_empty_line, without_end, logical_lines, header_lines}
-use Rattle.mailhead.specs.Fields.{FieldText, field_of}
+use Rattle.mailhead.specs.Fields.{FieldText, IsField, field_of}
 use Rattle.sievesyntax.specs.Lexemes.{same_name}
-use Rattle.sievesyntax.specs.declared.vacation.VacArgs.{VacArgs}
+use Rattle.sievesyntax.specs.declared.tree.vacation.VacArgs.{VacArgs}
 
 -- at most 998 octets without its line end (RFC 5322, 2.1.1)
 abbrev pub is_narrow : List ℕ → Bool
@@ -34,6 +34,24 @@ is_mime_line line = list_all is_header_octet line && has_mime_name (field_of lin
 -- a MIME entity: a header of such logical lines alone, an empty line, and anything
 abbrev pub is_entity : List ℕ → Bool
 is_entity text = list_any is_empty_line (lines_of text) && list_all is_mime_line (logical_lines (header_lines (lines_of text)))
+
+-- a line of a header is that of a MIME field: a field of such a name, in those octets
+pub record IsMimeLine (line : List ℕ) : Type 0 where
+  pub octets : All (λ octet. is_header_octet octet ≡ true) line
+  pub field : FieldText
+  pub form : IsField line field
+  pub named : is_mime_name field.name ≡ true
+
+-- the same as a relation: the lines of a text are those of a header, the first empty one and those of a body, and
+-- each logical line of the header is that of a MIME field (RFC 2045, 3; RFC 5322, 2.1)
+pub record IsEntity (text : List ℕ) : Type 0 where
+  pub header : List (List ℕ)
+  pub empty : List ℕ
+  pub body : List (List ℕ)
+  pub lines : lines_of text ≡ header ++ empty ∷ body
+  pub full : All (λ line. is_empty_line line ≡ false) header
+  pub ends : is_empty_line empty ≡ true
+  pub fields : All IsMimeLine (logical_lines header)
 
 -- a reason that may stand: no line of it is too long, and with `:mime` it is a MIME entity (RFC 5230, 4.4)
 pub record IsReason (args : VacArgs) : Type 0 where

@@ -1,7 +1,7 @@
 -- The tree of a script, as contracts see it: the cases of `Command` and `Test` without pointers.
 use Rattle.std.specs.Prelude.{ℕ, suc, max, List}
-use Rattle.sievesyntax.specs.declared.action.Action.{Action}
-use Rattle.sievesyntax.specs.declared.checks.Check.{Check}
+use Rattle.sievesyntax.specs.declared.tree.action.Action.{Action}
+use Rattle.sievesyntax.specs.declared.tree.checks.Check.{Check}
 
 -- a test (RFC 5228, 5), and tests in a row
 mutual

@@ -2,15 +2,15 @@
 use Rattle.std.specs.Prelude.{◌≡◌, ◌⊎◌, ℕ, List, [], ◌∷◌, ◌++◌, Option, Some, None}
 use Rattle.addrparts.specs.declared.address.Addr.{Addr}
 use Rattle.addrparts.specs.Outbound.{IsOutbound}
-use Rattle.sievesyntax.specs.declared.vacation.VacArgs.{VacArgs}
-use Rattle.sievesyntax.specs.declared.vacation.ReplyFrom.{ReplyFrom}
-use Rattle.sievesyntax.specs.declared.argument.Argument.{Argument}
-use Rattle.sievesyntax.specs.declared.setting.Setting.{Setting}
-use Rattle.sievesyntax.specs.declared.setting.Slot.{Slot}
-use Rattle.sievesyntax.specs.declared.setting.Slot.TheVariants as P
-use Rattle.sievesyntax.specs.Settings.{IsArranged}
+use Rattle.sievesyntax.specs.declared.tree.vacation.VacArgs.{VacArgs}
+use Rattle.sievesyntax.specs.declared.tree.vacation.ReplyFrom.{ReplyFrom}
+use Rattle.sievesyntax.specs.declared.parser.argument.Argument.{Argument}
+use Rattle.sievesyntax.specs.declared.table.tag_group.TagValue.{TagValue}
+use Rattle.sievesyntax.specs.declared.table.tag_group.TagGroup.{TagGroup}
+use Rattle.sievesyntax.specs.declared.table.tag_group.TagGroup.TheVariants as P
+use Rattle.sievesyntax.specs.Tags.{IsSplit}
 use Rattle.sievesyntax.specs.Positional.{one_text}
-use Rattle.sievesyntax.specs.Lookups.{days_in, subject_in, from_in, addresses_in, mime_in, handle_in}
+use Rattle.sievesyntax.specs.TagValues.{days_in, subject_in, from_in, addresses_in, mime_in, handle_in}
 
 -- the text names this address
 abbrev pub Names : List ℕ → Addr → Type 0
@@ -41,21 +41,21 @@ AddsNamed text old new =
     ((address : Addr) × (Names text address × (new ≡ old ++ address ∷ [])))
     ⊎ (((address : Addr) → Names text address → ⊥) × (new ≡ old))
 
--- what the settings of a `vacation` and its positional arguments say: the reason is one string without brackets
-pub record SaysVacation (settings : List Setting) (positional : List Argument) (args : VacArgs) : Type 0 where
-  pub days : args.days ≡ days_in settings
-  pub subject : args.subject ≡ subject_in settings
-  pub from : IsGivenFrom (from_in settings) args.from
-  pub addresses : AreNamed (addresses_in settings) args.addresses
-  pub mime : args.mime ≡ mime_in settings
-  pub handle : args.handle ≡ handle_in settings
+-- what the tags of a `vacation` and its positional arguments say: the reason is one string without brackets
+pub record SaysVacation (tag_values : List TagValue) (positional : List Argument) (args : VacArgs) : Type 0 where
+  pub days : args.days ≡ days_in tag_values
+  pub subject : args.subject ≡ subject_in tag_values
+  pub from : IsGivenFrom (from_in tag_values) args.from
+  pub addresses : AreNamed (addresses_in tag_values) args.addresses
+  pub mime : args.mime ≡ mime_in tag_values
+  pub handle : args.handle ≡ handle_in tag_values
   pub reason : one_text positional ≡ Some args.reason
 
--- the settings of a `vacation`
-abbrev pub vacation_slots : List Slot
-vacation_slots = P.Days ∷ (P.Subject ∷ (P.From ∷ (P.Addresses ∷ (P.Mime ∷ (P.Handle ∷ [])))))
+-- the tags of a `vacation`
+abbrev pub vacation_groups : List TagGroup
+vacation_groups = P.Days ∷ (P.Subject ∷ (P.From ∷ (P.Addresses ∷ (P.Mime ∷ (P.Handle ∷ [])))))
 
 -- vacation [":days" number] [":subject" string] [":from" string] [":addresses" string-list] [":mime"]
 -- [":handle" string], reason: string (RFC 5230, 4)
 abbrev pub IsVacation : List Argument → VacArgs → Type 0
-IsVacation args vacation = (settings : List Setting) × ((positional : List Argument) × (IsArranged vacation_slots args settings positional × SaysVacation settings positional vacation))
+IsVacation args vacation = (tag_values : List TagValue) × ((positional : List Argument) × (IsSplit vacation_groups args tag_values positional × SaysVacation tag_values positional vacation))

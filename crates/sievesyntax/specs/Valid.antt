@@ -2,11 +2,11 @@
 use Rattle.std.specs.Prelude.{◌≡◌, ◌≢◌, ◌≤◌, ◌||◌, ℕ, Bool, true, List, [], ◌++◌, codes, length, All, nat_eq}
 use Rattle.std.specs.List.{list_any}
 use Rattle.std.specs.Cmp.Lexicographic.{pointwise}
-use Rattle.sievesyntax.specs.declared.action.Action.{Action}
-use Rattle.sievesyntax.specs.declared.action.Action.TheVariants.{Keep, Discard, FileInto, Redirect, Vacation}
-use Rattle.sievesyntax.specs.declared.checks.Check.{Check}
-use Rattle.sievesyntax.specs.declared.checks.Check.TheVariants.{Size, Exists, Header, Address, Envelope}
-use Rattle.sievesyntax.specs.declared.granted.Granted.{Granted}
+use Rattle.sievesyntax.specs.declared.tree.action.Action.{Action}
+use Rattle.sievesyntax.specs.declared.tree.action.Action.TheVariants.{Keep, Discard, FileInto, Redirect, Vacation}
+use Rattle.sievesyntax.specs.declared.tree.checks.Check.{Check}
+use Rattle.sievesyntax.specs.declared.tree.checks.Check.TheVariants.{Size, Exists, Header, Address, Envelope}
+use Rattle.sievesyntax.specs.declared.table.capability.Capabilities.{Capabilities}
 use Rattle.sievesyntax.specs.Reasons.{IsReason}
 use Rattle.sievesyntax.specs.Tree.{TestTree, yes, no, looks, not_of, all_of, any_of, Tests, no_tests, test, list_depth, not_depth, CommandTree, require, choose, stop, act, Branches, no_branches, branch, Commands, no_commands, command, depth}
 
@@ -33,7 +33,7 @@ abbrev pub IsCapability : List ℕ → Type 0
 IsCapability name = is_capability name ≡ true
 
 -- what these names of capabilities grant (RFC 5228, 3.2); both comparators may be used without
-abbrev pub granted_by : List (List ℕ) → Granted
+abbrev pub granted_by : List (List ℕ) → Capabilities
 granted_by names = record {
   fileinto = list_any (is_named (codes "fileinto")) names;
   envelope = list_any (is_named (codes "envelope")) names;
@@ -41,7 +41,7 @@ granted_by names = record {
 }
 
 -- an action that may stand where this is granted
-abbrev pub MayAct : Granted → Action → Type 0
+abbrev pub MayAct : Capabilities → Action → Type 0
 MayAct granted Keep = Unit {0}
 MayAct granted Discard = Unit {0}
 MayAct granted (FileInto mailbox) = (granted.fileinto ≡ true) × IsMailbox mailbox
@@ -49,7 +49,7 @@ MayAct granted (Redirect target) = Unit {0}
 MayAct granted (Vacation args) = (granted.vacation ≡ true) × IsReason args
 
 -- a test of the message that may stand where this is granted
-abbrev pub MayCheck : Granted → Check → Type 0
+abbrev pub MayCheck : Capabilities → Check → Type 0
 MayCheck granted (Size size) = Unit {0}
 MayCheck granted (Exists fields) = Unit {0}
 MayCheck granted (Header header) = Unit {0}
@@ -58,7 +58,7 @@ MayCheck granted (Envelope envelope) = granted.envelope ≡ true
 
 -- a test that may stand where this is granted
 abbrev mutual
-  pub MayTest : Granted → TestTree → Type 0
+  pub MayTest : Capabilities → TestTree → Type 0
   MayTest granted yes = Unit {0}
   MayTest granted no = Unit {0}
   MayTest granted (looks check) = MayCheck granted check
@@ -66,28 +66,39 @@ abbrev mutual
   MayTest granted (all_of inner) = MayAllTest granted inner
   MayTest granted (any_of inner) = MayAllTest granted inner
 
-  pub MayAllTest : Granted → Tests → Type 0
+  pub MayAllTest : Capabilities → Tests → Type 0
   MayAllTest granted no_tests = Unit {0}
   MayAllTest granted (test first more) = MayTest granted first × MayAllTest granted more
 
--- a test that may stand in a branch: besides, at most so many test lists and, counted apart, so many `not`s
+-- how many test lists, and how many `not`s, may enclose a test at most
+abbrev pub max_lists : ℕ
+max_lists = 32
+
+abbrev pub max_nots : ℕ
+max_nots = 32
+
+-- how deep blocks may stand in blocks at most
+abbrev pub max_blocks : ℕ
+max_blocks = 32
+
+-- a test that may stand in a branch: besides, at most that many test lists and, counted apart, that many `not`s
 -- enclose any test within it
-abbrev pub MayAsk : Granted → ℕ → ℕ → TestTree → Type 0
+abbrev pub MayAsk : Capabilities → ℕ → ℕ → TestTree → Type 0
 MayAsk granted lists nots condition = MayTest granted condition × ((list_depth condition ≤ lists) × (not_depth condition ≤ nots))
 
--- commands that may stand behind the last `require`, where this is granted
+-- commands that may stand after the last `require`, where this is granted
 abbrev mutual
-  pub MayStand : Granted → CommandTree → Type 0
+  pub MayStand : Capabilities → CommandTree → Type 0
   MayStand granted (require names) = ⊥
   MayStand granted (choose branches) = MayBranch granted branches
   MayStand granted stop = Unit {0}
   MayStand granted (act action) = MayAct granted action
 
-  pub MayBranch : Granted → Branches → Type 0
+  pub MayBranch : Capabilities → Branches → Type 0
   MayBranch granted no_branches = Unit {0}
-  MayBranch granted (branch condition block more) = MayAsk granted 32 32 condition × (MayAllStand granted block × MayBranch granted more)
+  MayBranch granted (branch condition block more) = MayAsk granted max_lists max_nots condition × (MayAllStand granted block × MayBranch granted more)
 
-  pub MayAllStand : Granted → Commands → Type 0
+  pub MayAllStand : Capabilities → Commands → Type 0
   MayAllStand granted no_commands = Unit {0}
   MayAllStand granted (command first more) = MayStand granted first × MayAllStand granted more
 
@@ -97,16 +108,16 @@ required no_commands = []
 required (command (require names) more) = names ++ required more
 required (command _ more) = []
 
--- the commands behind the requires at the front
-abbrev pub behind_requires : Commands → Commands
-behind_requires no_commands = no_commands
-behind_requires (command (require names) more) = behind_requires more
-behind_requires (command first more) = command first more
+-- the commands after the requires at the front
+abbrev pub after_requires : Commands → Commands
+after_requires no_commands = no_commands
+after_requires (command (require names) more) = after_requires more
+after_requires (command first more) = command first more
 
 -- a valid script: `require` stands before every other command and names what is known, an extension is
--- used where it is required alone, blocks stand at depth 32 at most, and at most 32 test lists and, counted
--- apart, 32 `not`s enclose a test
+-- used where it is required alone, blocks stand no deeper than they may, and no more test lists and, counted
+-- apart, `not`s enclose a test than may
 pub record IsValid (commands : Commands) : Type 0 where
   pub known : All IsCapability (required commands)
-  pub stand : MayAllStand (granted_by (required commands)) (behind_requires commands)
-  pub shallow : depth commands ≤ 32
+  pub stand : MayAllStand (granted_by (required commands)) (after_requires commands)
+  pub shallow : depth commands ≤ max_blocks

@@ -8,13 +8,13 @@ ghost use Rattle.sievelex.specs.Text.{line_ends};
 ghost use Rattle.sievesyntax.specs.Lexemes.{lexemes_said};
 ghost use Rattle.sievesyntax.specs.Tree.{Commands};
 ghost use Rattle.sievesyntax.specs.Valid.{IsValid};
-ghost use Rattle.sievesyntax.specs.Reading.{Reads};
+ghost use Rattle.sievesyntax.specs.Grammar.{Reads};
 ghost use Rattle.sievesyntax.specs.Parsing.{OnFault};
 
-use crate::opening::read_script;
-use crate::reader::Reader;
-use crate::refusal::ReadError;
-use crate::tree::Command;
+use crate::error::ReadError;
+use crate::parser::reader::Reader;
+use crate::parser::require::read_script;
+use crate::tree::command::Command;
 use sievelex::{FaultKind, Packed, ScriptError, ScriptFault, line_of, pack};
 use std::alloc::Global;
 
@@ -57,7 +57,7 @@ pub fn check(alloc: Global, text: &[u8]) -> Result<Script, ScriptError>
     match check_tokens(alloc, &tokens) {
         Ok(script) => Ok(script),
         Err((ReadError::Memory, _)) => Err(ScriptError::Memory),
-        Err((ReadError::Fault(kind), read)) => Err(fault_behind(alloc, text, read, kind)),
+        Err((ReadError::Fault(kind), read)) => Err(fault_after(alloc, text, read, kind)),
     }
 }
 
@@ -74,8 +74,8 @@ fn check_tokens(alloc: Global, tokens: &Packed) -> Result<Script, (ReadError, us
     }
 }
 
-/// The fault of a script that was met when so many of its tokens were read: its line is that of the last of them.
-fn fault_behind(alloc: Global, text: &[u8], read: usize, kind: FaultKind) -> ScriptError
+/// The fault of a script that was met when that many of its tokens were read: its line is that of the last of them.
+fn fault_after(alloc: Global, text: &[u8], read: usize, kind: FaultKind) -> ScriptError
     ensures exact { (ts : List Token) → Spells text.now ts → OnFaultLine result (λ n. n ≡ line_at (read - 1) ts) }
     ensures lines { OnFaultLine result (λ n. (1 ≤ n) × (n ≤ 1 + line_ends text.now)) }
 {

@@ -1,5 +1,6 @@
--- At most one row has a key, and what a query over one table finds.
-use Rattle.std.proofs.Common.{◌≡◌, ◌⊎◌, ℕ, ◌-◌, ◌^◌, ℤ, ◌<ℤ◌, nat_le, unwrap_or, int_eq, Bool, true, false, not, ◌&&◌, cond, List, [], ◌∷◌, ◌++◌, map, filter, flat_map, find, slice_get, None, option_map, refl, sym, ap, ◌∙◌, subst, inl, inr, arith, IsPermutation, IsSorted}
+-- At most one row has a key, and what a query over one table or two finds.
+use Rattle.std.proofs.lemmas.List.{map-append}
+use Rattle.std.proofs.Common.{◌≡◌, ◌⊎◌, ℕ, ◌-◌, ◌^◌, ℤ, ◌<ℤ◌, nat_le, unwrap_or, int_eq, Bool, true, false, not, ◌&&◌, cond, List, [], ◌∷◌, ◌++◌, map, filter, flat_map, find, slice_get, None, option_map, refl, sym, ap, ap₂, ◌∙◌, subst, inl, inr, arith, IsPermutation, IsSorted}
 use Rattle.std.specs.List.{list_all}
 use Rattle.std.proofs.lemmas.Int.{ints}
 use Rattle.std.proofs.lemmas.Bool.{and_from, not-true, not-false, both_ways, false_from_ne_true}
@@ -27,7 +28,7 @@ use Rattle.sqlite_keyed.proofs.ListLemmas.{map-map, filter-map, filter_none, map
 use Rattle.sqlite_keyed.proofs.KeyedLemmas.{same_int}
 use Rattle.sqlite_typed.proofs.TestLemmas.{at_ints}
 use Rattle.sqlite.proofs.Callers.{one_permutation}
-use Rattle.sqlrows.specs.Forms.{over}
+use Rattle.sqlrows.specs.Forms.{over, over_two}
 use Rattle.sqlrows.specs.Rows.{Entry, id_of, cells_of, stored, IsHeld, has_key}
 
 pub has_map : {X Y : Type 0} (f : X → Y) (xs : List X) (x : X) → Has xs x → Has (map f xs) (f x)
@@ -147,6 +148,59 @@ module _ (db : Trees) (tree : ℕ) (terms project : List Term) (order : List (Te
       let are : map (λ e. output asked (slots params e)) (filter (λ e. p (cells_of e)) h.entries) ≡ map show (filter p cells) =
       map_same _ (λ e. show (cells_of e)) (λ e. shows (id_of e) (cells_of e)) _ ∙ sym (map-map show cells_of _) ∙ ap (map show) (sym (filter-entries p h.entries)) ∙ sym (ap (λ l. map show (filter p l)) h.cells_are) in
       (a.ordered, subst (λ k. IsPermutation k a.ordered) (kept ∙ are) a.same, a.sorted, a.shown)
+
+-- a query over two tables: its terms test the cells of the first, and those of a row of each; a row of the first that passes has one row of the other
+module _ (db : Trees) (tree other : ℕ) (terms project : List Term) (order : List (Term × Key)) (params : Row) (cells others : List Row) (h : IsHeld (db tree) cells) (k : IsHeld (db other) others) (p : Row → Bool) (q : Row → Row → Bool)
+    (meets : (n m : ℤ) (a b : Row) → list_all (holds (params ∷ (Int n ∷ a) ∷ (Int m ∷ b) ∷ [])) terms ≡ (p a && q a b)) where
+  abbrev joined : Query
+  joined = (over_two tree other terms project order).body
+
+  abbrev two_slots : Entry → Entry → Env
+  two_slots e f = params ∷ stored e ∷ stored f ∷ []
+
+  abbrev pairs_of : Row → List Row → List Env
+  pairs_of r ss = flat_map (λ s. cond (list_all (holds (params ∷ r ∷ s ∷ [])) terms) ((params ∷ r ∷ s ∷ []) ∷ []) []) ss
+
+  pairs_are : (e : Entry) (fs : List Entry) → pairs_of (stored e) (map stored fs) ≡ map (two_slots e) (filter (λ f. p (cells_of e) && q (cells_of e) (cells_of f)) fs)
+  pairs_are e [] = refl
+  pairs_are e (f ∷ fs) =
+      rw (meets (id_of e) (id_of f) (cells_of e) (cells_of f), pairs_are e fs)
+      (elim (p (cells_of e) && q (cells_of e) (cells_of f)) as (λ b. cond b (two_slots e f ∷ []) [] ++ map (two_slots e) (filter (λ x. p (cells_of e) && q (cells_of e) (cells_of x)) fs)
+      ≡ map (two_slots e) (cond b (f ∷ filter (λ x. p (cells_of e) && q (cells_of e) (cells_of x)) fs) (filter (λ x. p (cells_of e) && q (cells_of e) (cells_of x)) fs)))
+      [ true ↦ refl | false ↦ refl ])
+
+  module _ (show : Row → Row → Output) (shows : (n m : ℤ) (a b : Row) → output joined (params ∷ (Int n ∷ a) ∷ (Int m ∷ b) ∷ []) ≡ show a b) (partner : Row → Row) where
+    abbrev HasPartner : Row → Type 0
+    HasPartner a = p a ≡ true → filter (q a) others ≡ partner a ∷ []
+
+    shown_pairs : (e : Entry) → HasPartner (cells_of e) → map (output joined) (map (two_slots e) (filter (λ f. p (cells_of e) && q (cells_of e) (cells_of f)) k.entries)) ≡ cond (p (cells_of e)) (show (cells_of e) (partner (cells_of e)) ∷ []) []
+    shown_pairs e one = go (p (cells_of e)) refl
+      where
+        here : p (cells_of e) ≡ true → map (output joined) (map (two_slots e) (filter (λ f. q (cells_of e) (cells_of f)) k.entries)) ≡ show (cells_of e) (partner (cells_of e)) ∷ []
+        here passes =
+            map-map (output joined) (two_slots e) _ ∙ map_same _ (λ f. show (cells_of e) (cells_of f)) (λ f. shows (id_of e) (id_of f) (cells_of e) (cells_of f)) _ ∙ sym (map-map (show (cells_of e)) cells_of _)
+            ∙ ap (map (show (cells_of e))) (sym (filter-entries (q (cells_of e)) k.entries) ∙ sym (ap (filter (q (cells_of e))) k.cells_are) ∙ one passes)
+
+        go : (b : Bool) → p (cells_of e) ≡ b → map (output joined) (map (two_slots e) (filter (λ f. b && q (cells_of e) (cells_of f)) k.entries)) ≡ cond b (show (cells_of e) (partner (cells_of e)) ∷ []) []
+        go true passes = here passes
+        go false fails = ap (λ l. map (output joined) (map (two_slots e) l)) (filter_none (λ f. false) k.entries (all_from _ k.entries (λ f there. refl)))
+
+    joins_are : (es : List Entry) → ((e : Entry) → Has es e → HasPartner (cells_of e)) → map (output joined) (flat_map (λ r. pairs_of r (map stored k.entries)) (map stored es)) ≡ map (λ a. show a (partner a)) (filter p (map cells_of es))
+    joins_are [] each = refl
+    joins_are (e ∷ es) each =
+        map-append (output joined) (pairs_of (stored e) (map stored k.entries)) (flat_map (λ r. pairs_of r (map stored k.entries)) (map stored es))
+        ∙ ap₂ (λ l m. l ++ m) (ap (map (output joined)) (pairs_are e k.entries) ∙ shown_pairs e (each e (inl refl))) (joins_are es (λ f there. each f (inr there)))
+        ∙ elim (p (cells_of e)) as (λ b. cond b (show (cells_of e) (partner (cells_of e)) ∷ []) [] ++ map (λ a. show a (partner a)) (filter p (map cells_of es))
+        ≡ map (λ a. show a (partner a)) (cond b (cells_of e ∷ filter p (map cells_of es)) (filter p (map cells_of es)))) [ true ↦ refl | false ↦ refl ]
+
+    pub cells_joined : ((a : Row) → Has cells a → HasPartner a) → (rows : List Row) → IsAnswer joined (overlay db []) params rows
+        → (ordered : List Output) × IsPermutation (map (λ a. show a (partner a)) (filter p cells)) ordered × IsSorted (output_cmp joined) ordered × (rows ≡ map (λ (o : Output). o.1) ordered)
+    cells_joined each rows a =
+        let there : (e : Entry) → Has h.entries e → HasPartner (cells_of e) = λ e has. each (cells_of e) (subst (λ l. Has l (cells_of e)) (sym h.cells_are) (has_map cells_of h.entries e has)) in
+        let found : a.kept ≡ map (output joined) (flat_map (λ r. pairs_of r (map stored k.entries)) (map stored h.entries)) =
+        a.distinct ∙ ap (map (output joined)) (a.grouped ∙ ap₂ (λ l m. flat_map (λ r. pairs_of r m) l) (same_tree db tree ∙ h.rows_are) (same_tree db other ∙ k.rows_are)) in
+        let are = found ∙ joins_are h.entries there ∙ ap (λ l. map (λ a. show a (partner a)) (filter p l)) (sym h.cells_are) in
+        (a.ordered, subst (λ l. IsPermutation l a.ordered) are a.same, a.sorted, a.shown)
 
 -- the same by cells, under a unique index over the key
 module _ (schema : Schema) (table : Table) (listed : Has schema.tables table) (index : Index) (indexed : Has schema.indexes index) (guarding : guards index table ≡ true) (key : Row) (places : List ℕ)

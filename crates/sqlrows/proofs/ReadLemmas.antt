@@ -14,7 +14,8 @@ use Rattle.sqlite.specs.Listing.{understood, reads_listing}
 use Rattle.sqlite.specs.State.{State, Survives, Shown, ShowsRows, CommitsShowing, FailsToQuery, FailsToShow, IsNotRun, IsUnchanged, IsRolledBack}
 use Rattle.sqlite.proofs.StateLemmas.{survives_weaker}
 use Rattle.sqlite.proofs.Callers.{IsPlain, command_of, never_commits, reads_as}
-use Rattle.sqlrows.specs.Forms.{over}
+use Rattle.sqlrows.specs.Forms.{over, over_from}
+use Rattle.sqlite_sql.specs.Query.{Join, inner, end}
 
 module _ (schema : Schema) (sql : List ℕ) (params : Row) (old new : State) (has : old.now.schema ≡ schema) (plain : IsPlain (understood schema sql)) where
   plain_now : IsPlain (understood old.now.schema sql)
@@ -39,6 +40,10 @@ module _ (schema : Schema) (sql : List ℕ) (params : Row) (old new : State) (ha
       let bare = (subst IsPlain h.1.is plain_now).0 in
       inl (subst (FailsToShow old new sql h.0 (timed params h.0.formats h.1.now) e) bare h.2).3
 
+  pub answered_from : (from : Join) (terms project : List Term) (order : List (Term × Key)) (names : List (List ℕ)) → command_of (understood schema sql) ≡ Select (over_from from terms project order) names
+      → reads_listing schema sql ≡ false → (rows : List Row) → Shown sql params old new rows → IsAnswer (over_from from terms project order).body (overlay old.now.trees []) params rows
+  answered_from from terms project order names is unlisted rows h = (reads_as sql params old new schema has (Select (over_from from terms project order) names) is plain unlisted rows h).answer Null
+
   pub answered : (tree : ℕ) (terms project : List Term) (order : List (Term × Key)) (names : List (List ℕ)) → command_of (understood schema sql) ≡ Select (over tree terms project order) names
       → reads_listing schema sql ≡ false → (rows : List Row) → Shown sql params old new rows → IsAnswer (over tree terms project order).body (overlay old.now.trees []) params rows
-  answered tree terms project order names is unlisted rows h = (reads_as sql params old new schema has (Select (over tree terms project order) names) is plain unlisted rows h).answer Null
+  answered tree = answered_from (inner tree end)

@@ -1,4 +1,4 @@
--- The tables and the statements that the lemmas speak of: STRICT tables with one key, and queries over one table.
+-- The tables and the statements that the lemmas speak of: STRICT tables with one key, and queries over one table or two.
 use Rattle.std.specs.Prelude.{ℕ, pos, negsuc, true, false, List, [], ◌∷◌, None}
 use Rattle.sqlite_value.specs.declared.value.Value.TheVariants.{Null, Int}
 use Rattle.sqlite_value.specs.declared.keys.Collation.TheVariants.{Binary}
@@ -7,7 +7,7 @@ use Rattle.sqlite_value.specs.Keys.{plain}
 use Rattle.sqlite_sql.specs.declared.ops.BinaryOp.TheVariants.{Compare}
 use Rattle.sqlite_sql.specs.declared.ops.CompareOp.TheVariants.{Eq}
 use Rattle.sqlite_sql.specs.Term.{Term, lit, col, op2}
-use Rattle.sqlite_sql.specs.Query.{inner, end}
+use Rattle.sqlite_sql.specs.Query.{Join, inner, end}
 use Rattle.sqlite_schema.specs.declared.program.Program.{Program}
 use Rattle.sqlite_schema.specs.declared.schema.Kind.{Kind}
 use Rattle.sqlite_schema.specs.declared.schema.Column.{Column}
@@ -43,12 +43,12 @@ keyed name tree primary references columns = record {
 abbrev pub equals : ℕ → ℕ → Term
 equals place param = op2 (Compare Eq Binary) (col 1 place) (col 0 param)
 
--- a query over one table: the terms of WHERE, what it shows, and the keys of ORDER BY
-abbrev pub over : ℕ → List Term → List Term → List (Term × Key) → Program
-over tree filter project order = record {
+-- a query over these tables: the terms of WHERE and of JOIN, what it shows, and the keys of ORDER BY
+abbrev pub over_from : Join → List Term → List Term → List (Term × Key) → Program
+over_from from filter project order = record {
   lets = [];
   body = record {
-    from = inner tree end;
+    from = from;
     filter = filter;
     group = None;
     project = project;
@@ -59,3 +59,11 @@ over tree filter project order = record {
     offset = lit (Int (pos 0));
   };
 }
+
+-- over one table
+abbrev pub over : ℕ → List Term → List Term → List (Term × Key) → Program
+over tree = over_from (inner tree end)
+
+-- over two, of which the first is the outer one
+abbrev pub over_two : ℕ → ℕ → List Term → List Term → List (Term × Key) → Program
+over_two tree other = over_from (inner tree (inner other end))

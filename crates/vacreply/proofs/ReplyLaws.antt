@@ -5,8 +5,8 @@ use Rattle.encwords.specs.Headers.{IsWorded, words_for}
 use Rattle.encwords.proofs.PieceLaws.{pieces_only, one_value}
 use Rattle.addrparts.specs.declared.address.Addr.{Addr}
 use Rattle.addrparts.specs.Spelling.{spelling}
-use Rattle.sievesyntax.specs.declared.vacation.VacArgs.{VacArgs}
-use Rattle.sievesyntax.specs.declared.vacation.ReplyFrom.{ReplyFrom}
+use Rattle.sievesyntax.specs.declared.tree.vacation.VacArgs.{VacArgs}
+use Rattle.sievesyntax.specs.declared.tree.vacation.ReplyFrom.{ReplyFrom}
 use Rattle.sieveexec.specs.Mails.{MailSpec}
 use Rattle.vacreply.specs.Layout.{IsDisplay, IsNamed, IsFrom, IsReply, is_quotable, display_of, subject_told}
 use Rattle.vacreply.proofs.DateLaws.{one_date}

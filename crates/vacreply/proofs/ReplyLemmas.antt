@@ -1,7 +1,7 @@
 -- The parts of a response, appended in turn.
 use Rattle.std.proofs.Common.{◌≡◌, ℕ, List, [], ◌++◌}
 use Rattle.std.specs.Prelude.{codes}
-use Rattle.sievesyntax.specs.declared.vacation.VacArgs.{VacArgs}
+use Rattle.sievesyntax.specs.declared.tree.vacation.VacArgs.{VacArgs}
 use Rattle.sieveexec.specs.Mails.{MailSpec}
 use Rattle.vacreply.specs.Layout.{line, body_text, in_reply_to, version, content_header, ended}
 use Rattle.vacreply.proofs.Appends.{glue5}

@@ -8,7 +8,7 @@ use Rattle.mailhead.specs.Heads.{unfold_of}
 use Rattle.addrparts.specs.declared.address.Addr.{Addr}
 use Rattle.addrparts.specs.Spelling.{all_of}
 use Rattle.addrparts.specs.Reading.{addrs}
-use Rattle.sievesyntax.specs.declared.vacation.VacArgs.{VacArgs}
+use Rattle.sievesyntax.specs.declared.tree.vacation.VacArgs.{VacArgs}
 use Rattle.sieveexec.specs.Mails.{MailSpec}
 
 abbrev pub is_empty : List ℕ → Bool

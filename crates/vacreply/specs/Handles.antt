@@ -1,7 +1,7 @@
 -- By what a response is known (RFC 5230, 4.7), and the key under which it is remembered.
 use Rattle.std.specs.Prelude.{ℕ, ◌<◌, ◌^◌, ◌/◌, ◌%◌, Bool, cond, List, [], ◌∷◌, ◌++◌, length, Option, None, Some, option_map}
-use Rattle.sievesyntax.specs.declared.vacation.VacArgs.{VacArgs}
-use Rattle.sievesyntax.specs.declared.vacation.ReplyFrom.{ReplyFrom}
+use Rattle.sievesyntax.specs.declared.tree.vacation.VacArgs.{VacArgs}
+use Rattle.sievesyntax.specs.declared.tree.vacation.ReplyFrom.{ReplyFrom}
 
 -- a response is known by the name that `:handle` gives it; without one by the subject, the text of `:from`, `:mime` and the reason together
 pub data Handle : Type 0 where

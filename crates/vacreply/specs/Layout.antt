@@ -8,8 +8,8 @@ use Rattle.mailhead.specs.Heads.{fields_of, unfold_of}
 use Rattle.encwords.specs.Headers.{IsHeaderText, IsWorded}
 use Rattle.addrparts.specs.declared.address.Addr.{Addr}
 use Rattle.addrparts.specs.Spelling.{spelling, quoted}
-use Rattle.sievesyntax.specs.declared.vacation.VacArgs.{VacArgs}
-use Rattle.sievesyntax.specs.declared.vacation.ReplyFrom.{ReplyFrom}
+use Rattle.sievesyntax.specs.declared.tree.vacation.VacArgs.{VacArgs}
+use Rattle.sievesyntax.specs.declared.tree.vacation.ReplyFrom.{ReplyFrom}
 use Rattle.sieveexec.specs.Mails.{MailSpec, text_shown}
 use Rattle.vacreply.specs.Cases.{same_text}
 use Rattle.vacreply.specs.Dates.{IsDateText}

@@ -2,7 +2,7 @@
 use Rattle.std.specs.Prelude.{ℕ, Bool, true, not, ◌||◌, cond, List, [], ◌∷◌, codes, Option}
 use Rattle.std.specs.List.{list_any}
 use Rattle.addrparts.specs.declared.address.Addr.{Addr}
-use Rattle.sievesyntax.specs.declared.vacation.VacArgs.{VacArgs}
+use Rattle.sievesyntax.specs.declared.tree.vacation.VacArgs.{VacArgs}
 use Rattle.sieveexec.specs.Mails.{MailSpec}
 use Rattle.sieveexec.specs.Parts.{local_of, domain_of}
 use Rattle.vacreply.specs.declared.reason.Reason.{Reason}

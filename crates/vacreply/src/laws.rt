@@ -1,7 +1,7 @@
 //! Laws of the definitions, each the contract of a function that does nothing.
 ghost use Rattle.std.specs.Prelude.{◌≡◌, ◌↔◌, ℕ, List};
 ghost use Rattle.addrparts.specs.declared.address.Addr.{Addr};
-ghost use Rattle.sievesyntax.specs.declared.vacation.VacArgs.{VacArgs};
+ghost use Rattle.sievesyntax.specs.declared.tree.vacation.VacArgs.{VacArgs};
 ghost use Rattle.sieveexec.specs.Mails.{MailSpec};
 ghost use Rattle.vacreply.specs.Dates.{IsDateText};
 ghost use Rattle.vacreply.specs.Layout.{IsReply};

@@ -16,4 +16,4 @@ pub returns-clause-only : goal.returns-clause-only
 returns-clause-only c = λ others are. addrs-only c.args.value.now others are ∙ sym (returns-clause-read c)
 
 pub returns-clause-domains : goal.returns-clause-domains
-returns-clause-domains c = addresses-domain c.args.value.now c.give.new.found.items (returns-clause-found c)
+returns-clause-domains c = addresses-domain c.args.value.now c.push_some.new.found.items (returns-clause-found c)

@@ -1,5 +1,6 @@
 use Rattle.std.proofs.Common.{◌≡◌, ◌++◌, length}
-use Rattle.addrparts.specs.Reading.{collected, start, pieces}
+use Rattle.addrparts.specs.Drafts.{start}
+use Rattle.addrparts.specs.Reading.{collected, pieces}
 use Rattle.addrparts.proofs.list.addresses.Given as goal
 
 abbrev pub invariant-loop-token : goal.invariant-loop-token

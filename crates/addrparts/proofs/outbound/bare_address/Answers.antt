@@ -13,10 +13,10 @@ unfolding bare
 returns-clause-read c = search rules
 
 pub returns-clause-found : goal.returns-clause-found
-returns-clause-found c = result-bare c.args.text.now c.sole.result (returns-clause-read c)
+returns-clause-found c = result-bare c.args.text.now c.addr_spec_only.result (returns-clause-read c)
 
 pub returns-clause-only : goal.returns-clause-only
-returns-clause-only c = result-bare_only c.args.text.now c.sole.result (returns-clause-read c)
+returns-clause-only c = result-bare_only c.args.text.now c.addr_spec_only.result (returns-clause-read c)
 
 pub returns-clause-domain : goal.returns-clause-domain
-returns-clause-domain c = result-bare_domain c.args.text.now c.sole.result (returns-clause-found c)
+returns-clause-domain c = result-bare_domain c.args.text.now c.addr_spec_only.result (returns-clause-found c)

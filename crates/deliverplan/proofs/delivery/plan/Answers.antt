@@ -1,6 +1,6 @@
 use Rattle.std.proofs.Common.{◌≡◌, Some, None, option_copied, ap, refl, sym, ◌∙◌}
 use Rattle.std.proofs.lemmas.Result.{IfOk-weaker}
-use Rattle.sievesyntax.specs.Meaning.{Deeds}
+use Rattle.sievesyntax.specs.Meaning.{Actions}
 use Rattle.mailstore.specs.Cells.{contents}
 use Rattle.sieveexec.specs.Runs.{failure_view, outcome_view}
 use Rattle.deliverplan.specs.Delivered.{failure_text, invalid_text, kept, loop_text}
@@ -33,8 +33,8 @@ returns-in-Ok-Done c =
     let calm = sym c.is_looping.ensures ∙ c.if-is_looping.false in
     let valid = c.in-Ok-Done.ensures.valid in
     let comes = ap outcome_view (sym c.in-Ok-Done.field-0-is) ∙ c.in-Ok-Done.ensures.done valid.0 valid.1 in
-    let deeds : Deeds = record { filed = c.in-Ok-Done.filed; sent = c.as_slice.result.now; reply = option_copied c.as_ref.result } in
-    let done : Deeds = record { filed = c.in-Ok-Done.filed; sent = c.in-Ok-Done.sent; reply = c.in-Ok-Done.reply } in
+    let deeds : Actions = record { filed = c.in-Ok-Done.filed; sent = c.as_slice.result.now; reply = option_copied c.as_ref.result } in
+    let done : Actions = record { filed = c.in-Ok-Done.filed; sent = c.in-Ok-Done.sent; reply = c.in-Ok-Done.reply } in
     let same : deeds ≡ done = rw (c.as_slice.ensures, c.as_ref.ensures.value) refl in
     under c.args.view.now c.args.moment c.args.mail.now (contents c.args.active) (Some c.in-Some.text.now) c.act-in-Ok-Done.result there
     (IfOk-weaker c.act-in-Ok-Done.result

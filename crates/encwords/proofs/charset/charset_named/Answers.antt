@@ -1,4 +1,4 @@
-use Rattle.std.proofs.Common.{◌≡◌, take, codes, sym, ap, ◌∙◌, false}
+use Rattle.std.proofs.Common.{codes, sym, ap, ◌∙◌}
 use Rattle.std.specs.Str.{str_eq_ignore_ascii_case}
 use Rattle.encwords.proofs.TestLemmas.{differ, unnamed}
 use Rattle.encwords.proofs.charset.charset_named.Goals as goal

@@ -1,4 +1,4 @@
-use Rattle.std.proofs.Common.{ap, subst, sym, ◌∙◌}
+use Rattle.std.proofs.Common.{ap, subst, sym}
 use Rattle.std.specs.Prelude.{string_bytes}
 use Rattle.encwords.specs.Headers.{IsWorded}
 use Rattle.encwords.proofs.PieceLemmas.{written_more, written_all, after_valid, emptied}

@@ -1,4 +1,4 @@
-use Rattle.std.proofs.Common.{◌≡◌, ◌+◌, drop, get_or, None, Some, sym, ap, ◌∙◌, refl}
+use Rattle.std.proofs.Common.{None, Some, sym, ap, ◌∙◌, refl}
 use Rattle.encwords.proofs.QuotedLemmas.{onto, step_left, read_one, read_none}
 use Rattle.encwords.proofs.quoted.from_quoted.Goals as goal
 use Rattle.encwords.proofs.quoted.from_quoted.Goals.{in-Some-read+in_ok-push, in_default-read}

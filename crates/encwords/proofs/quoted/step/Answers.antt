@@ -1,4 +1,4 @@
-use Rattle.std.proofs.Common.{◌≡◌, ◌∷◌, ap, ◌∙◌}
+use Rattle.std.proofs.Common.{◌∷◌, ap, ◌∙◌}
 use Rattle.encwords.specs.Quoted.{quoted_from}
 use Rattle.encwords.proofs.QuotedLemmas.{plain_step}
 use Rattle.encwords.proofs.quoted.step.Goals as goal

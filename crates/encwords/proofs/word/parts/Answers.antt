@@ -1,4 +1,4 @@
-use Rattle.std.proofs.Common.{sym, ap, ◌∙◌}
+use Rattle.std.proofs.Common.{sym, ◌∙◌}
 use Rattle.encwords.proofs.PartLemmas.{parts_other}
 use Rattle.encwords.proofs.word.parts.Goals as goal
 

@@ -6,14 +6,17 @@ returns-in-AddAccount-clause-made g c = rw c.in-AddAccount.is c.add_account.ensu
 pub returns-in-SetActive-clause-made : goal.returns-in-SetActive-clause-made
 returns-in-SetActive-clause-made g c = rw c.in-SetActive.is c.set_active.ensures.made
 
-pub returns-in-SetNextCopy-clause-made : goal.returns-in-SetNextCopy-clause-made
-returns-in-SetNextCopy-clause-made g c = rw c.in-SetNextCopy.is c.set_next_copy.ensures.made
+pub returns-in-SetCounters-clause-made : goal.returns-in-SetCounters-clause-made
+returns-in-SetCounters-clause-made g c = rw c.in-SetCounters.is c.set_counters.ensures.made
 
 pub returns-in-AddScript-clause-made : goal.returns-in-AddScript-clause-made
 returns-in-AddScript-clause-made g c = rw c.in-AddScript.is c.add_script.ensures.made
 
 pub returns-in-RemoveScript-clause-made : goal.returns-in-RemoveScript-clause-made
 returns-in-RemoveScript-clause-made g c = rw c.in-RemoveScript.is c.remove_script.ensures.made
+
+pub returns-in-AddMessage-clause-made : goal.returns-in-AddMessage-clause-made
+returns-in-AddMessage-clause-made g c = rw c.in-AddMessage.is c.add_message.ensures.made
 
 pub returns-in-AddCopy-clause-made : goal.returns-in-AddCopy-clause-made
 returns-in-AddCopy-clause-made g c = rw c.in-AddCopy.is c.add_copy.ensures.made

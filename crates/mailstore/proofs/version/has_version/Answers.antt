@@ -10,4 +10,4 @@ returns-in_err-rows-clause-asks g c =
 
 pub returns-clause-asks : goal.returns-clause-asks
 returns-clause-asks g c =
-    says_version (state g.S.Store c.args.conn.now) (state g.S.Store c.find_version.new.conn) c.find_version.result c.in_ok-rows.rows c.in_ok-rows.was c.find_version.ensures.asks c.says_version_1.result (rw (c.deref.ensures.value) at c.says_version_1.ensures)
+    says_version (state g.S.Store c.args.conn.now) (state g.S.Store c.find_version.new.conn) c.find_version.result c.in_ok-rows.rows c.in_ok-rows.was c.find_version.ensures.asks c.says_version_2.result (rw (c.deref.ensures.value) at c.says_version_2.ensures)

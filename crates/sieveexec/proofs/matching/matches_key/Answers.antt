@@ -1,5 +1,5 @@
 use Rattle.std.proofs.lemmas.Bool.Decides.{same_from_decides}
-use Rattle.sievesyntax.specs.declared.checks.Matching.TheVariants.{Is, Contains, Matches}
+use Rattle.sievesyntax.specs.declared.tree.checks.Matching.TheVariants.{Is, Contains, Matches}
 use Rattle.sieveexec.proofs.MatchLemmas.{matches_key_decides}
 use Rattle.sieveexec.proofs.matching.matches_key.Goals as goal
 

@@ -14,6 +14,6 @@ returns-in-Ok-clause-only c = λ tree means.
 
 pub returns-clause-fault : goal.returns-clause-fault
 returns-clause-fault c =
-    fault_any c.fault_behind.result ((tree : Commands) → Means c.args.text.now tree → ⊥)
+    fault_any c.fault_after.result ((tree : Commands) → Means c.args.text.now tree → ⊥)
     (λ tree means. (let refused = rw c.in-Err-Fault-default.field-0-0-is at c.in-Err-Fault-default.ensures.fault in
     refused tree (means_told c.args.text.now (said c.in_ok-tokens.tokens) tree c.in_ok-tokens.ensures.only means) means.valid))

@@ -1,4 +1,4 @@
-use Rattle.std.proofs.Common.{◌≡◌, Ok, Err, Some, None, OnOk, IfErr, rules}
+use Rattle.std.proofs.Common.{◌≡◌, Ok, Some, None, OnOk, IfErr, rules}
 use Rattle.sqlite.specs.Held.{state}
 use Rattle.mailstore.specs.Refusals.{IsPassing}
 use Rattle.mailstore.proofs.AfterLemmas.{active_read, active_absent, active_refused}

@@ -1,29 +1,28 @@
-use Rattle.std.proofs.Common.{◌≡◌, ◌+◌, Err, length, sym, subst, rules}
+use Rattle.std.proofs.Common.{◌≡◌, ◌∙◌, ap, sym, subst}
 use Rattle.sqlite.specs.Held.{state}
-use Rattle.mailstore.specs.Changes.{AreCopies}
-use Rattle.mailstore.proofs.KeepLemmas.{account_absent}
-use Rattle.mailstore.proofs.DeliveryLemmas.{delivery_shows}
-use Rattle.mailstore.proofs.AfterLemmas.{writes_then, write_refused, write_failed}
-use Rattle.mailstore.specs.Account.{files_copies}
+use Rattle.mailstore.specs.Account.{delivers}
+use Rattle.mailstore.specs.Changes.{AreDelivery, folded_sender}
+use Rattle.mailstore.proofs.DeliveryLemmas.{delivery_shows, stores_once}
+use Rattle.mailstore.proofs.AfterLemmas.{writes_then}
 use Rattle.mailstore.proofs.store.Store.commit_delivery.Goals as goal
 
-pub returns-in_err-next : goal.returns-in_err-next
-returns-in_err-next g c =
-    let is : c.from_residual.result ≡ Err c.in_err-next.field-0.0 = search rules in
-    let read = c.in_err-next.ensures in
-    write_refused (state g.S.Store c.args.self.now) (state g.S.Store c.next_copy.new.self) c.next_copy.result c.args.user.now _ c.in_err-next.field-0.0 c.from_residual.result is c.next_copy.ensures.keeps
-    (λ clean accounts p none. account_absent accounts c.args.user.now p.0 p.2 (read.absent clean p.0 p.1 none)) read.named
-
-pub returns-in_err-changes : goal.returns-in_err-changes
-returns-in_err-changes g c =
-    let is : c.from_residual-in_err-changes.result ≡ Err c.in_err-changes.field-0.0 = search rules in
-    write_failed (state g.S.Store c.args.self.now) (state g.S.Store c.next_copy.new.self) c.next_copy.result c.args.user.now _ c.in_err-changes.field-0.0 c.from_residual-in_err-changes.result is c.next_copy.ensures.keeps c.in_err-changes.ensures.named
-
-pub returns : goal.returns
-returns g c =
-    let names = c.args.plan.now.copies in
-    let copies = subst (AreCopies c.args.user.now c.args.plan.now.message.now names c.in_ok-next.next (c.in_ok-next.next + length names)) (sym c.deref.ensures.value) (rw c.as_slice.ensures at c.in_ok-changes.ensures.copies) in
-    writes_then (state g.S.Store c.args.self.now) (state g.S.Store c.next_copy.new.self) (state g.S.Store c.apply.new.self) c.next_copy.result c.in_ok-next.next c.in_ok-next.was c.next_copy.ensures.keeps
-    c.args.user.now (files_copies names c.args.plan.now.message.now) c.deref.result.now
-    (λ clean accounts p has. delivery_shows c.args.user.now c.args.plan.now.message.now names c.in_ok-next.next c.deref.result.now copies p.0 accounts p.2 has (c.in_ok-next.ensures.found clean p.0 p.1))
+pub returns-clause-writes : goal.returns-clause-writes
+returns-clause-writes g c =
+    let user = c.args.user.now in
+    let plan = c.args.plan.now in
+    let counters = c.in_ok-counters.counters in
+    let same : c.as_slice.result.now ≡ folded_sender plan.remember = c.as_slice.ensures ∙ c.in_ok-sender.ensures.ok ∙ ap folded_sender c.as_ref.ensures.value in
+    let delivery = subst (AreDelivery user counters plan) (sym c.deref.ensures.value) (c.in_ok-changes.ensures.delivery same) in
+    writes_then (state g.S.Store c.args.self.now) (state g.S.Store c.counters.new.self) (state g.S.Store c.apply.new.self) c.counters.result counters c.in_ok-counters.was c.counters.ensures.keeps user (delivers plan) c.deref.result.now
+    (λ clean accounts p has. delivery_shows user counters plan c.deref.result.now delivery p.0 accounts p.2 has (c.in_ok-counters.ensures.found clean p.0 p.1))
     c.apply.ensures.crash c.apply.result c.apply.ensures.made c.apply.ensures.settled c.apply.ensures.same c.apply.ensures.named
+
+pub returns-clause-once : goal.returns-clause-once
+returns-clause-once g c =
+    let user = c.args.user.now in
+    let plan = c.args.plan.now in
+    let counters = c.in_ok-counters.counters in
+    let same : c.as_slice.result.now ≡ folded_sender plan.remember = c.as_slice.ensures ∙ c.in_ok-sender.ensures.ok ∙ ap folded_sender c.as_ref.ensures.value in
+    let delivery = subst (AreDelivery user counters plan) (sym c.deref.ensures.value) (c.in_ok-changes.ensures.delivery same) in
+    stores_once (state g.S.Store c.args.self.now) (state g.S.Store c.counters.new.self) (state g.S.Store c.apply.new.self) c.counters.result counters c.in_ok-counters.was c.counters.ensures.keeps user counters plan c.deref.result.now delivery
+    c.apply.ensures.crash c.apply.result c.apply.ensures.made

@@ -1,4 +1,4 @@
-use Rattle.std.proofs.Common.{OnOk, IfErr, ◌≡◌, ◌∙◌, ap, [], ◌∷◌, pos, w64, SFits, to_z-of_z, arith, rules}
+use Rattle.std.proofs.Common.{OnOk, IfErr, ◌∙◌, [], ◌∷◌, w64, SFits, to_z-of_z, rules}
 use Rattle.sqlite.specs.Held.{state}
 use Rattle.mailstore.specs.declared.change.Change.TheVariants.{RemoveOutgoing}
 use Rattle.mailstore.specs.Account.{with_user, takes_out}

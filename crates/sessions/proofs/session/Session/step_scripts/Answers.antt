@@ -10,7 +10,7 @@ returns-in-Err-clause-acts g c =
     let about : is_about_scripts c.args.command.now ≡ true = asked_about c.args.command.now c.requires.asked.asks c.requires.other in
     let is : c.args.self.now.client.user ≡ Some c.as_slice.result.now = ap (λ (v : SessionView). v.client.user) (sym c.self.view_is) ∙ c.in-Some.is ∙ ap Some (sym c.as_slice.ensures) in
     scripts_refused c.args.self.now.client c.args.command.now c.requires.asked c.as_slice.result.now is about (state g.S.Store c.args.store.now) (state g.S.Store c.obey.new.store) c.in-Err.refusal c.in_a_step.result
-    c.args.out.now c.obey.new.out c.in-Err.ensures.acts
+    c.args.out.now c.obey.new.out c.in_a_step.ensures c.in-Err.ensures.acts
 
 pub returns-clause-acts : goal.returns-clause-acts
 returns-clause-acts g c =

@@ -1,0 +1,163 @@
+-- The same acts of a user leave the user with the same account.
+use Rattle.std.proofs.Common.{◌≡◌, ◌⊎◌, ℕ, Bool, true, false, cond, List, [], ◌∷◌, Option, Some, None, option_map, refl, sym, ◌∙◌, ap, subst, inl, inr}
+use Rattle.addrparts.specs.declared.address.Addr.{Addr}
+use Rattle.addrparts.specs.Outbound.{IsBareAddress}
+use Rattle.addrparts.proofs.Outbounds.{bare-found}
+use Rattle.sieveexec.specs.Mails.{mail_of}
+use Rattle.sieveexec.specs.declared.envelope.Envelope.{Envelope}
+use Rattle.msproto.specs.declared.commands.Command.{Command}
+use Rattle.msproto.specs.declared.commands.Command.TheVariants.{Capability, Noop, Logout, Authenticate, Unauthenticate, HaveSpace, PutScript, CheckScript, ListScripts, SetActive, GetScript, DeleteScript, RenameScript}
+use Rattle.msproto.specs.declared.commands.Command.TheVariants as verb
+use Rattle.msproto.specs.declared.replies.Reply.{Reply}
+use Rattle.mailstore.specs.Account.{Account}
+use Rattle.mailstore.specs.declared.queue.Outgoing.{Outgoing}
+use Rattle.mailstore.specs.declared.report.Report.{Report}
+use Rattle.mailstore.specs.declared.refusal.Refusal.{Refusal}
+use Rattle.sessions.specs.Replies.{is_ok, declined, done}
+use Rattle.sessions.specs.Scripts.{Where, TellsFault, RepliesToText, RepliesToHaveSpace, RepliesToPut, RepliesToSet, RepliesToDelete, RepliesToRename, RepliesToCheck, RepliesTo, obeyed, carried_out}
+use Rattle.deliverplan.specs.Delivered.{Delivers, HasOneTree}
+use Rattle.deliverplan.proofs.DeliveryLaws.{one_delivery}
+use Rattle.mailengine.specs.declared.answer.Answer.{Answer}
+use Rattle.mailengine.specs.Limits.{limit_refusal}
+use Rattle.mailengine.specs.AccountEvents.{row_with, DeliversTo, active_text}
+use Rattle.mailengine.specs.OwnActs as own
+use Rattle.mailengine.specs.OwnActs.{Act, ActsAlone, Alone, CommandsAlone, RepliesAlone, ReceivesIn, JoinsIn, TakesRowAlone, TakesAloneIn}
+
+-- any two replies that a row allows agree in whether the word is OK
+AreAlike : (Reply → Type 0) → Type 0
+AreAlike Row = (one two : Reply) → Row one → Row two → is_ok one.word ≡ is_ok two.word
+
+alike_one : (reply : Reply) → AreAlike (λ r. r ≡ reply)
+unfolding AreAlike
+alike_one reply one two is was = ap (λ (r : Reply). is_ok r.word) (is ∙ sym was)
+
+alike_where : (P : Type 0) (A B : Reply → Type 0) → AreAlike A → AreAlike B → AreAlike (λ r. Where P (A r) (B r))
+unfolding AreAlike
+alike_where P A B as_one as_two one two (inl (p, is)) (inl (q, was)) = as_one one two is was
+alike_where P A B as_one as_two one two (inr (p, is)) (inr (q, was)) = as_two one two is was
+alike_where P A B as_one as_two one two (inl (p, is)) (inr (q, was)) = absurd (q p)
+alike_where P A B as_one as_two one two (inr (p, is)) (inl (q, was)) = absurd (p q)
+
+alike_fault : (text : List ℕ) → AreAlike (TellsFault text)
+unfolding AreAlike
+alike_fault text one two is was = ap (λ (r : Reply). is_ok r.word) is.4 ∙ sym (ap (λ (r : Reply). is_ok r.word) was.4)
+
+alike_text : (text : List ℕ) (right : Reply) → AreAlike (RepliesToText text right)
+alike_text text right = alike_where _ (λ r. r ≡ right) (TellsFault text) (alike_one right) (alike_fault text)
+
+-- where a command of the user changes an account, it does so by one word
+changes_one : (a : Account) (command : Command) (one two : Reply) → RepliesTo a command one → RepliesTo a command two → obeyed command one.word a ≡ obeyed command two.word a
+unfolding AreAlike
+changes_one a command one two is was = go command is was
+  where
+    by : (c : Command) (b d : Bool) → b ≡ d → cond b (carried_out c a) a ≡ cond d (carried_out c a) a
+    by c b d same = ap (λ e. cond e (carried_out c a) a) same
+
+    still : (b d : Bool) → cond b a a ≡ cond d a a
+    still true true = refl
+    still true false = refl
+    still false true = refl
+    still false false = refl
+
+    put : (name text : List ℕ) → AreAlike (RepliesToPut a name text)
+    put name text = alike_where _ _ _ (alike_where _ _ _ (alike_where _ _ _ (alike_text text _) (alike_one _)) (alike_one _)) (alike_one _)
+
+    set : (name : List ℕ) → AreAlike (RepliesToSet a name)
+    set name = alike_where _ _ _ (alike_one _) (alike_one _)
+
+    delete : (name : List ℕ) → AreAlike (RepliesToDelete a name)
+    delete name = alike_where _ _ _ (alike_where _ _ _ (alike_one _) (alike_one _)) (alike_one _)
+
+    rename : (old new : List ℕ) → AreAlike (RepliesToRename a old new)
+    rename old new = alike_where _ _ _ (alike_where _ _ _ (alike_where _ _ _ (alike_one _) (alike_one _)) (alike_one _)) (alike_one _)
+
+    go : (c : Command) → RepliesTo a c one → RepliesTo a c two → obeyed c one.word a ≡ obeyed c two.word a
+    go Capability h k = absurd h
+    go (Noop tag) h k = absurd h
+    go Logout h k = absurd h
+    go (Authenticate mechanism response) h k = absurd h
+    go (verb.Response text) h k = absurd h
+    go Unauthenticate h k = absurd h
+    go (CheckScript text) h k = absurd h
+    go (HaveSpace name size) h k = still (is_ok one.word) (is_ok two.word)
+    go ListScripts h k = still (is_ok one.word) (is_ok two.word)
+    go (GetScript name) h k = still (is_ok one.word) (is_ok two.word)
+    go (PutScript name text) h k = by (PutScript name text) (is_ok one.word) (is_ok two.word) (put name text one two h k)
+    go (SetActive name) h k = by (SetActive name) (is_ok one.word) (is_ok two.word) (set name one two h k)
+    go (DeleteScript name) h k = by (DeleteScript name) (is_ok one.word) (is_ok two.word) (delete name one two h k)
+    go (RenameScript old new) h k = by (RenameScript old new) (is_ok one.word) (is_ok two.word) (rename old new one two h k)
+
+commands_one : (account : Option Account) (command : Command) (octets : List ℕ) (one two : Option Account) → CommandsAlone account command octets one → CommandsAlone account command octets two → one ≡ two
+commands_one account command octets one two is was = is.changed ∙ (go account command is.replies was.replies ∙ sym was.changed)
+  where
+    still : (a : Account) (b d : Bool) → Some (cond b a a) ≡ Some (cond d a a)
+    still a true true = refl
+    still a true false = refl
+    still a false true = refl
+    still a false false = refl
+
+    go : (o : Option Account) (c : Command) → RepliesAlone o c is.reply → RepliesAlone o c was.reply → option_map (obeyed c is.reply.word) o ≡ option_map (obeyed c was.reply.word) o
+    go None c h k = refl
+    go (Some a) Unauthenticate h k = still a (is_ok is.reply.word) (is_ok was.reply.word)
+    go (Some a) (CheckScript text) h k = still a (is_ok is.reply.word) (is_ok was.reply.word)
+    go (Some a) Capability h k = absurd h
+    go (Some a) (Noop tag) h k = absurd h
+    go (Some a) Logout h k = absurd h
+    go (Some a) (Authenticate mechanism response) h k = absurd h
+    go (Some a) (verb.Response text) h k = absurd h
+    go (Some a) (HaveSpace name size) h k = ap (λ b. Some b) (changes_one a (HaveSpace name size) is.reply was.reply h k)
+    go (Some a) (PutScript name text) h k = ap (λ b. Some b) (changes_one a (PutScript name text) is.reply was.reply h k)
+    go (Some a) ListScripts h k = ap (λ b. Some b) (changes_one a ListScripts is.reply was.reply h k)
+    go (Some a) (SetActive name) h k = ap (λ b. Some b) (changes_one a (SetActive name) is.reply was.reply h k)
+    go (Some a) (GetScript name) h k = ap (λ b. Some b) (changes_one a (GetScript name) is.reply was.reply h k)
+    go (Some a) (DeleteScript name) h k = ap (λ b. Some b) (changes_one a (DeleteScript name) is.reply was.reply h k)
+    go (Some a) (RenameScript old new) h k = ap (λ b. Some b) (changes_one a (RenameScript old new) is.reply was.reply h k)
+
+-- ---- deliveries
+
+-- each text means one tree at most
+abbrev pub OneTreeEach : Type 0
+OneTreeEach = (text : Option (List ℕ)) → HasOneTree text
+
+delivered_one : OneTreeEach → (moment : ℕ) (envelope : Envelope) (message : List ℕ) (a : Account) (r1 r2 : Report) (one two : Account) → DeliversTo moment envelope message a r1 one → DeliversTo moment envelope message a r2 two → one ≡ two
+delivered_one trees moment envelope message a r1 r2 one two is was =
+    let found : Some is.own ≡ Some was.own = sym (bare-found a.address is.own is.address) ∙ bare-found a.address was.own was.address in
+    let same : is.own ≡ was.own = cc in
+    (one_delivery was.own moment (mail_of message envelope) (active_text a) a r1 r2 one two (trees (active_text a)) (subst (λ own. Delivers own moment (mail_of message envelope) (active_text a) a r1 one) same is.delivers) was.delivers).1
+
+receives_one : OneTreeEach → (o : Option Refusal) (account : Option Account) (envelope : Envelope) (message : List ℕ) (moment : ℕ) (answer : Answer) (one two : Option Account)
+    → ReceivesIn o account envelope message moment answer one → ReceivesIn o account envelope message moment answer two → one ≡ two
+receives_one trees (Some refusal) account envelope message moment answer one two is was = is.stays ∙ sym was.stays
+receives_one trees None None envelope message moment answer one two is was = is.stays ∙ sym was.stays
+receives_one trees None (Some a) envelope message moment answer one two is was =
+    is.changed ∙ (ap (λ b. Some b) (delivered_one trees moment envelope message a is.report was.report is.after was.after is.delivers was.delivers) ∙ sym was.changed)
+
+-- ---- acts
+
+act_one : OneTreeEach → (user : List ℕ) (account : Option Account) (act : Act) (one two : Option Account) → ActsAlone user account act one → ActsAlone user account act two → one ≡ two
+act_one trees user account (own.Commands command octets) one two is was = commands_one account command octets one two is was
+act_one trees user account (own.LogsIn password succeeds) one two is was = is.stays ∙ sym was.stays
+act_one trees user account (own.Receives envelope message moment answer) one two is was = receives_one trees (limit_refusal envelope message moment) account envelope message moment answer one two is was
+act_one trees user account (own.Joins address salt password answer) one two (inl (new, is)) (inl (too, was)) = go account is was
+  where
+    go : (o : Option Account) → JoinsIn o address salt password answer one → JoinsIn o address salt password answer two → one ≡ two
+    go None is was = is.changed ∙ sym was.changed
+    go (Some a) is was = is.stays ∙ sym was.stays
+act_one trees user account (own.Joins address salt password answer) one two (inr (bad, is)) (inr (too, was)) = is.stays ∙ sym was.stays
+act_one trees user account (own.Joins address salt password answer) one two (inl (new, is)) (inr (bad, was)) = absurd (bad new)
+act_one trees user account (own.Joins address salt password answer) one two (inr (bad, is)) (inl (new, was)) = absurd (bad new)
+act_one trees user account (own.TakesOut id answer) one two is was = go account is was
+  where
+    row : (a : Account) (o : Option Outgoing) → TakesRowAlone a o answer one → TakesRowAlone a o answer two → one ≡ two
+    row a None is was = is.stays ∙ sym was.stays
+    row a (Some out) is was = is.changed ∙ sym was.changed
+
+    go : (o : Option Account) → TakesAloneIn o id answer one → TakesAloneIn o id answer two → one ≡ two
+    go None is was = is.stays ∙ sym was.stays
+    go (Some a) is was = row a (row_with id a.queue) is was
+
+pub alone_ends : OneTreeEach → (user : List ℕ) (acts : List Act) (account one two : Option Account) → Alone user account acts one → Alone user account acts two → one ≡ two
+alone_ends trees user [] account one two is was = is ∙ sym was
+alone_ends trees user (act ∷ more) account one two is was =
+    let same = act_one trees user account act is.0 was.0 is.1 was.1 in
+    alone_ends trees user more was.0 one two (subst (λ o. Alone user o more one) same is.2) was.2

@@ -1,0 +1,312 @@
+-- Sessions in a map are the machine's, one event at a time.
+use Rattle.std.proofs.Common.{◌≡◌, ℕ, Bool, true, false, cond, List, [], ◌∷◌, ◌++◌, map, Option, Some, None, option_map, is_some, Ok, Err, Result, refl, sym, ◌∙◌, ap, subst, inl, inr}
+use Rattle.std.specs.Prelude.{IfSome}
+use Rattle.std.specs.declared.cmp.Ordering.{Ordering}
+use Rattle.std.specs.declared.cmp.Ordering.TheVariants.{Less, Equal, Greater}
+use Rattle.std.specs.Ordering.{nat_cmp, is_eq}
+use Rattle.std.specs.Cmp.{eq_by_cmp_equiv, nat_cmp_total}
+use Rattle.std.specs.FinMap.{FinMap, get, insert, remove, get-insert, get-remove, get-from_entries, find, nat_cmp-IsAntisymmetric}
+use Rattle.std.specs.Map.{lookup}
+use Rattle.std.specs.BTreeMap as tree
+use Rattle.std.specs.BTreeMap.{BTreeMap}
+use Rattle.msproto.specs.Replies.{spelled}
+use Rattle.mailstore.specs.Account.{Accounts}
+use Rattle.mailstore.specs.Refusals.{IsPassing}
+use Rattle.sieveexec.specs.declared.envelope.Envelope.{Envelope}
+use Rattle.mailstore.specs.declared.refusal.Refusal.{Refusal}
+use Rattle.mailstore.specs.declared.refusal.Refusal.TheVariants.{Memory, Store, NotOurs, NoUser, TooLarge, BadEnvelope, BadMoment, UserExists, BadUser, NoRow}
+use Rattle.sqlite.specs.State.{State, HasCleanDisk, Survives}
+use Rattle.sqlite.proofs.StateLemmas.{survives_weaker}
+use Rattle.sessions.specs.Acts.{Acts, CrashLeaves, HasAccounts}
+use Rattle.sessions.specs.Orders.{StepsTo, MayStep}
+use Rattle.sessions.specs.Orders.{MayRefuse as MayRefuseStep}
+use Rattle.sessions.specs.Clients.{Client, new_client, client_given}
+use Rattle.sessions.specs.Counts.{SessionView, new_session}
+use Rattle.sessions.specs.GivenUp.{text_given_up, client_given_up, progress_given_up}
+use Rattle.sessions.specs.Replies.{capabilities}
+use Rattle.sessions.specs.Steps.{IsStep, progress_of, may_lack, may_fail}
+use Rattle.sessions.specs.declared.progress.Progress.{Progress}
+use Rattle.sessions.specs.declared.progress.Progress.TheVariants as p
+use Rattle.mailengine.specs.declared.event.Event.{Event}
+use Rattle.mailengine.specs.declared.event.Event.TheVariants.{Open, Give, Step, GiveUp, Close, Deliver, AddUser, TakeOut}
+use Rattle.mailengine.specs.declared.answer.Answer.{Answer}
+use Rattle.mailengine.specs.declared.answer.Answer.TheVariants.{Out, Ignored, Refused}
+use Rattle.mailengine.specs.World.{World, Clients, with_accounts, Ignores, Becomes, InSession, Opens, Steps, Happens, MayRefuse, with_session, without_session, MayLack, MayFail, if_open, is_closed, Next}
+use Rattle.mailengine.specs.Hosts.{clients_of, HasClients, Implements, IsSessionEvent, IsEvent, EventCrashLeaves, TurnsBy, MayTurnBy, MayRefuseDelivery, MayRefuseAddition}
+
+abbrev pub Kept : Type 0
+Kept = BTreeMap ℕ SessionView
+
+client_of : SessionView → Client
+client_of session = session.client
+
+-- ---- maps
+
+turned_round : (n s : ℕ) → is_eq (nat_cmp n s) ≡ is_eq (nat_cmp s n)
+turned_round n s = (eq_by_cmp_equiv nat_cmp_total).symm n s
+
+mapped_cond : (b : Bool) (v : Option SessionView) (o : Option SessionView) → option_map (λ session. session.client) (cond b v o) ≡ cond b (option_map (λ session. session.client) v) (option_map (λ session. session.client) o)
+mapped_cond true v o = refl
+mapped_cond false v o = refl
+
+-- one session more, or another in its place
+pub clients_put : (kept behind : Kept) (n : ℕ) (v : SessionView) (clients : Clients) → tree.Updates nat_cmp kept behind n (Some v) → HasClients kept clients → HasClients behind (insert clients n v.client)
+clients_put kept behind n v clients put has s =
+    ap (option_map (λ session. session.client)) (put.0 s) ∙ mapped_cond (is_eq (nat_cmp n s)) (Some v) (tree.get nat_cmp kept s)
+    ∙ ap (λ o. cond (is_eq (nat_cmp n s)) (Some v.client) o) (has s) ∙ ap (λ b. cond b (Some v.client) (get clients s)) (turned_round n s)
+    ∙ sym (get-insert nat_cmp_total clients n v.client s)
+
+-- one session less
+pub clients_gone : (kept behind : Kept) (n : ℕ) (clients : Clients) → tree.Updates nat_cmp kept behind n None → HasClients kept clients → HasClients behind (remove clients n)
+clients_gone kept behind n clients gone has s =
+    ap (option_map (λ session. session.client)) (gone.0 s) ∙ mapped_cond (is_eq (nat_cmp n s)) None (tree.get nat_cmp kept s)
+    ∙ ap (λ o. cond (is_eq (nat_cmp n s)) None o) (has s) ∙ ap (λ b. cond b None (get clients s)) (turned_round n s)
+    ∙ sym (get-remove nat_cmp_total clients n s)
+
+-- the same session put back
+pub clients_back : (kept behind : Kept) (n : ℕ) (v : SessionView) (clients : Clients) → Some v ≡ tree.get nat_cmp kept n → tree.Updates nat_cmp kept behind n (Some v) → HasClients kept clients → HasClients behind clients
+clients_back kept behind n v clients one put has s = ap (option_map (λ session. session.client)) (put.0 s) ∙ (go (nat_cmp n s) refl ∙ has s)
+  where
+    go : (o : Ordering) → nat_cmp n s ≡ o → option_map (λ session. session.client) (cond (is_eq o) (Some v) (tree.get nat_cmp kept s)) ≡ option_map (λ session. session.client) (tree.get nat_cmp kept s)
+    go Less at = refl
+    go Equal at = ap (option_map (λ session. session.client)) (one ∙ ap (λ k. tree.get nat_cmp kept k) (nat_cmp-IsAntisymmetric n s at))
+    go Greater at = refl
+
+-- the same sessions
+pub clients_same : (kept behind : Kept) (clients : Clients) → behind.entries ≡ kept.entries → HasClients kept clients → HasClients behind clients
+clients_same kept behind clients same has s = ap (λ es. option_map (λ session. session.client) (lookup (tree.is_at (nat_cmp s)) es)) same ∙ has s
+
+-- the sessions of a map, as the machine has them
+mapped_find : (s : ℕ) (es : List (ℕ × SessionView)) → option_map (λ session. session.client) (lookup (tree.is_at (nat_cmp s)) es) ≡ find nat_cmp s (map (λ e. (e.0, e.1.client)) es)
+mapped_find s [] = refl
+mapped_find s (e ∷ es) = mapped_cond (is_eq (nat_cmp s e.0)) (Some e.1) (lookup (tree.is_at (nat_cmp s)) es) ∙ ap (λ o. cond (is_eq (nat_cmp s e.0)) (Some e.1.client) o) (mapped_find s es)
+
+pub clients_are : (kept : Kept) → HasClients kept (clients_of kept)
+clients_are kept s = mapped_find s kept.entries ∙ sym (get-from_entries nat_cmp_total (map (λ e. (e.0, e.1.client)) kept.entries) s)
+
+-- ---- what is under a number
+
+pub none_there : (kept : Kept) (clients : Clients) (n : ℕ) → HasClients kept clients → None ≡ tree.get nat_cmp kept n → get clients n ≡ None
+none_there kept clients n has none = sym (has n) ∙ ap (option_map (λ session. session.client)) (sym none)
+
+pub one_there : (kept : Kept) (clients : Clients) (n : ℕ) (v : SessionView) → HasClients kept clients → Some v ≡ tree.get nat_cmp kept n → get clients n ≡ Some v.client
+one_there kept clients n v has one = sym (has n) ∙ ap (option_map (λ session. session.client)) (sym one)
+
+-- ---- events that change nothing
+
+nothing : (w : World) → Ignores w Ignored w
+nothing w = record { ignored = refl; stays = refl }
+
+-- a number that isn't open
+pub ignored : (event : Event) (kept behind : Kept) (n : ℕ) → ((w : World) → get w.sessions n ≡ None → Happens w event Ignored w) → None ≡ tree.get nat_cmp kept n → behind.entries ≡ kept.entries
+    → IsSessionEvent event Ignored kept behind
+ignored event kept behind n row none same w has = (w.sessions, inl (row w (none_there kept w.sessions n has none)), clients_same kept behind w.sessions same has)
+
+pub ignored_give : (kept behind : Kept) (n : ℕ) (piece : List ℕ) → None ≡ tree.get nat_cmp kept n → behind.entries ≡ kept.entries → IsSessionEvent (Give n piece) Ignored kept behind
+ignored_give kept behind n piece none same = ignored (Give n piece) kept behind n (λ w gone. subst (λ o. InSession w o (λ c. Becomes (Out (progress_of c) []) (with_session n (client_given piece c) w)) Ignored w) (sym gone) (nothing w)) none same
+
+pub ignored_give_up : (kept behind : Kept) (n : ℕ) → None ≡ tree.get nat_cmp kept n → behind.entries ≡ kept.entries → IsSessionEvent (GiveUp n) Ignored kept behind
+ignored_give_up kept behind n none same =
+    ignored (GiveUp n) kept behind n (λ w gone. subst (λ o. InSession w o (λ c. Becomes (Out (progress_given_up c) (text_given_up c)) (with_session n (client_given_up c) w)) Ignored w) (sym gone) (nothing w)) none same
+
+pub ignored_close : (kept behind : Kept) (n : ℕ) → None ≡ tree.get nat_cmp kept n → behind.entries ≡ kept.entries → IsSessionEvent (Close n) Ignored kept behind
+ignored_close kept behind n none same = ignored (Close n) kept behind n (λ w gone. subst (λ o. InSession w o (λ c. Becomes (Out p.Close []) (without_session n w)) Ignored w) (sym gone) (nothing w)) none same
+
+-- lack of memory
+pub lacking : (event : Event) (kept behind : Kept) (answer : Answer) → answer ≡ Refused Memory → ((w : World) → HasClients kept w.sessions → MayLack w event) → behind.entries ≡ kept.entries → IsSessionEvent event answer kept behind
+lacking event kept behind answer is may same w has = (w.sessions, inr (record { refusal = Memory; may = may w has; refused = is; stays = refl }), clients_same kept behind w.sessions same has)
+
+-- lack of memory, where the session was put back
+pub lacking_back : (event : Event) (kept behind : Kept) (n : ℕ) (v : SessionView) (answer : Answer) → answer ≡ Refused Memory → ((w : World) → HasClients kept w.sessions → MayLack w event) → Some v ≡ tree.get nat_cmp kept n
+    → tree.Updates nat_cmp kept behind n (Some v) → IsSessionEvent event answer kept behind
+lacking_back event kept behind n v answer is may one put w has =
+    (w.sessions, inr (record { refusal = Memory; may = may w has; refused = is; stays = refl }), clients_back kept behind n v w.sessions one put has)
+
+-- ---- open
+
+pub open_twice : (kept : Kept) (n : ℕ) → is_some (tree.get nat_cmp kept n) ≡ true → IsSessionEvent (Open n) Ignored kept kept
+open_twice kept n there w has = (w.sessions, inl (go (tree.get nat_cmp kept n) refl there), has)
+  where
+    go : (o : Option SessionView) → tree.get nat_cmp kept n ≡ o → is_some o ≡ true → Opens w n (get w.sessions n) Ignored w
+    go None is some = absurd (let never : false ≡ true = some in cc)
+    go (Some v) is some = subst (λ o. Opens w n o Ignored w) (sym (one_there kept w.sessions n v has (sym is))) (record { ignored = refl; stays = refl })
+
+absent : (kept : Kept) (clients : Clients) (n : ℕ) → HasClients kept clients → is_some (tree.get nat_cmp kept n) ≡ false → get clients n ≡ None
+absent kept clients n has none = go (tree.get nat_cmp kept n) refl none
+  where
+    go : (o : Option SessionView) → tree.get nat_cmp kept n ≡ o → is_some o ≡ false → get clients n ≡ None
+    go None is gone = none_there kept clients n has (sym is)
+    go (Some v) is gone = absurd (let never : true ≡ false = gone in cc)
+
+pub open_lacks : (kept : Kept) (n : ℕ) → is_some (tree.get nat_cmp kept n) ≡ false → (w : World) → HasClients kept w.sessions → MayLack w (Open n)
+open_lacks kept n none w has = ap is_closed (absent kept w.sessions n has none)
+
+pub opened : (kept behind : Kept) (n : ℕ) (greeting : List ℕ) → is_some (tree.get nat_cmp kept n) ≡ false → greeting ≡ spelled (capabilities None) → tree.Updates nat_cmp kept behind n (Some new_session)
+    → IsSessionEvent (Open n) (Out p.Done greeting) kept behind
+opened kept behind n greeting none told put w has = (
+  insert w.sessions n new_client,
+  inl (subst (λ o. Opens w n o (Out p.Done greeting) (record { accounts = w.accounts; sessions = insert w.sessions n new_client })) (sym (absent kept w.sessions n has none)) (record { says = ap (λ t. Out p.Done t) told; changed = refl })),
+  clients_put kept behind n new_session w.sessions put has,
+)
+
+-- ---- an open session
+
+-- what it becomes, and what is answered
+pub becomes : (event : Event) (kept behind : Kept) (n : ℕ) (v u : SessionView) (answer : Answer) → ((w : World) → get w.sessions n ≡ Some v.client → Happens w event answer (record { accounts = w.accounts; sessions = insert w.sessions n u.client }))
+    → Some v ≡ tree.get nat_cmp kept n → tree.Updates nat_cmp kept behind n (Some u) → IsSessionEvent event answer kept behind
+becomes event kept behind n v u answer row one put w has =
+    (insert w.sessions n u.client, inl (row w (one_there kept w.sessions n v has one)), clients_put kept behind n u w.sessions put has)
+
+pub given : (kept behind : Kept) (n : ℕ) (piece : List ℕ) (v u : SessionView) → Some v ≡ tree.get nat_cmp kept n → u.client ≡ client_given piece v.client → tree.Updates nat_cmp kept behind n (Some u)
+    → IsSessionEvent (Give n piece) (Out (progress_of u.client) []) kept behind
+given kept behind n piece v u one gives put = becomes (Give n piece) kept behind n v u (Out (progress_of u.client) []) row one put
+  where
+    progress : (b : Bool) (c : Client) → c.closed ≡ b → progress_of (client_given piece c) ≡ progress_of c
+    progress true c is = ap (λ e. progress_of (cond e c (record c { unread = c.unread ++ piece }))) is
+    progress false c is = ap (λ e. progress_of (cond e c (record c { unread = c.unread ++ piece }))) is
+
+    row : (w : World) → get w.sessions n ≡ Some v.client → Happens w (Give n piece) (Out (progress_of u.client) []) (record { accounts = w.accounts; sessions = insert w.sessions n u.client })
+    row w has =
+        let made : Becomes (Out (progress_of v.client) []) (with_session n (client_given piece v.client) w) (Out (progress_of u.client) []) (record { accounts = w.accounts; sessions = insert w.sessions n u.client }) = record {
+          says = ap (λ q. Out q []) (ap progress_of gives ∙ progress v.client.closed v.client refl);
+          changed = ap (λ c. with_session n c w) gives;
+        } in
+        subst (λ o. InSession w o (λ c. Becomes (Out (progress_of c) []) (with_session n (client_given piece c) w)) (Out (progress_of u.client) []) (record { accounts = w.accounts; sessions = insert w.sessions n u.client })) (sym has) made
+
+pub given_told : (kept behind : Kept) (n : ℕ) (piece : List ℕ) (v u : SessionView) (progress : Progress) (text : List ℕ) → progress ≡ progress_of u.client → text ≡ [] → Some v ≡ tree.get nat_cmp kept n → u.client ≡ client_given piece v.client
+    → tree.Updates nat_cmp kept behind n (Some u) → IsSessionEvent (Give n piece) (Out progress text) kept behind
+given_told kept behind n piece v u progress text goes none one gives put =
+    subst (λ a. IsSessionEvent (Give n piece) a kept behind) (sym (ap (λ q. Out q text) goes ∙ ap (λ t. Out (progress_of u.client) t) none)) (given kept behind n piece v u one gives put)
+
+pub give_lacks : (kept : Kept) (n : ℕ) (piece : List ℕ) (v : SessionView) → Some v ≡ tree.get nat_cmp kept n → (w : World) → HasClients kept w.sessions → MayLack w (Give n piece)
+give_lacks kept n piece v one w has = ap (if_open (λ c. true)) (one_there kept w.sessions n v has one)
+
+pub gave_up : (kept behind : Kept) (n : ℕ) (text : List ℕ) (v u : SessionView) (progress : Progress) → Some v ≡ tree.get nat_cmp kept n → u.client ≡ client_given_up v.client → text ≡ text_given_up v.client → progress ≡ progress_given_up v.client
+    → tree.Updates nat_cmp kept behind n (Some u) → IsSessionEvent (GiveUp n) (Out progress text) kept behind
+gave_up kept behind n text v u progress one gives told goes put = becomes (GiveUp n) kept behind n v u (Out progress text) row one put
+  where
+    row : (w : World) → get w.sessions n ≡ Some v.client → Happens w (GiveUp n) (Out progress text) (record { accounts = w.accounts; sessions = insert w.sessions n u.client })
+    row w has =
+        let made : Becomes (Out (progress_given_up v.client) (text_given_up v.client)) (with_session n (client_given_up v.client) w) (Out progress text) (record { accounts = w.accounts; sessions = insert w.sessions n u.client }) = record {
+          says = ap (λ q. Out q text) goes ∙ ap (λ t. Out (progress_given_up v.client) t) told;
+          changed = ap (λ c. with_session n c w) gives;
+        } in
+        subst (λ o. InSession w o (λ c. Becomes (Out (progress_given_up c) (text_given_up c)) (with_session n (client_given_up c) w)) (Out progress text) (record { accounts = w.accounts; sessions = insert w.sessions n u.client })) (sym has) made
+
+pub closed_now : (kept behind : Kept) (n : ℕ) (v : SessionView) (text : List ℕ) → text ≡ [] → Some v ≡ tree.get nat_cmp kept n → tree.Updates nat_cmp kept behind n None → IsSessionEvent (Close n) (Out p.Close text) kept behind
+closed_now kept behind n v text none one gone w has = (remove w.sessions n, inl row, clients_gone kept behind n w.sessions gone has)
+  where
+    row : Happens w (Close n) (Out p.Close text) (without_session n w)
+    row =
+        let made : Becomes (Out p.Close []) (without_session n w) (Out p.Close text) (without_session n w) = record { says = ap (λ t. Out p.Close t) none; changed = refl } in
+        subst (λ o. InSession w o (λ c. Becomes (Out p.Close []) (without_session n w)) (Out p.Close text) (without_session n w)) (sym (one_there kept w.sessions n v has one)) made
+
+-- ---- a step
+
+-- which refusals a step may give, as the machine has it
+step_refused : (w : World) (n : ℕ) (c : Client) (refusal : Refusal) → get w.sessions n ≡ Some c → MayRefuseStep c refusal → MayRefuse w (Step n) refusal
+step_refused w n c Memory has may = ap (if_open may_lack) has ∙ may
+step_refused w n c Store has may = ap (if_open may_fail) has ∙ may
+step_refused w n c NotOurs has may = absurd may
+step_refused w n c NoUser has may = absurd may
+step_refused w n c TooLarge has may = absurd may
+step_refused w n c BadEnvelope has may = absurd may
+step_refused w n c BadMoment has may = absurd may
+step_refused w n c UserExists has may = absurd may
+step_refused w n c BadUser has may = absurd may
+step_refused w n c NoRow has may = absurd may
+
+-- the step of one session is the machine's
+stepped : (w : World) (n : ℕ) (c d : Client) (progress : Progress) (octets : List ℕ) (later : Accounts) → get w.sessions n ≡ Some c → IsStep w.accounts c progress octets d later
+    → Happens w (Step n) (Out progress octets) (record { accounts = later; sessions = insert w.sessions n d })
+stepped w n c d progress octets later has is =
+    let made : Steps w n c (Out progress octets) (record { accounts = later; sessions = insert w.sessions n d }) =
+    record { goes_on = progress; octets = octets; client = d; accounts = later; step = is; says = refl; changed = refl } in
+    subst (λ o. InSession w o (Steps w n) (Out progress octets) (record { accounts = later; sessions = insert w.sessions n d })) (sym has) made
+
+module _ (old new : State) (kept behind : Kept) (n : ℕ) (v u : SessionView) (r : Result Progress Refusal) (before after : List ℕ) (one : Some v ≡ tree.get nat_cmp kept n) (put : tree.Updates nat_cmp kept behind n (Some u))
+    (acts : Acts (StepsTo v.client u.client r before after) (MayStep v.client) old new r) where
+  -- it answered
+  pub step_told : (progress : Progress) → r ≡ Ok progress → before ≡ [] → IsEvent (Step n) (Out progress after) old kept new behind
+  step_told progress is none clean w had =
+      let turned = acts.carries clean w.accounts had.accounts in
+      let made : StepsTo v.client u.client (Ok progress) before after w.accounts turned.0 = subst (λ q. StepsTo v.client u.client q before after w.accounts turned.0) is turned.1 in
+      let text : after ≡ made.0 = made.1 ∙ ap (λ b. b ++ made.0) none in (
+        record { accounts = turned.0; sessions = insert w.sessions n u.client },
+        inl (subst (λ t. Happens w (Step n) (Out progress t) (record { accounts = turned.0; sessions = insert w.sessions n u.client })) (sym text)
+            (stepped w n v.client u.client progress made.0 turned.0 (one_there kept w.sessions n v had.sessions one) made.2)),
+        record { accounts = turned.2; sessions = clients_put kept behind n u w.sessions put had.sessions },
+      )
+
+  -- it was refused, and the session is as it was
+  pub step_undone : (answer : Answer) (refusal : Refusal) → r ≡ Err refusal → answer ≡ Refused refusal → MayRefuseStep v.client refusal → u ≡ v → IsEvent (Step n) answer old kept new behind
+  step_undone answer refusal is told may same clean w had =
+      let turned = acts.carries clean w.accounts had.accounts in
+      let stays : turned.0 ≡ w.accounts = subst (λ q. StepsTo v.client u.client q before after w.accounts turned.0) is turned.1 in (
+        w,
+        inr (record { refusal = refusal; may = step_refused w n v.client refusal (one_there kept w.sessions n v had.sessions one) may; refused = told; stays = refl }),
+        record { accounts = subst (HasAccounts new) stays turned.2; sessions = clients_back kept behind n v w.sessions one (subst (λ x. tree.Updates nat_cmp kept behind n (Some x)) same put) had.sessions },
+      )
+
+-- what a crash leaves of it
+pub step_crash : (old new : State) (kept : Kept) (n : ℕ) (v : SessionView) → Some v ≡ tree.get nat_cmp kept n → Survives old new (CrashLeaves (MayStep v.client) old) → Survives old new (EventCrashLeaves (Step n) old kept)
+step_crash old new kept n v one crash = survives_weaker old new _ _ (λ clean trees may w shown has.
+    let left = may w.accounts shown in
+    let step = left.1 in
+    (Out step.0 step.1, record { accounts = left.0; sessions = insert w.sessions n step.2 }, inl (stepped w n v.client step.2 step.0 step.1 left.0 (one_there kept w.sessions n v has one) step.3), left.2)) crash
+
+-- an event of sessions alone asks no store
+pub session_event : (event : Event) (answer : Answer) (s : State) (kept behind : Kept) → IsSessionEvent event answer kept behind → IsEvent event answer s kept s behind
+session_event event answer s kept behind is clean w had =
+    let made = is w had.sessions in
+    (record { accounts = w.accounts; sessions = made.0 }, made.1, record { accounts = had.accounts; sessions = made.2 })
+
+pub ignored_step : (kept behind : Kept) (n : ℕ) → None ≡ tree.get nat_cmp kept n → behind.entries ≡ kept.entries → IsSessionEvent (Step n) Ignored kept behind
+ignored_step kept behind n none same = ignored (Step n) kept behind n (λ w gone. subst (λ o. InSession w o (Steps w n) Ignored w) (sym gone) (nothing w)) none same
+
+-- ---- an event of the accounts
+
+module _ (event : Event) (Row : Accounts → Answer → Accounts → Type 0) (May : Refusal → Type 0) (rows : (w : World) (answer : Answer) (next : World) → with_accounts w (Row w.accounts) answer next → Happens w event answer next)
+    (refuses : (w : World) (refusal : Refusal) → May refusal → MayRefuse w event refusal) (old new : State) (kept : Kept) where
+  pub account_event : {X : Type 0} (r : Result X Refusal) (answer : Answer) → Acts (TurnsBy Row May answer) (MayTurnBy Row) old new r → IsEvent event answer old kept new kept
+  account_event r answer acts clean w had =
+      let turned = acts.carries clean w.accounts had.accounts in
+      go turned.0 turned.1 turned.2
+    where
+      go : (later : Accounts) → TurnsBy Row May answer w.accounts later → HasAccounts new later → (next : World) × Next w event answer next × Implements new kept next
+      go later (inl row) shown =
+          (record { accounts = later; sessions = w.sessions }, inl (rows w answer (record { accounts = later; sessions = w.sessions }) (later, row, refl)), record { accounts = shown; sessions = had.sessions })
+      go later (inr (refusal, may, is, same)) shown =
+          (w, inr (record { refusal = refusal; may = refuses w refusal may; refused = is; stays = refl }), record { accounts = subst (HasAccounts new) same shown; sessions = had.sessions })
+
+  pub account_crash : {X : Type 0} (r : Result X Refusal) (answer : Answer) → Acts (TurnsBy Row May answer) (MayTurnBy Row) old new r → Survives old new (EventCrashLeaves event old kept)
+  account_crash r answer acts = survives_weaker old new _ _ (λ clean trees may w shown has.
+      let left = may w.accounts shown in
+      (left.1.0, record { accounts = left.0; sessions = w.sessions }, inl (rows w left.1.0 (record { accounts = left.0; sessions = w.sessions }) (left.0, left.1.1, refl)), left.2)) acts.crash
+
+-- ---- which refusals the events of accounts may give, as the machine has it
+
+lacking_may : (w : World) (event : Event) (refusal : Refusal) → refusal ≡ Memory → MayLack w event → MayRefuse w event refusal
+lacking_may w event refusal is may = subst (MayRefuse w event) (sym is) may
+
+failing_may : (w : World) (event : Event) (refusal : Refusal) → refusal ≡ Store → MayFail w event → MayRefuse w event refusal
+failing_may w event refusal is may = subst (MayRefuse w event) (sym is) may
+
+pub delivery_may : (user message : List ℕ) (envelope : Envelope) (moment : ℕ) (w : World) (refusal : Refusal) → MayRefuseDelivery envelope message moment refusal → MayRefuse w (Deliver user envelope message moment) refusal
+delivery_may user message envelope moment w refusal (inl is, none) = lacking_may w (Deliver user envelope message moment) refusal is none
+delivery_may user message envelope moment w refusal (inr is, none) = failing_may w (Deliver user envelope message moment) refusal is none
+
+pub addition_may : (name address salt password : List ℕ) (w : World) (refusal : Refusal) → MayRefuseAddition name address password refusal → MayRefuse w (AddUser name address salt password) refusal
+addition_may name address salt password w refusal (inl is) = lacking_may w (AddUser name address salt password) refusal is tt
+addition_may name address salt password w refusal (inr (is, new)) = failing_may w (AddUser name address salt password) refusal is new
+
+pub taking_may : (user : List ℕ) (id : ℕ) (w : World) (refusal : Refusal) → IsPassing refusal → MayRefuse w (TakeOut user id) refusal
+taking_may user id w refusal (inl is) = lacking_may w (TakeOut user id) refusal is tt
+taking_may user id w refusal (inr is) = failing_may w (TakeOut user id) refusal is tt
+
+-- the same event with the same answer
+pub event_is : (event told_of : Event) (answer told : Answer) (old new : State) (kept behind : Kept) → event ≡ told_of → answer ≡ told → IsEvent told_of told old kept new behind → IsEvent event answer old kept new behind
+event_is event told_of answer told old new kept behind is same made = subst (λ e. IsEvent e answer old kept new behind) (sym is) (subst (λ a. IsEvent told_of a old kept new behind) (sym same) made)
+
+pub crash_is : (event told_of : Event) (old new : State) (kept : Kept) → event ≡ told_of → Survives old new (EventCrashLeaves told_of old kept) → Survives old new (EventCrashLeaves event old kept)
+crash_is event told_of old new kept is made = subst (λ e. Survives old new (EventCrashLeaves e old kept)) (sym is) made

@@ -1,0 +1,150 @@
+-- Reads of one user's account, one after the other.
+use Rattle.std.proofs.Common.{◌≡◌, ◌⊎◌, ℕ, List, Option, Some, None, option_map, Ok, Err, Result, OnOk, IfOk, IfErr, IsTrue, refl, sym, ap, ◌∙◌, subst, inl, inr}
+use Rattle.std.specs.FinMap.{get}
+use Rattle.sqlite.specs.State.{State, HasCleanDisk}
+use Rattle.mailstore.specs.declared.profile.Profile.{Profile}
+use Rattle.mailstore.specs.declared.refusal.Refusal.{Refusal}
+use Rattle.mailstore.specs.declared.refusal.Refusal.TheVariants.{NoUser}
+use Rattle.mailstore.specs.Account.{Account, Accounts}
+use Rattle.mailstore.specs.AccountTable.{profile_of}
+use Rattle.mailstore.specs.Promises.{IsFree, OfUser, Keeps, Reads, ReadsProfile}
+use Rattle.mailstore.specs.Refusals.{IsPassing}
+use Rattle.mailstore.specs.Shows.{Presents}
+use Rattle.mailstore.proofs.KeepLemmas.{keeps_ok, keeps_refused, keeps_failed, keeps_then, mid_shows, none_if, passing_other, passing_named, reads_refused, reads_answer}
+use Rattle.mailstore.proofs.ResultLemmas.{on_ok}
+use Rattle.mailstore.proofs.WriteLemmas.{clean_before}
+use Rattle.mailengine.specs.AccountEvents.{text_named, active_text}
+use Rattle.mailengine.specs.Lookups.{LooksUp}
+
+-- a user without a profile has no account
+pub free_of : (accounts : Accounts) (user : List ℕ) → None ≡ option_map profile_of (get accounts user) → IsFree user accounts
+free_of accounts user is = go (get accounts user) is
+  where
+    go : (o : Option Account) → None ≡ option_map profile_of o → o ≡ None
+    go None e = refl
+    go (Some a) e = absurd (let same = e in cc)
+
+-- a profile is an account's
+pub owned_by : (accounts : Accounts) (user : List ℕ) (p : Profile) → Some p ≡ option_map profile_of (get accounts user) → OfUser accounts user (λ a. p ≡ profile_of a)
+owned_by accounts user p is = go (get accounts user) refl is
+  where
+    go : (o : Option Account) → get accounts user ≡ o → Some p ≡ option_map profile_of o → OfUser accounts user (λ a. p ≡ profile_of a)
+    go None has e = absurd (let same = e in cc)
+    go (Some a) has e = let same : p ≡ profile_of a = cc in (a, has, same)
+
+-- what was found of one account, and of the same one
+both_of : (accounts : Accounts) (user : List ℕ) (P Q R : Account → Type 0) → ((a : Account) → P a → Q a → R a) → OfUser accounts user P → OfUser accounts user Q → OfUser accounts user R
+both_of accounts user P Q R both one two =
+    let same : Some two.0 ≡ Some one.0 = sym two.1 ∙ one.1 in
+    let is : two.0 ≡ one.0 = cc in
+    (one.0, one.1, both one.0 one.2 (subst Q is two.2))
+
+sure_of_passing : {X : Type 0} (q : Result X Refusal) (P : Type 0) → IfErr q IsPassing → IfErr q (λ e. e ≡ NoUser → P)
+sure_of_passing q P passing = passing_other q P passing
+
+-- ---- the profile
+
+module _ (user : List ℕ) (a b : State) (r : Result (Option Profile) Refusal) (read : ReadsProfile user a b r) where
+  found : (o : Option Profile) → r ≡ Ok o → HasCleanDisk b → (accounts : Accounts) → Presents a.now accounts → o ≡ option_map profile_of (get accounts user)
+  found o is clean accounts p = subst (λ q. IfOk q (λ profile. profile ≡ option_map profile_of (get accounts user))) is (read.found clean accounts p)
+
+  pub profile_there : (p : Profile) → r ≡ Ok (Some p) → LooksUp user (λ profile account. profile ≡ profile_of account) a b (Ok p)
+  profile_there p is = record {
+    reads = record {
+      found = λ clean accounts shows. owned_by accounts user p (found (Some p) is clean accounts shows);
+      absent = λ clean accounts shows. tt;
+      keeps = keeps_ok a b r (Some p) (Ok p) is read.keeps;
+      named = tt;
+    };
+    sure = λ clean. tt;
+  }
+
+  pub profile_absent : r ≡ Ok None → LooksUp {X = Profile} user (λ profile account. profile ≡ profile_of account) a b (Err NoUser)
+  profile_absent is = record {
+    reads = record {
+      found = λ clean accounts shows. tt;
+      absent = λ clean accounts shows none. free_of accounts user (found None is clean accounts shows);
+      keeps = keeps_ok a b r None (Err NoUser) is read.keeps;
+      named = inl refl;
+    };
+    sure = λ clean none. read.keeps.shut clean (on_ok r None is (IsTrue b.is_open) (read.keeps.live clean));
+  }
+
+  pub profile_failed : {X : Type 0} (Part : X → Account → Type 0) (q : Result X Refusal) → OnOk q ⊥ → IfErr q IsPassing → LooksUp user Part a b q
+  profile_failed Part q undone passing = record {
+    reads = record {
+      found = λ clean accounts shows. none_if q (λ x. OfUser accounts user (Part x)) undone;
+      absent = λ clean accounts shows. passing_other q (IsFree user accounts) passing;
+      keeps = keeps_failed a b r q undone read.keeps;
+      named = passing_named q passing;
+    };
+    sure = λ clean. sure_of_passing q (IsTrue a.is_open) passing;
+  }
+
+-- ---- another answer
+
+-- the same refusal
+pub looks_refused : {X Y : Type 0} (user : List ℕ) (P : X → Account → Type 0) (Q : Y → Account → Type 0) (a b : State) (e : Refusal) (q : Result Y Refusal) → q ≡ Err e → LooksUp user P a b (Err e) → LooksUp user Q a b q
+looks_refused user P Q a b e q is look = record {
+  reads = reads_refused user P Q a b e q is look.reads;
+  sure = λ clean. subst (λ o. IfErr o (λ f. f ≡ NoUser → IsTrue a.is_open)) (sym is) (look.sure clean);
+}
+
+-- an answer that is made of what was read, or a refusal without visible cause
+pub looks_answer : {X Y : Type 0} (user : List ℕ) (P : X → Account → Type 0) (Q : Y → Account → Type 0) (a b : State) (r : Result X Refusal) (x : X) → r ≡ Ok x → (q : Result Y Refusal) → IfErr q IsPassing
+    → ((account : Account) → P x account → IfOk q (λ y. Q y account)) → LooksUp user P a b r → LooksUp user Q a b q
+looks_answer user P Q a b r x was q passing made look = record {
+  reads = reads_answer user P Q a b r x was q passing made look.reads;
+  sure = λ clean. sure_of_passing q (IsTrue a.is_open) passing;
+}
+
+-- ---- a second read
+
+module _ {X Y Z : Type 0} (user : List ℕ) (P : X → Account → Type 0) (Q : Y → Account → Type 0) (R : Z → Account → Type 0) (a b c : State) (r : Result X Refusal) (x : X) (was : r ≡ Ok x) (early : LooksUp user P a b r) where
+  first : HasCleanDisk b → (accounts : Accounts) → Presents a.now accounts → OfUser accounts user (P x)
+  first clean accounts p = subst (λ q. IfOk q (λ v. OfUser accounts user (P v))) was (early.reads.found clean accounts p)
+
+  was_open : HasCleanDisk b → IsTrue a.is_open
+  was_open clean = early.reads.keeps.shut clean (on_ok r x was (IsTrue b.is_open) (early.reads.keeps.live clean))
+
+  pub looks_both : (y : Y) (z : Z) → ((account : Account) → P x account → Q y account → R z account) → Reads user Q b c (Ok y) → LooksUp user R a c (Ok z)
+  looks_both y z both late = record {
+    reads = record {
+      found = λ clean accounts shows.
+          both_of accounts user (P x) (Q y) (R z) both (first (clean_before b c _ late.keeps.crash clean) accounts shows)
+          (late.found clean accounts (mid_shows a b c r x was (Ok y) early.reads.keeps late.keeps clean accounts shows));
+      absent = λ clean accounts shows. tt;
+      keeps = keeps_ok a c (Ok y) y (Ok z) refl (keeps_then a b c r x was (Ok y) early.reads.keeps late.keeps);
+      named = tt;
+    };
+    sure = λ clean. tt;
+  }
+
+  pub looks_then_refused : (e : Refusal) (q : Result Z Refusal) → q ≡ Err e → Reads user Q b c (Err e) → LooksUp user R a c q
+  looks_then_refused e q is late = record {
+    reads = record {
+      found = λ clean accounts shows. subst (λ o. IfOk o (λ z. OfUser accounts user (R z))) (sym is) tt;
+      absent = λ clean accounts shows.
+          subst (λ o. IfErr o (λ f. f ≡ NoUser → IsFree user accounts)) (sym is) (late.absent clean accounts (mid_shows a b c r x was (Err e) early.reads.keeps late.keeps clean accounts shows));
+      keeps = keeps_refused a c (Err e) e q is (keeps_then a b c r x was (Err e) early.reads.keeps late.keeps);
+      named = subst (λ o. IfErr o (λ f. (f ≡ NoUser) ⊎ IsPassing f)) (sym is) late.named;
+    };
+    sure = λ clean. subst (λ o. IfErr o (λ f. f ≡ NoUser → IsTrue a.is_open)) (sym is) (λ none. was_open (clean_before b c _ late.keeps.crash clean));
+  }
+
+-- and what it answers is the answer
+pub looks_then : {X Z : Type 0} (user : List ℕ) (P : X → Account → Type 0) (R : Z → Account → Type 0) (a b c : State) (r : Result X Refusal) (x : X) → r ≡ Ok x → LooksUp user P a b r → (q : Result Z Refusal) → Reads user R b c q
+    → LooksUp user R a c q
+looks_then user P R a b c r x was early (Ok z) late = looks_both user P R R a b c r x was early z z (λ account one two. two) late
+looks_then user P R a b c r x was early (Err e) late = looks_then_refused user P R R a b c r x was early e (Err e) refl late
+
+-- ---- the text of the active script
+
+active_is : (p : Profile) (a : Account) → p ≡ profile_of a → a.active ≡ p.active
+active_is p a is = sym (ap (λ (q : Profile). q.active) is)
+
+pub none_active : (p : Profile) (a : Account) → p ≡ profile_of a → p.active ≡ None → None ≡ active_text a
+none_active p a is none = sym (ap (text_named a.scripts) (active_is p a is ∙ none))
+
+pub some_active : (p : Profile) (a : Account) (name seen : List ℕ) (text : Option (List ℕ)) → p ≡ profile_of a → p.active ≡ Some name → seen ≡ name → text ≡ get a.scripts seen → text ≡ active_text a
+some_active p a name seen text is some same read = read ∙ ap (get a.scripts) same ∙ sym (ap (text_named a.scripts) (active_is p a is ∙ some))

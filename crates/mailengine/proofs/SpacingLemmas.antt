@@ -1,0 +1,364 @@
+-- Answers to one sender under one handle are spaced by their periods.
+use Rattle.std.proofs.Common.{◌≡◌, ℕ, ◌+◌, ◌≤◌, ◌⊎◌, Bool, true, false, cond, List, [], ◌∷◌, ◌++◌, Option, Some, None, option_map, refl, sym, ◌∙◌, ap, subst, inl, inr, nat_lt, arith}
+use Rattle.std.specs.Prelude.{◌||◌}
+use Rattle.std.specs.declared.cmp.Ordering.{Ordering}
+use Rattle.std.specs.declared.cmp.Ordering.TheVariants.{Less, Equal, Greater}
+use Rattle.std.specs.FinMap.{FinMap, get, insert, get-insert, get-empty}
+use Rattle.std.specs.List.{fold}
+use Rattle.std.specs.Ordering.{is_eq, ordering_then}
+use Rattle.std.proofs.lemmas.Bool.Decides.{nat_tests}
+use Rattle.mailstore.proofs.MapLemmas.{tied_is}
+use Rattle.octets.specs.Ascii.{lowered}
+use Rattle.addrparts.specs.declared.address.Addr.{Addr}
+use Rattle.addrparts.specs.Spelling.{spelling}
+use Rattle.msproto.specs.declared.commands.Command.{Command}
+use Rattle.msproto.specs.declared.commands.Command.TheVariants.{Capability, Noop, Logout, Authenticate, Unauthenticate, HaveSpace, PutScript, CheckScript, ListScripts, SetActive, GetScript, DeleteScript, RenameScript}
+use Rattle.msproto.specs.declared.commands.Command.TheVariants as verb
+use Rattle.sessions.specs.Replies.{is_ok}
+use Rattle.mailstore.specs.declared.queue.Outgoing.{Outgoing}
+use Rattle.msproto.specs.declared.replies.Status.{Status}
+use Rattle.sieveexec.specs.Mails.{MailSpec, mail_of}
+use Rattle.sieveexec.specs.declared.envelope.Envelope.{Envelope}
+use Rattle.sievesyntax.specs.Meaning.{Actions}
+use Rattle.sievesyntax.specs.declared.tree.vacation.VacArgs.{VacArgs}
+use Rattle.vacreply.specs.Cases.{period_of, is_early}
+use Rattle.vacreply.specs.Handles.{handle_of, key_of}
+use Rattle.vacreply.specs.Reasons.{holds, first_of, decision_of}
+use Rattle.vacreply.specs.declared.reason.Reason.{Reason}
+use Rattle.vacreply.specs.declared.reason.Reason.TheVariants as R
+use Rattle.vacreply.specs.declared.reason.Decision.{Decision}
+use Rattle.vacreply.specs.declared.reason.Decision.TheVariants as D
+use Rattle.mailstore.specs.Account.{bytes_cmp, reply_cmp, Account, Accounts, files_copies, notes, remembers, queues, takes_out}
+use Rattle.mailstore.specs.declared.queue.Kind.TheVariants as kind
+use Rattle.mailstore.specs.declared.report.Report.{Report}
+use Rattle.mailstore.specs.declared.report.VacationReport.{VacationReport}
+use Rattle.mailstore.specs.declared.report.VacationReport.TheVariants as V
+use Rattle.mailstore.specs.declared.refusal.Refusal.{Refusal}
+use Rattle.sessions.specs.Scripts.{carried_out, obeyed}
+use Rattle.deliverplan.specs.Views.{last_reply}
+use Rattle.deliverplan.specs.Delivered.{Disposition, Acts, Tells, Response, Silent, Quiet, Sent, Follows, Responds, acts, redirects, responds, vacation_report, report_of, CarriesOut, LeavesNotice, DeliversAs}
+use Rattle.mailengine.specs.declared.event.Event.{Event}
+use Rattle.mailengine.specs.declared.event.Event.TheVariants.{Open, Give, Step, GiveUp, Close, Deliver, AddUser, TakeOut}
+use Rattle.mailengine.specs.declared.answer.Answer.{Answer}
+use Rattle.mailengine.specs.Limits.{limit_refusal}
+use Rattle.mailengine.specs.AccountEvents.{row_with, DeliversTo, DeliversIn, DeliversUnder}
+use Rattle.mailengine.specs.OwnActs as own
+use Rattle.mailengine.specs.OwnActs.{Act, ActsAlone, Alone, ReceivesIn, JoinsIn, TakesRowAlone, TakesAloneIn}
+use Rattle.mailengine.specs.World.{World, Happens, IsRefused, Next, Runs}
+use Rattle.mailengine.specs.Spacing.{Thread, Entry, entry_of, entries_if, vacation_in, sent_to, sent_in, sent_under, sent_by, sent_at, sent, kept_in, kept, IsPast, ComeAfter, Follow, AreSpaced, IsAtLeast, AreKept, IsSpacing}
+use Rattle.mailengine.proofs.AloneLemmas.{put_own, next_alone, projection}
+use Rattle.mailstore.proofs.AccountLemmas.{reply_total, reply_antisymmetric}
+use Rattle.sqlite_typed.proofs.TestLemmas.{bytes_eq_refl}
+
+-- ---- a kept moment never goes back
+
+abbrev pub IsNoSooner : Option ℕ → Option ℕ → Type 0
+IsNoSooner None later = Unit {0}
+IsNoSooner (Some last) None = ⊥
+IsNoSooner (Some last) (Some next) = last ≤ next
+
+no_sooner_same : (o : Option ℕ) → IsNoSooner o o
+no_sooner_same None = tt
+no_sooner_same (Some last) = omega arith
+
+no_sooner_is : (o later : Option ℕ) → later ≡ o → IsNoSooner o later
+no_sooner_is o later is = subst (λ l. IsNoSooner o l) (sym is) (no_sooner_same o)
+
+no_sooner_then : (a b c : Option ℕ) → IsNoSooner a b → IsNoSooner b c → IsNoSooner a c
+no_sooner_then None b c ab bc = tt
+no_sooner_then (Some x) None c ab bc = absurd ab
+no_sooner_then (Some x) (Some y) None ab bc = absurd bc
+no_sooner_then (Some x) (Some y) (Some z) ab bc = omega arith
+
+past_before : (a b : Option ℕ) (period moment : ℕ) → IsNoSooner a b → IsPast b period moment → IsPast a period moment
+past_before None b period moment ab is = tt
+past_before (Some x) None period moment ab is = absurd ab
+past_before (Some x) (Some y) period moment ab is = omega arith
+
+at_least_after : (a b : Option ℕ) (moment : ℕ) → IsNoSooner a b → IsAtLeast a moment → IsAtLeast b moment
+at_least_after None b moment ab is = absurd is
+at_least_after (Some x) None moment ab is = absurd ab
+at_least_after (Some x) (Some y) moment ab is = omega arith
+
+-- ---- one account
+
+-- where none of the reasons holds, the first doesn't, and none of the others
+past_reason : (test : Reason → Bool) (reason : Reason) (more : List Reason) → first_of test (reason ∷ more) ≡ D.Send → (test reason ≡ false) × (first_of test more ≡ D.Send)
+past_reason test reason more sends = go (test reason) refl sends
+  where
+    go : (b : Bool) → test reason ≡ b → cond b (D.Quiet reason) (first_of test more) ≡ D.Send → (test reason ≡ false) × (first_of test more ≡ D.Send)
+    go true is told = absurd (let never : D.Quiet reason ≡ D.Send = told in cc)
+    go false is told = (is, told)
+
+-- a decision to send means that the kept moment is a period ago
+send_is_past : (args : VacArgs) (mail : MailSpec) (own : Addr) (last : Option ℕ) (moment : ℕ) → decision_of args mail own last moment ≡ D.Send → IsPast last (period_of args) moment
+send_is_past args mail own last moment sends = by last timely
+  where
+    test : Reason → Bool
+    test = holds args mail own last moment
+
+    timely : is_early args last moment ≡ false
+    timely =
+        let one = (past_reason test R.NullSender (R.BadSender ∷ R.RobotSender ∷ R.OwnSender ∷ R.Automatic ∷ R.ListMail ∷ R.Bulk ∷ R.NotAddressed ∷ R.TooSoon ∷ []) sends).1 in
+        let two = (past_reason test R.BadSender (R.RobotSender ∷ R.OwnSender ∷ R.Automatic ∷ R.ListMail ∷ R.Bulk ∷ R.NotAddressed ∷ R.TooSoon ∷ []) one).1 in
+        let three = (past_reason test R.RobotSender (R.OwnSender ∷ R.Automatic ∷ R.ListMail ∷ R.Bulk ∷ R.NotAddressed ∷ R.TooSoon ∷ []) two).1 in
+        let four = (past_reason test R.OwnSender (R.Automatic ∷ R.ListMail ∷ R.Bulk ∷ R.NotAddressed ∷ R.TooSoon ∷ []) three).1 in
+        let five = (past_reason test R.Automatic (R.ListMail ∷ R.Bulk ∷ R.NotAddressed ∷ R.TooSoon ∷ []) four).1 in
+        let six = (past_reason test R.ListMail (R.Bulk ∷ R.NotAddressed ∷ R.TooSoon ∷ []) five).1 in
+        let seven = (past_reason test R.Bulk (R.NotAddressed ∷ R.TooSoon ∷ []) six).1 in
+        let eight = (past_reason test R.NotAddressed (R.TooSoon ∷ []) seven).1 in
+        (past_reason test R.TooSoon [] eight).0
+
+    by : (o : Option ℕ) → is_early args o moment ≡ false → IsPast o (period_of args) moment
+    by None is = tt
+    by (Some x) is = grind (arith, nat_tests)
+
+-- redirects leave what is remembered
+redirects_keep : (mail : MailSpec) (targets : List Addr) (a : Account) → (redirects mail targets a).replies ≡ a.replies
+redirects_keep mail [] a = refl
+redirects_keep mail (target ∷ more) a = redirects_keep mail more (queues kind.Redirect mail.from (spelling target) mail.octets a)
+
+-- and so do all the deeds
+acts_keep : (mail : MailSpec) (deeds : Actions) (a : Account) → (acts mail deeds a).replies ≡ a.replies
+acts_keep mail deeds a = redirects_keep mail deeds.sent (files_copies deeds.filed mail.octets a)
+
+-- what an account that was just answered for keeps
+remembered : (a : Account) (handle sender : List ℕ) (moment : ℕ) (thread : Thread) → kept_in (Some (remembers handle sender moment a)) thread
+    ≡ cond (is_eq (reply_cmp (key_of thread.handle, thread.sender) (handle, lowered sender))) (Some moment) (kept_in (Some a) thread)
+remembered a handle sender moment thread = get-insert reply_total a.replies (handle, lowered sender) moment (key_of thread.handle, thread.sender)
+
+-- what is known of a response: one that is sent has the key of the handle, and comes a period after the moment that is kept
+sent_is : (own : Addr) (moment : ℕ) (mail : MailSpec) (last : List ℕ → Option ℕ) (reply : Option VacArgs) (key octets : List ℕ) → Responds own moment mail last reply (Sent key octets)
+    → (args : VacArgs) × (reply ≡ Some args) × (key ≡ key_of (handle_of args)) × IsPast (last (key_of (handle_of args))) (period_of args) moment
+sent_is own moment mail last None key octets is = absurd (let never : Sent key octets ≡ Silent = is in cc)
+sent_is own moment mail last (Some args) key octets is = go (decision_of args mail own (last (key_of (handle_of args))) moment) refl is
+  where
+    go : (d : Decision) → decision_of args mail own (last (key_of (handle_of args))) moment ≡ d → Follows own moment mail args d (Sent key octets)
+        → (other : VacArgs) × (Some args ≡ Some other) × (key ≡ key_of (handle_of other)) × IsPast (last (key_of (handle_of other))) (period_of other) moment
+    go D.Send sends follows =
+        let same : key ≡ key_of (handle_of args) = let told : Sent key octets ≡ Sent (key_of (handle_of args)) follows.0 = follows.1.1 in cc in
+        (args, refl, same, send_is_past args mail own (last (key_of (handle_of args))) moment sends)
+    go (D.Quiet reason) quiet follows = absurd (let never : Sent key octets ≡ Quiet reason = follows in cc)
+
+past_is_sooner : (o : Option ℕ) (period moment : ℕ) → IsPast o period moment → IsNoSooner o (Some moment)
+past_is_sooner None period moment is = tt
+past_is_sooner (Some x) period moment is = omega arith
+
+reply_eq_refl : (key sender : List ℕ) → is_eq (reply_cmp (key, sender) (key, sender)) ≡ true
+reply_eq_refl key sender = ap (λ o. is_eq (ordering_then o (bytes_cmp sender sender))) (tied_is (bytes_cmp key key) (bytes_eq_refl key)) ∙ bytes_eq_refl sender
+
+-- the key under which a thread is kept
+abbrev place : Thread → List ℕ × List ℕ
+place thread = (key_of thread.handle, thread.sender)
+
+same_place : (thread : Thread) (key : List ℕ × List ℕ) → is_eq (reply_cmp (place thread) key) ≡ true → place thread ≡ key
+same_place thread key is = go (reply_cmp (place thread) key) refl is
+  where
+    go : (o : Ordering) → reply_cmp (place thread) key ≡ o → is_eq o ≡ true → place thread ≡ key
+    go Less at same = absurd (let never : false ≡ true = same in cc)
+    go Equal at same = reply_antisymmetric (place thread) key at
+    go Greater at same = absurd (let never : false ≡ true = same in cc)
+
+-- the account after a response to the sender that was sent
+abbrev answered : MailSpec → ℕ → List ℕ → List ℕ → Account → Account
+answered mail moment key octets a = remembers key mail.from moment (queues kind.Reply [] mail.from octets a)
+
+answered_keeps : (mail : MailSpec) (moment period : ℕ) (key octets : List ℕ) (a b : Account) (thread : Thread) → b.replies ≡ a.replies → IsPast (last_reply a mail.from key) period moment
+    → IsNoSooner (kept_in (Some a) thread) (kept_in (Some (answered mail moment key octets b)) thread)
+answered_keeps mail moment period key octets a b thread same past = subst (λ o. IsNoSooner (kept_in (Some a) thread) o) (sym (remembered (queues kind.Reply [] mail.from octets b) key mail.from moment thread)) (go (is_eq (reply_cmp (place thread) (key, lowered mail.from))) refl)
+  where
+    go : (t : Bool) → is_eq (reply_cmp (place thread) (key, lowered mail.from)) ≡ t → IsNoSooner (kept_in (Some a) thread) (cond t (Some moment) (get b.replies (place thread)))
+    go true is = subst (λ k. IsNoSooner (get a.replies k) (Some moment)) (sym (same_place thread (key, lowered mail.from) is)) (past_is_sooner (last_reply a mail.from key) period moment past)
+    go false is = no_sooner_is (get a.replies (place thread)) (get b.replies (place thread)) (ap (λ m. get m (place thread)) same)
+
+responds_keeps : (own : Addr) (moment : ℕ) (mail : MailSpec) (deeds : Actions) (a : Account) (response : Response) (thread : Thread) → Responds own moment mail (last_reply a mail.from) deeds.reply response
+    → IsNoSooner (kept_in (Some a) thread) (kept_in (Some (responds mail moment response (acts mail deeds a))) thread)
+responds_keeps own moment mail deeds a Silent thread is = no_sooner_is (kept_in (Some a) thread) _ (ap (λ m. get m (place thread)) (acts_keep mail deeds a))
+responds_keeps own moment mail deeds a (Quiet reason) thread is = no_sooner_is (kept_in (Some a) thread) _ (ap (λ m. get m (place thread)) (acts_keep mail deeds a))
+responds_keeps own moment mail deeds a (Sent key octets) thread is =
+    let known = sent_is own moment mail (last_reply a mail.from) deeds.reply key octets is in
+    answered_keeps mail moment (period_of known.0) key octets a (acts mail deeds a) thread (acts_keep mail deeds a) (subst (λ k. IsPast (last_reply a mail.from k) (period_of known.0) moment) (sym known.2) known.3)
+
+delivers_keeps : (own : Addr) (moment : ℕ) (mail : MailSpec) (disposition : Disposition) (a a2 : Account) (report : Report) (thread : Thread) → DeliversAs own moment mail disposition a report a2
+    → IsNoSooner (kept_in (Some a) thread) (kept_in (Some a2) thread)
+delivers_keeps own moment mail (Acts deeds) a a2 report thread is =
+    subst (λ b. IsNoSooner (kept_in (Some a) thread) (kept_in (Some b) thread)) (sym is.changed) (responds_keeps own moment mail deeds a is.response thread is.is_response)
+delivers_keeps own moment mail (Tells text) a a2 report thread is = no_sooner_is (kept_in (Some a) thread) (kept_in (Some a2) thread) (ap (λ b. kept_in (Some b) thread) is.changed)
+
+-- commands leave what is remembered
+obeyed_keeps : (command : Command) (word : Option Status) (a : Account) → (obeyed command word a).replies ≡ a.replies
+obeyed_keeps command word a = go (is_ok word)
+  where
+    carried : (c : Command) → (carried_out c a).replies ≡ a.replies
+    carried Capability = refl
+    carried (Noop tag) = refl
+    carried Logout = refl
+    carried (Authenticate mechanism response) = refl
+    carried (verb.Response text) = refl
+    carried Unauthenticate = refl
+    carried (HaveSpace name size) = refl
+    carried (PutScript name script) = refl
+    carried (CheckScript text) = refl
+    carried ListScripts = refl
+    carried (SetActive name) = refl
+    carried (GetScript name) = refl
+    carried (DeleteScript name) = refl
+    carried (RenameScript old new) = refl
+
+    go : (b : Bool) → (cond b (carried_out command a) a).replies ≡ a.replies
+    go true = carried command
+    go false = refl
+
+-- ---- acts
+
+mapped_keeps : (account : Option Account) (change : Account → Account) (thread : Thread) → ((a : Account) → (change a).replies ≡ a.replies) → IsNoSooner (kept_in account thread) (kept_in (option_map change account) thread)
+mapped_keeps None change thread same = tt
+mapped_keeps (Some a) change thread same = no_sooner_is (kept_in (Some a) thread) (kept_in (Some (change a)) thread) (ap (λ m. get m (place thread)) (same a))
+
+-- an act never makes a kept moment sooner
+act_keeps : (user : List ℕ) (account later : Option Account) (act : Act) (thread : Thread) → ActsAlone user account act later → IsNoSooner (kept_in account thread) (kept_in later thread)
+act_keeps user account later (own.Commands command octets) thread is =
+    subst (λ o. IsNoSooner (kept_in account thread) (kept_in o thread)) (sym is.changed) (mapped_keeps account (obeyed command is.reply.word) thread (obeyed_keeps command is.reply.word))
+act_keeps user account later (own.LogsIn password succeeds) thread is = no_sooner_is (kept_in account thread) (kept_in later thread) (ap (λ o. kept_in o thread) is.stays)
+act_keeps user account later (own.Receives envelope message moment answer) thread is = go (limit_refusal envelope message moment) account is
+  where
+    go : (o : Option Refusal) (account : Option Account) → ReceivesIn o account envelope message moment answer later → IsNoSooner (kept_in account thread) (kept_in later thread)
+    go (Some refusal) account is = no_sooner_is (kept_in account thread) (kept_in later thread) (ap (λ o. kept_in o thread) is.stays)
+    go None None is = tt
+    go None (Some a) is = subst (λ o. IsNoSooner (kept_in (Some a) thread) (kept_in o thread)) (sym is.changed) (delivers_keeps is.delivers.own moment (mail_of message envelope) is.delivers.delivers.disposition a is.after is.report thread is.delivers.delivers.delivers)
+act_keeps user account later (own.Joins address salt password answer) thread (inl (new, is)) = go account is
+  where
+    go : (account : Option Account) → JoinsIn account address salt password answer later → IsNoSooner (kept_in account thread) (kept_in later thread)
+    go None is = tt
+    go (Some a) is = no_sooner_is (kept_in (Some a) thread) (kept_in later thread) (ap (λ o. kept_in o thread) is.stays)
+act_keeps user account later (own.Joins address salt password answer) thread (inr (bad, is)) = no_sooner_is (kept_in account thread) (kept_in later thread) (ap (λ o. kept_in o thread) is.stays)
+act_keeps user account later (own.TakesOut id answer) thread is = go account is
+  where
+    row : (a : Account) (o : Option Outgoing) → TakesRowAlone a o answer later → IsNoSooner (kept_in (Some a) thread) (kept_in later thread)
+    row a None is = no_sooner_is (kept_in (Some a) thread) (kept_in later thread) (ap (λ o. kept_in o thread) is.stays)
+    row a (Some out) is = no_sooner_is (kept_in (Some a) thread) (kept_in later thread) (ap (λ o. kept_in o thread) is.changed)
+
+    go : (account : Option Account) → TakesAloneIn account id answer later → IsNoSooner (kept_in account thread) (kept_in later thread)
+    go None is = tt
+    go (Some a) is = row a (row_with id a.queue) is
+
+alone_keeps : (user : List ℕ) (acts : List Act) (account end : Option Account) (thread : Thread) → Alone user account acts end → IsNoSooner (kept_in account thread) (kept_in end thread)
+alone_keeps user [] account end thread is = no_sooner_is (kept_in account thread) (kept_in end thread) (ap (λ o. kept_in o thread) is)
+alone_keeps user (act ∷ more) account end thread is = no_sooner_then (kept_in account thread) (kept_in is.0 thread) (kept_in end thread) (act_keeps user account is.0 act thread is.1) (alone_keeps user more is.0 end thread is.2)
+
+-- ---- events
+
+next_keeps : (w next : World) (event : Event) (answer : Answer) (thread : Thread) → Next w event answer next → IsNoSooner (kept w.accounts thread) (kept next.accounts thread)
+next_keeps w next event answer thread made = alone_keeps thread.user (own.acts_in thread.user w event answer) (get w.accounts thread.user) (get next.accounts thread.user) thread (next_alone thread.user w next event answer made)
+
+run_keeps : (events : List Event) (told : List Answer) (w end : World) (thread : Thread) → Runs w events told end → IsNoSooner (kept w.accounts thread) (kept end.accounts thread)
+run_keeps events told w end thread run = alone_keeps thread.user (own.acts thread.user w events told end run) (get w.accounts thread.user) (get end.accounts thread.user) thread (projection events told w end run thread.user)
+
+-- what one event sends: nothing, or one answer, a period after what was kept, and kept then
+abbrev IsOneAnswer : Accounts → Accounts → List Entry → Type 0
+IsOneAnswer start end [] = Unit {0}
+IsOneAnswer start end (entry ∷ []) = IsPast (kept start entry.thread) entry.period entry.moment × IsAtLeast (kept end entry.thread) entry.moment
+IsOneAnswer start end (entry ∷ (other ∷ more)) = ⊥
+
+-- the same of one account
+abbrev IsOneFor : Option Account → Option Account → List Entry → Type 0
+IsOneFor start end [] = Unit {0}
+IsOneFor start end (entry ∷ []) = IsPast (kept_in start entry.thread) entry.period entry.moment × IsAtLeast (kept_in end entry.thread) entry.moment
+IsOneFor start end (entry ∷ (other ∷ more)) = ⊥
+
+remembered_now : (mail : MailSpec) (moment : ℕ) (key octets user : List ℕ) (args : VacArgs) (b : Account) → key ≡ key_of (handle_of args)
+    → IsAtLeast (kept_in (Some (answered mail moment key octets b)) (entry_of user mail.from moment args).thread) moment
+remembered_now mail moment key octets user args b same =
+    subst (λ o. IsAtLeast o moment) (sym (remembered (queues kind.Reply [] mail.from octets b) key mail.from moment (entry_of user mail.from moment args).thread ∙ ap (λ t. cond t (Some moment) (get b.replies (key_of (handle_of args), lowered mail.from))) itself)) (omega arith)
+  where
+    itself : is_eq (reply_cmp (key_of (handle_of args), lowered mail.from) (key, lowered mail.from)) ≡ true
+    itself = ap (λ k. is_eq (reply_cmp (key_of (handle_of args), lowered mail.from) (k, lowered mail.from))) same ∙ reply_eq_refl (key_of (handle_of args)) (lowered mail.from)
+
+carried_one : (own : Addr) (user : List ℕ) (moment : ℕ) (mail : MailSpec) (deeds : Actions) (a : Account) (response : Response) → Responds own moment mail (last_reply a mail.from) deeds.reply response
+    → IsOneFor (Some a) (Some (responds mail moment response (acts mail deeds a))) (entries_if (vacation_report response) user mail.from moment deeds.reply)
+carried_one own user moment mail deeds a Silent is = tt
+carried_one own user moment mail deeds a (Quiet reason) is = tt
+carried_one own user moment mail deeds a (Sent key octets) is =
+    let known = sent_is own moment mail (last_reply a mail.from) deeds.reply key octets is in
+    subst (λ r. IsOneFor (Some a) (Some (answered mail moment key octets (acts mail deeds a))) (entries_if V.Sent user mail.from moment r)) (sym known.1) (known.3, remembered_now mail moment key octets user known.0 (acts mail deeds a) known.2)
+
+delivered_one : (own : Addr) (user : List ℕ) (moment : ℕ) (mail : MailSpec) (disposition : Disposition) (a a2 : Account) (report : Report) → DeliversAs own moment mail disposition a report a2
+    → IsOneFor (Some a) (Some a2) (entries_if report.vacation user mail.from moment (vacation_in disposition))
+delivered_one own user moment mail (Acts deeds) a a2 report is =
+    subst (λ v. IsOneFor (Some a) (Some a2) (entries_if v user mail.from moment deeds.reply)) (sym (ap (λ r. r.vacation) is.reported))
+    (subst (λ b. IsOneFor (Some a) (Some b) (entries_if (vacation_report is.response) user mail.from moment deeds.reply)) (sym is.changed) (carried_one own user moment mail deeds a is.response is.is_response))
+delivered_one own user moment mail (Tells text) a a2 report is = go report.vacation
+  where
+    go : (v : VacationReport) → IsOneFor (Some a) (Some a2) (entries_if v user mail.from moment None)
+    go V.None = tt
+    go V.Sent = tt
+    go (V.Quiet n) = tt
+
+-- the entry of a user, by the account of that name
+named_one : (accounts later : Accounts) (user : List ℕ) (start end : Option Account) (sender : List ℕ) (moment : ℕ) (v : VacationReport) (reply : Option VacArgs) → get accounts user ≡ start → get later user ≡ end
+    → IsOneFor start end (entries_if v user sender moment reply) → IsOneAnswer accounts later (entries_if v user sender moment reply)
+named_one accounts later user start end sender moment V.None reply has then is = tt
+named_one accounts later user start end sender moment (V.Quiet n) reply has then is = tt
+named_one accounts later user start end sender moment V.Sent None has then is = tt
+named_one accounts later user start end sender moment V.Sent (Some args) has then is =
+    let thread = (entry_of user sender moment args).thread in
+    (subst (λ o. IsPast (kept_in o thread) (period_of args) moment) (sym has) is.0, subst (λ o. IsAtLeast (kept_in o thread) moment) (sym then) is.1)
+
+sent_one : (w next : World) (event : Event) (answer : Answer) (made : Next w event answer next) → IsOneAnswer w.accounts next.accounts (sent_at w event answer next made)
+sent_one w next event answer (inr refused) = tt
+sent_one w next (Open s) answer (inl made) = tt
+sent_one w next (Give s piece) answer (inl made) = tt
+sent_one w next (Step s) answer (inl made) = tt
+sent_one w next (GiveUp s) answer (inl made) = tt
+sent_one w next (Close s) answer (inl made) = tt
+sent_one w next (AddUser name address salt password) answer (inl made) = tt
+sent_one w next (TakeOut name id) answer (inl made) = tt
+sent_one w next (Deliver user envelope message moment) answer (inl made) = subst (λ v. IsOneAnswer w.accounts v.accounts (sent_by w (Deliver user envelope message moment) answer next made)) (sym made.2) (go (limit_refusal envelope message moment) made.1)
+  where
+    later : Accounts
+    later = made.0
+
+    inserted : (o : Option Account) → get w.accounts user ≡ o → (is : DeliversIn w.accounts user moment envelope message o answer later) → IsOneAnswer w.accounts later (sent_in w.accounts user moment envelope message o answer later is)
+    inserted None has is = tt
+    inserted (Some a) has is =
+        named_one w.accounts later user (Some a) (Some is.account) envelope.from moment is.report.vacation (vacation_in is.delivers.delivers.disposition) has (ap (λ all. get all user) is.changed ∙ put_own w.accounts user is.account (bytes_eq_refl user))
+        (delivered_one is.delivers.own user moment (mail_of message envelope) is.delivers.delivers.disposition a is.account is.report is.delivers.delivers.delivers)
+
+    go : (o : Option Refusal) → (is : DeliversUnder o w.accounts user moment envelope message answer later) → IsOneAnswer w.accounts later (sent_under o w.accounts user moment envelope message answer later is)
+    go (Some refusal) is = tt
+    go None is = inserted (get w.accounts user) refl is
+
+-- ---- runs
+
+come_before : (accounts later : Accounts) (entries : List Entry) → ((thread : Thread) → IsNoSooner (kept accounts thread) (kept later thread)) → ComeAfter later entries → ComeAfter accounts entries
+come_before accounts later [] sooner come = tt
+come_before accounts later (entry ∷ more) sooner come =
+    (past_before (kept accounts entry.thread) (kept later entry.thread) entry.period entry.moment (sooner entry.thread) come.0, come_before accounts later more sooner come.1)
+
+-- all that come after an entry is kept follow it
+follow_kept : (later : Accounts) (entry : Entry) (entries : List Entry) → IsAtLeast (kept later entry.thread) entry.moment → ComeAfter later entries → Follow entry entries
+follow_kept later entry [] held come = tt
+follow_kept later entry (next ∷ more) held come = (λ same. go (kept later next.thread) (subst (λ t. IsAtLeast (kept later t) entry.moment) same held) come.0, follow_kept later entry more held come.1)
+  where
+    go : (o : Option ℕ) → IsAtLeast o entry.moment → IsPast o next.period next.moment → entry.moment + next.period ≤ next.moment
+    go None held past = absurd held
+    go (Some last) held past = omega arith
+
+-- an event, and the events after it
+spacing_then : (start mid end : Accounts) (one more : List Entry) → ((thread : Thread) → IsNoSooner (kept start thread) (kept mid thread)) → ((thread : Thread) → IsNoSooner (kept mid thread) (kept end thread))
+    → IsOneAnswer start mid one → IsSpacing mid end more → IsSpacing start end (one ++ more)
+spacing_then start mid end [] more sooner late is rest = record { after_start = come_before start mid more sooner rest.after_start; spaced = rest.spaced; kept_in_the_end = rest.kept_in_the_end }
+spacing_then start mid end (entry ∷ []) more sooner late is rest = record {
+  after_start = (is.0, come_before start mid more sooner rest.after_start);
+  spaced = (follow_kept mid entry more is.1 rest.after_start, rest.spaced);
+  kept_in_the_end = (at_least_after (kept mid entry.thread) (kept end entry.thread) entry.moment (late entry.thread) is.1, rest.kept_in_the_end);
+}
+spacing_then start mid end (entry ∷ (other ∷ most)) more sooner late is rest = absurd is
+
+pub spacing : (events : List Event) (told : List Answer) (w end : World) (run : Runs w events told end) → IsSpacing w.accounts end.accounts (sent w events told end run)
+spacing [] [] w end run = record { after_start = tt; spaced = tt; kept_in_the_end = tt }
+spacing (event ∷ events) (answer ∷ told) w end run =
+    spacing_then w.accounts run.0.accounts end.accounts (sent_at w event answer run.0 run.1) (sent run.0 events told end run.2) (λ thread. next_keeps w run.0 event answer thread run.1)
+    (λ thread. run_keeps events told run.0 end thread run.2) (sent_one w run.0 event answer run.1) (spacing events told run.0 end run.2)
+spacing [] (answer ∷ told) w end run = absurd run
+spacing (event ∷ events) [] w end run = absurd run

@@ -1,0 +1,6 @@
+use Rattle.mailengine.proofs.SpacingLemmas.{spacing}
+use Rattle.mailengine.proofs.laws.answers_spaced.Goals as goal
+
+-- src/laws.rt:15:1
+pub returns : goal.returns
+returns c = spacing

@@ -1,0 +1,82 @@
+use Rattle.std.proofs.Common.{◌≡◌, refl}
+use Rattle.sqlite.specs.Held.{state}
+use Rattle.mailengine.specs.declared.event.Event.{Event}
+use Rattle.mailengine.specs.declared.event.Event.TheVariants.{Open, Give, Step, GiveUp, Close, Deliver, AddUser, TakeOut}
+use Rattle.mailengine.specs.AccountEvents.{Delivery, Addition, Taking}
+use Rattle.mailengine.specs.Hosts.{answer_of, answer_of_delivery, answer_of_addition, answer_of_taking, MayRefuseDelivery, MayRefuseAddition}
+use Rattle.mailstore.specs.Refusals.{IsPassing}
+use Rattle.mailengine.proofs.HostLemmas.{session_event, account_event, account_crash, delivery_may, addition_may, taking_may, event_is, crash_is}
+use Rattle.mailengine.proofs.machine.happen.Goals as goal
+
+pub returns-in-Open-clause-event : goal.returns-in-Open-clause-event
+returns-in-Open-clause-event g c =
+    let is : c.args.event.now ≡ Open c.in-Open.number = cc in
+    event_is c.args.event.now (Open c.in-Open.number) c.answer_of.result (answer_of c.open.result) (state g.S.Store c.args.store.now) (state g.S.Store c.args.store.now) c.args.sessions.now c.open.new.sessions is c.answer_of.ensures
+    (session_event (Open c.in-Open.number) (answer_of c.open.result) (state g.S.Store c.args.store.now) c.args.sessions.now c.open.new.sessions c.open.ensures)
+
+pub returns-in-Give-clause-event : goal.returns-in-Give-clause-event
+returns-in-Give-clause-event g c =
+    let event = Give c.in-Give.number c.as_slice.result.now in
+    let is : c.args.event.now ≡ event = cc in
+    event_is c.args.event.now event c.answer_of-in-Give.result (answer_of c.give.result) (state g.S.Store c.args.store.now) (state g.S.Store c.args.store.now) c.args.sessions.now c.give.new.sessions is c.answer_of-in-Give.ensures
+    (session_event event (answer_of c.give.result) (state g.S.Store c.args.store.now) c.args.sessions.now c.give.new.sessions c.give.ensures)
+
+pub returns-in-Step-clause-event : goal.returns-in-Step-clause-event
+returns-in-Step-clause-event g c =
+    let is : c.args.event.now ≡ Step c.in-Step.number = cc in
+    event_is c.args.event.now (Step c.in-Step.number) c.answer_of-in-Step.result (answer_of c.step.result) (state g.S.Store c.args.store.now) (state g.S.Store c.step.new.store) c.args.sessions.now c.step.new.sessions is c.answer_of-in-Step.ensures
+    c.step.ensures.event
+
+pub returns-in-GiveUp-clause-event : goal.returns-in-GiveUp-clause-event
+returns-in-GiveUp-clause-event g c =
+    let is : c.args.event.now ≡ GiveUp c.in-GiveUp.number = cc in
+    event_is c.args.event.now (GiveUp c.in-GiveUp.number) c.give_up.result c.give_up.result (state g.S.Store c.args.store.now) (state g.S.Store c.args.store.now) c.args.sessions.now c.give_up.new.sessions is refl
+    (session_event (GiveUp c.in-GiveUp.number) c.give_up.result (state g.S.Store c.args.store.now) c.args.sessions.now c.give_up.new.sessions c.give_up.ensures)
+
+pub returns-in-Close-clause-event : goal.returns-in-Close-clause-event
+returns-in-Close-clause-event g c =
+    let is : c.args.event.now ≡ Close c.in-Close.number = cc in
+    event_is c.args.event.now (Close c.in-Close.number) c.close.result c.close.result (state g.S.Store c.args.store.now) (state g.S.Store c.args.store.now) c.args.sessions.now c.close.new.sessions is refl
+    (session_event (Close c.in-Close.number) c.close.result (state g.S.Store c.args.store.now) c.args.sessions.now c.close.new.sessions c.close.ensures)
+
+pub returns-in-Deliver-clause-event : goal.returns-in-Deliver-clause-event
+returns-in-Deliver-clause-event g c =
+    let event : Event = Deliver c.as_slice-in-Deliver.result.now c.in-Deliver.envelope c.as_slice-in-Deliver-2.result.now c.in-Deliver.moment in
+    let is : c.args.event.now ≡ event = cc in
+    event_is c.args.event.now event c.answer_of_delivery.result (answer_of_delivery c.handed.result) (state g.S.Store c.args.store.now) (state g.S.Store c.handed.new.store) c.args.sessions.now c.args.sessions.now is c.answer_of_delivery.ensures
+    (account_event event (λ accounts. Delivery accounts c.as_slice-in-Deliver.result.now c.in-Deliver.envelope c.as_slice-in-Deliver-2.result.now c.in-Deliver.moment) (MayRefuseDelivery c.in-Deliver.envelope c.as_slice-in-Deliver-2.result.now c.in-Deliver.moment) (λ w answer next made. made) (delivery_may c.as_slice-in-Deliver.result.now c.as_slice-in-Deliver-2.result.now c.in-Deliver.envelope c.in-Deliver.moment) (state g.S.Store c.args.store.now) (state g.S.Store c.handed.new.store) c.args.sessions.now c.handed.result (answer_of_delivery c.handed.result) c.handed.ensures)
+
+pub returns-in-Deliver-clause-crash : goal.returns-in-Deliver-clause-crash
+returns-in-Deliver-clause-crash g c =
+    let event : Event = Deliver c.as_slice-in-Deliver.result.now c.in-Deliver.envelope c.as_slice-in-Deliver-2.result.now c.in-Deliver.moment in
+    let is : c.args.event.now ≡ event = cc in
+    crash_is c.args.event.now event (state g.S.Store c.args.store.now) (state g.S.Store c.handed.new.store) c.args.sessions.now is
+    (account_crash event (λ accounts. Delivery accounts c.as_slice-in-Deliver.result.now c.in-Deliver.envelope c.as_slice-in-Deliver-2.result.now c.in-Deliver.moment) (MayRefuseDelivery c.in-Deliver.envelope c.as_slice-in-Deliver-2.result.now c.in-Deliver.moment) (λ w answer next made. made) (delivery_may c.as_slice-in-Deliver.result.now c.as_slice-in-Deliver-2.result.now c.in-Deliver.envelope c.in-Deliver.moment) (state g.S.Store c.args.store.now) (state g.S.Store c.handed.new.store) c.args.sessions.now c.handed.result (answer_of_delivery c.handed.result) c.handed.ensures)
+
+pub returns-in-AddUser-clause-event : goal.returns-in-AddUser-clause-event
+returns-in-AddUser-clause-event g c =
+    let event : Event = AddUser c.as_slice-in-AddUser.result.now c.as_slice-in-AddUser-2.result.now c.in-AddUser.salt c.as_slice-in-AddUser-3.result.now in
+    let is : c.args.event.now ≡ event = cc in
+    event_is c.args.event.now event c.answer_of_addition.result (answer_of_addition c.add_user.result) (state g.S.Store c.args.store.now) (state g.S.Store c.add_user.new.store) c.args.sessions.now c.args.sessions.now is c.answer_of_addition.ensures
+    (account_event event (λ accounts. Addition accounts c.as_slice-in-AddUser.result.now c.as_slice-in-AddUser-2.result.now c.in-AddUser.salt c.as_slice-in-AddUser-3.result.now) (MayRefuseAddition c.as_slice-in-AddUser.result.now c.as_slice-in-AddUser-2.result.now c.as_slice-in-AddUser-3.result.now) (λ w answer next made. made) (addition_may c.as_slice-in-AddUser.result.now c.as_slice-in-AddUser-2.result.now c.in-AddUser.salt c.as_slice-in-AddUser-3.result.now) (state g.S.Store c.args.store.now) (state g.S.Store c.add_user.new.store) c.args.sessions.now c.add_user.result (answer_of_addition c.add_user.result) c.add_user.ensures.acts)
+
+pub returns-in-AddUser-clause-crash : goal.returns-in-AddUser-clause-crash
+returns-in-AddUser-clause-crash g c =
+    let event : Event = AddUser c.as_slice-in-AddUser.result.now c.as_slice-in-AddUser-2.result.now c.in-AddUser.salt c.as_slice-in-AddUser-3.result.now in
+    let is : c.args.event.now ≡ event = cc in
+    crash_is c.args.event.now event (state g.S.Store c.args.store.now) (state g.S.Store c.add_user.new.store) c.args.sessions.now is
+    (account_crash event (λ accounts. Addition accounts c.as_slice-in-AddUser.result.now c.as_slice-in-AddUser-2.result.now c.in-AddUser.salt c.as_slice-in-AddUser-3.result.now) (MayRefuseAddition c.as_slice-in-AddUser.result.now c.as_slice-in-AddUser-2.result.now c.as_slice-in-AddUser-3.result.now) (λ w answer next made. made) (addition_may c.as_slice-in-AddUser.result.now c.as_slice-in-AddUser-2.result.now c.in-AddUser.salt c.as_slice-in-AddUser-3.result.now) (state g.S.Store c.args.store.now) (state g.S.Store c.add_user.new.store) c.args.sessions.now c.add_user.result (answer_of_addition c.add_user.result) c.add_user.ensures.acts)
+
+pub returns-in-TakeOut-clause-event : goal.returns-in-TakeOut-clause-event
+returns-in-TakeOut-clause-event g c =
+    let event : Event = TakeOut c.as_slice-in-TakeOut.result.now c.in-TakeOut.id in
+    let is : c.args.event.now ≡ event = cc in
+    event_is c.args.event.now event c.answer_of_taking.result (answer_of_taking c.take_out.result) (state g.S.Store c.args.store.now) (state g.S.Store c.take_out.new.store) c.args.sessions.now c.args.sessions.now is c.answer_of_taking.ensures
+    (account_event event (λ accounts. Taking accounts c.as_slice-in-TakeOut.result.now c.in-TakeOut.id) IsPassing (λ w answer next made. made) (taking_may c.as_slice-in-TakeOut.result.now c.in-TakeOut.id) (state g.S.Store c.args.store.now) (state g.S.Store c.take_out.new.store) c.args.sessions.now c.take_out.result (answer_of_taking c.take_out.result) c.take_out.ensures.acts)
+
+pub returns-in-TakeOut-clause-crash : goal.returns-in-TakeOut-clause-crash
+returns-in-TakeOut-clause-crash g c =
+    let event : Event = TakeOut c.as_slice-in-TakeOut.result.now c.in-TakeOut.id in
+    let is : c.args.event.now ≡ event = cc in
+    crash_is c.args.event.now event (state g.S.Store c.args.store.now) (state g.S.Store c.take_out.new.store) c.args.sessions.now is
+    (account_crash event (λ accounts. Taking accounts c.as_slice-in-TakeOut.result.now c.in-TakeOut.id) IsPassing (λ w answer next made. made) (taking_may c.as_slice-in-TakeOut.result.now c.in-TakeOut.id) (state g.S.Store c.args.store.now) (state g.S.Store c.take_out.new.store) c.args.sessions.now c.take_out.result (answer_of_taking c.take_out.result) c.take_out.ensures.acts)

@@ -1,0 +1,104 @@
+-- Events of the accounts alone: a delivery, a new user, a row taken out of the queue (RFC 5228, 2.10).
+use Rattle.std.specs.Prelude.{◌≡◌, ℕ, ◌==◌, List, Option, Some, None}
+use Rattle.std.specs.FinMap.{get, insert}
+use Rattle.std.specs.List.{find}
+use Rattle.addrparts.specs.declared.address.Addr.{Addr}
+use Rattle.addrparts.specs.Outbound.{IsBareAddress}
+use Rattle.saslplain.specs.Password.{digest_of}
+use Rattle.mailstore.specs.Account.{Account, Accounts, Scripts, new_user, with_user, takes_out}
+use Rattle.mailstore.specs.declared.queue.Outgoing.{Outgoing}
+use Rattle.mailstore.specs.declared.report.Report.{Report}
+use Rattle.mailstore.specs.declared.refusal.Refusal.{Refusal}
+use Rattle.mailstore.specs.declared.refusal.Refusal.TheVariants.{NoUser, UserExists, BadUser, NoRow}
+use Rattle.sieveexec.specs.declared.envelope.Envelope.{Envelope}
+use Rattle.sieveexec.specs.Mails.{mail_of}
+use Rattle.deliverplan.specs.Delivered.{Delivers}
+use Rattle.sessions.specs.Scripts.{Where}
+use Rattle.mailengine.specs.declared.answer.Answer.{Answer}
+use Rattle.mailengine.specs.declared.answer.Answer.TheVariants.{Delivered, Added, Taken, Refused}
+use Rattle.mailengine.specs.Limits.{limit_refusal, IsNewUser}
+
+-- the event is refused by the machine itself, and nothing changes
+pub record Refuses {X : Type 0} (refusal : Refusal) (x : X) (answer : Answer) (later : X) : Type 0 where
+  pub refused : answer ≡ Refused refusal
+  pub stays : later ≡ x
+
+-- ---- a delivery
+
+-- the text of a script, where the name is one's
+abbrev pub text_named : Scripts → Option (List ℕ) → Option (List ℕ)
+text_named scripts None = None
+text_named scripts (Some name) = get scripts name
+
+-- the text of the active script, if there is one
+abbrev pub active_text : Account → Option (List ℕ)
+active_text a = text_named a.scripts a.active
+
+-- a message is delivered to an account: to the address that it has, under the text of its active script
+pub record DeliversTo (moment : ℕ) (envelope : Envelope) (message : List ℕ) (a : Account) (report : Report) (a2 : Account) : Type 0 where
+  pub own : Addr
+  pub address : IsBareAddress a.address own
+  pub delivers : Delivers own moment (mail_of message envelope) (active_text a) a report a2
+
+-- a delivery to the user: the account is as after it, and no other changes
+pub record DeliversUser (accounts : Accounts) (user : List ℕ) (moment : ℕ) (envelope : Envelope) (message : List ℕ) (a : Account) (answer : Answer) (later : Accounts) : Type 0 where
+  pub report : Report
+  pub account : Account
+  pub delivers : DeliversTo moment envelope message a report account
+  pub reported : answer ≡ Delivered report
+  pub changed : later ≡ insert accounts user account
+
+-- by the account of the user, if there is one
+abbrev pub DeliversIn : Accounts → List ℕ → ℕ → Envelope → List ℕ → Option Account → Answer → Accounts → Type 0
+DeliversIn accounts user moment envelope message None answer later = Refuses NoUser accounts answer later
+DeliversIn accounts user moment envelope message (Some a) answer later = DeliversUser accounts user moment envelope message a answer later
+
+-- by the cause that stands against it, if there is one
+abbrev pub DeliversUnder : Option Refusal → Accounts → List ℕ → ℕ → Envelope → List ℕ → Answer → Accounts → Type 0
+DeliversUnder (Some refusal) accounts user moment envelope message answer later = Refuses refusal accounts answer later
+DeliversUnder None accounts user moment envelope message answer later = DeliversIn accounts user moment envelope message (get accounts user) answer later
+
+abbrev pub Delivery : Accounts → List ℕ → Envelope → List ℕ → ℕ → Answer → Accounts → Type 0
+Delivery accounts user envelope message moment answer later = DeliversUnder (limit_refusal envelope message moment) accounts user moment envelope message answer later
+
+-- ---- a new user
+
+-- how often the digest of a new password is hashed again
+abbrev pub rounds : ℕ
+rounds = 10000
+
+-- the user is there with an empty account: the password is kept as its digest
+pub record Adds (accounts : Accounts) (name address salt password : List ℕ) (answer : Answer) (later : Accounts) : Type 0 where
+  pub added : answer ≡ Added
+  pub changed : later ≡ new_user name address salt rounds (digest_of salt password rounds) accounts
+
+-- by the account that has the name, if one has
+abbrev pub AddsUnder : Accounts → List ℕ → List ℕ → List ℕ → List ℕ → Option Account → Answer → Accounts → Type 0
+AddsUnder accounts name address salt password None answer later = Adds accounts name address salt password answer later
+AddsUnder accounts name address salt password (Some a) answer later = Refuses UserExists accounts answer later
+
+abbrev pub Addition : Accounts → List ℕ → List ℕ → List ℕ → List ℕ → Answer → Accounts → Type 0
+Addition accounts name address salt password answer later =
+    Where (IsNewUser name address password) (AddsUnder accounts name address salt password (get accounts name) answer later) (Refuses BadUser accounts answer later)
+
+-- ---- a row taken out of the queue
+
+-- the row with the number, if there is one
+abbrev pub row_with : ℕ → List Outgoing → Option Outgoing
+row_with id rows = find (λ row. row.id == id) rows
+
+-- the row is handed out, and no longer queued; its number isn't used again
+pub record Takes (accounts : Accounts) (user : List ℕ) (row : Outgoing) (answer : Answer) (later : Accounts) : Type 0 where
+  pub taken : answer ≡ Taken row
+  pub changed : later ≡ with_user accounts user (takes_out row.id)
+
+abbrev pub TakesRow : Accounts → List ℕ → Option Outgoing → Answer → Accounts → Type 0
+TakesRow accounts user None answer later = Refuses NoRow accounts answer later
+TakesRow accounts user (Some row) answer later = Takes accounts user row answer later
+
+abbrev pub TakesIn : Accounts → List ℕ → ℕ → Option Account → Answer → Accounts → Type 0
+TakesIn accounts user id None answer later = Refuses NoUser accounts answer later
+TakesIn accounts user id (Some a) answer later = TakesRow accounts user (row_with id a.queue) answer later
+
+abbrev pub Taking : Accounts → List ℕ → ℕ → Answer → Accounts → Type 0
+Taking accounts user id answer later = TakesIn accounts user id (get accounts user) answer later

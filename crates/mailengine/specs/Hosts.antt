@@ -1,0 +1,151 @@
+-- What a store and a map of sessions have of the machine.
+use Rattle.std.specs.Prelude.{◌≡◌, ℕ, ◌⊎◌, List, map, take, Option, Some, None, Ok, Err, Result, IsTrue, IfSome, option_map}
+use Rattle.std.specs.FinMap.{get, from_entries}
+use Rattle.std.specs.Ordering.{nat_cmp}
+use Rattle.std.specs.BTreeMap as tree
+use Rattle.std.specs.BTreeMap.{BTreeMap}
+use Rattle.sqlite_trees.specs.Tree.{Trees}
+use Rattle.sqlite.specs.State.{State, HasCleanDisk}
+use Rattle.mailstore.specs.Account.{Accounts}
+use Rattle.mailstore.specs.Refusals.{IsPassing}
+use Rattle.mailstore.specs.Shows.{Presents, ShowsIn}
+use Rattle.sieveexec.specs.declared.envelope.Envelope.{Envelope}
+use Rattle.mailstore.specs.declared.queue.Outgoing.{Outgoing}
+use Rattle.mailstore.specs.declared.report.Report.{Report}
+use Rattle.mailstore.specs.declared.refusal.Refusal.{Refusal}
+use Rattle.mailstore.specs.declared.refusal.Refusal.TheVariants.{Memory, Store, NoUser, UserExists, BadUser, NoRow}
+use Rattle.sessions.specs.Acts.{HasAccounts, Acts}
+use Rattle.sessions.specs.Clients.{Client}
+use Rattle.sessions.specs.Counts.{SessionView}
+use Rattle.sessions.specs.GivenUp.{text_given_up}
+use Rattle.mailengine.specs.declared.event.Event.TheVariants.{GiveUp}
+use Rattle.mailengine.specs.OwnActs.{IsAlone}
+use Rattle.mailengine.specs.Spacing.{IsSpacing, sent}
+use Rattle.mailengine.specs.declared.event.Event.{Event}
+use Rattle.mailengine.specs.declared.answer.Answer.{Answer}
+use Rattle.mailengine.specs.declared.answer.Answer.TheVariants.{Delivered, Added, Taken, Refused}
+use Rattle.mailengine.specs.AccountEvents.{Delivery, Addition, Taking}
+use Rattle.mailengine.specs.Limits.{limit_refusal, IsNewUser}
+use Rattle.mailengine.specs.World.{World, Clients, Next, Runs}
+
+-- the sessions that a map has, by their numbers
+abbrev pub clients_of : BTreeMap ℕ SessionView → Clients
+clients_of kept = from_entries (map (λ entry. (entry.0, entry.1.client)) kept.entries)
+
+-- under each number there is the same session, or none
+abbrev pub HasClients : BTreeMap ℕ SessionView → Clients → Type 0
+HasClients kept clients = (s : ℕ) → option_map (λ session. session.client) (tree.get nat_cmp kept s) ≡ get clients s
+
+-- the store shows the machine's accounts, and the sessions are the machine's; of a connection that a fault of the disk has shut nothing is said
+pub record Implements (s : State) (kept : BTreeMap ℕ SessionView) (w : World) : Type 0 where
+  pub accounts : HasAccounts s w.accounts
+  pub sessions : HasClients kept w.sessions
+
+-- ---- one event
+
+-- the event, of sessions alone, with this answer, of whatever world there was: no account changes
+abbrev pub IsSessionEvent : Event → Answer → BTreeMap ℕ SessionView → BTreeMap ℕ SessionView → Type 0
+IsSessionEvent event answer before behind =
+    (w : World) → HasClients before w.sessions → (clients : Clients) × Next w event answer (record { accounts = w.accounts; sessions = clients }) × HasClients behind clients
+
+-- the step from one state of the store and its sessions to another is the event with this answer, of whatever world there was
+abbrev pub IsEvent : Event → Answer → State → BTreeMap ℕ SessionView → State → BTreeMap ℕ SessionView → Type 0
+IsEvent event answer old before new behind = HasCleanDisk new → (w : World) → Implements old before w → (next : World) × Next w event answer next × Implements new behind next
+
+-- what a crash leaves of the event shows the accounts of a world after it, as a whole
+abbrev pub EventCrashLeaves : Event → State → BTreeMap ℕ SessionView → Trees → Type 0
+EventCrashLeaves event s kept trees =
+    (w : World) → Presents s.now w.accounts → HasClients kept w.sessions → (answer : Answer) × (next : World) × Next w event answer next × ShowsIn trees next.accounts
+
+-- a text that was made ready for the event: that of giving up, where it is one
+abbrev pub IsPrepared : Event → BTreeMap ℕ SessionView → List ℕ → Type 0
+IsPrepared (GiveUp s) kept text = IfSome (tree.get nat_cmp kept s) (λ session. text ≡ text_given_up session.client)
+IsPrepared event kept text = Unit {0}
+
+-- ---- events in turn
+
+abbrev pub IsRun : List Event → List Answer → State → BTreeMap ℕ SessionView → State → BTreeMap ℕ SessionView → Type 0
+IsRun events answers old before new behind = HasCleanDisk new → (w : World) → Implements old before w → (end : World) × Runs w events answers end × Implements new behind end
+
+-- a run in which each user is alone: its account at the end is what its own acts make of the one at the start, and each answer among them is allowed
+abbrev pub IsRunAlone : List Event → List Answer → State → BTreeMap ℕ SessionView → State → BTreeMap ℕ SessionView → Type 0
+IsRunAlone events answers old before new behind =
+    HasCleanDisk new → (w : World) → Implements old before w → (end : World) × (run : Runs w events answers end) × Implements new behind end × IsAlone w events answers end run
+
+-- a run whose answers to senders are spaced by their periods
+abbrev pub IsRunSpaced : List Event → List Answer → State → BTreeMap ℕ SessionView → State → BTreeMap ℕ SessionView → Type 0
+IsRunSpaced events answers old before new behind =
+    HasCleanDisk new → (w : World) → Implements old before w → (end : World) × (run : Runs w events answers end) × Implements new behind end × IsSpacing w.accounts end.accounts (sent w events answers end run)
+
+-- what a crash leaves of a run, where no fault of the disk has shut the connection at its end, shows the accounts of a world that some of the first events lead to
+abbrev pub RunCrashLeaves : List Event → State → BTreeMap ℕ SessionView → State → Trees → Type 0
+RunCrashLeaves events old kept new trees =
+    IsTrue new.is_open → (w : World) → Presents old.now w.accounts → HasClients kept w.sessions → (count : ℕ) × (told : List Answer) × (end : World) × Runs w (take count events) told end × ShowsIn trees end.accounts
+
+-- ---- the calls on accounts
+
+-- the answer, or the refusal
+abbrev pub answer_of : Result Answer Refusal → Answer
+answer_of (Ok answer) = answer
+answer_of (Err refusal) = Refused refusal
+
+-- the answer to a delivery
+abbrev pub answer_of_delivery : Result Report Refusal → Answer
+answer_of_delivery (Ok report) = Delivered report
+answer_of_delivery (Err refusal) = Refused refusal
+
+-- the answer to a new user
+abbrev pub answer_of_addition : Result (Unit {0}) Refusal → Answer
+answer_of_addition (Ok done) = Added
+answer_of_addition (Err refusal) = Refused refusal
+
+-- the answer to who takes a row out
+abbrev pub answer_of_taking : Result Outgoing Refusal → Answer
+answer_of_taking (Ok row) = Taken row
+answer_of_taking (Err refusal) = Refused refusal
+
+-- the accounts turn by the event's row with this answer, or the event is refused without visible cause, where it may be, and they stay
+abbrev pub TurnsBy : (Accounts → Answer → Accounts → Type 0) → (Refusal → Type 0) → Answer → Accounts → Accounts → Type 0
+TurnsBy Row May answer accounts later = Row accounts answer later ⊎ ((refusal : Refusal) × May refusal × (answer ≡ Refused refusal) × (later ≡ accounts))
+
+-- the accounts may turn by the event's row, whatever is answered
+abbrev pub MayTurnBy : (Accounts → Answer → Accounts → Type 0) → Accounts → Accounts → Type 0
+MayTurnBy Row accounts later = (answer : Answer) × Row accounts answer later
+
+-- without visible cause a delivery is refused only where no limit stands against it
+abbrev pub MayRefuseDelivery : Envelope → List ℕ → ℕ → Refusal → Type 0
+MayRefuseDelivery envelope message moment refusal = IsPassing refusal × (limit_refusal envelope message moment ≡ None)
+
+-- and a new user by the store only where the name, the address and the password are allowed
+abbrev pub MayRefuseAddition : List ℕ → List ℕ → List ℕ → Refusal → Type 0
+MayRefuseAddition name address password refusal = (refusal ≡ Memory) ⊎ ((refusal ≡ Store) × IsNewUser name address password)
+
+-- what a delivery makes of the store
+abbrev pub ActsDelivery : List ℕ → Envelope → List ℕ → ℕ → State → State → Result Report Refusal → Type 0
+ActsDelivery user envelope message moment old new result =
+    Acts (TurnsBy (λ accounts. Delivery accounts user envelope message moment) (MayRefuseDelivery envelope message moment) (answer_of_delivery result)) (MayTurnBy (λ accounts. Delivery accounts user envelope message moment)) old new result
+
+-- what a new user makes of it
+abbrev pub ActsAddition : List ℕ → List ℕ → List ℕ → List ℕ → State → State → Result (Unit {0}) Refusal → Type 0
+ActsAddition name address salt password old new result =
+    Acts (TurnsBy (λ accounts. Addition accounts name address salt password) (MayRefuseAddition name address password) (answer_of_addition result)) (MayTurnBy (λ accounts. Addition accounts name address salt password)) old new result
+
+-- what a row that is taken out makes of it
+abbrev pub ActsTaking : List ℕ → ℕ → State → State → Result Outgoing Refusal → Type 0
+ActsTaking user id old new result = Acts (TurnsBy (λ accounts. Taking accounts user id) IsPassing (answer_of_taking result)) (MayTurnBy (λ accounts. Taking accounts user id)) old new result
+
+-- ---- refusals, by name
+
+-- a delivery is refused by the limit that stands against it; where none does, for want of an account, or without visible cause
+abbrev pub RefusesDelivery : Envelope → List ℕ → ℕ → Refusal → Type 0
+RefusesDelivery envelope message moment refusal =
+    (limit_refusal envelope message moment ≡ Some refusal) ⊎ ((limit_refusal envelope message moment ≡ None) × ((refusal ≡ NoUser) ⊎ IsPassing refusal))
+
+-- a new user is refused where the name, the address or the password isn't allowed, where the name has an account, or without visible cause
+abbrev pub RefusesAddition : List ℕ → List ℕ → List ℕ → Refusal → Type 0
+RefusesAddition name address password refusal =
+    ((refusal ≡ BadUser) × (IsNewUser name address password → ⊥)) ⊎ ((refusal ≡ UserExists) × IsNewUser name address password) ⊎ MayRefuseAddition name address password refusal
+
+-- a row is refused where the user has no account, where no row has the number, or without visible cause
+abbrev pub RefusesTaking : Refusal → Type 0
+RefusesTaking refusal = (refusal ≡ NoUser) ⊎ (refusal ≡ NoRow) ⊎ IsPassing refusal

@@ -1,0 +1,187 @@
+-- What one user does and is answered among all events, and the machine of one user's account alone.
+use Rattle.std.specs.Prelude.{◌≡◌, ℕ, Bool, true, false, cond, nat_eq, List, [], ◌∷◌, ◌++◌, Option, Some, None, option_map, codes}
+use Rattle.std.specs.Cmp.Lexicographic.{pointwise}
+use Rattle.std.specs.FinMap.{get}
+use Rattle.std.specs.Ordering.{is_eq}
+use Rattle.msproto.specs.declared.commands.Command.{Command}
+use Rattle.msproto.specs.declared.commands.Command.TheVariants.{Unauthenticate, CheckScript}
+use Rattle.msproto.specs.declared.items.Item.{Item}
+use Rattle.msproto.specs.declared.items.Item.TheVariants as item
+use Rattle.msproto.specs.declared.replies.Reply.{Reply}
+use Rattle.msproto.specs.Replies.{spelled}
+use Rattle.saslplain.specs.Parts.{login_of}
+use Rattle.saslplain.specs.Password.{digest_of}
+use Rattle.sieveexec.specs.declared.envelope.Envelope.{Envelope}
+use Rattle.mailstore.specs.Account.{bytes_cmp, Account, new_account, takes_out}
+use Rattle.mailstore.specs.declared.queue.Outgoing.{Outgoing}
+use Rattle.mailstore.specs.declared.report.Report.{Report}
+use Rattle.mailstore.specs.declared.refusal.Refusal.{Refusal}
+use Rattle.mailstore.specs.declared.refusal.Refusal.TheVariants.{Memory, Store, NoUser, UserExists, BadUser, NoRow}
+use Rattle.sessions.specs.Clients.{Client, item_in}
+use Rattle.sessions.specs.Logins.{has_password}
+use Rattle.sessions.specs.Replies.{accepted, done}
+use Rattle.sessions.specs.Scripts.{Where, RepliesToCheck, obeyed}
+use Rattle.sessions.specs.Table.{needs_login, RepliesOf}
+use Rattle.sessions.specs.Turns.{login_text}
+use Rattle.mailengine.specs.declared.event.Event.{Event}
+use Rattle.mailengine.specs.declared.event.Event.TheVariants.{Step, Deliver, AddUser, TakeOut}
+use Rattle.mailengine.specs.declared.answer.Answer.{Answer}
+use Rattle.mailengine.specs.declared.answer.Answer.TheVariants.{Out, Delivered, Added, Taken, Refused}
+use Rattle.mailengine.specs.Limits.{limit_refusal, IsNewUser}
+use Rattle.mailengine.specs.AccountEvents.{row_with, Refuses, DeliversTo, rounds}
+use Rattle.mailengine.specs.World.{World, Runs}
+
+-- ---- acts
+
+-- an act of one user, with its answer: nothing of tables, of sessions or of other accounts is in it
+pub data Act : Type 0 where
+  -- a command of a session in which the user is logged in, and the octets that answer it
+  Commands : Command → List ℕ → Act
+  -- a login that names the user: its password, and whether it succeeds
+  LogsIn : List ℕ → Bool → Act
+  -- a message comes, with its envelope and its moment
+  Receives : Envelope → List ℕ → ℕ → Answer → Act
+  -- the user is to be added, with an address, a salt and a password
+  Joins : List ℕ → List ℕ → List ℕ → Answer → Act
+  -- a row of the queue is to be taken out
+  TakesOut : ℕ → Answer → Act
+
+-- ---- the machine of one account: there is one, or there is none
+
+-- what is answered to a command of the user; two of them look at no account
+abbrev pub RepliesAlone : Option Account → Command → Reply → Type 0
+RepliesAlone account Unauthenticate reply = reply ≡ done
+RepliesAlone account (CheckScript text) reply = RepliesToCheck text reply
+RepliesAlone account command reply = RepliesOf account command reply
+
+-- a command is answered by a reply of its row, and the account becomes what the reply's word says
+pub record CommandsAlone (account : Option Account) (command : Command) (octets : List ℕ) (later : Option Account) : Type 0 where
+  pub reply : Reply
+  pub replies : RepliesAlone account command reply
+  pub spells : octets ≡ spelled reply
+  pub changed : later ≡ option_map (obeyed command reply.word) account
+
+-- whether the password is the account's
+abbrev pub admits : List ℕ → Option Account → Bool
+admits password None = false
+admits password (Some a) = has_password password a.password
+
+pub record LogsInAlone (account : Option Account) (password : List ℕ) (succeeds : Bool) (later : Option Account) : Type 0 where
+  pub says : succeeds ≡ admits password account
+  pub stays : later ≡ account
+
+-- a message that no limit stands against is delivered to the account
+pub record ReceivesAlone (envelope : Envelope) (message : List ℕ) (moment : ℕ) (a : Account) (answer : Answer) (later : Option Account) : Type 0 where
+  pub report : Report
+  pub after : Account
+  pub delivers : DeliversTo moment envelope message a report after
+  pub says : answer ≡ Delivered report
+  pub changed : later ≡ Some after
+
+abbrev pub ReceivesIn : Option Refusal → Option Account → Envelope → List ℕ → ℕ → Answer → Option Account → Type 0
+ReceivesIn (Some refusal) account envelope message moment answer later = Refuses refusal account answer later
+ReceivesIn None None envelope message moment answer later = Refuses NoUser None answer later
+ReceivesIn None (Some a) envelope message moment answer later = ReceivesAlone envelope message moment a answer later
+
+-- the account of a user who was just added
+abbrev pub fresh : List ℕ → List ℕ → List ℕ → Account
+fresh address salt password = new_account address (record { salt = salt; rounds = rounds; digest = digest_of salt password rounds })
+
+pub record JoinsAlone (address salt password : List ℕ) (answer : Answer) (later : Option Account) : Type 0 where
+  pub says : answer ≡ Added
+  pub changed : later ≡ Some (fresh address salt password)
+
+abbrev pub JoinsIn : Option Account → List ℕ → List ℕ → List ℕ → Answer → Option Account → Type 0
+JoinsIn None address salt password answer later = JoinsAlone address salt password answer later
+JoinsIn (Some a) address salt password answer later = Refuses UserExists (Some a) answer later
+
+pub record TakesAlone (a : Account) (row : Outgoing) (answer : Answer) (later : Option Account) : Type 0 where
+  pub says : answer ≡ Taken row
+  pub changed : later ≡ Some (takes_out row.id a)
+
+abbrev pub TakesRowAlone : Account → Option Outgoing → Answer → Option Account → Type 0
+TakesRowAlone a None answer later = Refuses NoRow (Some a) answer later
+TakesRowAlone a (Some row) answer later = TakesAlone a row answer later
+
+abbrev pub TakesAloneIn : Option Account → ℕ → Answer → Option Account → Type 0
+TakesAloneIn None id answer later = Refuses NoUser None answer later
+TakesAloneIn (Some a) id answer later = TakesRowAlone a (row_with id a.queue) answer later
+
+-- an act of the user with this name turns the account into that
+abbrev pub ActsAlone : List ℕ → Option Account → Act → Option Account → Type 0
+ActsAlone user account (Commands command octets) later = CommandsAlone account command octets later
+ActsAlone user account (LogsIn password succeeds) later = LogsInAlone account password succeeds later
+ActsAlone user account (Receives envelope message moment answer) later = ReceivesIn (limit_refusal envelope message moment) account envelope message moment answer later
+ActsAlone user account (Joins address salt password answer) later = Where (IsNewUser user address password) (JoinsIn account address salt password answer later) (Refuses BadUser account answer later)
+ActsAlone user account (TakesOut id answer) later = TakesAloneIn account id answer later
+
+-- acts in turn, from one account or none
+abbrev pub Alone : List ℕ → Option Account → List Act → Option Account → Type 0
+Alone user account [] end = end ≡ account
+Alone user account (act ∷ acts) end = (later : Option Account) × ActsAlone user account act later × Alone user later acts end
+
+-- ---- which acts are a user's
+
+abbrev pub is_user : List ℕ → List ℕ → Bool
+is_user user name = is_eq (bytes_cmp user name)
+
+-- the act, where it is this user's
+abbrev pub when_of : List ℕ → Option (List ℕ) → Act → List Act
+when_of user None act = []
+when_of user (Some name) act = cond (is_user user name) (act ∷ []) []
+
+-- the answer to a login that succeeds
+abbrev pub welcome : List ℕ
+welcome = spelled (accepted (codes "Logged in."))
+
+abbrev pub is_welcome : List ℕ → Bool
+is_welcome octets = pointwise nat_eq octets welcome
+
+-- a login that a text says, if it says one
+abbrev pub login_acts : List ℕ → Option (List ℕ × List ℕ) → List ℕ → List Act
+login_acts user None octets = []
+login_acts user (Some login) octets = when_of user (Some login.0) (LogsIn login.1 (is_welcome octets))
+
+abbrev pub text_acts : List ℕ → Option (List ℕ) → List ℕ → List Act
+text_acts user None octets = []
+text_acts user (Some text) octets = login_acts user (login_of text) octets
+
+-- a command that needs a login is an act of the user who is logged in; another one may be a login
+abbrev pub command_acts : List ℕ → Client → Command → List ℕ → List Act
+command_acts user c command octets = cond (needs_login command) (when_of user c.user (Commands command octets)) (text_acts user (login_text c.user command) octets)
+
+abbrev pub item_acts : List ℕ → Client → Item → List ℕ → List Act
+item_acts user c (item.Command command used) octets = command_acts user c command octets
+item_acts user c _ octets = []
+
+abbrev pub step_acts : List ℕ → Option Client → Answer → List Act
+step_acts user (Some c) (Out progress octets) = cond c.closed [] (item_acts user c (item_in c) octets)
+step_acts user _ answer = []
+
+-- whether an answer is a refusal for memory or by the store
+abbrev pub is_lost : Answer → Bool
+is_lost (Refused Memory) = true
+is_lost (Refused Store) = true
+is_lost answer = false
+
+-- the acts of the user in one event, by the sessions that there are
+abbrev pub event_acts : List ℕ → World → Event → Answer → List Act
+event_acts user w (Step s) answer = step_acts user (get w.sessions s) answer
+event_acts user w (Deliver name envelope message moment) answer = when_of user (Some name) (Receives envelope message moment answer)
+event_acts user w (AddUser name address salt password) answer = when_of user (Some name) (Joins address salt password answer)
+event_acts user w (TakeOut name id) answer = when_of user (Some name) (TakesOut id answer)
+event_acts user w event answer = []
+
+abbrev pub acts_in : List ℕ → World → Event → Answer → List Act
+acts_in user w event answer = cond (is_lost answer) [] (event_acts user w event answer)
+
+-- the acts of the user along a run
+abbrev pub acts : List ℕ → (w : World) (events : List Event) (told : List Answer) (end : World) → Runs w events told end → List Act
+acts user w [] [] end run = []
+acts user w (event ∷ events) (answer ∷ told) end run = acts_in user w event answer ++ acts user run.0 events told end run.2
+acts user w [] (answer ∷ told) end run = []
+acts user w (event ∷ events) [] end run = []
+
+-- each user's account at the end of a run is what the user's acts make of the one at the start, and each answer among them is allowed
+abbrev pub IsAlone : (w : World) (events : List Event) (told : List Answer) (end : World) → Runs w events told end → Type 0
+IsAlone w events told end run = (user : List ℕ) → Alone user (get w.accounts user) (acts user w events told end run) (get end.accounts user)

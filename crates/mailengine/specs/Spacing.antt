@@ -1,0 +1,125 @@
+-- When a user answers one sender again: never within the period (RFC 5230, 4.2).
+use Rattle.std.specs.Prelude.{◌≡◌, ℕ, ◌+◌, ◌≤◌, List, [], ◌∷◌, ◌++◌, Option, Some, None}
+use mathlib.Core.Logic.{inl, inr}
+use Rattle.std.specs.FinMap.{get}
+use Rattle.octets.specs.Ascii.{lowered}
+use Rattle.sievesyntax.specs.declared.tree.vacation.VacArgs.{VacArgs}
+use Rattle.sieveexec.specs.declared.envelope.Envelope.{Envelope}
+use Rattle.vacreply.specs.Cases.{period_of}
+use Rattle.vacreply.specs.Handles.{Handle, handle_of, key_of}
+use Rattle.mailstore.specs.Account.{Account, Accounts}
+use Rattle.mailstore.specs.declared.report.Report.{Report}
+use Rattle.mailstore.specs.declared.report.VacationReport.{VacationReport}
+use Rattle.mailstore.specs.declared.report.VacationReport.TheVariants as V
+use Rattle.mailstore.specs.declared.refusal.Refusal.{Refusal}
+use Rattle.deliverplan.specs.Delivered.{Disposition, Acts, Tells}
+use Rattle.mailengine.specs.declared.event.Event.{Event}
+use Rattle.mailengine.specs.declared.event.Event.TheVariants.{Deliver}
+use Rattle.mailengine.specs.declared.answer.Answer.{Answer}
+use Rattle.mailengine.specs.Limits.{limit_refusal}
+use Rattle.mailengine.specs.AccountEvents.{DeliversTo, DeliversIn, DeliversUnder}
+use Rattle.mailengine.specs.World.{World, Happens, IsRefused, Next, Runs}
+
+-- to whom an answer went: whose it is, by what it is known, and the sender, case ignored
+pub record Thread : Type 0 where
+  pub user : List ℕ
+  pub handle : Handle
+  pub sender : List ℕ
+
+-- an answer that was sent
+pub record Entry : Type 0 where
+  pub thread : Thread
+  -- when, in seconds since 1970-01-01 UTC
+  pub moment : ℕ
+  -- for how many seconds no other one follows
+  pub period : ℕ
+
+-- ---- what a run sends
+
+abbrev pub entry_of : List ℕ → List ℕ → ℕ → VacArgs → Entry
+entry_of user sender moment args = record { thread = record { user = user; handle = handle_of args; sender = lowered sender }; moment = moment; period = period_of args }
+
+-- the entry of a `vacation` that was executed, where the report says that an answer was sent
+abbrev pub entries_if : VacationReport → List ℕ → List ℕ → ℕ → Option VacArgs → List Entry
+entries_if V.Sent user sender moment (Some args) = entry_of user sender moment args ∷ []
+entries_if vacation user sender moment reply = []
+
+-- the `vacation` that is executed where a message comes to this
+abbrev pub vacation_in : Disposition → Option VacArgs
+vacation_in (Acts deeds) = deeds.reply
+vacation_in (Tells text) = None
+
+-- of a delivery to the user's account, as it stands
+abbrev pub sent_to : List ℕ → (moment : ℕ) (envelope : Envelope) (message : List ℕ) (a : Account) (report : Report) (a2 : Account) → DeliversTo moment envelope message a report a2 → List Entry
+sent_to user moment envelope message a report a2 made = entries_if report.vacation user envelope.from moment (vacation_in made.delivers.disposition)
+
+abbrev pub sent_in : (accounts : Accounts) (user : List ℕ) (moment : ℕ) (envelope : Envelope) (message : List ℕ) (account : Option Account) (answer : Answer) (later : Accounts)
+    → DeliversIn accounts user moment envelope message account answer later → List Entry
+sent_in accounts user moment envelope message None answer later made = []
+sent_in accounts user moment envelope message (Some a) answer later made = sent_to user moment envelope message a made.report made.account made.delivers
+
+abbrev pub sent_under : (refusal : Option Refusal) (accounts : Accounts) (user : List ℕ) (moment : ℕ) (envelope : Envelope) (message : List ℕ) (answer : Answer) (later : Accounts)
+    → DeliversUnder refusal accounts user moment envelope message answer later → List Entry
+sent_under (Some refusal) accounts user moment envelope message answer later made = []
+sent_under None accounts user moment envelope message answer later made = sent_in accounts user moment envelope message (get accounts user) answer later made
+
+abbrev pub sent_by : (w : World) (event : Event) (answer : Answer) (next : World) → Happens w event answer next → List Entry
+sent_by w (Deliver user envelope message moment) answer next made = sent_under (limit_refusal envelope message moment) w.accounts user moment envelope message answer made.0 made.1
+sent_by w event answer next made = []
+
+-- of one event; one that is refused sends nothing
+abbrev pub sent_at : (w : World) (event : Event) (answer : Answer) (next : World) → Next w event answer next → List Entry
+sent_at w event answer next (inl made) = sent_by w event answer next made
+sent_at w event answer next (inr refused) = []
+
+-- the answers that a run sends, in their order
+abbrev pub sent : (w : World) (events : List Event) (told : List Answer) (end : World) → Runs w events told end → List Entry
+sent w [] [] end run = []
+sent w (event ∷ events) (answer ∷ told) end run = sent_at w event answer run.0 run.1 ++ sent run.0 events told end run.2
+sent w [] (answer ∷ told) end run = []
+sent w (event ∷ events) [] end run = []
+
+-- ---- how they are spaced
+
+-- the moment that an account keeps of an answer, if one is kept
+abbrev pub kept_in : Option Account → Thread → Option ℕ
+kept_in None thread = None
+kept_in (Some a) thread = get a.replies (key_of thread.handle, thread.sender)
+
+abbrev pub kept : Accounts → Thread → Option ℕ
+kept accounts thread = kept_in (get accounts thread.user) thread
+
+-- a moment is at least a period later than the one that is kept, if one is
+abbrev pub IsPast : Option ℕ → ℕ → ℕ → Type 0
+IsPast None period moment = Unit {0}
+IsPast (Some last) period moment = last + period ≤ moment
+
+-- each entry is its period later than what the accounts keep
+abbrev pub ComeAfter : Accounts → List Entry → Type 0
+ComeAfter accounts [] = Unit {0}
+ComeAfter accounts (entry ∷ more) = IsPast (kept accounts entry.thread) entry.period entry.moment × ComeAfter accounts more
+
+-- each of these is its period later than the entry, where it goes to the same
+abbrev pub Follow : Entry → List Entry → Type 0
+Follow entry [] = Unit {0}
+Follow entry (later ∷ more) = (entry.thread ≡ later.thread → entry.moment + later.period ≤ later.moment) × Follow entry more
+
+-- any two entries that go to the same are spaced by the later one's period
+abbrev pub AreSpaced : List Entry → Type 0
+AreSpaced [] = Unit {0}
+AreSpaced (entry ∷ more) = Follow entry more × AreSpaced more
+
+-- what is kept is at least each entry's moment
+abbrev pub IsAtLeast : Option ℕ → ℕ → Type 0
+IsAtLeast None moment = ⊥
+IsAtLeast (Some last) moment = moment ≤ last
+
+abbrev pub AreKept : Accounts → List Entry → Type 0
+AreKept accounts [] = Unit {0}
+AreKept accounts (entry ∷ more) = IsAtLeast (kept accounts entry.thread) entry.moment × AreKept accounts more
+
+-- the answers of a run, from these accounts to those
+pub record IsSpacing (start end : Accounts) (entries : List Entry) : Type 0 where
+  pub after_start : ComeAfter start entries
+  pub spaced : AreSpaced entries
+  pub kept_in_the_end : AreKept end entries

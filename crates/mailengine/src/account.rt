@@ -1,0 +1,56 @@
+//! What the engine reads of one user's account.
+ghost use Rattle.std.specs.Prelude.{◌≡◌};
+ghost use Rattle.sqlite.specs.Held.{state};
+ghost use Rattle.mailstore.specs.AccountTable.{profile_of};
+ghost use Rattle.mailengine.specs.Lookups.{LooksUp, IsActiveScript};
+
+use mailstore::{Outgoing, Profile, Refusal, Store};
+use octets::{ListOf, Octets};
+use sqlite::Alter;
+
+/// What the store keeps of an account, with the text of its active script.
+#[derive(Drop)]
+pub(crate) struct ActiveScript {
+    pub profile: Profile,
+    /// The text, if a script is active.
+    pub text: Option<Octets>,
+}
+
+/// What the store keeps of the user's account.
+pub(crate) fn profile<S: Alter>(store: &mut Store<S>, user: &[u8]) -> Result<Profile, Refusal>
+    ensures { LooksUp user.now (λ profile a. profile ≡ profile_of a) (state S.Store store.old) (state S.Store store.new) result }
+{
+    match store.account(user)? {
+        Some(profile) => Ok(profile),
+        None => Err(Refusal::NoUser),
+    }
+}
+
+/// The same, with the text of the active script. It is read by its key.
+pub(crate) fn active_script<S: Alter>(
+    store: &mut Store<S>,
+    user: &[u8],
+) -> Result<ActiveScript, Refusal>
+    ensures { LooksUp user.now IsActiveScript (state S.Store store.old) (state S.Store store.new) result }
+{
+    let profile = profile(store, user)?;
+    let Some(name) = &profile.active else {
+        return Ok(ActiveScript {
+            profile,
+            text: None,
+        });
+    };
+    let text = store.script(user, name.as_slice())?;
+    Ok(ActiveScript { profile, text })
+}
+
+/// The user's messages on their way out, in the order of their numbers.
+pub(crate) fn queue<S: Alter>(
+    store: &mut Store<S>,
+    user: &[u8],
+) -> Result<ListOf<Outgoing>, Refusal>
+    ensures { LooksUp user.now (λ queue a. queue ≡ a.queue) (state S.Store store.old) (state S.Store store.new) result }
+{
+    let _ = profile(store, user)?;
+    store.queue(user)
+}

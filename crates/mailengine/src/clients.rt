@@ -1,0 +1,106 @@
+//! Sessions by their numbers, and what happens to one.
+ghost use Rattle.std.specs.Prelude.{◌≡◌, IfOk, IsTrue};
+ghost use Rattle.sqlite.specs.Held.{state};
+ghost use Rattle.sqlite.specs.State.{HasCleanDisk, Survives};
+ghost use Rattle.mailengine.specs.declared.event.Event.TheVariants.{Open, Give, Step, GiveUp, Close};
+ghost use Rattle.mailengine.specs.Hosts.{IsSessionEvent, IsEvent, EventCrashLeaves, IsPrepared, answer_of};
+
+use crate::answer::Answer;
+use mailstore::{Refusal, Store};
+use octets::Octets;
+use sessions::{Progress, Session};
+use sqlite::Alter;
+use std::alloc::{AllocError, Global};
+use std::collections::BTreeMap;
+
+/// A client comes: it is greeted, and its session begins. A number that is open stays so.
+pub fn open(
+    alloc: Global,
+    sessions: &mut BTreeMap<u32, Session>,
+    number: u32,
+) -> Result<Answer, Refusal>
+    ensures { IsSessionEvent (Open number) (answer_of result) sessions.old sessions.new }
+{
+    if sessions.contains_key(&number) {
+        return Ok(Answer::Ignored);
+    }
+    let mut greeting = Octets::new(alloc);
+    let session = Session::new(alloc, &mut greeting)?;
+    if let Err(_) = sessions.insert(number, session) {
+        return Err(Refusal::Memory);
+    }
+    Ok(Answer::Out(Progress::Done, greeting))
+}
+
+/// Octets come from a client.
+pub fn give(
+    alloc: Global,
+    sessions: &mut BTreeMap<u32, Session>,
+    number: u32,
+    piece: &[u8],
+) -> Result<Answer, Refusal>
+    ensures { IsSessionEvent (Give number piece.now) (answer_of result) sessions.old sessions.new }
+{
+    let Some(session) = sessions.get_mut(&number) else {
+        return Ok(Answer::Ignored);
+    };
+    session.give(piece)?;
+    Ok(Answer::Out(session.progress(), Octets::new(alloc)))
+}
+
+/// The first item that a client sent is taken off and answered.
+pub fn step<S: Alter>(
+    alloc: Global,
+    sessions: &mut BTreeMap<u32, Session>,
+    store: &mut Store<S>,
+    number: u32,
+) -> Result<Answer, Refusal>
+    ensures event { IsEvent (Step number) (answer_of result) (state S.Store store.old) sessions.old (state S.Store store.new) sessions.new }
+    ensures crash { Survives (state S.Store store.old) (state S.Store store.new) (EventCrashLeaves (Step number) (state S.Store store.old) sessions.old) }
+    ensures shut { HasCleanDisk (state S.Store store.new) → IsTrue (state S.Store store.new).is_open → IsTrue (state S.Store store.old).is_open }
+{
+    let Some(session) = sessions.get_mut(&number) else {
+        return Ok(Answer::Ignored);
+    };
+    let mut out = Octets::new(alloc);
+    let progress = session.step(store, &mut out)?;
+    Ok(Answer::Out(progress, out))
+}
+
+/// What giving up on a client's first item would answer.
+pub fn text_given_up(
+    alloc: Global,
+    sessions: &BTreeMap<u32, Session>,
+    number: u32,
+) -> Result<Octets, AllocError>
+    ensures { IfOk result (IsPrepared (GiveUp number) sessions.now) }
+{
+    let Some(session) = sessions.get(&number) else {
+        return Ok(Octets::new(alloc));
+    };
+    Octets::copy(alloc, session.text_given_up())
+}
+
+/// The first item that a client sent can't be answered now, and is dropped. Takes no memory: the text that is answered is
+/// handed in.
+pub fn give_up(sessions: &mut BTreeMap<u32, Session>, number: u32, text: Octets) -> Answer
+    requires { IsPrepared (GiveUp number) sessions.old text }
+    ensures { IsSessionEvent (GiveUp number) result sessions.old sessions.new }
+{
+    let Some(session) = sessions.get_mut(&number) else {
+        return Answer::Ignored;
+    };
+    let progress = session.progress_given_up();
+    session.give_up();
+    Answer::Out(progress, text)
+}
+
+/// A client goes. Takes no memory.
+pub fn close(alloc: Global, sessions: &mut BTreeMap<u32, Session>, number: u32) -> Answer
+    ensures { IsSessionEvent (Close number) result sessions.old sessions.new }
+{
+    let Some(_) = sessions.remove(&number) else {
+        return Answer::Ignored;
+    };
+    Answer::Out(Progress::Close, Octets::new(alloc))
+}

@@ -1,0 +1,41 @@
+//! One script tried on one message.
+ghost use Rattle.std.specs.Prelude.{◌≡◌, ◌≤◌, ◌+◌, IfOk};
+ghost use Rattle.sievelex.specs.Finding.{IfFault, IfFaultLine};
+ghost use Rattle.sievelex.specs.Text.{line_ends};
+ghost use Rattle.sievesyntax.specs.Tree.{Commands};
+ghost use Rattle.sievesyntax.specs.Means.{Means};
+ghost use Rattle.sieveexec.specs.Mails.{mail_of};
+ghost use Rattle.sieveexec.specs.Outcomes.{outcome_at};
+ghost use Rattle.sieveexec.specs.Runs.{outcome_view};
+
+use deliverplan::outcome_on;
+use sieveexec::{Envelope, Mail, Outcome};
+use sievelex::ScriptError;
+use std::alloc::Global;
+
+/// What a script does with a message (RFC 5228, 2.10), or why it is no valid script.
+///
+/// Nothing is filed, sent or answered: the outcome says what would be. Script, envelope and message have no limit
+/// on their size. The script is compiled in time linear in it, and each of its tests is asked once at most; the
+/// values of a field are decoded once, where a test asks for them. Memory is in proportion to the script, to the
+/// names of the message's fields and to the values that tests ask for; the message isn't copied.
+///
+/// # Errors
+///
+/// [`ScriptError::Fault`] where the text is no valid script, and [`ScriptError::Memory`] where memory was refused.
+pub fn attempt(
+    alloc: Global,
+    script: &[u8],
+    envelope: Envelope,
+    message: &[u8],
+) -> Result<Outcome, ScriptError>
+    ensures valid { IfOk result (λ done. (tree : Commands) × Means script.now tree) }
+    ensures done { IfOk result (λ done. (tree : Commands) → Means script.now tree →
+        outcome_view done ≡ outcome_at (mail_of message.now envelope) tree) }
+    ensures fault { IfFault result ((tree : Commands) → Means script.now tree → ⊥) }
+    ensures line { IfFaultLine result (λ line.
+        (1 ≤ line) × (line ≤ 1 + line_ends script.now)) }
+{
+    let mail = Mail::read(alloc, message, envelope)?;
+    outcome_on(alloc, script, &mail)
+}

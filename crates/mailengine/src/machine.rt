@@ -1,0 +1,199 @@
+//! The machine: the accounts of a store and the sessions of its clients.
+ghost use Rattle.std.specs.Prelude.{◌≡◌, [], IsTrue, IfOk};
+ghost use Rattle.sqlite.specs.Held.{state};
+ghost use Rattle.sqlite.specs.State.{HasCleanDisk, Survives};
+ghost use Rattle.mailengine.specs.declared.event.Event.TheVariants.{Deliver};
+ghost use Rattle.mailengine.specs.Hosts as hosts;
+ghost use Rattle.mailengine.specs.Hosts.{IsEvent, EventCrashLeaves, IsPrepared, ActsDelivery};
+
+use crate::answer::Answer;
+use crate::clients::{close, give, give_up, open, step, text_given_up};
+use crate::delivery::deliver;
+use crate::event::Event;
+use crate::limits::limit_refusal;
+use crate::taking::take_out;
+use crate::user::add_user;
+use mailstore::{Outgoing, Refusal, Report, Store};
+use octets::Octets;
+use sessions::Session;
+use sieveexec::Envelope;
+use sqlite::Alter;
+use std::alloc::{AllocError, Global};
+use std::collections::BTreeMap;
+
+/// The accounts of a store and the sessions of its clients, which events change one after the other. Dropping it closes
+/// the store.
+pub struct World<S: Alter> {
+    /// Where the accounts are kept.
+    pub store: Store<S>,
+    pub(crate) sessions: BTreeMap<u32, Session>,
+    pub(crate) alloc: Global,
+}
+
+impl<S: Alter + Drop> Drop for World<S> {
+    fn drop(self) {
+        let World {
+            store: _,
+            sessions: _,
+            alloc: _,
+        } = self;
+    }
+}
+
+impl<S: Alter> World<S> {
+    /// The world whose accounts the store has, without sessions. Takes no memory.
+    pub fn new(alloc: Global, store: Store<S>) -> World<S>
+        ensures store { result.store ≡ store }
+        ensures sessions { result.sessions.entries ≡ [] }
+    {
+        World {
+            store,
+            sessions: BTreeMap::new(alloc),
+            alloc,
+        }
+    }
+
+    /// The store, with its accounts as they are; the sessions are gone. Takes no memory.
+    pub fn into_store(self) -> Store<S>
+        ensures { result ≡ self.store }
+    {
+        let World {
+            store,
+            sessions: _,
+            alloc: _,
+        } = self;
+        store
+    }
+}
+
+/// What an event answers is had before it, where it may not be refused for memory: the text of giving up.
+pub(crate) fn prepared(
+    alloc: Global,
+    sessions: &BTreeMap<u32, Session>,
+    event: &Event,
+) -> Result<Octets, AllocError>
+    ensures { IfOk result (IsPrepared event.now sessions.now) }
+{
+    match event {
+        Event::GiveUp(number) => text_given_up(alloc, sessions, *number),
+        _ => Ok(Octets::new(alloc)),
+    }
+}
+
+/// Carries out one event, in one transaction at most, and answers it. A refused event changes nothing.
+pub(crate) fn happen<S: Alter>(
+    alloc: Global,
+    store: &mut Store<S>,
+    sessions: &mut BTreeMap<u32, Session>,
+    event: &Event,
+    text: Octets,
+) -> Answer
+    requires { IsPrepared event.now sessions.old text }
+    ensures event { IsEvent event.now result (state S.Store store.old) sessions.old (state S.Store store.new) sessions.new }
+    ensures crash { Survives (state S.Store store.old) (state S.Store store.new) (EventCrashLeaves event.now (state S.Store store.old) sessions.old) }
+    ensures shut { HasCleanDisk (state S.Store store.new) → IsTrue (state S.Store store.new).is_open → IsTrue (state S.Store store.old).is_open }
+{
+    match event {
+        Event::Open(number) => answer_of(open(alloc, sessions, *number)),
+        Event::Give(number, piece) => {
+            answer_of(give(alloc, sessions, *number, piece.as_slice()))
+        }
+        Event::Step(number) => answer_of(step(alloc, sessions, store, *number)),
+        Event::GiveUp(number) => give_up(sessions, *number, text),
+        Event::Close(number) => close(alloc, sessions, *number),
+        Event::Deliver {
+            user,
+            envelope,
+            message,
+            moment,
+        } => answer_of_delivery(handed(
+            alloc,
+            store,
+            user.as_slice(),
+            envelope,
+            message.as_slice(),
+            *moment,
+        )),
+        Event::AddUser {
+            name,
+            address,
+            salt,
+            password,
+        } => answer_of_addition(add_user(
+            alloc,
+            store,
+            name.as_slice(),
+            address.as_slice(),
+            *salt,
+            password.as_slice(),
+        )),
+        Event::TakeOut { user, id } => {
+            answer_of_taking(take_out(alloc, store, user.as_slice(), *id))
+        }
+    }
+}
+
+/// A delivery with a borrowed envelope. It is copied once no limit stands against the delivery, so those causes are told
+/// without memory.
+fn handed<S: Alter>(
+    alloc: Global,
+    store: &mut Store<S>,
+    user: &[u8],
+    envelope: &Envelope,
+    message: &[u8],
+    moment: u64,
+) -> Result<Report, Refusal>
+    ensures { ActsDelivery user.now envelope.now message.now moment (state S.Store store.old) (state S.Store store.new) result }
+{
+    if let Some(refusal) = limit_refusal(envelope, message, moment) {
+        return Err(refusal);
+    }
+    let envelope = copied(alloc, envelope)?;
+    deliver(alloc, store, user, envelope, message, moment)
+}
+
+/// The same addresses.
+fn copied(alloc: Global, envelope: &Envelope) -> Result<Envelope, AllocError>
+    ensures { IfOk result (λ copy. copy ≡ envelope.now) }
+{
+    Ok(Envelope {
+        from: envelope.from.copied(alloc)?,
+        to: envelope.to.copied(alloc)?,
+    })
+}
+
+fn answer_of(done: Result<Answer, Refusal>) -> Answer
+    ensures { result ≡ hosts.answer_of done }
+{
+    match done {
+        Ok(answer) => answer,
+        Err(refusal) => Answer::Refused(refusal),
+    }
+}
+
+fn answer_of_delivery(done: Result<Report, Refusal>) -> Answer
+    ensures { result ≡ hosts.answer_of_delivery done }
+{
+    match done {
+        Ok(report) => Answer::Delivered(report),
+        Err(refusal) => Answer::Refused(refusal),
+    }
+}
+
+fn answer_of_addition(done: Result<(), Refusal>) -> Answer
+    ensures { result ≡ hosts.answer_of_addition done }
+{
+    match done {
+        Ok(()) => Answer::Added,
+        Err(refusal) => Answer::Refused(refusal),
+    }
+}
+
+fn answer_of_taking(done: Result<Outgoing, Refusal>) -> Answer
+    ensures { result ≡ hosts.answer_of_taking done }
+{
+    match done {
+        Ok(row) => Answer::Taken(row),
+        Err(refusal) => Answer::Refused(refusal),
+    }
+}

@@ -1,0 +1,6 @@
+use Rattle.std.proofs.Common.{take}
+use Rattle.mailstore.specs.Changes.{Extends, copies_added}
+use Rattle.mailstore.proofs.delivery.push_copies.Given as goal
+
+abbrev pub invariant-loop-i : goal.invariant-loop-i
+invariant-loop-i l = Extends l.user (copies_added l.user l.next l.next (take l.i l.folders)) l.initial.changes.items l.changes.items

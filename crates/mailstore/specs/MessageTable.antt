@@ -1,0 +1,55 @@
+-- The table of the messages that folders have: each is kept once.
+use Rattle.std.specs.Prelude.{◌≡◌, ◌++◌, ℕ, ℤ, pos, List, [], ◌∷◌, codes}
+use Rattle.sqlite_schema.specs.declared.schema.Kind.TheVariants as kind
+use Rattle.sqlite_schema.specs.declared.schema.Table.{Table}
+use Rattle.sqlite_value.specs.declared.value.Value.TheVariants.{Int, Blob}
+use Rattle.sqlite_value.specs.Order.{Row}
+use Rattle.sqlrows.specs.Forms.{needed, keyed}
+use Rattle.mailstore.specs.AccountTable.{to_account}
+
+abbrev pub message_tree : ℕ
+message_tree = 12
+
+-- ---- the columns
+
+abbrev pub message_id_column : ℕ
+message_id_column = 1
+
+abbrev pub bytes_column : ℕ
+bytes_column = 2
+
+abbrev pub message : Table
+message = keyed (codes "message") message_tree (1 ∷ 2 ∷ []) to_account (needed (codes "owner") kind.Blob ∷ needed (codes "id") kind.Integer ∷ needed (codes "bytes") kind.Blob ∷ [])
+
+-- ---- its statements
+
+abbrev pub create_message : List ℕ
+create_message = codes "CREATE TABLE message (owner BLOB NOT NULL REFERENCES account (name), id INTEGER NOT NULL, bytes BLOB NOT NULL, PRIMARY KEY (owner, id)) STRICT"
+
+abbrev pub insert_message : List ℕ
+insert_message = codes "INSERT INTO message (owner, id, bytes) VALUES (?1, ?2, ?3)"
+
+-- ---- its rows
+
+abbrev pub message_cells : List ℕ → ℤ → List ℕ → Row
+message_cells owner id bytes = Blob owner ∷ Int id ∷ Blob bytes ∷ []
+
+abbrev pub message_key : List ℕ → ℤ → Row
+message_key owner id = Blob owner ∷ Int id ∷ []
+
+-- a message with its number
+pub record Message : Type 0 where
+  pub id : ℕ
+  pub bytes : List ℕ
+
+abbrev pub message_row : List ℕ → Message → Row
+message_row user m = message_cells user (pos m.id) m.bytes
+
+-- the row, where there is a folder for it
+abbrev pub once_for : List (List ℕ) → Row → List Row
+once_for [] row = []
+once_for (name ∷ names) row = row ∷ []
+
+-- the user's message has one row more, however many folders there are, and none where there is no folder
+abbrev pub GainsOnce : List ℕ → List ℕ → List (List ℕ) → List Row → List Row → Type 0
+GainsOnce user bytes names rows after = (id : ℤ) × (after ≡ rows ++ once_for names (message_cells user id bytes))

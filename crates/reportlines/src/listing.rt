@@ -1,0 +1,68 @@
+//! What is printed of a user's queue and notices.
+ghost use Rattle.std.specs.Prelude.{◌≡◌, ◌++◌, IfOk, OnOk};
+ghost use Rattle.reportlines.specs.Listings.{kind_word, notice_line, notice_listing, queue_line, queue_listing};
+ghost use Rattle.reportlines.specs.Reports.{with_end};
+
+use mailstore::{Kind, Notice, Outgoing};
+use octets::{Octets, write_decimal};
+use std::alloc::{AllocError, Global};
+
+/// A line for each message on its way out, in order: `1 redirect <bob@example.net> <c@example.com> 18`, which are its
+/// number, its kind, its sender, its target and its octets.
+pub fn of_queue(alloc: Global, rows: &[Outgoing]) -> Result<Octets, AllocError>
+    ensures { IfOk result (λ text. text ≡ queue_listing rows.now) }
+{
+    let mut text = Octets::new(alloc);
+    for row in rows {
+        add_row(&mut text, row)?;
+    }
+    Ok(text)
+}
+
+/// A line for each notice, in order: `1700000000 vacation executed twice`, which are its moment in seconds since 1970 and
+/// its text.
+pub fn of_notices(alloc: Global, notices: &[Notice]) -> Result<Octets, AllocError>
+    ensures { IfOk result (λ text. text ≡ notice_listing notices.now) }
+{
+    let mut text = Octets::new(alloc);
+    for notice in notices {
+        add_notice(&mut text, notice)?;
+    }
+    Ok(text)
+}
+
+/// Appends the line of a message on its way out.
+fn add_row(text: &mut Octets, row: &Outgoing) -> Result<(), AllocError>
+    ensures { OnOk result (text.new ≡ text.old ++ with_end (queue_line row.now)) }
+{
+    write_decimal(text, row.id)?;
+    text.extend_from_slice(b" ")?;
+    text.extend_from_slice(word_of(row.kind))?;
+    text.extend_from_slice(b" <")?;
+    text.extend_from_slice(row.sender.as_slice())?;
+    text.extend_from_slice(b"> <")?;
+    text.extend_from_slice(row.target.as_slice())?;
+    text.extend_from_slice(b"> ")?;
+    write_decimal(text, row.message.len() as u64)?;
+    text.push(b'\n')
+}
+
+/// The word for why a message goes out.
+fn word_of(kind: Kind) -> &'static [u8]
+    ensures { result.now ≡ kind_word kind }
+{
+    match kind {
+        Kind::Redirect => b"redirect",
+        Kind::Reply => b"reply",
+    }
+}
+
+/// Appends the line of a notice.
+fn add_notice(text: &mut Octets, notice: &Notice) -> Result<(), AllocError>
+    ensures { OnOk result (text.new ≡ text.old ++ with_end (notice_line notice.now)) }
+{
+    write_decimal(text, notice.moment)?;
+    text.extend_from_slice(b" ")?;
+    text.extend_from_slice(notice.text.as_slice())?;
+    text.push(b'\n')
+}

@@ -1,0 +1,102 @@
+//! Clients on the loopback address, one after the other.
+use keepers::Keeper;
+use sievedrun::fault::{Fault, refuse};
+use sievedrun::session::serve_one;
+use sievedrun::values::{decimal, port_of};
+use sievedwords::Place;
+use std::alloc::Global;
+use std::io::{ErrorKind, Write};
+use std::net::{Ipv4Addr, Net, SocketAddr, TcpListener, TcpStream};
+use std::{format, io};
+
+/// `serve`, as it is written in the words.
+#[derive(Clone, Copy)]
+pub struct Service<'a> {
+    pub place: Place<'a>,
+    /// The port, in decimal.
+    pub port: &'a str,
+    /// After how many sessions to end, in decimal; never where it is left out.
+    pub sessions: Option<&'a str>,
+}
+
+/// Listens on 127.0.0.1 and serves one client after the other, whatever became of the one before. The answer is the exit
+/// status: 0 after as many sessions as were asked for.
+pub fn serve<R, W: Write, F: Write, K: Keeper>(
+    rt: &R,
+    alloc: Global,
+    service: Service<'_>,
+    output: &mut W,
+    faults: &mut F,
+    keeper: &mut K,
+) -> u8
+where
+    R: Net<Listener = TcpListener, Stream = TcpStream>,
+{
+    match served(rt, alloc, service, output, keeper) {
+        Ok(()) => 0,
+        Err(fault) => refuse(faults, fault),
+    }
+}
+
+fn served<R, W: Write, K: Keeper>(
+    rt: &R,
+    alloc: Global,
+    service: Service<'_>,
+    output: &mut W,
+    keeper: &mut K,
+) -> Result<(), Fault>
+where
+    R: Net<Listener = TcpListener, Stream = TcpStream>,
+{
+    let port = port_of(service.port)?;
+    let sessions = match service.sessions {
+        Some(text) => Some(decimal(text)?),
+        None => None,
+    };
+    let Ok(listener) = bound(rt, alloc, port, output) else {
+        return Err(Fault::Stream);
+    };
+    keeper.wait_for_lock(service.place.waits);
+    serve_all(alloc, service.place.path, &listener, sessions, keeper)
+}
+
+/// A listener on the loopback address, of which the first line of the output tells.
+fn bound<R, W: Write>(rt: &R, alloc: Global, port: u16, output: &mut W) -> io::Result<TcpListener>
+where
+    R: Net<Listener = TcpListener, Stream = TcpStream>,
+{
+    let listener = TcpListener::bind(rt, SocketAddr::from((Ipv4Addr::LOCALHOST, port)))?;
+    let told = listener.local_addr()?;
+    output.write_all(format!(in alloc; "listening on {told}\n")?.as_bytes())?;
+    output.flush()?;
+    Ok(listener)
+}
+
+/// Serves each client that connects, up to so many. A client that is gone before it is accepted is none.
+fn serve_all<K: Keeper>(
+    alloc: Global,
+    path: &str,
+    listener: &TcpListener,
+    sessions: Option<u64>,
+    keeper: &mut K,
+) -> Result<(), Fault> {
+    let mut left = sessions;
+    if left == Some(0) {
+        return Ok(());
+    }
+    for stream in listener.incoming() {
+        let stream = match stream {
+            Ok(stream) => stream,
+            Err(error) if error.kind() == ErrorKind::ConnectionAborted => continue,
+            Err(_) => return Err(Fault::Stream),
+        };
+        let (mut input, mut output) = (&stream, &stream);
+        let _ = serve_one(alloc, path, &mut input, &mut output, keeper);
+        left = match left {
+            Some(0 | 1) => return Ok(()),
+            Some(more) => Some(more - 1),
+            None => None,
+        };
+    }
+    Ok(())
+}

@@ -1,0 +1,300 @@
+-- Rounds of a session, one after the other.
+use Rattle.std.proofs.Common.{◌≡◌, ◌⊎◌, ℕ, ◌+◌, ◌≤◌, Bool, true, false, List, [], ◌∷◌, ◌++◌, length, take, Option, Some, None, Result, Ok, Err, OnOk, OnErr, IfErr, IsTrue, refl, sym, ap, ◌∙◌, subst, inl, inr, append_assoc, append-nil, arith}
+use Rattle.std.proofs.Math.Seq.{take-append_seam, take-append-add}
+use Rattle.std.proofs.lemmas.Grind.{flat_map-append}
+use Rattle.std.specs.List.{flat_map}
+use Rattle.std.specs.Io.KnownBytes.{Appends, Consumes, IsAtEnd, Keeps}
+use Rattle.sqlite.specs.Effect.{Database}
+use Rattle.sqlite.specs.State.{State, HasCleanDisk}
+use Rattle.mailstore.specs.Account.{Accounts}
+use Rattle.mailstore.specs.Schema.{no_schema, mail_schema}
+use Rattle.mailstore.specs.Shows.{Presents}
+use Rattle.mailstore.specs.declared.refusal.Refusal.{Refusal}
+use Rattle.sessions.specs.declared.progress.Progress.{Progress}
+use Rattle.sessions.specs.Acts.{Carries}
+use Rattle.sessions.specs.Clients.{Client, client_given, is_ready, new_client}
+use Rattle.sessions.specs.GivenUp.{text_given_up, client_given_up}
+use Rattle.sessions.specs.Orders.{StepsTo}
+use Rattle.sessions.specs.Replies.{capabilities}
+use Rattle.msproto.specs.Machine.{rows}
+use Rattle.msproto.specs.Replies.{spelled}
+use Rattle.sievedrun.specs.declared.fault.Fault.{Fault}
+use Rattle.sievedrun.specs.Serving.{Round, IsRound, Leads, came_in, said_in, largest_piece, Tells, BeginsWith, Passes, Answered, Interrupted, AnswersFirst, AnswersAll, StepsOn, Served, BreaksOff}
+use Rattle.sievedrun.specs.Streams.{AppendsFront}
+use Rattle.sievedrun.proofs.StreamLemmas.{nothing_read, nothing_written, read_on, written_on}
+
+-- ---- a step over a store that saw what was held, and was handed back, open and over a disk that keeps what is written
+
+module _ (held new : Database) (taken given : State) (seen : taken.now ≡ held) (clean : HasCleanDisk given) (live : IsTrue given.is_open) (back : new ≡ given.now) (c d : Client) (before behind : List ℕ) where
+  pub step_made : (progress : Progress) (r : Result Progress Refusal) → r ≡ Ok progress → Carries (StepsTo c d r before behind) taken given → (accounts : Accounts) → Presents held accounts → StepsOn accounts c before behind d new true
+  step_made progress r is carries accounts shown =
+      let carried = carries clean accounts (λ _. subst (λ db. Presents db accounts) (sym seen) shown) in
+      let turn = subst (λ x. StepsTo c d x before behind accounts carried.0) is carried.1 in
+      (progress, turn.0, carried.0, turn.1, turn.2, subst (λ db. Presents db carried.0) (sym back) (carried.2 live))
+
+  pub step_refused : (refusal : Refusal) (r : Result Progress Refusal) → r ≡ Err refusal → Carries (StepsTo c d r before behind) taken given → d ≡ c → behind ≡ before → (accounts : Accounts) → Presents held accounts → StepsOn accounts c before behind d new false
+  step_refused refusal r is carries same silent accounts shown =
+      let carried = carries clean accounts (λ _. subst (λ db. Presents db accounts) (sym seen) shown) in
+      let turn : carried.0 ≡ accounts = subst (λ x. StepsTo c d x before behind accounts carried.0) is carried.1 in
+      (same, silent, subst (λ db. Presents db accounts) (sym back) (subst (λ a. Presents given.now a) turn (carried.2 live)))
+
+-- ---- rounds
+
+pub leads_on : (accounts : Accounts) (c : Client) (rounds more : List Round) (mid : Accounts) (m : Client) (later : Accounts) (d : Client) → Leads accounts c rounds mid m → Leads mid m more later d → Leads accounts c (rounds ++ more) later d
+leads_on accounts c [] more mid m later d here next = subst (λ a. Leads a c more later d) here.0 (subst (λ x. Leads mid x more later d) here.1 next)
+leads_on accounts c (r ∷ rounds) more mid m later d here next = (here.0, leads_on r.accounts r.client rounds more mid m later d here.1 next)
+
+pub passes_on : (accounts : Accounts) (c m d : Client) (rounds more : List Round) (mid new : Database) (p : Passes accounts c rounds m mid) → Passes p.later m more d new → Passes accounts c (rounds ++ more) d new
+passes_on accounts c m d rounds more mid new p q = record { later = q.later; leads = leads_on accounts c rounds more p.later m q.later d p.leads q.leads; shown = q.shown }
+
+pub passes_none : (accounts : Accounts) (c : Client) (new : Database) → Presents new accounts → Passes accounts c [] c new
+passes_none accounts c new shown = record { later = accounts; leads = (refl, refl); shown = shown }
+
+pub passes_one : (accounts : Accounts) (c : Client) (r : Round) (new : Database) → IsRound accounts c r → Presents new r.accounts → Passes accounts c (r ∷ []) r.client new
+passes_one accounts c r new round shown = record { later = r.accounts; leads = (round, (refl, refl)); shown = shown }
+
+-- ---- what is written, and what waits
+
+-- a front of a text behind all of another
+pub front_on : (a b c : Option (List ℕ)) (first text : List ℕ) → Appends a b first → AppendsFront b c text → AppendsFront a c (first ++ text)
+front_on a b c first text before more = (length first + more.0, subst (Appends a c) (sym (take-append-add first text more.0)) (written_on a b c first (take more.0 text) before more.1))
+
+-- all of a text is a front of it
+pub front_all : (a b : Option (List ℕ)) (first text : List ℕ) → Appends a b first → AppendsFront a b (first ++ text)
+front_all a b first text before = (length first, subst (Appends a b) (sym (take-append_seam first text)) before)
+
+pub tells_on : (a b c : Option (List ℕ)) (one two three text more : List ℕ) → Tells a one b two text → Tells b two c three more → Tells a one c three (text ++ more)
+tells_on a b c one two three text more first second = record {
+  written = first.written ++ second.written;
+  appends = written_on a b c first.written second.written first.appends second.appends;
+  whole = append_assoc first.written second.written three ∙ ap (λ l. first.written ++ l) second.whole ∙ sym (append_assoc first.written two more) ∙ ap (λ l. l ++ more) first.whole ∙ append_assoc one text more;
+}
+
+-- a write that failed behind what was told: a front of it all is written
+pub tells_front : (a b c : Option (List ℕ)) (one two text more : List ℕ) → Tells a one b two text → AppendsFront b c (two ++ more) → AppendsFront a c (one ++ (text ++ more))
+tells_front a b c one two text more first front =
+    subst (AppendsFront a c) (sym (append_assoc first.written two more) ∙ ap (λ l. l ++ more) first.whole ∙ append_assoc one text more) (front_on a b c first.written (two ++ more) first.appends front)
+
+-- ---- what was answered
+
+pub answered_none : (accounts : Accounts) (c : Client) (out : Option (List ℕ)) (waits : List ℕ) (new : Database) → Presents new accounts → Answered accounts c out waits out waits c new
+answered_none accounts c out waits new shown = record {
+  rounds = [];
+  passes = passes_none accounts c new shown;
+  none = refl;
+  told = record { written = []; appends = nothing_written out; whole = sym (append-nil waits) };
+}
+
+pub answered_on : (accounts : Accounts) (c m d : Client) (out out2 out3 : Option (List ℕ)) (waits waits2 waits3 : List ℕ) (mid new : Database) → Answered accounts c out waits out2 waits2 m mid
+    → ((a : Accounts) → Presents mid a → Answered a m out2 waits2 out3 waits3 d new) → Answered accounts c out waits out3 waits3 d new
+answered_on accounts c m d out out2 out3 waits waits2 waits3 mid new first then =
+    let second = then first.passes.later first.passes.shown in
+    record {
+      rounds = first.rounds ++ second.rounds;
+      passes = passes_on accounts c m d first.rounds second.rounds mid new first.passes second.passes;
+      none = flat_map-append (λ (r : Round). r.came) first.rounds second.rounds ∙ ap (λ l. l ++ came_in second.rounds) first.none ∙ second.none;
+      told = subst (Tells out waits out3 waits3) (sym (flat_map-append (λ (r : Round). r.said) first.rounds second.rounds)) (tells_on out out2 out3 waits waits2 waits3 (said_in first.rounds) (said_in second.rounds) first.told second.told);
+    }
+
+pub interrupted_on : (accounts : Accounts) (c m : Client) (out out2 out3 : Option (List ℕ)) (waits waits2 : List ℕ) (mid new : Database) → Answered accounts c out waits out2 waits2 m mid
+    → ((a : Accounts) → Presents mid a → Interrupted a m out2 waits2 out3 new) → Interrupted accounts c out waits out3 new
+interrupted_on accounts c m out out2 out3 waits waits2 mid new first then =
+    let second = then first.passes.later first.passes.shown in
+    record {
+      rounds = first.rounds ++ second.rounds;
+      client = second.client;
+      passes = passes_on accounts c m second.client first.rounds second.rounds mid new first.passes second.passes;
+      none = flat_map-append (λ (r : Round). r.came) first.rounds second.rounds ∙ ap (λ l. l ++ came_in second.rounds) first.none ∙ second.none;
+      written = subst (λ l. AppendsFront out out3 (waits ++ l)) (sym (flat_map-append (λ (r : Round). r.said) first.rounds second.rounds)) (tells_front out out2 out3 waits waits2 (said_in first.rounds) (said_in second.rounds) first.told second.written);
+    }
+
+-- no round came, and a front of what waited is written
+pub interrupted_none : (accounts : Accounts) (c : Client) (out out2 : Option (List ℕ)) (waits : List ℕ) (new : Database) → Presents new accounts → AppendsFront out out2 waits → Interrupted accounts c out waits out2 new
+interrupted_none accounts c out out2 waits new shown front = record {
+  rounds = [];
+  client = c;
+  passes = passes_none accounts c new shown;
+  none = refl;
+  written = subst (AppendsFront out out2) (sym (append-nil waits)) front;
+}
+
+-- what was answered counts as interrupted, where no more is written
+pub interrupted_so : (accounts : Accounts) (c d : Client) (out out2 : Option (List ℕ)) (waits waits2 : List ℕ) (new : Database) → Answered accounts c out waits out2 waits2 d new → Interrupted accounts c out waits out2 new
+interrupted_so accounts c d out out2 waits waits2 new a = record {
+  rounds = a.rounds;
+  client = d;
+  passes = a.passes;
+  none = a.none;
+  written = subst (AppendsFront out out2) a.told.whole (front_all out out2 a.told.written waits2 a.told.appends);
+}
+
+-- ---- what comes first
+
+-- a step answers it
+pub first_stepped : (accounts : Accounts) (c d : Client) (out : Option (List ℕ)) (waits waits2 : List ℕ) (new : Database) → is_ready c ≡ true → StepsOn accounts c waits waits2 d new true → Answered accounts c out waits out waits2 d new
+first_stepped accounts c d out waits waits2 new ready step =
+    let r : Round = record { came = []; said = step.1; accounts = step.2; client = d } in
+    record {
+      rounds = r ∷ [];
+      passes = passes_one accounts c r new (inr (inl (record { ready = ready; none = refl; progress = step.0; step = step.4 }))) step.5;
+      none = refl;
+      told = record { written = []; appends = nothing_written out; whole = step.3 ∙ ap (λ l. waits ++ l) (sym (append-nil step.1)) };
+    }
+
+-- a step answers it, and the answers are written, or that fails
+pub first_written : (accounts : Accounts) (c d : Client) (out out2 : Option (List ℕ)) (waits waits2 waits3 : List ℕ) (new : Database) → Answered accounts c out waits out waits2 d new
+    → (r : Result (Unit {0}) Fault) → OnOk r (Appends out out2 waits2 × (waits3 ≡ [])) → OnErr r (AppendsFront out out2 waits2) → AnswersFirst accounts c out waits out2 waits3 d new r
+first_written accounts c d out out2 waits waits2 waits3 new a (Ok done) whole broken =
+    let rest : Tells out waits2 out2 waits3 [] = record { written = waits2; appends = whole.0; whole = ap (λ l. waits2 ++ l) whole.1 } in
+    record {
+      rounds = a.rounds;
+      passes = a.passes;
+      none = a.none;
+      told = subst (Tells out waits out2 waits3) (append-nil (said_in a.rounds)) (tells_on out out out2 waits waits2 waits3 (said_in a.rounds) [] a.told rest);
+    }
+first_written accounts c d out out2 waits waits2 waits3 new a (Err fault) whole broken = record {
+  rounds = a.rounds;
+  client = d;
+  passes = a.passes;
+  none = a.none;
+  written = subst (λ l. AppendsFront out out2 (waits ++ l)) (append-nil (said_in a.rounds)) (tells_front out out out2 waits waits2 (said_in a.rounds) [] a.told (subst (AppendsFront out out2) (sym (append-nil waits2)) broken));
+}
+
+-- it is given up, behind what waited, or that can't be written
+pub first_given_up : (accounts : Accounts) (c d : Client) (out out2 out3 : Option (List ℕ)) (waits waits2 text : List ℕ) (new : Database) → is_ready c ≡ true → Presents new accounts → text ≡ text_given_up c → d ≡ client_given_up c
+    → Appends out out2 waits → waits2 ≡ [] → (r : Result (Unit {0}) Fault) → OnOk r (Appends out2 out3 text) → OnErr r (AppendsFront out2 out3 text) → AnswersFirst accounts c out waits out3 waits2 d new r
+first_given_up accounts c d out out2 out3 waits waits2 text new ready shown told drops before empty (Ok done) behind broken =
+    let r : Round = record { came = []; said = text; accounts = accounts; client = d } in
+    record {
+      rounds = r ∷ [];
+      passes = passes_one accounts c r new (inr (inr (record { ready = ready; none = refl; told = told; drops = drops; same = refl }))) shown;
+      none = refl;
+      told = record { written = waits ++ text; appends = written_on out out2 out3 waits text before behind; whole = ap (λ l. (waits ++ text) ++ l) empty ∙ append-nil (waits ++ text) ∙ ap (λ l. waits ++ l) (sym (append-nil text)) };
+    }
+first_given_up accounts c d out out2 out3 waits waits2 text new ready shown told drops before empty (Err fault) behind broken =
+    let r : Round = record { came = []; said = text; accounts = accounts; client = d } in
+    record {
+      rounds = r ∷ [];
+      client = d;
+      passes = passes_one accounts c r new (inr (inr (record { ready = ready; none = refl; told = told; drops = drops; same = refl }))) shown;
+      none = refl;
+      written = subst (λ l. AppendsFront out out3 (waits ++ l)) (sym (append-nil text)) (front_on out out2 out3 waits text before broken);
+    }
+
+-- ---- all that is whole
+
+-- what waits is written, or that fails
+pub all_written : (accounts : Accounts) (c d : Client) (out out2 out3 : Option (List ℕ)) (waits : List ℕ) (new : Database) → Answered accounts c out [] out2 waits d new → is_ready d ≡ false
+    → (r : Result (Unit {0}) Fault) → OnOk r (Appends out2 out3 waits) → OnErr r (AppendsFront out2 out3 waits) → AnswersAll accounts c out out3 d new r
+all_written accounts c d out out2 out3 waits new a idle (Ok done) whole broken =
+    let rest : Tells out2 waits out3 [] [] = record { written = waits; appends = whole; whole = refl } in (
+      record {
+        rounds = a.rounds;
+        passes = a.passes;
+        none = a.none;
+        told = subst (Tells out [] out3 []) (append-nil (said_in a.rounds)) (tells_on out out2 out3 [] waits [] (said_in a.rounds) [] a.told rest);
+      },
+      idle,
+    )
+all_written accounts c d out out2 out3 waits new a idle (Err fault) whole broken = record {
+  rounds = a.rounds;
+  client = d;
+  passes = a.passes;
+  none = a.none;
+  written = subst (AppendsFront out out3) (append-nil (said_in a.rounds)) (tells_front out out2 out3 [] waits (said_in a.rounds) [] a.told (subst (AppendsFront out2 out3) (sym (append-nil waits)) broken));
+}
+
+-- what was taken off a reader stood first
+pub begins_with : (old new : Option (List ℕ)) (text : List ℕ) → Consumes old new text → BeginsWith old text
+begins_with None new text took = tt
+begins_with (Some left) None text took = absurd took
+begins_with (Some left) (Some rest) text took = (rest, took)
+
+-- ---- a whole session
+
+-- the greeting is written
+pub served_first : (accounts : Accounts) (input out out2 : Option (List ℕ)) (c : Client) (greeting : List ℕ) (new : Database) → Presents new accounts → c ≡ new_client → greeting ≡ spelled (capabilities None) → Appends out out2 greeting
+    → Served accounts input input out out2 c new
+unfolding rows
+served_first accounts input out out2 c greeting new shown is told written = record {
+  rounds = [];
+  passes = subst (λ x. Passes accounts new_client [] x new) (sym is) (passes_none accounts new_client new shown);
+  read = nothing_read input;
+  written = subst (Appends out out2) (told ∙ sym (append-nil (spelled (capabilities None)))) written;
+  answered = subst (λ x. is_ready x ≡ false) (sym is) refl;
+}
+
+-- a front of it is written, or none
+pub broken_first : (accounts : Accounts) (input out out2 : Option (List ℕ)) (greeting : List ℕ) (new : Database) → Presents new accounts → greeting ≡ spelled (capabilities None) → AppendsFront out out2 greeting → BreaksOff accounts input out out2 new
+broken_first accounts input out out2 greeting new shown told front = record {
+  rounds = [];
+  client = new_client;
+  passes = passes_none accounts new_client new shown;
+  read = begins_with input input [] (nothing_read input);
+  written = subst (AppendsFront out out2) (told ∙ sym (append-nil (spelled (capabilities None)))) front;
+}
+
+-- nothing more comes of a session that was served so far
+pub broken_served : (accounts : Accounts) (in_old in_new out out2 : Option (List ℕ)) (c : Client) (new : Database) → Served accounts in_old in_new out out2 c new → BreaksOff accounts in_old out out2 new
+broken_served accounts in_old in_new out out2 c new s = record {
+  rounds = s.rounds;
+  client = c;
+  passes = s.passes;
+  read = begins_with in_old in_new (came_in s.rounds) s.read;
+  written = subst (AppendsFront out out2) (append-nil (spelled (capabilities None) ++ said_in s.rounds)) (front_all out out2 (spelled (capabilities None) ++ said_in s.rounds) [] s.written);
+}
+
+-- the end of the input was read
+pub served_at_end : (accounts : Accounts) (in_old in_mid in_new out out2 : Option (List ℕ)) (c : Client) (new : Database) → Served accounts in_old in_mid out out2 c new → Consumes in_mid in_new [] → Served accounts in_old in_new out out2 c new
+served_at_end accounts in_old in_mid in_new out out2 c new s nothing = record {
+  rounds = s.rounds;
+  passes = s.passes;
+  read = subst (Consumes in_old in_new) (append-nil (came_in s.rounds)) (read_on in_old in_mid in_new (came_in s.rounds) [] s.read nothing);
+  written = s.written;
+  answered = s.answered;
+}
+
+-- a piece came, and all that is whole was answered
+module _ (accounts : Accounts) (in_old in_mid in_new out out2 out3 : Option (List ℕ)) (piece : List ℕ) (c m d : Client) (mid new : Database) (s : Served accounts in_old in_mid out out2 c mid)
+    (took : Consumes in_mid in_new piece) (short : length piece ≤ largest_piece) (joins : m ≡ client_given piece c) where
+  abbrev heard : Round
+  heard = record { came = piece; said = []; accounts = s.passes.later; client = m }
+
+  came : Passes accounts new_client (s.rounds ++ heard ∷ []) m mid
+  came = passes_on accounts new_client c m s.rounds (heard ∷ []) mid mid s.passes (passes_one s.passes.later c heard mid (inl (record { waits = s.answered; short = short; silent = refl; joins = joins; same = refl })) s.passes.shown)
+
+  came_with : (more : List Round) → came_in more ≡ [] → came_in s.rounds ++ piece ≡ came_in ((s.rounds ++ heard ∷ []) ++ more)
+  came_with more none =
+      let outer = flat_map-append (λ (r : Round). r.came) (s.rounds ++ heard ∷ []) more in
+      let inner = flat_map-append (λ (r : Round). r.came) s.rounds (heard ∷ []) in
+      sym (outer ∙ ap (λ l. came_in (s.rounds ++ heard ∷ []) ++ l) none ∙ append-nil (came_in (s.rounds ++ heard ∷ [])) ∙ inner ∙ ap (λ l. came_in s.rounds ++ l) (append-nil piece))
+
+  said_with : (more : List Round) → (spelled (capabilities None) ++ said_in s.rounds) ++ said_in more ≡ spelled (capabilities None) ++ said_in ((s.rounds ++ heard ∷ []) ++ more)
+  said_with more =
+      let outer = flat_map-append (λ (r : Round). r.said) (s.rounds ++ heard ∷ []) more in
+      let inner = flat_map-append (λ (r : Round). r.said) s.rounds (heard ∷ []) in
+      append_assoc (spelled (capabilities None)) (said_in s.rounds) (said_in more) ∙ ap (λ l. spelled (capabilities None) ++ l) (sym (outer ∙ ap (λ l. l ++ said_in more) (inner ∙ append-nil (said_in s.rounds))))
+
+  pub served_on : ((a : Accounts) → Presents mid a → Answered a m out2 [] out3 [] d new × (is_ready d ≡ false)) → Served accounts in_old in_new out out3 d new
+  served_on then =
+      let (more, idle) = then came.later came.shown in
+      let all = more.told.whole in
+      let told : Appends out2 out3 (said_in more.rounds) = subst (Appends out2 out3) (sym (append-nil more.told.written) ∙ all) more.told.appends in
+      record {
+        rounds = (s.rounds ++ heard ∷ []) ++ more.rounds;
+        passes = passes_on accounts new_client m d (s.rounds ++ heard ∷ []) more.rounds mid new came more.passes;
+        read = subst (Consumes in_old in_new) (came_with more.rounds more.none) (read_on in_old in_mid in_new (came_in s.rounds) piece s.read took);
+        written = subst (Appends out out3) (said_with more.rounds) (written_on out out2 out3 (spelled (capabilities None) ++ said_in s.rounds) (said_in more.rounds) s.written told);
+        answered = idle;
+      }
+
+  pub broken_on : ((a : Accounts) → Presents mid a → Interrupted a m out2 [] out3 new) → BreaksOff accounts in_old out out3 new
+  broken_on then =
+      let more = then came.later came.shown in
+      record {
+        rounds = (s.rounds ++ heard ∷ []) ++ more.rounds;
+        client = more.client;
+        passes = passes_on accounts new_client m more.client (s.rounds ++ heard ∷ []) more.rounds mid new came more.passes;
+        read = begins_with in_old in_new (came_in ((s.rounds ++ heard ∷ []) ++ more.rounds)) (subst (Consumes in_old in_new) (came_with more.rounds more.none) (read_on in_old in_mid in_new (came_in s.rounds) piece s.read took));
+        written = subst (AppendsFront out out3) (said_with more.rounds) (front_on out out2 out3 (spelled (capabilities None) ++ said_in s.rounds) (said_in more.rounds) s.written more.written);
+      }

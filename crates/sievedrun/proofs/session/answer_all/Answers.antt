@@ -1,0 +1,46 @@
+-- Rounds before, and the one of what comes first; then what waits is written.
+use Rattle.std.proofs.Common.{◌≡◌, [], Err, false, rules, sym, subst}
+use Rattle.sessions.specs.Clients.{is_ready}
+use Rattle.sievedrun.specs.Serving.{Answered, AnswersAll}
+use Rattle.sievedrun.proofs.ServingLemmas.{answered_none, answered_on, interrupted_on, interrupted_so, all_written}
+use Rattle.sievedrun.proofs.session.answer_all.Goals as goal
+
+pub loop-init : goal.loop-init
+loop-init g c =
+    let empty : c.new-answers.result ≡ [] = search rules in
+    record {
+      back = λ h. h;
+      answered = λ tells accounts shown. subst (λ w. Answered accounts c.args.session.now.client (g.W.Write.contents c.args.output.now) [] (g.W.Write.contents c.args.output.now) w c.args.session.now.client (g.K.Keeper.holds c.args.keeper.now)) (sym empty)
+          (answered_none accounts c.args.session.now.client (g.W.Write.contents c.args.output.now) [] (g.K.Keeper.holds c.args.keeper.now) shown);
+      none = λ tells h. h;
+    }
+
+pub loop-preserved : goal.loop-preserved
+loop-preserved g c =
+    let was = c.loop.invariant in
+    let now = c.in_ok-answer_first.ensures in
+    record {
+      back = λ h. now.back (was.back h);
+      answered = λ tells accounts shown.
+          answered_on accounts c.args.session.now.client c.loop.session.client c.answer_first.new.session.client (g.W.Write.contents c.args.output.now) (g.W.Write.contents c.loop.output) (g.W.Write.contents c.answer_first.new.output)
+          [] c.loop.answers c.answer_first.new.answers (g.K.Keeper.holds c.loop.keeper) (g.K.Keeper.holds c.answer_first.new.keeper) (was.answered tells accounts shown) (now.answers tells);
+      none = λ tells h. now.none tells (was.none tells h);
+    }
+
+pub returns-then-not-ready-clause-answers : goal.returns-then-not-ready-clause-answers
+returns-then-not-ready-clause-answers g c tells accounts shown =
+    let idle : is_ready c.loop.session.client ≡ false = search rules in
+    let text : c.as_slice.result.now ≡ c.loop.answers = search rules in
+    all_written accounts c.args.session.now.client c.loop.session.client (g.W.Write.contents c.args.output.now) (g.W.Write.contents c.loop.output) (g.W.Write.contents c.write_all.new.output) c.as_slice.result.now
+    (g.K.Keeper.holds c.loop.keeper) (rw text (c.loop.invariant.answered tells accounts shown)) idle c.write_all.result c.write_all.ensures.ok c.write_all.ensures.err
+
+pub returns-in_err-answer_first-clause-answers : goal.returns-in_err-answer_first-clause-answers
+returns-in_err-answer_first-clause-answers g c tells accounts shown =
+    let is : c.from_residual.result ≡ Err c.in_err-answer_first.field-0.0 = search rules in
+    subst (AnswersAll accounts c.args.session.now.client (g.W.Write.contents c.args.output.now) (g.W.Write.contents c.answer_first.new.output) c.answer_first.new.session.client (g.K.Keeper.holds c.answer_first.new.keeper)) (sym is)
+    (interrupted_on accounts c.args.session.now.client c.loop.session.client (g.W.Write.contents c.args.output.now) (g.W.Write.contents c.loop.output) (g.W.Write.contents c.answer_first.new.output) [] c.loop.answers
+    (g.K.Keeper.holds c.loop.keeper) (g.K.Keeper.holds c.answer_first.new.keeper) (c.loop.invariant.answered tells accounts shown) (c.in_err-answer_first.ensures.answers tells))
+
+pub returns-clause-answers : goal.returns-clause-answers
+returns-clause-answers g c tells accounts shown =
+    interrupted_so accounts c.args.session.now.client c.loop.session.client (g.W.Write.contents c.args.output.now) (g.W.Write.contents c.loop.output) [] c.loop.answers (g.K.Keeper.holds c.loop.keeper) (c.loop.invariant.answered tells accounts shown)

@@ -1,0 +1,89 @@
+-- A piece comes, and all that is whole is answered; or the session ends there, or breaks off.
+use Rattle.std.proofs.Common.{◌≡◌, ◌≤◌, ℕ, List, [], Option, None, Some, Ok, Err, unwrap_or, length, take, drop, refl, sym, ap, ◌∙◌, subst, inl, inr, true, rules, arith}
+use Rattle.std.proofs.lemmas.List.{length-take}
+use Rattle.std.specs.Io.KnownBytes.{Consumes}
+use Rattle.mailstore.specs.Account.{Accounts}
+use Rattle.sessions.specs.Clients.{client_given}
+use Rattle.sievedrun.specs.declared.fault.Fault.TheVariants.{Memory}
+use Rattle.sievedrun.specs.Serving.{Converses, Served}
+use Rattle.sievedrun.proofs.ServingLemmas.{broken_served, served_at_end, served_on, broken_on}
+use Rattle.sievedrun.proofs.session.converse.Goals as goal
+
+pub returns-in_err-len-clause-serves : goal.returns-in_err-len-clause-serves
+returns-in_err-len-clause-serves g c tells accounts first_in first_out first =
+    let is : c.from_residual.result ≡ Err c.in_err-len.field-0.0 = search rules in
+    subst (Converses accounts first_in (g.R.Read.remaining c.read_at.new.input) first_out (g.W.Write.contents c.loop.output) (g.K.Keeper.holds c.loop.keeper)) (sym is)
+    (broken_served accounts first_in (g.R.Read.remaining c.loop.input) first_out (g.W.Write.contents c.loop.output) c.loop.session.client (g.K.Keeper.holds c.loop.keeper) (c.loop.invariant.served tells accounts first_in first_out first))
+
+pub returns-in_default-clause-serves : goal.returns-in_default-clause-serves
+returns-in_default-clause-serves g c tells accounts first_in first_out first =
+    let none : unwrap_or c.in_ok-len.field-0 0 ≡ 0 = ap (λ o. unwrap_or o 0) c.in_default.is in
+    let nothing : Consumes (g.R.Read.remaining c.loop.input) (g.R.Read.remaining c.read_at.new.input) [] = subst (λ n. Consumes (g.R.Read.remaining c.loop.input) (g.R.Read.remaining c.read_at.new.input) (take n (drop 0 c.read_at.new.room))) none c.in_ok-len.ensures.read in
+    record {
+      client = c.loop.session.client;
+      served = served_at_end accounts first_in (g.R.Read.remaining c.loop.input) (g.R.Read.remaining c.read_at.new.input) first_out (g.W.Write.contents c.loop.output) c.loop.session.client (g.K.Keeper.holds c.loop.keeper)
+          (c.loop.invariant.served tells accounts first_in first_out first) nothing;
+      over = inr (c.in_ok-len.ensures.end (ap (λ (o : Option ℕ). Ok o) c.in_default.is));
+    }
+
+pub returns-in_err-give-clause-serves : goal.returns-in_err-give-clause-serves
+returns-in_err-give-clause-serves g c tells accounts first_in first_out first =
+    let is : c.from_residual-in_err-give.result ≡ Err Memory = search rules in
+    subst (Converses accounts first_in (g.R.Read.remaining c.read_at.new.input) first_out (g.W.Write.contents c.loop.output) (g.K.Keeper.holds c.loop.keeper)) (sym is)
+    (broken_served accounts first_in (g.R.Read.remaining c.loop.input) first_out (g.W.Write.contents c.loop.output) c.loop.session.client (g.K.Keeper.holds c.loop.keeper) (c.loop.invariant.served tells accounts first_in first_out first))
+
+pub returns-in_err-answer_all-clause-serves : goal.returns-in_err-answer_all-clause-serves
+returns-in_err-answer_all-clause-serves g c tells accounts first_in first_out first =
+    let len = c.in-Some.len in
+    let room = c.read_at.new.room in
+    let came : unwrap_or c.in_ok-len.field-0 0 ≡ len = ap (λ o. unwrap_or o 0) c.in-Some.is in
+    let took : Consumes (g.R.Read.remaining c.loop.input) (g.R.Read.remaining c.read_at.new.input) (take len room) = subst (λ n. Consumes (g.R.Read.remaining c.loop.input) (g.R.Read.remaining c.read_at.new.input) (take n (drop 0 room))) came c.in_ok-len.ensures.read in
+    let whole : length room ≡ 4096 = search rules in
+    let short : length (take len room) ≤ 4096 = omega (arith, whole, length-take len room) in
+    let joins : c.give.new.self.client ≡ client_given (take len room) c.loop.session.client = search rules in
+    let is : c.from_residual-in_err-answer_all.result ≡ Err c.in_err-answer_all.field-0.0 = search rules in
+    subst (Converses accounts first_in (g.R.Read.remaining c.read_at.new.input) first_out (g.W.Write.contents c.answer_all.new.output) (g.K.Keeper.holds c.answer_all.new.keeper)) (sym is)
+    (broken_on accounts first_in (g.R.Read.remaining c.loop.input) (g.R.Read.remaining c.read_at.new.input) first_out (g.W.Write.contents c.loop.output) (g.W.Write.contents c.answer_all.new.output) (take len room)
+    c.loop.session.client c.give.new.self.client c.answer_all.new.session.client (g.K.Keeper.holds c.loop.keeper) (g.K.Keeper.holds c.answer_all.new.keeper) (c.loop.invariant.served tells accounts first_in first_out first) took short joins
+    (c.in_err-answer_all.ensures.answers tells))
+
+pub returns-then-is_closed-clause-serves : goal.returns-then-is_closed-clause-serves
+returns-then-is_closed-clause-serves g c tells accounts first_in first_out first =
+    let len = c.in-Some.len in
+    let room = c.read_at.new.room in
+    let came : unwrap_or c.in_ok-len.field-0 0 ≡ len = ap (λ o. unwrap_or o 0) c.in-Some.is in
+    let took : Consumes (g.R.Read.remaining c.loop.input) (g.R.Read.remaining c.read_at.new.input) (take len room) = subst (λ n. Consumes (g.R.Read.remaining c.loop.input) (g.R.Read.remaining c.read_at.new.input) (take n (drop 0 room))) came c.in_ok-len.ensures.read in
+    let whole : length room ≡ 4096 = search rules in
+    let short : length (take len room) ≤ 4096 = omega (arith, whole, length-take len room) in
+    let joins : c.give.new.self.client ≡ client_given (take len room) c.loop.session.client = search rules in
+    let shut : c.answer_all.new.session.client.closed ≡ true = search rules in
+    record {
+      client = c.answer_all.new.session.client;
+      served = served_on accounts first_in (g.R.Read.remaining c.loop.input) (g.R.Read.remaining c.read_at.new.input) first_out (g.W.Write.contents c.loop.output) (g.W.Write.contents c.answer_all.new.output) (take len room)
+          c.loop.session.client c.give.new.self.client c.answer_all.new.session.client (g.K.Keeper.holds c.loop.keeper) (g.K.Keeper.holds c.answer_all.new.keeper) (c.loop.invariant.served tells accounts first_in first_out first) took short joins
+          (c.in_ok-answer_all.ensures.answers tells);
+      over = inl shut;
+    }
+
+pub loop-preserved : goal.loop-preserved
+loop-preserved g c =
+    let len = c.in-Some.len in
+    let room = c.read_at.new.room in
+    let came : unwrap_or c.in_ok-len.field-0 0 ≡ len = ap (λ o. unwrap_or o 0) c.in-Some.is in
+    let took : Consumes (g.R.Read.remaining c.loop.input) (g.R.Read.remaining c.read_at.new.input) (take len room) = subst (λ n. Consumes (g.R.Read.remaining c.loop.input) (g.R.Read.remaining c.read_at.new.input) (take n (drop 0 room))) came c.in_ok-len.ensures.read in
+    let whole : length room ≡ 4096 = search rules in
+    let short : length (take len room) ≤ 4096 = omega (arith, whole, length-take len room) in
+    let joins : c.give.new.self.client ≡ client_given (take len room) c.loop.session.client = search rules in
+    let was = c.loop.invariant in
+    let now = c.in_ok-answer_all.ensures in
+    record {
+      back = λ h. now.back (was.back h);
+      served = λ tells accounts first_in first_out first. served_on accounts first_in (g.R.Read.remaining c.loop.input) (g.R.Read.remaining c.read_at.new.input) first_out (g.W.Write.contents c.loop.output) (g.W.Write.contents c.answer_all.new.output) (take len room)
+          c.loop.session.client c.give.new.self.client c.answer_all.new.session.client (g.K.Keeper.holds c.loop.keeper) (g.K.Keeper.holds c.answer_all.new.keeper) (c.loop.invariant.served tells accounts first_in first_out first) took short joins
+          (c.in_ok-answer_all.ensures.answers tells);
+      none = λ tells h. now.none tells (was.none tells h);
+    }
+
+pub returns-clause-serves : goal.returns-clause-serves
+returns-clause-serves g c tells accounts first_in first_out first =
+    broken_served accounts first_in (g.R.Read.remaining c.loop.input) first_out (g.W.Write.contents c.loop.output) c.loop.session.client (g.K.Keeper.holds c.loop.keeper) (c.loop.invariant.served tells accounts first_in first_out first)

@@ -1,0 +1,144 @@
+-- One session over a reader, a writer and a keeper: in rounds, and what they leave.
+use Rattle.std.specs.Prelude.{◌≡◌, ◌⊎◌, ℕ, ◌≤◌, Bool, true, false, List, [], ◌∷◌, ◌++◌, length, Option, Some, None, Result, Ok, Err}
+use Rattle.std.specs.List.{flat_map}
+use Rattle.std.specs.Io.KnownBytes.{Appends, Consumes, IsAtEnd}
+use Rattle.sqlite.specs.Effect.{Database}
+use Rattle.msproto.specs.Replies.{spelled}
+use Rattle.mailstore.specs.Account.{Accounts}
+use Rattle.mailstore.specs.Schema.{no_schema}
+use Rattle.mailstore.specs.Shows.{Presents}
+use Rattle.sessions.specs.declared.progress.Progress.{Progress}
+use Rattle.sessions.specs.Clients.{Client, new_client, client_given, is_ready}
+use Rattle.sessions.specs.GivenUp.{text_given_up, client_given_up}
+use Rattle.sessions.specs.Replies.{capabilities}
+use Rattle.sessions.specs.Steps.{IsStep}
+use Rattle.sievedrun.specs.declared.fault.Fault.{Fault}
+use Rattle.sievedrun.specs.Streams.{AppendsFront}
+
+-- a piece of the client's octets has at most so many
+abbrev pub largest_piece : ℕ
+largest_piece = 4096
+
+-- one round: what came of the client, what was said to it, and the accounts and the client behind it
+pub record Round : Type 0 where
+  pub came : List ℕ
+  pub said : List ℕ
+  pub accounts : Accounts
+  pub client : Client
+
+-- a piece came while nothing was to be answered
+pub record Hears (accounts : Accounts) (c : Client) (r : Round) : Type 0 where
+  pub waits : is_ready c ≡ false
+  pub short : length r.came ≤ largest_piece
+  pub silent : r.said ≡ []
+  pub joins : r.client ≡ client_given r.came c
+  pub same : r.accounts ≡ accounts
+
+-- what comes first was answered by a step
+pub record Steps (accounts : Accounts) (c : Client) (r : Round) : Type 0 where
+  pub ready : is_ready c ≡ true
+  pub none : r.came ≡ []
+  pub progress : Progress
+  pub step : IsStep accounts c progress r.said r.client r.accounts
+
+-- what comes first can't be answered now, and was given up
+pub record GivesUp (accounts : Accounts) (c : Client) (r : Round) : Type 0 where
+  pub ready : is_ready c ≡ true
+  pub none : r.came ≡ []
+  pub told : r.said ≡ text_given_up c
+  pub drops : r.client ≡ client_given_up c
+  pub same : r.accounts ≡ accounts
+
+abbrev pub IsRound : Accounts → Client → Round → Type 0
+IsRound accounts c r = Hears accounts c r ⊎ (Steps accounts c r ⊎ GivesUp accounts c r)
+
+-- rounds in turn lead from accounts and a client to these
+abbrev pub Leads : Accounts → Client → List Round → Accounts → Client → Type 0
+Leads accounts c [] later d = (later ≡ accounts) × (d ≡ c)
+Leads accounts c (r ∷ rounds) later d = IsRound accounts c r × Leads r.accounts r.client rounds later d
+
+-- all that came in the rounds, and all that was said
+abbrev pub came_in : List Round → List ℕ
+came_in rounds = flat_map (λ r. r.came) rounds
+
+abbrev pub said_in : List Round → List ℕ
+said_in rounds = flat_map (λ r. r.said) rounds
+
+-- what is written, and behind it what waits to be written, grew by a text
+pub record Tells (old : Option (List ℕ)) (waited : List ℕ) (new : Option (List ℕ)) (waits : List ℕ) (text : List ℕ) : Type 0 where
+  pub written : List ℕ
+  pub appends : Appends old new written
+  pub whole : written ++ waits ≡ waited ++ text
+
+-- the octets that a reader had left begin with these
+abbrev pub BeginsWith : Option (List ℕ) → List ℕ → Type 0
+BeginsWith None text = Unit {0}
+BeginsWith (Some left) text = (rest : List ℕ) × (left ≡ text ++ rest)
+
+-- rounds lead from accounts and a client to these, which the tables show
+pub record Passes (accounts : Accounts) (c : Client) (rounds : List Round) (d : Client) (new : Database) : Type 0 where
+  pub later : Accounts
+  pub leads : Leads accounts c rounds later d
+  pub shown : Presents new later
+
+-- rounds in which nothing came led here: what waits to be written grew by what was said, or was written
+pub record Answered (accounts : Accounts) (c : Client) (out_old : Option (List ℕ)) (waited : List ℕ) (out_new : Option (List ℕ)) (waits : List ℕ) (d : Client) (new : Database) : Type 0 where
+  pub rounds : List Round
+  pub passes : Passes accounts c rounds d new
+  pub none : came_in rounds ≡ []
+  pub told : Tells out_old waited out_new waits (said_in rounds)
+
+-- the same, where a write failed: a front is written
+pub record Interrupted (accounts : Accounts) (c : Client) (out_old : Option (List ℕ)) (waited : List ℕ) (out_new : Option (List ℕ)) (new : Database) : Type 0 where
+  pub rounds : List Round
+  pub client : Client
+  pub passes : Passes accounts c rounds client new
+  pub none : came_in rounds ≡ []
+  pub written : AppendsFront out_old out_new (waited ++ said_in rounds)
+
+-- what comes first was answered, or a write failed
+abbrev pub AnswersFirst : Accounts → Client → Option (List ℕ) → List ℕ → Option (List ℕ) → List ℕ → Client → Database → Result (Unit {0}) Fault → Type 0
+AnswersFirst accounts c out_old waited out_new waits d new (Ok done) = Answered accounts c out_old waited out_new waits d new
+AnswersFirst accounts c out_old waited out_new waits d new (Err fault) = Interrupted accounts c out_old waited out_new new
+
+-- all that is whole was answered and written, or a write failed
+abbrev pub AnswersAll : Accounts → Client → Option (List ℕ) → Option (List ℕ) → Client → Database → Result (Unit {0}) Fault → Type 0
+AnswersAll accounts c out_old out_new d new (Ok done) = Answered accounts c out_old [] out_new [] d new × (is_ready d ≡ false)
+AnswersAll accounts c out_old out_new d new (Err fault) = Interrupted accounts c out_old [] out_new new
+
+-- a step was made of the session, whose answer waits behind what waited; or nothing changed
+abbrev pub StepsOn : Accounts → Client → List ℕ → List ℕ → Client → Database → Bool → Type 0
+StepsOn accounts c waited waits d new true = (progress : Progress) × (octets : List ℕ) × (later : Accounts) × (waits ≡ waited ++ octets) × IsStep accounts c progress octets d later × Presents new later
+StepsOn accounts c waited waits d new false = (d ≡ c) × (waits ≡ waited) × Presents new accounts
+
+-- a session led here from the greeting on: all that came was read and all that was said is written, and nothing that came is left to be answered
+pub record Served (accounts : Accounts) (in_old in_new out_old out_new : Option (List ℕ)) (c : Client) (new : Database) : Type 0 where
+  pub rounds : List Round
+  pub passes : Passes accounts new_client rounds c new
+  pub read : Consumes in_old in_new (came_in rounds)
+  pub written : Appends out_old out_new (spelled (capabilities None) ++ said_in rounds)
+  pub answered : is_ready c ≡ false
+
+-- the session ended: it is closed, or the input is at its end
+pub record Ends (accounts : Accounts) (in_old in_new out_old out_new : Option (List ℕ)) (new : Database) : Type 0 where
+  pub client : Client
+  pub served : Served accounts in_old in_new out_old out_new client new
+  pub over : (client.closed ≡ true) ⊎ IsAtEnd in_new
+
+-- the session broke off, for want of memory, or by a read or a write that failed: a front of what was said is written
+pub record BreaksOff (accounts : Accounts) (in_old out_old out_new : Option (List ℕ)) (new : Database) : Type 0 where
+  pub rounds : List Round
+  pub client : Client
+  pub passes : Passes accounts new_client rounds client new
+  pub read : BeginsWith in_old (came_in rounds)
+  pub written : AppendsFront out_old out_new (spelled (capabilities None) ++ said_in rounds)
+
+-- one whole session over accounts
+abbrev pub Converses : Accounts → Option (List ℕ) → Option (List ℕ) → Option (List ℕ) → Option (List ℕ) → Database → Result (Unit {0}) Fault → Type 0
+Converses accounts in_old in_new out_old out_new new (Ok done) = Ends accounts in_old in_new out_old out_new new
+Converses accounts in_old in_new out_old out_new new (Err fault) = BreaksOff accounts in_old out_old out_new new
+
+-- the same of tables: accounts that they showed were served; a database without tables stays so
+pub record Serves (in_old in_new out_old out_new : Option (List ℕ)) (old new : Database) (result : Result (Unit {0}) Fault) : Type 0 where
+  pub talks : (accounts : Accounts) → Presents old accounts → Converses accounts in_old in_new out_old out_new new result
+  pub none : old.schema ≡ no_schema → new.schema ≡ no_schema

@@ -1,0 +1,82 @@
+//! What the tests of a run look at.
+ghost use Rattle.std.specs.Prelude.{◌≡◌, IfOk};
+ghost use Rattle.sieveexec.specs.Truth.{truth_at, envelope_holds, envelope_matches};
+
+use crate::address_cache::AddressCache;
+use crate::envelope::part_in;
+use crate::mail::Mail;
+use crate::matching::matches_some;
+use crate::text_cache::TextCache;
+use sievesyntax::{Check, EnvelopeTest};
+use std::alloc::{AllocError, Global};
+use std::marker::Model;
+
+/// A mail in the course of a run: it keeps what tests have looked at, so that the values of a field are looked up,
+/// unfolded and decoded once for each name, however many tests ask. Contracts see the mail.
+#[derive(Drop)]
+pub struct CachedMail<'m, 'a> {
+    mail: &'m Mail<'a>,
+    texts: TextCache<'m, 'a>,
+    addresses: AddressCache<'m, 'a>,
+}
+
+impl<'m, 'a> Model for CachedMail<'m, 'a> {
+    ghost use Rattle.std.specs.Prelude.{◌≡◌};
+    ghost use Rattle.sieveexec.specs.Mails.{MailSpec};
+
+    ghost Value = { MailSpec };
+
+    ghost view = { λ cached. cached.mail.now };
+
+    ghost invariant = { λ cached. (cached.texts ≡ cached.mail.now) × (cached.addresses ≡ cached.mail.now) };
+}
+
+impl<'m, 'a> CachedMail<'m, 'a> {
+    /// Nothing is looked at yet. Takes no memory.
+    pub fn new(alloc: Global, mail: &'m Mail<'a>) -> CachedMail<'m, 'a>
+        ensures { result ≡ mail.now }
+    {
+        CachedMail {
+            mail,
+            texts: TextCache::new(alloc, mail),
+            addresses: AddressCache::new(alloc, mail),
+        }
+    }
+
+    /// Whether a test that looks at the message or its envelope holds (RFC 5228, 5.1, 5.4, 5.5, 5.7, 5.9).
+    ///
+    /// A value is compared with each key: the time is that of `is`, `contains` or `matches` for each pair, and where a
+    /// test is the first to ask for a field, linear in the field's values besides.
+    pub fn evaluate(&mut self, alloc: Global, check: &Check) -> Result<bool, AllocError>
+        ensures truth { IfOk result (λ holds. holds ≡ truth_at self.old check.now) }
+        ensures kept { self.new ≡ self.old }
+    {
+        match check {
+            Check::Size(size) => Ok(self.mail.is_beyond(*size)),
+            Check::Exists(names) => self.mail.all_exist(alloc, names.as_slice()),
+            Check::Header(header) => self.texts.holds(alloc, header),
+            Check::Address(address) => self.addresses.holds(alloc, address),
+            Check::Envelope(test) => Ok(envelope_holds(self.mail, test)),
+        }
+    }
+}
+
+/// Whether `envelope` holds (RFC 5228, 5.4).
+fn envelope_holds(mail: &Mail<'_>, test: &EnvelopeTest) -> bool
+    ensures { result ≡ envelope_holds mail.now test.now }
+{
+    (test.parts.from && address_matches(test, mail.from()))
+        || (test.parts.to && address_matches(test, mail.to()))
+}
+
+/// Whether the part of an address of the envelope matches some key.
+fn address_matches(test: &EnvelopeTest, address: &[u8]) -> bool
+    ensures { result ≡ envelope_matches test.now address.now }
+{
+    matches_some(
+        test.comparator,
+        test.matching,
+        test.keys.as_slice(),
+        part_in(test.part, address),
+    )
+}

@@ -1,0 +1,67 @@
+//! Addresses that are written out once.
+ghost use Rattle.std.specs.Prelude.{◌≡◌, ◌++◌, IfOk, OnOk};
+ghost use Rattle.sieveexec.specs.Parts.{part_of};
+
+use addrparts::Addr;
+use octets::{ListOf, Octets};
+use sievesyntax::AddressPart;
+use std::alloc::{AllocError, Global};
+use std::marker::Model;
+
+/// An address as `:all` compares it, and where its `@` stands. Contracts see the address.
+#[derive(Drop)]
+pub struct JoinedAddress {
+    all: Octets,
+    at: usize,
+}
+
+impl Model for JoinedAddress {
+    ghost use Rattle.std.specs.Prelude.{◌≡◌, ◌+◌, take, drop};
+    ghost use Rattle.addrparts.specs.declared.address.Addr.{Addr};
+    ghost use Rattle.addrparts.specs.Spelling.{all_of};
+    ghost use Rattle.sieveexec.specs.Joined.{address_joined, IsJoined};
+
+    ghost Value = { Addr };
+
+    ghost view = { λ joined. address_joined joined.all joined.at };
+
+    ghost invariant = { λ joined. IsJoined joined.all joined.at };
+}
+
+impl JoinedAddress {
+    /// Writes an address out.
+    pub(crate) fn of(alloc: Global, address: &Addr) -> Result<JoinedAddress, AllocError>
+        ensures { IfOk result (λ joined. joined ≡ address.now) }
+    {
+        Ok(JoinedAddress {
+            all: address.all(alloc)?,
+            at: address.local.len(),
+        })
+    }
+
+    /// A part of the address (RFC 5228, 2.7.4).
+    pub(crate) fn part(&self, part: AddressPart) -> &[u8]
+        ensures { result.now ≡ part_of part self.now }
+    {
+        let all = self.all.as_slice();
+        match part {
+            AddressPart::All => all,
+            AddressPart::LocalPart => all.split_at(self.at).0,
+            AddressPart::Domain => all.split_at(self.at + 1).1,
+        }
+    }
+}
+
+/// Writes out addresses behind those that are there.
+pub(crate) fn push_joined(
+    alloc: Global,
+    joined: &mut ListOf<JoinedAddress>,
+    addresses: &[Addr],
+) -> Result<(), AllocError>
+    ensures { OnOk result (joined.new ≡ joined.old ++ addresses.now) }
+{
+    for address in addresses {
+        joined.push(JoinedAddress::of(alloc, address)?)?;
+    }
+    Ok(())
+}

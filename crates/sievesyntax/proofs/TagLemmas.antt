@@ -1,0 +1,153 @@
+-- Lemmas on tags.
+use Rattle.std.proofs.Common.{◌≡◌, ◌⊎◌, ℕ, List, [], ◌∷◌, ◌++◌, ◌<◌, length, map, Option, Some, None, option_map, cond, codes, nat_eq, refl, sym, ap, ◌∙◌, subst, arith, inl, inr}
+use Rattle.std.proofs.Common.{drop, get_or}
+use Rattle.std.proofs.Math.Seq.{drop-cons}
+use Rattle.std.specs.Cmp.Lexicographic.{pointwise}
+use Rattle.octets.proofs.Lists.{some_pair}
+use Rattle.sievesyntax.specs.declared.table.tag.Tag.TheVariants as T
+use Rattle.sievesyntax.specs.declared.tree.checks.Bound.TheVariants as B
+use Rattle.sievesyntax.specs.declared.tree.checks.Matching.TheVariants as M
+use Rattle.sievesyntax.specs.declared.tree.checks.AddressPart.TheVariants as H
+use Rattle.sievesyntax.specs.declared.tree.checks.Collation.{Collation}
+use Rattle.sievesyntax.specs.declared.tree.checks.Collation.TheVariants as C
+use Rattle.sievesyntax.specs.declared.parser.argument.Argument.{Argument}
+use Rattle.sievesyntax.specs.declared.parser.argument.Argument.TheVariants as A
+use Rattle.sievesyntax.specs.declared.table.tag_group.TagValue.{TagValue}
+use Rattle.sievesyntax.specs.declared.table.tag_group.TagValue.TheVariants as S
+use Rattle.sievesyntax.specs.declared.table.tag_group.TagGroup.{TagGroup}
+use Rattle.sievesyntax.specs.Chains.{Chain}
+use Rattle.sievesyntax.specs.Tags.{strings_of, IsTagValue, group_of, Among, AreApart, IsAllowed, IsPlain, IsSplit}
+use Rattle.sievesyntax.proofs.Chains.{IsSoFar, chain_begins, chain_more, chain_ends}
+
+abbrev collation_named : List ℕ → Option Collation
+collation_named name = cond (pointwise nat_eq name (codes "i;octet")) (Some C.Octet) (cond (pointwise nat_eq name (codes "i;ascii-casemap")) (Some C.AsciiCasemap) None)
+
+-- the tag at the front, read
+abbrev tag_value_read : List Argument → Option (TagValue × List Argument)
+tag_value_read (A.Tag T.Over ∷ to) = Some (S.Bound B.Over, to)
+tag_value_read (A.Tag T.Under ∷ to) = Some (S.Bound B.Under, to)
+tag_value_read (A.Tag T.Is ∷ to) = Some (S.Matching M.Is, to)
+tag_value_read (A.Tag T.Contains ∷ to) = Some (S.Matching M.Contains, to)
+tag_value_read (A.Tag T.Matches ∷ to) = Some (S.Matching M.Matches, to)
+tag_value_read (A.Tag T.All ∷ to) = Some (S.Part H.All, to)
+tag_value_read (A.Tag T.LocalPart ∷ to) = Some (S.Part H.LocalPart, to)
+tag_value_read (A.Tag T.Domain ∷ to) = Some (S.Part H.Domain, to)
+tag_value_read (A.Tag T.Mime ∷ to) = Some (S.Mime, to)
+tag_value_read (A.Tag T.Comparator ∷ (A.Text name ∷ to)) = option_map (λ c. (S.Comparator c, to)) (collation_named name)
+tag_value_read (A.Tag T.Days ∷ (A.Number n ∷ to)) = Some (S.Days n, to)
+tag_value_read (A.Tag T.Subject ∷ (A.Text s ∷ to)) = Some (S.Subject s, to)
+tag_value_read (A.Tag T.From ∷ (A.Text s ∷ to)) = Some (S.From s, to)
+tag_value_read (A.Tag T.Handle ∷ (A.Text s ∷ to)) = Some (S.Handle s, to)
+tag_value_read (A.Tag T.Addresses ∷ (a ∷ to)) = option_map (λ xs. (S.Addresses xs, to)) (strings_of a)
+tag_value_read _ = None
+
+tag_value_again : (s : TagValue) (from to : List Argument) → IsTagValue s from to → tag_value_read from ≡ Some (s, to)
+tag_value_again (S.Bound B.Over) from to at = ap tag_value_read at
+tag_value_again (S.Bound B.Under) from to at = ap tag_value_read at
+tag_value_again (S.Comparator C.Octet) from to at = ap tag_value_read at
+tag_value_again (S.Comparator C.AsciiCasemap) from to at = ap tag_value_read at
+tag_value_again (S.Matching M.Is) from to at = ap tag_value_read at
+tag_value_again (S.Matching M.Contains) from to at = ap tag_value_read at
+tag_value_again (S.Matching M.Matches) from to at = ap tag_value_read at
+tag_value_again (S.Part H.All) from to at = ap tag_value_read at
+tag_value_again (S.Part H.LocalPart) from to at = ap tag_value_read at
+tag_value_again (S.Part H.Domain) from to at = ap tag_value_read at
+tag_value_again (S.Days n) from to at = ap tag_value_read at
+tag_value_again (S.Subject s) from to at = ap tag_value_read at
+tag_value_again (S.From s) from to at = ap tag_value_read at
+tag_value_again (S.Addresses xs) from to at = ap tag_value_read at.1.0 ∙ ap (option_map (λ ys. (S.Addresses ys, to))) at.1.1
+tag_value_again S.Mime from to at = ap tag_value_read at
+tag_value_again (S.Handle s) from to at = ap tag_value_read at
+
+-- at most one tag stands at the front
+pub tag_value_only : (s t : TagValue) (from to end : List Argument) → IsTagValue s from to → IsTagValue t from end → (t ≡ s) × (end ≡ to)
+tag_value_only s t from to end at also = some_pair (t, end) (s, to) (sym (tag_value_again t from end also) ∙ tag_value_again s from to at)
+
+-- a tag begins with a tag
+pub plain_none : (s : TagValue) (from to : List Argument) → IsTagValue s from to → IsPlain from → ⊥
+plain_none (S.Bound bound) from to at plain = subst IsPlain at plain
+plain_none (S.Comparator c) from to at plain = subst IsPlain at plain
+plain_none (S.Matching m) from to at plain = subst IsPlain at plain
+plain_none (S.Part p) from to at plain = subst IsPlain at plain
+plain_none (S.Days n) from to at plain = subst IsPlain at plain
+plain_none (S.Subject s) from to at plain = subst IsPlain at plain
+plain_none (S.From s) from to at plain = subst IsPlain at plain
+plain_none (S.Addresses xs) from to at plain = subst IsPlain at.1.0 plain
+plain_none S.Mime from to at plain = subst IsPlain at plain
+plain_none (S.Handle s) from to at plain = subst IsPlain at plain
+
+-- a tag is not empty
+pub tag_value_longer : (s : TagValue) (from to : List Argument) → IsTagValue s from to → length to < length from
+tag_value_longer (S.Bound bound) from to at = omega (arith, ap length at)
+tag_value_longer (S.Comparator c) from to at = omega (arith, ap length at)
+tag_value_longer (S.Matching m) from to at = omega (arith, ap length at)
+tag_value_longer (S.Part p) from to at = omega (arith, ap length at)
+tag_value_longer (S.Days n) from to at = omega (arith, ap length at)
+tag_value_longer (S.Subject s) from to at = omega (arith, ap length at)
+tag_value_longer (S.From s) from to at = omega (arith, ap length at)
+tag_value_longer (S.Addresses xs) from to at = omega (arith, ap length (at.1.0))
+tag_value_longer S.Mime from to at = omega (arith, ap length at)
+tag_value_longer (S.Handle s) from to at = omega (arith, ap length at)
+
+-- one group more
+pub apart_push : (xs : List TagGroup) (x : TagGroup) → AreApart xs → (Among x xs → ⊥) → AreApart (xs ++ x ∷ [])
+apart_push [] x apart free = (λ none. none, tt)
+apart_push (y ∷ ys) x apart free = (λ among. free (either among), apart_push ys x apart.1 (λ among. free (inr among)))
+  where
+    last : (zs : List TagGroup) → Among y (zs ++ x ∷ []) → Among y zs ⊎ (y ≡ x)
+    last [] among = elim among [ inl same ↦ inr same | inr none ↦ absurd none ]
+    last (z ∷ zs) among = elim among [ inl same ↦ inl (inl same) | inr more ↦ elim (last zs more) [ inl there ↦ inl (inr there) | inr same ↦ inr same ] ]
+
+    either : Among y (ys ++ x ∷ []) → Among x (y ∷ ys)
+    either among = elim (last ys among) [ inl there ↦ absurd (apart.0 there) | inr same ↦ inl (sym same) ]
+
+-- a group isn't among those before it
+pub apart_not : (xs : List TagGroup) (y : TagGroup) (ys : List TagGroup) → AreApart (xs ++ y ∷ ys) → Among y xs → ⊥
+apart_not [] y ys apart none = none
+apart_not (x ∷ xs) y ys apart among = elim among [ inl same ↦ apart.0 (behind xs (sym same)) | inr more ↦ apart_not xs y ys apart.1 more ]
+  where
+    behind : (zs : List TagGroup) → x ≡ y → Among x (zs ++ y ∷ ys)
+    behind [] same = inl same
+    behind (z ∷ zs) same = inr (behind zs same)
+
+map_middle : (xs : List TagValue) (y : TagValue) (ys : List TagValue) → map group_of (xs ++ y ∷ ys) ≡ map group_of xs ++ group_of y ∷ map group_of ys
+map_middle [] y ys = refl
+map_middle (x ∷ xs) y ys = ap (λ l. group_of x ∷ l) (map_middle xs y ys)
+
+-- what the loop keeps
+pub record IsTaken (allowed : List TagGroup) (args : List Argument) (tag_values : List TagValue) (taken : List TagGroup) (rest : List Argument) : Type 0 where
+  pub so_far : IsSoFar (IsAllowed allowed) IsPlain args tag_values rest
+  pub taken_is : taken ≡ map group_of tag_values
+  pub apart : AreApart taken
+
+module _ (allowed : List TagGroup) (args : List Argument) where
+  pub taken_begins : IsTaken allowed args [] [] args
+  taken_begins = record { so_far = chain_begins (IsAllowed allowed) IsPlain args; taken_is = refl; apart = tt }
+
+  pub taken_more : (tag_values : List TagValue) (taken : List TagGroup) (rest : List Argument) → IsTaken allowed args tag_values taken rest → (s : TagValue) (after : List Argument) → IsAllowed allowed s rest after → (Among (group_of s) taken → ⊥) → IsTaken allowed args (tag_values ++ s ∷ []) (taken ++ group_of s ∷ []) after
+  taken_more tag_values taken rest kept s after at free = record {
+    so_far = chain_more (IsAllowed allowed) IsPlain args tag_values rest s after kept.so_far at (λ y to also. tag_value_only s y rest after to at.0 also.0) (plain_none s rest after at.0);
+    taken_is = ap (λ l. l ++ group_of s ∷ []) kept.taken_is ∙ sym (map_middle tag_values s []);
+    apart = apart_push taken (group_of s) kept.apart free;
+  }
+
+  -- no tag stands there: the tags are all
+  pub taken_ends : (tag_values : List TagValue) (taken : List TagGroup) (rest : List Argument) → IsTaken allowed args tag_values taken rest → IsPlain rest → IsSplit allowed args tag_values rest × ((others : List TagValue) (positional : List Argument) → IsSplit allowed args others positional → (others ≡ tag_values) × (positional ≡ rest))
+  taken_ends tag_values taken rest kept plain = (
+    record { written = kept.so_far.joins; plain = plain; once = subst AreApart kept.taken_is kept.apart },
+    λ others positional is. chain_ends (IsAllowed allowed) IsPlain args tag_values rest kept.so_far (λ y to at. plain_none y rest to at.0 plain) others positional is.written is.plain,
+  )
+
+  -- a tag stands there, and no tag of a free group
+  pub taken_fails : (tag_values : List TagValue) (taken : List TagGroup) (rest : List Argument) → IsTaken allowed args tag_values taken rest → (IsPlain rest → ⊥) → ((s : TagValue) (to : List Argument) → IsAllowed allowed s rest to → (Among (group_of s) taken → ⊥) → ⊥) → (others : List TagValue) (positional : List Argument) → IsSplit allowed args others positional → ⊥
+  taken_fails tag_values taken rest kept begun none others positional is = let found = kept.so_far.only others positional is.written is.plain in last found.0 found.1.0 found.1.1
+    where
+      last : (more : List TagValue) → others ≡ tag_values ++ more → Chain (IsAllowed allowed) more rest positional → ⊥
+      last [] same at = begun (subst IsPlain (sym at) is.plain)
+      last (y ∷ ys) same chain =
+          let all : AreApart (map group_of tag_values ++ group_of y ∷ map group_of ys) = subst AreApart (ap (map group_of) same ∙ map_middle tag_values y ys) is.once in
+          none y chain.0 chain.1.0 (λ among. apart_not (map group_of tag_values) (group_of y) (map group_of ys) all (subst (Among (group_of y)) kept.taken_is among))
+
+-- the group at this place is among them
+pub among_at : (group : TagGroup) (groups : List TagGroup) (i : ℕ) → i < length groups → group ≡ get_or groups i group → Among group (drop i groups)
+among_at group groups i within same = rw (drop-cons groups i group within) (inl same)

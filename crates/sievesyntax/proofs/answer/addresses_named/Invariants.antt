@@ -1,6 +1,0 @@
-use Rattle.std.proofs.Common.{take}
-use Rattle.sievesyntax.specs.Vacations.{AreNamed}
-use Rattle.sievesyntax.proofs.answer.addresses_named.Given as goal
-
-abbrev pub invariant-loop-text : goal.invariant-loop-text
-invariant-loop-text l = AreNamed (take l.text-index l.texts) l.addresses

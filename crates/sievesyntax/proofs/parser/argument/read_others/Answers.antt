@@ -1,0 +1,36 @@
+use Rattle.std.proofs.Common.{sym, ap, ◌∙◌, append_assoc, ◌∷◌, [], ◌++◌, Ok}
+use Rattle.std.proofs.lemmas.Result.{err_from_is_err_and}
+use Rattle.sievesyntax.proofs.FaultLemmas.{fault_on, faults_on}
+use Rattle.sievesyntax.proofs.ArgumentLemmas.{others_stop, others_lack, others_grow, others_end}
+use Rattle.sievesyntax.proofs.parser.argument.read_others.Goals as goal
+
+pub returns-in_err-read_separator-clause-fault : goal.returns-in_err-read_separator-clause-fault
+returns-in_err-read_separator-clause-fault c =
+    let p = err_from_is_err_and c.from_residual.result c.from_residual.ensures.1 in
+    let l = c.others in
+    rw (p.1, p.2) (faults_on _ _ _ _ (others_stop _ l.invariant.0 l.reader l.invariant.1.1) c.in_err-read_separator.ensures.no_comma c.in_err-read_separator.ensures.no_close)
+
+pub returns-in_err-read_text-clause-fault : goal.returns-in_err-read_text-clause-fault
+returns-in_err-read_text-clause-fault c =
+    let p = err_from_is_err_and c.from_residual-in_err-read_text.result c.from_residual-in_err-read_text.ensures.1 in
+    let l = c.others in
+    let comma = c.in_ok-read_separator.ensures.comma (ap Ok c.if-branch.true) in
+    rw (p.1, p.2) (fault_on _ _ _ (others_lack _ l.invariant.0 l.reader l.invariant.1.1 _ comma) c.in_err-read_text.ensures.fault)
+
+pub others-preserved : goal.others-preserved
+others-preserved c =
+    let l = c.others in
+    let comma = c.in_ok-read_separator.ensures.comma (ap Ok c.if-branch.true) in
+    let s = c.in_ok-read_text.field-0 in (
+      l.invariant.0 ++ s ∷ [],
+      (
+        c.in_ok-push.ensures.ok ∙ ap (λ xs. xs ++ s ∷ []) l.invariant.1.0 ∙ append_assoc c.args.strings l.invariant.0 (s ∷ []),
+        others_grow _ l.invariant.0 l.reader l.invariant.1.1 _ s _ comma c.in_ok-read_text.ensures.found,
+      ),
+    )
+
+pub returns-clause-only : goal.returns-clause-only
+returns-clause-only c = λ more to chain.
+    let l = c.others in
+    let found = others_end _ l.invariant.0 l.reader l.invariant.1.1 _ (c.in_ok-read_separator.ensures.closed (ap Ok c.if-branch.false)) more to chain in
+    (l.invariant.1.0 ∙ ap (λ xs. c.args.strings ++ xs) (sym found.0), found.1)

@@ -1,0 +1,28 @@
+use Rattle.std.proofs.Common.{◌≡◌, ◌+◌, ◌*◌, ◌++◌, List, length, map}
+use Rattle.sievelex.specs.declared.token.Kind.TheVariants as K
+use Rattle.sievesyntax.specs.Tree.{TestTree}
+use Rattle.sievesyntax.specs.View.{test_view}
+use Rattle.sievesyntax.specs.Steps.{TakesNextTest}
+use Rattle.sievesyntax.proofs.Chains.{IsSoFar}
+use Rattle.sievesyntax.proofs.ArgumentLemmas.{IsMarked}
+use Rattle.sievesyntax.proofs.parser.test_parser.+ask.Given as goal
+
+abbrev pub decreases-read_test : goal.decreases-read_test
+decreases-read_test l = 4 * (l.lists + l.nots) + 2
+
+abbrev pub decreases-read_not : goal.decreases-read_not
+decreases-read_not l = 4 * (l.lists + l.nots)
+
+abbrev pub decreases-read_tests : goal.decreases-read_tests
+decreases-read_tests l = 4 * (l.lists + l.nots) + 1
+
+abbrev pub decreases-read_more_tests : goal.decreases-read_more_tests
+decreases-read_more_tests l = 4 * (l.lists + l.nots) + 3
+
+abbrev pub invariant-read_more_tests-tests : goal.invariant-read_more_tests-tests
+invariant-read_more_tests-tests l =
+    (more : List TestTree) × ((map test_view l.tests.items ≡ map test_view l.initial.tests.items ++ more)
+    × IsSoFar (TakesNextTest l.granted l.lists l.nots) (IsMarked K.CloseParen) l.initial.reader more l.reader)
+
+abbrev pub decreases-read_more_tests-tests : goal.decreases-read_more_tests-tests
+decreases-read_more_tests-tests l = length l.reader

@@ -1,0 +1,64 @@
+-- The grammar of commands (RFC 5228, 8.2).
+use Rattle.std.specs.Prelude.{◌≡◌, ◌⊎◌, List, [], ◌∷◌}
+use Rattle.sievelex.specs.declared.token.Kind.TheVariants as K
+use Rattle.sievesyntax.specs.declared.table.keyword.Keyword.{Keyword}
+use Rattle.sievesyntax.specs.declared.table.keyword.Keyword.TheVariants as W
+use Rattle.sievesyntax.specs.declared.parser.argument.Argument.{Argument}
+use Rattle.sievesyntax.specs.Lexemes.{Lexeme, keyword, mark}
+use Rattle.sievesyntax.specs.Arguments.{AreArguments}
+use Rattle.sievesyntax.specs.Table.{IsPlainCommand}
+use Rattle.sievesyntax.specs.Tests.{Headed, ReadsTest}
+use Rattle.sievesyntax.specs.Tree.{TestTree, yes, CommandTree, require, choose, stop, act, Branches, no_branches, branch, Commands, no_commands, command}
+
+-- this stands at the front, in braces
+abbrev pub Braced : (List Lexeme → List Lexeme → Type 0) → List Lexeme → List Lexeme → Type 0
+Braced P from to = (inside : List Lexeme) × ((from ≡ mark K.OpenBrace ∷ inside) × P inside (mark K.CloseBrace ∷ to))
+
+-- neither `elsif` nor `else` stands first
+abbrev pub IsPastBranches : List Lexeme → Type 0
+IsPastBranches (keyword W.Elsif ∷ _) = ⊥
+IsPastBranches (keyword W.Else ∷ _) = ⊥
+IsPastBranches _ = Unit {0}
+
+-- a test and a block stand at the front
+abbrev pub Tested : TestTree → (List Lexeme → List Lexeme → Type 0) → List Lexeme → List Lexeme → Type 0
+Tested condition block from to = (start : List Lexeme) × (ReadsTest condition from start × Braced block start to)
+
+-- command = identifier arguments ";", after its identifier
+abbrev pub IsStatement : CommandTree → Keyword → List Lexeme → List Lexeme → Type 0
+IsStatement tree name behind to = (args : List Argument) × (AreArguments args behind (mark K.Semicolon ∷ to) × IsPlainCommand name args tree)
+
+-- command = identifier arguments (";" / block), after its identifier; block = "{" commands "}"
+abbrev mutual
+  pub IsCommand : CommandTree → Keyword → List Lexeme → List Lexeme → Type 0
+  IsCommand (require names) name behind to = IsStatement (require names) name behind to
+  IsCommand (choose branches) name behind to = IsChoice branches name behind to
+  IsCommand stop name behind to = IsStatement stop name behind to
+  IsCommand (act action) name behind to = IsStatement (act action) name behind to
+
+  -- `if` with a test and a block, and the branches after it (RFC 5228, 3.1)
+  pub IsChoice : Branches → Keyword → List Lexeme → List Lexeme → Type 0
+  IsChoice no_branches name behind to = ⊥
+  IsChoice (branch condition block more) name behind to =
+      (name ≡ W.If) × ((next : List Lexeme) × (Tested condition (AreCommands block) behind next × AreBranches more next to))
+
+  -- each `elsif` with a test and a block, and at the end an `else` with a block, whose branch has the test
+  -- `true`: all that stand there
+  pub AreBranches : Branches → List Lexeme → List Lexeme → Type 0
+  AreBranches no_branches from to = (from ≡ to) × IsPastBranches to
+  AreBranches (branch condition block more) from to =
+      ((behind : List Lexeme) × ((from ≡ keyword W.Elsif ∷ behind) × ((next : List Lexeme) × (Tested condition (AreCommands block) behind next × AreBranches more next to))))
+      ⊎ ((behind : List Lexeme) × ((from ≡ keyword W.Else ∷ behind) × (Braced (AreCommands block) behind to × ((condition ≡ yes) × (more ≡ no_branches)))))
+
+  -- commands = *command
+  pub AreCommands : Commands → List Lexeme → List Lexeme → Type 0
+  AreCommands no_commands from to = from ≡ to
+  AreCommands (command first more) from to = (middle : List Lexeme) × (Headed (λ name behind. IsCommand first name behind middle) from × AreCommands more middle to)
+
+-- a command at the front
+abbrev pub ReadsCommand : CommandTree → List Lexeme → List Lexeme → Type 0
+ReadsCommand tree from to = Headed (λ name behind. IsCommand tree name behind to) from
+
+-- the commands of a whole script
+abbrev pub Reads : Commands → List Lexeme → Type 0
+Reads commands from = AreCommands commands from []

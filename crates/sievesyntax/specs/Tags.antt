@@ -1,0 +1,108 @@
+-- Tagged arguments: each tag with its value, in any order, and then the positional arguments (RFC 5228, 2.6.2).
+use Rattle.std.specs.Prelude.{◌≡◌, ◌⊎◌, ℕ, List, [], ◌∷◌, map, codes, Option, Some, None}
+use Rattle.sievesyntax.specs.declared.table.tag.Tag.{Tag}
+use Rattle.sievesyntax.specs.declared.table.tag.Tag.TheVariants as T
+use Rattle.sievesyntax.specs.declared.tree.checks.Bound.{Bound}
+use Rattle.sievesyntax.specs.declared.tree.checks.Bound.TheVariants as B
+use Rattle.sievesyntax.specs.declared.tree.checks.Matching.{Matching}
+use Rattle.sievesyntax.specs.declared.tree.checks.Matching.TheVariants as M
+use Rattle.sievesyntax.specs.declared.tree.checks.AddressPart.{AddressPart}
+use Rattle.sievesyntax.specs.declared.tree.checks.AddressPart.TheVariants as H
+use Rattle.sievesyntax.specs.declared.tree.checks.Collation.{Collation}
+use Rattle.sievesyntax.specs.declared.tree.checks.Collation.TheVariants as C
+use Rattle.sievesyntax.specs.declared.parser.argument.Argument.{Argument}
+use Rattle.sievesyntax.specs.declared.parser.argument.Argument.TheVariants as A
+use Rattle.sievesyntax.specs.declared.table.tag_group.TagValue.{TagValue}
+use Rattle.sievesyntax.specs.declared.table.tag_group.TagValue.TheVariants as S
+use Rattle.sievesyntax.specs.declared.table.tag_group.TagGroup.{TagGroup}
+use Rattle.sievesyntax.specs.declared.table.tag_group.TagGroup.TheVariants as P
+use Rattle.sievesyntax.specs.Chains.{Chain}
+
+-- the tag of a side of a limit
+abbrev pub bound_tag : Bound → Tag
+bound_tag B.Over = T.Over
+bound_tag B.Under = T.Under
+
+-- the tag of a way to match
+abbrev pub matching_tag : Matching → Tag
+matching_tag M.Is = T.Is
+matching_tag M.Contains = T.Contains
+matching_tag M.Matches = T.Matches
+
+-- the tag of a part of an address
+abbrev pub part_tag : AddressPart → Tag
+part_tag H.All = T.All
+part_tag H.LocalPart = T.LocalPart
+part_tag H.Domain = T.Domain
+
+-- the name of a comparator, by octets (RFC 4790, 9.2 and 9.3)
+abbrev pub name_of : Collation → List ℕ
+name_of C.Octet = codes "i;octet"
+name_of C.AsciiCasemap = codes "i;ascii-casemap"
+
+-- the strings of an argument: a string stands for the list of it alone (RFC 5228, 2.4.2.1)
+abbrev pub strings_of : Argument → Option (List (List ℕ))
+strings_of (A.Text string) = Some (string ∷ [])
+strings_of (A.Strings strings) = Some strings
+strings_of _ = None
+
+-- how each tag is written with its value: the table of tags
+abbrev pub IsTagValue : TagValue → List Argument → List Argument → Type 0
+IsTagValue (S.Bound bound) from to = from ≡ A.Tag (bound_tag bound) ∷ to
+IsTagValue (S.Comparator collation) from to = from ≡ A.Tag T.Comparator ∷ (A.Text (name_of collation) ∷ to)
+IsTagValue (S.Matching matching) from to = from ≡ A.Tag (matching_tag matching) ∷ to
+IsTagValue (S.Part part) from to = from ≡ A.Tag (part_tag part) ∷ to
+IsTagValue (S.Days days) from to = from ≡ A.Tag T.Days ∷ (A.Number days ∷ to)
+IsTagValue (S.Subject subject) from to = from ≡ A.Tag T.Subject ∷ (A.Text subject ∷ to)
+IsTagValue (S.From text) from to = from ≡ A.Tag T.From ∷ (A.Text text ∷ to)
+IsTagValue (S.Addresses texts) from to = (value : Argument) × ((from ≡ A.Tag T.Addresses ∷ (value ∷ to)) × (strings_of value ≡ Some texts))
+IsTagValue S.Mime from to = from ≡ A.Tag T.Mime ∷ to
+IsTagValue (S.Handle handle) from to = from ≡ A.Tag T.Handle ∷ (A.Text handle ∷ to)
+
+-- the group of a tag: tags that exclude each other are one group
+abbrev pub group_of : TagValue → TagGroup
+group_of (S.Bound _) = P.Bound
+group_of (S.Comparator _) = P.Comparator
+group_of (S.Matching _) = P.Matching
+group_of (S.Part _) = P.Part
+group_of (S.Days _) = P.Days
+group_of (S.Subject _) = P.Subject
+group_of (S.From _) = P.From
+group_of (S.Addresses _) = P.Addresses
+group_of S.Mime = P.Mime
+group_of (S.Handle _) = P.Handle
+
+-- is one of these groups
+abbrev pub Among : TagGroup → List TagGroup → Type 0
+Among group [] = ⊥
+Among group (first ∷ more) = (group ≡ first) ⊎ Among group more
+
+-- no group stands twice
+abbrev pub AreApart : List TagGroup → Type 0
+AreApart [] = Unit {0}
+AreApart (first ∷ more) = (Among first more → ⊥) × AreApart more
+
+-- a tag of one of these groups stands at the front
+abbrev pub IsAllowed : List TagGroup → TagValue → List Argument → List Argument → Type 0
+IsAllowed allowed tag_value from to = IsTagValue tag_value from to × Among (group_of tag_value) allowed
+
+-- no tag stands first
+abbrev pub IsPlain : List Argument → Type 0
+IsPlain [] = Unit {0}
+IsPlain (A.Tag _ ∷ _) = ⊥
+IsPlain (_ ∷ _) = Unit {0}
+
+-- tags of these groups, each group at most once, in any order, and then the positional arguments
+pub record IsSplit (allowed : List TagGroup) (args : List Argument) (tag_values : List TagValue) (positional : List Argument) : Type 0 where
+  pub written : Chain (IsAllowed allowed) tag_values args positional
+  pub plain : IsPlain positional
+  pub once : AreApart (map group_of tag_values)
+
+-- the arguments are split in no other way
+abbrev pub IsSplitAlone : List TagGroup → List Argument → List TagValue → List Argument → Type 0
+IsSplitAlone allowed args tag_values positional =
+    (others : List TagValue) (rest : List Argument) → IsSplit allowed args others rest → (others ≡ tag_values) × (rest ≡ positional)
+
+-- no tag of an allowed group that isn't taken stands first
+abbrev pub HasNoTag : List TagGroup → List TagGroup → List Argument → Type 0
+HasNoTag allowed taken args = (s : TagValue) (to : List Argument) → IsAllowed allowed s args to → (Among (group_of s) taken → ⊥) → ⊥

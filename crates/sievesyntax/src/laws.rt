@@ -1,0 +1,36 @@
+//! Laws of the definitions, each the contract of a function that does nothing.
+ghost use Rattle.std.specs.Prelude.{◌≡◌, ◌↔◌, ℕ, Bool, true, List, All};
+ghost use Rattle.sievesyntax.specs.declared.tree.checks.Check.{Check};
+ghost use Rattle.sievesyntax.specs.Meaning.{ended, outcome};
+ghost use Rattle.sievesyntax.specs.Means.{Means};
+ghost use Rattle.sievesyntax.specs.Reasons.{is_entity, IsEntity};
+ghost use Rattle.sievesyntax.specs.RunState.{at_first};
+ghost use Rattle.sievesyntax.specs.Trace.{actions_run, in_turn, KeepsImplicitly, OnDone, NamesEachOnce, FilesIntoInboxAlone};
+ghost use Rattle.sievesyntax.specs.Tree.{Commands};
+
+/// A text means one tree at most (RFC 5228, 8.2).
+pub fn tree_of_a_text()
+    ensures { (text : List ℕ) (one two : Commands) → Means text one → Means text two → one ≡ two }
+{}
+
+/// A script comes to what the actions that it runs come to, one after the other.
+pub fn outcome_of_the_actions()
+    ensures { (truth : Check → Bool) (tree : Commands) → outcome truth tree ≡ ended (in_turn (actions_run truth tree) at_first) }
+{}
+
+/// Where a script doesn't fail, each mailbox and each address stands once, and no more than 16 addresses
+/// (RFC 5228, 2.10.3).
+pub fn each_once()
+    ensures { (truth : Check → Bool) (tree : Commands) → OnDone NamesEachOnce (outcome truth tree) }
+{}
+
+/// A run without `keep`, `fileinto`, `redirect` and `discard` files the message into INBOX and does no more with it
+/// (RFC 5228, 2.10.2).
+pub fn implicit_keep()
+    ensures { (truth : Check → Bool) (tree : Commands) → All KeepsImplicitly (actions_run truth tree) → OnDone FilesIntoInboxAlone (outcome truth tree) }
+{}
+
+/// The reason of a `vacation` with `:mime` is taken exactly where it is a MIME entity (RFC 5230, 4.4).
+pub fn entity_of_a_reason()
+    ensures { (text : List ℕ) → (is_entity text ≡ true) ↔ IsEntity text }
+{}

@@ -1,0 +1,129 @@
+//! Arguments, by the grammar alone (RFC 5228, 8.2).
+ghost use Rattle.std.specs.Prelude.{◌≡◌, ℕ, List, [], ◌∷◌, ◌++◌, Result, Ok, MatchOption, IfOk, true, false};
+ghost use Rattle.sievelex.specs.declared.token.Kind.TheVariants as K;
+ghost use Rattle.sievesyntax.specs.Lexemes.{Lexemes, text, mark};
+ghost use Rattle.sievesyntax.specs.Parsing.{IfFault, Parses, StandsAlone, StandsNowhere, Extends, ExtendsAlone, Closed};
+ghost use Rattle.sievesyntax.specs.Chains.{Chain};
+
+use crate::error::ReadError;
+use crate::parser::lexeme::Lexeme;
+use crate::parser::reader::Reader;
+use crate::table::tag::Tag;
+use octets::{Octets, Texts};
+use sievelex::{FaultKind, Kind};
+use std::alloc::Global;
+
+/// An argument of a command or a test.
+#[derive(Drop)]
+pub enum Argument {
+    /// A tag.
+    Tag(Tag),
+    /// A number, its multiplier counted.
+    Number(u64),
+    /// One string without brackets.
+    Text(Octets),
+    /// Strings in brackets, one or more.
+    Strings(Texts),
+}
+
+ghost use Rattle.sievesyntax.specs.Arguments.{IsOther, AreStrings, IsArgument, IsEnd, AreArguments};
+
+/// All the arguments at the front.
+pub(crate) fn read_arguments(
+    alloc: Global,
+    reader: &mut Reader<'_>,
+) -> Result<Vec<Argument>, ReadError>
+    ensures { Parses (λ v. v.items) AreArguments reader.old reader.new result }
+{
+    let mut arguments = Vec::new(alloc);
+    'arguments: while let Some(argument) = read_argument(alloc, reader)? {
+        arguments.push(argument)?;
+    }
+    Ok(arguments)
+}
+
+/// The argument at the front, or none where no argument begins.
+fn read_argument(alloc: Global, reader: &mut Reader<'_>) -> Result<Option<Argument>, ReadError>
+    ensures found { IfOk result (λ o. MatchOption o (IsEnd reader.old × (reader.new ≡ reader.old)) (λ a. IsArgument a reader.old reader.new)) }
+    ensures only { IfOk result (λ o. MatchOption o (Unit {0}) (λ a. StandsAlone IsArgument a reader.old reader.new)) }
+    ensures begun { IfFault result (IsEnd reader.old → ⊥) }
+    ensures fault { IfFault result (StandsNowhere IsArgument reader.old) }
+{
+    let Some((lexeme, after)) = reader.split_first() else {
+        return Ok(None);
+    };
+    match lexeme {
+        Lexeme::Tag(tag) => {
+            *reader = after;
+            Ok(Some(Argument::Tag(tag)))
+        }
+        Lexeme::Number(number) => {
+            *reader = after;
+            Ok(Some(Argument::Number(number)))
+        }
+        Lexeme::Text(string) => {
+            *reader = after;
+            Ok(Some(Argument::Text(Octets::copy(alloc, string)?)))
+        }
+        Lexeme::Mark(Kind::OpenBracket) => {
+            *reader = after;
+            Ok(Some(Argument::Strings(read_strings(alloc, reader)?)))
+        }
+        _ => Ok(None),
+    }
+}
+
+/// The strings of a list, after its open bracket.
+fn read_strings(alloc: Global, reader: &mut Reader<'_>) -> Result<Texts, ReadError>
+    ensures { Parses (λ strings. strings) AreStrings reader.old reader.new result }
+{
+    let mut strings = Texts::from_vec(Vec::with_capacity(alloc, 1)?);
+    strings.push(read_text(alloc, reader)?)?;
+    read_others(alloc, reader, strings)
+}
+
+/// The other strings of a list, and its close bracket.
+fn read_others(alloc: Global, reader: &mut Reader<'_>, strings: Texts) -> Result<Texts, ReadError>
+    ensures found { IfOk result (λ all. Extends (Closed K.CloseBracket (Chain IsOther)) strings all reader.old reader.new) }
+    ensures only { IfOk result (λ all. ExtendsAlone (Closed K.CloseBracket (Chain IsOther)) strings all reader.old reader.new) }
+    ensures fault { IfFault result (StandsNowhere (Closed K.CloseBracket (Chain IsOther)) reader.old) }
+{
+    let mut strings = strings;
+    'others: while read_separator(reader, Kind::CloseBracket)? {
+        strings.push(read_text(alloc, reader)?)?;
+    }
+    Ok(strings)
+}
+
+/// Whether a comma stands at the front, and not this closing mark.
+pub(crate) fn read_separator(reader: &mut Reader<'_>, close: Kind) -> Result<bool, ReadError>
+    ensures comma { result ≡ Ok true → reader.old ≡ mark K.Comma ∷ reader.new }
+    ensures closed { result ≡ Ok false → reader.old ≡ mark close ∷ reader.new }
+    ensures no_comma { IfFault result ((to : Lexemes) → reader.old ≡ mark K.Comma ∷ to → ⊥) }
+    ensures no_close { IfFault result ((to : Lexemes) → reader.old ≡ mark close ∷ to → ⊥) }
+{
+    let Some((lexeme, after)) = reader.split_first() else {
+        return Err(ReadError::Fault(FaultKind::Unexpected));
+    };
+    *reader = after;
+    match lexeme {
+        Lexeme::Mark(kind) if kind == Kind::Comma => Ok(true),
+        Lexeme::Mark(kind) if kind == close => Ok(false),
+        _ => Err(ReadError::Fault(FaultKind::Unexpected)),
+    }
+}
+
+/// A string without brackets.
+fn read_text(alloc: Global, reader: &mut Reader<'_>) -> Result<Octets, ReadError>
+    ensures found { IfOk result (λ string. reader.old ≡ text string ∷ reader.new) }
+    ensures fault { IfFault result ((string : List ℕ) (to : Lexemes) → reader.old ≡ text string ∷ to → ⊥) }
+{
+    let Some((lexeme, after)) = reader.split_first() else {
+        return Err(ReadError::Fault(FaultKind::Unexpected));
+    };
+    *reader = after;
+    match lexeme {
+        Lexeme::Text(string) => Ok(Octets::copy(alloc, string)?),
+        _ => Err(ReadError::Fault(FaultKind::Unexpected)),
+    }
+}

@@ -1,0 +1,227 @@
+//! Commands and blocks, by recursive descent: one pass, and no deeper than blocks may stand.
+ghost use Rattle.std.specs.Prelude.{◌≡◌, ◌↔◌, ◌++◌, ◌∷◌, [], ℕ, List, IfOk, IsTrue, MatchBool, map};
+ghost use Rattle.sievesyntax.specs.declared.table.keyword.Keyword.TheVariants as W;
+ghost use Rattle.sievesyntax.specs.Lexemes.{Lexemes, keyword};
+ghost use Rattle.sievesyntax.specs.Parsing.{IfFault, Parses, StandsNowhere, Extends, ExtendsAlone};
+ghost use Rattle.sievesyntax.specs.Tree.{TestTree, CommandTree, Commands};
+ghost use Rattle.sievesyntax.specs.View.{branch_view, command_view, commands_view};
+ghost use Rattle.sievesyntax.specs.Grammar.{IsPastBranches};
+ghost use Rattle.sievesyntax.specs.Steps.{TakesCommand, TakesAfter, TakesBlock, TakesBranch, TakesElsifs, TakesElse, IsPastElsif, IsPastElse, TakesAll, IsStop};
+
+use crate::error::ReadError;
+use crate::parser::argument::read_arguments;
+use crate::parser::lexeme::Lexeme;
+use crate::parser::reader::Reader;
+use crate::parser::test_parser::read_test;
+use crate::table::capability::Capabilities;
+use crate::table::command::plain_command;
+use crate::table::keyword::Keyword;
+use crate::tree::command::{Branch, Command};
+use crate::tree::test::Test;
+use sievelex::{FaultKind, Kind};
+use std::alloc::{AllocError, Global};
+
+/// How many test lists may enclose a test at most: it bounds the stack of the check.
+const MAX_LISTS: usize = 32;
+
+/// How many `not`s may enclose a test at most, counted apart: it bounds the stack of the check.
+const MAX_NOTS: usize = 32;
+
+/// Commands after those read so far, up to the close of a block or the end.
+#[cycle(parse)]
+pub(crate) fn read_commands(
+    alloc: Global,
+    reader: &mut Reader<'_>,
+    granted: Capabilities,
+    room: usize,
+    commands: Vec<Command>,
+) -> Result<Vec<Command>, ReadError>
+    ensures found { IfOk result (λ all. Extends (TakesAll granted room) (map command_view commands.items) (map command_view all.items) reader.old reader.new) }
+    ensures only { IfOk result (λ all. ExtendsAlone (TakesAll granted room) (map command_view commands.items) (map command_view all.items) reader.old reader.new) }
+    ensures fault { IfFault result (StandsNowhere (TakesAll granted room) reader.old) }
+{
+    let mut commands = commands;
+    'commands: while !is_stop(reader) {
+        commands.push(read_command(alloc, reader, granted, room)?)?;
+    }
+    Ok(commands)
+}
+
+/// A command that may stand here. Its blocks go no deeper than `room`.
+#[cycle(parse)]
+fn read_command(
+    alloc: Global,
+    reader: &mut Reader<'_>,
+    granted: Capabilities,
+    room: usize,
+) -> Result<Command, ReadError>
+    ensures { Parses command_view (TakesCommand granted room) reader.old reader.new result }
+{
+    let name = reader.read_keyword()?;
+    match name {
+        Keyword::If => read_if(alloc, reader, granted, room),
+        _ => read_statement(alloc, reader, granted, room, name),
+    }
+}
+
+/// `if`, after its name: a test and a block, each `elsif`, and an `else`.
+#[cycle(parse)]
+fn read_if(
+    alloc: Global,
+    reader: &mut Reader<'_>,
+    granted: Capabilities,
+    room: usize,
+) -> Result<Command, ReadError>
+    ensures { Parses command_view (TakesAfter granted room W.If) reader.old reader.new result }
+{
+    let mut one = Vec::with_capacity(alloc, 1)?;
+    one.push(read_branch(alloc, reader, granted, room)?)?;
+    let branches = read_elsifs(alloc, reader, granted, room, one)?;
+    let branches = read_else(alloc, reader, granted, room, branches)?;
+    Ok(Command::If(branches))
+}
+
+/// A test and a block.
+#[cycle(parse)]
+fn read_branch(
+    alloc: Global,
+    reader: &mut Reader<'_>,
+    granted: Capabilities,
+    room: usize,
+) -> Result<Branch, ReadError>
+    ensures { Parses branch_view (TakesBranch granted room) reader.old reader.new result }
+{
+    let test = read_test(alloc, reader, granted, MAX_LISTS, MAX_NOTS)?;
+    let block = read_block(alloc, reader, granted, room)?;
+    Ok(Branch { test, block })
+}
+
+/// Each `elsif` after the branches read so far.
+#[cycle(parse)]
+fn read_elsifs(
+    alloc: Global,
+    reader: &mut Reader<'_>,
+    granted: Capabilities,
+    room: usize,
+    branches: Vec<Branch>,
+) -> Result<Vec<Branch>, ReadError>
+    ensures found { IfOk result (λ all. Extends (TakesElsifs granted room) (map branch_view branches.items) (map branch_view all.items) reader.old reader.new) }
+    ensures only { IfOk result (λ all. ExtendsAlone (TakesElsifs granted room) (map branch_view branches.items) (map branch_view all.items) reader.old reader.new) }
+    ensures fault { IfFault result (StandsNowhere (TakesElsifs granted room) reader.old) }
+{
+    let mut branches = branches;
+    'elsifs: while take_elsif(reader) {
+        branches.push(read_branch(alloc, reader, granted, room)?)?;
+    }
+    Ok(branches)
+}
+
+/// The `else` after the branches read so far, if one stands there.
+#[cycle(parse)]
+fn read_else(
+    alloc: Global,
+    reader: &mut Reader<'_>,
+    granted: Capabilities,
+    room: usize,
+    branches: Vec<Branch>,
+) -> Result<Vec<Branch>, ReadError>
+    requires { IsPastElsif reader.old }
+    ensures found { IfOk result (λ all. Extends (TakesElse granted room) (map branch_view branches.items) (map branch_view all.items) reader.old reader.new) }
+    ensures only { IfOk result (λ all. ExtendsAlone (TakesElse granted room) (map branch_view branches.items) (map branch_view all.items) reader.old reader.new) }
+    ensures fault { IfFault result (StandsNowhere (TakesElse granted room) reader.old) }
+{
+    let mut branches = branches;
+    if take_else(reader) {
+        let block = read_block(alloc, reader, granted, room)?;
+        branches.push(Branch {
+            test: Test::True,
+            block,
+        })?;
+    }
+    Ok(branches)
+}
+
+/// A block that may stand here.
+#[cycle(parse)]
+fn read_block(
+    alloc: Global,
+    reader: &mut Reader<'_>,
+    granted: Capabilities,
+    room: usize,
+) -> Result<Vec<Command>, ReadError>
+    ensures { Parses (λ v. commands_view v.items) (TakesBlock granted room) reader.old reader.new result }
+{
+    reader.read_mark(Kind::OpenBrace)?;
+    if room == 0 {
+        return Err(ReadError::Fault(FaultKind::TooDeep));
+    }
+    let none = no_commands(alloc, reader)?;
+    let block = read_commands(alloc, reader, granted, room - 1, none)?;
+    reader.read_mark(Kind::CloseBrace)?;
+    Ok(block)
+}
+
+/// No commands yet, and a place for one where one follows: most blocks have no other.
+fn no_commands(alloc: Global, reader: &Reader<'_>) -> Result<Vec<Command>, AllocError>
+    ensures { IfOk result (λ none. none.items ≡ []) }
+{
+    if is_stop(reader) {
+        Ok(Vec::new(alloc))
+    } else {
+        Vec::with_capacity(alloc, 1)
+    }
+}
+
+/// A command without a block, after its name.
+fn read_statement(
+    alloc: Global,
+    reader: &mut Reader<'_>,
+    granted: Capabilities,
+    room: usize,
+    name: Keyword,
+) -> Result<Command, ReadError>
+    requires { name ≡ W.If → ⊥ }
+    ensures { Parses command_view (TakesAfter granted room name) reader.old reader.new result }
+{
+    let args = read_arguments(alloc, reader)?;
+    let command = plain_command(alloc, name, args.as_slice(), granted)?;
+    reader.read_mark(Kind::Semicolon)?;
+    Ok(command)
+}
+
+/// Whether commands end here.
+fn is_stop(reader: &Reader<'_>) -> bool
+    ensures { IsTrue result ↔ IsStop reader.now }
+{
+    match reader.split_first() {
+        None => true,
+        Some((Lexeme::Mark(Kind::CloseBrace), _)) => true,
+        Some(_) => false,
+    }
+}
+
+/// Passes the word `elsif`, if it stands first.
+fn take_elsif(reader: &mut Reader<'_>) -> bool
+    ensures { MatchBool result (reader.old ≡ keyword W.Elsif ∷ reader.new) (IsPastElsif reader.old × (reader.new ≡ reader.old)) }
+{
+    match reader.split_first() {
+        Some((Lexeme::Keyword(Keyword::Elsif), after)) => {
+            *reader = after;
+            true
+        }
+        _ => false,
+    }
+}
+
+/// Passes the word `else`, if it stands first.
+fn take_else(reader: &mut Reader<'_>) -> bool
+    ensures { MatchBool result (reader.old ≡ keyword W.Else ∷ reader.new) (IsPastElse reader.old × (reader.new ≡ reader.old)) }
+{
+    match reader.split_first() {
+        Some((Lexeme::Keyword(Keyword::Else), after)) => {
+            *reader = after;
+            true
+        }
+        _ => false,
+    }
+}

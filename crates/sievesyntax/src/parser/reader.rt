@@ -1,0 +1,97 @@
+//! The tokens that are still to be read.
+ghost use Rattle.std.specs.Prelude.{◌≡◌, List, [], ◌∷◌, length, MatchOption, IfOk, OnOk};
+ghost use Rattle.sievesyntax.specs.declared.table.keyword.Keyword.{Keyword};
+ghost use Rattle.sievelex.specs.Said.{said};
+ghost use Rattle.sievesyntax.specs.Lexemes.{Lexemes, keyword, mark, lexemes_said, lexeme_view};
+ghost use Rattle.sievesyntax.specs.Parsing.{IfFault};
+
+use crate::error::ReadError;
+use crate::parser::lexeme::{Lexeme, lexeme_of};
+use crate::table::keyword::Keyword;
+use sievelex::{Cursor, FaultKind, Kind, Packed};
+use std::marker::Model;
+
+/// The tokens that are still to be read. Contracts see the lexemes.
+#[derive(Drop)]
+pub struct Reader<'a> {
+    rest: Cursor<'a>,
+}
+
+impl<'a> Model for Reader<'a> {
+    ghost use Rattle.std.specs.Prelude.{List};
+    ghost use Rattle.sievesyntax.specs.Lexemes.{Lexeme, lexemes_said};
+
+    ghost Value = { List Lexeme };
+
+    ghost view = { λ r. lexemes_said r.rest };
+}
+
+impl<'a> Reader<'a> {
+    /// Before the first of these tokens.
+    pub(crate) fn new(tokens: &'a Packed) -> Reader<'a>
+        ensures { result ≡ lexemes_said (said tokens.now) }
+    {
+        Reader {
+            rest: tokens.cursor(),
+        }
+    }
+
+    /// How many tokens are left.
+    pub(crate) fn left(&self) -> usize
+        ensures { result ≡ length self.now }
+    {
+        self.rest.left()
+    }
+
+    /// The next lexeme, and what follows it; none at the end.
+    pub(crate) fn split_first(&self) -> Option<(Lexeme<'a>, Reader<'a>)>
+        ensures { MatchOption result (self.now ≡ []) (λ found. self.now ≡ lexeme_view found.0 ∷ found.1) }
+    {
+        let (first, rest) = self.rest.split_first()?;
+        Some((lexeme_of(first), Reader { rest }))
+    }
+
+    /// Reads this mark.
+    pub(crate) fn read_mark(&mut self, wanted: Kind) -> Result<(), ReadError>
+        ensures found { OnOk result (self.old ≡ mark wanted ∷ self.new) }
+        ensures fault { IfFault result ((to : Lexemes) → self.old ≡ mark wanted ∷ to → ⊥) }
+    {
+        let Some((lexeme, after)) = self.split_first() else {
+            return Err(ReadError::Fault(FaultKind::Unexpected));
+        };
+        *self = after;
+        match lexeme {
+            Lexeme::Mark(kind) if kind == wanted => Ok(()),
+            _ => Err(ReadError::Fault(FaultKind::Unexpected)),
+        }
+    }
+
+    /// Reads an identifier.
+    pub(crate) fn read_keyword(&mut self) -> Result<Keyword, ReadError>
+        ensures found { IfOk result (λ name. self.old ≡ keyword name ∷ self.new) }
+        ensures fault { IfFault result ((name : Keyword) (to : Lexemes) → self.old ≡ keyword name ∷ to → ⊥) }
+    {
+        let Some((lexeme, after)) = self.split_first() else {
+            return Err(ReadError::Fault(FaultKind::Unexpected));
+        };
+        *self = after;
+        match lexeme {
+            Lexeme::Keyword(name) => Ok(name),
+            _ => Err(ReadError::Fault(FaultKind::Unexpected)),
+        }
+    }
+
+    /// Nothing is left.
+    pub(crate) fn read_end(&mut self) -> Result<(), ReadError>
+        ensures found { OnOk result (self.old ≡ []) }
+        ensures fault { IfFault result (self.old ≡ [] → ⊥) }
+    {
+        match self.split_first() {
+            None => Ok(()),
+            Some((_, after)) => {
+                *self = after;
+                Err(ReadError::Fault(FaultKind::Unexpected))
+            }
+        }
+    }
+}

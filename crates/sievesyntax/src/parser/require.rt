@@ -1,0 +1,84 @@
+//! The requires at the front of a script, and a whole script (RFC 5228, 3.2).
+ghost use Rattle.std.specs.Prelude.{◌≡◌, ℕ, List, ◌∷◌, IfOk, MatchBool, map};
+ghost use Rattle.sievesyntax.specs.declared.table.keyword.Keyword.TheVariants as W;
+ghost use Rattle.sievesyntax.specs.Lexemes.{Lexemes, keyword};
+ghost use Rattle.sievesyntax.specs.Parsing.{IfFault, Parses, StandsNowhere};
+ghost use Rattle.sievesyntax.specs.Tree.{CommandTree, Commands, require};
+ghost use Rattle.sievesyntax.specs.View.{command_view, commands_view};
+ghost use Rattle.sievesyntax.specs.Valid.{granted_by, IsValid};
+ghost use Rattle.sievesyntax.specs.Grammar.{IsStatement, Reads};
+ghost use Rattle.sievesyntax.specs.Steps.{TakesRequires, ReadsRequires, ReadsRequiresAlone, IsPastRequires, all_names};
+
+use crate::error::ReadError;
+use crate::parser::argument::read_arguments;
+use crate::parser::command_parser::read_commands;
+use crate::parser::lexeme::Lexeme;
+use crate::parser::reader::Reader;
+use crate::table::capability::{Capabilities, grant};
+use crate::table::keyword::Keyword;
+use crate::table::positional::read_list;
+use crate::tree::command::Command;
+use octets::Texts;
+use sievelex::Kind;
+use std::alloc::Global;
+
+/// How deep blocks may stand in blocks at most: it bounds the stack of the check.
+const MAX_BLOCKS: usize = 32;
+
+/// The commands of a whole script.
+pub(crate) fn read_script(alloc: Global, reader: &mut Reader<'_>) -> Result<Vec<Command>, ReadError>
+    ensures found { IfOk result (λ all. Reads (commands_view all.items) reader.old × IsValid (commands_view all.items)) }
+    ensures only { IfOk result (λ all. (tree : Commands) → Reads tree reader.old → IsValid tree → tree ≡ commands_view all.items) }
+    ensures fault { IfFault result ((tree : Commands) → Reads tree reader.old → IsValid tree → ⊥) }
+{
+    let (opening, granted) = read_requires(alloc, reader)?;
+    let commands = read_commands(alloc, reader, granted, MAX_BLOCKS, opening)?;
+    reader.read_end()?;
+    Ok(commands)
+}
+
+/// The requires at the front, and what they grant.
+fn read_requires(
+    alloc: Global,
+    reader: &mut Reader<'_>,
+) -> Result<(Vec<Command>, Capabilities), ReadError>
+    ensures found { IfOk result (λ r. ReadsRequires (map command_view r.0.items) r.1 reader.old reader.new) }
+    ensures only { IfOk result (λ r. ReadsRequiresAlone (map command_view r.0.items) r.1 reader.old reader.new) }
+    ensures fault { IfFault result (StandsNowhere TakesRequires reader.old) }
+{
+    let mut found = Vec::new(alloc);
+    let mut granted = Capabilities {
+        fileinto: false,
+        envelope: false,
+        vacation: false,
+    };
+    'found: while take_require(reader) {
+        let names = read_names(alloc, reader)?;
+        granted = grant(granted, names.as_slice())?;
+        found.push(Command::Require(names))?;
+    }
+    Ok((found, granted))
+}
+
+/// Passes the word `require`, if it stands first.
+fn take_require(reader: &mut Reader<'_>) -> bool
+    ensures { MatchBool result (reader.old ≡ keyword W.Require ∷ reader.new) (IsPastRequires reader.old × (reader.new ≡ reader.old)) }
+{
+    match reader.split_first() {
+        Some((Lexeme::Keyword(Keyword::Require), after)) => {
+            *reader = after;
+            true
+        }
+        _ => false,
+    }
+}
+
+/// The names of a `require`, after its word.
+fn read_names(alloc: Global, reader: &mut Reader<'_>) -> Result<Texts, ReadError>
+    ensures { Parses (λ names. names) (λ names from to. IsStatement (require names) W.Require from to) reader.old reader.new result }
+{
+    let args = read_arguments(alloc, reader)?;
+    let names = read_list(alloc, args.as_slice())?;
+    reader.read_mark(Kind::Semicolon)?;
+    Ok(names)
+}

@@ -1,0 +1,118 @@
+//! Tests, by recursive descent: no deeper than test lists and `not`s may enclose them.
+ghost use Rattle.std.specs.Prelude.{◌≡◌, ◌++◌, ◌∷◌, ℕ, List, IfOk, map};
+ghost use Rattle.sievelex.specs.declared.token.Kind.TheVariants as K;
+ghost use Rattle.sievesyntax.specs.declared.table.keyword.Keyword.TheVariants as W;
+ghost use Rattle.sievesyntax.specs.Chains.{Chain};
+ghost use Rattle.sievesyntax.specs.Lexemes.{Lexemes, mark};
+ghost use Rattle.sievesyntax.specs.Parsing.{IfFault, Parses, StandsNowhere, Extends, ExtendsAlone};
+ghost use Rattle.sievesyntax.specs.Tree.{TestTree};
+ghost use Rattle.sievesyntax.specs.View.{test_view, tests_view};
+ghost use Rattle.sievesyntax.specs.Steps.{TakesTest, AsksAfter, TakesMoreTests, TakesTests};
+
+use crate::error::ReadError;
+use crate::parser::argument::{read_arguments, read_separator};
+use crate::parser::reader::Reader;
+use crate::table::capability::Capabilities;
+use crate::table::keyword::Keyword;
+use crate::table::test::plain_test;
+use crate::tree::test::Test;
+use sievelex::{FaultKind, Kind};
+use std::alloc::Global;
+
+/// A test that may stand here: that many test lists and that many `not`s may enclose the tests within it.
+#[cycle(ask)]
+pub(crate) fn read_test(
+    alloc: Global,
+    reader: &mut Reader<'_>,
+    granted: Capabilities,
+    lists: usize,
+    nots: usize,
+) -> Result<Test, ReadError>
+    ensures { Parses test_view (TakesTest granted lists nots) reader.old reader.new result }
+{
+    let name = reader.read_keyword()?;
+    match name {
+        Keyword::Not => read_not(alloc, reader, granted, lists, nots),
+        Keyword::AllOf => Ok(Test::AllOf(read_tests(alloc, reader, granted, lists, nots)?)),
+        Keyword::AnyOf => Ok(Test::AnyOf(read_tests(alloc, reader, granted, lists, nots)?)),
+        _ => read_plain(alloc, reader, granted, lists, nots, name),
+    }
+}
+
+/// `not`, after its name.
+#[cycle(ask)]
+fn read_not(
+    alloc: Global,
+    reader: &mut Reader<'_>,
+    granted: Capabilities,
+    lists: usize,
+    nots: usize,
+) -> Result<Test, ReadError>
+    ensures { Parses test_view (AsksAfter granted lists nots W.Not) reader.old reader.new result }
+{
+    if nots == 0 {
+        return Err(ReadError::Fault(FaultKind::TooDeep));
+    }
+    let inner = read_test(alloc, reader, granted, lists, nots - 1)?;
+    Ok(Test::Not(Box::new(alloc, inner)?))
+}
+
+/// A test list.
+#[cycle(ask)]
+fn read_tests(
+    alloc: Global,
+    reader: &mut Reader<'_>,
+    granted: Capabilities,
+    lists: usize,
+    nots: usize,
+) -> Result<Vec<Test>, ReadError>
+    ensures { Parses (λ v. tests_view v.items) (TakesTests granted lists nots) reader.old reader.new result }
+{
+    reader.read_mark(Kind::OpenParen)?;
+    if lists == 0 {
+        return Err(ReadError::Fault(FaultKind::TooDeep));
+    }
+    let mut one = Vec::with_capacity(alloc, 1)?;
+    one.push(read_test(alloc, reader, granted, lists - 1, nots)?)?;
+    let tests = read_more_tests(alloc, reader, granted, lists - 1, nots, one)?;
+    Ok(tests)
+}
+
+/// The tests of a list after those read so far, and its close parenthesis.
+#[cycle(ask)]
+fn read_more_tests(
+    alloc: Global,
+    reader: &mut Reader<'_>,
+    granted: Capabilities,
+    lists: usize,
+    nots: usize,
+    tests: Vec<Test>,
+) -> Result<Vec<Test>, ReadError>
+    ensures found { IfOk result (λ all. Extends (TakesMoreTests granted lists nots) (map test_view tests.items) (map test_view all.items) reader.old reader.new) }
+    ensures only { IfOk result (λ all. ExtendsAlone (TakesMoreTests granted lists nots) (map test_view tests.items) (map test_view all.items) reader.old reader.new) }
+    ensures fault { IfFault result (StandsNowhere (TakesMoreTests granted lists nots) reader.old) }
+{
+    let mut tests = tests;
+    'tests: while read_separator(reader, Kind::CloseParen)? {
+        tests.push(read_test(alloc, reader, granted, lists, nots)?)?;
+    }
+    Ok(tests)
+}
+
+/// A test without tests in it, after its name.
+fn read_plain(
+    alloc: Global,
+    reader: &mut Reader<'_>,
+    granted: Capabilities,
+    lists: usize,
+    nots: usize,
+    name: Keyword,
+) -> Result<Test, ReadError>
+    requires no_not { name ≡ W.Not → ⊥ }
+    requires no_allof { name ≡ W.AllOf → ⊥ }
+    requires no_anyof { name ≡ W.AnyOf → ⊥ }
+    ensures { Parses test_view (AsksAfter granted lists nots name) reader.old reader.new result }
+{
+    let args = read_arguments(alloc, reader)?;
+    Ok(plain_test(alloc, name, args.as_slice(), granted)?)
+}

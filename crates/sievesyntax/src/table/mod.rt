@@ -1,0 +1,14 @@
+//! The table of the language: a file for each of its tables, or for what one element of it takes.
+pub mod capability;
+pub mod command;
+pub mod keyword;
+pub mod positional;
+pub mod reason;
+pub mod redirect;
+pub mod tag;
+pub mod tag_group;
+pub mod tag_values;
+pub mod tagged;
+pub mod test;
+pub mod test_arguments;
+pub mod vacation_arguments;

@@ -1,0 +1,100 @@
+//! Positional arguments.
+ghost use Rattle.std.specs.Prelude.{◌≡◌, ℕ, List, [], IfOk, OnOk, Some, None};
+ghost use Rattle.sievesyntax.specs.Parsing.{IfFault, Finds};
+ghost use Rattle.sievesyntax.specs.Positional.{one_number, one_text, one_list, two_lists};
+ghost use Rattle.sievesyntax.specs.Table.{IsList, IsText};
+
+use crate::error::ReadError;
+use crate::parser::argument::Argument;
+use crate::table::tag_group::split_tags;
+use crate::table::tagged::strings;
+use octets::{Octets, Texts};
+use sievelex::FaultKind;
+use std::alloc::Global;
+
+/// No arguments at all.
+pub(crate) fn no_arguments(args: &[Argument]) -> Result<(), ReadError>
+    ensures found { OnOk result (args.now ≡ []) }
+    ensures fault { IfFault result (args.now ≡ [] → ⊥) }
+{
+    match args.first() {
+        None => Ok(()),
+        Some(Argument::Tag(_)) => Err(ReadError::Fault(FaultKind::UnknownTag)),
+        Some(_) => Err(ReadError::Fault(FaultKind::ExtraArgument)),
+    }
+}
+
+/// One number.
+pub(crate) fn number(args: &[Argument]) -> Result<u64, ReadError>
+    ensures found { IfOk result (λ n. one_number args.now ≡ Some n) }
+    ensures fault { IfFault result (one_number args.now ≡ None) }
+{
+    match args {
+        [Argument::Number(number)] => Ok(*number),
+        _ => Err(ReadError::Fault(count_fault(args, 1))),
+    }
+}
+
+/// One string without brackets.
+pub(crate) fn text(alloc: Global, args: &[Argument]) -> Result<Octets, ReadError>
+    ensures found { IfOk result (λ s. one_text args.now ≡ Some s) }
+    ensures fault { IfFault result (one_text args.now ≡ None) }
+{
+    match args {
+        [Argument::Text(string)] => Ok(string.copied(alloc)?),
+        _ => Err(ReadError::Fault(count_fault(args, 1))),
+    }
+}
+
+/// One string without brackets, and no tags.
+pub(crate) fn read_text(alloc: Global, args: &[Argument]) -> Result<Octets, ReadError>
+    ensures { Finds (IsText args.now) result }
+{
+    let (_tag_values, positional) = split_tags(alloc, args, &[])?;
+    text(alloc, positional)
+}
+
+/// One list of strings.
+pub(crate) fn list(alloc: Global, args: &[Argument]) -> Result<Texts, ReadError>
+    ensures found { IfOk result (λ xs. one_list args.now ≡ Some xs) }
+    ensures fault { IfFault result (one_list args.now ≡ None) }
+{
+    match args {
+        [value] => Ok(strings(alloc, value)?),
+        _ => Err(ReadError::Fault(count_fault(args, 1))),
+    }
+}
+
+/// The names of `require`, or the fields of `exists`.
+pub(crate) fn read_list(alloc: Global, args: &[Argument]) -> Result<Texts, ReadError>
+    ensures { Finds (IsList args.now) result }
+{
+    let (_tag_values, positional) = split_tags(alloc, args, &[])?;
+    list(alloc, positional)
+}
+
+/// Two lists of strings.
+pub(crate) fn lists(alloc: Global, args: &[Argument]) -> Result<(Texts, Texts), ReadError>
+    ensures found { IfOk result (λ both. two_lists args.now ≡ Some (both.0, both.1)) }
+    ensures fault { IfFault result (two_lists args.now ≡ None) }
+{
+    match args {
+        [first, second] => {
+            let one = strings(alloc, first)?;
+            let two = strings(alloc, second)?;
+            Ok((one, two))
+        }
+        _ => Err(ReadError::Fault(count_fault(args, 2))),
+    }
+}
+
+/// Why these positional arguments are not those wanted: their number, or else their form.
+fn count_fault(args: &[Argument], wanted: usize) -> FaultKind {
+    if args.len() < wanted {
+        FaultKind::MissingArgument
+    } else if args.len() > wanted {
+        FaultKind::ExtraArgument
+    } else {
+        FaultKind::WrongArgument
+    }
+}

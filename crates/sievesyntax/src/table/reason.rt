@@ -1,0 +1,95 @@
+//! The reason of a `vacation` (RFC 5230, 4.4).
+ghost use Rattle.std.specs.Prelude.{◌≡◌, OnOk, option_map};
+ghost use Rattle.std.specs.List.{list_all};
+ghost use Rattle.sievesyntax.specs.Parsing.{IfFault};
+ghost use Rattle.sievesyntax.specs.Reasons as spec;
+ghost use Rattle.mailhead.specs.Fields as fields;
+
+use crate::error::ReadError;
+use crate::table::keyword::is_name;
+use crate::tree::vacation::VacArgs;
+use mailhead::{after_empty_line, first_line, logical_line, read_field, without_end};
+use sievelex::FaultKind;
+
+/// The most octets of a line, without its line end (RFC 5322, 2.1.1).
+const MAX_LINE: usize = 998;
+
+/// A reason that may stand.
+pub(crate) fn check_reason(args: &VacArgs) -> Result<(), ReadError>
+    ensures found { OnOk result (spec.IsReason args.now) }
+    ensures fault { IfFault result (spec.IsReason args.now → ⊥) }
+{
+    if !is_narrow_text(args.reason.as_slice()) {
+        return Err(ReadError::Fault(FaultKind::LongReasonLine));
+    }
+    if args.mime && !is_entity(args.reason.as_slice()) {
+        return Err(ReadError::Fault(FaultKind::BadMime));
+    }
+    Ok(())
+}
+
+/// No line is too long.
+fn is_narrow_text(text: &[u8]) -> bool
+    ensures { result ≡ spec.is_narrow_text text.now }
+{
+    let mut rest = text;
+    while !rest.is_empty() {
+        let (line, after) = first_line(rest);
+        if without_end(line).len() > MAX_LINE {
+            return false;
+        }
+        rest = after;
+    }
+    true
+}
+
+/// A header of MIME fields alone, an empty line, and anything.
+fn is_entity(text: &[u8]) -> bool
+    ensures { result ≡ spec.is_entity text.now }
+{
+    let mut rest = text;
+    while !rest.is_empty() {
+        if let Some(_body) = after_empty_line(rest) {
+            return true;
+        }
+        let (line, after) = logical_line(rest);
+        if !is_mime_line(line) {
+            return false;
+        }
+        rest = after;
+    }
+    false
+}
+
+fn is_mime_line(line: &[u8]) -> bool
+    ensures { result ≡ spec.is_mime_line line.now }
+{
+    has_header_octets(line) && has_mime_name(line)
+}
+
+fn has_header_octets(line: &[u8]) -> bool
+    ensures { result ≡ list_all spec.is_header_octet line.now }
+{
+    line.iter().all(|octet| is_header_octet(*octet))
+}
+
+fn is_header_octet(octet: u8) -> bool
+    ensures { result ≡ spec.is_header_octet octet }
+{
+    octet == b'\t' || octet == b'\n' || octet == b'\r' || (32 <= octet && octet <= 126)
+}
+
+fn has_mime_name(line: &[u8]) -> bool
+    ensures { result ≡ spec.has_mime_name (fields.field_of line.now) }
+{
+    match read_field(line) {
+        Some(field) => is_mime_name(field.name),
+        None => false,
+    }
+}
+
+fn is_mime_name(name: &[u8]) -> bool
+    ensures { result ≡ spec.is_mime_name name.now }
+{
+    (8 <= name.len() && is_name(name.split_at(8).0, b"content-")) || is_name(name, b"mime-version")
+}

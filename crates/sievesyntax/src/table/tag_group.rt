@@ -1,0 +1,191 @@
+//! Tagged arguments, in any order (RFC 5228, 2.6.2).
+ghost use Rattle.std.specs.Prelude.{◌≡◌, ◌↔◌, List, [], ◌∷◌, MatchOption, IfOk, IsTrue};
+ghost use Rattle.sievesyntax.specs.declared.parser.argument.Argument.TheVariants as A;
+ghost use Rattle.sievesyntax.specs.Parsing.{IfFault};
+ghost use Rattle.sievesyntax.specs.Tags.{IsTagValue, group_of, Among, IsAllowed, IsPlain, IsSplit, IsSplitAlone, HasNoTag};
+
+use crate::error::ReadError;
+use crate::parser::argument::Argument;
+use crate::table::tag::Tag;
+use crate::table::tagged::{collation_at, number_at, text_at, texts_at};
+use crate::tree::checks::{AddressPart, Bound, Collation, Matching};
+use octets::{Octets, Texts};
+use sievelex::FaultKind;
+use std::alloc::Global;
+
+/// What a tag, with its value, says.
+#[derive(Drop)]
+pub enum TagValue {
+    /// `:over`, `:under`.
+    Bound(Bound),
+    /// `:comparator`.
+    Comparator(Collation),
+    /// `:is`, `:contains`, `:matches`.
+    Matching(Matching),
+    /// `:all`, `:localpart`, `:domain`.
+    Part(AddressPart),
+    /// `:days`.
+    Days(u64),
+    /// `:subject`.
+    Subject(Octets),
+    /// `:from`.
+    From(Octets),
+    /// `:addresses`.
+    Addresses(Texts),
+    /// `:mime`.
+    Mime,
+    /// `:handle`.
+    Handle(Octets),
+}
+
+/// What a tag settles. Tags that exclude each other settle one thing.
+#[derive(Clone, Copy, PartialEq, Eq)]
+pub enum TagGroup {
+    Bound,
+    Comparator,
+    Matching,
+    Part,
+    Days,
+    Subject,
+    From,
+    Addresses,
+    Mime,
+    Handle,
+}
+
+impl TagValue {
+    fn group(&self) -> TagGroup
+        ensures { result ≡ group_of self.now }
+    {
+        match self {
+            TagValue::Bound(_) => TagGroup::Bound,
+            TagValue::Comparator(_) => TagGroup::Comparator,
+            TagValue::Matching(_) => TagGroup::Matching,
+            TagValue::Part(_) => TagGroup::Part,
+            TagValue::Days(_) => TagGroup::Days,
+            TagValue::Subject(_) => TagGroup::Subject,
+            TagValue::From(_) => TagGroup::From,
+            TagValue::Addresses(_) => TagGroup::Addresses,
+            TagValue::Mime => TagGroup::Mime,
+            TagValue::Handle(_) => TagGroup::Handle,
+        }
+    }
+}
+
+/// The tags at the front, each of an allowed group and none twice, and the positional arguments after them.
+pub(crate) fn split_tags<'a>(
+    alloc: Global,
+    args: &'a [Argument],
+    allowed: &[TagGroup],
+) -> Result<(Vec<TagValue>, &'a [Argument]), ReadError>
+    ensures found { IfOk result (λ r. IsSplit allowed.now args.now r.0.items r.1.now) }
+    ensures only { IfOk result (λ r. IsSplitAlone allowed.now args.now r.0.items r.1.now) }
+    ensures fault { IfFault result ((tag_values : List TagValue) (positional : List Argument) → IsSplit allowed.now args.now tag_values positional → ⊥) }
+{
+    let mut tag_values = Vec::new(alloc);
+    let mut taken = Vec::new(alloc);
+    let mut rest = args;
+    'tag_values: while let Some((tag_value, after)) = next_tag(
+        alloc,
+        rest,
+        allowed,
+        taken.as_slice(),
+    )? {
+        taken.push(tag_value.group())?;
+        tag_values.push(tag_value)?;
+        rest = after;
+    }
+    Ok((tag_values, rest))
+}
+
+/// The tag at the front, or none where no tag stands there.
+fn next_tag<'a>(
+    alloc: Global,
+    args: &'a [Argument],
+    allowed: &[TagGroup],
+    taken: &[TagGroup],
+) -> Result<Option<(TagValue, &'a [Argument])>, ReadError>
+    ensures found { IfOk result (λ o. MatchOption o (IsPlain args.now) (λ r. IsAllowed allowed.now r.0 args.now r.1.now)) }
+    ensures free { IfOk result (λ o. MatchOption o (Unit {0}) (λ r. Among (group_of r.0) taken.now → ⊥)) }
+    ensures begun { IfFault result (IsPlain args.now → ⊥) }
+    ensures fault { IfFault result (HasNoTag allowed.now taken.now args.now) }
+{
+    let Some((first, rest)) = args.split_first() else {
+        return Ok(None);
+    };
+    let Argument::Tag(tag) = first else {
+        return Ok(None);
+    };
+    let (tag_value, after) = tag_value_at(alloc, *tag, rest)?;
+    if !is_among(tag_value.group(), allowed) {
+        return Err(ReadError::Fault(FaultKind::UnknownTag));
+    }
+    if is_among(tag_value.group(), taken) {
+        return Err(ReadError::Fault(FaultKind::DoubleTag));
+    }
+    Ok(Some((tag_value, after)))
+}
+
+/// The tag that begins with this tag, and what follows it.
+fn tag_value_at<'a>(
+    alloc: Global,
+    tag: Tag,
+    args: &'a [Argument],
+) -> Result<(TagValue, &'a [Argument]), ReadError>
+    ensures found { IfOk result (λ r. IsTagValue r.0 (A.Tag tag ∷ args.now) r.1.now) }
+    ensures fault { IfFault result ((s : TagValue) (to : List Argument) → IsTagValue s (A.Tag tag ∷ args.now) to → ⊥) }
+{
+    match tag {
+        Tag::Over => Ok((TagValue::Bound(Bound::Over), args)),
+        Tag::Under => Ok((TagValue::Bound(Bound::Under), args)),
+        Tag::Is => Ok((TagValue::Matching(Matching::Is), args)),
+        Tag::Contains => Ok((TagValue::Matching(Matching::Contains), args)),
+        Tag::Matches => Ok((TagValue::Matching(Matching::Matches), args)),
+        Tag::All => Ok((TagValue::Part(AddressPart::All), args)),
+        Tag::LocalPart => Ok((TagValue::Part(AddressPart::LocalPart), args)),
+        Tag::Domain => Ok((TagValue::Part(AddressPart::Domain), args)),
+        Tag::Mime => Ok((TagValue::Mime, args)),
+        Tag::Comparator => {
+            let (collation, rest) = collation_at(args)?;
+            Ok((TagValue::Comparator(collation), rest))
+        }
+        Tag::Days => {
+            let (days, rest) = number_at(args)?;
+            Ok((TagValue::Days(days), rest))
+        }
+        Tag::Subject => {
+            let (subject, rest) = text_at(alloc, args)?;
+            Ok((TagValue::Subject(subject), rest))
+        }
+        Tag::From => {
+            let (text, rest) = text_at(alloc, args)?;
+            Ok((TagValue::From(text), rest))
+        }
+        Tag::Handle => {
+            let (handle, rest) = text_at(alloc, args)?;
+            Ok((TagValue::Handle(handle), rest))
+        }
+        Tag::Addresses => {
+            let (texts, rest) = texts_at(alloc, args)?;
+            Ok((TagValue::Addresses(texts), rest))
+        }
+        Tag::Other => Err(ReadError::Fault(FaultKind::UnknownTag)),
+    }
+}
+
+fn is_among(group: TagGroup, groups: &[TagGroup]) -> bool
+    ensures { IsTrue result ↔ Among group groups.now }
+{
+    for other in groups {
+        if is_same(group, *other) {
+            return true;
+        }
+    }
+    false
+}
+
+fn is_same(group: TagGroup, other: TagGroup) -> bool
+    ensures { IsTrue result ↔ group ≡ other }
+{
+    group == other
+}

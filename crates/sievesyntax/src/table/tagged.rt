@@ -1,0 +1,116 @@
+//! The values after tags (RFC 5228, 2.6.2).
+ghost use Rattle.std.specs.Prelude.{◌≡◌, ℕ, List, ◌∷◌, IfOk, Some, None};
+ghost use Rattle.sievesyntax.specs.declared.parser.argument.Argument.{Argument};
+ghost use Rattle.sievesyntax.specs.declared.parser.argument.Argument.TheVariants as A;
+ghost use Rattle.sievesyntax.specs.declared.tree.checks.Collation.{Collation};
+ghost use Rattle.sievesyntax.specs.Parsing.{IfFault};
+ghost use Rattle.sievesyntax.specs.Tags.{name_of, strings_of};
+
+use crate::error::ReadError;
+use crate::parser::argument::Argument;
+use crate::tree::checks::Collation;
+use octets::{Octets, Texts};
+use sievelex::FaultKind;
+use std::alloc::Global;
+
+/// The argument at the front, and what follows it.
+fn value_at(args: &[Argument]) -> Result<(&Argument, &[Argument]), ReadError>
+    ensures found { IfOk result (λ r. args.now ≡ r.0.now ∷ r.1.now) }
+    ensures fault { IfFault result ((a : Argument) (to : List Argument) → args.now ≡ a ∷ to → ⊥) }
+{
+    match args.split_first() {
+        Some((value, rest)) => Ok((value, rest)),
+        None => Err(ReadError::Fault(FaultKind::MissingArgument)),
+    }
+}
+
+/// A number.
+pub(crate) fn number_at(args: &[Argument]) -> Result<(u64, &[Argument]), ReadError>
+    ensures found { IfOk result (λ r. args.now ≡ A.Number r.0 ∷ r.1.now) }
+    ensures fault { IfFault result ((n : ℕ) (to : List Argument) → args.now ≡ A.Number n ∷ to → ⊥) }
+{
+    let (value, rest) = value_at(args)?;
+    match value {
+        Argument::Number(number) => Ok((*number, rest)),
+        _ => Err(ReadError::Fault(FaultKind::WrongArgument)),
+    }
+}
+
+/// One string without brackets.
+pub(crate) fn text_at<'a>(
+    alloc: Global,
+    args: &'a [Argument],
+) -> Result<(Octets, &'a [Argument]), ReadError>
+    ensures found { IfOk result (λ r. args.now ≡ A.Text r.0 ∷ r.1.now) }
+    ensures fault { IfFault result ((s : List ℕ) (to : List Argument) → args.now ≡ A.Text s ∷ to → ⊥) }
+{
+    let (value, rest) = value_at(args)?;
+    match value {
+        Argument::Text(string) => Ok((string.copied(alloc)?, rest)),
+        _ => Err(ReadError::Fault(FaultKind::WrongArgument)),
+    }
+}
+
+/// A string, or strings in brackets.
+pub(crate) fn texts_at<'a>(
+    alloc: Global,
+    args: &'a [Argument],
+) -> Result<(Texts, &'a [Argument]), ReadError>
+    ensures found { IfOk result (λ r. (a : Argument) × ((args.now ≡ a ∷ r.1.now) × (strings_of a ≡ Some r.0))) }
+    ensures fault { IfFault result ((a : Argument) (xs : List (List ℕ)) (to : List Argument) → args.now ≡ a ∷ to → strings_of a ≡ Some xs → ⊥) }
+{
+    let (value, rest) = value_at(args)?;
+    Ok((strings(alloc, value)?, rest))
+}
+
+/// The comparator of this name, compared by octets.
+pub(crate) fn collation_at(args: &[Argument]) -> Result<(Collation, &[Argument]), ReadError>
+    ensures found { IfOk result (λ r. args.now ≡ A.Text (name_of r.0) ∷ r.1.now) }
+    ensures fault { IfFault result ((c : Collation) (to : List Argument) → args.now ≡ A.Text (name_of c) ∷ to → ⊥) }
+{
+    let (value, rest) = value_at(args)?;
+    match value {
+        Argument::Text(name) => Ok((collation_named(name.as_slice())?, rest)),
+        _ => Err(ReadError::Fault(FaultKind::WrongArgument)),
+    }
+}
+
+fn collation_named(name: &[u8]) -> Result<Collation, ReadError>
+    ensures found { IfOk result (λ c. name.now ≡ name_of c) }
+    ensures fault { IfFault result ((c : Collation) → name.now ≡ name_of c → ⊥) }
+{
+    if name == b"i;octet".as_slice() {
+        Ok(Collation::Octet)
+    } else if name == b"i;ascii-casemap".as_slice() {
+        Ok(Collation::AsciiCasemap)
+    } else {
+        Err(ReadError::Fault(FaultKind::NotRequired))
+    }
+}
+
+/// The strings of an argument: a string stands for the list of it alone (RFC 5228, 2.4.2.1).
+pub(crate) fn strings(alloc: Global, value: &Argument) -> Result<Texts, ReadError>
+    ensures found { IfOk result (λ xs. strings_of value.now ≡ Some xs) }
+    ensures fault { IfFault result (strings_of value.now ≡ None) }
+{
+    match value {
+        Argument::Text(string) => {
+            let mut strings = Texts::from_vec(Vec::with_capacity(alloc, 1)?);
+            strings.push(string.copied(alloc)?)?;
+            Ok(strings)
+        }
+        Argument::Strings(strings) => copied(alloc, strings.as_slice()),
+        _ => Err(ReadError::Fault(FaultKind::WrongArgument)),
+    }
+}
+
+fn copied(alloc: Global, strings: &[Octets]) -> Result<Texts, ReadError>
+    ensures found { IfOk result (λ xs. xs ≡ strings.now) }
+    ensures fault { IfFault result ⊥ }
+{
+    let mut copies = Texts::from_vec(Vec::with_capacity(alloc, strings.len())?);
+    for string in strings {
+        copies.push(string.copied(alloc)?)?;
+    }
+    Ok(copies)
+}

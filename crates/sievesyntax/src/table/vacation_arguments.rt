@@ -1,0 +1,127 @@
+//! The arguments of `vacation` (RFC 5230, 4).
+ghost use Rattle.std.specs.Prelude.{◌≡◌, ℕ, List, Option, IfOk, OnOk, option_copied};
+ghost use Rattle.sievesyntax.specs.declared.tree.vacation.VacArgs.{VacArgs};
+ghost use Rattle.sievesyntax.specs.declared.tree.vacation.ReplyFrom.{ReplyFrom};
+ghost use Rattle.sievesyntax.specs.Parsing.{IfFault, Finds};
+ghost use Rattle.sievesyntax.specs.TagValues.{from_in, addresses_in};
+ghost use Rattle.sievesyntax.specs.Vacations.{IsReplyFrom, IsGivenFrom, AreNamed, AddsNamed, SaysVacation, IsVacation};
+
+use crate::error::ReadError;
+use crate::parser::argument::Argument;
+use crate::table::positional::text;
+use crate::table::redirect::outbound;
+use crate::table::tag_group::{TagGroup, TagValue, split_tags};
+use crate::table::tag_values::{given_days, given_handle, given_mime, given_subject};
+use crate::tree::vacation::{ReplyFrom, VacArgs};
+use addrparts::{Addr, sieve_address};
+use octets::{ListOf, Octets};
+use std::alloc::{AllocError, Global};
+
+/// The arguments of `vacation`.
+pub(crate) fn read_vacation(alloc: Global, args: &[Argument]) -> Result<VacArgs, ReadError>
+    ensures { Finds (IsVacation args.now) result }
+{
+    let allowed = &[
+        TagGroup::Days,
+        TagGroup::Subject,
+        TagGroup::From,
+        TagGroup::Addresses,
+        TagGroup::Mime,
+        TagGroup::Handle,
+    ];
+    let (tag_values, positional) = split_tags(alloc, args, allowed)?;
+    let vacation = vacation_from(alloc, tag_values.as_slice(), positional)?;
+    Ok(vacation)
+}
+
+fn vacation_from(
+    alloc: Global,
+    tag_values: &[TagValue],
+    positional: &[Argument],
+) -> Result<VacArgs, ReadError>
+    ensures found { IfOk result (λ args. SaysVacation tag_values.now positional.now args) }
+    ensures fault { IfFault result ((args : VacArgs) → SaysVacation tag_values.now positional.now args → ⊥) }
+{
+    let reason = text(alloc, positional)?;
+    let from = given_from(alloc, tag_values)?;
+    let subject = given_subject(alloc, tag_values)?;
+    let handle = given_handle(alloc, tag_values)?;
+    let addresses = given_addresses(alloc, tag_values)?;
+    Ok(VacArgs {
+        days: given_days(tag_values),
+        subject,
+        from,
+        addresses,
+        mime: given_mime(tag_values),
+        handle,
+        reason,
+    })
+}
+
+/// The value of `:from`, if one is given.
+fn given_from(alloc: Global, tag_values: &[TagValue]) -> Result<Option<ReplyFrom>, ReadError>
+    ensures found { IfOk result (λ from. IsGivenFrom (from_in tag_values.now) from) }
+    ensures fault { IfFault result ((from : Option ReplyFrom) → IsGivenFrom (from_in tag_values.now) from → ⊥) }
+{
+    match from_text(tag_values) {
+        Some(text) => Ok(Some(reply_from(alloc, text)?)),
+        None => Ok(None),
+    }
+}
+
+/// The text of `:from`, if one is given.
+fn from_text(tag_values: &[TagValue]) -> Option<&Octets>
+    ensures { option_copied result ≡ from_in tag_values.now }
+{
+    for tag_value in tag_values {
+        if let TagValue::From(text) = tag_value {
+            return Some(text);
+        }
+    }
+    None
+}
+
+fn reply_from(alloc: Global, text: &Octets) -> Result<ReplyFrom, ReadError>
+    ensures found { IfOk result (λ from. IsReplyFrom text.now from) }
+    ensures fault { IfFault result ((from : ReplyFrom) → IsReplyFrom text.now from → ⊥) }
+{
+    let (display, address) = outbound(alloc, text.as_slice())?;
+    Ok(ReplyFrom {
+        text: text.copied(alloc)?,
+        display,
+        address,
+    })
+}
+
+/// The addresses of the texts of `:addresses`: none where it isn't given.
+fn given_addresses(alloc: Global, tag_values: &[TagValue]) -> Result<ListOf<Addr>, AllocError>
+    ensures { IfOk result (λ addresses. AreNamed (addresses_in tag_values.now) addresses) }
+{
+    for tag_value in tag_values {
+        if let TagValue::Addresses(texts) = tag_value {
+            return addresses_named(alloc, texts.as_slice());
+        }
+    }
+    Ok(ListOf::new(alloc))
+}
+
+/// The addresses of those texts that name one.
+fn addresses_named(alloc: Global, texts: &[Octets]) -> Result<ListOf<Addr>, AllocError>
+    ensures { IfOk result (λ addresses. AreNamed texts.now addresses) }
+{
+    let mut addresses = ListOf::new(alloc);
+    for text in texts {
+        add_named(alloc, &mut addresses, text.as_slice())?;
+    }
+    Ok(addresses)
+}
+
+/// Appends the address that the text names, if it names one.
+fn add_named(alloc: Global, addresses: &mut ListOf<Addr>, text: &[u8]) -> Result<(), AllocError>
+    ensures { OnOk result (AddsNamed text.now addresses.old addresses.new) }
+{
+    match sieve_address(alloc, text)? {
+        Some((_display, address)) => addresses.push(address),
+        None => Ok(()),
+    }
+}

@@ -1,0 +1,71 @@
+//! What `vacation` says (RFC 5230).
+ghost use Rattle.std.specs.Prelude.{◌≡◌, IfOk};
+
+use addrparts::Addr;
+use octets::{ListOf, Octets};
+use std::alloc::{AllocError, Global};
+use std::marker::Model;
+
+/// The arguments of `vacation` in a place of their own, so that the other actions take no memory for them. Contracts
+/// see the arguments.
+#[derive(Drop)]
+pub struct Vacation {
+    args: Box<VacArgs>,
+}
+
+impl Model for Vacation {
+    ghost use Rattle.sievesyntax.specs.declared.tree.vacation.VacArgs.{VacArgs};
+
+    ghost Value = { VacArgs };
+
+    ghost view = { λ reply. reply.args.value };
+}
+
+impl Vacation {
+    /// These arguments, without a copy; without memory they are dropped.
+    pub(crate) fn new(alloc: Global, args: VacArgs) -> Result<Vacation, AllocError>
+        ensures { IfOk result (λ reply. reply ≡ args) }
+    {
+        Ok(Vacation {
+            args: Box::new(alloc, args)?,
+        })
+    }
+
+    /// The arguments.
+    pub fn args(&self) -> &VacArgs
+        ensures { result.now ≡ self.now }
+    {
+        &self.args
+    }
+}
+
+/// The arguments of `vacation`, as they were written (RFC 5230, 4). A tag that isn't there is none.
+#[derive(Drop)]
+pub struct VacArgs {
+    /// `:days`: for how many days the same sender gets no second answer, in any range (RFC 5230, 4.1).
+    pub days: Option<u64>,
+    /// `:subject` (RFC 5230, 4.3).
+    pub subject: Option<Octets>,
+    /// `:from` (RFC 5230, 4.3).
+    pub from: Option<ReplyFrom>,
+    /// `:addresses`: the addresses of the user besides those known already (RFC 5230, 4.5), in order. A text that
+    /// is no address has none here.
+    pub addresses: ListOf<Addr>,
+    /// `:mime`: the reason is a MIME entity, a header and a body (RFC 5230, 4.4).
+    pub mime: bool,
+    /// `:handle`: the name of the answer, under which it is known whether the sender has got it (RFC 5230, 4.2).
+    pub handle: Option<Octets>,
+    /// The reason: what is answered.
+    pub reason: Octets,
+}
+
+/// The value of `:from`.
+#[derive(Drop)]
+pub struct ReplyFrom {
+    /// The text as it was written.
+    pub text: Octets,
+    /// Its display: the words before an address in angle brackets, or nothing.
+    pub display: Octets,
+    /// Its address.
+    pub address: Addr,
+}
