@@ -7,7 +7,7 @@ use base64::engine::general_purpose::STANDARD;
 use mailengine::{Answer, Envelope, Event, Outgoing, Progress, Refusal, World, run};
 use mailstore::Store;
 use octets::{Octets, Texts, parse_decimal, write_decimal};
-use reportlines::of_report;
+use reportlines::{of_notices, of_queue, of_report};
 use saslplain::digest;
 use sqlite::{Connection, MemStore};
 use std::alloc::{AllocError, Global};
@@ -26,7 +26,9 @@ pub fn try_all(alloc: Global, tally: &mut Tally, file: &str) -> Result<(), Alloc
     };
     let mut answer = Octets::new(alloc);
     for section in all.iter() {
-        if section.name == "wanted" {
+        if section.name == "world" {
+            world = World::new(alloc, opened(alloc)?);
+        } else if section.name == "wanted" {
             talk.happen(alloc, &mut world, &mut answer)?;
             compare(alloc, tally, section, answer.as_slice())?;
             answer = Octets::new(alloc);
@@ -273,6 +275,14 @@ fn add_asked(
         "scripts" => add_scripts(store, out, user)?,
         "folder" => add_folder(store, out, user, name)?,
         "folders" => add_folders(store, out, user)?,
+        "queue" => out.extend_from_slice(of_queue(
+            alloc,
+            store.queue(user)?.as_slice(),
+        )?.as_slice())?,
+        "notices" => out.extend_from_slice(of_notices(
+            alloc,
+            store.notices(user)?.as_slice(),
+        )?.as_slice())?,
         _ => return Ok(false),
     }
     Ok(true)

@@ -32,6 +32,7 @@ pub enum Table {
     Scripts,
     Tests,
     Sessions,
+    Events,
     Asked,
     Streams,
     Runs,
@@ -40,7 +41,7 @@ pub enum Table {
 }
 
 /// All of them, in the order in which they are tried.
-pub const TABLES: [Table; 24] = [
+pub const TABLES: [Table; 25] = [
     Table::Ascii,
     Table::Addresses,
     Table::Targets,
@@ -60,6 +61,7 @@ pub const TABLES: [Table; 24] = [
     Table::Scripts,
     Table::Tests,
     Table::Sessions,
+    Table::Events,
     Table::Asked,
     Table::Streams,
     Table::Runs,
@@ -90,6 +92,7 @@ impl Table {
             Table::Scripts => "scripts.cases",
             Table::Tests => "tests.cases",
             Table::Sessions => "sessions.cases",
+            Table::Events => "events.cases",
             Table::Asked => "asked.cases",
             Table::Streams => "streams.cases",
             Table::Runs => "runs.cases",
@@ -110,7 +113,7 @@ impl Table {
         match self {
             Table::Heads => head::try_all(alloc, tally, file),
             Table::Scripts | Table::Tests => script::try_all(alloc, tally, file),
-            Table::Sessions => session::try_all(alloc, tally, file),
+            Table::Sessions | Table::Events => session::try_all(alloc, tally, file),
             Table::Vacations => vacation::try_all(alloc, tally, file),
             Table::Runs => try_rows(alloc, tally, &mut MemoryRuns::new(alloc)?, file),
             _ => try_rows(alloc, tally, &mut Rows(self), file),
