@@ -26,7 +26,7 @@ use Rattle.sqlrows.proofs.StepLemmas.{went, same_value}
 use Rattle.std.specs.FinMap.{get-empty}
 use Rattle.sqlrows.specs.Rows.{Tables, added}
 use Rattle.mailstore.specs.Schema.{no_schema, mail_schema}
-use Rattle.mailstore.specs.Connection.{no_rows, Makes, MakesTable}
+use Rattle.mailstore.specs.Connection.{no_rows, MakesRows, MakesSchema}
 use Rattle.mailstore.specs.Account.{bytes_cmp, no_accounts}
 use Rattle.mailstore.specs.MetaTable.{version_row, meta_tree}
 use Rattle.mailstore.specs.Shows.{rows_of, IsAbsent, IsShownOrAbsent, ShowsAccounts, Presents, MayCreate}
@@ -85,7 +85,7 @@ pub starts_empty : (db : Database) → db.schema ≡ no_schema → Holds no_sche
 starts_empty db is = record { is = is; fits = record { rules = λ rule other. tt; indexed = tt }; each = λ t none. absurd none }
 
 -- one table after another
-pub then_makes : {X Y : Type 0} (a b c : State) (s t u : Schema) (r : Result X Error) (x : X) (q : Result Y Error) → r ≡ Ok x → Survives b c (λ _. ⊥) → MakesTable a b r s t → MakesTable b c q t u → MakesTable a c q s u
+pub then_makes : {X Y : Type 0} (a b c : State) (s t u : Schema) (r : Result X Error) (x : X) (q : Result Y Error) → r ≡ Ok x → Survives b c (λ _. ⊥) → MakesSchema a b r s t → MakesSchema b c q t u → MakesSchema a c q s u
 then_makes {X} {Y} a b c s t u r x q ok survives one two clean inside = go q (two clean first.1.mode)
   where
     begun : KeepsCommit a b × OnOk r ((Holds s a.now no_rows → Holds t b.now no_rows) × Shows a b b.now a.committed true)
@@ -101,7 +101,7 @@ then_makes {X} {Y} a b c s t u r x q ok survives one two clean inside = go q (tw
 
 -- all tables and the row of the version
 pub all_ready : {X Y : Type 0} (old two three : State) (r : Result X Error) (x : X) (q : Result Y Error) (y : Y) → r ≡ Ok x → q ≡ Ok y → IsTrue old.in_transaction → Survives two three (λ _. ⊥)
-    → MakesTable old two r no_schema mail_schema → Makes two three q (added meta_tree version_row) → HasCleanDisk three → old.now.schema ≡ no_schema → Presents three.now no_accounts
+    → MakesSchema old two r no_schema mail_schema → MakesRows two three q (added meta_tree version_row) → HasCleanDisk three → old.now.schema ≡ no_schema → Presents three.now no_accounts
 all_ready old two three r x q y rok qok inside s1 tables version late blank =
     let early = clean_before two three (λ _. ⊥) s1 late in
     let first = subst (λ o. OnOk o ((Holds no_schema old.now no_rows → Holds mail_schema two.now no_rows) × Shows old two two.now old.committed true)) rok (tables early inside).1 in

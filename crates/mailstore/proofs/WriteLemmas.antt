@@ -12,7 +12,7 @@ use Rattle.sqlite.proofs.Callers.{survives_begin}
 use Rattle.sqlrows.specs.Rows.{Tables, Holds}
 use Rattle.mailstore.specs.declared.change.Change.{Change}
 use Rattle.mailstore.specs.Schema.{mail_schema}
-use Rattle.mailstore.specs.Connection.{Makes}
+use Rattle.mailstore.specs.Connection.{MakesRows}
 use Rattle.mailstore.specs.Changes.{made_one, made, MayHave}
 
 -- what a loop over the changes keeps
@@ -29,7 +29,7 @@ pub clean_before : (mid new : State) (P : Trees → Type 0) → Survives mid new
 clean_before mid new P s clean = let low = s.clean in omega arith
 
 pub one_more : {X : Type 0} (old mid new : State) (changes : List Change) (at : ℕ) (d : Change) (r : Result X Error) (x : X) → r ≡ Ok x → at < length changes → (HasCleanDisk mid → HasMade old mid (take at changes))
-    → Survives mid new (λ _. ⊥) → Makes mid new r (made_one (get_or changes at d)) → HasCleanDisk new → HasMade old new (take (at + 1) changes)
+    → Survives mid new (λ _. ⊥) → MakesRows mid new r (made_one (get_or changes at d)) → HasCleanDisk new → HasMade old new (take (at + 1) changes)
 one_more old mid new changes at d r x ok within was survives makes clean =
     let before = was (clean_before mid new _ survives clean) in
     let done = makes clean before.inside in

@@ -2,18 +2,24 @@
 use Rattle.std.specs.Prelude.{◌≡◌, ◌⊎◌, ◌≤◌, ◌||◌, Bool, true, [], codes, is_some, Result, OnOk, IsTrue}
 use Rattle.sqlite_schema.specs.declared.schema.Schema.{Schema}
 use Rattle.sqlite_schema.specs.Names.{table_named}
+use Rattle.sqlite_trees.specs.declared.store.Store.{Ghosts}
 use Rattle.sqlite_trees.specs.Tree.{Trees}
 use Rattle.sqlite_trees.specs.View.{doubt}
 use Rattle.sqlite.specs.declared.error.Error.{Error}
+use Rattle.sqlite.specs.Held.{Held, state}
 use Rattle.sqlite.specs.State.{State, HasCleanDisk, KeepsCommit, Shows}
 use Rattle.sqlrows.specs.Rows.{Tables, Holds}
 use Rattle.mailstore.specs.Schema.{mail_schema}
 
 -- inside a transaction, where the tables hold these, they then hold what the function makes of them, and the last commit stands
-abbrev pub Makes : {X : Type 0} → State → State → Result X Error → (Tables → Tables) → Type 0
-Makes old new result change =
+abbrev pub MakesRows : {X : Type 0} → State → State → Result X Error → (Tables → Tables) → Type 0
+MakesRows old new result change =
     HasCleanDisk new → IsTrue old.in_transaction
     → KeepsCommit old new × OnOk result (((tables : Tables) → Holds mail_schema old.now tables → Holds mail_schema new.now (change tables)) × Shows old new new.now old.committed true)
+
+-- the same, of what the connection holds
+abbrev pub Makes : {S X : Type 0} → Ghosts S → Held S → Held S → Result X Error → (Tables → Tables) → Type 0
+Makes g old new result change = MakesRows (state g old) (state g new) result change
 
 -- the connection is open, and sees its last commit
 pub record SeesCommit (s : State) : Type 0 where
@@ -46,9 +52,13 @@ abbrev pub no_rows : Tables
 no_rows tree = []
 
 -- inside a transaction a table is made: where the empty schema was this one, it is then the next
-abbrev pub MakesTable : {X : Type 0} → State → State → Result X Error → Schema → Schema → Type 0
-MakesTable old new result schema next =
+abbrev pub MakesSchema : {X : Type 0} → State → State → Result X Error → Schema → Schema → Type 0
+MakesSchema old new result schema next =
     HasCleanDisk new → IsTrue old.in_transaction → KeepsCommit old new × OnOk result ((Holds schema old.now no_rows → Holds next new.now no_rows) × Shows old new new.now old.committed true)
+
+-- the same, of what the connection holds
+abbrev pub MakesTable : {S X : Type 0} → Ghosts S → Held S → Held S → Result X Error → Schema → Schema → Type 0
+MakesTable g old new result schema next = MakesSchema (state g old) (state g new) result schema next
 
 -- a table has one of our names, as the database compares them
 abbrev pub has_our_name : Schema → Bool

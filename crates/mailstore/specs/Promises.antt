@@ -16,9 +16,10 @@ use Rattle.mailstore.specs.declared.refusal.Refusal.TheVariants.{NoUser}
 use Rattle.mailstore.specs.Schema.{mail_schema}
 use Rattle.mailstore.specs.Connection.{SeesCommit, IsSettled, StaysSame}
 use Rattle.mailstore.specs.Changes.{made}
-use Rattle.mailstore.specs.Account.{Account, Accounts, with_user}
+use Rattle.mailstore.specs.Account.{Account, Accounts, renames_script, with_user}
 use Rattle.mailstore.specs.Refusals.{IsPassing}
 use Rattle.mailstore.specs.AccountTable.{account_tree, Counts, profile_of}
+use Rattle.mailstore.specs.ScriptTable.{IsRenaming}
 use Rattle.mailstore.specs.MessageTable.{message_tree, GainsOnce}
 use Rattle.mailstore.specs.Shows.{rows_of, Presents}
 
@@ -127,6 +128,10 @@ WritesUser user change = Writes (HasUser user) (λ all. with_user all user chang
 -- the same of an account of which this is known
 abbrev pub WritesKnown : {X : Type 0} → List ℕ → (Account → Type 0) → (Account → Account) → State → State → Result X Refusal → Type 0
 WritesKnown user Known change = Writes (λ all. OfUser all user Known) (λ all. with_user all user change)
+
+-- a write that gives a script another name, where its text and the active name are known
+abbrev pub WritesRenamed : {X : Type 0} → List ℕ → List ℕ → List ℕ → Option (List ℕ) → Option (List ℕ) → State → State → Result X Refusal → Type 0
+WritesRenamed user name other text active = WritesKnown user (IsRenaming name other text active) (renames_script name other)
 
 -- a write of one user's account that first asks whether there is one
 pub record WritesAccount {X : Type 0} (user : List ℕ) (change : Account → Account) (old new : State) (result : Result X Refusal) : Type 0 where

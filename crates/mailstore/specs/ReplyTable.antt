@@ -1,7 +1,8 @@
 -- The table of the moments of the last replies.
-use Rattle.std.specs.Prelude.{◌≡◌, ℕ, ℤ, pos, List, [], ◌∷◌, map, filter, codes, slice_get, option_map}
+use Rattle.std.specs.Prelude.{◌≡◌, ℕ, ℤ, pos, List, [], ◌∷◌, map, filter, codes, slice_get, Option, option_map}
 use Rattle.std.specs.FinMap.{get, entries, from_entries}
 use Rattle.std.specs.Ordering.{is_eq}
+use Rattle.octets.specs.Ascii.{lowered}
 use Rattle.sqlite_schema.specs.declared.schema.Kind.TheVariants as kind
 use Rattle.sqlite_schema.specs.declared.schema.Table.{Table}
 use Rattle.sqlite_value.specs.declared.value.Value.TheVariants.{Int, Blob}
@@ -72,6 +73,14 @@ kept_reply e = record { handle = e.0.0; moment = e.1 }
 -- what the query for the replies shows of one
 abbrev pub kept_cells : KeptReply → Row
 kept_cells kept = Blob kept.handle ∷ Int (pos kept.moment) ∷ []
+
+-- this is the moment that is kept under the handle's key and the sender, if one is; case ignored in the sender
+abbrev pub IsLastReply : List ℕ → List ℕ → Option ℕ → Account → Type 0
+IsLastReply handle sender moment a = moment ≡ get a.replies (handle, lowered sender)
+
+-- these are the replies to the sender, in that order; case ignored in the sender
+abbrev pub AreReplies : List ℕ → List KeptReply → Account → Type 0
+AreReplies sender replies a = replies ≡ map kept_reply (replies_to (lowered sender) a.replies)
 
 -- the rows are the replies to the sender, in that order
 abbrev pub AreReplyRows : List ℕ → List Row → Account → Type 0

@@ -1,11 +1,11 @@
 -- Which accounts the tables show, row by row.
-use Rattle.std.specs.Prelude.{◌≡◌, ℕ, pos, List, [], ◌∷◌, filter, Option, Some, None}
+use Rattle.std.specs.Prelude.{◌≡◌, ℕ, pos, List, [], ◌∷◌, filter, Option, Some, None, Result, OnOk}
 use Rattle.std.specs.FinMap.{get}
 use Rattle.sqlite_value.specs.declared.value.Value.TheVariants.{Int, Blob}
 use Rattle.sqlite_value.specs.Order.{Row, column}
 use Rattle.sqlite_trees.specs.Tree.{Trees}
 use Rattle.sqlite.specs.Effect.{Database}
-use Rattle.sqlite.specs.State.{State}
+use Rattle.sqlite.specs.State.{State, HasCleanDisk}
 use Rattle.sqlrows.specs.Rows.{Tables, Holds, has_key}
 use Rattle.mailstore.specs.Schema.{no_schema, mail_schema}
 use Rattle.mailstore.specs.Account.{Account, Accounts, no_accounts}
@@ -56,6 +56,10 @@ pub record ShowsAccounts (tables : Tables) (accounts : Accounts) : Type 0 where
 abbrev pub Presents : Database → Accounts → Type 0
 Presents db accounts = (tables : Tables) × Holds mail_schema db tables × ShowsAccounts tables accounts
 
+-- a database that shows no accounts, not even none at all
+abbrev pub PresentsNothing : Database → Type 0
+PresentsNothing db = (accounts : Accounts) → ¬ Presents db accounts
+
 -- a database of our tables, whose one row of the version says 2
 pub record IsOurs (db : Database) : Type 0 where
   pub schema : db.schema ≡ mail_schema
@@ -66,6 +70,14 @@ pub record IsOurs (db : Database) : Type 0 where
 -- the trees are those of a database that shows the accounts
 abbrev pub ShowsIn : Trees → Accounts → Type 0
 ShowsIn trees accounts = (db : Database) × Presents db accounts × (trees ≡ db.trees)
+
+-- whatever accounts the trees showed, they show
+abbrev pub StillShows : State → State → Type 0
+StillShows old new = HasCleanDisk new → (accounts : Accounts) → ShowsIn old.now.trees accounts → Presents new.now accounts
+
+-- after Ok tables were made in an empty database, and show no account yet
+abbrev pub Creates : {X E : Type 0} → State → State → Result X E → Type 0
+Creates old new result = HasCleanDisk new → old.now.schema ≡ no_schema → OnOk result (Presents new.now no_accounts)
 
 -- what a crash may leave while the tables are made in an empty database
 abbrev pub MayCreate : State → Trees → Type 0

@@ -33,7 +33,7 @@ pub struct Counters {
 /// Makes the table `account`, inside a transaction.
 pub fn make_account<S: Alter>(tx: &mut Transaction<'_, S>) -> Result<(), Error>
     ensures same_reference { tx.new.conn.ghost_name ≡ tx.old.conn.ghost_name }
-    ensures made { MakesTable (state S.Store tx.old.conn.now) (state S.Store tx.new.conn.now) result schema_1 schema_2 }
+    ensures made { MakesTable S.Store tx.old.conn.now tx.new.conn.now result schema_1 schema_2 }
     ensures survives { Survives (state S.Store tx.old.conn.now) (state S.Store tx.new.conn.now) (λ _. ⊥) }
 {
     tx.execute(
@@ -53,7 +53,7 @@ pub fn add_account<S: Alter>(
     digest: &[u8],
 ) -> Result<(), Error>
     ensures same_reference { tx.new.conn.ghost_name ≡ tx.old.conn.ghost_name }
-    ensures made { Makes (state S.Store tx.old.conn.now) (state S.Store tx.new.conn.now) result (account_added name.now address.now salt.now rounds digest.now) }
+    ensures made { Makes S.Store tx.old.conn.now tx.new.conn.now result (account_added name.now address.now salt.now rounds digest.now) }
     ensures survives { Survives (state S.Store tx.old.conn.now) (state S.Store tx.new.conn.now) (λ _. ⊥) }
 {
     tx.execute(
@@ -70,7 +70,7 @@ pub fn set_active<S: Alter>(
     active: Option<&[u8]>,
 ) -> Result<(), Error>
     ensures same_reference { tx.new.conn.ghost_name ≡ tx.old.conn.ghost_name }
-    ensures made { Makes (state S.Store tx.old.conn.now) (state S.Store tx.new.conn.now) result (active_set name.now (contents active.entry)) }
+    ensures made { Makes S.Store tx.old.conn.now tx.new.conn.now result (active_set name.now (contents active.entry)) }
     ensures survives { Survives (state S.Store tx.old.conn.now) (state S.Store tx.new.conn.now) (λ _. ⊥) }
 {
     tx.execute(
@@ -89,7 +89,7 @@ pub fn set_counters<S: Alter>(
     notice: &i64,
 ) -> Result<(), Error>
     ensures same_reference { tx.new.conn.ghost_name ≡ tx.old.conn.ghost_name }
-    ensures made { Makes (state S.Store tx.old.conn.now) (state S.Store tx.new.conn.now) result (counters_set name.now copy.now out.now notice.now) }
+    ensures made { Makes S.Store tx.old.conn.now tx.new.conn.now result (counters_set name.now copy.now out.now notice.now) }
     ensures survives { Survives (state S.Store tx.old.conn.now) (state S.Store tx.new.conn.now) (λ _. ⊥) }
 {
     tx.execute(

@@ -92,7 +92,7 @@ pub enum Change<'a> {
 /// Makes the change, inside a transaction.
 fn make<S: Alter>(tx: &mut Transaction<'_, S>, change: &Change<'_>) -> Result<(), Error>
     ensures same_reference { tx.new.conn.ghost_name ≡ tx.old.conn.ghost_name }
-    ensures made { Makes (state S.Store tx.old.conn.now) (state S.Store tx.new.conn.now) result (made_one change.now) }
+    ensures made { Makes S.Store tx.old.conn.now tx.new.conn.now result (made_one change.now) }
     ensures survives { Survives (state S.Store tx.old.conn.now) (state S.Store tx.new.conn.now) (λ _. ⊥) }
 {
     match change {

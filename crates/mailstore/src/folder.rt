@@ -30,7 +30,7 @@ pub struct Folder {
 /// Makes the table `copy`, inside a transaction.
 pub fn make_copy<S: Alter>(tx: &mut Transaction<'_, S>) -> Result<(), Error>
     ensures same_reference { tx.new.conn.ghost_name ≡ tx.old.conn.ghost_name }
-    ensures made { MakesTable (state S.Store tx.old.conn.now) (state S.Store tx.new.conn.now) result schema_7 mail_schema }
+    ensures made { MakesTable S.Store tx.old.conn.now tx.new.conn.now result schema_7 mail_schema }
     ensures survives { Survives (state S.Store tx.old.conn.now) (state S.Store tx.new.conn.now) (λ _. ⊥) }
 {
     tx.execute(
@@ -49,7 +49,7 @@ pub fn add_copy<S: Alter>(
     id: &i64,
 ) -> Result<(), Error>
     ensures same_reference { tx.new.conn.ghost_name ≡ tx.old.conn.ghost_name }
-    ensures made { Makes (state S.Store tx.old.conn.now) (state S.Store tx.new.conn.now) result (copy_added owner.now folder.now n.now id.now) }
+    ensures made { Makes S.Store tx.old.conn.now tx.new.conn.now result (copy_added owner.now folder.now n.now id.now) }
     ensures survives { Survives (state S.Store tx.old.conn.now) (state S.Store tx.new.conn.now) (λ _. ⊥) }
 {
     tx.execute(

@@ -11,7 +11,7 @@ use sqlite::{Alter, Error, Transaction, params};
 /// Makes the table `message`, inside a transaction.
 pub fn make_message<S: Alter>(tx: &mut Transaction<'_, S>) -> Result<(), Error>
     ensures same_reference { tx.new.conn.ghost_name ≡ tx.old.conn.ghost_name }
-    ensures made { MakesTable (state S.Store tx.old.conn.now) (state S.Store tx.new.conn.now) result schema_6 schema_7 }
+    ensures made { MakesTable S.Store tx.old.conn.now tx.new.conn.now result schema_6 schema_7 }
     ensures survives { Survives (state S.Store tx.old.conn.now) (state S.Store tx.new.conn.now) (λ _. ⊥) }
 {
     tx.execute(
@@ -29,7 +29,7 @@ pub fn add_message<S: Alter>(
     bytes: &[u8],
 ) -> Result<(), Error>
     ensures same_reference { tx.new.conn.ghost_name ≡ tx.old.conn.ghost_name }
-    ensures made { Makes (state S.Store tx.old.conn.now) (state S.Store tx.new.conn.now) result (message_added owner.now id.now bytes.now) }
+    ensures made { Makes S.Store tx.old.conn.now tx.new.conn.now result (message_added owner.now id.now bytes.now) }
     ensures survives { Survives (state S.Store tx.old.conn.now) (state S.Store tx.new.conn.now) (λ _. ⊥) }
 {
     tx.execute(

@@ -30,7 +30,7 @@ pub struct Notice {
 /// Makes the table `notice`, inside a transaction.
 pub fn make_notice<S: Alter>(tx: &mut Transaction<'_, S>) -> Result<(), Error>
     ensures same_reference { tx.new.conn.ghost_name ≡ tx.old.conn.ghost_name }
-    ensures made { MakesTable (state S.Store tx.old.conn.now) (state S.Store tx.new.conn.now) result schema_5 schema_6 }
+    ensures made { MakesTable S.Store tx.old.conn.now tx.new.conn.now result schema_5 schema_6 }
     ensures survives { Survives (state S.Store tx.old.conn.now) (state S.Store tx.new.conn.now) (λ _. ⊥) }
 {
     tx.execute(
@@ -49,7 +49,7 @@ pub fn add_notice<S: Alter>(
     text: &[u8],
 ) -> Result<(), Error>
     ensures same_reference { tx.new.conn.ghost_name ≡ tx.old.conn.ghost_name }
-    ensures made { Makes (state S.Store tx.old.conn.now) (state S.Store tx.new.conn.now) result (notice_added owner.now id.now moment.now text.now) }
+    ensures made { Makes S.Store tx.old.conn.now tx.new.conn.now result (notice_added owner.now id.now moment.now text.now) }
     ensures survives { Survives (state S.Store tx.old.conn.now) (state S.Store tx.new.conn.now) (λ _. ⊥) }
 {
     tx.execute(

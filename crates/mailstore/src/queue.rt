@@ -45,7 +45,7 @@ pub struct Outgoing {
 /// Makes the table `outgoing`, inside a transaction.
 pub fn make_outgoing<S: Alter>(tx: &mut Transaction<'_, S>) -> Result<(), Error>
     ensures same_reference { tx.new.conn.ghost_name ≡ tx.old.conn.ghost_name }
-    ensures made { MakesTable (state S.Store tx.old.conn.now) (state S.Store tx.new.conn.now) result schema_3 schema_4 }
+    ensures made { MakesTable S.Store tx.old.conn.now tx.new.conn.now result schema_3 schema_4 }
     ensures survives { Survives (state S.Store tx.old.conn.now) (state S.Store tx.new.conn.now) (λ _. ⊥) }
 {
     tx.execute(
@@ -76,7 +76,7 @@ pub fn add_outgoing<S: Alter>(
     message: &[u8],
 ) -> Result<(), Error>
     ensures same_reference { tx.new.conn.ghost_name ≡ tx.old.conn.ghost_name }
-    ensures made { Makes (state S.Store tx.old.conn.now) (state S.Store tx.new.conn.now) result (outgoing_added owner.now id.now kind sender.now target.now message.now) }
+    ensures made { Makes S.Store tx.old.conn.now tx.new.conn.now result (outgoing_added owner.now id.now kind sender.now target.now message.now) }
     ensures survives { Survives (state S.Store tx.old.conn.now) (state S.Store tx.new.conn.now) (λ _. ⊥) }
 {
     let kind = number_of(kind);
@@ -94,7 +94,7 @@ pub fn remove_outgoing<S: Alter>(
     id: &i64,
 ) -> Result<(), Error>
     ensures same_reference { tx.new.conn.ghost_name ≡ tx.old.conn.ghost_name }
-    ensures made { Makes (state S.Store tx.old.conn.now) (state S.Store tx.new.conn.now) result (outgoing_removed owner.now id.now) }
+    ensures made { Makes S.Store tx.old.conn.now tx.new.conn.now result (outgoing_removed owner.now id.now) }
     ensures survives { Survives (state S.Store tx.old.conn.now) (state S.Store tx.new.conn.now) (λ _. ⊥) }
 {
     tx.execute(

@@ -1,13 +1,11 @@
 //! The table of the moments of the last replies.
 ghost use Rattle.std.specs.Prelude.{◌≡◌, false, pos, map, option_map, slice_get, IfOk, IfErr};
-ghost use Rattle.std.specs.FinMap.{get};
-ghost use Rattle.octets.specs.Ascii.{lowered};
 ghost use Rattle.sqlite_value.specs.declared.value.Value.TheVariants.{Int, Blob};
 ghost use Rattle.sqlite_value.specs.Order.{column};
 ghost use Rattle.mailstore.specs.Cells.{first_two};
 ghost use Rattle.mailstore.specs.Promises.{Finds, Reads, ReadsRows};
 ghost use Rattle.mailstore.specs.Refusals.{IsPassing};
-ghost use Rattle.mailstore.specs.ReplyTable.{AreReplyRows, HasMomentRow, kept_cells, kept_reply, replies_to};
+ghost use Rattle.mailstore.specs.ReplyTable.{AreReplies, AreReplyRows, HasMomentRow, IsLastReply, kept_cells};
 ghost use Rattle.sqlite.specs.Held.{state};
 ghost use Rattle.sqlite.specs.State.{Survives};
 ghost use Rattle.mailstore.specs.Changes.{reply_added, reply_removed};
@@ -33,7 +31,7 @@ pub struct KeptReply {
 /// Makes the table `reply`, inside a transaction.
 pub fn make_reply<S: Alter>(tx: &mut Transaction<'_, S>) -> Result<(), Error>
     ensures same_reference { tx.new.conn.ghost_name ≡ tx.old.conn.ghost_name }
-    ensures made { MakesTable (state S.Store tx.old.conn.now) (state S.Store tx.new.conn.now) result schema_4 schema_5 }
+    ensures made { MakesTable S.Store tx.old.conn.now tx.new.conn.now result schema_4 schema_5 }
     ensures survives { Survives (state S.Store tx.old.conn.now) (state S.Store tx.new.conn.now) (λ _. ⊥) }
 {
     tx.execute(
@@ -52,7 +50,7 @@ pub fn add_reply<S: Alter>(
     moment: &i64,
 ) -> Result<(), Error>
     ensures same_reference { tx.new.conn.ghost_name ≡ tx.old.conn.ghost_name }
-    ensures made { Makes (state S.Store tx.old.conn.now) (state S.Store tx.new.conn.now) result (reply_added owner.now handle.now sender.now moment.now) }
+    ensures made { Makes S.Store tx.old.conn.now tx.new.conn.now result (reply_added owner.now handle.now sender.now moment.now) }
     ensures survives { Survives (state S.Store tx.old.conn.now) (state S.Store tx.new.conn.now) (λ _. ⊥) }
 {
     tx.execute(
@@ -70,7 +68,7 @@ pub fn remove_reply<S: Alter>(
     sender: &[u8],
 ) -> Result<(), Error>
     ensures same_reference { tx.new.conn.ghost_name ≡ tx.old.conn.ghost_name }
-    ensures made { Makes (state S.Store tx.old.conn.now) (state S.Store tx.new.conn.now) result (reply_removed owner.now handle.now sender.now) }
+    ensures made { Makes S.Store tx.old.conn.now tx.new.conn.now result (reply_removed owner.now handle.now sender.now) }
     ensures survives { Survives (state S.Store tx.old.conn.now) (state S.Store tx.new.conn.now) (λ _. ⊥) }
 {
     tx.execute(
@@ -175,7 +173,7 @@ impl<S: Alter> Store<S> {
         handle: &[u8],
         sender: &[u8],
     ) -> Result<Option<u64>, Refusal>
-        ensures { Reads user.now (λ moment a. moment ≡ get a.replies (handle.now, lowered sender.now)) (state S.Store self.old) (state S.Store self.new) result }
+        ensures { Reads user.now (IsLastReply handle.now sender.now) (state S.Store self.old) (state S.Store self.new) result }
     {
         let sender = octets::lowered(self.alloc, sender)?;
         let rows = self.moment_rows(user, handle, sender.as_slice())?;
@@ -193,7 +191,7 @@ impl<S: Alter> Store<S> {
     /// The moments of the last replies to the sender, in the order of the octets of their handles' keys; case ignored
     /// in the sender.
     pub fn replies(&mut self, user: &[u8], sender: &[u8]) -> Result<ListOf<KeptReply>, Refusal>
-        ensures { Reads user.now (λ replies a. replies ≡ map kept_reply (replies_to (lowered sender.now) a.replies)) (state S.Store self.old) (state S.Store self.new) result }
+        ensures { Reads user.now (AreReplies sender.now) (state S.Store self.old) (state S.Store self.new) result }
     {
         let sender = octets::lowered(self.alloc, sender)?;
         let rows = self.reply_rows(user, sender.as_slice())?;

@@ -1,8 +1,8 @@
 //! The table of scripts.
 ghost use Rattle.std.specs.Prelude.{◌≡◌, false, option_map};
 ghost use Rattle.sqlite.specs.Held.{state};
-ghost use Rattle.mailstore.specs.Promises.{Finds, Reads, ReadsRows, WritesAccount, WritesKnown, WritesUser};
-ghost use Rattle.mailstore.specs.ScriptTable.{AreNameRows, HasTextAndActive, HasTextRow, IsRenaming};
+ghost use Rattle.mailstore.specs.Promises.{Finds, Reads, ReadsRows, WritesAccount, WritesRenamed, WritesUser};
+ghost use Rattle.mailstore.specs.ScriptTable.{AreNameRows, HasTextAndActive, HasTextRow};
 ghost use Rattle.sqlite.specs.State.{Survives};
 ghost use Rattle.mailstore.specs.Connection.{Makes, MakesTable};
 ghost use Rattle.mailstore.specs.Cells.{contents};
@@ -21,7 +21,7 @@ use sqlite::{Alter, Connection, Error, Row, Transaction, params};
 /// Makes the table `script`, inside a transaction.
 pub fn make_script<S: Alter>(tx: &mut Transaction<'_, S>) -> Result<(), Error>
     ensures same_reference { tx.new.conn.ghost_name ≡ tx.old.conn.ghost_name }
-    ensures made { MakesTable (state S.Store tx.old.conn.now) (state S.Store tx.new.conn.now) result schema_2 schema_3 }
+    ensures made { MakesTable S.Store tx.old.conn.now tx.new.conn.now result schema_2 schema_3 }
     ensures survives { Survives (state S.Store tx.old.conn.now) (state S.Store tx.new.conn.now) (λ _. ⊥) }
 {
     tx.execute(
@@ -39,7 +39,7 @@ pub fn add_script<S: Alter>(
     text: &[u8],
 ) -> Result<(), Error>
     ensures same_reference { tx.new.conn.ghost_name ≡ tx.old.conn.ghost_name }
-    ensures made { Makes (state S.Store tx.old.conn.now) (state S.Store tx.new.conn.now) result (script_added owner.now name.now text.now) }
+    ensures made { Makes S.Store tx.old.conn.now tx.new.conn.now result (script_added owner.now name.now text.now) }
     ensures survives { Survives (state S.Store tx.old.conn.now) (state S.Store tx.new.conn.now) (λ _. ⊥) }
 {
     tx.execute(
@@ -56,7 +56,7 @@ pub fn remove_script<S: Alter>(
     name: &[u8],
 ) -> Result<(), Error>
     ensures same_reference { tx.new.conn.ghost_name ≡ tx.old.conn.ghost_name }
-    ensures made { Makes (state S.Store tx.old.conn.now) (state S.Store tx.new.conn.now) result (script_removed owner.now name.now) }
+    ensures made { Makes S.Store tx.old.conn.now tx.new.conn.now result (script_removed owner.now name.now) }
     ensures survives { Survives (state S.Store tx.old.conn.now) (state S.Store tx.new.conn.now) (λ _. ⊥) }
 {
     tx.execute(
@@ -189,7 +189,7 @@ impl<S: Alter> Store<S> {
         text: Option<&'a Octets>,
         active: Option<&'a [u8]>,
     ) -> Result<(), Refusal>
-        ensures { WritesKnown user.now (IsRenaming name.now other.now (contents text.entry) (contents active.entry)) (renames_script name.now other.now) (state S.Store self.old) (state S.Store self.new) result }
+        ensures { WritesRenamed user.now name.now other.now (contents text.entry) (contents active.entry) (state S.Store self.old) (state S.Store self.new) result }
     {
         let Some(text) = text else {
             return self.apply(&[Change::SetActive { name: user, active }]);

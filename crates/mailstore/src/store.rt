@@ -5,9 +5,9 @@ ghost use Rattle.sqlite.specs.Held.{state};
 ghost use Rattle.sqlite.specs.State.{HasCleanDisk};
 ghost use Rattle.mailstore.specs.Schema.{no_schema};
 ghost use Rattle.mailstore.specs.Connection.{IsSettled, StaysSame, Leaves, Outlives, has_our_name};
-ghost use Rattle.mailstore.specs.Account.{Accounts, no_accounts};
+ghost use Rattle.mailstore.specs.Account.{no_accounts};
 ghost use Rattle.mailstore.specs.Refusals.{IsPassing};
-ghost use Rattle.mailstore.specs.Shows.{Presents, IsOurs, ShowsIn};
+ghost use Rattle.mailstore.specs.Shows.{Presents, PresentsNothing, IsOurs, ShowsIn, StillShows};
 
 use crate::refusal::Refusal;
 use crate::schema::is_ours;
@@ -98,13 +98,13 @@ impl<S: Alter> Store<S> {
         alloc: Global,
         mut conn: Connection<S>,
     ) -> Result<Store<S>, (Refusal, Connection<S>, Option<ErrorCode>)>
-        ensures shown { IfOk result (λ store. HasCleanDisk (state S.Store store) → (accounts : Accounts) → ShowsIn (state S.Store conn).now.trees accounts → Presents (state S.Store store).now accounts) }
+        ensures shown { IfOk result (λ store. StillShows (state S.Store conn) (state S.Store store)) }
         ensures ours { IfOk result (λ store. HasCleanDisk (state S.Store store) → IsOurs (state S.Store conn).now) }
         ensures settled { IfOk result (λ store. HasCleanDisk (state S.Store store) → IsSettled (state S.Store store)) }
         ensures same { IfOk result (λ store. HasCleanDisk (state S.Store store) → StaysSame (state S.Store conn) (state S.Store store)) }
         ensures crash { IfOk result (λ store. Leaves (state S.Store conn) (state S.Store store)) }
         ensures not_ours { IfErr result (λ e. HasCleanDisk (state S.Store e.1) → e.0 ≡ Refusal.NotOurs → ¬ IsOurs (state S.Store conn).now) }
-        ensures not_shown { IfErr result (λ e. HasCleanDisk (state S.Store e.1) → e.0 ≡ Refusal.NotOurs → (accounts : Accounts) → ¬ Presents (state S.Store conn).now accounts) }
+        ensures not_shown { IfErr result (λ e. HasCleanDisk (state S.Store e.1) → e.0 ≡ Refusal.NotOurs → PresentsNothing (state S.Store conn).now) }
         ensures named { IfErr result (λ e. (e.0 ≡ Refusal.NotOurs) ⊎ IsPassing e.0) }
         ensures same_if_refused { IfErr result (λ e. HasCleanDisk (state S.Store e.1) → StaysSame (state S.Store conn) (state S.Store e.1)) }
         ensures crash_if_refused { IfErr result (λ e. Leaves (state S.Store conn) (state S.Store e.1)) }

@@ -1,11 +1,10 @@
 //! All tables, and whether a database has them.
 ghost use Rattle.std.specs.Prelude.{◌≡◌, false, ◌↔◌, IsTrue, OnOk, OnErr};
 ghost use Rattle.sqlite.specs.Held.{state};
-ghost use Rattle.mailstore.specs.Shows.{Presents, MayCreate};
+ghost use Rattle.mailstore.specs.Shows.{Creates, MayCreate};
 ghost use Rattle.sqlite.specs.State.{Survives, HasCleanDisk};
 ghost use Rattle.mailstore.specs.Connection.{MakesTable, IsSettled, StaysSame, has_our_name};
 ghost use Rattle.mailstore.specs.Schema.{no_schema, mail_schema, schema_3, schema_6};
-ghost use Rattle.mailstore.specs.Account.{no_accounts};
 
 use crate::account::make_account;
 use crate::folder::make_copy;
@@ -44,7 +43,7 @@ pub fn is_blank(schema: &Schema) -> bool
 /// The first three tables, inside a transaction.
 fn make_first<S: Alter>(tx: &mut Transaction<'_, S>) -> Result<(), Error>
     ensures same_reference { tx.new.conn.ghost_name ≡ tx.old.conn.ghost_name }
-    ensures made { MakesTable (state S.Store tx.old.conn.now) (state S.Store tx.new.conn.now) result no_schema schema_3 }
+    ensures made { MakesTable S.Store tx.old.conn.now tx.new.conn.now result no_schema schema_3 }
     ensures survives { Survives (state S.Store tx.old.conn.now) (state S.Store tx.new.conn.now) (λ _. ⊥) }
 {
     make_meta(tx)?;
@@ -55,7 +54,7 @@ fn make_first<S: Alter>(tx: &mut Transaction<'_, S>) -> Result<(), Error>
 /// The tables of messages and copies, which are the folders, inside a transaction.
 fn make_folders<S: Alter>(tx: &mut Transaction<'_, S>) -> Result<(), Error>
     ensures same_reference { tx.new.conn.ghost_name ≡ tx.old.conn.ghost_name }
-    ensures made { MakesTable (state S.Store tx.old.conn.now) (state S.Store tx.new.conn.now) result schema_6 mail_schema }
+    ensures made { MakesTable S.Store tx.old.conn.now tx.new.conn.now result schema_6 mail_schema }
     ensures survives { Survives (state S.Store tx.old.conn.now) (state S.Store tx.new.conn.now) (λ _. ⊥) }
 {
     make_message(tx)?;
@@ -65,7 +64,7 @@ fn make_folders<S: Alter>(tx: &mut Transaction<'_, S>) -> Result<(), Error>
 /// The other five, inside a transaction.
 fn make_others<S: Alter>(tx: &mut Transaction<'_, S>) -> Result<(), Error>
     ensures same_reference { tx.new.conn.ghost_name ≡ tx.old.conn.ghost_name }
-    ensures made { MakesTable (state S.Store tx.old.conn.now) (state S.Store tx.new.conn.now) result schema_3 mail_schema }
+    ensures made { MakesTable S.Store tx.old.conn.now tx.new.conn.now result schema_3 mail_schema }
     ensures survives { Survives (state S.Store tx.old.conn.now) (state S.Store tx.new.conn.now) (λ _. ⊥) }
 {
     make_outgoing(tx)?;
@@ -79,7 +78,7 @@ pub fn make_tables<S: Alter>(conn: &mut Connection<S>) -> Result<(), Error>
     requires { conn.old.in_transaction ≡ false }
     ensures ended { conn.new.in_transaction ≡ false }
     ensures limit { conn.new.step_limit ≡ conn.old.step_limit }
-    ensures made { HasCleanDisk (state S.Store conn.new) → (state S.Store conn.old).now.schema ≡ no_schema → OnOk result (Presents (state S.Store conn.new).now no_accounts) }
+    ensures made { Creates (state S.Store conn.old) (state S.Store conn.new) result }
     ensures settled { HasCleanDisk (state S.Store conn.new) → OnOk result (IsSettled (state S.Store conn.new)) }
     ensures same { HasCleanDisk (state S.Store conn.new) → OnErr result (StaysSame (state S.Store conn.old) (state S.Store conn.new)) }
     ensures crash { Survives (state S.Store conn.old) (state S.Store conn.new) (MayCreate (state S.Store conn.old)) }

@@ -16,7 +16,7 @@ use sqlite::{Alter, Connection, Error, Row, Transaction, params};
 /// Makes the table `meta`, inside a transaction.
 pub fn make_meta<S: Alter>(tx: &mut Transaction<'_, S>) -> Result<(), Error>
     ensures same_reference { tx.new.conn.ghost_name ≡ tx.old.conn.ghost_name }
-    ensures made { MakesTable (state S.Store tx.old.conn.now) (state S.Store tx.new.conn.now) result no_schema schema_1 }
+    ensures made { MakesTable S.Store tx.old.conn.now tx.new.conn.now result no_schema schema_1 }
     ensures survives { Survives (state S.Store tx.old.conn.now) (state S.Store tx.new.conn.now) (λ _. ⊥) }
 {
     tx.execute(
@@ -29,7 +29,7 @@ pub fn make_meta<S: Alter>(tx: &mut Transaction<'_, S>) -> Result<(), Error>
 /// The row of the version, inside a transaction.
 pub fn add_version<S: Alter>(tx: &mut Transaction<'_, S>) -> Result<(), Error>
     ensures same_reference { tx.new.conn.ghost_name ≡ tx.old.conn.ghost_name }
-    ensures made { Makes (state S.Store tx.old.conn.now) (state S.Store tx.new.conn.now) result (added meta_tree version_row) }
+    ensures made { Makes S.Store tx.old.conn.now tx.new.conn.now result (added meta_tree version_row) }
     ensures survives { Survives (state S.Store tx.old.conn.now) (state S.Store tx.new.conn.now) (λ _. ⊥) }
 {
     tx.execute("INSERT INTO meta (item, value) VALUES ('version', 2)", &[])?;

@@ -1,6 +1,8 @@
 -- Examples of the definitions: a right one and a near miss each.
 use Rattle.std.proofs.Common.{◌≡◌, ℕ, Bool, true, false, List, [], ◌∷◌, Some, None, refl, sym, arith, subst, inl, inr}
 use Rattle.std.specs.Prelude.{codes}
+use Rattle.std.specs.List.{list_all}
+use Rattle.octets.proofs.Lists.{some_pair}
 use Rattle.sievelex.specs.declared.token.Kind.TheVariants as K
 use Rattle.sievesyntax.specs.declared.table.keyword.Keyword.TheVariants as W
 use Rattle.sievesyntax.specs.declared.table.tag.Tag.TheVariants as T
@@ -13,12 +15,18 @@ use Rattle.sievesyntax.specs.declared.tree.checks.Matching.TheVariants as M
 use Rattle.sievesyntax.specs.declared.tree.checks.Collation.TheVariants as C
 use Rattle.sievesyntax.specs.declared.tree.checks.Check.TheVariants as L
 use Rattle.sievesyntax.specs.declared.tree.checks.Check.{Check}
+use Rattle.sievesyntax.specs.declared.tree.checks.Size.{Size}
+use Rattle.sievesyntax.specs.declared.tree.checks.Address.{Address}
+use Rattle.sievesyntax.specs.declared.tree.checks.EnvelopeTest.{EnvelopeTest}
+use Rattle.sievesyntax.specs.declared.tree.checks.Bound.TheVariants as B
+use Rattle.sievesyntax.specs.declared.tree.checks.AddressPart.TheVariants as H
+use Rattle.sievesyntax.specs.declared.tree.checks.EnvelopeParts.{EnvelopeParts}
 use Rattle.sievesyntax.specs.declared.tree.vacation.VacArgs.{VacArgs}
 use Rattle.sievesyntax.specs.declared.tree.action.Action.TheVariants as D
 use Rattle.sievesyntax.specs.Lexemes.{Lexeme, keyword, tag, number, text, mark}
 use Rattle.sievesyntax.specs.Arguments.{AreStrings, AreArguments}
 use Rattle.sievesyntax.specs.Tags.{IsPlain, IsSplit}
-use Rattle.sievesyntax.specs.Table.{IsPlainTest, IsPlainCommand, parts_of}
+use Rattle.sievesyntax.specs.Table.{SaysSize, SaysAddress, SaysEnvelope, NamesParts, is_part, IsPlainTest, IsPlainCommand}
 use Rattle.sievesyntax.specs.Tests.{IsTest, ReadsTest}
 use Rattle.sievesyntax.specs.Grammar.{Reads}
 use Rattle.sievesyntax.specs.Tree.{TestTree, yes, looks, not_of, all_of, any_of, no_tests, test, list_depth, not_depth, CommandTree, choose, stop, act, no_branches, branch, Commands, no_commands, command, depth}
@@ -51,22 +59,53 @@ no_tag_value (s ∷ more) positional is = is.written.1.0.1
 
 -- `header "a" "b"` compares by `:is` and `i;ascii-casemap`
 header : IsPlainTest W.Header (A.Text (codes "a") ∷ (A.Text (codes "b") ∷ [])) (looks (L.Header (record { comparator = C.AsciiCasemap; matching = M.Is; fields = codes "a" ∷ []; keys = codes "b" ∷ [] })))
-header = (record { comparator = C.AsciiCasemap; matching = M.Is; fields = codes "a" ∷ []; keys = codes "b" ∷ [] }, (record { tag_values = []; positional = A.Text (codes "a") ∷ (A.Text (codes "b") ∷ []); split_tags = record { written = refl; plain = tt; once = tt }; said = refl }, refl))
+header = record {
+  value = record { comparator = C.AsciiCasemap; matching = M.Is; fields = codes "a" ∷ []; keys = codes "b" ∷ [] };
+  is = record {
+    tag_values = [];
+    positional = A.Text (codes "a") ∷ (A.Text (codes "b") ∷ []);
+    split_tags = record { written = refl; plain = tt; once = tt };
+    says = record { comparator = refl; matching = refl; lists = refl };
+  };
+  tree_is = refl;
+}
+
+-- `:over 5`; without a tag `size` says nothing
+size : SaysSize (S.Bound B.Over ∷ []) (A.Number 5 ∷ []) (record { bound = B.Over; limit = 5 })
+size = record { bound = refl; limit = refl }
+
+no_size : (size : Size) → SaysSize [] (A.Number 1 ∷ []) size → ⊥
+no_size size says = let e : None ≡ Some size.bound = says.bound in absurd (cc e)
 
 -- `keep "a"`
 no_keep : (tree : CommandTree) → IsPlainCommand W.Keep (A.Text (codes "a") ∷ []) tree → ⊥
-no_keep tree is = let e : A.Text (codes "a") ∷ [] ≡ [] = is.0 in absurd (cc e)
+no_keep tree is = let e : A.Text (codes "a") ∷ [] ≡ [] = is.none in absurd (cc e)
 
 -- `FROM` is a part of the envelope, `auth` is none
-parts : parts_of (codes "FROM" ∷ []) ≡ Some (record { from = true; to = false })
-parts = refl
+parts : NamesParts (codes "FROM" ∷ []) (record { from = true; to = false })
+parts = record { each = refl; from = refl; to = refl }
 
-no_parts : parts_of (codes "from" ∷ (codes "auth" ∷ [])) ≡ None
-no_parts = refl
+no_parts : (parts : EnvelopeParts) → NamesParts (codes "from" ∷ (codes "auth" ∷ [])) parts → ⊥
+no_parts parts is = let e : false ≡ true = is.each in absurd (cc e)
+
+-- `:domain "to" "a"` of `envelope`; `"auth" "a"` says nothing
+envelope : SaysEnvelope (S.Part H.Domain ∷ []) (A.Text (codes "to") ∷ (A.Text (codes "a") ∷ [])) (record { comparator = C.AsciiCasemap; part = H.Domain; matching = M.Is; parts = record { from = false; to = true }; keys = codes "a" ∷ [] })
+envelope = record { names = codes "to" ∷ []; comparator = refl; part = refl; matching = refl; lists = refl; parts = record { each = refl; from = refl; to = refl } }
+
+no_envelope : (asked : EnvelopeTest) → SaysEnvelope [] (A.Text (codes "auth") ∷ (A.Text (codes "a") ∷ [])) asked → ⊥
+no_envelope asked says =
+    let lists : Some (codes "auth" ∷ [], codes "a" ∷ []) ≡ Some (says.names, asked.keys) = says.lists in
+    let names : says.names ≡ codes "auth" ∷ [] = sym (some_pair (codes "auth" ∷ [], codes "a" ∷ []) (says.names, asked.keys) lists).0 in
+    let e : false ≡ true = subst (λ them. list_all is_part them ≡ true) names says.parts.each in
+    absurd (cc e)
+
+-- `address` with one list says nothing
+no_address : (asked : Address) → SaysAddress [] (A.Text (codes "to") ∷ []) asked → ⊥
+no_address asked says = let e : None ≡ Some (asked.fields, asked.keys) = says.lists in absurd (cc e)
 
 -- `not true`
 not_true : ReadsTest (not_of yes) (keyword W.Not ∷ (keyword W.True ∷ (mark K.Semicolon ∷ []))) (mark K.Semicolon ∷ [])
-not_true = (W.Not, (keyword W.True ∷ (mark K.Semicolon ∷ []), (refl, (refl, (W.True, (mark K.Semicolon ∷ [], (refl, ([], (record { spelled = refl; all = tt }, (refl, refl))))))))))
+not_true = (W.Not, (keyword W.True ∷ (mark K.Semicolon ∷ []), (refl, (refl, (W.True, (mark K.Semicolon ∷ [], (refl, ([], (record { spelled = refl; all = tt }, record { none = refl; tree_is = refl })))))))))
 
 -- `not` alone
 not_nothing : (inner : TestTree) (to : List Lexeme) → IsTest (not_of inner) W.Not (mark K.Semicolon ∷ []) to → ⊥
@@ -74,7 +113,7 @@ not_nothing inner to is = let e : mark K.Semicolon ∷ [] ≡ keyword is.1.0 ∷
 
 -- `keep;` is a `keep` and no `stop`
 keep : Reads (command (act D.Keep) no_commands) (keyword W.Keep ∷ (mark K.Semicolon ∷ []))
-keep = ([], ((W.Keep, (mark K.Semicolon ∷ [], (refl, ([], (record { spelled = refl; all = tt }, (refl, refl)))))), refl))
+keep = ([], ((W.Keep, (mark K.Semicolon ∷ [], (refl, ([], (record { spelled = refl; all = tt }, record { none = refl; tree_is = refl }))))), refl))
 
 -- a name of one octet is a mailbox, the empty one isn't
 no_mailbox : IsMailbox [] → ⊥

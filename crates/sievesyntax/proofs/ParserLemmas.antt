@@ -15,16 +15,16 @@ use Rattle.sievesyntax.specs.Steps.{TakesAfter}
 
 -- an `if` is no statement
 not_choose : (name : Keyword) (args : List Argument) (branches : Branches) → IsPlainCommand name args (choose branches) → ⊥
-not_choose W.Require args chosen is = let e = is.1.1 in cc
+not_choose W.Require args chosen is = let e = is.tree_is in cc
 not_choose W.If args chosen is = is
 not_choose W.Elsif args chosen is = is
 not_choose W.Else args chosen is = is
-not_choose W.Stop args chosen is = let e = is.1 in cc
-not_choose W.Keep args chosen is = let e = is.1 in cc
-not_choose W.Discard args chosen is = let e = is.1 in cc
-not_choose W.FileInto args chosen is = let e = is.1.1 in cc
-not_choose W.Redirect args chosen is = let e = is.1.1 in cc
-not_choose W.Vacation args chosen is = let e = is.1.1 in cc
+not_choose W.Stop args chosen is = let e = is.tree_is in cc
+not_choose W.Keep args chosen is = let e = is.tree_is in cc
+not_choose W.Discard args chosen is = let e = is.tree_is in cc
+not_choose W.FileInto args chosen is = let e = is.tree_is in cc
+not_choose W.Redirect args chosen is = let e = is.tree_is in cc
+not_choose W.Vacation args chosen is = let e = is.tree_is in cc
 not_choose W.True args chosen is = is
 not_choose W.False args chosen is = is
 not_choose W.Not args chosen is = is

@@ -1,32 +1,30 @@
 -- Lexemes are read as one tree at most.
-use Rattle.std.proofs.Common.{◌≡◌, ℕ, List, Option, [], ◌∷◌, refl, sym, ap, ◌∙◌, subst, inl, inr}
+use Rattle.std.proofs.Common.{◌≡◌, ℕ, List, [], ◌∷◌, refl, sym, ap, ◌∙◌, subst, inl, inr}
 use Rattle.octets.proofs.Lists.{some_is}
 use Rattle.addrparts.specs.declared.address.Addr.{Addr}
 use Rattle.sievelex.specs.declared.token.Kind.{Kind}
 use Rattle.sievelex.specs.declared.token.Kind.TheVariants as K
 use Rattle.sievesyntax.specs.declared.table.keyword.Keyword.{Keyword}
 use Rattle.sievesyntax.specs.declared.table.keyword.Keyword.TheVariants as W
-use Rattle.sievesyntax.specs.declared.tree.checks.Check.TheVariants as C
-use Rattle.sievesyntax.specs.declared.tree.action.Action.TheVariants as D
 use Rattle.sievesyntax.specs.declared.parser.argument.Argument.{Argument}
 use Rattle.sievesyntax.specs.declared.parser.argument.Argument.TheVariants as A
 use Rattle.sievesyntax.specs.declared.table.tag_group.TagValue.{TagValue}
 use Rattle.sievesyntax.specs.declared.table.tag_group.TagGroup.{TagGroup}
-use Rattle.sievesyntax.specs.declared.tree.vacation.VacArgs.{VacArgs}
 use Rattle.sievesyntax.specs.Arguments.{IsOther, AreStrings, IsArgument, IsEnd, AreArguments}
 use Rattle.sievesyntax.specs.Chains.{Chain}
 use Rattle.sievesyntax.specs.Lexemes.{Lexeme, keyword, text, mark}
 use Rattle.sievesyntax.specs.Grammar.{Braced, IsPastBranches, Tested, IsStatement, IsCommand, IsChoice, AreBranches, AreCommands, Reads}
 use Rattle.sievesyntax.specs.Steps.{IsStop}
-use Rattle.sievesyntax.specs.Table.{IsCall, IsRedirect, IsPlainTest, IsPlainCommand}
-use Rattle.sievesyntax.specs.Tags.{IsAllowed, IsPlain as IsPositional, IsSplit}
+use Rattle.sievesyntax.specs.Table.{IsText, IsList, IsRedirect, IsRow, IsPlainTest, IsPlainCommand}
+use Rattle.sievesyntax.specs.Tags.{IsAllowed, IsPlain as IsPositional, IsSplit, IsCall}
 use Rattle.sievesyntax.specs.Tests.{Headed, Marked, IsPlain, IsTest, AreTests, AreMoreTests, ReadsTest}
 use Rattle.sievesyntax.specs.Tree.{TestTree, yes, no, looks, not_of, all_of, any_of, Tests, no_tests, test, CommandTree, require, choose, stop, act, Branches, no_branches, branch, Commands, no_commands, command}
-use Rattle.sievesyntax.specs.Vacations.{Names, vacation_groups, IsVacation, SaysVacation}
+use Rattle.sievesyntax.specs.Vacations.{Names}
 use Rattle.sievesyntax.proofs.ArgumentLemmas.{IsMarked, end_none}
 use Rattle.sievesyntax.proofs.TagLemmas.{tag_value_only, plain_none}
 use Rattle.sievesyntax.proofs.TestLemmas.{is_plain}
-use Rattle.sievesyntax.proofs.VacationLemmas.{names_only, says_only}
+use Rattle.sievesyntax.proofs.TableLemmas.{size_same, header_same, address_same, envelope_same}
+use Rattle.sievesyntax.proofs.VacationLemmas.{names_only, vacation_same}
 
 -- things one after another, up to where they are done, are one list
 module _ {X L : Type 0} (one : X → List L → List L → Type 0) (done : List L → Type 0)
@@ -86,41 +84,43 @@ split_same allowed args s t p q a b =
     chain_same (IsAllowed allowed) IsPositional (λ x y l m n c d. let same = tag_value_only x y l m n c.0 d.0 in (sym same.0, sym same.1)) (λ x l m c d. plain_none x l m d.0 c)
     s t args p q a.written a.plain b.written b.plain
 
-call_same : {X : Type 0} (allowed : List TagGroup) (says : List TagValue → List Argument → Option X) (args : List Argument) (x y : X) → IsCall allowed says args x → IsCall allowed says args y → x ≡ y
-call_same allowed says args x y a b =
+call_same : {X : Type 0} (allowed : List TagGroup) (Says : List TagValue → List Argument → X → Type 0) → ((tag_values : List TagValue) (positional : List Argument) (x y : X) → Says tag_values positional x → Says tag_values positional y → x ≡ y)
+    → (args : List Argument) (x y : X) → IsCall allowed Says args x → IsCall allowed Says args y → x ≡ y
+call_same allowed Says one args x y a b =
     let same = split_same allowed args a.tag_values b.tag_values a.positional b.positional a.split_tags b.split_tags in
-    some_is x y (sym a.said ∙ ((λ i. says (same.0 i) (same.1 i)) ∙ b.said))
+    one b.tag_values b.positional x y (subst (λ p. Says b.tag_values p x) same.1 (subst (λ s. Says s a.positional x) same.0 a.says)) b.says
+
+text_same : (args : List Argument) (x y : List ℕ) → IsText args x → IsText args y → x ≡ y
+text_same = call_same _ _ (λ tag_values positional x y a b. some_is x y (sym a ∙ b))
+
+list_same : (args : List Argument) (x y : List (List ℕ)) → IsList args x → IsList args y → x ≡ y
+list_same = call_same _ _ (λ tag_values positional x y a b. some_is x y (sym a ∙ b))
 
 redirect_same : (args : List Argument) (x y : Addr) → IsRedirect args x → IsRedirect args y → x ≡ y
-redirect_same args x y a b =
-    let same = call_same _ _ args a.0 b.0 a.1.0 b.1.0 in
-    names_only b.0 x y (subst (λ t. Names t x) same a.1.1) b.1.1
+redirect_same args x y a b = names_only b.text x y (subst (λ t. Names t x) (text_same args a.text b.text a.is_text b.is_text) a.names) b.names
 
-vacation_same : (args : List Argument) (x y : VacArgs) → IsVacation args x → IsVacation args y → x ≡ y
-vacation_same args x y a b =
-    let same = split_same vacation_groups args a.0 b.0 a.1.0 b.1.0 a.1.1.0 b.1.1.0 in
-    let says : SaysVacation b.0 b.1.0 x = subst (λ p. SaysVacation b.0 p x) same.1 (subst (λ s. SaysVacation s a.1.0 x) same.0 a.1.1.1) in
-    says_only b.0 b.1.0 y x b.1.1.1 says
+row_same : {X T : Type 0} (Is : List Argument → X → Type 0) (make : X → T) (args : List Argument) → ((x y : X) → Is args x → Is args y → x ≡ y) → (t u : T) → IsRow Is make args t → IsRow Is make args u → t ≡ u
+row_same Is make args one t u a b = a.tree_is ∙ (ap make (one a.value b.value a.is b.is) ∙ sym b.tree_is)
 
 -- the rows of the table
 plain_test_same : (name : Keyword) (args : List Argument) (t u : TestTree) → IsPlainTest name args t → IsPlainTest name args u → t ≡ u
-plain_test_same W.True args t u a b = a.1 ∙ sym b.1
-plain_test_same W.False args t u a b = a.1 ∙ sym b.1
-plain_test_same W.Size args t u a b = a.1.1 ∙ (ap (λ x. looks (C.Size x)) (call_same _ _ args a.0 b.0 a.1.0 b.1.0) ∙ sym b.1.1)
-plain_test_same W.Exists args t u a b = a.1.1 ∙ (ap (λ x. looks (C.Exists x)) (call_same _ _ args a.0 b.0 a.1.0 b.1.0) ∙ sym b.1.1)
-plain_test_same W.Header args t u a b = a.1.1 ∙ (ap (λ x. looks (C.Header x)) (call_same _ _ args a.0 b.0 a.1.0 b.1.0) ∙ sym b.1.1)
-plain_test_same W.Address args t u a b = a.1.1 ∙ (ap (λ x. looks (C.Address x)) (call_same _ _ args a.0 b.0 a.1.0 b.1.0) ∙ sym b.1.1)
-plain_test_same W.Envelope args t u a b = a.1.1 ∙ (ap (λ x. looks (C.Envelope x)) (call_same _ _ args a.0 b.0 a.1.0 b.1.0) ∙ sym b.1.1)
+plain_test_same W.True args t u a b = a.tree_is ∙ sym b.tree_is
+plain_test_same W.False args t u a b = a.tree_is ∙ sym b.tree_is
+plain_test_same W.Size args t u a b = row_same _ _ args (call_same _ _ size_same args) t u a b
+plain_test_same W.Exists args t u a b = row_same _ _ args (list_same args) t u a b
+plain_test_same W.Header args t u a b = row_same _ _ args (call_same _ _ header_same args) t u a b
+plain_test_same W.Address args t u a b = row_same _ _ args (call_same _ _ address_same args) t u a b
+plain_test_same W.Envelope args t u a b = row_same _ _ args (call_same _ _ envelope_same args) t u a b
 plain_test_same _ args t u a b = absurd a
 
 plain_command_same : (name : Keyword) (args : List Argument) (t u : CommandTree) → IsPlainCommand name args t → IsPlainCommand name args u → t ≡ u
-plain_command_same W.Require args t u a b = a.1.1 ∙ (ap require (call_same _ _ args a.0 b.0 a.1.0 b.1.0) ∙ sym b.1.1)
-plain_command_same W.Stop args t u a b = a.1 ∙ sym b.1
-plain_command_same W.Keep args t u a b = a.1 ∙ sym b.1
-plain_command_same W.Discard args t u a b = a.1 ∙ sym b.1
-plain_command_same W.FileInto args t u a b = a.1.1 ∙ (ap (λ x. act (D.FileInto x)) (call_same _ _ args a.0 b.0 a.1.0 b.1.0) ∙ sym b.1.1)
-plain_command_same W.Redirect args t u a b = a.1.1 ∙ (ap (λ x. act (D.Redirect x)) (redirect_same args a.0 b.0 a.1.0 b.1.0) ∙ sym b.1.1)
-plain_command_same W.Vacation args t u a b = a.1.1 ∙ (ap (λ x. act (D.Vacation x)) (vacation_same args a.0 b.0 a.1.0 b.1.0) ∙ sym b.1.1)
+plain_command_same W.Require args t u a b = row_same _ _ args (list_same args) t u a b
+plain_command_same W.Stop args t u a b = a.tree_is ∙ sym b.tree_is
+plain_command_same W.Keep args t u a b = a.tree_is ∙ sym b.tree_is
+plain_command_same W.Discard args t u a b = a.tree_is ∙ sym b.tree_is
+plain_command_same W.FileInto args t u a b = row_same _ _ args (text_same args) t u a b
+plain_command_same W.Redirect args t u a b = row_same _ _ args (redirect_same args) t u a b
+plain_command_same W.Vacation args t u a b = row_same _ _ args (call_same _ _ vacation_same args) t u a b
 plain_command_same _ args t u a b = absurd a
 
 -- what stands behind a name or a mark that is known

@@ -27,18 +27,18 @@ use Rattle.sievesyntax.specs.Steps.{TakesAll, TakesRequire, TakesRequires, IsPas
 module _ (behind : List Lexeme) (args : List Argument) (next : List Lexeme) (only : (other : List Argument) (to : List Lexeme) → AreArguments other behind to → (other ≡ args) × (to ≡ next)) where
   -- no names
   pub names_none : ((names : List (List ℕ)) → IsList args names → ⊥) → (names : List (List ℕ)) (to : List Lexeme) → IsStatement (require names) W.Require behind to → ⊥
-  names_none none names to is = let same = only is.0 (mark K.Semicolon ∷ to) is.1.0 in none is.1.1.0 (subst (λ a. IsList a is.1.1.0) same.0 is.1.1.1.0)
+  names_none none names to is = let same = only is.0 (mark K.Semicolon ∷ to) is.1.0 in none is.1.1.value (subst (λ a. IsList a is.1.1.value) same.0 is.1.1.is)
 
   -- the one list of names
   pub names_found : AreArguments args behind next → (names : List (List ℕ)) → IsList args names → ((other : List (List ℕ)) → IsList args other → other ≡ names) → (to : List Lexeme) → next ≡ mark K.Semicolon ∷ to → IsStatement (require names) W.Require behind to × ((other : List (List ℕ)) (end : List Lexeme) → IsStatement (require other) W.Require behind end → (other ≡ names) × (end ≡ to))
   names_found are names is alone to semicolon = (
-    (args, (subst (AreArguments args behind) semicolon are, (names, (is, refl)))),
+    (args, (subst (AreArguments args behind) semicolon are, record { value = names; is = is; tree_is = refl })),
     λ other end statement.
         let same = only statement.0 (mark K.Semicolon ∷ end) statement.1.0 in
         let ends : mark K.Semicolon ∷ end ≡ mark K.Semicolon ∷ to = same.1 ∙ semicolon in
-        let it = alone statement.1.1.0 (subst (λ a. IsList a statement.1.1.0) same.0 statement.1.1.1.0) in
-        let tree : require other ≡ require statement.1.1.0 = statement.1.1.1.1 in
-        let named : other ≡ statement.1.1.0 = cc in
+        let it = alone statement.1.1.value (subst (λ a. IsList a statement.1.1.value) same.0 statement.1.1.is) in
+        let tree : require other ≡ require statement.1.1.value = statement.1.1.tree_is in
+        let named : other ≡ statement.1.1.value = cc in
         (named ∙ it, cc),
   )
 
@@ -48,12 +48,12 @@ require_keyword W.Require args names is = refl
 require_keyword W.If args names is = absurd is
 require_keyword W.Elsif args names is = absurd is
 require_keyword W.Else args names is = absurd is
-require_keyword W.Stop args names is = let e = is.1 in cc
-require_keyword W.Keep args names is = let e = is.1 in cc
-require_keyword W.Discard args names is = let e = is.1 in cc
-require_keyword W.FileInto args names is = let e = is.1.1 in cc
-require_keyword W.Redirect args names is = let e = is.1.1 in cc
-require_keyword W.Vacation args names is = let e = is.1.1 in cc
+require_keyword W.Stop args names is = let e = is.tree_is in cc
+require_keyword W.Keep args names is = let e = is.tree_is in cc
+require_keyword W.Discard args names is = let e = is.tree_is in cc
+require_keyword W.FileInto args names is = let e = is.tree_is in cc
+require_keyword W.Redirect args names is = let e = is.tree_is in cc
+require_keyword W.Vacation args names is = let e = is.tree_is in cc
 require_keyword W.True args names is = absurd is
 require_keyword W.False args names is = absurd is
 require_keyword W.Not args names is = absurd is
@@ -222,8 +222,8 @@ module _ (granted : Capabilities) where
       other (require names) name behind none is = absurd none
       other (choose no_branches) name behind may' is = absurd is
       other (choose (branch test block more)) name behind may' is = subst (λ w. IsPastRequires (keyword w ∷ behind)) (sym is.0) tt
-      other stop name behind may' is = past_keyword name behind (λ same. let e = (subst (λ w. IsStatement stop w behind to) same is).1.1.1.1 in cc)
-      other (act action) name behind may' is = past_keyword name behind (λ same. let e = (subst (λ w. IsStatement (act action) w behind to) same is).1.1.1.1 in cc)
+      other stop name behind may' is = past_keyword name behind (λ same. let e = (subst (λ w. IsStatement stop w behind to) same is).1.1.tree_is in cc)
+      other (act action) name behind may' is = past_keyword name behind (λ same. let e = (subst (λ w. IsStatement (act action) w behind to) same is).1.1.tree_is in cc)
 
   -- a script is requires and then commands
   pub parted : (cs : Commands) (from : List Lexeme) → Reads cs from → All IsCapability (required cs) → MayAllStand granted (after_requires cs) → (mid : List Lexeme) × (TakesRequires (requires_of cs) from mid × AreCommands (after_requires cs) mid [])

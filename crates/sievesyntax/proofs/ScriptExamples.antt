@@ -95,7 +95,7 @@ keeps = record {
       (next_found (codes "keep; # a") (codes "; # a") 4 4 1 (record { kind = K.Semicolon; value = V.Nothing; len = 1 }) second_ahead (some_octets 4) refl semicolon_found.0, last),
     );
   };
-  read = ([], ((W.Keep, (mark K.Semicolon ∷ [], (refl, ([], (record { spelled = refl; all = tt }, (refl, refl)))))), refl));
+  read = ([], ((W.Keep, (mark K.Semicolon ∷ [], (refl, ([], (record { spelled = refl; all = tt }, record { none = refl; tree_is = refl }))))), refl));
   valid = record { known = λ k d below. absurd (omega (arith, below)); stand = (tt, tt); shallow = omega arith };
 }
 

@@ -1,93 +1,97 @@
 -- Lemmas on the rows of the table.
-use Rattle.std.proofs.Common.{◌≡◌, ℕ, false, List, ap, ◌∙◌, subst}
-use Rattle.sievesyntax.specs.declared.table.keyword.Keyword.{Keyword}
-use Rattle.sievesyntax.specs.declared.table.keyword.Keyword.TheVariants as W
+use Rattle.std.proofs.Common.{◌≡◌, ℕ, List, [], Some, Result, Ok, Err, sym, ap, ◌∙◌, subst}
+use Rattle.octets.proofs.Lists.{some_is, some_pair}
+use Rattle.sievesyntax.specs.declared.error.ReadError.{ReadError}
 use Rattle.sievesyntax.specs.declared.tree.checks.Size.{Size}
 use Rattle.sievesyntax.specs.declared.tree.checks.Header.{Header}
 use Rattle.sievesyntax.specs.declared.tree.checks.Address.{Address}
 use Rattle.sievesyntax.specs.declared.tree.checks.EnvelopeTest.{EnvelopeTest}
-use Rattle.sievesyntax.specs.declared.tree.checks.Check.TheVariants as C
-use Rattle.sievesyntax.specs.declared.tree.action.Action.TheVariants as D
+use Rattle.sievesyntax.specs.declared.tree.checks.EnvelopeParts.{EnvelopeParts}
 use Rattle.sievesyntax.specs.declared.parser.argument.Argument.{Argument}
-use Rattle.sievesyntax.specs.declared.table.capability.Capabilities.{Capabilities}
-use Rattle.sievesyntax.specs.Tree.{TestTree, looks, CommandTree, act}
-use Rattle.addrparts.specs.declared.address.Addr.{Addr}
-use Rattle.sievesyntax.specs.declared.tree.vacation.VacArgs.{VacArgs}
-use Rattle.sievesyntax.specs.Reasons.{IsReason}
-use Rattle.sievesyntax.specs.Vacations.{IsVacation}
-use Rattle.sievesyntax.specs.Table.{IsSize, IsHeader, IsAddress, IsEnvelope, IsText, IsList, IsRedirect, IsPlainTest, IsPlainCommand}
-use Rattle.sievesyntax.specs.Valid.{IsMailbox, MayTest, MayStand}
+use Rattle.sievesyntax.specs.declared.table.tag_group.TagValue.{TagValue}
+use Rattle.sievesyntax.specs.declared.table.tag_group.TagGroup.{TagGroup}
+use Rattle.sievesyntax.specs.Parsing.{Finds, OnFault}
+use Rattle.sievesyntax.specs.Tags.{IsSplit, IsSplitAlone, IsCall}
+use Rattle.sievesyntax.specs.Positional.{two_lists}
+use Rattle.sievesyntax.specs.Table.{SaysSize, SaysHeader, SaysAddress, SaysEnvelope, NamesParts, IsRow, IsBare}
+use Rattle.sievesyntax.proofs.FaultLemmas.{fault_on}
 
-module _ (keyword : Keyword) (args : List Argument) (granted : Capabilities) where
-  -- no arguments of this kind, no test
-  pub size_none : keyword ≡ W.Size → ((x : Size) → IsSize args x → ⊥) → (other : TestTree) → IsPlainTest keyword args other → MayTest granted other → ⊥
-  size_none is_keyword none other is may = let at = subst (λ w. IsPlainTest w args other) is_keyword is in none at.0 at.1.0
+-- the rows of words with arguments
+module _ {X T : Type 0} (Is : List Argument → X → Type 0) (make : X → T) (args : List Argument) (May : T → Type 0) where
+  -- where the arguments say one thing, the row stands for one tree
+  pub row_only : (x : X) → ((y : X) → Is args y → y ≡ x) → (tree : T) → IsRow Is make args tree → tree ≡ make x
+  row_only x only tree row = row.tree_is ∙ ap make (only row.value row.is)
 
-  pub exists_none : keyword ≡ W.Exists → ((x : List (List ℕ)) → IsList args x → ⊥) → (other : TestTree) → IsPlainTest keyword args other → MayTest granted other → ⊥
-  exists_none is_keyword none other is may = let at = subst (λ w. IsPlainTest w args other) is_keyword is in none at.0 at.1.0
+  -- a fault in the arguments
+  pub row_fault : (e : ReadError) → OnFault e ((x : X) → Is args x → ⊥) → OnFault e ((tree : T) → IsRow Is make args tree → May tree → ⊥)
+  row_fault e h = fault_on e _ _ (λ none tree row may. none row.value row.is) h
 
-  pub header_none : keyword ≡ W.Header → ((x : Header) → IsHeader args x → ⊥) → (other : TestTree) → IsPlainTest keyword args other → MayTest granted other → ⊥
-  header_none is_keyword none other is may = let at = subst (λ w. IsPlainTest w args other) is_keyword is in none at.0 at.1.0
+  -- a fault in the arguments, or arguments that don't fit where they have to
+  pub fit_fault : (Fit : X → Type 0) → ((x : X) → May (make x) → Fit x) → (e : ReadError) → OnFault e ((x : X) → Is args x → Fit x → ⊥) → OnFault e ((tree : T) → IsRow Is make args tree → May tree → ⊥)
+  fit_fault Fit asks e h = fault_on e _ _ (λ none tree row may. none row.value row.is (asks row.value (subst May row.tree_is may))) h
 
-  pub address_none : keyword ≡ W.Address → ((x : Address) → IsAddress args x → ⊥) → (other : TestTree) → IsPlainTest keyword args other → MayTest granted other → ⊥
-  address_none is_keyword none other is may = let at = subst (λ w. IsPlainTest w args other) is_keyword is in none at.0 at.1.0
+-- the rows of words without
+module _ {T : Type 0} (bare : T) (args : List Argument) (May : T → Type 0) where
+  pub bare_fault : (e : ReadError) → OnFault e (args ≡ [] → ⊥) → OnFault e ((tree : T) → IsBare bare args tree → May tree → ⊥)
+  bare_fault e h = fault_on e _ _ (λ some tree row may. some row.none) h
 
-  pub envelope_none : keyword ≡ W.Envelope → ((x : EnvelopeTest) → IsEnvelope args x → ⊥) → (other : TestTree) → IsPlainTest keyword args other → MayTest granted other → ⊥
-  envelope_none is_keyword none other is may = let at = subst (λ w. IsPlainTest w args other) is_keyword is in none at.0 at.1.0
+-- the arguments say what their tags and positional arguments say
+module _ {X : Type 0} (allowed : List TagGroup) (Says : List TagValue → List Argument → X → Type 0) (args : List Argument) (tag_values : List TagValue) (positional : List Argument)
+    (only : IsSplitAlone allowed args tag_values positional) where
+  says_split : (x : X) → IsCall allowed Says args x → Says tag_values positional x
+  says_split x call =
+      let same = only call.tag_values call.positional call.split_tags in
+      subst (λ p. Says tag_values p x) same.1 (subst (λ s. Says s call.positional x) same.0 call.says)
 
-module _ (keyword : Keyword) (args : List Argument) where
-  -- these arguments alone, this test alone
-  pub size_only : keyword ≡ W.Size → (x : Size) → ((y : Size) → IsSize args y → y ≡ x) → (other : TestTree) → IsPlainTest keyword args other → other ≡ looks (C.Size x)
-  size_only is_keyword x only other is = let at = subst (λ w. IsPlainTest w args other) is_keyword is in at.1.1 ∙ ap (λ y. looks (C.Size y)) (only at.0 at.1.0)
+  pub call_finds : IsSplit allowed args tag_values positional → (found : Result X ReadError) → Finds (Says tag_values positional) found → Finds (IsCall allowed Says args) found
+  call_finds split_tags (Ok x) found = (record { tag_values = tag_values; positional = positional; split_tags = split_tags; says = found.0 }, λ y call. found.1 y (says_split y call))
+  call_finds split_tags (Err e) none = fault_on e _ _ (λ nothing x call. nothing x (says_split x call)) none
 
-  pub exists_only : keyword ≡ W.Exists → (x : List (List ℕ)) → ((y : List (List ℕ)) → IsList args y → y ≡ x) → (other : TestTree) → IsPlainTest keyword args other → other ≡ looks (C.Exists x)
-  exists_only is_keyword x only other is = let at = subst (λ w. IsPlainTest w args other) is_keyword is in at.1.1 ∙ ap (λ y. looks (C.Exists y)) (only at.0 at.1.0)
+-- what is there, and one at most
+pub finds_one : {X : Type 0} (P : X → Type 0) → ((x y : X) → P x → P y → x ≡ y) → (x : X) → P x → P x × ((y : X) → P y → y ≡ x)
+finds_one P same x here = (here, λ y also. same y x also here)
 
-  pub header_only : keyword ≡ W.Header → (x : Header) → ((y : Header) → IsHeader args y → y ≡ x) → (other : TestTree) → IsPlainTest keyword args other → other ≡ looks (C.Header x)
-  header_only is_keyword x only other is = let at = subst (λ w. IsPlainTest w args other) is_keyword is in at.1.1 ∙ ap (λ y. looks (C.Header y)) (only at.0 at.1.0)
+-- names say one thing at most of the parts of the envelope
+pub parts_same : (names : List (List ℕ)) (x y : EnvelopeParts) → NamesParts names x → NamesParts names y → x ≡ y
+parts_same names x y a b =
+    let from : x.from ≡ y.from = a.from ∙ sym b.from in
+    let to : x.to ≡ y.to = a.to ∙ sym b.to in
+    λ i. record { from = from i; to = to i }
 
-  pub address_only : keyword ≡ W.Address → (x : Address) → ((y : Address) → IsAddress args y → y ≡ x) → (other : TestTree) → IsPlainTest keyword args other → other ≡ looks (C.Address x)
-  address_only is_keyword x only other is = let at = subst (λ w. IsPlainTest w args other) is_keyword is in at.1.1 ∙ ap (λ y. looks (C.Address y)) (only at.0 at.1.0)
+-- tags and positional arguments say one thing at most
+module _ (tag_values : List TagValue) (positional : List Argument) where
+  pub size_same : (x y : Size) → SaysSize tag_values positional x → SaysSize tag_values positional y → x ≡ y
+  size_same x y a b =
+      let bound = some_is x.bound y.bound (sym a.bound ∙ b.bound) in
+      let limit = some_is x.limit y.limit (sym a.limit ∙ b.limit) in
+      λ i. record { bound = bound i; limit = limit i }
 
-  pub envelope_only : keyword ≡ W.Envelope → (x : EnvelopeTest) → ((y : EnvelopeTest) → IsEnvelope args y → y ≡ x) → (other : TestTree) → IsPlainTest keyword args other → other ≡ looks (C.Envelope x)
-  envelope_only is_keyword x only other is = let at = subst (λ w. IsPlainTest w args other) is_keyword is in at.1.1 ∙ ap (λ y. looks (C.Envelope y)) (only at.0 at.1.0)
+  pub header_same : (x y : Header) → SaysHeader tag_values positional x → SaysHeader tag_values positional y → x ≡ y
+  header_same x y a b =
+      let comparator : x.comparator ≡ y.comparator = a.comparator ∙ sym b.comparator in
+      let matching : x.matching ≡ y.matching = a.matching ∙ sym b.matching in
+      let lists = some_pair (x.fields, x.keys) (y.fields, y.keys) (sym a.lists ∙ b.lists) in
+      λ i. record { comparator = comparator i; matching = matching i; fields = lists.0 i; keys = lists.1 i }
 
--- an `envelope` without its capability may not stand
-pub envelope_barred : (keyword : Keyword) (args : List Argument) (granted : Capabilities) → keyword ≡ W.Envelope → granted.envelope ≡ false → (other : TestTree) → IsPlainTest keyword args other → MayTest granted other → ⊥
-envelope_barred keyword args granted is_keyword none other is may =
-    let at = subst (λ w. IsPlainTest w args other) is_keyword is in
-    let there : MayTest granted (looks (C.Envelope at.0)) = subst (MayTest granted) at.1.1 may in
-    cc
+  pub address_same : (x y : Address) → SaysAddress tag_values positional x → SaysAddress tag_values positional y → x ≡ y
+  address_same x y a b =
+      let comparator : x.comparator ≡ y.comparator = a.comparator ∙ sym b.comparator in
+      let part : x.part ≡ y.part = a.part ∙ sym b.part in
+      let matching : x.matching ≡ y.matching = a.matching ∙ sym b.matching in
+      let lists = some_pair (x.fields, x.keys) (y.fields, y.keys) (sym a.lists ∙ b.lists) in
+      λ i. record { comparator = comparator i; part = part i; matching = matching i; fields = lists.0 i; keys = lists.1 i }
 
-module _ (keyword : Keyword) (args : List Argument) (is_fileinto : keyword ≡ W.FileInto) where
-  -- no mailbox, no command
-  pub fileinto_none : (granted : Capabilities) → ((name : List ℕ) → IsText args name → ⊥) → (other : CommandTree) → IsPlainCommand keyword args other → MayStand granted other → ⊥
-  fileinto_none granted none other is may = let at = subst (λ w. IsPlainCommand w args other) is_fileinto is in none at.0 at.1.0
+  pub envelope_same : (x y : EnvelopeTest) → SaysEnvelope tag_values positional x → SaysEnvelope tag_values positional y → x ≡ y
+  envelope_same x y a b =
+      let comparator : x.comparator ≡ y.comparator = a.comparator ∙ sym b.comparator in
+      let part : x.part ≡ y.part = a.part ∙ sym b.part in
+      let matching : x.matching ≡ y.matching = a.matching ∙ sym b.matching in
+      let lists = some_pair (a.names, x.keys) (b.names, y.keys) (sym a.lists ∙ b.lists) in
+      let parts = parts_same b.names x.parts y.parts (subst (λ names. NamesParts names x.parts) lists.0 a.parts) b.parts in
+      λ i. record { comparator = comparator i; part = part i; matching = matching i; parts = parts i; keys = lists.1 i }
 
-  -- one mailbox, one command
-  pub fileinto_only : (mailbox : List ℕ) → ((y : List ℕ) → IsText args y → y ≡ mailbox) → (other : CommandTree) → IsPlainCommand keyword args other → other ≡ act (D.FileInto mailbox)
-  fileinto_only mailbox only other is = let at = subst (λ w. IsPlainCommand w args other) is_fileinto is in at.1.1 ∙ ap (λ s. act (D.FileInto s)) (only at.0 at.1.0)
-
-  -- a bad mailbox may not stand
-  pub fileinto_bad : (granted : Capabilities) (mailbox : List ℕ) → ((y : List ℕ) → IsText args y → y ≡ mailbox) → (IsMailbox mailbox → ⊥) → (other : CommandTree) → IsPlainCommand keyword args other → MayStand granted other → ⊥
-  fileinto_bad granted mailbox only bad other is may =
-      let there : MayStand granted (act (D.FileInto mailbox)) = subst (MayStand granted) (fileinto_only mailbox only other is) may in bad there.1
-
-module _ (keyword : Keyword) (args : List Argument) (granted : Capabilities) where
-  pub redirect_none : keyword ≡ W.Redirect → ((x : Addr) → IsRedirect args x → ⊥) → (other : CommandTree) → IsPlainCommand keyword args other → MayStand granted other → ⊥
-  redirect_none is_keyword none other is may = let at = subst (λ w. IsPlainCommand w args other) is_keyword is in none at.0 at.1.0
-
-  pub vacation_row_none : keyword ≡ W.Vacation → ((x : VacArgs) → IsVacation args x → ⊥) → (other : CommandTree) → IsPlainCommand keyword args other → MayStand granted other → ⊥
-  vacation_row_none is_keyword none other is may = let at = subst (λ w. IsPlainCommand w args other) is_keyword is in none at.0 at.1.0
-
-module _ (keyword : Keyword) (args : List Argument) where
-  pub redirect_only : keyword ≡ W.Redirect → (x : Addr) → ((y : Addr) → IsRedirect args y → y ≡ x) → (other : CommandTree) → IsPlainCommand keyword args other → other ≡ act (D.Redirect x)
-  redirect_only is_keyword x only other is = let at = subst (λ w. IsPlainCommand w args other) is_keyword is in at.1.1 ∙ ap (λ y. act (D.Redirect y)) (only at.0 at.1.0)
-
-  pub vacation_only : keyword ≡ W.Vacation → (x : VacArgs) → ((y : VacArgs) → IsVacation args y → y ≡ x) → (other : CommandTree) → IsPlainCommand keyword args other → other ≡ act (D.Vacation x)
-  vacation_only is_keyword x only other is = let at = subst (λ w. IsPlainCommand w args other) is_keyword is in at.1.1 ∙ ap (λ y. act (D.Vacation y)) (only at.0 at.1.0)
-
-  -- a bad reason may not stand
-  pub vacation_bad : keyword ≡ W.Vacation → (granted : Capabilities) (x : VacArgs) → ((y : VacArgs) → IsVacation args y → y ≡ x) → (IsReason x → ⊥) → (other : CommandTree) → IsPlainCommand keyword args other → MayStand granted other → ⊥
-  vacation_bad is_keyword granted x only bad other is may =
-      let there : MayStand granted (act (D.Vacation x)) = subst (MayStand granted) (vacation_only is_keyword x only other is) may in bad there.1
+  -- the names are no parts of the envelope
+  pub envelope_no_parts : (names keys : List (List ℕ)) → two_lists positional ≡ Some (names, keys) → ((parts : EnvelopeParts) → NamesParts names parts → ⊥) → (x : EnvelopeTest) → SaysEnvelope tag_values positional x → ⊥
+  envelope_no_parts names keys lists none x a =
+      let same = some_pair (a.names, x.keys) (names, keys) (sym a.lists ∙ lists) in
+      none x.parts (subst (λ them. NamesParts them x.parts) same.0 a.parts)

@@ -16,7 +16,7 @@ use Rattle.sievesyntax.specs.declared.table.tag_group.TagValue.{TagValue}
 use Rattle.sievesyntax.specs.declared.table.tag_group.TagValue.TheVariants as S
 use Rattle.sievesyntax.specs.declared.table.tag_group.TagGroup.{TagGroup}
 use Rattle.sievesyntax.specs.Chains.{Chain}
-use Rattle.sievesyntax.specs.Tags.{strings_of, IsTagValue, group_of, Among, AreApart, IsAllowed, IsPlain, IsSplit}
+use Rattle.sievesyntax.specs.Tags.{strings_of, IsTagValue, group_of, Among, AreApart, IsAllowed, IsPlain, IsSplit, HasNoTag}
 use Rattle.sievesyntax.proofs.Chains.{IsSoFar, chain_begins, chain_more, chain_ends}
 
 abbrev collation_named : List ℕ → Option Collation
@@ -62,6 +62,16 @@ tag_value_again (S.Handle s) from to at = ap tag_value_read at
 -- at most one tag stands at the front
 pub tag_value_only : (s t : TagValue) (from to end : List Argument) → IsTagValue s from to → IsTagValue t from end → (t ≡ s) × (end ≡ to)
 tag_value_only s t from to end at also = some_pair (t, end) (s, to) (sym (tag_value_again t from end also) ∙ tag_value_again s from to at)
+
+-- a tag of no allowed group, or of a group that is taken, stands first: no other does
+pub not_allowed : (allowed taken : List TagGroup) (t : TagValue) (from end : List Argument) → IsTagValue t from end → (Among (group_of t) allowed → ⊥) → HasNoTag allowed taken from
+not_allowed allowed taken t from end at bad s to is free = bad (subst (λ x. Among (group_of x) allowed) (sym (tag_value_only s t from to end is.0 at).0) is.1)
+
+pub not_free : (allowed taken : List TagGroup) (t : TagValue) (from end : List Argument) → IsTagValue t from end → Among (group_of t) taken → HasNoTag allowed taken from
+not_free allowed taken t from end at among s to is free = free (subst (λ x. Among (group_of x) taken) (tag_value_only s t from to end is.0 at).0 among)
+
+pub not_there : (allowed taken : List TagGroup) (from : List Argument) → ((t : TagValue) (to : List Argument) → IsTagValue t from to → ⊥) → HasNoTag allowed taken from
+not_there allowed taken from none s to is free = none s to is.0
 
 -- a tag begins with a tag
 pub plain_none : (s : TagValue) (from to : List Argument) → IsTagValue s from to → IsPlain from → ⊥

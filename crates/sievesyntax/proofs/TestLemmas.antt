@@ -1,5 +1,5 @@
 -- Lemmas on tests.
-use Rattle.std.proofs.Common.{◌≡◌, ◌++◌, ℕ, ◌≤◌, ◌<◌, ◌+◌, List, [], ◌∷◌, length, refl, sym, ap, ◌∙◌, subst, arith, max, suc}
+use Rattle.std.proofs.Common.{◌≡◌, ◌++◌, ℕ, ◌≤◌, ◌<◌, ◌+◌, List, [], ◌∷◌, length, map, Result, Ok, Err, Vec, Global, IfOk, refl, sym, ap, ◌∙◌, subst, arith, max, suc}
 use Rattle.sievelex.specs.declared.token.Kind.TheVariants as K
 use Rattle.sievesyntax.specs.declared.table.keyword.Keyword.{Keyword}
 use Rattle.sievesyntax.specs.declared.table.keyword.Keyword.TheVariants as W
@@ -10,12 +10,16 @@ use Rattle.sievesyntax.specs.Arguments.{IsArgument, AreArguments}
 use Rattle.sievesyntax.specs.Chains.{Chain}
 use Rattle.sievesyntax.specs.Table.{IsPlainTest}
 use Rattle.sievesyntax.specs.Tree.{TestTree, yes, no, looks, not_of, all_of, any_of, Tests, no_tests, test, list_depth, lists_depth, not_depth, nots_depth}
-use Rattle.sievesyntax.specs.View.{tests_of}
+use Rattle.sievesyntax.specs.declared.error.ReadError.{ReadError}
+use Rattle.sievesyntax.specs.declared.tree.test.Test.{Test}
+use Rattle.sievesyntax.specs.Parsing.{IfFault, Parses, StandsNowhere, Adds, AddsAlone}
+use Rattle.sievesyntax.specs.View.{test_view, tests_view, tests_of}
 use Rattle.sievesyntax.specs.Valid.{MayTest, MayAllTest}
 use Rattle.sievesyntax.specs.Tests.{IsPlain, IsTest, AreTests, AreMoreTests, ReadsTest}
-use Rattle.sievesyntax.specs.Steps.{TakesTest, AsksAfter, TakesNextTest, TakesTests}
+use Rattle.sievesyntax.specs.Steps.{TakesTest, AsksAfter, TakesNextTest, TakesMoreTests, TakesTests}
 use Rattle.sievesyntax.proofs.Chains.{IsSoFar, chain_more, chain_ends, chain_fails}
 use Rattle.sievesyntax.proofs.ArgumentLemmas.{IsMarked, argument_longer}
+use Rattle.sievesyntax.proofs.FaultLemmas.{fault_on}
 
 -- a test without tests in it
 abbrev pub IsLeaf : TestTree → Type 0
@@ -38,16 +42,16 @@ plain_leaf W.Discard args t is = absurd is
 plain_leaf W.FileInto args t is = absurd is
 plain_leaf W.Redirect args t is = absurd is
 plain_leaf W.Vacation args t is = absurd is
-plain_leaf W.True args t is = subst IsLeaf (sym is.1) tt
-plain_leaf W.False args t is = subst IsLeaf (sym is.1) tt
+plain_leaf W.True args t is = subst IsLeaf (sym is.tree_is) tt
+plain_leaf W.False args t is = subst IsLeaf (sym is.tree_is) tt
 plain_leaf W.Not args t is = absurd is
 plain_leaf W.AllOf args t is = absurd is
 plain_leaf W.AnyOf args t is = absurd is
-plain_leaf W.Size args t is = subst IsLeaf (sym is.1.1) tt
-plain_leaf W.Exists args t is = subst IsLeaf (sym is.1.1) tt
-plain_leaf W.Header args t is = subst IsLeaf (sym is.1.1) tt
-plain_leaf W.Address args t is = subst IsLeaf (sym is.1.1) tt
-plain_leaf W.Envelope args t is = subst IsLeaf (sym is.1.1) tt
+plain_leaf W.Size args t is = subst IsLeaf (sym is.tree_is) tt
+plain_leaf W.Exists args t is = subst IsLeaf (sym is.tree_is) tt
+plain_leaf W.Header args t is = subst IsLeaf (sym is.tree_is) tt
+plain_leaf W.Address args t is = subst IsLeaf (sym is.tree_is) tt
+plain_leaf W.Envelope args t is = subst IsLeaf (sym is.tree_is) tt
 plain_leaf W.Other args t is = absurd is
 
 leaf_lists : (t : TestTree) → IsLeaf t → list_depth t ≡ 0
@@ -299,6 +303,14 @@ module _ (granted : Capabilities) (lists nots : ℕ) (from inside : List Lexeme)
                 let same = only (list_of_tests p.0) end p.1.1 in
                 (p.1.0 ∙ ap (test first) (sym (tests_of-list_of p.0)) ∙ ap tests_of (sym same.0), same.1),
           )
+
+      -- what the tests after the first one come to
+      pub tests_after : (one : List Test) (to : List Lexeme) (r : Result (Vec Test Global) ReadError) → map test_view one ≡ first ∷ []
+          → IfOk r (λ all. Adds test_view (TakesMoreTests granted fewer nots) one all.items next to) → IfOk r (λ all. AddsAlone test_view (TakesMoreTests granted fewer nots) one all.items next to)
+          → IfFault r (StandsNowhere (TakesMoreTests granted fewer nots) next) → Parses (λ v. tests_view v.items) (TakesTests granted lists nots) from to r
+      tests_after one to (Ok all) is adds alone fault =
+          tests_found (map test_view all.items) to (adds.0, (adds.1.0 ∙ ap (λ xs. xs ++ adds.0) is, adds.1.1)) (λ trees end chain. let same = alone trees end chain in (same.0 ∙ ap (λ xs. xs ++ trees) is, same.1))
+      tests_after one to (Err e) is adds alone fault = fault_on e _ _ tests_no_more fault
 
 module _ (granted : Capabilities) (lists nots : ℕ) (whole : List Lexeme) (so_far : List TestTree) (rest : List Lexeme) (so : IsSoFar (TakesNextTest granted lists nots) (IsMarked K.CloseParen) whole so_far rest) where
   -- neither a comma nor the close parenthesis

@@ -10,10 +10,9 @@ use Rattle.sievesyntax.specs.declared.tree.vacation.VacArgs.{VacArgs}
 use Rattle.sievesyntax.specs.declared.tree.vacation.ReplyFrom.{ReplyFrom}
 use Rattle.sievesyntax.specs.declared.parser.argument.Argument.{Argument}
 use Rattle.sievesyntax.specs.declared.table.tag_group.TagValue.{TagValue}
-use Rattle.sievesyntax.specs.Tags.{IsSplit}
 use Rattle.sievesyntax.specs.TagValues.{from_in, addresses_in}
 use Rattle.sievesyntax.specs.Table.{IsText, IsRedirect}
-use Rattle.sievesyntax.specs.Vacations.{Names, IsReplyFrom, IsGivenFrom, AreNamed, AddsNamed, SaysVacation, vacation_groups, IsVacation}
+use Rattle.sievesyntax.specs.Vacations.{Names, IsReplyFrom, IsGivenFrom, AreNamed, AddsNamed, SaysVacation}
 
 -- a text names one address with one display
 pub outbound_only : (text d e : List ℕ) (a b : Addr) → IsOutbound text d a → IsOutbound text e b → (d ≡ e) × (a ≡ b)
@@ -78,43 +77,31 @@ given_from_only (Some text) None two are also = absurd are
 given_from_only (Some text) (Some one) None are also = absurd also
 given_from_only (Some text) (Some one) (Some two) are also = ap Some (reply_from_only text one two are also)
 
-pub says_only : (tag_values : List TagValue) (positional : List Argument) (one two : VacArgs) → SaysVacation tag_values positional one → SaysVacation tag_values positional two → two ≡ one
-says_only tag_values positional one two are also =
-    let days : two.days ≡ one.days = also.days ∙ sym are.days in
-    let subject : two.subject ≡ one.subject = also.subject ∙ sym are.subject in
-    let from : two.from ≡ one.from = given_from_only (from_in tag_values) one.from two.from are.from also.from in
-    let addresses : two.addresses ≡ one.addresses = named_only (addresses_in tag_values) one.addresses two.addresses are.addresses also.addresses in
-    let mime : two.mime ≡ one.mime = also.mime ∙ sym are.mime in
-    let handle : two.handle ≡ one.handle = also.handle ∙ sym are.handle in
-    let spelled : Some two.reason ≡ Some one.reason = sym also.reason ∙ are.reason in
-    let reason : two.reason ≡ one.reason = some_is two.reason one.reason spelled in
+-- tags and positional arguments say one thing at most
+pub vacation_same : (tag_values : List TagValue) (positional : List Argument) (x y : VacArgs) → SaysVacation tag_values positional x → SaysVacation tag_values positional y → x ≡ y
+vacation_same tag_values positional x y a b =
+    let days : x.days ≡ y.days = a.days ∙ sym b.days in
+    let subject : x.subject ≡ y.subject = a.subject ∙ sym b.subject in
+    let from : x.from ≡ y.from = given_from_only (from_in tag_values) y.from x.from b.from a.from in
+    let addresses : x.addresses ≡ y.addresses = named_only (addresses_in tag_values) y.addresses x.addresses b.addresses a.addresses in
+    let mime : x.mime ≡ y.mime = a.mime ∙ sym b.mime in
+    let handle : x.handle ≡ y.handle = a.handle ∙ sym b.handle in
+    let reason = some_is x.reason y.reason (sym a.reason ∙ b.reason) in
     λ i. record { days = days i; subject = subject i; from = from i; addresses = addresses i; mime = mime i; handle = handle i; reason = reason i }
-
-module _ (args : List Argument) (tag_values : List TagValue) (positional : List Argument) (only : (others : List TagValue) (behind : List Argument) → IsSplit vacation_groups args others behind → (others ≡ tag_values) × (behind ≡ positional)) where
-  vacation_says : (v : VacArgs) → IsVacation args v → SaysVacation tag_values positional v
-  vacation_says v is = let same = only is.0 is.1.0 is.1.1.0 in subst (λ p. SaysVacation tag_values p v) same.1 (subst (λ s. SaysVacation s is.1.0 v) same.0 is.1.1.1)
-
-  -- the arguments say nothing
-  pub vacation_none : ((v : VacArgs) → SaysVacation tag_values positional v → ⊥) → (v : VacArgs) → IsVacation args v → ⊥
-  vacation_none none v is = none v (vacation_says v is)
-
-  -- they say one thing
-  pub vacation_found : IsSplit vacation_groups args tag_values positional → (v : VacArgs) → SaysVacation tag_values positional v → IsVacation args v × ((w : VacArgs) → IsVacation args w → w ≡ v)
-  vacation_found split_tags v says = ((tag_values, (positional, (split_tags, says))), λ w is. says_only tag_values positional v w says (vacation_says w is))
 
 -- the address of a `redirect`
 module _ (args : List Argument) where
   pub redirect_no_text : ((x : List ℕ) → IsText args x → ⊥) → (y : Addr) → IsRedirect args y → ⊥
-  redirect_no_text none y is = none is.0 is.1.0
+  redirect_no_text none y is = none is.text is.is_text
 
   module _ (text : List ℕ) (only : (x : List ℕ) → IsText args x → x ≡ text) where
     pub redirect_no_address : ((d : List ℕ) (a : Addr) → IsOutbound text d a → ⊥) → (y : Addr) → IsRedirect args y → ⊥
-    redirect_no_address none y is = none is.1.1.0 y (subst (λ t. IsOutbound t is.1.1.0 y) (only is.0 is.1.0) is.1.1.1)
+    redirect_no_address none y is = none is.names.0 y (subst (λ t. IsOutbound t is.names.0 y) (only is.text is.is_text) is.names.1)
 
     pub redirect_found : IsText args text → (d : List ℕ) (a : Addr) → IsOutbound text d a → IsRedirect args a × ((y : Addr) → IsRedirect args y → y ≡ a)
     redirect_found there d a names = (
-      (text, (there, (d, names))),
-      λ y is. names_only text y a (is.1.1.0, subst (λ t. IsOutbound t is.1.1.0 y) (only is.0 is.1.0) is.1.1.1) (d, names),
+      record { text = text; is_text = there; names = (d, names) },
+      λ y is. names_only text y a (is.names.0, subst (λ t. IsOutbound t is.names.0 y) (only is.text is.is_text) is.names.1) (d, names),
     )
 
 -- the value of a `:from` that is given

@@ -1,5 +1,5 @@
 -- What a part of the parser answers.
-use Rattle.std.specs.Prelude.{◌≡◌, List, ◌∷◌, ◌++◌, Result, Ok, Err}
+use Rattle.std.specs.Prelude.{◌≡◌, List, ◌∷◌, ◌++◌, map, Result, Ok, Err}
 use Rattle.sievesyntax.specs.declared.error.ReadError.{ReadError}
 use Rattle.sievesyntax.specs.declared.error.ReadError.TheVariants.{Memory, Fault}
 use Rattle.sievelex.specs.declared.token.Kind.{Kind}
@@ -19,6 +19,11 @@ IfFault (Err e) p = OnFault e p
 abbrev pub Finds : {X : Type 0} → (X → Type 0) → Result X ReadError → Type 0
 Finds {X} P (Ok x) = P x × ((y : X) → P y → y ≡ x)
 Finds {X} P (Err e) = OnFault e ((y : X) → P y → ⊥)
+
+-- the one x with P, which fits, or a fault where no x with P fits
+abbrev pub FindsFit : {X : Type 0} → (X → Type 0) → (X → Type 0) → Result X ReadError → Type 0
+FindsFit {X} P Fit (Ok x) = P x × Fit x × ((y : X) → P y → y ≡ x)
+FindsFit {X} P Fit (Err e) = OnFault e ((y : X) → P y → Fit y → ⊥)
 
 -- the one y with P at the front of `from`, seen of what was read, and what follows it, or a fault where there is none
 abbrev pub Parses : {X Y : Type 0} → (X → Y) → (Y → List Lexeme → List Lexeme → Type 0) → List Lexeme → List Lexeme → Result X ReadError → Type 0
@@ -40,6 +45,13 @@ Extends {Y} P old new from to = (more : List Y) × ((new ≡ old ++ more) × P m
 -- none but those that were added stand there
 abbrev pub ExtendsAlone : {Y : Type 0} → (List Y → List Lexeme → List Lexeme → Type 0) → List Y → List Y → List Lexeme → List Lexeme → Type 0
 ExtendsAlone {Y} P old new from to = (more : List Y) (end : List Lexeme) → P more from end → (new ≡ old ++ more) × (end ≡ to)
+
+-- the same of both, as what was read is seen
+abbrev pub Adds : {X Y : Type 0} → (X → Y) → (List Y → List Lexeme → List Lexeme → Type 0) → List X → List X → List Lexeme → List Lexeme → Type 0
+Adds view P old new from to = Extends P (map view old) (map view new) from to
+
+abbrev pub AddsAlone : {X Y : Type 0} → (X → Y) → (List Y → List Lexeme → List Lexeme → Type 0) → List X → List X → List Lexeme → List Lexeme → Type 0
+AddsAlone view P old new from to = ExtendsAlone P (map view old) (map view new) from to
 
 -- what stands there up to a mark, and the mark
 abbrev pub Closed : {Y : Type 0} → Kind → (Y → List Lexeme → List Lexeme → Type 0) → Y → List Lexeme → List Lexeme → Type 0

@@ -98,6 +98,13 @@ pub record IsSplit (allowed : List TagGroup) (args : List Argument) (tag_values 
   pub plain : IsPlain positional
   pub once : AreApart (map group_of tag_values)
 
+-- tags of these groups, in any order, and positional arguments, that say this
+pub record IsCall {X : Type 0} (allowed : List TagGroup) (Says : List TagValue → List Argument → X → Type 0) (args : List Argument) (x : X) : Type 0 where
+  pub tag_values : List TagValue
+  pub positional : List Argument
+  pub split_tags : IsSplit allowed args tag_values positional
+  pub says : Says tag_values positional x
+
 -- the arguments are split in no other way
 abbrev pub IsSplitAlone : List TagGroup → List Argument → List TagValue → List Argument → Type 0
 IsSplitAlone allowed args tag_values positional =

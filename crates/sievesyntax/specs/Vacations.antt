@@ -8,7 +8,7 @@ use Rattle.sievesyntax.specs.declared.parser.argument.Argument.{Argument}
 use Rattle.sievesyntax.specs.declared.table.tag_group.TagValue.{TagValue}
 use Rattle.sievesyntax.specs.declared.table.tag_group.TagGroup.{TagGroup}
 use Rattle.sievesyntax.specs.declared.table.tag_group.TagGroup.TheVariants as P
-use Rattle.sievesyntax.specs.Tags.{IsSplit}
+use Rattle.sievesyntax.specs.Tags.{IsCall}
 use Rattle.sievesyntax.specs.Positional.{one_text}
 use Rattle.sievesyntax.specs.TagValues.{days_in, subject_in, from_in, addresses_in, mime_in, handle_in}
 
@@ -58,4 +58,4 @@ vacation_groups = P.Days ∷ (P.Subject ∷ (P.From ∷ (P.Addresses ∷ (P.Mime
 -- vacation [":days" number] [":subject" string] [":from" string] [":addresses" string-list] [":mime"]
 -- [":handle" string], reason: string (RFC 5230, 4)
 abbrev pub IsVacation : List Argument → VacArgs → Type 0
-IsVacation args vacation = (tag_values : List TagValue) × ((positional : List Argument) × (IsSplit vacation_groups args tag_values positional × SaysVacation tag_values positional vacation))
+IsVacation = IsCall vacation_groups SaysVacation

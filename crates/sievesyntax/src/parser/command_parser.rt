@@ -2,7 +2,7 @@
 ghost use Rattle.std.specs.Prelude.{◌≡◌, ◌↔◌, ◌++◌, ◌∷◌, [], ℕ, List, IfOk, IsTrue, MatchBool, map};
 ghost use Rattle.sievesyntax.specs.declared.table.keyword.Keyword.TheVariants as W;
 ghost use Rattle.sievesyntax.specs.Lexemes.{Lexemes, keyword};
-ghost use Rattle.sievesyntax.specs.Parsing.{IfFault, Parses, StandsNowhere, Extends, ExtendsAlone};
+ghost use Rattle.sievesyntax.specs.Parsing.{IfFault, Parses, StandsNowhere, Adds, AddsAlone};
 ghost use Rattle.sievesyntax.specs.Tree.{TestTree, CommandTree, Commands};
 ghost use Rattle.sievesyntax.specs.View.{branch_view, command_view, commands_view};
 ghost use Rattle.sievesyntax.specs.Grammar.{IsPastBranches};
@@ -36,8 +36,8 @@ pub(crate) fn read_commands(
     room: usize,
     commands: Vec<Command>,
 ) -> Result<Vec<Command>, ReadError>
-    ensures found { IfOk result (λ all. Extends (TakesAll granted room) (map command_view commands.items) (map command_view all.items) reader.old reader.new) }
-    ensures only { IfOk result (λ all. ExtendsAlone (TakesAll granted room) (map command_view commands.items) (map command_view all.items) reader.old reader.new) }
+    ensures found { IfOk result (λ all. Adds command_view (TakesAll granted room) commands.items all.items reader.old reader.new) }
+    ensures only { IfOk result (λ all. AddsAlone command_view (TakesAll granted room) commands.items all.items reader.old reader.new) }
     ensures fault { IfFault result (StandsNowhere (TakesAll granted room) reader.old) }
 {
     let mut commands = commands;
@@ -74,8 +74,8 @@ fn read_if(
 ) -> Result<Command, ReadError>
     ensures { Parses command_view (TakesAfter granted room W.If) reader.old reader.new result }
 {
-    let mut one = Vec::with_capacity(alloc, 1)?;
-    one.push(read_branch(alloc, reader, granted, room)?)?;
+    let first = read_branch(alloc, reader, granted, room)?;
+    let one = vec![in alloc; first]?;
     let branches = read_elsifs(alloc, reader, granted, room, one)?;
     let branches = read_else(alloc, reader, granted, room, branches)?;
     Ok(Command::If(branches))
@@ -105,8 +105,8 @@ fn read_elsifs(
     room: usize,
     branches: Vec<Branch>,
 ) -> Result<Vec<Branch>, ReadError>
-    ensures found { IfOk result (λ all. Extends (TakesElsifs granted room) (map branch_view branches.items) (map branch_view all.items) reader.old reader.new) }
-    ensures only { IfOk result (λ all. ExtendsAlone (TakesElsifs granted room) (map branch_view branches.items) (map branch_view all.items) reader.old reader.new) }
+    ensures found { IfOk result (λ all. Adds branch_view (TakesElsifs granted room) branches.items all.items reader.old reader.new) }
+    ensures only { IfOk result (λ all. AddsAlone branch_view (TakesElsifs granted room) branches.items all.items reader.old reader.new) }
     ensures fault { IfFault result (StandsNowhere (TakesElsifs granted room) reader.old) }
 {
     let mut branches = branches;
@@ -126,8 +126,8 @@ fn read_else(
     branches: Vec<Branch>,
 ) -> Result<Vec<Branch>, ReadError>
     requires { IsPastElsif reader.old }
-    ensures found { IfOk result (λ all. Extends (TakesElse granted room) (map branch_view branches.items) (map branch_view all.items) reader.old reader.new) }
-    ensures only { IfOk result (λ all. ExtendsAlone (TakesElse granted room) (map branch_view branches.items) (map branch_view all.items) reader.old reader.new) }
+    ensures found { IfOk result (λ all. Adds branch_view (TakesElse granted room) branches.items all.items reader.old reader.new) }
+    ensures only { IfOk result (λ all. AddsAlone branch_view (TakesElse granted room) branches.items all.items reader.old reader.new) }
     ensures fault { IfFault result (StandsNowhere (TakesElse granted room) reader.old) }
 {
     let mut branches = branches;

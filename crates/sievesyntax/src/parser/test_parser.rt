@@ -4,7 +4,7 @@ ghost use Rattle.sievelex.specs.declared.token.Kind.TheVariants as K;
 ghost use Rattle.sievesyntax.specs.declared.table.keyword.Keyword.TheVariants as W;
 ghost use Rattle.sievesyntax.specs.Chains.{Chain};
 ghost use Rattle.sievesyntax.specs.Lexemes.{Lexemes, mark};
-ghost use Rattle.sievesyntax.specs.Parsing.{IfFault, Parses, StandsNowhere, Extends, ExtendsAlone};
+ghost use Rattle.sievesyntax.specs.Parsing.{IfFault, Parses, StandsNowhere, Adds, AddsAlone};
 ghost use Rattle.sievesyntax.specs.Tree.{TestTree};
 ghost use Rattle.sievesyntax.specs.View.{test_view, tests_view};
 ghost use Rattle.sievesyntax.specs.Steps.{TakesTest, AsksAfter, TakesMoreTests, TakesTests};
@@ -72,10 +72,9 @@ fn read_tests(
     if lists == 0 {
         return Err(ReadError::Fault(FaultKind::TooDeep));
     }
-    let mut one = Vec::with_capacity(alloc, 1)?;
-    one.push(read_test(alloc, reader, granted, lists - 1, nots)?)?;
-    let tests = read_more_tests(alloc, reader, granted, lists - 1, nots, one)?;
-    Ok(tests)
+    let first = read_test(alloc, reader, granted, lists - 1, nots)?;
+    let one = vec![in alloc; first]?;
+    read_more_tests(alloc, reader, granted, lists - 1, nots, one)
 }
 
 /// The tests of a list after those read so far, and its close parenthesis.
@@ -88,8 +87,8 @@ fn read_more_tests(
     nots: usize,
     tests: Vec<Test>,
 ) -> Result<Vec<Test>, ReadError>
-    ensures found { IfOk result (λ all. Extends (TakesMoreTests granted lists nots) (map test_view tests.items) (map test_view all.items) reader.old reader.new) }
-    ensures only { IfOk result (λ all. ExtendsAlone (TakesMoreTests granted lists nots) (map test_view tests.items) (map test_view all.items) reader.old reader.new) }
+    ensures found { IfOk result (λ all. Adds test_view (TakesMoreTests granted lists nots) tests.items all.items reader.old reader.new) }
+    ensures only { IfOk result (λ all. AddsAlone test_view (TakesMoreTests granted lists nots) tests.items all.items reader.old reader.new) }
     ensures fault { IfFault result (StandsNowhere (TakesMoreTests granted lists nots) reader.old) }
 {
     let mut tests = tests;

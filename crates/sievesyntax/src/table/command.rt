@@ -1,9 +1,11 @@
 //! The table of commands without a block: what may stand after each name (RFC 5228, 3 and 4; RFC 5230).
 ghost use Rattle.std.specs.Prelude.{◌≡◌, ◌↔◌, IsTrue, IfOk};
-ghost use Rattle.sievesyntax.specs.Parsing.{IfFault};
+ghost use Rattle.sievesyntax.specs.Parsing.{IfFault, FindsFit};
+ghost use Rattle.sievesyntax.specs.Reasons.{IsReason};
 ghost use Rattle.sievesyntax.specs.Tree.{CommandTree};
 ghost use Rattle.sievesyntax.specs.View.{command_view};
-ghost use Rattle.sievesyntax.specs.Table.{IsPlainCommand};
+ghost use Rattle.sievesyntax.specs.Table.{IsPlainCommand, IsText};
+ghost use Rattle.sievesyntax.specs.Vacations.{IsVacation};
 ghost use Rattle.sievesyntax.specs.Valid.{IsMailbox, MayStand};
 
 use crate::error::ReadError;
@@ -17,6 +19,7 @@ use crate::table::vacation_arguments::read_vacation;
 use crate::tree::action::Action;
 use crate::tree::command::Command;
 use crate::tree::vacation::Vacation;
+use octets::Octets;
 use sievelex::FaultKind;
 use std::alloc::Global;
 
@@ -55,11 +58,7 @@ pub(crate) fn plain_command(
             if !granted.fileinto {
                 return Err(ReadError::Fault(FaultKind::NotRequired));
             }
-            let mailbox = read_text(alloc, args)?;
-            if !is_mailbox(mailbox.as_slice()) {
-                return Err(ReadError::Fault(FaultKind::BadMailbox));
-            }
-            Ok(Command::Act(Action::FileInto(mailbox)))
+            Ok(Command::Act(Action::FileInto(read_mailbox(alloc, args)?)))
         }
         // Syntax: redirect <address: string> (RFC 5228, 4.2)
         Keyword::Redirect => Ok(Command::Act(Action::Redirect(read_redirect(alloc, args)?))),
@@ -69,15 +68,33 @@ pub(crate) fn plain_command(
             if !granted.vacation {
                 return Err(ReadError::Fault(FaultKind::NotRequired));
             }
-            let vacation = read_vacation(alloc, args)?;
-            check_reason(&vacation)?;
-            Ok(Command::Act(Action::Vacation(Vacation::new(alloc, vacation)?)))
+            Ok(Command::Act(Action::Vacation(read_reply(alloc, args)?)))
         }
         Keyword::Require => Err(ReadError::Fault(FaultKind::LateRequire)),
         Keyword::Elsif => Err(ReadError::Fault(FaultKind::StrayElse)),
         Keyword::Else => Err(ReadError::Fault(FaultKind::StrayElse)),
         _ => Err(ReadError::Fault(FaultKind::UnknownCommand)),
     }
+}
+
+/// The mailbox of `fileinto`.
+fn read_mailbox(alloc: Global, args: &[Argument]) -> Result<Octets, ReadError>
+    ensures { FindsFit (IsText args.now) IsMailbox result }
+{
+    let mailbox = read_text(alloc, args)?;
+    if !is_mailbox(mailbox.as_slice()) {
+        return Err(ReadError::Fault(FaultKind::BadMailbox));
+    }
+    Ok(mailbox)
+}
+
+/// The arguments of `vacation`, with a reason that may stand.
+fn read_reply(alloc: Global, args: &[Argument]) -> Result<Vacation, ReadError>
+    ensures { FindsFit (IsVacation args.now) IsReason result }
+{
+    let vacation = read_vacation(alloc, args)?;
+    check_reason(&vacation)?;
+    Ok(Vacation::new(alloc, vacation)?)
 }
 
 /// A mailbox's name has 1 to 255 octets, none below 32 and none 127.

@@ -1,9 +1,9 @@
 //! The arguments of the tests that look at a message or its envelope.
-ghost use Rattle.std.specs.Prelude.{◌≡◌, IfOk, Some, None};
+ghost use Rattle.std.specs.Prelude.{◌≡◌};
 ghost use Rattle.std.specs.List.{list_all, list_any};
 ghost use Rattle.sievesyntax.specs.Lexemes.{same_name};
-ghost use Rattle.sievesyntax.specs.Parsing.{IfFault, Finds};
-ghost use Rattle.sievesyntax.specs.Table.{size_of, header_of, address_of, envelope_of, IsSize, IsHeader, IsAddress, IsEnvelope, parts_of};
+ghost use Rattle.sievesyntax.specs.Parsing.{Finds};
+ghost use Rattle.sievesyntax.specs.Table.{SaysSize, SaysHeader, SaysAddress, SaysEnvelope, NamesParts, IsSize, IsHeader, IsAddress, IsEnvelope};
 ghost use Rattle.sievesyntax.specs.Table as spec;
 
 use crate::error::ReadError;
@@ -26,8 +26,7 @@ pub(crate) fn read_size(alloc: Global, args: &[Argument]) -> Result<Size, ReadEr
 }
 
 fn size_from(tag_values: &[TagValue], positional: &[Argument]) -> Result<Size, ReadError>
-    ensures found { IfOk result (λ size. size_of tag_values.now positional.now ≡ Some size) }
-    ensures fault { IfFault result (size_of tag_values.now positional.now ≡ None) }
+    ensures { Finds (SaysSize tag_values.now positional.now) result }
 {
     let Some(bound) = given_bound(tag_values) else {
         return Err(ReadError::Fault(FaultKind::MissingArgument));
@@ -53,8 +52,7 @@ fn header_from(
     tag_values: &[TagValue],
     positional: &[Argument],
 ) -> Result<Header, ReadError>
-    ensures found { IfOk result (λ header. header_of tag_values.now positional.now ≡ Some header) }
-    ensures fault { IfFault result (header_of tag_values.now positional.now ≡ None) }
+    ensures { Finds (SaysHeader tag_values.now positional.now) result }
 {
     let (fields, keys) = lists(alloc, positional)?;
     Ok(Header {
@@ -79,8 +77,7 @@ fn address_from(
     tag_values: &[TagValue],
     positional: &[Argument],
 ) -> Result<Address, ReadError>
-    ensures found { IfOk result (λ address. address_of tag_values.now positional.now ≡ Some address) }
-    ensures fault { IfFault result (address_of tag_values.now positional.now ≡ None) }
+    ensures { Finds (SaysAddress tag_values.now positional.now) result }
 {
     let (fields, keys) = lists(alloc, positional)?;
     Ok(Address {
@@ -106,8 +103,7 @@ fn envelope_from(
     tag_values: &[TagValue],
     positional: &[Argument],
 ) -> Result<EnvelopeTest, ReadError>
-    ensures found { IfOk result (λ envelope. envelope_of tag_values.now positional.now ≡ Some envelope) }
-    ensures fault { IfFault result (envelope_of tag_values.now positional.now ≡ None) }
+    ensures { Finds (SaysEnvelope tag_values.now positional.now) result }
 {
     let (names, keys) = lists(alloc, positional)?;
     let parts = envelope_parts(names.as_slice())?;
@@ -122,8 +118,7 @@ fn envelope_from(
 
 /// The parts of the envelope that these name.
 fn envelope_parts(names: &[Octets]) -> Result<EnvelopeParts, ReadError>
-    ensures found { IfOk result (λ parts. parts_of names.now ≡ Some parts) }
-    ensures fault { IfFault result (parts_of names.now ≡ None) }
+    ensures { Finds (NamesParts names.now) result }
 {
     if !all_parts(names) {
         return Err(ReadError::Fault(FaultKind::WrongArgument));

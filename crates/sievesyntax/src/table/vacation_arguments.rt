@@ -2,8 +2,8 @@
 ghost use Rattle.std.specs.Prelude.{◌≡◌, ℕ, List, Option, IfOk, OnOk, option_copied};
 ghost use Rattle.sievesyntax.specs.declared.tree.vacation.VacArgs.{VacArgs};
 ghost use Rattle.sievesyntax.specs.declared.tree.vacation.ReplyFrom.{ReplyFrom};
-ghost use Rattle.sievesyntax.specs.Parsing.{IfFault, Finds};
-ghost use Rattle.sievesyntax.specs.TagValues.{from_in, addresses_in};
+ghost use Rattle.sievesyntax.specs.Parsing.{Finds, IfFault};
+ghost use Rattle.sievesyntax.specs.TagValues.{subject_in, from_in, addresses_in, handle_in};
 ghost use Rattle.sievesyntax.specs.Vacations.{IsReplyFrom, IsGivenFrom, AreNamed, AddsNamed, SaysVacation, IsVacation};
 
 use crate::error::ReadError;
@@ -30,8 +30,7 @@ pub(crate) fn read_vacation(alloc: Global, args: &[Argument]) -> Result<VacArgs,
         TagGroup::Handle,
     ];
     let (tag_values, positional) = split_tags(alloc, args, allowed)?;
-    let vacation = vacation_from(alloc, tag_values.as_slice(), positional)?;
-    Ok(vacation)
+    vacation_from(alloc, tag_values.as_slice(), positional)
 }
 
 fn vacation_from(
@@ -39,14 +38,12 @@ fn vacation_from(
     tag_values: &[TagValue],
     positional: &[Argument],
 ) -> Result<VacArgs, ReadError>
-    ensures found { IfOk result (λ args. SaysVacation tag_values.now positional.now args) }
-    ensures fault { IfFault result ((args : VacArgs) → SaysVacation tag_values.now positional.now args → ⊥) }
+    ensures { Finds (SaysVacation tag_values.now positional.now) result }
 {
     let reason = text(alloc, positional)?;
-    let from = given_from(alloc, tag_values)?;
-    let subject = given_subject(alloc, tag_values)?;
-    let handle = given_handle(alloc, tag_values)?;
     let addresses = given_addresses(alloc, tag_values)?;
+    let from = given_from(alloc, tag_values)?;
+    let (subject, handle) = given_texts(alloc, tag_values)?;
     Ok(VacArgs {
         days: given_days(tag_values),
         subject,
@@ -56,6 +53,19 @@ fn vacation_from(
         handle,
         reason,
     })
+}
+
+/// The subject and the handle, if they are given.
+fn given_texts(
+    alloc: Global,
+    tag_values: &[TagValue],
+) -> Result<(Option<Octets>, Option<Octets>), AllocError>
+    ensures subject { IfOk result (λ both. both.0 ≡ subject_in tag_values.now) }
+    ensures handle { IfOk result (λ both. both.1 ≡ handle_in tag_values.now) }
+{
+    let subject = given_subject(alloc, tag_values)?;
+    let handle = given_handle(alloc, tag_values)?;
+    Ok((subject, handle))
 }
 
 /// The value of `:from`, if one is given.

@@ -98,36 +98,36 @@ read_elsifs-returns-clause-only t c = λ each to takes.
     let found = elsifs_end c.args.granted c.args.room _ l.invariant.0 l.reader l.invariant.1.1 ended.0 each to takes in
     (l.invariant.1.0 ∙ ap (λ bs. map branch_view c.args.branches.items ++ bs) (sym found.0), found.1 ∙ sym ended.1)
 
-pub read_if-returns-in_err-read_branch : goal.read_if-returns-in_err-read_branch
-read_if-returns-in_err-read_branch t c =
-    let e = c.in_err-read_branch.ensures in
-    let p = err_from_is_err_and c.from_residual-in_err-read_branch.result c.from_residual-in_err-read_branch.ensures.1 in
+pub read_if-returns-in_err-first : goal.read_if-returns-in_err-first
+read_if-returns-in_err-first t c =
+    let e = c.in_err-first.ensures in
+    let p = err_from_is_err_and c.from_residual.result c.from_residual.ensures.1 in
     rw (p.1, p.2) (fault_on _ _ _ (if_no_first c.args.granted c.args.room _) e)
 
 pub read_if-returns-in_err-branches : goal.read_if-returns-in_err-branches
 read_if-returns-in_err-branches t c =
     let e = c.in_err-branches.ensures.fault in
     let p = err_from_is_err_and c.from_residual-in_err-branches.result c.from_residual-in_err-branches.ensures.1 in
-    rw (p.1, p.2) (fault_on _ _ _ (if_no_elsifs c.args.granted c.args.room _ _ _ c.in_ok-read_branch.ensures) e)
+    rw (p.1, p.2) (fault_on _ _ _ (if_no_elsifs c.args.granted c.args.room _ _ _ c.in_ok-first.ensures) e)
 
 pub read_if-returns-in_err-branches-2 : goal.read_if-returns-in_err-branches-2
 read_if-returns-in_err-branches-2 t c =
-    let one = rw c.in_ok-one.ensures.items at c.in_ok-push.ensures.items in
+    let one = c.in_ok-one.ensures.items in
     let only = rw one at c.in_ok-branches.ensures.only in
     let e = c.in_err-branches-2.ensures.fault in
     let p = err_from_is_err_and c.from_residual-in_err-branches-2.result c.from_residual-in_err-branches-2.ensures.1 in
-    rw (p.1, p.2) (fault_on _ _ _ (if_no_else c.args.granted c.args.room _ _ _ c.in_ok-read_branch.ensures _ _ only) e)
+    rw (p.1, p.2) (fault_on _ _ _ (if_no_else c.args.granted c.args.room _ _ _ c.in_ok-first.ensures _ _ only) e)
 
 pub read_if-returns : goal.read_if-returns
 read_if-returns t c =
-    let one = rw c.in_ok-one.ensures.items at c.in_ok-push.ensures.items in
+    let one = c.in_ok-one.ensures.items in
     let only = rw one at c.in_ok-branches.ensures.only in
     let each = rw one at c.in_ok-branches.ensures.found in
     let last = c.in_ok-branches-2.ensures.found in
     let alone = c.in_ok-branches-2.ensures.only in
     rw view-If (
-      if_takes c.args.granted c.args.room _ _ _ c.in_ok-read_branch.ensures _ _ only _ _ alone each.0 last.0 each.1.0 each.1.1 last.1.0 last.1.1,
-      if_only c.args.granted c.args.room _ _ _ c.in_ok-read_branch.ensures _ _ only _ _ alone,
+      if_takes c.args.granted c.args.room _ _ _ c.in_ok-first.ensures _ _ only _ _ alone each.0 last.0 each.1.0 each.1.1 last.1.0 last.1.1,
+      if_only c.args.granted c.args.room _ _ _ c.in_ok-first.ensures _ _ only _ _ alone,
     )
 
 pub read_block-returns-in_err-block : goal.read_block-returns-in_err-block

@@ -3,7 +3,7 @@ use Rattle.std.proofs.lemmas.Result.{err_from_is_err_and}
 use Rattle.sievesyntax.specs.View.{test_view}
 use Rattle.sievesyntax.proofs.FaultLemmas.{fault_on, faults_on}
 use Rattle.sievesyntax.proofs.ViewLemmas.{view-Not, view-AllOf, view-AnyOf, push-test}
-use Rattle.sievesyntax.proofs.TestLemmas.{allof_none, allof_found, anyof_none, anyof_found, not_deep, not_none, not_found, tests_no_first, tests_no_more, tests_found, next_stops, next_lacks, next_grows, next_ends, reads_test_longer}
+use Rattle.sievesyntax.proofs.TestLemmas.{allof_none, allof_found, anyof_none, anyof_found, not_deep, not_none, not_found, tests_no_first, tests_after, next_stops, next_lacks, next_grows, next_ends, reads_test_longer}
 use Rattle.sievesyntax.proofs.parser.test_parser.+ask.Goals as goal
 
 pub read_test-returns-in_err-read_tests-in-AllOf : goal.read_test-returns-in_err-read_tests-in-AllOf
@@ -42,24 +42,16 @@ read_not-returns-in_err-inner t c =
 pub read_not-returns : goal.read_not-returns
 read_not-returns t c = rw (view-Not, c.in_ok-new.ensures.ok) (not_found c.args.granted c.args.lists c.args.nots _ (c.args.nots - 1) (omega arith) _ _ c.in_ok-inner.ensures)
 
-pub read_tests-returns-in_err-read_test : goal.read_tests-returns-in_err-read_test
-read_tests-returns-in_err-read_test t c =
-    let e = c.in_err-read_test.ensures in
-    let p = err_from_is_err_and c.from_residual-in_err-read_test.result c.from_residual-in_err-read_test.ensures.1 in
+pub read_tests-returns-in_err-first : goal.read_tests-returns-in_err-first
+read_tests-returns-in_err-first t c =
+    let e = c.in_err-first.ensures in
+    let p = err_from_is_err_and c.from_residual-in_err-first.result c.from_residual-in_err-first.ensures.1 in
     rw (p.1, p.2) (fault_on _ _ _ (tests_no_first c.args.granted c.args.lists c.args.nots _ _ c.in_ok-read_mark.ensures.found (c.args.lists - 1) (omega arith)) e)
-
-pub read_tests-returns-in_err-tests : goal.read_tests-returns-in_err-tests
-read_tests-returns-in_err-tests t c =
-    let e = c.in_err-tests.ensures.fault in
-    let p = err_from_is_err_and c.from_residual-in_err-tests.result c.from_residual-in_err-tests.ensures.1 in
-    rw (p.1, p.2) (fault_on _ _ _ (tests_no_more c.args.granted c.args.lists c.args.nots _ _ c.in_ok-read_mark.ensures.found (c.args.lists - 1) (omega arith) _ _ c.in_ok-read_test.ensures) e)
 
 pub read_tests-returns : goal.read_tests-returns
 read_tests-returns t c =
-    let one = rw c.in_ok-one.ensures.items at c.in_ok-push.ensures.items in
-    let found = rw one at c.in_ok-tests.ensures.found in
-    let only = rw one at c.in_ok-tests.ensures.only in
-    tests_found c.args.granted c.args.lists c.args.nots _ _ c.in_ok-read_mark.ensures.found (c.args.lists - 1) (omega arith) _ _ c.in_ok-read_test.ensures _ _ found only
+    let h = c.read_more_tests.ensures in
+    tests_after c.args.granted c.args.lists c.args.nots _ _ c.in_ok-read_mark.ensures.found (c.args.lists - 1) (omega arith) _ _ c.in_ok-first.ensures c.in_ok-one.one.items _ c.read_more_tests.result (ap (map test_view) c.in_ok-one.ensures.items) h.found h.only h.fault
 
 pub read_more_tests-returns-in_err-read_separator-clause-fault : goal.read_more_tests-returns-in_err-read_separator-clause-fault
 read_more_tests-returns-in_err-read_separator-clause-fault t c =

@@ -1,47 +1,92 @@
+use Rattle.std.proofs.Common.{refl, subst}
 use Rattle.std.proofs.lemmas.Result.{err_from_is_err_and}
-use Rattle.sievesyntax.proofs.FaultLemmas.{fault_on}
-use Rattle.sievesyntax.proofs.TableLemmas.{fileinto_none, fileinto_only, fileinto_bad, redirect_none, redirect_only, vacation_row_none, vacation_only, vacation_bad}
-use Rattle.sievesyntax.proofs.ViewLemmas.{view-Act}
+use Rattle.sievesyntax.specs.declared.tree.action.Action.TheVariants as D
+use Rattle.sievesyntax.specs.Reasons.{IsReason}
+use Rattle.sievesyntax.specs.Table.{IsText, IsRedirect}
+use Rattle.sievesyntax.specs.Tree.{stop, act}
+use Rattle.sievesyntax.specs.Vacations.{IsVacation}
+use Rattle.sievesyntax.specs.Valid.{IsMailbox, MayStand}
+use Rattle.sievesyntax.proofs.TableLemmas.{row_only, row_fault, fit_fault, bare_fault}
+use Rattle.sievesyntax.proofs.ViewLemmas.{view-Stop, view-Act}
 use Rattle.sievesyntax.proofs.table.command.plain_command.Goals as goal
 
-pub returns-in_err-mailbox-in-FileInto-clause-fault : goal.returns-in_err-mailbox-in-FileInto-clause-fault
-returns-in_err-mailbox-in-FileInto-clause-fault c =
-    let h = c.in_err-mailbox-in-FileInto.ensures in
-    let p = err_from_is_err_and c.from_residual-in_err-mailbox-in-FileInto.result c.from_residual-in_err-mailbox-in-FileInto.ensures.1 in
-    rw (p.1, p.2) (fault_on _ _ _ (fileinto_none _ _ c.in-FileInto.is c.args.granted) h)
+pub returns-in_err-no_arguments-in-Stop-clause-fault : goal.returns-in_err-no_arguments-in-Stop-clause-fault
+returns-in_err-no_arguments-in-Stop-clause-fault c =
+    let h = c.in_err-no_arguments-in-Stop.ensures.fault in
+    let p = err_from_is_err_and c.from_residual.result c.from_residual.ensures.1 in
+    rw (p.1, p.2, c.in-Stop.is) (bare_fault stop _ (MayStand c.args.granted) _ h)
 
-pub returns-then-not-is_mailbox-clause-fault : goal.returns-then-not-is_mailbox-clause-fault
-returns-then-not-is_mailbox-clause-fault c =
-    let h = c.in_ok-mailbox-in-FileInto.ensures in
-    let bad = rw c.as_slice.ensures at c.if-not-is_mailbox.ensures in
-    fileinto_bad _ _ c.in-FileInto.is c.args.granted _ h.1 (λ is. let no = bad.1 is in cc)
+pub returns-in_ok-no_arguments-in-Stop-clause-found : goal.returns-in_ok-no_arguments-in-Stop-clause-found
+returns-in_ok-no_arguments-in-Stop-clause-found c = rw (view-Stop, c.in-Stop.is) (record { none = c.in_ok-no_arguments-in-Stop.ensures.found; tree_is = refl }, tt)
 
-pub returns-else-not-is_mailbox-clause-only : goal.returns-else-not-is_mailbox-clause-only
-returns-else-not-is_mailbox-clause-only c = let h = c.in_ok-mailbox-in-FileInto.ensures in rw view-Act (fileinto_only _ _ c.in-FileInto.is _ h.1)
+pub returns-in_ok-no_arguments-in-Stop-clause-only : goal.returns-in_ok-no_arguments-in-Stop-clause-only
+returns-in_ok-no_arguments-in-Stop-clause-only c = rw (view-Stop, c.in-Stop.is) (λ other row. row.tree_is)
+
+pub returns-in_err-no_arguments-in-Keep-clause-fault : goal.returns-in_err-no_arguments-in-Keep-clause-fault
+returns-in_err-no_arguments-in-Keep-clause-fault c =
+    let h = c.in_err-no_arguments-in-Keep.ensures.fault in
+    let p = err_from_is_err_and c.from_residual-in_err-no_arguments-in-Keep.result c.from_residual-in_err-no_arguments-in-Keep.ensures.1 in
+    rw (p.1, p.2, c.in-Keep.is) (bare_fault (act D.Keep) _ (MayStand c.args.granted) _ h)
+
+pub returns-in_ok-no_arguments-in-Keep-clause-found : goal.returns-in_ok-no_arguments-in-Keep-clause-found
+returns-in_ok-no_arguments-in-Keep-clause-found c = rw (view-Act, c.in-Keep.is) (record { none = c.in_ok-no_arguments-in-Keep.ensures.found; tree_is = refl }, tt)
+
+pub returns-in_ok-no_arguments-in-Keep-clause-only : goal.returns-in_ok-no_arguments-in-Keep-clause-only
+returns-in_ok-no_arguments-in-Keep-clause-only c = rw (view-Act, c.in-Keep.is) (λ other row. row.tree_is)
+
+pub returns-in_err-no_arguments-in-Discard-clause-fault : goal.returns-in_err-no_arguments-in-Discard-clause-fault
+returns-in_err-no_arguments-in-Discard-clause-fault c =
+    let h = c.in_err-no_arguments-in-Discard.ensures.fault in
+    let p = err_from_is_err_and c.from_residual-in_err-no_arguments-in-Discard.result c.from_residual-in_err-no_arguments-in-Discard.ensures.1 in
+    rw (p.1, p.2, c.in-Discard.is) (bare_fault (act D.Discard) _ (MayStand c.args.granted) _ h)
+
+pub returns-in_ok-no_arguments-in-Discard-clause-found : goal.returns-in_ok-no_arguments-in-Discard-clause-found
+returns-in_ok-no_arguments-in-Discard-clause-found c = rw (view-Act, c.in-Discard.is) (record { none = c.in_ok-no_arguments-in-Discard.ensures.found; tree_is = refl }, tt)
+
+pub returns-in_ok-no_arguments-in-Discard-clause-only : goal.returns-in_ok-no_arguments-in-Discard-clause-only
+returns-in_ok-no_arguments-in-Discard-clause-only c = rw (view-Act, c.in-Discard.is) (λ other row. row.tree_is)
+
+pub returns-in_err-read_mailbox-in-FileInto-clause-fault : goal.returns-in_err-read_mailbox-in-FileInto-clause-fault
+returns-in_err-read_mailbox-in-FileInto-clause-fault c =
+    let h = c.in_err-read_mailbox-in-FileInto.ensures in
+    let p = err_from_is_err_and c.from_residual-in_err-read_mailbox-in-FileInto.result c.from_residual-in_err-read_mailbox-in-FileInto.ensures.1 in
+    rw (p.1, p.2, c.in-FileInto.is) (fit_fault IsText (λ x. act (D.FileInto x)) _ (MayStand c.args.granted) IsMailbox (λ x may. may.1) _ h)
+
+pub returns-in_ok-read_mailbox-in-FileInto-clause-found : goal.returns-in_ok-read_mailbox-in-FileInto-clause-found
+returns-in_ok-read_mailbox-in-FileInto-clause-found c = rw (view-Act, c.in-FileInto.is) (record { value = _; is = c.in_ok-read_mailbox-in-FileInto.ensures.0; tree_is = refl }, (c.if-not-granted.false, c.in_ok-read_mailbox-in-FileInto.ensures.1))
+
+pub returns-in_ok-read_mailbox-in-FileInto-clause-only : goal.returns-in_ok-read_mailbox-in-FileInto-clause-only
+returns-in_ok-read_mailbox-in-FileInto-clause-only c = rw (view-Act, c.in-FileInto.is) (row_only IsText (λ x. act (D.FileInto x)) _ (MayStand c.args.granted) _ c.in_ok-read_mailbox-in-FileInto.ensures.2)
 
 pub returns-in_err-read_redirect-in-Redirect-clause-fault : goal.returns-in_err-read_redirect-in-Redirect-clause-fault
 returns-in_err-read_redirect-in-Redirect-clause-fault c =
     let h = c.in_err-read_redirect-in-Redirect.ensures in
     let p = err_from_is_err_and c.from_residual-in_err-read_redirect-in-Redirect.result c.from_residual-in_err-read_redirect-in-Redirect.ensures.1 in
-    rw (p.1, p.2) (fault_on _ _ _ (redirect_none _ _ c.args.granted c.in-Redirect.is) h)
+    rw (p.1, p.2, c.in-Redirect.is) (row_fault IsRedirect (λ x. act (D.Redirect x)) _ (MayStand c.args.granted) _ h)
+
+pub returns-in_ok-read_redirect-in-Redirect-clause-found : goal.returns-in_ok-read_redirect-in-Redirect-clause-found
+returns-in_ok-read_redirect-in-Redirect-clause-found c = rw (view-Act, c.in-Redirect.is) (record { value = _; is = c.in_ok-read_redirect-in-Redirect.ensures.0; tree_is = refl }, tt)
 
 pub returns-in_ok-read_redirect-in-Redirect-clause-only : goal.returns-in_ok-read_redirect-in-Redirect-clause-only
-returns-in_ok-read_redirect-in-Redirect-clause-only c = let h = c.in_ok-read_redirect-in-Redirect.ensures in rw view-Act (redirect_only _ _ c.in-Redirect.is _ h.1)
+returns-in_ok-read_redirect-in-Redirect-clause-only c = rw (view-Act, c.in-Redirect.is) (row_only IsRedirect (λ x. act (D.Redirect x)) _ (MayStand c.args.granted) _ c.in_ok-read_redirect-in-Redirect.ensures.1)
 
-pub returns-in_err-vacation-in-Vacation-clause-fault : goal.returns-in_err-vacation-in-Vacation-clause-fault
-returns-in_err-vacation-in-Vacation-clause-fault c =
-    let h = c.in_err-vacation-in-Vacation.ensures in
-    let p = err_from_is_err_and c.from_residual-in_err-vacation-in-Vacation.result c.from_residual-in_err-vacation-in-Vacation.ensures.1 in
-    rw (p.1, p.2) (fault_on _ _ _ (vacation_row_none _ _ c.args.granted c.in-Vacation.is) h)
+pub returns-in_err-read_reply-in-Vacation-clause-fault : goal.returns-in_err-read_reply-in-Vacation-clause-fault
+returns-in_err-read_reply-in-Vacation-clause-fault c =
+    let h = c.in_err-read_reply-in-Vacation.ensures in
+    let p = err_from_is_err_and c.from_residual-in_err-read_reply-in-Vacation.result c.from_residual-in_err-read_reply-in-Vacation.ensures.1 in
+    rw (p.1, p.2, c.in-Vacation.is) (fit_fault IsVacation (λ x. act (D.Vacation x)) _ (MayStand c.args.granted) IsReason (λ x may. may.1) _ h)
 
-pub returns-in_err-check_reason-in-Vacation-clause-fault : goal.returns-in_err-check_reason-in-Vacation-clause-fault
-returns-in_err-check_reason-in-Vacation-clause-fault c =
-    let h = c.in_ok-vacation-in-Vacation.ensures in
-    let e = c.in_err-check_reason-in-Vacation.ensures.fault in
-    let p = err_from_is_err_and c.from_residual-in_err-check_reason-in-Vacation.result c.from_residual-in_err-check_reason-in-Vacation.ensures.1 in
-    rw (p.1, p.2) (fault_on _ _ _ (vacation_bad _ _ c.in-Vacation.is c.args.granted _ h.1) e)
+pub returns-in_ok-read_reply-in-Vacation-clause-found : goal.returns-in_ok-read_reply-in-Vacation-clause-found
+returns-in_ok-read_reply-in-Vacation-clause-found c = rw (view-Act, c.in-Vacation.is) (record { value = _; is = c.in_ok-read_reply-in-Vacation.ensures.0; tree_is = refl }, (c.if-not-granted-2.false, c.in_ok-read_reply-in-Vacation.ensures.1))
 
-pub returns-in_ok-new-in-Vacation-clause-only : goal.returns-in_ok-new-in-Vacation-clause-only
-returns-in_ok-new-in-Vacation-clause-only c =
-    let h = c.in_ok-vacation-in-Vacation.ensures in
-    rw (view-Act, c.in_ok-new-in-Vacation.ensures) (vacation_only _ _ c.in-Vacation.is _ h.1)
+pub returns-in_ok-read_reply-in-Vacation-clause-only : goal.returns-in_ok-read_reply-in-Vacation-clause-only
+returns-in_ok-read_reply-in-Vacation-clause-only c = rw (view-Act, c.in-Vacation.is) (row_only IsVacation (λ x. act (D.Vacation x)) _ (MayStand c.args.granted) _ c.in_ok-read_reply-in-Vacation.ensures.2)
+
+pub returns-then-not-granted-clause-fault : goal.returns-then-not-granted-clause-fault
+returns-then-not-granted-clause-fault c = rw c.in-FileInto.is (λ other row may. let stands : MayStand c.args.granted (act (D.FileInto row.value)) = subst (MayStand c.args.granted) row.tree_is may in let granted = stands.0 in cc)
+
+pub returns-then-not-granted-2-clause-fault : goal.returns-then-not-granted-2-clause-fault
+returns-then-not-granted-2-clause-fault c = rw c.in-Vacation.is (λ other row may. let stands : MayStand c.args.granted (act (D.Vacation row.value)) = subst (MayStand c.args.granted) row.tree_is may in let granted = stands.0 in cc)
+
+pub returns-in-Require-clause-fault : goal.returns-in-Require-clause-fault
+returns-in-Require-clause-fault c = rw c.in-Require.is (λ other row may. subst (MayStand c.args.granted) row.tree_is may)

@@ -1,50 +1,96 @@
+use Rattle.std.proofs.Common.{◌≡◌, true, refl, subst}
 use Rattle.std.proofs.lemmas.Result.{err_from_is_err_and}
-use Rattle.sievesyntax.proofs.FaultLemmas.{fault_on}
-use Rattle.sievesyntax.proofs.TableLemmas.{size_none, size_only, exists_none, exists_only, header_none, header_only, address_none, address_only, envelope_none, envelope_only}
-use Rattle.sievesyntax.proofs.ViewLemmas.{view-Check}
+use Rattle.sievesyntax.specs.declared.tree.checks.Check.TheVariants as C
+use Rattle.sievesyntax.specs.Table.{IsSize, IsList, IsHeader, IsAddress, IsEnvelope}
+use Rattle.sievesyntax.specs.Tree.{yes, no, looks}
+use Rattle.sievesyntax.specs.Valid.{MayTest}
+use Rattle.sievesyntax.proofs.TableLemmas.{row_only, row_fault, bare_fault}
+use Rattle.sievesyntax.proofs.ViewLemmas.{view-True, view-False, view-Check}
 use Rattle.sievesyntax.proofs.table.test.plain_test.Goals as goal
+
+pub returns-in_err-no_arguments-in-True-clause-fault : goal.returns-in_err-no_arguments-in-True-clause-fault
+returns-in_err-no_arguments-in-True-clause-fault c =
+    let h = c.in_err-no_arguments-in-True.ensures.fault in
+    let p = err_from_is_err_and c.from_residual.result c.from_residual.ensures.1 in
+    rw (p.1, p.2, c.in-True.is) (bare_fault yes _ (MayTest c.args.granted) _ h)
+
+pub returns-in_ok-no_arguments-in-True-clause-found : goal.returns-in_ok-no_arguments-in-True-clause-found
+returns-in_ok-no_arguments-in-True-clause-found c = rw (view-True, c.in-True.is) (record { none = c.in_ok-no_arguments-in-True.ensures.found; tree_is = refl }, tt)
+
+pub returns-in_ok-no_arguments-in-True-clause-only : goal.returns-in_ok-no_arguments-in-True-clause-only
+returns-in_ok-no_arguments-in-True-clause-only c = rw (view-True, c.in-True.is) (λ other row. row.tree_is)
+
+pub returns-in_err-no_arguments-in-False-clause-fault : goal.returns-in_err-no_arguments-in-False-clause-fault
+returns-in_err-no_arguments-in-False-clause-fault c =
+    let h = c.in_err-no_arguments-in-False.ensures.fault in
+    let p = err_from_is_err_and c.from_residual-in_err-no_arguments-in-False.result c.from_residual-in_err-no_arguments-in-False.ensures.1 in
+    rw (p.1, p.2, c.in-False.is) (bare_fault no _ (MayTest c.args.granted) _ h)
+
+pub returns-in_ok-no_arguments-in-False-clause-found : goal.returns-in_ok-no_arguments-in-False-clause-found
+returns-in_ok-no_arguments-in-False-clause-found c = rw (view-False, c.in-False.is) (record { none = c.in_ok-no_arguments-in-False.ensures.found; tree_is = refl }, tt)
+
+pub returns-in_ok-no_arguments-in-False-clause-only : goal.returns-in_ok-no_arguments-in-False-clause-only
+returns-in_ok-no_arguments-in-False-clause-only c = rw (view-False, c.in-False.is) (λ other row. row.tree_is)
 
 pub returns-in_err-read_size-in-Size-clause-fault : goal.returns-in_err-read_size-in-Size-clause-fault
 returns-in_err-read_size-in-Size-clause-fault c =
     let h = c.in_err-read_size-in-Size.ensures in
     let p = err_from_is_err_and c.from_residual-in_err-read_size-in-Size.result c.from_residual-in_err-read_size-in-Size.ensures.1 in
-    rw (p.1, p.2) (fault_on _ _ _ (size_none _ _ c.args.granted c.in-Size.is) h)
+    rw (p.1, p.2, c.in-Size.is) (row_fault IsSize (λ x. looks (C.Size x)) _ (MayTest c.args.granted) _ h)
+
+pub returns-in_ok-read_size-in-Size-clause-found : goal.returns-in_ok-read_size-in-Size-clause-found
+returns-in_ok-read_size-in-Size-clause-found c = rw (view-Check, c.in-Size.is) (record { value = _; is = c.in_ok-read_size-in-Size.ensures.0; tree_is = refl }, tt)
 
 pub returns-in_ok-read_size-in-Size-clause-only : goal.returns-in_ok-read_size-in-Size-clause-only
-returns-in_ok-read_size-in-Size-clause-only c = let h = c.in_ok-read_size-in-Size.ensures in rw view-Check (size_only _ _ c.in-Size.is _ h.1)
+returns-in_ok-read_size-in-Size-clause-only c = rw (view-Check, c.in-Size.is) (row_only IsSize (λ x. looks (C.Size x)) _ (MayTest c.args.granted) _ c.in_ok-read_size-in-Size.ensures.1)
 
 pub returns-in_err-read_list-in-Exists-clause-fault : goal.returns-in_err-read_list-in-Exists-clause-fault
 returns-in_err-read_list-in-Exists-clause-fault c =
     let h = c.in_err-read_list-in-Exists.ensures in
     let p = err_from_is_err_and c.from_residual-in_err-read_list-in-Exists.result c.from_residual-in_err-read_list-in-Exists.ensures.1 in
-    rw (p.1, p.2) (fault_on _ _ _ (exists_none _ _ c.args.granted c.in-Exists.is) h)
+    rw (p.1, p.2, c.in-Exists.is) (row_fault IsList (λ x. looks (C.Exists x)) _ (MayTest c.args.granted) _ h)
+
+pub returns-in_ok-read_list-in-Exists-clause-found : goal.returns-in_ok-read_list-in-Exists-clause-found
+returns-in_ok-read_list-in-Exists-clause-found c = rw (view-Check, c.in-Exists.is) (record { value = _; is = c.in_ok-read_list-in-Exists.ensures.0; tree_is = refl }, tt)
 
 pub returns-in_ok-read_list-in-Exists-clause-only : goal.returns-in_ok-read_list-in-Exists-clause-only
-returns-in_ok-read_list-in-Exists-clause-only c = let h = c.in_ok-read_list-in-Exists.ensures in rw view-Check (exists_only _ _ c.in-Exists.is _ h.1)
+returns-in_ok-read_list-in-Exists-clause-only c = rw (view-Check, c.in-Exists.is) (row_only IsList (λ x. looks (C.Exists x)) _ (MayTest c.args.granted) _ c.in_ok-read_list-in-Exists.ensures.1)
 
 pub returns-in_err-read_header-in-Header-clause-fault : goal.returns-in_err-read_header-in-Header-clause-fault
 returns-in_err-read_header-in-Header-clause-fault c =
     let h = c.in_err-read_header-in-Header.ensures in
     let p = err_from_is_err_and c.from_residual-in_err-read_header-in-Header.result c.from_residual-in_err-read_header-in-Header.ensures.1 in
-    rw (p.1, p.2) (fault_on _ _ _ (header_none _ _ c.args.granted c.in-Header.is) h)
+    rw (p.1, p.2, c.in-Header.is) (row_fault IsHeader (λ x. looks (C.Header x)) _ (MayTest c.args.granted) _ h)
+
+pub returns-in_ok-read_header-in-Header-clause-found : goal.returns-in_ok-read_header-in-Header-clause-found
+returns-in_ok-read_header-in-Header-clause-found c = rw (view-Check, c.in-Header.is) (record { value = _; is = c.in_ok-read_header-in-Header.ensures.0; tree_is = refl }, tt)
 
 pub returns-in_ok-read_header-in-Header-clause-only : goal.returns-in_ok-read_header-in-Header-clause-only
-returns-in_ok-read_header-in-Header-clause-only c = let h = c.in_ok-read_header-in-Header.ensures in rw view-Check (header_only _ _ c.in-Header.is _ h.1)
+returns-in_ok-read_header-in-Header-clause-only c = rw (view-Check, c.in-Header.is) (row_only IsHeader (λ x. looks (C.Header x)) _ (MayTest c.args.granted) _ c.in_ok-read_header-in-Header.ensures.1)
 
 pub returns-in_err-read_address-in-Address-clause-fault : goal.returns-in_err-read_address-in-Address-clause-fault
 returns-in_err-read_address-in-Address-clause-fault c =
     let h = c.in_err-read_address-in-Address.ensures in
     let p = err_from_is_err_and c.from_residual-in_err-read_address-in-Address.result c.from_residual-in_err-read_address-in-Address.ensures.1 in
-    rw (p.1, p.2) (fault_on _ _ _ (address_none _ _ c.args.granted c.in-Address.is) h)
+    rw (p.1, p.2, c.in-Address.is) (row_fault IsAddress (λ x. looks (C.Address x)) _ (MayTest c.args.granted) _ h)
+
+pub returns-in_ok-read_address-in-Address-clause-found : goal.returns-in_ok-read_address-in-Address-clause-found
+returns-in_ok-read_address-in-Address-clause-found c = rw (view-Check, c.in-Address.is) (record { value = _; is = c.in_ok-read_address-in-Address.ensures.0; tree_is = refl }, tt)
 
 pub returns-in_ok-read_address-in-Address-clause-only : goal.returns-in_ok-read_address-in-Address-clause-only
-returns-in_ok-read_address-in-Address-clause-only c = let h = c.in_ok-read_address-in-Address.ensures in rw view-Check (address_only _ _ c.in-Address.is _ h.1)
+returns-in_ok-read_address-in-Address-clause-only c = rw (view-Check, c.in-Address.is) (row_only IsAddress (λ x. looks (C.Address x)) _ (MayTest c.args.granted) _ c.in_ok-read_address-in-Address.ensures.1)
 
 pub returns-in_err-read_envelope-in-Envelope-clause-fault : goal.returns-in_err-read_envelope-in-Envelope-clause-fault
 returns-in_err-read_envelope-in-Envelope-clause-fault c =
     let h = c.in_err-read_envelope-in-Envelope.ensures in
     let p = err_from_is_err_and c.from_residual-in_err-read_envelope-in-Envelope.result c.from_residual-in_err-read_envelope-in-Envelope.ensures.1 in
-    rw (p.1, p.2) (fault_on _ _ _ (envelope_none _ _ c.args.granted c.in-Envelope.is) h)
+    rw (p.1, p.2, c.in-Envelope.is) (row_fault IsEnvelope (λ x. looks (C.Envelope x)) _ (MayTest c.args.granted) _ h)
+
+pub returns-in_ok-read_envelope-in-Envelope-clause-found : goal.returns-in_ok-read_envelope-in-Envelope-clause-found
+returns-in_ok-read_envelope-in-Envelope-clause-found c = rw (view-Check, c.in-Envelope.is) (record { value = _; is = c.in_ok-read_envelope-in-Envelope.ensures.0; tree_is = refl }, c.if-not-granted.false)
 
 pub returns-in_ok-read_envelope-in-Envelope-clause-only : goal.returns-in_ok-read_envelope-in-Envelope-clause-only
-returns-in_ok-read_envelope-in-Envelope-clause-only c = let h = c.in_ok-read_envelope-in-Envelope.ensures in rw view-Check (envelope_only _ _ c.in-Envelope.is _ h.1)
+returns-in_ok-read_envelope-in-Envelope-clause-only c = rw (view-Check, c.in-Envelope.is) (row_only IsEnvelope (λ x. looks (C.Envelope x)) _ (MayTest c.args.granted) _ c.in_ok-read_envelope-in-Envelope.ensures.1)
+
+pub returns-then-not-granted-clause-fault : goal.returns-then-not-granted-clause-fault
+returns-then-not-granted-clause-fault c = rw c.in-Envelope.is (λ other row may. let granted : c.args.granted.envelope ≡ true = subst (MayTest c.args.granted) row.tree_is may in cc)

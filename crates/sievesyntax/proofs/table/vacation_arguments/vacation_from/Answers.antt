@@ -1,0 +1,14 @@
+use Rattle.sievesyntax.proofs.TableLemmas.{finds_one}
+use Rattle.sievesyntax.proofs.VacationLemmas.{vacation_same}
+use Rattle.sievesyntax.proofs.table.vacation_arguments.vacation_from.Goals as goal
+
+pub returns : goal.returns
+returns c = finds_one _ (vacation_same _ _) _ (record {
+  days = c.given_days.ensures;
+  subject = c.in_ok-subject.ensures.subject;
+  from = c.in_ok-from.ensures.found;
+  addresses = c.in_ok-addresses.ensures;
+  mime = c.given_mime.ensures;
+  handle = c.in_ok-subject.ensures.handle;
+  reason = c.in_ok-reason.ensures.found;
+})
