@@ -3,6 +3,7 @@ use Rattle.std.proofs.Common.{◌≡◌, ℕ, ◌⊎◌, Bool, true, false, List
 use Rattle.addrparts.specs.declared.address.Addr.{Addr}
 use Rattle.sievesyntax.specs.Meaning.{Actions}
 use Rattle.sievesyntax.specs.declared.tree.vacation.VacArgs.{VacArgs}
+use Rattle.sievesyntax.proofs.MeansLaws.{means_only}
 use Rattle.sieveexec.specs.Mails.{MailSpec}
 use Rattle.sieveexec.specs.Outcomes.{outcome_at}
 use Rattle.vacreply.specs.Handles.{handle_of, key_of}
@@ -13,18 +14,18 @@ use Rattle.vacreply.proofs.ReplyLaws.{one_reply}
 use Rattle.mailstore.specs.Account.{Account}
 use Rattle.mailstore.specs.declared.report.Report.{Report}
 use Rattle.deliverplan.specs.Views.{last_reply}
-use Rattle.deliverplan.specs.Delivered.{Disposition, Acts, Tells, DisposesIf, disposition_of, is_looping, Response, Sent, Follows, Responds, acts, responds, report_of, CarriesOut, DeliversAs, Delivers, HasOneTree}
+use Rattle.deliverplan.specs.Delivered.{Disposition, Acts, Tells, DisposesIf, disposition_of, is_looping, Response, Sent, Follows, Responds, acts, responds, report_of, CarriesOut, DeliversAs, Delivers}
 
 -- a message comes to one disposition
 one_disposition : (looping : Bool) (text : Option (List ℕ)) (mail : MailSpec) (one two : Disposition)
-    → HasOneTree text → DisposesIf looping text mail one → DisposesIf looping text mail two → one ≡ two
-one_disposition true text mail one two only is was = is ∙ sym was
-one_disposition false None mail one two only is was = is ∙ sym was
-one_disposition false (Some text) mail one two only (inl (tree, means, is)) (inl (other, meant, was)) =
-    is ∙ (ap (λ t. disposition_of (outcome_at mail t)) (only tree other means meant) ∙ sym was)
-one_disposition false (Some text) mail one two only (inl (tree, means, is)) (inr (none, was)) = absurd (none tree means)
-one_disposition false (Some text) mail one two only (inr (none, is)) (inl (tree, means, was)) = absurd (none tree means)
-one_disposition false (Some text) mail one two only (inr (none, is)) (inr (nothing, was)) = is ∙ sym was
+    → DisposesIf looping text mail one → DisposesIf looping text mail two → one ≡ two
+one_disposition true text mail one two is was = is ∙ sym was
+one_disposition false None mail one two is was = is ∙ sym was
+one_disposition false (Some text) mail one two (inl (tree, means, is)) (inl (other, meant, was)) =
+    is ∙ (ap (λ t. disposition_of (outcome_at mail t)) (means_only text tree other means meant) ∙ sym was)
+one_disposition false (Some text) mail one two (inl (tree, means, is)) (inr (none, was)) = absurd (none tree means)
+one_disposition false (Some text) mail one two (inr (none, is)) (inl (tree, means, was)) = absurd (none tree means)
+one_disposition false (Some text) mail one two (inr (none, is)) (inr (nothing, was)) = is ∙ sym was
 
 -- one response follows from a decision
 one_follows : (own : Addr) (moment : ℕ) (mail : MailSpec) (args : VacArgs) (decision : Decision) (one two : Response)
@@ -51,8 +52,8 @@ one_delivered own moment mail (Acts deeds) a one two after other is was = one_ca
 one_delivered own moment mail (Tells text) a one two after other is was = (is.reported ∙ sym was.reported, is.changed ∙ sym was.changed)
 
 pub one_delivery : (own : Addr) (moment : ℕ) (mail : MailSpec) (text : Option (List ℕ)) (a : Account) (one two : Report) (after other : Account)
-    → HasOneTree text → Delivers own moment mail text a one after → Delivers own moment mail text a two other → (one ≡ two) × (after ≡ other)
-one_delivery own moment mail text a one two after other only is was =
+    → Delivers own moment mail text a one after → Delivers own moment mail text a two other → (one ≡ two) × (after ≡ other)
+one_delivery own moment mail text a one two after other is was =
     let P : Disposition → Type 0 = λ d. DeliversAs own moment mail d a one after in
-    let same = one_disposition (is_looping mail) text mail is.disposition was.disposition only is.disposes was.disposes in
+    let same = one_disposition (is_looping mail) text mail is.disposition was.disposition is.disposes was.disposes in
     one_delivered own moment mail was.disposition a one two after other (subst P same is.delivers) was.delivers

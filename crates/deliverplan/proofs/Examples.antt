@@ -125,6 +125,6 @@ looped a = record { disposition = Tells loop_text; disposes = refl; delivers = r
 -- near miss: the delivery leaves a notice, and doesn't tell of it
 silent_notice : (a after : Account) → Delivers alice 5 (mail_with bob (replicate 101 (field (codes "Received")))) None a (report_of kept Silent) after → ⊥
 silent_notice a after is =
-    let same = one_delivery alice 5 (mail_with bob (replicate 101 (field (codes "Received")))) None a (report_of kept Silent) (notice_report loop_text) after _ tt is (looped a) in
+    let same = one_delivery alice 5 (mail_with bob (replicate 101 (field (codes "Received")))) None a (report_of kept Silent) (notice_report loop_text) after _ is (looped a) in
     let told : None ≡ Some loop_text = ap (λ r. r.notice) same.0 in
     cc

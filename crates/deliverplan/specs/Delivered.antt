@@ -153,8 +153,3 @@ pub record Delivers (own : Addr) (moment : ℕ) (mail : MailSpec) (text : Option
   pub disposition : Disposition
   pub disposes : Disposes text mail disposition
   pub delivers : DeliversAs own moment mail disposition a report a2
-
--- the text, if there is one, means one tree at most
-abbrev pub HasOneTree : Option (List ℕ) → Type 0
-HasOneTree None = Unit {0}
-HasOneTree (Some text) = (one two : Commands) → Means text one → Means text two → one ≡ two

@@ -4,12 +4,10 @@ ghost use Rattle.addrparts.specs.declared.address.Addr.{Addr};
 ghost use Rattle.sieveexec.specs.Mails.{MailSpec};
 ghost use Rattle.mailstore.specs.Account.{Account};
 ghost use Rattle.mailstore.specs.declared.report.Report.{Report};
-ghost use Rattle.deliverplan.specs.Delivered.{Delivers, HasOneTree};
+ghost use Rattle.deliverplan.specs.Delivered.{Delivers};
 
-/// A delivery has one report, and the account is one afterwards, where the active text means one tree at most, as
-/// `sievesyntax::check` says of each text that it takes.
+/// A delivery has one report, and the account is one afterwards.
 pub fn delivery_of_a_mail()
     ensures { (own : Addr) (moment : ℕ) (mail : MailSpec) (text : Option (List ℕ)) (a : Account) (one two : Report) (after other : Account)
-        → HasOneTree text → Delivers own moment mail text a one after → Delivers own moment mail text a two other
-        → (one ≡ two) × (after ≡ other) }
+        → Delivers own moment mail text a one after → Delivers own moment mail text a two other → (one ≡ two) × (after ≡ other) }
 {}

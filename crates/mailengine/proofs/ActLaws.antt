@@ -15,7 +15,7 @@ use Rattle.mailstore.specs.declared.report.Report.{Report}
 use Rattle.mailstore.specs.declared.refusal.Refusal.{Refusal}
 use Rattle.sessions.specs.Replies.{is_ok, declined, done}
 use Rattle.sessions.specs.Scripts.{Where, TellsFault, RepliesToText, RepliesToHaveSpace, RepliesToPut, RepliesToSet, RepliesToDelete, RepliesToRename, RepliesToCheck, RepliesTo, obeyed, carried_out}
-use Rattle.deliverplan.specs.Delivered.{Delivers, HasOneTree}
+use Rattle.deliverplan.specs.Delivered.{Delivers}
 use Rattle.deliverplan.proofs.DeliveryLaws.{one_delivery}
 use Rattle.mailengine.specs.declared.answer.Answer.{Answer}
 use Rattle.mailengine.specs.Limits.{limit_refusal}
@@ -115,38 +115,34 @@ commands_one account command octets one two is was = is.changed ∙ (go account 
 
 -- ---- deliveries
 
--- each text means one tree at most
-abbrev pub OneTreeEach : Type 0
-OneTreeEach = (text : Option (List ℕ)) → HasOneTree text
-
-delivered_one : OneTreeEach → (moment : ℕ) (envelope : Envelope) (message : List ℕ) (a : Account) (r1 r2 : Report) (one two : Account) → DeliversTo moment envelope message a r1 one → DeliversTo moment envelope message a r2 two → one ≡ two
-delivered_one trees moment envelope message a r1 r2 one two is was =
+delivered_one : (moment : ℕ) (envelope : Envelope) (message : List ℕ) (a : Account) (r1 r2 : Report) (one two : Account) → DeliversTo moment envelope message a r1 one → DeliversTo moment envelope message a r2 two → one ≡ two
+delivered_one moment envelope message a r1 r2 one two is was =
     let found : Some is.own ≡ Some was.own = sym (bare-found a.address is.own is.address) ∙ bare-found a.address was.own was.address in
     let same : is.own ≡ was.own = cc in
-    (one_delivery was.own moment (mail_of message envelope) (active_text a) a r1 r2 one two (trees (active_text a)) (subst (λ own. Delivers own moment (mail_of message envelope) (active_text a) a r1 one) same is.delivers) was.delivers).1
+    (one_delivery was.own moment (mail_of message envelope) (active_text a) a r1 r2 one two (subst (λ own. Delivers own moment (mail_of message envelope) (active_text a) a r1 one) same is.delivers) was.delivers).1
 
-receives_one : OneTreeEach → (o : Option Refusal) (account : Option Account) (envelope : Envelope) (message : List ℕ) (moment : ℕ) (answer : Answer) (one two : Option Account)
+receives_one : (o : Option Refusal) (account : Option Account) (envelope : Envelope) (message : List ℕ) (moment : ℕ) (answer : Answer) (one two : Option Account)
     → ReceivesIn o account envelope message moment answer one → ReceivesIn o account envelope message moment answer two → one ≡ two
-receives_one trees (Some refusal) account envelope message moment answer one two is was = is.stays ∙ sym was.stays
-receives_one trees None None envelope message moment answer one two is was = is.stays ∙ sym was.stays
-receives_one trees None (Some a) envelope message moment answer one two is was =
-    is.changed ∙ (ap (λ b. Some b) (delivered_one trees moment envelope message a is.report was.report is.after was.after is.delivers was.delivers) ∙ sym was.changed)
+receives_one (Some refusal) account envelope message moment answer one two is was = is.stays ∙ sym was.stays
+receives_one None None envelope message moment answer one two is was = is.stays ∙ sym was.stays
+receives_one None (Some a) envelope message moment answer one two is was =
+    is.changed ∙ (ap (λ b. Some b) (delivered_one moment envelope message a is.report was.report is.after was.after is.delivers was.delivers) ∙ sym was.changed)
 
 -- ---- acts
 
-act_one : OneTreeEach → (user : List ℕ) (account : Option Account) (act : Act) (one two : Option Account) → ActsAlone user account act one → ActsAlone user account act two → one ≡ two
-act_one trees user account (own.Commands command octets) one two is was = commands_one account command octets one two is was
-act_one trees user account (own.LogsIn password succeeds) one two is was = is.stays ∙ sym was.stays
-act_one trees user account (own.Receives envelope message moment answer) one two is was = receives_one trees (limit_refusal envelope message moment) account envelope message moment answer one two is was
-act_one trees user account (own.Joins address salt password answer) one two (inl (new, is)) (inl (too, was)) = go account is was
+act_one : (user : List ℕ) (account : Option Account) (act : Act) (one two : Option Account) → ActsAlone user account act one → ActsAlone user account act two → one ≡ two
+act_one user account (own.Commands command octets) one two is was = commands_one account command octets one two is was
+act_one user account (own.LogsIn password succeeds) one two is was = is.stays ∙ sym was.stays
+act_one user account (own.Receives envelope message moment answer) one two is was = receives_one (limit_refusal envelope message moment) account envelope message moment answer one two is was
+act_one user account (own.Joins address salt password answer) one two (inl (new, is)) (inl (too, was)) = go account is was
   where
     go : (o : Option Account) → JoinsIn o address salt password answer one → JoinsIn o address salt password answer two → one ≡ two
     go None is was = is.changed ∙ sym was.changed
     go (Some a) is was = is.stays ∙ sym was.stays
-act_one trees user account (own.Joins address salt password answer) one two (inr (bad, is)) (inr (too, was)) = is.stays ∙ sym was.stays
-act_one trees user account (own.Joins address salt password answer) one two (inl (new, is)) (inr (bad, was)) = absurd (bad new)
-act_one trees user account (own.Joins address salt password answer) one two (inr (bad, is)) (inl (new, was)) = absurd (bad new)
-act_one trees user account (own.TakesOut id answer) one two is was = go account is was
+act_one user account (own.Joins address salt password answer) one two (inr (bad, is)) (inr (too, was)) = is.stays ∙ sym was.stays
+act_one user account (own.Joins address salt password answer) one two (inl (new, is)) (inr (bad, was)) = absurd (bad new)
+act_one user account (own.Joins address salt password answer) one two (inr (bad, is)) (inl (new, was)) = absurd (bad new)
+act_one user account (own.TakesOut id answer) one two is was = go account is was
   where
     row : (a : Account) (o : Option Outgoing) → TakesRowAlone a o answer one → TakesRowAlone a o answer two → one ≡ two
     row a None is was = is.stays ∙ sym was.stays
@@ -156,8 +152,8 @@ act_one trees user account (own.TakesOut id answer) one two is was = go account 
     go None is was = is.stays ∙ sym was.stays
     go (Some a) is was = row a (row_with id a.queue) is was
 
-pub alone_ends : OneTreeEach → (user : List ℕ) (acts : List Act) (account one two : Option Account) → Alone user account acts one → Alone user account acts two → one ≡ two
-alone_ends trees user [] account one two is was = is ∙ sym was
-alone_ends trees user (act ∷ more) account one two is was =
-    let same = act_one trees user account act is.0 was.0 is.1 was.1 in
-    alone_ends trees user more was.0 one two (subst (λ o. Alone user o more one) same is.2) was.2
+pub alone_ends : (user : List ℕ) (acts : List Act) (account one two : Option Account) → Alone user account acts one → Alone user account acts two → one ≡ two
+alone_ends user [] account one two is was = is ∙ sym was
+alone_ends user (act ∷ more) account one two is was =
+    let same = act_one user account act is.0 was.0 is.1 was.1 in
+    alone_ends user more was.0 one two (subst (λ o. Alone user o more one) same is.2) was.2

@@ -1,21 +1,26 @@
 -- Runs, one event after the other.
-use Rattle.std.proofs.Common.{◌≡◌, ◌⊎◌, ℕ, ◌+◌, ◌<◌, List, [], ◌∷◌, ◌++◌, take, length, get_or, IsTrue, refl, sym, ◌∙◌, ap, subst, inl, inr}
+use Rattle.std.proofs.Common.{◌≡◌, ◌⊎◌, ℕ, ◌+◌, ◌<◌, List, [], ◌∷◌, ◌++◌, take, length, get_or, IsTrue, Result, refl, sym, ◌∙◌, ap, subst, inl, inr}
 use Rattle.std.proofs.lemmas.List.{take_more}
 use Rattle.sqlite_trees.specs.Tree.{Trees}
 use Rattle.sqlite.specs.State.{State, HasCleanDisk, Survives}
 use Rattle.sqlite.proofs.StateLemmas.{survives_then, survives_weaker}
+use Rattle.sieveexec.specs.declared.envelope.Envelope.{Envelope}
+use Rattle.mailstore.specs.declared.refusal.Refusal.{Refusal}
+use Rattle.mailstore.specs.declared.report.Report.{Report}
 use Rattle.mailstore.specs.Account.{Accounts}
 use Rattle.mailstore.specs.Shows.{Presents}
 use Rattle.mailstore.proofs.OneLemmas.{accounts_one}
 use Rattle.mailengine.specs.declared.event.Event.{Event}
+use Rattle.mailengine.specs.declared.event.Event.TheVariants.{Deliver}
 use Rattle.mailengine.specs.declared.answer.Answer.{Answer}
+use Rattle.mailengine.specs.AccountEvents.{Delivery}
 use Rattle.mailengine.specs.World.{World, Next, Runs}
-use Rattle.mailengine.specs.Hosts.{clients_of, HasClients, Implements, IsEvent, EventCrashLeaves, IsRun, IsRunAlone, IsRunSpaced, RunCrashLeaves}
+use Rattle.mailengine.specs.Hosts.{clients_of, HasClients, Implements, IsEvent, EventCrashLeaves, IsRun, IsRunAlone, IsRunSpaced, IsSpacedDelivery, RunCrashLeaves, TurnsBy, MayRefuseDelivery, ActsDelivery, answer_of_delivery}
 use Rattle.mailengine.specs.Sound.{AreSound, KeepsSound}
 use Rattle.mailengine.proofs.AloneLemmas.{projection}
 use Rattle.mailengine.proofs.SpacingLemmas.{spacing}
 use Rattle.mailengine.proofs.SoundLemmas.{runs_sound}
-use Rattle.mailengine.proofs.HostLemmas.{Kept, clients_are}
+use Rattle.mailengine.proofs.HostLemmas.{Kept, clients_are, delivery_may}
 
 -- a run goes on with one event more
 pub runs_more : (events : List Event) (told : List Answer) (w mid end : World) (event : Event) (answer : Answer) → Runs w events told mid → Next mid event answer end → Runs w (events ++ event ∷ []) (told ++ answer ∷ []) end
@@ -62,6 +67,25 @@ pub run_counted : (old new : State) (before behind : Kept) (events : List Event)
     → IsRun (take (length all) events) all old before new behind
 run_counted old new before behind events at told all ran count is =
     subst (λ l. IsRun (take (length l) events) l old before new behind) (sym is) (subst (λ n. IsRun (take n events) told old before new behind) (sym count) ran)
+
+-- ---- a delivery alone
+
+-- the event with this answer, by the delivery's row or refused without visible cause
+delivery_next : (user : List ℕ) (envelope : Envelope) (message : List ℕ) (moment : ℕ) (w : World) (answer : Answer) (later : Accounts)
+    → TurnsBy (λ accounts. Delivery accounts user envelope message moment) (MayRefuseDelivery envelope message moment) answer w.accounts later
+    → Next w (Deliver user envelope message moment) answer (record { accounts = later; sessions = w.sessions })
+delivery_next user envelope message moment w answer later (inl row) = inl (later, row, refl)
+delivery_next user envelope message moment w answer later (inr (refusal, may, is, same)) =
+    inr (record { refusal = refusal; may = delivery_may user message envelope moment w refusal may; refused = is; stays = ap (λ all. record { accounts = all; sessions = w.sessions }) same })
+
+-- a delivery is a run of one event
+pub delivery_spaced : (user : List ℕ) (envelope : Envelope) (message : List ℕ) (moment : ℕ) (old new : State) (q : Result Report Refusal) → ActsDelivery user envelope message moment old new q
+    → IsSpacedDelivery user envelope message moment old new q
+delivery_spaced user envelope message moment old new q acts clean w had =
+    let turned = acts.carries clean w.accounts had in
+    let end : World = record { accounts = turned.0; sessions = w.sessions } in
+    let run : Runs w (Deliver user envelope message moment ∷ []) (answer_of_delivery q ∷ []) end = (end, delivery_next user envelope message moment w (answer_of_delivery q) turned.0 turned.1, refl) in
+    (end, run, turned.2, spacing (Deliver user envelope message moment ∷ []) (answer_of_delivery q ∷ []) w end run)
 
 -- ---- what every run is
 

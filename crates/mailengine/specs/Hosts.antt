@@ -1,5 +1,5 @@
 -- What a store and a map of sessions have of the machine.
-use Rattle.std.specs.Prelude.{◌≡◌, ℕ, ◌⊎◌, List, map, take, Option, Some, None, Ok, Err, Result, IsTrue, IfSome, option_map}
+use Rattle.std.specs.Prelude.{◌≡◌, ℕ, ◌⊎◌, List, [], ◌∷◌, map, take, Option, Some, None, Ok, Err, Result, IsTrue, IfSome, option_map}
 use Rattle.std.specs.FinMap.{get, from_entries}
 use Rattle.std.specs.Ordering.{nat_cmp}
 use Rattle.std.specs.BTreeMap as tree
@@ -18,7 +18,7 @@ use Rattle.sessions.specs.Acts.{HasAccounts, Acts}
 use Rattle.sessions.specs.Clients.{Client}
 use Rattle.sessions.specs.Counts.{SessionView}
 use Rattle.sessions.specs.GivenUp.{text_given_up}
-use Rattle.mailengine.specs.declared.event.Event.TheVariants.{GiveUp}
+use Rattle.mailengine.specs.declared.event.Event.TheVariants.{Deliver, GiveUp}
 use Rattle.mailengine.specs.OwnActs.{IsAlone}
 use Rattle.mailengine.specs.Spacing.{IsSpacing, sent}
 use Rattle.mailengine.specs.declared.event.Event.{Event}
@@ -124,6 +124,13 @@ MayRefuseAddition name address password refusal = (refusal ≡ Memory) ⊎ ((ref
 abbrev pub ActsDelivery : List ℕ → Envelope → List ℕ → ℕ → State → State → Result Report Refusal → Type 0
 ActsDelivery user envelope message moment old new result =
     Acts (TurnsBy (λ accounts. Delivery accounts user envelope message moment) (MayRefuseDelivery envelope message moment) (answer_of_delivery result)) (MayTurnBy (λ accounts. Delivery accounts user envelope message moment)) old new result
+
+-- a delivery is a run of one event, over whatever sessions there are, and the answer that it sends, if it sends one, is spaced by its period
+abbrev pub IsSpacedDelivery : List ℕ → Envelope → List ℕ → ℕ → State → State → Result Report Refusal → Type 0
+IsSpacedDelivery user envelope message moment old new result =
+    HasCleanDisk new → (w : World) → HasAccounts old w.accounts
+    → (end : World) × (run : Runs w (Deliver user envelope message moment ∷ []) (answer_of_delivery result ∷ []) end) × HasAccounts new end.accounts
+    × IsSpacing w.accounts end.accounts (sent w (Deliver user envelope message moment ∷ []) (answer_of_delivery result ∷ []) end run)
 
 -- what a new user makes of it
 abbrev pub ActsAddition : List ℕ → List ℕ → List ℕ → List ℕ → State → State → Result (Unit {0}) Refusal → Type 0

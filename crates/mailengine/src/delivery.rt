@@ -5,7 +5,7 @@ ghost use Rattle.mailstore.specs.Account.{delivers};
 ghost use Rattle.mailstore.specs.Cells.{contents};
 ghost use Rattle.mailstore.specs.Promises.{WritesAccount};
 ghost use Rattle.mailstore.specs.Refusals.{IsPassing};
-ghost use Rattle.mailengine.specs.Hosts.{ActsDelivery, RefusesDelivery};
+ghost use Rattle.mailengine.specs.Hosts.{ActsDelivery, IsSpacedDelivery, RefusesDelivery};
 ghost use Rattle.mailengine.specs.Limits as limits;
 ghost use Rattle.mailengine.specs.Lookups.{LooksUp, IsLookup};
 
@@ -49,6 +49,7 @@ pub fn deliver<S: Alter>(
     moment: u64,
 ) -> Result<Report, Refusal>
     ensures acts { ActsDelivery user.now envelope message.now moment (state S.Store store.old) (state S.Store store.new) result }
+    ensures spaced { IsSpacedDelivery user.now envelope message.now moment (state S.Store store.old) (state S.Store store.new) result }
     ensures early { IfSome (limits.limit_refusal envelope message.now moment) (λ refusal. (result ≡ Err refusal) × (store.new ≡ store.old)) }
     ensures named { IfErr result (RefusesDelivery envelope message.now moment) }
 {

@@ -4,7 +4,6 @@ ghost use Rattle.mailengine.specs.declared.event.Event.{Event};
 ghost use Rattle.mailengine.specs.declared.answer.Answer.{Answer};
 ghost use Rattle.mailengine.specs.Sound.{AreSound};
 ghost use Rattle.mailengine.specs.World.{World, Next, Runs};
-ghost use Rattle.deliverplan.specs.Delivered.{HasOneTree};
 ghost use Rattle.mailstore.specs.Account.{Account};
 ghost use Rattle.mailengine.specs.OwnActs.{Act, Alone, IsAlone};
 ghost use Rattle.mailengine.specs.Spacing.{IsSpacing, sent};
@@ -14,11 +13,9 @@ pub fn each_user_alone()
     ensures { (events : List Event) (told : List Answer) (w end : World) (run : Runs w events told end) → IsAlone w events told end run }
 {}
 
-/// The same acts leave a user with the same account, where each text means one tree at most, as `sievesyntax::check` says
-/// of each text that it takes: what others did between, and in what order, is nowhere in it.
+/// The same acts leave a user with the same account: what others did between, and in what order, is nowhere in it.
 pub fn account_by_acts()
-    ensures { ((text : Option (List ℕ)) → HasOneTree text) → (user : List ℕ) (acts : List Act) (account one two : Option Account)
-        → Alone user account acts one → Alone user account acts two → one ≡ two }
+    ensures { (user : List ℕ) (acts : List Act) (account one two : Option Account) → Alone user account acts one → Alone user account acts two → one ≡ two }
 {}
 
 /// No sender gets two answers under one handle within the period.

@@ -5,10 +5,14 @@ use Rattle.mailengine.specs.Hosts.{ActsDelivery}
 use Rattle.mailengine.specs.Limits.{limit_refusal}
 use Rattle.mailengine.specs.Lookups.{LooksUp, IsLookup}
 use Rattle.mailengine.proofs.DeliveryLemmas.{moment_fits, passing_refuses, planned_at, delivery_limited, delivery_unread, delivery_failed, delivery_made, delivery_undone}
+use Rattle.mailengine.proofs.RunLemmas.{delivery_spaced}
 use Rattle.mailengine.proofs.delivery.deliver.Goals as goal
 
 pub returns-in-Some-clause-acts : goal.returns-in-Some-clause-acts
 returns-in-Some-clause-acts g c = delivery_limited c.args.user.now c.args.envelope c.args.message.now c.args.moment (state g.S.Store c.args.store.now) c.in-Some.refusal (sym c.limit_refusal.ensures ∙ c.in-Some.is)
+
+pub returns-in-Some-clause-spaced : goal.returns-in-Some-clause-spaced
+returns-in-Some-clause-spaced g c = delivery_spaced c.args.user.now c.args.envelope c.args.message.now c.args.moment (state g.S.Store c.args.store.now) (state g.S.Store c.args.store.now) (Err c.in-Some.refusal) (returns-in-Some-clause-acts g c)
 
 pub returns-in_err-view-clause-acts : goal.returns-in_err-view-clause-acts
 returns-in_err-view-clause-acts g c =
@@ -17,6 +21,9 @@ returns-in_err-view-clause-acts g c =
     delivery_unread c.args.user.now c.args.envelope c.args.message.now c.args.moment none (state g.S.Store c.args.store.now) (state g.S.Store c.look_up.new.store) c.in_err-view.field-0.0 c.from_residual.result is
     (subst (λ sender. LooksUp c.args.user.now (IsLookup sender) (state g.S.Store c.args.store.now) (state g.S.Store c.look_up.new.store) (Err c.in_err-view.field-0.0)) c.as_slice.ensures c.in_err-view.ensures)
 
+pub returns-in_err-view-clause-spaced : goal.returns-in_err-view-clause-spaced
+returns-in_err-view-clause-spaced g c = delivery_spaced c.args.user.now c.args.envelope c.args.message.now c.args.moment (state g.S.Store c.args.store.now) (state g.S.Store c.look_up.new.store) c.from_residual.result (returns-in_err-view-clause-acts g c)
+
 pub returns-in_err-mail-clause-acts : goal.returns-in_err-mail-clause-acts
 returns-in_err-mail-clause-acts g c =
     let undone : OnOk c.from_residual-in_err-mail.result ⊥ = search rules in
@@ -24,6 +31,9 @@ returns-in_err-mail-clause-acts g c =
     let none : limit_refusal c.args.envelope c.args.message.now c.args.moment ≡ None = sym c.limit_refusal.ensures ∙ c.in_default.is in
     delivery_failed c.args.user.now c.args.envelope c.args.message.now c.args.moment none (state g.S.Store c.args.store.now) (state g.S.Store c.look_up.new.store) c.look_up.result c.in_ok-view.field-0 c.in_ok-view.was
     (subst (λ sender. LooksUp c.args.user.now (IsLookup sender) (state g.S.Store c.args.store.now) (state g.S.Store c.look_up.new.store) c.look_up.result) c.as_slice.ensures c.look_up.ensures) c.from_residual-in_err-mail.result undone passing
+
+pub returns-in_err-mail-clause-spaced : goal.returns-in_err-mail-clause-spaced
+returns-in_err-mail-clause-spaced g c = delivery_spaced c.args.user.now c.args.envelope c.args.message.now c.args.moment (state g.S.Store c.args.store.now) (state g.S.Store c.look_up.new.store) c.from_residual-in_err-mail.result (returns-in_err-mail-clause-acts g c)
 
 pub plan-requires : goal.plan-requires
 plan-requires g c = moment_fits c.args.envelope c.args.message.now c.args.moment (sym c.limit_refusal.ensures ∙ c.in_default.is)
@@ -36,6 +46,9 @@ returns-in_err-plan-clause-acts g c =
     delivery_failed c.args.user.now c.args.envelope c.args.message.now c.args.moment none (state g.S.Store c.args.store.now) (state g.S.Store c.look_up.new.store) c.look_up.result c.in_ok-view.field-0 c.in_ok-view.was
     (subst (λ sender. LooksUp c.args.user.now (IsLookup sender) (state g.S.Store c.args.store.now) (state g.S.Store c.look_up.new.store) c.look_up.result) c.as_slice.ensures c.look_up.ensures) c.from_residual-in_err-plan.result undone passing
 
+pub returns-in_err-plan-clause-spaced : goal.returns-in_err-plan-clause-spaced
+returns-in_err-plan-clause-spaced g c = delivery_spaced c.args.user.now c.args.envelope c.args.message.now c.args.moment (state g.S.Store c.args.store.now) (state g.S.Store c.look_up.new.store) c.from_residual-in_err-plan.result (returns-in_err-plan-clause-acts g c)
+
 pub returns-in_err-commit-clause-acts : goal.returns-in_err-commit-clause-acts
 returns-in_err-commit-clause-acts g c =
     let is : c.from_residual-in_err-commit.result ≡ Err c.in_err-commit.field-0.0 = search (rules, c.from_residual-in_err-commit.ensures) in
@@ -44,6 +57,9 @@ returns-in_err-commit-clause-acts g c =
     (subst (λ sender. LooksUp c.args.user.now (IsLookup sender) (state g.S.Store c.args.store.now) (state g.S.Store c.look_up.new.store) c.look_up.result) c.as_slice.ensures c.look_up.ensures) c.in_ok-plan.plan
     (planned_at c.in_ok-view.field-0.view c.in_ok-view.field-0.text _ c.in_ok-mail.mail c.args.envelope c.args.message.now c.args.moment c.in_ok-plan.plan c.in_ok-mail.ensures c.slice_of.ensures c.in_ok-plan.ensures)
     (state g.S.Store c.commit.new.store) c.commit.result c.commit.ensures.writes c.in_err-commit.field-0.0 c.from_residual-in_err-commit.result c.in_err-commit.was is c.in_err-commit.ensures.named
+
+pub returns-in_err-commit-clause-spaced : goal.returns-in_err-commit-clause-spaced
+returns-in_err-commit-clause-spaced g c = delivery_spaced c.args.user.now c.args.envelope c.args.message.now c.args.moment (state g.S.Store c.args.store.now) (state g.S.Store c.commit.new.store) c.from_residual-in_err-commit.result (returns-in_err-commit-clause-acts g c)
 
 pub returns-in_err-commit-clause-named : goal.returns-in_err-commit-clause-named
 returns-in_err-commit-clause-named g c =
@@ -59,3 +75,6 @@ returns-clause-acts g c =
     (subst (λ sender. LooksUp c.args.user.now (IsLookup sender) (state g.S.Store c.args.store.now) (state g.S.Store c.look_up.new.store) c.look_up.result) c.as_slice.ensures c.look_up.ensures) c.in_ok-plan.plan
     (planned_at c.in_ok-view.field-0.view c.in_ok-view.field-0.text _ c.in_ok-mail.mail c.args.envelope c.args.message.now c.args.moment c.in_ok-plan.plan c.in_ok-mail.ensures c.slice_of.ensures c.in_ok-plan.ensures)
     (state g.S.Store c.commit.new.store) c.commit.result c.commit.ensures.writes c.in_ok-commit.field-0 c.in_ok-commit.was)
+
+pub returns-clause-spaced : goal.returns-clause-spaced
+returns-clause-spaced g c = delivery_spaced c.args.user.now c.args.envelope c.args.message.now c.args.moment (state g.S.Store c.args.store.now) (state g.S.Store c.commit.new.store) (Ok c.report_of.result) (returns-clause-acts g c)

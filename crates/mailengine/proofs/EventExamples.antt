@@ -1,0 +1,139 @@
+-- The events of accounts on small cases: what is right, and beside it what nearly is.
+use Rattle.std.proofs.Common.{◌≡◌, ℕ, true, false, List, [], ◌∷◌, codes, Option, Some, None, refl, sym, ap, ◌∙◌, subst, inl, inr}
+use Rattle.std.specs.FinMap.{get, insert, get-empty}
+use Rattle.addrparts.specs.declared.address.Addr.{Addr}
+use Rattle.addrparts.specs.Outbound.{IsBareAddress}
+use Rattle.saslplain.specs.Password.{digest_of}
+use Rattle.sievesyntax.specs.RunState.{inbox}
+use Rattle.sieveexec.specs.declared.envelope.Envelope.{Envelope}
+use Rattle.mailstore.specs.Account.{bytes_cmp, Account, Accounts, no_accounts, files_copies, new_user, with_user, takes_out}
+use Rattle.mailstore.specs.declared.queue.Kind.TheVariants.{Redirect}
+use Rattle.mailstore.specs.declared.queue.Outgoing.{Outgoing}
+use Rattle.mailstore.specs.declared.refusal.Refusal.TheVariants.{NoUser, BadMoment, UserExists, BadUser, NoRow}
+use Rattle.deliverplan.specs.Delivered.{Acts, kept, Silent, report_of}
+use Rattle.mailengine.specs.declared.answer.Answer.{Answer}
+use Rattle.mailengine.specs.declared.answer.Answer.TheVariants.{Delivered, Added, Taken, Refused}
+use Rattle.mailengine.specs.Limits.{IsNewUser}
+use Rattle.mailengine.specs.AccountEvents.{active_text, DeliversIn, Delivery, AddsUnder, Addition, row_with, TakesIn, TakesRow, Taking}
+use Rattle.mailengine.proofs.AloneLemmas.{put_own, put_other, delivery_other}
+
+abbrev alice : List ℕ
+alice = codes "alice"
+
+abbrev bob : List ℕ
+bob = codes "bob"
+
+abbrev envelope : Envelope
+envelope = record { from = codes "bob@example.net"; to = codes "alice@example.org" }
+
+abbrev message : List ℕ
+message = codes "Hi"
+
+abbrev row : ℕ → Outgoing
+row id = record { id = id; kind = Redirect; sender = codes "bob@example.net"; target = codes "carol@example.com"; message = message }
+
+-- an account that is there is another world than none
+there : (accounts : Accounts) (user : List ℕ) (a : Account) → get accounts user ≡ Some a → accounts ≡ no_accounts → ⊥
+there accounts user a has is = let no : Some a ≡ None = sym has ∙ (ap (λ all. get all user) is ∙ get-empty bytes_cmp user) in cc
+
+module _ (a : Account) where
+  -- one account, alice's
+  one : Accounts
+  one = insert no_accounts alice a
+
+  has_alice : get one alice ≡ Some a
+  unfolding one
+  has_alice = put_own no_accounts alice a refl
+
+  -- ---- a delivery
+
+  -- a user without an account is none, and stays so; near miss: the delivery makes the account
+  unknown_user : Delivery no_accounts alice envelope message 5 (Refused NoUser) no_accounts
+  unknown_user = subst (λ o. DeliversIn no_accounts alice 5 envelope message o (Refused NoUser) no_accounts) (sym (get-empty bytes_cmp alice)) (record { refused = refl; stays = refl })
+
+  unknown_user_joins : Delivery no_accounts alice envelope message 5 (Refused NoUser) one → ⊥
+  unfolding one
+  unknown_user_joins is =
+      let made = subst (λ o. DeliversIn no_accounts alice 5 envelope message o (Refused NoUser) one) (get-empty bytes_cmp alice) is in
+      there one alice a has_alice made.stays
+
+  -- the limit goes before the account
+  unknown_user_late : Delivery no_accounts alice envelope message 253402300800 (Refused BadMoment) no_accounts
+  unknown_user_late = record { refused = refl; stays = refl }
+
+  -- without an active script the message joins INBOX
+  filed : (own : Addr) → IsBareAddress a.address own → a.active ≡ None → Delivery one alice envelope message 5 (Delivered (report_of kept Silent)) (insert one alice (files_copies (inbox ∷ []) message a))
+  unfolding one
+  filed own address none = subst (λ o. DeliversIn one alice 5 envelope message o (Delivered (report_of kept Silent)) (insert one alice (files_copies (inbox ∷ []) message a))) (sym has_alice)
+      (record {
+        report = report_of kept Silent;
+        account = files_copies (inbox ∷ []) message a;
+        delivers = record {
+          own = own;
+          address = address;
+          delivers = record {
+            disposition = Acts kept;
+            disposes = rw none refl;
+            delivers = record { response = Silent; is_response = refl; reported = refl; changed = refl };
+          };
+        };
+        reported = refl;
+        changed = refl;
+      })
+
+  -- near miss: another user's account changes, whatever is answered
+  delivered_to_another : (b : Account) (answer : Answer) (later : Accounts) → get later bob ≡ Some b → Delivery one alice envelope message 5 answer later → ⊥
+  unfolding one
+  delivered_to_another b answer later has is =
+      let no : Some b ≡ None = sym has ∙ (delivery_other bob alice one later answer envelope message 5 is (inl refl) ∙ (put_other no_accounts bob alice a refl ∙ get-empty bytes_cmp bob)) in
+      cc
+
+  -- ---- a new user
+
+  module _ (address salt password : List ℕ) where
+    -- an account joins the others, empty
+    joined : IsNewUser alice address password → Addition no_accounts alice address salt password Added (new_user alice address salt 10000 (digest_of salt password 10000) no_accounts)
+    joined new =
+        inl (new, subst (λ o. AddsUnder no_accounts alice address salt password o Added (new_user alice address salt 10000 (digest_of salt password 10000) no_accounts)) (sym (get-empty bytes_cmp alice)) (record { added = refl; changed = refl }))
+
+    -- near misses: the name has an account; the name has a blank
+    joined_twice : (later : Accounts) → Addition one alice address salt password Added later → ⊥
+    unfolding one
+    joined_twice later (inl (new, is)) =
+        let made = subst (λ o. AddsUnder one alice address salt password o Added later) has_alice is in
+        let no : Added ≡ Refused UserExists = made.refused in
+        cc
+    joined_twice later (inr (bad, is)) = let no : Added ≡ Refused BadUser = is.refused in cc
+
+    joined_with_blank : (accounts later : Accounts) → Addition accounts (codes "a b") address salt password Added later → ⊥
+    joined_with_blank accounts later (inl (new, is)) = let no : false ≡ true = new.named in cc
+    joined_with_blank accounts later (inr (bad, is)) = let no : Added ≡ Refused BadUser = is.refused in cc
+
+  -- ---- a row taken out of the queue
+
+  module _ (queued : a.queue ≡ row 1 ∷ row 2 ∷ []) where
+    -- the row with the number is handed out, and leaves the queue
+    taken : Taking one alice 2 (Taken (row 2)) (with_user one alice (takes_out 2))
+    unfolding one
+    taken = subst (λ o. TakesIn one alice 2 o (Taken (row 2)) (with_user one alice (takes_out 2))) (sym has_alice)
+        (subst (λ rows. TakesRow one alice (row_with 2 rows) (Taken (row 2)) (with_user one alice (takes_out 2))) (sym queued) (record { taken = refl; changed = refl }))
+
+    -- near miss: another row is handed out
+    another_taken : (later : Accounts) → Taking one alice 2 (Taken (row 1)) later → ⊥
+    unfolding one
+    another_taken later is =
+        let made = subst (λ rows. TakesRow one alice (row_with 2 rows) (Taken (row 1)) later) queued (subst (λ o. TakesIn one alice 2 o (Taken (row 1)) later) has_alice is) in
+        let same : row 1 ≡ row 2 = let told : Taken (row 1) ≡ Taken (row 2) = made.taken in cc in
+        let no : ◌≡◌ {A = ℕ} 1 2 = ap (λ r. r.id) same in
+        cc
+
+    -- a number that isn't queued is none, and nothing changes; near miss: the account goes
+    not_queued : Taking one alice 3 (Refused NoRow) one
+    unfolding one
+    not_queued = subst (λ o. TakesIn one alice 3 o (Refused NoRow) one) (sym has_alice) (subst (λ rows. TakesRow one alice (row_with 3 rows) (Refused NoRow) one) (sym queued) (record { refused = refl; stays = refl }))
+
+    not_queued_gone : Taking one alice 3 (Refused NoRow) no_accounts → ⊥
+    unfolding one
+    not_queued_gone is =
+        let made = subst (λ rows. TakesRow one alice (row_with 3 rows) (Refused NoRow) no_accounts) queued (subst (λ o. TakesIn one alice 3 o (Refused NoRow) no_accounts) has_alice is) in
+        there one alice a has_alice (sym made.stays)
