@@ -1,5 +1,5 @@
 -- Examples of what writes make of an account, and near misses.
-use Rattle.std.proofs.Common.{◌≡◌, ℕ, suc, cond, List, [], ◌∷◌, codes, Some, None, refl, ap, ◌∙◌}
+use Rattle.std.proofs.Common.{◌≡◌, ℕ, suc, cond, List, [], ◌∷◌, codes, drop, unwrap_or, Some, None, refl, ap, ◌∙◌}
 use Rattle.std.specs.FinMap.{get, get-remove}
 use Rattle.std.proofs.lemmas.Cmp.{nat_list_cmp_total}
 use Rattle.sqlite_typed.proofs.TestLemmas.{bytes_eq_refl}
@@ -7,7 +7,8 @@ use Rattle.mailstore.specs.declared.queue.Kind.TheVariants.{Redirect, Reply}
 use Rattle.mailstore.specs.declared.report.Letter.{Letter}
 use Rattle.mailstore.specs.declared.report.Letter.TheVariants as letter
 use Rattle.mailstore.specs.declared.report.Plan.{Plan}
-use Rattle.mailstore.specs.Account.{Account, deletes_script, renames_script, queues, takes_out, remembers, sends_all, delivers, files_copies}
+use Rattle.mailstore.proofs.TakingLemmas.{held_get}
+use Rattle.mailstore.specs.Account.{Account, holding, messages_in, deletes_script, renames_script, queues, takes_out, takes_mail, remembers, sends_all, delivers, files_copies}
 
 abbrev one : List ℕ
 one = codes "one"
@@ -23,6 +24,18 @@ taken_stays_used a = refl
 one_is_taken : (a : Account) → a.queue ≡ [] → a.next_out ≡ 1
     → (takes_out 1 (queues Reply [] two two (queues Redirect one two one a))).queue ≡ record { id = 2; kind = Reply; sender = []; target = two; message = two } ∷ []
 one_is_taken a none first = rw (none, first) refl
+
+-- the first message leaves its folder, and the second stays
+first_leaves : (a : Account) → get a.folders one ≡ Some (codes "M1" ∷ codes "M2" ∷ []) → get (takes_mail one 1 a).folders one ≡ Some (codes "M2" ∷ [])
+first_leaves a has = ap (λ o. get (holding a.folders one (drop 1 (unwrap_or o []))) one) has ∙ held_get a.folders one (codes "M2" ∷ []) one ∙ ap (λ b. cond b (Some (codes "M2" ∷ [])) (get a.folders one)) (bytes_eq_refl one)
+
+-- a folder goes with its last message
+folder_goes : (a : Account) → get a.folders one ≡ Some (codes "M1" ∷ []) → get (takes_mail one 1 a).folders one ≡ None
+folder_goes a has = ap (λ o. get (holding a.folders one (drop 1 (unwrap_or o []))) one) has ∙ held_get a.folders one [] one ∙ ap (λ b. cond b None (get a.folders one)) (bytes_eq_refl one)
+
+-- near miss: no other folder loses a message
+other_folder_stays : (a : Account) (k : ℕ) → get (takes_mail one k a).folders two ≡ get a.folders two
+other_folder_stays a k = held_get a.folders one (drop k (messages_in a.folders one)) two
 
 -- a deleted script is gone
 deleted_is_gone : (a : Account) → get (deletes_script one a).scripts one ≡ None

@@ -63,7 +63,7 @@ is_reply key e = is_eq (reply_cmp e.0 key)
 pub reply_is : (user handle sender h t : List ℕ) (rest : Row) → has_key (reply_key user handle sender) (Blob user ∷ Blob h ∷ Blob t ∷ rest) ≡ is_eq (reply_cmp (h, t) (handle, sender))
 reply_is user handle sender h t rest = rw (equal_itself user) (then_term (at_blobs false Eq h handle) (last_term (at_blobs false Eq t sender)) ∙ tied_then (bytes_cmp h handle) (bytes_cmp t sender))
 
-same_numbers : (m n : ℕ) → int_eq (pos m) (pos n) ≡ (m == n)
+pub same_numbers : (m n : ℕ) → int_eq (pos m) (pos n) ≡ (m == n)
 same_numbers m n = elim (cases_eq m n) [
   | inl is ↦ (Decides-int_eq (pos m) (pos n)).1 (ap pos is) ∙ sym (eq-eqb m n is)
   | inr differ ↦ int_eq_apart (pos m) (pos n) (λ same. differ (let is : m ≡ n = cc in is)) ∙ sym (ne_eqb m n differ)

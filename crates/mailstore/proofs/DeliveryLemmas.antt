@@ -31,7 +31,7 @@ use Rattle.sqlite_rules.specs.Lists.{Has}
 use Rattle.sqlite_rules.proofs.ListLemmas.{has_left, has_last}
 use Rattle.std.specs.List.{AllByRecursion}
 use Rattle.mailstore.specs.MessageTable.{Message, message_cells, message_row, message_tree, once_for, GainsOnce}
-use Rattle.mailstore.specs.CopyTable.{Copy, copy_row, copy_tree, message_of, HasFirst, AreKept, ShowsCopies}
+use Rattle.mailstore.specs.CopyTable.{Copy, copy_row, copy_tree, message_of, HasCopy, AreKept, ShowsCopies}
 use Rattle.mailstore.specs.Shows.{rows_of, IsShown, IsShownOrAbsent, ShowsAccounts}
 use Rattle.mailstore.specs.Schema.{mail_schema}
 use Rattle.mailstore.specs.Promises.{HasUser, Keeps, MakesAll, StoresOnce}
@@ -122,9 +122,9 @@ record IsShownBelow (user : List ℕ) (last : Counters) (copy notice : ℕ) (a :
 
 -- ---- messages and copies
 
--- what has a first copy has it still, after one copy more
-used_still : (copies : List Copy) (messages : List Message) (c : Copy) → AreKept copies messages → AllByRecursion (HasFirst (copies ++ c ∷ [])) messages
-used_still copies messages c k = all_weaker (HasFirst copies) (HasFirst (copies ++ c ∷ [])) (λ m f. (f.0, has_left copies (c ∷ []) f.0 f.1, f.2, f.3)) messages k.used
+-- what has a copy has it still, after one copy more
+used_still : (copies : List Copy) (messages : List Message) (c : Copy) → AreKept copies messages → AllByRecursion (HasCopy (copies ++ c ∷ [])) messages
+used_still copies messages c k = all_weaker (HasCopy copies) (HasCopy (copies ++ c ∷ [])) (λ m f. (f.0, has_left copies (c ∷ []) f.0 f.1, f.2)) messages k.used
 
 kept_push : (copies : List Copy) (messages : List Message) (c : Copy) → Has messages (message_of c) → c.id ≤ c.n → AreKept copies messages → AreKept (copies ++ c ∷ []) messages
 kept_push copies messages c there first k = record {
@@ -137,7 +137,7 @@ kept_first : (copies : List Copy) (messages : List Message) (c : Copy) → c.id 
 kept_first copies messages c same k = record {
   present = all-append _ copies (c ∷ []) (all_weaker (λ d. Has messages (message_of d)) (λ d. Has (messages ++ message_of c ∷ []) (message_of d)) (λ d h. has_left messages (message_of c ∷ []) (message_of d) h) copies k.present)
       (has_last (messages ++ message_of c ∷ []) messages (message_of c) refl, tt);
-  used = all-append _ messages (message_of c ∷ []) (used_still copies messages c k) ((c, has_last (copies ++ c ∷ []) copies c refl, sym same, refl), tt);
+  used = all-append _ messages (message_of c ∷ []) (used_still copies messages c k) ((c, has_last (copies ++ c ∷ []) copies c refl, refl), tt);
   first = all-append _ copies (c ∷ []) k.first (omega (arith, same), tt);
 }
 

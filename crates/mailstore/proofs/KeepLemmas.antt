@@ -68,7 +68,7 @@ keeps_ok a b r x q was k = record { same = k.same; live = λ clean. on_any q (Is
 pub keeps_refused : {X Y E F : Type 0} (a b : State) (r : Result X E) (e : F) (q : Result Y F) → q ≡ Err e → Keeps a b r → Keeps a b q
 keeps_refused a b r e q is k = record { same = k.same; live = λ clean. subst (λ o. OnOk o (IsTrue b.is_open)) (sym is) tt; shut = k.shut; crash = k.crash }
 
-none_ok : {Y E : Type 0} (q : Result Y E) (P : Type 0) → OnOk q ⊥ → OnOk q P
+pub none_ok : {Y E : Type 0} (q : Result Y E) (P : Type 0) → OnOk q ⊥ → OnOk q P
 none_ok (Ok y) P none = absurd none
 none_ok (Err e) P none = tt
 
@@ -89,6 +89,9 @@ module _ {X Y E F : Type 0} (a b c : State) (r : Result X E) (x : X) (was : r �
 
   mid_now : HasCleanDisk c → HasOurTables a.now → b.now ≡ a.now
   mid_now clean h = (early.same (clean_mid clean) h).now_is (mid_open clean)
+
+  pub mid_holds : HasCleanDisk c → (tables : Tables) → Holds mail_schema a.now tables → Holds mail_schema b.now tables
+  mid_holds clean tables h = subst (λ d. Holds mail_schema d tables) (sym (mid_now clean (tables, h))) h
 
   mid_tables : HasCleanDisk c → HasOurTables a.now → HasOurTables b.now
   mid_tables clean h = subst HasOurTables (sym (mid_now clean h)) h

@@ -19,6 +19,9 @@ pub mod ReplyLemmas
 pub mod DecodeLemmas
 pub mod TallyLemmas
 pub mod FolderLemmas
+pub mod FilingLemmas
+pub mod TakingLemmas
+pub mod FirstLemmas
 pub mod NumberLemmas
 pub mod OneLemmas
 pub mod SchemaLemmas

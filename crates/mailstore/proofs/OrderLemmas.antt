@@ -32,7 +32,7 @@ use Rattle.mailstore.specs.Schema.{mail_schema}
 use Rattle.mailstore.specs.Account.{bytes_cmp, Folders, messages_in, filed}
 use Rattle.mailstore.specs.ScriptTable.{script, select_names, script_row, AreApart, script_tree}
 use Rattle.mailstore.specs.MessageTable.{message, Message, message_key, message_row, message_tree, bytes_column}
-use Rattle.mailstore.specs.CopyTable.{copy, select_folder, Copy, copy_row, folders_from, copy_tree, id_column, n_column, message_of}
+use Rattle.mailstore.specs.CopyTable.{copy, select_folder, Copy, copy_row, folders_from, copy_tree, id_column, n_column, message_of, is_in}
 use Rattle.mailstore.specs.Shows.{rows_of}
 use Rattle.mailstore.proofs.TextFacts.{by_one, of_message, select_names_is, select_names_plain, select_folder_is, select_folder_plain, notices_shown, queue_shown, select_notices_is, select_notices_plain, select_queue_is, select_queue_plain}
 use Rattle.mailstore.proofs.AccountLemmas.{pair_is, message_is, bytes_antisymmetric}
@@ -105,9 +105,6 @@ by_number = (over_two copy_tree message_tree of_message (col 2 3 ∷ []) ((col 1
 numbers_rise : (c d : Copy) → c.n < d.n → output_cmp by_number (number_output c) (number_output d) ≡ Less
 unfolding number_output
 numbers_rise c d low = last_key (value_cmp-Int (pos c.n) (pos d.n) ∙ Less-from_lt (pos c.n) (pos d.n) (omega (arith, ints)))
-
-abbrev pub is_in : List ℕ → Copy → Bool
-is_in folder c = is_eq (bytes_cmp c.folder folder)
 
 -- the terms of the copy's table apart from those of both
 turned : (a b p : Bool) → (a && (b && p)) ≡ (p && (a && (b && true)))

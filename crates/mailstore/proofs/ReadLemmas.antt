@@ -16,12 +16,12 @@ use Rattle.mailstore.specs.declared.refusal.Refusal.TheVariants.{NoUser}
 use Rattle.mailstore.specs.Account.{bytes_cmp, Account, Accounts, messages_in}
 use Rattle.mailstore.specs.AccountTable.{shown_account, profile_row, account_tree, counter_cells, Counts, shown_counters}
 use Rattle.mailstore.specs.ScriptTable.{select_names, select_script, script_row, script_tree, text_column, AreNameRows, HasTextRow}
-use Rattle.mailstore.specs.CopyTable.{select_folder, Copy, AreMessageRows}
+use Rattle.mailstore.specs.CopyTable.{select_folder, Copy, is_in, AreMessageRows}
 use Rattle.mailstore.specs.Shows.{rows_of, IsShown, IsShownOrAbsent, ShowsAccounts, Presents}
 use Rattle.mailstore.proofs.AccountLemmas.{pair_is, is_named, bytes_antisymmetric}
 use Rattle.mailstore.proofs.MapLemmas.{first_found}
 use Rattle.mailstore.proofs.QueryLemmas.{script_found}
-use Rattle.mailstore.proofs.OrderLemmas.{of_owner, is_in, folder_found, names_found, messages_are, notices_found, queue_found}
+use Rattle.mailstore.proofs.OrderLemmas.{of_owner, folder_found, names_found, messages_are, notices_found, queue_found}
 use Rattle.mailstore.specs.NoticeTable.{AreNoticeRows, notice_cells, select_notices}
 use Rattle.mailstore.specs.QueueTable.{AreQueueRows, select_queue}
 

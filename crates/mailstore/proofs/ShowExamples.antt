@@ -15,9 +15,9 @@ use Rattle.mailstore.specs.ScriptTable.{script_tree, script_cells}
 use Rattle.mailstore.specs.QueueTable.{queue_row}
 use Rattle.mailstore.specs.NoticeTable.{notice_row}
 use Rattle.sqlite_rules.specs.Lists.{Has}
-use Rattle.mailstore.specs.Changes.{copied}
+use Rattle.mailstore.specs.Changes.{copied, copy_removed, message_removed, mail_taken}
 use Rattle.mailstore.specs.MessageTable.{Message, message_cells, message_row, message_tree}
-use Rattle.mailstore.specs.CopyTable.{copy_tree, n_column, Copy, copy_cells, copy_row, folders_from, message_of, HasFirst, ShowsCopies}
+use Rattle.mailstore.specs.CopyTable.{copy_tree, n_column, Copy, copy_cells, copy_row, folders_from, message_of, HasCopy, AreKept, ShowsCopies, filing_of}
 use Rattle.mailstore.specs.Shows.{IsShown, IsAbsent, ShowsAccounts}
 use Rattle.mailstore.proofs.NumberLemmas.{numbered_none}
 use Rattle.mailstore.proofs.OrderLemmas.{messages_are}
@@ -80,7 +80,7 @@ rows_show_account = record {
     stored = record { rows_are = IsPermutation-refl her_messages; rise = ((omega arith, tt), (tt, tt)); from_one = (omega arith, (omega arith, tt)); below = (omega arith, (omega arith, tt)); counter = omega arith };
     kept = record {
       present = (inl refl, (inl refl, (inr (inl refl), tt)));
-      used = ((first, inl refl, refl, refl), ((third, inr (inr (inl refl)), refl, refl), tt));
+      used = ((first, inl refl, refl), ((third, inr (inr (inl refl)), refl), tt));
       first = (omega arith, (omega arith, (omega arith, tt)));
     };
     shown = refl;
@@ -104,6 +104,26 @@ a_row_a_folder = refl
 -- and one that is filed nowhere has none
 not_kept_unfiled : copied alice (codes "M1") 1 [] (λ tree. []) message_tree ≡ []
 not_kept_unfiled = refl
+
+-- the first message of a folder is taken: of two copies of a message one goes, and its row stays
+row_stays : (own : Tables) → mail_taken alice (codes "lists") (filing_of first ∷ filing_of second ∷ []) own ≡ copy_removed alice (codes "lists") (pos 1) own
+row_stays own = refl
+
+-- with the last copy the message's row goes
+row_goes : (own : Tables) → mail_taken alice (codes "INBOX") (filing_of second ∷ []) own ≡ message_removed alice (pos 1) (copy_removed alice (codes "INBOX") (pos 2) own)
+row_goes own = refl
+
+-- near miss: of two messages in the folder the first goes, and not the later one
+not_the_later : (own : Tables) → mail_taken alice (codes "INBOX") (filing_of first ∷ filing_of second ∷ filing_of third ∷ []) own ≡ copy_removed alice (codes "INBOX") (pos 2) own
+not_the_later own = refl
+
+-- near miss: from a folder that has none nothing goes
+none_to_take : (own : Tables) → mail_taken alice (codes "work") (filing_of first ∷ filing_of second ∷ []) own ≡ own
+none_to_take own = refl
+
+-- a message whose first copy is gone keeps that copy's number
+second_keeps : AreKept (second ∷ []) (message_of first ∷ [])
+second_keeps = record { present = (inl refl, tt); used = ((second, inl refl, refl), tt); first = (omega arith, tt) }
 
 -- near miss: a number that is not below the counter of the row
 not_at_counter : (a : Account) → IsShown alice (her_rows 1 her_messages (copy_row alice first ∷ [])) a → ⊥
@@ -132,7 +152,7 @@ not_without_message a next c = at c.entries c.messages (length_permutation _ _ c
 not_without_copy : (a : Account) (next : ℕ) → ShowsCopies alice [] (message_row alice (message_of first) ∷ []) a.folders next → ⊥
 not_without_copy a next c = at c.entries c.messages (length_permutation _ _ c.numbered.rows_are) (length_permutation _ _ c.stored.rows_are) c.kept.used
   where
-    at : (es : List Copy) (ms : List Message) → 0 ≡ length (map (copy_row alice) es) → 1 ≡ length (map (message_row alice) ms) → AllByRecursion (HasFirst es) ms → ⊥
+    at : (es : List Copy) (ms : List Message) → 0 ≡ length (map (copy_row alice) es) → 1 ≡ length (map (message_row alice) ms) → AllByRecursion (HasCopy es) ms → ⊥
     at es [] none same used = omega (arith, same)
     at [] (m ∷ ms) none same used = used.0.1
     at (e ∷ es) (m ∷ ms) none same used = omega (arith, none)

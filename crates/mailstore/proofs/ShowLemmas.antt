@@ -11,14 +11,14 @@ use Rattle.sqlite_keyed.specs.Lists.{update_where, delete_where}
 use Rattle.sqlrows.specs.Rows.{Tables, has_key}
 use Rattle.sqlrows.proofs.ListLemmas.{owner_key, pair_key, owned_by, owners_apart, pair_apart, filter_pushed, filter_beside, filter_kept, filter_unset}
 use Rattle.mailstore.specs.declared.change.Change.{Change}
-use Rattle.mailstore.specs.declared.change.Change.TheVariants.{AddAccount, SetActive, SetCounters, AddScript, RemoveScript, AddMessage, AddCopy, AddOutgoing, RemoveOutgoing, AddReply, RemoveReply, AddNotice}
+use Rattle.mailstore.specs.declared.change.Change.TheVariants.{AddAccount, SetActive, SetCounters, AddScript, RemoveScript, AddMessage, RemoveMessage, AddCopy, RemoveCopy, AddOutgoing, RemoveOutgoing, AddReply, RemoveReply, AddNotice}
 use Rattle.mailstore.specs.Cells.{or_null, contents}
 use Rattle.mailstore.specs.Changes.{made_one, made, owner_of, AreOf}
 use Rattle.mailstore.specs.Account.{bytes_cmp, Account, Accounts}
 use Rattle.mailstore.specs.AccountTable.{account_cells, with_active, with_counters, account_tree}
 use Rattle.mailstore.specs.ScriptTable.{script_cells, script_tree}
-use Rattle.mailstore.specs.MessageTable.{message_cells, message_tree}
-use Rattle.mailstore.specs.CopyTable.{copy_cells, copy_tree}
+use Rattle.mailstore.specs.MessageTable.{message_cells, message_key, message_tree}
+use Rattle.mailstore.specs.CopyTable.{copy_cells, copy_key, copy_tree}
 use Rattle.mailstore.specs.QueueTable.{queue_cells, queue_key, outgoing_tree}
 use Rattle.mailstore.specs.ReplyTable.{reply_cells, reply_key, reply_tree}
 use Rattle.mailstore.specs.NoticeTable.{notice_row_cells, notice_tree}
@@ -47,7 +47,7 @@ module _ (user : List ℕ) (tables : Tables) (tree : ℕ) where
   own_trees rows own is = λ i t. (filter_tree mine tables tree rows t ∙ ap (λ l. with_tree (rows_of user tables) tree l t) is) i
 
 -- filters change places
-filter_swapped : (p q : Row → Bool) (rows : List Row) → filter p (delete_where q rows) ≡ delete_where q (filter p rows)
+pub filter_swapped : {X : Type 0} (p q : X → Bool) (rows : List X) → filter p (delete_where q rows) ≡ delete_where q (filter p rows)
 filter_swapped p q [] = refl
 filter_swapped p q (r ∷ rows) = go (p r) (q r) refl refl (filter_swapped p q rows)
   where
@@ -84,6 +84,10 @@ others_one (AddScript owner name text) user tables differ = same_trees user tabl
 others_one (RemoveScript owner name) user tables differ =
     same_trees user tables script_tree _ (filter_kept (has_key (owner_key user)) (has_key (pair_key owner.now name.now)) (pair_apart user name.now owner.now differ) (tables script_tree))
 others_one (AddMessage owner id bytes) user tables differ = same_trees user tables message_tree _ (filter_beside (has_key (owner_key user)) (tables message_tree) _ (begins_apart user owner.now differ (drop 1 (message_cells owner.now id bytes.now))))
+others_one (RemoveMessage owner id) user tables differ =
+    same_trees user tables message_tree _ (filter_kept (has_key (owner_key user)) (has_key (message_key owner.now id)) (key_apart user owner.now (Int id ∷ []) differ) (tables message_tree))
+others_one (RemoveCopy owner folder n) user tables differ =
+    same_trees user tables copy_tree _ (filter_kept (has_key (owner_key user)) (has_key (copy_key owner.now folder.now n)) (key_apart user owner.now (Blob folder.now ∷ Int n ∷ []) differ) (tables copy_tree))
 others_one (AddCopy owner folder n id) user tables differ = same_trees user tables copy_tree _ (filter_beside (has_key (owner_key user)) (tables copy_tree) _ (begins_apart user owner.now differ (drop 1 (copy_cells owner.now folder.now n id))))
 others_one (AddOutgoing owner id kind sender target message) user tables differ =
     same_trees user tables outgoing_tree _ (filter_beside (has_key (owner_key user)) (tables outgoing_tree) _ (begins_apart user owner.now differ (drop 1 (queue_cells owner.now id kind sender.now target.now message.now))))
@@ -106,6 +110,10 @@ own_one (SetCounters name copy out notice) tables =
 own_one (AddScript owner name text) tables = own_trees owner.now tables script_tree _ _ (filter_pushed (has_key (owner_key owner.now)) (tables script_tree) _ (owned_by owner.now (drop 1 (script_cells owner.now name.now text.now))))
 own_one (RemoveScript owner name) tables = own_trees owner.now tables script_tree _ _ (filter_swapped (has_key (owner_key owner.now)) (has_key (pair_key owner.now name.now)) (tables script_tree))
 own_one (AddMessage owner id bytes) tables = own_trees owner.now tables message_tree _ _ (filter_pushed (has_key (owner_key owner.now)) (tables message_tree) _ (owned_by owner.now (drop 1 (message_cells owner.now id bytes.now))))
+own_one (RemoveMessage owner id) tables =
+    own_trees owner.now tables message_tree _ _ (filter_swapped (has_key (owner_key owner.now)) (has_key (message_key owner.now id)) (tables message_tree))
+own_one (RemoveCopy owner folder n) tables =
+    own_trees owner.now tables copy_tree _ _ (filter_swapped (has_key (owner_key owner.now)) (has_key (copy_key owner.now folder.now n)) (tables copy_tree))
 own_one (AddCopy owner folder n id) tables = own_trees owner.now tables copy_tree _ _ (filter_pushed (has_key (owner_key owner.now)) (tables copy_tree) _ (owned_by owner.now (drop 1 (copy_cells owner.now folder.now n id))))
 own_one (AddOutgoing owner id kind sender target message) tables =
     own_trees owner.now tables outgoing_tree _ _ (filter_pushed (has_key (owner_key owner.now)) (tables outgoing_tree) _ (owned_by owner.now (drop 1 (queue_cells owner.now id kind sender.now target.now message.now))))
@@ -122,7 +130,9 @@ version_one (SetCounters name copy out notice) tables = refl
 version_one (AddScript owner name text) tables = refl
 version_one (RemoveScript owner name) tables = refl
 version_one (AddMessage owner id bytes) tables = refl
+version_one (RemoveMessage owner id) tables = refl
 version_one (AddCopy owner folder n id) tables = refl
+version_one (RemoveCopy owner folder n) tables = refl
 version_one (AddOutgoing owner id kind sender target message) tables = refl
 version_one (RemoveOutgoing owner id) tables = refl
 version_one (AddReply owner handle sender moment) tables = refl

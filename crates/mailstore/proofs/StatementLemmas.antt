@@ -26,14 +26,14 @@ use Rattle.mailstore.specs.Cells.{or_null, contents}
 use Rattle.mailstore.specs.MetaTable.{meta, insert_version, meta_tree}
 use Rattle.mailstore.specs.AccountTable.{account, insert_account, update_active, update_counters, account_cells, with_active, with_counters, account_tree, next_copy_column, next_notice_column, next_out_column, rounds_column}
 use Rattle.mailstore.specs.ScriptTable.{script, insert_script, delete_script, script_cells, script_tree}
-use Rattle.mailstore.specs.MessageTable.{message, insert_message, message_cells, message_tree}
-use Rattle.mailstore.specs.CopyTable.{copy, insert_copy, copy_cells, copy_tree}
+use Rattle.mailstore.specs.MessageTable.{message, insert_message, delete_message, message_cells, message_key, message_tree}
+use Rattle.mailstore.specs.CopyTable.{copy, insert_copy, delete_copy, copy_cells, copy_key, copy_tree}
 use Rattle.mailstore.specs.declared.queue.Kind.{Kind}
 use Rattle.mailstore.specs.QueueTable.{outgoing, insert_outgoing, delete_outgoing, queue_cells, queue_key, outgoing_tree, kind_number}
 use Rattle.mailstore.specs.ReplyTable.{reply, insert_reply, delete_reply, reply_cells, reply_key, reply_tree}
 use Rattle.mailstore.specs.NoticeTable.{notice, insert_notice, notice_row_cells, notice_tree}
 use Rattle.mailstore.proofs.SchemaFacts.{no_works, message_listed, copy_listed, script_listed, outgoing_listed, reply_listed, notice_listed}
-use Rattle.mailstore.proofs.TextFacts.{by_one, by_two, by_three, six_terms, insert_outgoing_is, insert_outgoing_plain, delete_outgoing_is, delete_outgoing_plain, insert_reply_is, insert_reply_plain, delete_reply_is, delete_reply_plain, insert_notice_is, insert_notice_plain, version_terms, account_terms, active_columns, counter_columns, three_terms, four_terms, insert_version_is, insert_version_plain, insert_account_is, insert_account_plain, update_active_is, update_active_plain, update_counters_is, update_counters_plain, insert_script_is, insert_script_plain, delete_script_is, delete_script_plain, insert_message_is, insert_message_plain, insert_copy_is, insert_copy_plain}
+use Rattle.mailstore.proofs.TextFacts.{by_one, by_two, by_three, six_terms, insert_outgoing_is, insert_outgoing_plain, delete_outgoing_is, delete_outgoing_plain, insert_reply_is, insert_reply_plain, delete_reply_is, delete_reply_plain, insert_notice_is, insert_notice_plain, version_terms, account_terms, active_columns, counter_columns, three_terms, four_terms, insert_version_is, insert_version_plain, insert_account_is, insert_account_plain, update_active_is, update_active_plain, update_counters_is, update_counters_plain, insert_script_is, insert_script_plain, delete_script_is, delete_script_plain, insert_message_is, insert_message_plain, insert_copy_is, insert_copy_plain, delete_message_is, delete_message_plain, delete_copy_is, delete_copy_plain}
 
 -- what a statement that ran, or failed, leaves of the tables and of the last commit
 abbrev pub MakesNow : State → State → Result ℕ Error → (Tables → Tables) → Type 0
@@ -70,6 +70,21 @@ pub reply_agrees : (owner handle sender : List ℕ) (n : ℤ) (cells : Row) → 
     → agree reply_index.order reply_index.columns (Int n ∷ cells) (0 ∷ 1 ∷ 2 ∷ []) (reply_key owner handle sender) ≡ true
 unfolding first_key
 reply_agrees owner handle sender n cells h = h
+
+abbrev pub message_index : Index
+message_index = automatic message 0 (1 ∷ 2 ∷ []) (message_tree + 1)
+
+abbrev pub copy_index : Index
+copy_index = automatic copy 0 (1 ∷ 2 ∷ 3 ∷ []) (copy_tree + 1)
+
+pub message_agrees : (owner : List ℕ) (id : ℤ) (n : ℤ) (cells : Row) → has_key (message_key owner id) cells ≡ true → agree message_index.order message_index.columns (Int n ∷ cells) (0 ∷ 1 ∷ []) (message_key owner id) ≡ true
+unfolding first_key
+message_agrees owner id n cells h = h
+
+pub copy_agrees : (owner folder : List ℕ) (number : ℤ) (n : ℤ) (cells : Row) → has_key (copy_key owner folder number) cells ≡ true
+    → agree copy_index.order copy_index.columns (Int n ∷ cells) (0 ∷ 1 ∷ 2 ∷ []) (copy_key owner folder number) ≡ true
+unfolding first_key
+copy_agrees owner folder number n cells h = h
 
 pub removes_script : (old new : State) (owner name : List ℕ) (r : Result ℕ Error) → ExecutesInside 0 delete_script (pair_key owner name) old new r → MakesNow old new r (removed script_tree (pair_key owner name))
 removes_script old new owner name (Err e) ran = (kept _ _ old new (Err e) ran, tt)
@@ -123,6 +138,34 @@ inserts_copy old new owner folder n id (Ok count) ran = (
         let params = copy_cells owner folder n id in
         let on = on_insert mail_schema insert_copy params old new tables h insert_copy_plain count ran.0 7 copy refl _ insert_copy_is in
         insert_holds mail_schema no_works copy.name copy_tree copy.primary copy.references copy.columns params old new tables h copy_listed 7 four_terms 5 params on.0 refl (rw (cast_int n, cast_int id)) on.1,
+    ran.1,
+  ),
+)
+
+pub removes_message : (old new : State) (owner : List ℕ) (id : ℤ) (r : Result ℕ Error) → ExecutesInside 0 delete_message (message_key owner id) old new r → MakesNow old new r (removed message_tree (message_key owner id))
+removes_message old new owner id (Err e) ran = (kept _ _ old new (Err e) ran, tt)
+removes_message old new owner id (Ok count) ran = (
+  kept _ _ old new (Ok count) ran,
+  (
+    λ tables h.
+        let params = message_key owner id in
+        let on = on_delete mail_schema delete_message params old new tables h delete_message_plain count ran.0 6 message refl _ delete_message_is in
+        delete_holds mail_schema no_works message.name message_tree message.primary message.references message.columns params old new tables h message_listed message_index (inr (inr (inr (inr (inr (inr (inl refl))))))) refl params (0 ∷ 1 ∷ [])
+        (message_agrees owner id) by_two (λ n cells. refl) 6 on.0 on.1,
+    ran.1,
+  ),
+)
+
+pub removes_copy : (old new : State) (owner folder : List ℕ) (n : ℤ) (r : Result ℕ Error) → ExecutesInside 0 delete_copy (copy_key owner folder n) old new r → MakesNow old new r (removed copy_tree (copy_key owner folder n))
+removes_copy old new owner folder n (Err e) ran = (kept _ _ old new (Err e) ran, tt)
+removes_copy old new owner folder n (Ok count) ran = (
+  kept _ _ old new (Ok count) ran,
+  (
+    λ tables h.
+        let params = copy_key owner folder n in
+        let on = on_delete mail_schema delete_copy params old new tables h delete_copy_plain count ran.0 7 copy refl _ delete_copy_is in
+        delete_holds mail_schema no_works copy.name copy_tree copy.primary copy.references copy.columns params old new tables h copy_listed copy_index (inr (inr (inr (inr (inr (inr (inr (inl refl)))))))) refl params (0 ∷ 1 ∷ 2 ∷ [])
+        (copy_agrees owner folder n) by_three (λ n cells. refl) 7 on.0 on.1,
     ran.1,
   ),
 )

@@ -16,8 +16,8 @@ use Rattle.mailstore.specs.Schema.{mail_schema}
 use Rattle.mailstore.specs.MetaTable.{insert_version, select_version, meta_tree}
 use Rattle.mailstore.specs.AccountTable.{insert_account, update_active, update_counters, select_account, select_counters, account_tree}
 use Rattle.mailstore.specs.ScriptTable.{insert_script, delete_script, select_names, select_script, script_tree}
-use Rattle.mailstore.specs.MessageTable.{insert_message, message_tree}
-use Rattle.mailstore.specs.CopyTable.{insert_copy, select_folders, select_folder, copy_tree}
+use Rattle.mailstore.specs.MessageTable.{insert_message, delete_message, select_message, message_tree}
+use Rattle.mailstore.specs.CopyTable.{insert_copy, delete_copy, select_filings, select_folders, select_folder, copy_tree}
 use Rattle.mailstore.specs.QueueTable.{outgoing_tree, select_queue, insert_outgoing, delete_outgoing}
 use Rattle.mailstore.specs.NoticeTable.{notice_tree, select_notices, insert_notice}
 use Rattle.mailstore.specs.ReplyTable.{reply_tree, insert_reply, delete_reply, select_moment, select_replies}
@@ -266,3 +266,38 @@ select_replies_is = refl
 pub select_replies_plain : IsPlain (understood mail_schema select_replies) × (reads_listing mail_schema select_replies ≡ false)
 unfolding understood everything
 select_replies_plain = ((refl, refl), refl)
+
+pub delete_message_is : command_of (understood mail_schema delete_message) ≡ Delete 6 (over message_tree by_two (col 1 0 ∷ []) [])
+unfolding understood everything
+delete_message_is = refl
+
+pub delete_message_plain : IsPlain (understood mail_schema delete_message)
+unfolding understood everything
+delete_message_plain = (refl, refl)
+
+pub delete_copy_is : command_of (understood mail_schema delete_copy) ≡ Delete 7 (over copy_tree by_three (col 1 0 ∷ []) [])
+unfolding understood everything
+delete_copy_is = refl
+
+pub delete_copy_plain : IsPlain (understood mail_schema delete_copy)
+unfolding understood everything
+delete_copy_plain = (refl, refl)
+
+pub select_message_is : command_of (understood mail_schema select_message) ≡ Select (over message_tree by_two (col 1 3 ∷ []) []) (codes "bytes" ∷ [])
+unfolding understood everything
+select_message_is = refl
+
+pub select_message_plain : IsPlain (understood mail_schema select_message) × (reads_listing mail_schema select_message ≡ false)
+unfolding understood everything
+select_message_plain = ((refl, refl), refl)
+
+abbrev pub filings_shown : List Term
+filings_shown = col 1 2 ∷ col 1 3 ∷ col 1 4 ∷ []
+
+pub select_filings_is : command_of (understood mail_schema select_filings) ≡ Select (over copy_tree by_one filings_shown ((col 1 3, ascending Binary) ∷ [])) (codes "folder" ∷ codes "n" ∷ codes "id" ∷ [])
+unfolding understood everything
+select_filings_is = refl
+
+pub select_filings_plain : IsPlain (understood mail_schema select_filings) × (reads_listing mail_schema select_filings ≡ false)
+unfolding understood everything
+select_filings_plain = ((refl, refl), refl)

@@ -1,5 +1,5 @@
 -- What a store keeps of its users, without its tables.
-use Rattle.std.specs.Prelude.{◌++◌, ◌==◌, ℕ, suc, not, List, [], ◌∷◌, fold, filter, Option, Some, None, unwrap_or, option_map, if◌then◌else◌}
+use Rattle.std.specs.Prelude.{◌++◌, ◌==◌, ℕ, suc, not, List, [], ◌∷◌, drop, fold, filter, Option, Some, None, unwrap_or, option_map, if◌then◌else◌}
 use Rattle.std.specs.declared.cmp.Ordering.{Ordering}
 use Rattle.std.specs.FinMap.{FinMap, empty, get, insert, remove}
 use Rattle.std.specs.Ordering.{nat_cmp, on, then_cmp, is_eq}
@@ -124,6 +124,15 @@ queues kind sender target message a = record a { queue = a.queue ++ record { id 
 -- the row with the number leaves the queue; the number is not used again
 abbrev pub takes_out : ℕ → Account → Account
 takes_out id a = record a { queue = filter (λ out. not (out.id == id)) a.queue }
+
+-- these are the folder's messages; a folder without messages doesn't exist
+abbrev pub holding : Folders → List ℕ → List (List ℕ) → Folders
+holding folders name [] = remove folders name
+holding folders name (message ∷ more) = insert folders name (message ∷ more)
+
+-- the first k messages leave the folder, which goes with its last one; their numbers are not used again
+abbrev pub takes_mail : List ℕ → ℕ → Account → Account
+takes_mail folder k a = record a { folders = holding a.folders folder (drop k (messages_in a.folders folder)) }
 
 -- the moment of the last reply to the sender is kept, under the key of its handle
 abbrev pub remembers : List ℕ → List ℕ → ℕ → Account → Account

@@ -1,19 +1,20 @@
 -- What row changes make of the tables.
-use Rattle.std.specs.Prelude.{◌≡◌, ◌+◌, ℕ, suc, ℤ, pos, Option, Some, None, List, [], ◌∷◌, length, fold}
-use Rattle.std.specs.List.{AllByRecursion}
+use Rattle.std.specs.Prelude.{◌≡◌, ◌+◌, ◌==◌, ◌&&◌, ℕ, suc, ℤ, pos, Bool, true, false, not, Option, Some, None, List, [], ◌∷◌, length, fold}
+use Rattle.std.specs.List.{AllByRecursion, find, list_any}
 use Rattle.sqlite_value.specs.declared.value.Value.TheVariants.{Blob}
 use Rattle.sqlite_trees.specs.Tree.{Trees}
 use Rattle.sqlite.specs.Effect.{Database}
 use Rattle.sqlite.specs.State.{State}
 use Rattle.sqlrows.specs.Rows.{Tables, Holds, added, removed, set_in}
 use Rattle.mailstore.specs.declared.change.Change.{Change}
-use Rattle.mailstore.specs.declared.change.Change.TheVariants.{AddAccount, SetActive, SetCounters, AddScript, RemoveScript, AddMessage, AddCopy, AddOutgoing, RemoveOutgoing, AddReply, RemoveReply, AddNotice}
+use Rattle.mailstore.specs.declared.filing.Filing.{Filing}
+use Rattle.mailstore.specs.declared.change.Change.TheVariants.{AddAccount, SetActive, SetCounters, AddScript, RemoveScript, AddMessage, RemoveMessage, AddCopy, RemoveCopy, AddOutgoing, RemoveOutgoing, AddReply, RemoveReply, AddNotice}
 use Rattle.mailstore.specs.Schema.{mail_schema}
 use Rattle.mailstore.specs.Cells.{or_null, contents}
 use Rattle.mailstore.specs.AccountTable.{account_cells, with_active, with_counters, account_tree}
 use Rattle.mailstore.specs.ScriptTable.{script_cells, script_tree}
-use Rattle.mailstore.specs.MessageTable.{message_cells, message_tree}
-use Rattle.mailstore.specs.CopyTable.{copy_cells, copy_tree}
+use Rattle.mailstore.specs.MessageTable.{message_cells, message_key, message_tree}
+use Rattle.mailstore.specs.CopyTable.{copy_cells, copy_key, copy_tree, is_filed}
 use Rattle.mailstore.specs.QueueTable.{queue_cells, queue_key, outgoing_tree}
 use Rattle.mailstore.specs.ReplyTable.{reply_cells, reply_key, reply_tree}
 use Rattle.mailstore.specs.NoticeTable.{notice_row_cells, notice_tree}
@@ -46,8 +47,14 @@ script_removed owner name = removed script_tree (Blob owner ∷ Blob name ∷ []
 abbrev pub message_added : List ℕ → ℤ → List ℕ → Tables → Tables
 message_added owner id bytes = added message_tree (message_cells owner id bytes)
 
+abbrev pub message_removed : List ℕ → ℤ → Tables → Tables
+message_removed owner id = removed message_tree (message_key owner id)
+
 abbrev pub copy_added : List ℕ → List ℕ → ℤ → ℤ → Tables → Tables
 copy_added owner folder n id = added copy_tree (copy_cells owner folder n id)
+
+abbrev pub copy_removed : List ℕ → List ℕ → ℤ → Tables → Tables
+copy_removed owner folder n = removed copy_tree (copy_key owner folder n)
 
 abbrev pub outgoing_added : List ℕ → ℤ → Kind → List ℕ → List ℕ → List ℕ → Tables → Tables
 outgoing_added owner id kind sender target message = added outgoing_tree (queue_cells owner id kind sender target message)
@@ -71,7 +78,9 @@ made_one (SetCounters name copy out notice) = counters_set name.now copy out not
 made_one (AddScript owner name text) = script_added owner.now name.now text.now
 made_one (RemoveScript owner name) = script_removed owner.now name.now
 made_one (AddMessage owner id bytes) = message_added owner.now id bytes.now
+made_one (RemoveMessage owner id) = message_removed owner.now id
 made_one (AddCopy owner folder n id) = copy_added owner.now folder.now n id
+made_one (RemoveCopy owner folder n) = copy_removed owner.now folder.now n
 made_one (AddOutgoing owner id kind sender target message) = outgoing_added owner.now id kind sender.now target.now message.now
 made_one (RemoveOutgoing owner id) = outgoing_removed owner.now id
 made_one (AddReply owner handle sender moment) = reply_added owner.now handle.now sender.now moment
@@ -96,7 +105,9 @@ owner_of (SetCounters name copy out notice) = name.now
 owner_of (AddScript owner name text) = owner.now
 owner_of (RemoveScript owner name) = owner.now
 owner_of (AddMessage owner id bytes) = owner.now
+owner_of (RemoveMessage owner id) = owner.now
 owner_of (AddCopy owner folder n id) = owner.now
+owner_of (RemoveCopy owner folder n) = owner.now
 owner_of (AddOutgoing owner id kind sender target message) = owner.now
 owner_of (RemoveOutgoing owner id) = owner.now
 owner_of (AddReply owner handle sender moment) = owner.now
@@ -182,3 +193,28 @@ delivered user c plan own =
 pub record AreDelivery (user : List ℕ) (c : Counters) (plan : Plan) (changes : List Change) : Type 0 where
   pub owned : AreOf user changes
   pub makes : (own : Tables) → made own changes ≡ delivered user c plan own
+
+-- ---- the first message of a folder leaves it
+
+-- it is another copy of the same message
+abbrev pub is_other_copy : Filing → Filing → Bool
+is_other_copy f g = g.id == f.id && not (g.n == f.n)
+
+-- a message goes with the last of its copies
+abbrev pub message_left : List ℕ → Filing → Bool → Tables → Tables
+message_left user f true own = own
+message_left user f false own = message_removed user (pos f.id) own
+
+-- the copy goes from the folder, and its message where no other copy has it
+abbrev pub copy_taken : List ℕ → List ℕ → List Filing → Option Filing → Tables → Tables
+copy_taken user folder filings None own = own
+copy_taken user folder filings (Some f) own = message_left user f (list_any (is_other_copy f) filings) (copy_removed user folder (pos f.n) own)
+
+-- what the taking of a folder's first message makes of the user's rows, of which these are the copies
+abbrev pub mail_taken : List ℕ → List ℕ → List Filing → Tables → Tables
+mail_taken user folder filings = copy_taken user folder filings (find (is_filed folder) filings)
+
+-- the changes that take the first message out of the folder of a user who has these copies
+pub record AreTaking (user folder : List ℕ) (filings : List Filing) (changes : List Change) : Type 0 where
+  pub owned : AreOf user changes
+  pub makes : (own : Tables) → made own changes ≡ mail_taken user folder filings own

@@ -29,6 +29,12 @@ create_message = codes "CREATE TABLE message (owner BLOB NOT NULL REFERENCES acc
 abbrev pub insert_message : List ℕ
 insert_message = codes "INSERT INTO message (owner, id, bytes) VALUES (?1, ?2, ?3)"
 
+abbrev pub delete_message : List ℕ
+delete_message = codes "DELETE FROM message WHERE owner = ?1 AND id = ?2"
+
+abbrev pub select_message : List ℕ
+select_message = codes "SELECT bytes FROM message WHERE owner = ?1 AND id = ?2"
+
 -- ---- its rows
 
 abbrev pub message_cells : List ℕ → ℤ → List ℕ → Row

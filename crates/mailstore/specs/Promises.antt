@@ -80,6 +80,19 @@ pub record ReadsCounters (user : List ℕ) (old new : State) (result : Result Co
   pub keeps : Keeps old new result
   pub named : IfErr result (λ e. (e ≡ NoUser) ⊎ IsPassing e)
 
+-- a query for one user: this holds of what it finds and of all rows that the user has
+pub record FindsAmong {X E : Type 0} (user : List ℕ) (Part : X → Tables → Type 0) (old new : State) (result : Result X E) : Type 0 where
+  pub found : HasCleanDisk new → (tables : Tables) → Holds mail_schema old.now tables → IfOk result (λ x. Part x (rows_of user tables))
+  pub keeps : Keeps old new result
+
+-- a read of one user's rows: this holds of the answer and of all that the user has, and the user has an account; NoUser is answered only where there is no account
+pub record ReadsOwn {X : Type 0} (user : List ℕ) (Part : X → Tables → Type 0) (old new : State) (result : Result X Refusal) : Type 0 where
+  pub found : HasCleanDisk new → (tables : Tables) → Holds mail_schema old.now tables → IfOk result (λ x. Part x (rows_of user tables))
+  pub there : HasCleanDisk new → (accounts : Accounts) → Presents old.now accounts → OnOk result (HasUser user accounts)
+  pub absent : HasCleanDisk new → (accounts : Accounts) → Presents old.now accounts → IfErr result (λ e. e ≡ NoUser → IsFree user accounts)
+  pub keeps : Keeps old new result
+  pub named : IfErr result (λ e. (e ≡ NoUser) ⊎ IsPassing e)
+
 -- the read of what the store keeps of an account; it answers none without an account
 pub record ReadsProfile (user : List ℕ) (old new : State) (result : Result (Option Profile) Refusal) : Type 0 where
   pub found : HasCleanDisk new → (accounts : Accounts) → Presents old.now accounts → IfOk result (λ profile. profile ≡ option_map profile_of (get accounts user))

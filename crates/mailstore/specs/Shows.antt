@@ -1,5 +1,6 @@
 -- Which accounts the tables show, row by row.
-use Rattle.std.specs.Prelude.{◌≡◌, ℕ, pos, List, [], ◌∷◌, filter, Option, Some, None, Result, OnOk}
+use Rattle.std.specs.Prelude.{◌≡◌, ℕ, ℤ, pos, List, [], ◌∷◌, filter, map, slice_get, Option, Some, None, option_map, Result, OnOk}
+use Rattle.std.specs.List.{find}
 use Rattle.std.specs.FinMap.{get}
 use Rattle.sqlite_value.specs.declared.value.Value.TheVariants.{Int, Blob}
 use Rattle.sqlite_value.specs.Order.{Row, column}
@@ -15,8 +16,10 @@ use Rattle.mailstore.specs.ScriptTable.{script_tree, ShowsScripts}
 use Rattle.mailstore.specs.QueueTable.{outgoing_tree, ShowsQueue}
 use Rattle.mailstore.specs.ReplyTable.{reply_tree, ShowsReplies}
 use Rattle.mailstore.specs.NoticeTable.{notice_tree, ShowsNotices}
-use Rattle.mailstore.specs.MessageTable.{message_tree}
-use Rattle.mailstore.specs.CopyTable.{copy_tree, ShowsCopies}
+use Rattle.mailstore.specs.MessageTable.{message_key, message_tree, bytes_column}
+use Rattle.mailstore.specs.CopyTable.{copy_tree, ShowsCopies, is_in, filing_of, filing_cells, numbered_of}
+use Rattle.mailstore.specs.declared.taking.NumberedMessage.{NumberedMessage}
+use Rattle.mailstore.specs.declared.filing.Filing.{Filing}
 
 -- the rows of one user, in each table that has an owner and in the table of accounts
 abbrev pub rows_of : List ℕ → Tables → Tables
@@ -82,3 +85,25 @@ Creates old new result = HasCleanDisk new → old.now.schema ≡ no_schema → O
 -- what a crash may leave while the tables are made in an empty database
 abbrev pub MayCreate : State → Trees → Type 0
 MayCreate s trees = s.now.schema ≡ no_schema → ShowsIn trees no_accounts
+
+-- ---- what is read of the copies
+
+-- the rows are the copies that the user's rows show, in the order of their numbers
+abbrev pub AreFilingRows : List ℕ → List Row → Tables → Type 0
+AreFilingRows user rows own = (a : Account) (s : IsShown user own a) → rows ≡ map filing_cells (map filing_of s.copies.entries)
+
+-- these are the copies that the user's rows show, in the order of their numbers
+abbrev pub AreFilings : List ℕ → List Filing → Tables → Type 0
+AreFilings user filings own = (a : Account) (s : IsShown user own a) → filings ≡ map filing_of s.copies.entries
+
+-- the rows are the octets of the user's message with the number, where it has a row
+abbrev pub AreOctetRows : List ℕ → ℤ → List Row → Tables → Type 0
+AreOctetRows user id rows own = rows ≡ map (λ r. column r bytes_column ∷ []) (filter (has_key (message_key user id)) (own message_tree))
+
+-- the octets are those of the user's message with the number
+abbrev pub HasOctets : List ℕ → ℕ → List ℕ → Tables → Type 0
+HasOctets user id octets own = slice_get (map (λ r. column r bytes_column) (filter (has_key (message_key user (pos id))) (own message_tree))) 0 ≡ Some (Blob octets)
+
+-- it is the first message of the folder, with the number of its copy, that the user's rows show, or none where they show none
+abbrev pub IsFirstOf : List ℕ → List ℕ → Option NumberedMessage → Tables → Type 0
+IsFirstOf user folder first own = (a : Account) (s : IsShown user own a) → first ≡ option_map numbered_of (find (is_in folder) s.copies.entries)

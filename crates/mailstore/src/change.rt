@@ -8,8 +8,8 @@ ghost use Rattle.mailstore.specs.Changes.{MayHave, made_one};
 ghost use Rattle.mailstore.specs.Refusals.{IsPassing};
 
 use crate::account::{add_account, set_active, set_counters};
-use crate::folder::add_copy;
-use crate::message::add_message;
+use crate::folder::{add_copy, remove_copy};
+use crate::message::{add_message, remove_message};
 use crate::notice::add_notice;
 use crate::queue::{Kind, add_outgoing, remove_outgoing};
 use crate::refusal::Refusal;
@@ -52,11 +52,20 @@ pub enum Change<'a> {
         id: i64,
         bytes: &'a [u8],
     },
+    RemoveMessage {
+        owner: &'a [u8],
+        id: i64,
+    },
     AddCopy {
         owner: &'a [u8],
         folder: &'a [u8],
         n: i64,
         id: i64,
+    },
+    RemoveCopy {
+        owner: &'a [u8],
+        folder: &'a [u8],
+        n: i64,
     },
     AddOutgoing {
         owner: &'a [u8],
@@ -113,12 +122,14 @@ fn make<S: Alter>(tx: &mut Transaction<'_, S>, change: &Change<'_>) -> Result<()
         Change::AddScript { owner, name, text } => add_script(tx, owner, name, text),
         Change::RemoveScript { owner, name } => remove_script(tx, owner, name),
         Change::AddMessage { owner, id, bytes } => add_message(tx, owner, id, bytes),
+        Change::RemoveMessage { owner, id } => remove_message(tx, owner, id),
         Change::AddCopy {
             owner,
             folder,
             n,
             id,
         } => add_copy(tx, owner, folder, n, id),
+        Change::RemoveCopy { owner, folder, n } => remove_copy(tx, owner, folder, n),
         Change::AddOutgoing {
             owner,
             id,

@@ -6,7 +6,7 @@ ghost use Rattle.mailstore.specs.Promises.{Finds, Reads, ReadsRows};
 ghost use Rattle.mailstore.specs.Tally.{AreFolderRows, tallied, AreFolders, counted};
 ghost use Rattle.sqlite.specs.State.{Survives};
 ghost use Rattle.mailstore.specs.Connection.{Makes, MakesTable};
-ghost use Rattle.mailstore.specs.Changes.{copy_added};
+ghost use Rattle.mailstore.specs.Changes.{copy_added, copy_removed};
 ghost use Rattle.mailstore.specs.Schema.{mail_schema, schema_7};
 ghost use Rattle.mailstore.specs.Account.{messages_in};
 ghost use Rattle.mailstore.specs.Refusals.{IsPassing};
@@ -55,6 +55,24 @@ pub fn add_copy<S: Alter>(
     tx.execute(
         "INSERT INTO copy (owner, folder, n, id) VALUES (?1, ?2, ?3, ?4)",
         params![owner, folder, n, id],
+    )?;
+    Ok(())
+}
+
+/// The copy with the number goes from the folder, if there is one. Inside a transaction.
+pub fn remove_copy<S: Alter>(
+    tx: &mut Transaction<'_, S>,
+    owner: &[u8],
+    folder: &[u8],
+    n: &i64,
+) -> Result<(), Error>
+    ensures same_reference { tx.new.conn.ghost_name ≡ tx.old.conn.ghost_name }
+    ensures made { Makes S.Store tx.old.conn.now tx.new.conn.now result (copy_removed owner.now folder.now n.now) }
+    ensures survives { Survives (state S.Store tx.old.conn.now) (state S.Store tx.new.conn.now) (λ _. ⊥) }
+{
+    tx.execute(
+        "DELETE FROM copy WHERE owner = ?1 AND folder = ?2 AND n = ?3",
+        params![owner, folder, n],
     )?;
     Ok(())
 }

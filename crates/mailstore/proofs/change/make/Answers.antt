@@ -21,6 +21,12 @@ returns-in-AddMessage-clause-made g c = rw c.in-AddMessage.is c.add_message.ensu
 pub returns-in-AddCopy-clause-made : goal.returns-in-AddCopy-clause-made
 returns-in-AddCopy-clause-made g c = rw c.in-AddCopy.is c.add_copy.ensures.made
 
+pub returns-in-RemoveMessage-clause-made : goal.returns-in-RemoveMessage-clause-made
+returns-in-RemoveMessage-clause-made g c = rw c.in-RemoveMessage.is c.remove_message.ensures.made
+
+pub returns-in-RemoveCopy-clause-made : goal.returns-in-RemoveCopy-clause-made
+returns-in-RemoveCopy-clause-made g c = rw c.in-RemoveCopy.is c.remove_copy.ensures.made
+
 pub returns-in-AddOutgoing-clause-made : goal.returns-in-AddOutgoing-clause-made
 returns-in-AddOutgoing-clause-made g c = rw c.in-AddOutgoing.is c.add_outgoing.ensures.made
 

@@ -1,0 +1,101 @@
+-- The first message of a folder, read by its number.
+use Rattle.std.proofs.Common.{◌≡◌, ◌==◌, ℕ, ℤ, pos, List, [], ◌∷◌, map, filter, find, slice_get, Option, Some, None, option_map, Ok, Result, OnOk, IfOk, refl, sym, ap, ◌∙◌, subst, inl, inr, IsPermutation}
+use Rattle.sqlite_value.specs.declared.value.Value.TheVariants.{Int, Blob}
+use Rattle.sqlite_value.specs.Order.{Row, column}
+use Rattle.sqlite_sql.specs.Term.{col}
+use Rattle.sqlite_rules.specs.Lists.{Has}
+use Rattle.sqlite_rules.proofs.ListLemmas.{all_has, has_found}
+use Rattle.sqlite_keyed.proofs.ListLemmas.{filter-map, filter_same, filter-filter, IsPermutation-filter}
+use Rattle.sqlite.specs.State.{State, Shown}
+use Rattle.sqlite.proofs.Callers.{one_permutation}
+use Rattle.sqlrows.specs.Rows.{Tables, Holds, has_key}
+use Rattle.sqlrows.proofs.AnswerLemmas.{cells_by_key, first_shown}
+use Rattle.sqlrows.proofs.ReadLemmas.{answered}
+use Rattle.sqlrows.proofs.ListLemmas.{owner_key}
+use Rattle.mailstore.specs.declared.filing.Filing.{Filing}
+use Rattle.mailstore.specs.declared.taking.NumberedMessage.{NumberedMessage}
+use Rattle.mailstore.specs.Schema.{mail_schema}
+use Rattle.mailstore.specs.Account.{Account, messages_in}
+use Rattle.mailstore.specs.MessageTable.{message, message_key, message_row, message_tree, bytes_column, select_message}
+use Rattle.mailstore.specs.CopyTable.{Copy, message_of, is_in, is_filed, filing_of, numbered_of, HasFirst}
+use Rattle.mailstore.specs.Shows.{rows_of, IsShown, AreFilings, AreOctetRows, HasOctets, IsFirstOf}
+use Rattle.mailstore.specs.Promises.{FindsAmong}
+use Rattle.mailstore.proofs.SchemaFacts.{message_listed}
+use Rattle.mailstore.proofs.TextFacts.{by_two, select_message_is, select_message_plain}
+use Rattle.mailstore.proofs.StatementLemmas.{message_index, message_agrees}
+use Rattle.mailstore.proofs.AccountLemmas.{message_is}
+use Rattle.mailstore.proofs.KeyLemmas.{key_owned}
+use Rattle.mailstore.proofs.KeepLemmas.{keeps_ok, keeps_failed, none_if}
+use Rattle.mailstore.proofs.NumberLemmas.{alone_at}
+use Rattle.mailstore.proofs.OrderLemmas.{messages_are}
+use Rattle.mailstore.proofs.TakingLemmas.{find_filed}
+
+-- ---- the octets of one message
+
+module _ (old new : State) (rows : List Row) (tables : Tables) (h : Holds mail_schema old.now tables) (owner : List ℕ) (id : ℤ) where
+  pub octets_read : Shown select_message (message_key owner id) old new rows → AreOctetRows owner id rows (rows_of owner tables)
+  octets_read shown =
+      let key = message_key owner id in
+      cells_by_key mail_schema message message_listed message_index (inr (inr (inr (inr (inr (inr (inl refl))))))) refl key (0 ∷ 1 ∷ []) (message_agrees owner id) old.now.trees h.fits (tables message_tree) (h.each message message_listed) by_two key (λ n cells. refl)
+      (col 1 3 ∷ []) (λ c. column c bytes_column ∷ []) (λ n cells. refl) [] rows (answered mail_schema select_message key old new h.is select_message_plain.0 message_tree by_two (col 1 3 ∷ []) [] _ select_message_is select_message_plain.1 rows shown)
+      ∙ ap (map (λ c. column c bytes_column ∷ [])) (sym (filter-filter (has_key key) (has_key (owner_key owner)) (key_owned owner (Int id ∷ [])) (tables message_tree)))
+
+-- the text of the first row
+pub octets_first : (octets : List ℕ) (rows all : List Row) → rows ≡ map (λ r. column r bytes_column ∷ []) all → Some (Blob octets) ≡ option_map (λ r. column r 0) (slice_get rows 0)
+    → slice_get (map (λ r. column r bytes_column) all) 0 ≡ Some (Blob octets)
+octets_first octets rows [] are told = absurd (let no = told ∙ ap (λ l. option_map (λ (r : Row). column r 0) (slice_get l 0)) are in cc)
+octets_first octets rows (r ∷ all) are told = sym (told ∙ ap (λ l. option_map (λ (r : Row). column r 0) (slice_get l 0)) are)
+
+-- an answer that is made of what was found, and a refusal
+module _ {X Y E F : Type 0} (user : List ℕ) (P : X → Tables → Type 0) (Q : Y → Tables → Type 0) (a b : State) (r : Result X E) (h : FindsAmong user P a b r) where
+  pub among_answer : (x : X) → r ≡ Ok x → (y : Y) → ((own : Tables) → P x own → Q y own) → FindsAmong {E = F} user Q a b (Ok y)
+  among_answer x was y made = record { found = λ clean tables held. made (rows_of user tables) (subst (λ o. IfOk o (λ z. P z (rows_of user tables))) was (h.found clean tables held)); keeps = keeps_ok a b r x (Ok y) was h.keeps }
+
+  pub among_failed : (q : Result Y F) → OnOk q ⊥ → FindsAmong user Q a b q
+  among_failed q none = record { found = λ clean tables held. none_if q (λ y. Q y (rows_of user tables)) none; keeps = keeps_failed a b r q none h.keeps }
+
+-- ---- the first of a folder
+
+-- a copy's message is the one row with its number
+own_message : (user : List ℕ) (own : Tables) (a : Account) (s : IsShown user own a) (c : Copy) → Has s.copies.entries c → filter (has_key (message_key user (pos c.id))) (own message_tree) ≡ message_row user (message_of c) ∷ []
+own_message user own a s c here =
+    let key = has_key (message_key user (pos c.id)) in
+    let messages = s.copies.messages in
+    let there = all_has (λ x. Has messages (message_of x)) s.copies.entries c s.copies.kept.present here in
+    let one : filter key (map (message_row user) messages) ≡ message_row user (message_of c) ∷ [] =
+    filter-map key (message_row user) messages ∙ ap (map (message_row user)) (filter_same _ (λ m. m.id == c.id) (λ m. message_is user c.id m) messages ∙ alone_at (λ m. m.id) (message_row user) messages s.copies.stored.rise (message_of c) there) in
+    one_permutation (message_row user (message_of c)) _ (subst (λ l. IsPermutation l (filter key (own message_tree))) one (IsPermutation-filter key _ _ s.copies.stored.rows_are))
+
+module _ (user folder : List ℕ) (filings : List Filing) (own : Tables) (are : AreFilings user filings own) where
+  found_as : (a : Account) (s : IsShown user own a) → find (is_filed folder) filings ≡ option_map filing_of (find (is_in folder) s.copies.entries)
+  found_as a s = ap (find (is_filed folder)) (are a s) ∙ find_filed folder s.copies.entries
+
+  pub first_none : None ≡ find (is_filed folder) filings → IsFirstOf user folder None own
+  first_none none a s = go (find (is_in folder) s.copies.entries) (none ∙ found_as a s)
+    where
+      go : (o : Option Copy) → None ≡ option_map filing_of o → None ≡ option_map numbered_of o
+      go None e = refl
+      go (Some c) e = absurd (let no = e in cc)
+
+  pub first_some : (first : Filing) (octets : List ℕ) → Some first ≡ find (is_filed folder) filings → HasOctets user first.id octets own → IsFirstOf user folder (Some (record { number = first.n; message = octets })) own
+  first_some first octets some has a s = go (find (is_in folder) s.copies.entries) refl (some ∙ found_as a s)
+    where
+      go : (o : Option Copy) → find (is_in folder) s.copies.entries ≡ o → Some first ≡ option_map filing_of o → Some (record { number = first.n; message = octets }) ≡ option_map numbered_of o
+      go None is e = absurd (let no = e in cc)
+      go (Some c) is e =
+          let same : first ≡ filing_of c = cc in
+          let told = ap (λ (f : Filing). slice_get (map (λ r. column r bytes_column) (filter (has_key (message_key user (pos f.id))) (own message_tree))) 0) (sym same) ∙ has in
+          let row = ap (λ l. slice_get (map (λ (r : Row). column r bytes_column) l) 0) (own_message user own a s c (has_found (is_in folder) s.copies.entries c is).0) in
+          let both : Some (Blob c.message) ≡ Some (Blob octets) = sym row ∙ told in
+          let text : octets ≡ c.message = cc in
+          λ i. Some (record { number = (same i).n; message = text i })
+
+mapped_twice : (o : Option Copy) → option_map (λ m. m.message) (option_map numbered_of o) ≡ option_map (λ c. c.message) o
+mapped_twice None = refl
+mapped_twice (Some c) = refl
+
+-- and it is the first of the account's messages there
+pub first_shows : (user folder : List ℕ) (first : Option NumberedMessage) (own : Tables) (a : Account) → IsShown user own a → IsFirstOf user folder first own → HasFirst first (messages_in a.folders folder)
+first_shows user folder first own a s is =
+    ap (option_map (λ m. m.message)) (is a s) ∙ mapped_twice (find (is_in folder) s.copies.entries) ∙ sym (first_shown (λ c. c.message) (is_in folder) s.copies.entries)
+    ∙ sym (ap (λ l. slice_get l 0) (ap (λ m. messages_in m folder) s.copies.shown ∙ messages_are s.copies.entries folder))

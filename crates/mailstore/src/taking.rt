@@ -1,0 +1,115 @@
+//! The first message of a folder: what it is, and how it leaves.
+ghost use Rattle.std.specs.Prelude.{◌≡◌, IfOk, IfErr, option_copied};
+ghost use Rattle.std.specs.List.{find, list_any};
+ghost use Rattle.sqlite.specs.Held.{state};
+ghost use Rattle.mailstore.specs.Account.{messages_in, takes_mail};
+ghost use Rattle.mailstore.specs.Changes.{AreTaking, is_other_copy};
+ghost use Rattle.mailstore.specs.CopyTable.{is_filed, HasFirst};
+ghost use Rattle.mailstore.specs.Promises.{Reads, ReadsOwn, WritesAccount};
+ghost use Rattle.mailstore.specs.Refusals.{IsPassing};
+ghost use Rattle.mailstore.specs.Shows.{IsFirstOf};
+
+use crate::cell::number;
+use crate::change::Change;
+use crate::filing::Filing;
+use crate::refusal::Refusal;
+use crate::store::Store;
+use octets::Octets;
+use sqlite::Alter;
+use std::alloc::Global;
+
+/// A message of a folder, with the number of its copy.
+#[derive(Debug, Drop)]
+pub struct NumberedMessage {
+    /// The number, from 1 on; the account never uses it again.
+    pub number: u64,
+    /// The octets that were received.
+    pub message: Octets,
+}
+
+/// The first copy in the folder, if there is one.
+fn first_in<'a>(filings: &'a [Filing], folder: &[u8]) -> Option<&'a Filing>
+    ensures { option_copied result ≡ find (is_filed folder.now) filings.now }
+{
+    filings.iter().find(|f| f.folder.as_slice() == folder)
+}
+
+/// Whether another copy of the same message is there.
+fn has_other_copy(filings: &[Filing], first: &Filing) -> bool
+    ensures { result ≡ list_any (is_other_copy first.now) filings.now }
+{
+    filings.iter().any(|f| f.id == first.id && f.n != first.n)
+}
+
+/// The changes that take the first message out of the folder of a user who has these copies; none where it has none.
+fn taking_changes<'a>(
+    alloc: Global,
+    user: &'a [u8],
+    folder: &'a [u8],
+    filings: &[Filing],
+) -> Result<Vec<Change<'a>>, Refusal>
+    ensures taking { IfOk result (λ changes. AreTaking user.now folder.now filings.now changes.items) }
+    ensures named { IfErr result IsPassing }
+{
+    let mut changes = Vec::new(alloc);
+    let Some(first) = first_in(filings, folder) else {
+        return Ok(changes);
+    };
+    let n = number(first.n)?;
+    changes.push(Change::RemoveCopy {
+        owner: user,
+        folder,
+        n,
+    })?;
+    if has_other_copy(filings, first) {
+        return Ok(changes);
+    }
+    let id = number(first.id)?;
+    changes.push(Change::RemoveMessage { owner: user, id })?;
+    Ok(changes)
+}
+
+impl<S: Alter> Store<S> {
+    /// The first message of the folder with its number, as the user's rows have them; none where the folder is absent.
+    fn first_numbered(
+        &mut self,
+        user: &[u8],
+        folder: &[u8],
+    ) -> Result<Option<NumberedMessage>, Refusal>
+        ensures { ReadsOwn user.now (IsFirstOf user.now folder.now) (state S.Store self.old) (state S.Store self.new) result }
+    {
+        let filings = self.filings(user)?;
+        let Some(first) = first_in(filings.as_slice(), folder) else {
+            return Ok(None);
+        };
+        let message = self.message(user, first.id)?;
+        Ok(Some(NumberedMessage {
+            number: first.n,
+            message,
+        }))
+    }
+
+    /// The first message of the folder, which came before the others, with the number of its copy; none where the folder is
+    /// absent. No other message is read; memory is in proportion to it and to the user's copies.
+    pub fn first_message(
+        &mut self,
+        user: &[u8],
+        folder: &[u8],
+    ) -> Result<Option<NumberedMessage>, Refusal>
+        ensures first { Reads user.now (λ first a. HasFirst first (messages_in a.folders folder.now)) (state S.Store self.old) (state S.Store self.new) result }
+        ensures numbered { ReadsOwn user.now (IsFirstOf user.now folder.now) (state S.Store self.old) (state S.Store self.new) result }
+    {
+        self.first_numbered(user, folder)
+    }
+
+    /// Takes the first message out of the folder, in one transaction: its copy goes, its row with the last copy of it, and
+    /// the folder with its last message. The numbers are not used again. That the folder has a message is for the caller to
+    /// see: without one nothing changes.
+    pub fn take_mail(&mut self, user: &[u8], folder: &[u8]) -> Result<(), Refusal>
+        ensures { WritesAccount user.now (takes_mail folder.now 1) (state S.Store self.old) (state S.Store self.new) result }
+    {
+        let filings = self.filings(user)?;
+        let changes = taking_changes(self.alloc, user, folder, filings.as_slice())?;
+        self.apply(&changes)
+    }
+}
