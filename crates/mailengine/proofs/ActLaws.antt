@@ -9,7 +9,7 @@ use Rattle.msproto.specs.declared.commands.Command.{Command}
 use Rattle.msproto.specs.declared.commands.Command.TheVariants.{Capability, Noop, Logout, Authenticate, Unauthenticate, HaveSpace, PutScript, CheckScript, ListScripts, SetActive, GetScript, DeleteScript, RenameScript}
 use Rattle.msproto.specs.declared.commands.Command.TheVariants as verb
 use Rattle.msproto.specs.declared.replies.Reply.{Reply}
-use Rattle.mailstore.specs.Account.{Account}
+use Rattle.mailstore.specs.Account.{Account, messages_in}
 use Rattle.mailstore.specs.declared.queue.Outgoing.{Outgoing}
 use Rattle.mailstore.specs.declared.report.Report.{Report}
 use Rattle.mailstore.specs.declared.refusal.Refusal.{Refusal}
@@ -21,7 +21,7 @@ use Rattle.mailengine.specs.declared.answer.Answer.{Answer}
 use Rattle.mailengine.specs.Limits.{limit_refusal}
 use Rattle.mailengine.specs.AccountEvents.{row_with, DeliversTo, active_text}
 use Rattle.mailengine.specs.OwnActs as own
-use Rattle.mailengine.specs.OwnActs.{Act, ActsAlone, Alone, CommandsAlone, RepliesAlone, ReceivesIn, JoinsIn, TakesRowAlone, TakesAloneIn}
+use Rattle.mailengine.specs.OwnActs.{Act, ActsAlone, Alone, CommandsAlone, RepliesAlone, ReceivesIn, JoinsIn, TakesRowAlone, TakesAloneIn, TakesFirstAlone, TakesMailAloneIn}
 
 -- any two replies that a row allows agree in whether the word is OK
 AreAlike : (Reply → Type 0) → Type 0
@@ -151,6 +151,15 @@ act_one user account (own.TakesOut id answer) one two is was = go account is was
     go : (o : Option Account) → TakesAloneIn o id answer one → TakesAloneIn o id answer two → one ≡ two
     go None is was = is.stays ∙ sym was.stays
     go (Some a) is was = row a (row_with id a.queue) is was
+act_one trees user account (own.TakesMail folder answer) one two is was = go account is was
+  where
+    row : (a : Account) (messages : List (List ℕ)) → TakesFirstAlone a folder messages answer one → TakesFirstAlone a folder messages answer two → one ≡ two
+    row a [] is was = is.stays ∙ sym was.stays
+    row a (message ∷ more) is was = is.changed ∙ sym was.changed
+
+    go : (o : Option Account) → TakesMailAloneIn o folder answer one → TakesMailAloneIn o folder answer two → one ≡ two
+    go None is was = is.stays ∙ sym was.stays
+    go (Some a) is was = row a (messages_in a.folders folder) is was
 
 pub alone_ends : (user : List ℕ) (acts : List Act) (account one two : Option Account) → Alone user account acts one → Alone user account acts two → one ≡ two
 alone_ends user [] account one two is was = is ∙ sym was

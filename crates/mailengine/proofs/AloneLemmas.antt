@@ -12,7 +12,7 @@ use Rattle.msproto.specs.declared.replies.Status.{Status}
 use Rattle.msproto.specs.Replies.{spelled}
 use Rattle.saslplain.specs.Parts.{login_of}
 use Rattle.sieveexec.specs.declared.envelope.Envelope.{Envelope}
-use Rattle.mailstore.specs.Account.{Account, Accounts, in_place, with_user, takes_out}
+use Rattle.mailstore.specs.Account.{Account, Accounts, in_place, with_user, messages_in, takes_out, takes_mail}
 use Rattle.sqlite_typed.proofs.TestLemmas.{bytes_eq_refl, same_bytes}
 use Rattle.mailstore.specs.declared.queue.Outgoing.{Outgoing}
 use Rattle.mailstore.specs.declared.refusal.Refusal.{Refusal}
@@ -27,12 +27,12 @@ use Rattle.sessions.specs.Turns.{login_text}
 use Rattle.sessions.specs.declared.progress.Progress.{Progress}
 use Rattle.sessions.specs.declared.progress.Progress.TheVariants as p
 use Rattle.mailengine.specs.declared.event.Event.{Event}
-use Rattle.mailengine.specs.declared.event.Event.TheVariants.{Open, Give, Step, GiveUp, Close, Deliver, AddUser, TakeOut}
+use Rattle.mailengine.specs.declared.event.Event.TheVariants.{Open, Give, Step, GiveUp, Close, Deliver, AddUser, TakeOut, TakeMail}
 use Rattle.mailengine.specs.declared.answer.Answer.{Answer}
-use Rattle.mailengine.specs.declared.answer.Answer.TheVariants.{Out, Delivered, Added, Taken, Ignored, Refused}
+use Rattle.mailengine.specs.declared.answer.Answer.TheVariants.{Out, Delivered, Added, Taken, Ignored, Refused, MailTaken}
 use Rattle.mailengine.specs.Limits.{limit_refusal, IsNewUser}
-use Rattle.mailengine.specs.AccountEvents.{row_with, Refuses, DeliversIn, DeliversUnder, Delivery, AddsUnder, Addition, TakesRow, TakesIn, Taking}
-use Rattle.mailengine.specs.OwnActs.{Act, Commands, LogsIn, Receives, Joins, TakesOut, RepliesAlone, CommandsAlone, admits, ReceivesIn, JoinsIn, TakesRowAlone, TakesAloneIn, ActsAlone, Alone, is_user, when_of, is_welcome, login_acts, text_acts, command_acts, item_acts, step_acts, is_lost, event_acts, acts_in, acts, IsAlone}
+use Rattle.mailengine.specs.AccountEvents.{row_with, Refuses, DeliversIn, DeliversUnder, Delivery, AddsUnder, Addition, TakesRow, TakesIn, Taking, TakesFirst, TakesMailIn, MailTaking}
+use Rattle.mailengine.specs.OwnActs.{Act, Commands, LogsIn, Receives, Joins, TakesOut, TakesMail, TakesFirstAlone, TakesMailAloneIn, RepliesAlone, CommandsAlone, admits, ReceivesIn, JoinsIn, TakesRowAlone, TakesAloneIn, ActsAlone, Alone, is_user, when_of, is_welcome, login_acts, text_acts, command_acts, item_acts, step_acts, is_lost, event_acts, acts_in, acts, IsAlone}
 use Rattle.mailengine.specs.World.{World, Clients, Ignores, InSession, Opens, Steps, Happens, MayRefuse, IsRefused, Next, Runs}
 
 -- ---- accounts by name
@@ -152,6 +152,21 @@ module _ (user name : List ℕ) (accounts later : Accounts) (answer : Answer) wh
       go None is = refused_stays NoUser is
       go (Some a) is = row (row_with id a.queue) is
 
+  pub mail_taking_other : (folder : List ℕ) → MailTaking accounts name folder answer later → (is_user user name ≡ false) ⊎ (is_lost answer ≡ true) → get later user ≡ get accounts user
+  mail_taking_other folder made why = go (get accounts name) made
+    where
+      row : (messages : List (List ℕ)) → TakesFirst accounts name folder messages answer later → get later user ≡ get accounts user
+      row [] is = refused_stays NoRow is
+      row (message ∷ more) is = by why
+        where
+          by : (is_user user name ≡ false) ⊎ (is_lost answer ≡ true) → get later user ≡ get accounts user
+          by (inl other) = ap (λ all. get all user) is.changed ∙ changed_other accounts user name (takes_mail folder 1) other
+          by (inr lost) = absurd (not_lost answer MailTaken is.taken refl lost)
+
+      go : (o : Option Account) → TakesMailIn accounts name folder o answer later → get later user ≡ get accounts user
+      go None is = refused_stays NoUser is
+      go (Some a) is = row (messages_in a.folders folder) is
+
 module _ (user : List ℕ) (accounts later : Accounts) (answer : Answer) (itself : is_user user user ≡ true) where
   -- what the machine refuses changes nothing of the account
   refused_alone : (refusal : Refusal) (account : Option Account) → get accounts user ≡ account → Refuses refusal accounts answer later → Refuses refusal account answer (get later user)
@@ -188,6 +203,18 @@ module _ (user : List ℕ) (accounts later : Accounts) (answer : Answer) (itself
       go : (o : Option Account) → get accounts user ≡ o → TakesIn accounts user id o answer later → TakesAloneIn o id answer (get later user)
       go None has is = refused_alone NoUser None has is
       go (Some a) has is = row a (row_with id a.queue) has is
+
+  pub mail_taking_own : (folder : List ℕ) → MailTaking accounts user folder answer later → ActsAlone user (get accounts user) (TakesMail folder answer) (get later user)
+  mail_taking_own folder made = go (get accounts user) refl made
+    where
+      row : (a : Account) (messages : List (List ℕ)) → get accounts user ≡ Some a → TakesFirst accounts user folder messages answer later → TakesFirstAlone a folder messages answer (get later user)
+      row a [] has is = refused_alone NoRow (Some a) has is
+      row a (message ∷ more) has is =
+          record { says = is.taken; changed = ap (λ all. get all user) is.changed ∙ (changed_own accounts user (takes_mail folder 1) itself ∙ ap (λ o. option_map (takes_mail folder 1) o) has) }
+
+      go : (o : Option Account) → get accounts user ≡ o → TakesMailIn accounts user folder o answer later → TakesMailAloneIn o folder answer (get later user)
+      go None has is = refused_alone NoUser None has is
+      go (Some a) has is = row a (messages_in a.folders folder) has is
 
 -- ---- commands
 
@@ -413,6 +440,9 @@ happens_alone user w next (AddUser name address salt password) answer made =
 happens_alone user w next (TakeOut name id) answer made =
     account_alone user name w next answer (TakesOut id answer) made.0 made.2 (taking_other user name w.accounts made.0 answer id made.1)
     (λ is. taking_own user w.accounts made.0 answer (bytes_eq_refl user) id (subst (λ n. Taking w.accounts n id answer made.0) (sym (same_name user name is)) made.1))
+happens_alone user w next (TakeMail name folder) answer made =
+    account_alone user name w next answer (TakesMail folder answer) made.0 made.2 (mail_taking_other user name w.accounts made.0 answer folder made.1)
+    (λ is. mail_taking_own user w.accounts made.0 answer (bytes_eq_refl user) folder (subst (λ n. MailTaking w.accounts n folder answer made.0) (sym (same_name user name is)) made.1))
 
 -- a refusal for memory or by the store is no act
 refused_alone_of : (user : List ℕ) (w next : World) (event : Event) (answer : Answer) → IsRefused w event answer next → Alone user (get w.accounts user) (acts_in user w event answer) (get next.accounts user)

@@ -18,7 +18,7 @@ use Rattle.mailstore.specs.declared.refusal.Refusal.TheVariants.{Memory, Store, 
 use Rattle.sqlite.specs.State.{State, HasCleanDisk, Survives}
 use Rattle.sqlite.proofs.StateLemmas.{survives_weaker}
 use Rattle.sessions.specs.Acts.{Acts, CrashLeaves, HasAccounts}
-use Rattle.sessions.specs.Orders.{StepsTo, MayStep}
+use Rattle.sessions.specs.Orders.{StepsTo, MayStep, MayRefuse as MayRefuseStep}
 use Rattle.sessions.specs.Orders.{MayRefuse as MayRefuseStep}
 use Rattle.sessions.specs.Clients.{Client, new_client, client_given}
 use Rattle.sessions.specs.Counts.{SessionView, new_session}
@@ -28,7 +28,7 @@ use Rattle.sessions.specs.Steps.{IsStep, progress_of, may_lack, may_fail}
 use Rattle.sessions.specs.declared.progress.Progress.{Progress}
 use Rattle.sessions.specs.declared.progress.Progress.TheVariants as p
 use Rattle.mailengine.specs.declared.event.Event.{Event}
-use Rattle.mailengine.specs.declared.event.Event.TheVariants.{Open, Give, Step, GiveUp, Close, Deliver, AddUser, TakeOut}
+use Rattle.mailengine.specs.declared.event.Event.TheVariants.{Open, Give, Step, GiveUp, Close, Deliver, AddUser, TakeOut, TakeMail}
 use Rattle.mailengine.specs.declared.answer.Answer.{Answer}
 use Rattle.mailengine.specs.declared.answer.Answer.TheVariants.{Out, Ignored, Refused}
 use Rattle.mailengine.specs.World.{World, Clients, with_accounts, Ignores, Becomes, InSession, Opens, Steps, Happens, MayRefuse, with_session, without_session, MayLack, MayFail, if_open, is_closed, Next}
@@ -303,6 +303,10 @@ addition_may name address salt password w refusal (inr (is, new)) = failing_may 
 pub taking_may : (user : List ℕ) (id : ℕ) (w : World) (refusal : Refusal) → IsPassing refusal → MayRefuse w (TakeOut user id) refusal
 taking_may user id w refusal (inl is) = lacking_may w (TakeOut user id) refusal is tt
 taking_may user id w refusal (inr is) = failing_may w (TakeOut user id) refusal is tt
+
+pub mail_taking_may : (user folder : List ℕ) (w : World) (refusal : Refusal) → IsPassing refusal → MayRefuse w (TakeMail user folder) refusal
+mail_taking_may user folder w refusal (inl is) = lacking_may w (TakeMail user folder) refusal is tt
+mail_taking_may user folder w refusal (inr is) = failing_may w (TakeMail user folder) refusal is tt
 
 -- the same event with the same answer
 pub event_is : (event told_of : Event) (answer told : Answer) (old new : State) (kept behind : Kept) → event ≡ told_of → answer ≡ told → IsEvent told_of told old kept new behind → IsEvent event answer old kept new behind

@@ -11,5 +11,7 @@ pub mod RunLemmas
 pub mod SoundLemmas
 pub mod SpacingLemmas
 pub mod TakingLemmas
+mod MailTakingExamples
+pub mod MailTakingLemmas
 pub mod UserLemmas
 mod WorldExamples

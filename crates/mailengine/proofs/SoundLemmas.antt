@@ -1,5 +1,5 @@
 -- Sound accounts stay sound, whatever happens to them.
-use Rattle.std.proofs.Common.{◌≡◌, ◌≢◌, ◌⊎◌, ℕ, ◌+◌, ◌-◌, ◌<◌, ◌≤◌, Bool, true, false, cond, List, [], ◌∷◌, ◌++◌, Option, Some, None, IsSome, IfSome, option_map, refl, sym, ◌∙◌, ap, subst, inl, inr, arith, true≢false}
+use Rattle.std.proofs.Common.{◌≡◌, ◌≢◌, ◌⊎◌, ℕ, ◌+◌, ◌-◌, ◌<◌, ◌≤◌, Bool, true, false, cond, List, [], ◌∷◌, ◌++◌, drop, Option, Some, None, IsSome, IfSome, option_map, refl, sym, ◌∙◌, ap, subst, inl, inr, arith, true≢false}
 use Rattle.std.specs.declared.cmp.Ordering.{Ordering}
 use Rattle.std.specs.declared.cmp.Ordering.TheVariants.{Less, Equal, Greater}
 use Rattle.std.specs.Ordering.{is_eq}
@@ -14,7 +14,7 @@ use Rattle.msproto.specs.declared.commands.Command.{Command}
 use Rattle.msproto.specs.declared.commands.Command.TheVariants.{Capability, Noop, Logout, Authenticate, Unauthenticate, HaveSpace, PutScript, CheckScript, ListScripts, SetActive, GetScript, DeleteScript, RenameScript}
 use Rattle.msproto.specs.declared.commands.Command.TheVariants as verb
 use Rattle.msproto.specs.declared.replies.Reply.{Reply}
-use Rattle.mailstore.specs.Account.{bytes_cmp, Account, Accounts, Folders, keeps_script, activates, deletes_script, renames_script, moved, other_name, messages_in, filed, filed_in, files_copies, queues}
+use Rattle.mailstore.specs.Account.{bytes_cmp, Account, Accounts, Folders, keeps_script, activates, deletes_script, renames_script, moved, other_name, messages_in, holding, filed, filed_in, files_copies, queues}
 use Rattle.mailstore.specs.declared.queue.Kind.TheVariants as kind
 use Rattle.mailstore.specs.declared.queue.Outgoing.{Outgoing}
 use Rattle.mailstore.specs.declared.report.Report.{Report}
@@ -29,10 +29,11 @@ use Rattle.mailengine.specs.declared.answer.Answer.{Answer}
 use Rattle.mailengine.specs.Limits.{limit_refusal, IsNewUser}
 use Rattle.mailengine.specs.AccountEvents.{row_with}
 use Rattle.mailengine.specs.OwnActs as own
-use Rattle.mailengine.specs.OwnActs.{Act, ActsAlone, Alone, CommandsAlone, RepliesAlone, ReceivesIn, JoinsIn, TakesRowAlone, TakesAloneIn, fresh}
+use Rattle.mailengine.specs.OwnActs.{Act, ActsAlone, Alone, CommandsAlone, RepliesAlone, ReceivesIn, JoinsIn, TakesRowAlone, TakesAloneIn, TakesFirstAlone, TakesMailAloneIn, fresh}
 use Rattle.mailengine.specs.Sound.{IsSoundScript, IsSound, AreSound}
 use Rattle.mailengine.specs.World.{World, Next, Runs}
 use Rattle.mailengine.proofs.AloneLemmas.{next_alone, projection}
+use Rattle.mailstore.proofs.TakingLemmas.{held_get, unless_none}
 
 -- ---- maps
 
@@ -301,6 +302,18 @@ commands_sound account later command octets own is = subst (λ o. IfSome o IsSou
     go (Some a) (DeleteScript name) sound told = sound_obeyed a sound (DeleteScript name) is.reply told
     go (Some a) (RenameScript old new) sound told = sound_obeyed a sound (RenameScript old new) is.reply told
 
+-- a folder that keeps no message goes
+filled_left : (folder : List ℕ) (left : List (List ℕ)) (folders : Folders) → ((f : List ℕ) → get folders f ≢ Some []) → (f : List ℕ) → get (holding folders folder left) f ≢ Some []
+filled_left folder left folders full f is = go (is_eq (bytes_cmp f folder)) (sym (held_get folders folder left f) ∙ is)
+  where
+    some : (xs : List (List ℕ)) → unless_none xs ≡ Some [] → ⊥
+    some [] e = let no = e in cc
+    some (x ∷ xs) e = let no : x ∷ xs ≡ [] = cc in let never = no in cc
+
+    go : (b : Bool) → cond b (unless_none left) (get folders f) ≡ Some [] → ⊥
+    go true e = some left e
+    go false e = full f e
+
 act_sound : (user : List ℕ) (account later : Option Account) (act : Act) → IfSome account IsSound → ActsAlone user account act later → IfSome later IsSound
 act_sound user account later (own.Commands command octets) sound is = commands_sound account later command octets sound is
 act_sound user account later (own.LogsIn password succeeds) sound is = subst (λ o. IfSome o IsSound) (sym is.stays) sound
@@ -325,6 +338,17 @@ act_sound user account later (own.TakesOut id answer) sound is = go account soun
     go : (account : Option Account) → IfSome account IsSound → TakesAloneIn account id answer later → IfSome later IsSound
     go None sound is = subst (λ o. IfSome o IsSound) (sym is.stays) tt
     go (Some a) sound is = row a (row_with id a.queue) sound is
+act_sound user account later (own.TakesMail folder answer) sound is = go account sound is
+  where
+    row : (a : Account) (messages : List (List ℕ)) → IsSound a → TakesFirstAlone a folder messages answer later → IfSome later IsSound
+    row a [] sound is = subst (λ o. IfSome o IsSound) (sym is.stays) sound
+    row a (message ∷ more) sound is =
+        subst (λ o. IfSome o IsSound) (sym is.changed)
+        (record { address = sound.address; scripts = sound.scripts; few = sound.few; active = sound.active; filled = filled_left folder (drop 1 (messages_in a.folders folder)) a.folders sound.filled })
+
+    go : (account : Option Account) → IfSome account IsSound → TakesMailAloneIn account folder answer later → IfSome later IsSound
+    go None sound is = subst (λ o. IfSome o IsSound) (sym is.stays) tt
+    go (Some a) sound is = row a (messages_in a.folders folder) sound is
 
 alone_sound : (user : List ℕ) (acts : List Act) (account end : Option Account) → IfSome account IsSound → Alone user account acts end → IfSome end IsSound
 alone_sound user [] account end sound is = subst (λ o. IfSome o IsSound) (sym is) sound

@@ -28,7 +28,7 @@ use Rattle.vacreply.specs.declared.reason.Reason.{Reason}
 use Rattle.vacreply.specs.declared.reason.Reason.TheVariants as R
 use Rattle.vacreply.specs.declared.reason.Decision.{Decision}
 use Rattle.vacreply.specs.declared.reason.Decision.TheVariants as D
-use Rattle.mailstore.specs.Account.{bytes_cmp, reply_cmp, Account, Accounts, files_copies, notes, remembers, queues, takes_out}
+use Rattle.mailstore.specs.Account.{bytes_cmp, reply_cmp, Account, Accounts, files_copies, notes, remembers, queues, takes_out, messages_in}
 use Rattle.mailstore.specs.declared.queue.Kind.TheVariants as kind
 use Rattle.mailstore.specs.declared.report.Report.{Report}
 use Rattle.mailstore.specs.declared.report.VacationReport.{VacationReport}
@@ -38,12 +38,12 @@ use Rattle.sessions.specs.Scripts.{carried_out, obeyed}
 use Rattle.deliverplan.specs.Views.{last_reply}
 use Rattle.deliverplan.specs.Delivered.{Disposition, Acts, Tells, Response, Silent, Quiet, Sent, Follows, Responds, acts, redirects, responds, vacation_report, report_of, CarriesOut, LeavesNotice, DeliversAs}
 use Rattle.mailengine.specs.declared.event.Event.{Event}
-use Rattle.mailengine.specs.declared.event.Event.TheVariants.{Open, Give, Step, GiveUp, Close, Deliver, AddUser, TakeOut}
+use Rattle.mailengine.specs.declared.event.Event.TheVariants.{Open, Give, Step, GiveUp, Close, Deliver, AddUser, TakeOut, TakeMail}
 use Rattle.mailengine.specs.declared.answer.Answer.{Answer}
 use Rattle.mailengine.specs.Limits.{limit_refusal}
 use Rattle.mailengine.specs.AccountEvents.{row_with, DeliversTo, DeliversIn, DeliversUnder}
 use Rattle.mailengine.specs.OwnActs as own
-use Rattle.mailengine.specs.OwnActs.{Act, ActsAlone, Alone, ReceivesIn, JoinsIn, TakesRowAlone, TakesAloneIn}
+use Rattle.mailengine.specs.OwnActs.{Act, ActsAlone, Alone, ReceivesIn, JoinsIn, TakesRowAlone, TakesAloneIn, TakesFirstAlone, TakesMailAloneIn}
 use Rattle.mailengine.specs.World.{World, Happens, IsRefused, Next, Runs}
 use Rattle.mailengine.specs.Spacing.{Thread, Entry, entry_of, entries_if, vacation_in, sent_to, sent_in, sent_under, sent_by, sent_at, sent, kept_in, kept, IsPast, ComeAfter, Follow, AreSpaced, IsAtLeast, AreKept, IsSpacing}
 use Rattle.mailengine.proofs.AloneLemmas.{put_own, next_alone, projection}
@@ -241,6 +241,15 @@ act_keeps user account later (own.TakesOut id answer) thread is = go account is
     go : (account : Option Account) → TakesAloneIn account id answer later → IsNoSooner (kept_in account thread) (kept_in later thread)
     go None is = tt
     go (Some a) is = row a (row_with id a.queue) is
+act_keeps user account later (own.TakesMail folder answer) thread is = go account is
+  where
+    row : (a : Account) (messages : List (List ℕ)) → TakesFirstAlone a folder messages answer later → IsNoSooner (kept_in (Some a) thread) (kept_in later thread)
+    row a [] is = no_sooner_is (kept_in (Some a) thread) (kept_in later thread) (ap (λ o. kept_in o thread) is.stays)
+    row a (message ∷ more) is = no_sooner_is (kept_in (Some a) thread) (kept_in later thread) (ap (λ o. kept_in o thread) is.changed)
+
+    go : (account : Option Account) → TakesMailAloneIn account folder answer later → IsNoSooner (kept_in account thread) (kept_in later thread)
+    go None is = no_sooner_is (kept_in None thread) (kept_in later thread) (ap (λ o. kept_in o thread) is.stays)
+    go (Some a) is = row a (messages_in a.folders folder) is
 
 alone_keeps : (user : List ℕ) (acts : List Act) (account end : Option Account) (thread : Thread) → Alone user account acts end → IsNoSooner (kept_in account thread) (kept_in end thread)
 alone_keeps user [] account end thread is = no_sooner_is (kept_in account thread) (kept_in end thread) (ap (λ o. kept_in o thread) is)
@@ -313,6 +322,7 @@ sent_one w next (GiveUp s) answer (inl made) = tt
 sent_one w next (Close s) answer (inl made) = tt
 sent_one w next (AddUser name address salt password) answer (inl made) = tt
 sent_one w next (TakeOut name id) answer (inl made) = tt
+sent_one w next (TakeMail name folder) answer (inl made) = tt
 sent_one w next (Deliver user envelope message moment) answer (inl made) = subst (λ v. IsOneAnswer w.accounts v.accounts (sent_by w (Deliver user envelope message moment) answer next made)) (sym made.2) (go (limit_refusal envelope message moment) made.1)
   where
     later : Accounts

@@ -1,11 +1,11 @@
--- Events of the accounts alone: a delivery, a new user, a row taken out of the queue (RFC 5228, 2.10).
-use Rattle.std.specs.Prelude.{◌≡◌, ℕ, ◌==◌, List, Option, Some, None}
+-- Events of the accounts alone: a delivery, a new user, a row taken out of the queue, a message taken out of a folder (RFC 5228, 2.10).
+use Rattle.std.specs.Prelude.{◌≡◌, ℕ, ◌==◌, List, [], ◌∷◌, Option, Some, None}
 use Rattle.std.specs.FinMap.{get, insert}
 use Rattle.std.specs.List.{find}
 use Rattle.addrparts.specs.declared.address.Addr.{Addr}
 use Rattle.addrparts.specs.Outbound.{IsBareAddress}
 use Rattle.saslplain.specs.Password.{digest_of}
-use Rattle.mailstore.specs.Account.{Account, Accounts, Scripts, new_user, with_user, takes_out}
+use Rattle.mailstore.specs.Account.{Account, Accounts, Scripts, new_user, with_user, messages_in, takes_out, takes_mail}
 use Rattle.mailstore.specs.declared.queue.Outgoing.{Outgoing}
 use Rattle.mailstore.specs.declared.report.Report.{Report}
 use Rattle.mailstore.specs.declared.refusal.Refusal.{Refusal}
@@ -15,7 +15,7 @@ use Rattle.sieveexec.specs.Mails.{mail_of}
 use Rattle.deliverplan.specs.Delivered.{Delivers}
 use Rattle.sessions.specs.Scripts.{Where}
 use Rattle.mailengine.specs.declared.answer.Answer.{Answer}
-use Rattle.mailengine.specs.declared.answer.Answer.TheVariants.{Delivered, Added, Taken, Refused}
+use Rattle.mailengine.specs.declared.answer.Answer.TheVariants.{Delivered, Added, Taken, MailTaken, Refused}
 use Rattle.mailengine.specs.Limits.{limit_refusal, IsNewUser}
 
 -- the event is refused by the machine itself, and nothing changes
@@ -102,3 +102,22 @@ TakesIn accounts user id (Some a) answer later = TakesRow accounts user (row_wit
 
 abbrev pub Taking : Accounts → List ℕ → ℕ → Answer → Accounts → Type 0
 Taking accounts user id answer later = TakesIn accounts user id (get accounts user) answer later
+
+-- ---- a message taken out of a folder
+
+-- the first message leaves the folder, which goes with its last one
+pub record LosesMail (accounts : Accounts) (user folder : List ℕ) (answer : Answer) (later : Accounts) : Type 0 where
+  pub taken : answer ≡ MailTaken
+  pub changed : later ≡ with_user accounts user (takes_mail folder 1)
+
+-- by the messages that the folder has
+abbrev pub TakesFirst : Accounts → List ℕ → List ℕ → List (List ℕ) → Answer → Accounts → Type 0
+TakesFirst accounts user folder [] answer later = Refuses NoRow accounts answer later
+TakesFirst accounts user folder (message ∷ more) answer later = LosesMail accounts user folder answer later
+
+abbrev pub TakesMailIn : Accounts → List ℕ → List ℕ → Option Account → Answer → Accounts → Type 0
+TakesMailIn accounts user folder None answer later = Refuses NoUser accounts answer later
+TakesMailIn accounts user folder (Some a) answer later = TakesFirst accounts user folder (messages_in a.folders folder) answer later
+
+abbrev pub MailTaking : Accounts → List ℕ → List ℕ → Answer → Accounts → Type 0
+MailTaking accounts user folder answer later = TakesMailIn accounts user folder (get accounts user) answer later

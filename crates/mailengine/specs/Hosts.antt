@@ -23,8 +23,8 @@ use Rattle.mailengine.specs.OwnActs.{IsAlone}
 use Rattle.mailengine.specs.Spacing.{IsSpacing, sent}
 use Rattle.mailengine.specs.declared.event.Event.{Event}
 use Rattle.mailengine.specs.declared.answer.Answer.{Answer}
-use Rattle.mailengine.specs.declared.answer.Answer.TheVariants.{Delivered, Added, Taken, Refused}
-use Rattle.mailengine.specs.AccountEvents.{Delivery, Addition, Taking}
+use Rattle.mailengine.specs.declared.answer.Answer.TheVariants.{Delivered, Added, Taken, MailTaken, Refused}
+use Rattle.mailengine.specs.AccountEvents.{Delivery, Addition, Taking, MailTaking}
 use Rattle.mailengine.specs.Limits.{limit_refusal, IsNewUser}
 use Rattle.mailengine.specs.World.{World, Clients, Next, Runs}
 
@@ -104,6 +104,11 @@ abbrev pub answer_of_taking : Result Outgoing Refusal → Answer
 answer_of_taking (Ok row) = Taken row
 answer_of_taking (Err refusal) = Refused refusal
 
+-- the answer to who takes a message out of a folder
+abbrev pub answer_of_mail_taking : Result (Unit {0}) Refusal → Answer
+answer_of_mail_taking (Ok done) = MailTaken
+answer_of_mail_taking (Err refusal) = Refused refusal
+
 -- the accounts turn by the event's row with this answer, or the event is refused without visible cause, where it may be, and they stay
 abbrev pub TurnsBy : (Accounts → Answer → Accounts → Type 0) → (Refusal → Type 0) → Answer → Accounts → Accounts → Type 0
 TurnsBy Row May answer accounts later = Row accounts answer later ⊎ ((refusal : Refusal) × May refusal × (answer ≡ Refused refusal) × (later ≡ accounts))
@@ -141,6 +146,11 @@ ActsAddition name address salt password old new result =
 abbrev pub ActsTaking : List ℕ → ℕ → State → State → Result Outgoing Refusal → Type 0
 ActsTaking user id old new result = Acts (TurnsBy (λ accounts. Taking accounts user id) IsPassing (answer_of_taking result)) (MayTurnBy (λ accounts. Taking accounts user id)) old new result
 
+-- what a message that is taken out of a folder makes of it
+abbrev pub ActsMailTaking : List ℕ → List ℕ → State → State → Result (Unit {0}) Refusal → Type 0
+ActsMailTaking user folder old new result =
+    Acts (TurnsBy (λ accounts. MailTaking accounts user folder) IsPassing (answer_of_mail_taking result)) (MayTurnBy (λ accounts. MailTaking accounts user folder)) old new result
+
 -- ---- refusals, by name
 
 -- a delivery is refused by the limit that stands against it; where none does, for want of an account, or without visible cause
@@ -153,6 +163,6 @@ abbrev pub RefusesAddition : List ℕ → List ℕ → List ℕ → Refusal → 
 RefusesAddition name address password refusal =
     ((refusal ≡ BadUser) × (IsNewUser name address password → ⊥)) ⊎ ((refusal ≡ UserExists) × IsNewUser name address password) ⊎ MayRefuseAddition name address password refusal
 
--- a row is refused where the user has no account, where no row has the number, or without visible cause
+-- a row is refused where the user has no account, where no row has the number, or without visible cause; a message so where the folder has none
 abbrev pub RefusesTaking : Refusal → Type 0
 RefusesTaking refusal = (refusal ≡ NoUser) ⊎ (refusal ≡ NoRow) ⊎ IsPassing refusal

@@ -12,7 +12,7 @@ use Rattle.msproto.specs.Replies.{spelled}
 use Rattle.saslplain.specs.Parts.{login_of}
 use Rattle.saslplain.specs.Password.{digest_of}
 use Rattle.sieveexec.specs.declared.envelope.Envelope.{Envelope}
-use Rattle.mailstore.specs.Account.{bytes_cmp, Account, new_account, takes_out}
+use Rattle.mailstore.specs.Account.{bytes_cmp, Account, messages_in, new_account, takes_out, takes_mail}
 use Rattle.mailstore.specs.declared.queue.Outgoing.{Outgoing}
 use Rattle.mailstore.specs.declared.report.Report.{Report}
 use Rattle.mailstore.specs.declared.refusal.Refusal.{Refusal}
@@ -24,9 +24,9 @@ use Rattle.sessions.specs.Scripts.{Where, RepliesToCheck, obeyed}
 use Rattle.sessions.specs.Table.{needs_login, RepliesOf}
 use Rattle.sessions.specs.Turns.{login_text}
 use Rattle.mailengine.specs.declared.event.Event.{Event}
-use Rattle.mailengine.specs.declared.event.Event.TheVariants.{Step, Deliver, AddUser, TakeOut}
+use Rattle.mailengine.specs.declared.event.Event.TheVariants.{Step, Deliver, AddUser, TakeOut, TakeMail}
 use Rattle.mailengine.specs.declared.answer.Answer.{Answer}
-use Rattle.mailengine.specs.declared.answer.Answer.TheVariants.{Out, Delivered, Added, Taken, Refused}
+use Rattle.mailengine.specs.declared.answer.Answer.TheVariants.{Out, Delivered, Added, Taken, MailTaken, Refused}
 use Rattle.mailengine.specs.Limits.{limit_refusal, IsNewUser}
 use Rattle.mailengine.specs.AccountEvents.{row_with, Refuses, DeliversTo, rounds}
 use Rattle.mailengine.specs.World.{World, Runs}
@@ -45,6 +45,8 @@ pub data Act : Type 0 where
   Joins : List ℕ → List ℕ → List ℕ → Answer → Act
   -- a row of the queue is to be taken out
   TakesOut : ℕ → Answer → Act
+  -- the first message of a folder is to be taken out
+  TakesMail : List ℕ → Answer → Act
 
 -- ---- the machine of one account: there is one, or there is none
 
@@ -107,6 +109,18 @@ abbrev pub TakesAloneIn : Option Account → ℕ → Answer → Option Account �
 TakesAloneIn None id answer later = Refuses NoUser None answer later
 TakesAloneIn (Some a) id answer later = TakesRowAlone a (row_with id a.queue) answer later
 
+pub record TakesMailAlone (a : Account) (folder : List ℕ) (answer : Answer) (later : Option Account) : Type 0 where
+  pub says : answer ≡ MailTaken
+  pub changed : later ≡ Some (takes_mail folder 1 a)
+
+abbrev pub TakesFirstAlone : Account → List ℕ → List (List ℕ) → Answer → Option Account → Type 0
+TakesFirstAlone a folder [] answer later = Refuses NoRow (Some a) answer later
+TakesFirstAlone a folder (message ∷ more) answer later = TakesMailAlone a folder answer later
+
+abbrev pub TakesMailAloneIn : Option Account → List ℕ → Answer → Option Account → Type 0
+TakesMailAloneIn None folder answer later = Refuses NoUser None answer later
+TakesMailAloneIn (Some a) folder answer later = TakesFirstAlone a folder (messages_in a.folders folder) answer later
+
 -- an act of the user with this name turns the account into that
 abbrev pub ActsAlone : List ℕ → Option Account → Act → Option Account → Type 0
 ActsAlone user account (Commands command octets) later = CommandsAlone account command octets later
@@ -114,6 +128,7 @@ ActsAlone user account (LogsIn password succeeds) later = LogsInAlone account pa
 ActsAlone user account (Receives envelope message moment answer) later = ReceivesIn (limit_refusal envelope message moment) account envelope message moment answer later
 ActsAlone user account (Joins address salt password answer) later = Where (IsNewUser user address password) (JoinsIn account address salt password answer later) (Refuses BadUser account answer later)
 ActsAlone user account (TakesOut id answer) later = TakesAloneIn account id answer later
+ActsAlone user account (TakesMail folder answer) later = TakesMailAloneIn account folder answer later
 
 -- acts in turn, from one account or none
 abbrev pub Alone : List ℕ → Option Account → List Act → Option Account → Type 0
@@ -170,6 +185,7 @@ event_acts user w (Step s) answer = step_acts user (get w.sessions s) answer
 event_acts user w (Deliver name envelope message moment) answer = when_of user (Some name) (Receives envelope message moment answer)
 event_acts user w (AddUser name address salt password) answer = when_of user (Some name) (Joins address salt password answer)
 event_acts user w (TakeOut name id) answer = when_of user (Some name) (TakesOut id answer)
+event_acts user w (TakeMail name folder) answer = when_of user (Some name) (TakesMail folder answer)
 event_acts user w event answer = []
 
 abbrev pub acts_in : List ℕ → World → Event → Answer → List Act

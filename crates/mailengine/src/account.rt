@@ -2,9 +2,11 @@
 ghost use Rattle.std.specs.Prelude.{◌≡◌};
 ghost use Rattle.sqlite.specs.Held.{state};
 ghost use Rattle.mailstore.specs.AccountTable.{profile_of};
+ghost use Rattle.mailstore.specs.CopyTable.{HasFirst};
+ghost use Rattle.mailstore.specs.Account.{messages_in};
 ghost use Rattle.mailengine.specs.Lookups.{LooksUp, IsActiveScript};
 
-use mailstore::{Outgoing, Profile, Refusal, Store};
+use mailstore::{NumberedMessage, Outgoing, Profile, Refusal, Store};
 use octets::{ListOf, Octets};
 use sqlite::Alter;
 
@@ -53,4 +55,16 @@ pub(crate) fn queue<S: Alter>(
 {
     let _ = profile(store, user)?;
     store.queue(user)
+}
+
+/// The first message of the user's folder, with its number; none where the folder is absent.
+pub(crate) fn first_message<S: Alter>(
+    store: &mut Store<S>,
+    user: &[u8],
+    folder: &[u8],
+) -> Result<Option<NumberedMessage>, Refusal>
+    ensures { LooksUp user.now (λ first a. HasFirst first (messages_in a.folders folder.now)) (state S.Store store.old) (state S.Store store.new) result }
+{
+    let _ = profile(store, user)?;
+    store.first_message(user, folder)
 }

@@ -14,6 +14,8 @@ pub enum Answer {
     Added,
     /// A row was taken out of the queue.
     Taken(Outgoing),
+    /// The first message of a folder was taken out.
+    MailTaken,
     /// The event isn't one for the session's number.
     Ignored,
     /// The event was refused, and changed nothing.

@@ -43,4 +43,11 @@ pub enum Event {
         /// The row's number.
         id: u64,
     },
+    /// The first message of a user's folder is taken out.
+    TakeMail {
+        /// The user's name.
+        user: Octets,
+        /// The folder's name.
+        folder: Octets,
+    },
 }

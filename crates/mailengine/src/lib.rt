@@ -23,5 +23,5 @@ pub use mailstore::{Kind, Outgoing, Refusal, Report};
 pub use replay::{Ran, run};
 pub use sessions::Progress;
 pub use sieveexec::{Envelope, Failure, Outcome};
-pub use taking::take_out;
+pub use taking::{take_mail, take_out};
 pub use user::add_user;

@@ -11,7 +11,7 @@ use crate::clients::{close, give, give_up, open, step, text_given_up};
 use crate::delivery::deliver;
 use crate::event::Event;
 use crate::limits::limit_refusal;
-use crate::taking::take_out;
+use crate::taking::{take_mail, take_out};
 use crate::user::add_user;
 use mailstore::{Outgoing, Refusal, Report, Store};
 use octets::Octets;
@@ -130,6 +130,9 @@ pub(crate) fn happen<S: Alter>(
         Event::TakeOut { user, id } => {
             answer_of_taking(take_out(alloc, store, user.as_slice(), *id))
         }
+        Event::TakeMail { user, folder } => {
+            answer_of_mail_taking(take_mail(store, user.as_slice(), folder.as_slice()))
+        }
     }
 }
 
@@ -194,6 +197,15 @@ fn answer_of_taking(done: Result<Outgoing, Refusal>) -> Answer
 {
     match done {
         Ok(row) => Answer::Taken(row),
+        Err(refusal) => Answer::Refused(refusal),
+    }
+}
+
+fn answer_of_mail_taking(done: Result<(), Refusal>) -> Answer
+    ensures { result ≡ hosts.answer_of_mail_taking done }
+{
+    match done {
+        Ok(()) => Answer::MailTaken,
         Err(refusal) => Answer::Refused(refusal),
     }
 }

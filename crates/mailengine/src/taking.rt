@@ -1,10 +1,13 @@
-//! Rows taken out of the queue.
+//! Rows taken out of the queue, and messages out of folders.
 ghost use Rattle.std.specs.Prelude.{◌≡◌, IfOk, IfErr, option_copied};
 ghost use Rattle.sqlite.specs.Held.{state};
 ghost use Rattle.mailengine.specs.AccountEvents as events;
-ghost use Rattle.mailengine.specs.Hosts.{ActsTaking, RefusesTaking};
+ghost use Rattle.mailengine.specs.Hosts.{ActsTaking, ActsMailTaking, RefusesTaking};
+ghost use Rattle.mailstore.specs.Account.{takes_mail};
+ghost use Rattle.mailstore.specs.Promises.{WritesAccount};
+ghost use Rattle.mailstore.specs.Refusals.{IsPassing};
 
-use crate::account::queue;
+use crate::account::{first_message, queue};
 use mailstore::{Outgoing, Refusal, Store};
 use sqlite::Alter;
 use std::alloc::{AllocError, Global};
@@ -54,4 +57,35 @@ fn copied(alloc: Global, row: &Outgoing) -> Result<Outgoing, AllocError>
         target: row.target.copied(alloc)?,
         message: row.message.copied(alloc)?,
     })
+}
+
+/// Takes the first message out of the user's folder, in one transaction, which is its last act. The folder goes with its last
+/// message. The message's number isn't used again.
+///
+/// Where the user's copies are is read, and the message: memory is in proportion to both.
+///
+/// # Errors
+///
+/// In this order: [`Refusal::NoUser`], and [`Refusal::NoRow`] where the folder has no message. [`Refusal::Memory`] and
+/// [`Refusal::Store`] may come at any place. The store then stays as it was.
+pub fn take_mail<S: Alter>(store: &mut Store<S>, user: &[u8], folder: &[u8]) -> Result<(), Refusal>
+    ensures acts { ActsMailTaking user.now folder.now (state S.Store store.old) (state S.Store store.new) result }
+    ensures named { IfErr result RefusesTaking }
+{
+    let first = first_message(store, user, folder)?;
+    let Some(_message) = first else {
+        return Err(Refusal::NoRow);
+    };
+    remove_first(store, user, folder)
+}
+
+/// Removes the first message. An account that was read a moment ago is there: a store that finds none is refused as `Store`.
+fn remove_first<S: Alter>(store: &mut Store<S>, user: &[u8], folder: &[u8]) -> Result<(), Refusal>
+    ensures writes { WritesAccount user.now (takes_mail folder.now 1) (state S.Store store.old) (state S.Store store.new) result }
+    ensures named { IfErr result IsPassing }
+{
+    match store.take_mail(user, folder) {
+        Err(Refusal::NoUser) => Err(Refusal::Store),
+        done => done,
+    }
 }

@@ -1,11 +1,11 @@
 use Rattle.std.proofs.Common.{◌≡◌, refl}
 use Rattle.sqlite.specs.Held.{state}
 use Rattle.mailengine.specs.declared.event.Event.{Event}
-use Rattle.mailengine.specs.declared.event.Event.TheVariants.{Open, Give, Step, GiveUp, Close, Deliver, AddUser, TakeOut}
-use Rattle.mailengine.specs.AccountEvents.{Delivery, Addition, Taking}
-use Rattle.mailengine.specs.Hosts.{answer_of, answer_of_delivery, answer_of_addition, answer_of_taking, MayRefuseDelivery, MayRefuseAddition}
+use Rattle.mailengine.specs.declared.event.Event.TheVariants.{Open, Give, Step, GiveUp, Close, Deliver, AddUser, TakeOut, TakeMail}
+use Rattle.mailengine.specs.AccountEvents.{Delivery, Addition, Taking, MailTaking}
+use Rattle.mailengine.specs.Hosts.{answer_of, answer_of_delivery, answer_of_addition, answer_of_taking, answer_of_mail_taking, MayRefuseDelivery, MayRefuseAddition}
 use Rattle.mailstore.specs.Refusals.{IsPassing}
-use Rattle.mailengine.proofs.HostLemmas.{session_event, account_event, account_crash, delivery_may, addition_may, taking_may, event_is, crash_is}
+use Rattle.mailengine.proofs.HostLemmas.{session_event, account_event, account_crash, delivery_may, addition_may, taking_may, mail_taking_may, event_is, crash_is}
 use Rattle.mailengine.proofs.machine.happen.Goals as goal
 
 pub returns-in-Open-clause-event : goal.returns-in-Open-clause-event
@@ -80,3 +80,17 @@ returns-in-TakeOut-clause-crash g c =
     let is : c.args.event.now ≡ event = cc in
     crash_is c.args.event.now event (state g.S.Store c.args.store.now) (state g.S.Store c.take_out.new.store) c.args.sessions.now is
     (account_crash event (λ accounts. Taking accounts c.as_slice-in-TakeOut.result.now c.in-TakeOut.id) IsPassing (λ w answer next made. made) (taking_may c.as_slice-in-TakeOut.result.now c.in-TakeOut.id) (state g.S.Store c.args.store.now) (state g.S.Store c.take_out.new.store) c.args.sessions.now c.take_out.result (answer_of_taking c.take_out.result) c.take_out.ensures.acts)
+
+pub returns-in-TakeMail-clause-event : goal.returns-in-TakeMail-clause-event
+returns-in-TakeMail-clause-event g c =
+    let event : Event = TakeMail c.as_slice-in-TakeMail.result.now c.as_slice-in-TakeMail-2.result.now in
+    let is : c.args.event.now ≡ event = cc in
+    event_is c.args.event.now event c.answer_of_mail_taking.result (answer_of_mail_taking c.take_mail.result) (state g.S.Store c.args.store.now) (state g.S.Store c.take_mail.new.store) c.args.sessions.now c.args.sessions.now is c.answer_of_mail_taking.ensures
+    (account_event event (λ accounts. MailTaking accounts c.as_slice-in-TakeMail.result.now c.as_slice-in-TakeMail-2.result.now) IsPassing (λ w answer next made. made) (mail_taking_may c.as_slice-in-TakeMail.result.now c.as_slice-in-TakeMail-2.result.now) (state g.S.Store c.args.store.now) (state g.S.Store c.take_mail.new.store) c.args.sessions.now c.take_mail.result (answer_of_mail_taking c.take_mail.result) c.take_mail.ensures.acts)
+
+pub returns-in-TakeMail-clause-crash : goal.returns-in-TakeMail-clause-crash
+returns-in-TakeMail-clause-crash g c =
+    let event : Event = TakeMail c.as_slice-in-TakeMail.result.now c.as_slice-in-TakeMail-2.result.now in
+    let is : c.args.event.now ≡ event = cc in
+    crash_is c.args.event.now event (state g.S.Store c.args.store.now) (state g.S.Store c.take_mail.new.store) c.args.sessions.now is
+    (account_crash event (λ accounts. MailTaking accounts c.as_slice-in-TakeMail.result.now c.as_slice-in-TakeMail-2.result.now) IsPassing (λ w answer next made. made) (mail_taking_may c.as_slice-in-TakeMail.result.now c.as_slice-in-TakeMail-2.result.now) (state g.S.Store c.args.store.now) (state g.S.Store c.take_mail.new.store) c.args.sessions.now c.take_mail.result (answer_of_mail_taking c.take_mail.result) c.take_mail.ensures.acts)

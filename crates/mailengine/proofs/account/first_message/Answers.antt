@@ -1,0 +1,12 @@
+use Rattle.std.proofs.Common.{◌≡◌}
+use Rattle.sqlite.specs.Held.{state}
+use Rattle.mailstore.specs.Account.{Account}
+use Rattle.mailstore.specs.AccountTable.{profile_of}
+use Rattle.mailstore.specs.declared.profile.Profile.{Profile}
+use Rattle.mailengine.proofs.LookupLemmas.{looks_then}
+use Rattle.mailengine.proofs.account.first_message.Goals as goal
+
+pub returns : goal.returns
+returns g c =
+    looks_then c.args.user.now (λ (profile : Profile) (account : Account). profile ≡ profile_of account) _ (state g.S.Store c.args.store.now) (state g.S.Store c.profile.new.store) (state g.S.Store c.first_message.new.self) c.profile.result c.in_ok-profile.field-0
+    c.in_ok-profile.was c.profile.ensures c.first_message.result c.first_message.ensures.first

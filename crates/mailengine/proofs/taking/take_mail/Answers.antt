@@ -1,0 +1,18 @@
+use Rattle.std.proofs.Common.{◌≡◌, Err, rules}
+use Rattle.sqlite.specs.Held.{state}
+use Rattle.mailengine.proofs.MailTakingLemmas.{mail_unread, mail_none, mail_written}
+use Rattle.mailengine.proofs.taking.take_mail.Goals as goal
+
+pub returns-in_err-first-clause-acts : goal.returns-in_err-first-clause-acts
+returns-in_err-first-clause-acts g c =
+    let is : c.from_residual.result ≡ Err c.in_err-first.field-0.0 = search rules in
+    mail_unread c.args.user.now c.args.folder.now (state g.S.Store c.args.store.now) (state g.S.Store c.first_message.new.store) c.in_err-first.field-0.0 c.from_residual.result is c.in_err-first.ensures
+
+pub returns-in_default-clause-acts : goal.returns-in_default-clause-acts
+returns-in_default-clause-acts g c =
+    mail_none c.args.user.now c.args.folder.now (state g.S.Store c.args.store.now) (state g.S.Store c.first_message.new.store) c.first_message.result c.in_ok-first.first c.in_ok-first.was c.first_message.ensures c.in_default.is
+
+pub returns-clause-acts : goal.returns-clause-acts
+returns-clause-acts g c =
+    mail_written c.args.user.now c.args.folder.now (state g.S.Store c.args.store.now) (state g.S.Store c.first_message.new.store) c.first_message.result c.in_ok-first.first c.in_ok-first.was c.first_message.ensures c.in-Some._message c.in-Some.is
+    (state g.S.Store c.remove_first.new.store) c.remove_first.result c.remove_first.ensures.writes c.remove_first.ensures.named
