@@ -1,14 +1,18 @@
 -- The definitions at a few mails: what they fit, and what is near it that they don't.
-use Rattle.std.proofs.Common.{◌≡◌, true, false, inl, inr, [], ◌∷◌, ◌++◌, codes, refl, arith}
+use Rattle.std.proofs.Common.{◌≡◌, ℕ, ◌<◌, lit<, sym, true, false, inl, inr, [], ◌∷◌, ◌++◌, codes, refl, arith}
 use Rattle.sievesyntax.specs.declared.tree.checks.Matching.TheVariants.{Is, Contains}
 use Rattle.sievesyntax.specs.declared.tree.checks.AddressPart.TheVariants.{LocalPart, Domain}
 use Rattle.sievesyntax.specs.declared.tree.checks.AddressPart.TheVariants as part
 use Rattle.sievesyntax.specs.declared.tree.checks.Bound.TheVariants.{Over, Under}
 use Rattle.sievesyntax.specs.declared.tree.checks.Collation.TheVariants.{Octet, AsciiCasemap}
-use Rattle.sieveexec.specs.Mails.{MailSpec, mail_of, values_of, text_shown, is_address_key, addresses_of}
+use Rattle.addrparts.specs.declared.address.Addr.{Addr}
+use Rattle.addrparts.specs.Reading.{addrs}
+use Rattle.addrparts.specs.Reading as reading
+use Rattle.addrparts.proofs.Lists.{addrs-are}
+use Rattle.sieveexec.specs.Mails.{MailSpec, mail_of, values_of, text_shown, has_addresses, addresses_of}
 use Rattle.sieveexec.specs.Matches.{matches_key, matches_some, image_by}
 use Rattle.sieveexec.specs.Parts.{part_of, Cuts, CutsAtLast, IsPart, part_in}
-use Rattle.sieveexec.specs.Holding.{IsBeyond, IsNamed}
+use Rattle.sieveexec.specs.Holding.{IsBeyond, IsNamed, SomeAddress}
 
 -- "To: a@b", LF, "to: c", LF, from `x@y@z` to nobody
 abbrev sample : MailSpec
@@ -33,12 +37,24 @@ joined-inside = refl
 joined-decoded : text_shown (codes "=?us-ascii?q?_a_?=") ≡ codes "a"
 joined-decoded = refl
 
--- `to` has addresses, and `subject` has none
-to_has_addresses : is_address_key (codes "to") ≡ true
+-- `To` has addresses, and `subject` has none
+to_has_addresses : has_addresses (codes "To") ≡ true
 to_has_addresses = refl
 
-subject_has_none : is_address_key (codes "subject") ≡ false
+subject_has_none : has_addresses (codes "subject") ≡ false
 subject_has_none = refl
+
+-- `a@b` is an address in `to`
+abbrev a_at_b : Addr
+a_at_b = record { local = codes "a"; domain = codes "b" }
+
+in_to : SomeAddress sample (codes "to") (λ one. one ≡ a_at_b)
+unfolding addrs reading.pieces
+in_to = record { fields = refl; there = (0, codes " a@b", lit< tt, refl, (addrs (codes " a@b"), addrs-are (codes " a@b"), (0, a_at_b, lit< tt, refl, refl))) }
+
+-- no test of an address in `subject` holds
+no_subject : (mail : MailSpec) (P : Addr → Type 0) → SomeAddress mail (codes "subject") P → ⊥
+no_subject mail P some = let no : false ≡ true = some.fields in absurd (cc no)
 
 subject_gives_none : addresses_of (mail_of (codes "Subject: a@b") (record { from = []; to = [] })) (codes "subject") ≡ []
 subject_gives_none = refl

@@ -11,8 +11,10 @@ use Rattle.std.proofs.lemmas.Slice.Eq.{bytes_eq-Decides}
 use Rattle.octets.specs.Ascii.{lowered}
 use Rattle.mailhead.specs.Fields.{text_of, texts_of}
 use Rattle.mailhead.specs.declared.header.Field.{Field}
-use Rattle.sieveexec.specs.Mails.{raws_keyed}
-use Rattle.sieveexec.specs.Indexes.{AreKnown}
+use Rattle.mailhead.specs.Heads.{unfold_of}
+use Rattle.sieveexec.specs.Mails.{MailSpec, values_of}
+use Rattle.sieveexec.specs.Indexes.{raws_keyed, AreKnown}
+use Rattle.sieveexec.specs.Truth.{is_some_there}
 
 -- what is kept stays what it should be where one key gets what it should
 pub known_more : {X : Type 0} (wanted : List ℕ → X) (old new : BTreeMap (List ℕ) X) (name : List ℕ) (more : X)
@@ -44,3 +46,11 @@ raws_last (first ∷ more) last key = split (raws_last more last key) (pointwise
 pub raws_more : (fields : List Field) (i : ℕ) (d : Field) (key : List ℕ) → i < length fields
     → raws_keyed (texts_of (take (i + 1) fields)) key ≡ raws_keyed (texts_of (take i fields)) key ++ cond (pointwise nat_eq (lowered (get_or fields i d).name.now) key) ((get_or fields i d).raw.now ∷ []) []
 raws_more fields i d key below = ap (λ l. raws_keyed (texts_of l) key) (take_at_read fields i d below).1 ∙ raws_last (take i fields) (get_or fields i d) key
+
+-- the fields of a name are there where they are under its key
+pub there_keyed : (mail : MailSpec) (name key : List ℕ) → key ≡ lowered name → is_some_there (values_of mail name) ≡ is_some_there (raws_keyed mail.fields key)
+there_keyed mail name key same = some_mapped (raws_keyed mail.fields (lowered name)) ∙ ap (λ k. is_some_there (raws_keyed mail.fields k)) (sym same)
+  where
+    some_mapped : (raws : List (List ℕ)) → is_some_there (map unfold_of raws) ≡ is_some_there raws
+    some_mapped [] = refl
+    some_mapped (raw ∷ more) = refl

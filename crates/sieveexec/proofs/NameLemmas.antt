@@ -10,7 +10,8 @@ use Rattle.mailhead.specs.Fields.{FieldText, IsField, is_name, field_of}
 use Rattle.mailhead.specs.Heads.{header_of, unfold_of}
 use Rattle.mailhead.proofs.FormLemmas.{field_is}
 use Rattle.sieveexec.specs.declared.envelope.Envelope.{Envelope}
-use Rattle.sieveexec.specs.Mails.{mail_of, raws_keyed, values_of}
+use Rattle.sieveexec.specs.Mails.{mail_of, values_of}
+use Rattle.sieveexec.specs.Indexes.{raws_keyed}
 
 -- case is nothing to a name's octets
 lower_name : (octet : ℕ) → is_name (to_ascii_lowercase octet) ≡ is_name octet

@@ -1,16 +1,22 @@
 -- The truth of a test is whether it holds.
-use Rattle.std.proofs.Common.{◌≡◌, ◌≢◌, ℕ, Bool, true, ◌⊎◌, inl, inr, List, [], ◌∷◌, refl, subst}
+use Rattle.std.proofs.Common.{◌≡◌, ◌≢◌, ℕ, Bool, true, false, cond, ◌||◌, ◌⊎◌, inl, inr, List, [], ◌∷◌, refl, sym, ap, ◌∙◌, subst}
 use Rattle.std.specs.Bool.{Decides}
+use Rattle.std.specs.List.{list_any, flat_map, Any}
+use Rattle.std.proofs.lemmas.List.Folds.{list_any-append}
 use Rattle.std.proofs.lemmas.Bool.Decides.{Decides-and, Decides-or, Decides-ltb}
 use Rattle.sievesyntax.specs.declared.tree.checks.Bound.{Bound}
 use Rattle.sievesyntax.specs.declared.tree.checks.Bound.TheVariants.{Over, Under}
 use Rattle.sievesyntax.specs.declared.tree.checks.EnvelopeTest.{EnvelopeTest}
 use Rattle.sievesyntax.specs.declared.tree.checks.Check.{Check}
 use Rattle.sievesyntax.specs.declared.tree.checks.Check.TheVariants.{Size, Exists, Header, Address, Envelope}
-use Rattle.sieveexec.specs.Mails.{MailSpec, values_of, texts_of, addresses_of}
+use Rattle.addrparts.specs.declared.address.Addr.{Addr}
+use Rattle.addrparts.specs.Parts.{AreAddresses}
+use Rattle.addrparts.specs.Reading.{addrs}
+use Rattle.addrparts.proofs.Lists.{addrs-are, addrs-only}
+use Rattle.sieveexec.specs.Mails.{MailSpec, values_of, texts_of, has_addresses, addresses_of}
 use Rattle.sieveexec.specs.Matches.{MatchesSome}
 use Rattle.sieveexec.specs.Parts.{part_of, IsPart, part_in}
-use Rattle.sieveexec.specs.Holding.{IsBeyond, IsNamed, Holds}
+use Rattle.sieveexec.specs.Holding.{IsBeyond, IsNamed, SomeAddress, Holds}
 use Rattle.sieveexec.specs.Truth.{is_beyond, is_some_there, envelope_matches, truth_at}
 use Rattle.sieveexec.proofs.Decisions.{decides_as, any_decides, all_decides}
 use Rattle.sieveexec.proofs.MatchLemmas.{matches_some_decides}
@@ -44,6 +50,27 @@ asked_for : (mail : MailSpec) (test : EnvelopeTest) (one part : List ℕ) → Is
 asked_for mail test one part (inl (asked, same)) is matches = inl (asked, part_there test mail.from one part same is matches)
 asked_for mail test one part (inr (asked, same)) is matches = inr (asked, part_there test mail.to one part same is matches)
 
+-- whether an address in the fields of a name passes
+module _ (p : Addr → Bool) (P : Addr → Type 0) (each : (one : Addr) → Decides (p one) (P one)) where
+  any_read : (values : List (List ℕ)) → list_any p (flat_map addrs values) ≡ list_any (λ value. list_any p (addrs value)) values
+  any_read [] = refl
+  any_read (value ∷ more) = list_any-append p (addrs value) (flat_map addrs more) ∙ ap (λ b. list_any p (addrs value) || b) (any_read more)
+
+  in_value : (value : List ℕ) → Decides (list_any p (addrs value)) ((found : List Addr) × AreAddresses value found × Any P found)
+  in_value value =
+      decides_as _ (λ any. (addrs value, addrs-are value, any)) (λ (found, are, any). subst (Any P) (addrs-only value found are) any) (any_decides p P each (addrs value))
+
+  in_values : (values : List (List ℕ)) → Decides (list_any p (flat_map addrs values)) (Any (λ value. (found : List Addr) × AreAddresses value found × Any P found) values)
+  in_values values =
+      subst (λ b. Decides b (Any (λ value. (found : List Addr) × AreAddresses value found × Any P found) values)) (sym (any_read values)) (any_decides _ _ in_value values)
+
+  some_decides : (mail : MailSpec) (name : List ℕ) → Decides (list_any p (addresses_of mail name)) (SomeAddress mail name P)
+  some_decides mail name = split (has_addresses name) refl
+    where
+      split : (has : Bool) → has_addresses name ≡ has → Decides (list_any p (cond has (flat_map addrs (values_of mail name)) [])) (SomeAddress mail name P)
+      split true has = decides_as _ (λ any. record { fields = has; there = any }) (λ some. some.there) (in_values (values_of mail name))
+      split false has = (λ none. absurd (cc none), λ some. let no : false ≡ true = sym has ∙ some.fields in absurd (cc no))
+
 is_asked : (asked : Bool) → Decides asked (asked ≡ true)
 is_asked asked = (λ h. h, λ h. h)
 
@@ -54,7 +81,7 @@ truth_decides mail (Exists names) = all_decides (λ name. is_some_there (values_
 truth_decides mail (Header header) =
     any_decides _ _ (λ name. any_decides _ _ (matches_some_decides header.comparator header.matching header.keys) (texts_of mail name)) header.fields
 truth_decides mail (Address address) =
-    any_decides _ _ (λ name. any_decides _ _ (λ one. matches_some_decides address.comparator address.matching address.keys (part_of address.part one)) (addresses_of mail name)) address.fields
+    any_decides _ _ (λ name. some_decides _ _ (λ one. matches_some_decides address.comparator address.matching address.keys (part_of address.part one)) mail name) address.fields
 truth_decides mail (Envelope test) =
     decides_as _ (named mail test) (λ (one, part, name, is, matches). asked_for mail test one part name is matches)
     (Decides-or _ _

@@ -6,7 +6,9 @@ use Rattle.sievesyntax.specs.declared.tree.checks.Bound.TheVariants.{Over, Under
 use Rattle.sievesyntax.specs.declared.tree.checks.EnvelopeParts.{EnvelopeParts}
 use Rattle.sievesyntax.specs.declared.tree.checks.Check.{Check}
 use Rattle.sievesyntax.specs.declared.tree.checks.Check.TheVariants.{Size, Exists, Header, Address, Envelope}
-use Rattle.sieveexec.specs.Mails.{MailSpec, values_of, texts_of, addresses_of}
+use Rattle.addrparts.specs.declared.address.Addr.{Addr}
+use Rattle.addrparts.specs.Parts.{AreAddresses}
+use Rattle.sieveexec.specs.Mails.{MailSpec, values_of, texts_of, has_addresses}
 use Rattle.sieveexec.specs.Matches.{MatchesSome}
 use Rattle.sieveexec.specs.Parts.{IsPart, part_of}
 
@@ -19,6 +21,12 @@ IsBeyond Under size limit = size < limit
 abbrev pub IsNamed : EnvelopeParts → MailSpec → List ℕ → Type 0
 IsNamed parts mail address = ((parts.from ≡ true) × (address ≡ mail.from)) ⊎ ((parts.to ≡ true) × (address ≡ mail.to))
 
+-- of an address in the fields of a name this holds: fields of the name have addresses, and one of their values has such an address
+-- (RFC 5322, 3.4)
+pub record SomeAddress (mail : MailSpec) (name : List ℕ) (P : Addr → Type 0) : Type 0 where
+  pub fields : has_addresses name ≡ true
+  pub there : Any (λ value. (found : List Addr) × AreAddresses value found × Any P found) (values_of mail name)
+
 -- a test that looks at the message or its envelope holds (RFC 5228, 5.1, 5.4, 5.5, 5.7, 5.9)
 abbrev pub Holds : MailSpec → Check → Type 0
 Holds mail (Size size) = IsBeyond size.bound mail.size size.limit
@@ -26,8 +34,7 @@ Holds mail (Exists names) = All (λ name. values_of mail name ≢ []) names
 Holds mail (Header header) =
     Any (λ name. Any (MatchesSome header.comparator header.matching header.keys) (texts_of mail name)) header.fields
 Holds mail (Address address) =
-    Any (λ name. Any (λ one. MatchesSome address.comparator address.matching address.keys (part_of address.part one))
-    (addresses_of mail name)) address.fields
+    Any (λ name. SomeAddress mail name (λ one. MatchesSome address.comparator address.matching address.keys (part_of address.part one))) address.fields
 Holds mail (Envelope envelope) =
     (one : List ℕ) × (part : List ℕ) × IsNamed envelope.parts mail one × IsPart envelope.part one part
     × MatchesSome envelope.comparator envelope.matching envelope.keys part

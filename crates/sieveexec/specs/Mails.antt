@@ -33,21 +33,21 @@ mail_of message envelope =
       octets = message;
     }
 
--- the raw values of the fields that have this name in lower case, in order
-abbrev pub raws_keyed : List FieldText → List ℕ → List (List ℕ)
-raws_keyed fields key = map (λ field. field.raw) (filter (λ field. pointwise nat_eq (lowered field.name) key) fields)
+-- a field has this name, in any ASCII case
+abbrev pub has_name : List ℕ → FieldText → Bool
+has_name name field = pointwise nat_eq (lowered field.name) (lowered name)
 
--- the unfolded values of the fields that have this name in lower case (RFC 5322, 2.2.3)
-abbrev pub values_keyed : MailSpec → List ℕ → List (List ℕ)
-values_keyed mail key = map unfold_of (raws_keyed mail.fields key)
+-- the unfolded values of the fields of a name, in order (RFC 5322, 2.2.3); a field that is absent has none
+abbrev pub values_of : MailSpec → List ℕ → List (List ℕ)
+values_of mail name = map unfold_of (map (λ field. field.raw) (filter (λ field. has_name name field) mail.fields))
 
 -- the text of an unfolded value: decoded (RFC 2047), and then without the blanks at its ends (RFC 5228, 5.7)
 abbrev pub text_shown : List ℕ → List ℕ
 text_shown value = trimmed (text_of value)
 
--- the texts of those fields
-abbrev pub texts_keyed : MailSpec → List ℕ → List (List ℕ)
-texts_keyed mail key = map text_shown (values_keyed mail key)
+-- the texts of the fields of a name
+abbrev pub texts_of : MailSpec → List ℕ → List (List ℕ)
+texts_of mail name = map text_shown (values_of mail name)
 
 -- the names of the fields that have addresses, in lower case
 abbrev pub address_fields : List (List ℕ)
@@ -56,22 +56,10 @@ address_fields =
     ∷ codes "resent-to" ∷ codes "resent-cc" ∷ codes "resent-bcc" ∷ codes "resent-sender" ∷ codes "delivered-to"
     ∷ codes "x-original-to" ∷ codes "return-path" ∷ []
 
--- whether fields of this name in lower case have addresses
-abbrev pub is_address_key : List ℕ → Bool
-is_address_key key = list_any (λ name. pointwise nat_eq name key) address_fields
+-- whether fields of this name, in any ASCII case, have addresses
+abbrev pub has_addresses : List ℕ → Bool
+has_addresses name = list_any (λ field. pointwise nat_eq field (lowered name)) address_fields
 
--- the addresses of the unfolded values, which aren't decoded, of those fields; none where fields of the name have no addresses
-abbrev pub addresses_keyed : MailSpec → List ℕ → List Addr
-addresses_keyed mail key = cond (is_address_key key) (flat_map addrs (values_keyed mail key)) []
-
--- the unfolded values of the fields of a name, whose ASCII case is ignored; a field that is absent has none
-abbrev pub values_of : MailSpec → List ℕ → List (List ℕ)
-values_of mail name = values_keyed mail (lowered name)
-
--- the texts of the fields of a name
-abbrev pub texts_of : MailSpec → List ℕ → List (List ℕ)
-texts_of mail name = texts_keyed mail (lowered name)
-
--- the addresses of the fields of a name
+-- the addresses of the unfolded values, which aren't decoded, of the fields of a name; none where such fields have no addresses
 abbrev pub addresses_of : MailSpec → List ℕ → List Addr
-addresses_of mail name = addresses_keyed mail (lowered name)
+addresses_of mail name = cond (has_addresses name) (flat_map addrs (values_of mail name)) []

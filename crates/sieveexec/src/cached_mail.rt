@@ -2,11 +2,12 @@
 ghost use Rattle.std.specs.Prelude.{◌≡◌, IfOk};
 ghost use Rattle.sieveexec.specs.Truth.{truth_at, envelope_holds, envelope_matches};
 
-use crate::address_cache::AddressCache;
 use crate::envelope::part_in;
+use crate::field_cache::FieldCache;
+use crate::joined_address::JoinedAddress;
 use crate::mail::Mail;
 use crate::matching::matches_some;
-use crate::text_cache::TextCache;
+use octets::{ListOf, Texts};
 use sievesyntax::{Check, EnvelopeTest};
 use std::alloc::{AllocError, Global};
 use std::marker::Model;
@@ -16,8 +17,8 @@ use std::marker::Model;
 #[derive(Drop)]
 pub struct CachedMail<'m, 'a> {
     mail: &'m Mail<'a>,
-    texts: TextCache<'m, 'a>,
-    addresses: AddressCache<'m, 'a>,
+    texts: FieldCache<'m, 'a, Texts>,
+    addresses: FieldCache<'m, 'a, ListOf<JoinedAddress>>,
 }
 
 impl<'m, 'a> Model for CachedMail<'m, 'a> {
@@ -38,8 +39,8 @@ impl<'m, 'a> CachedMail<'m, 'a> {
     {
         CachedMail {
             mail,
-            texts: TextCache::new(alloc, mail),
-            addresses: AddressCache::new(alloc, mail),
+            texts: FieldCache::new(alloc, mail),
+            addresses: FieldCache::new(alloc, mail),
         }
     }
 

@@ -1,10 +1,12 @@
 //! A message with its envelope, as the tests of a script see it, and what a script comes to on it (RFC 5228, 4 and 5).
 #![tactic(auto)]
 
-mod address_cache;
+mod address;
 mod cached_mail;
 mod copies;
 mod envelope;
+mod field_cache;
+mod header;
 mod index;
 mod joined_address;
 pub mod laws;
@@ -14,7 +16,6 @@ mod matching;
 mod outcome;
 mod raw_values;
 mod run_state;
-mod text_cache;
 
 pub use cached_mail::CachedMail;
 pub use envelope::{Envelope, part_in};

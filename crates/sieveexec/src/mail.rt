@@ -1,7 +1,8 @@
 //! A message with its envelope, as the tests of a script see it.
 ghost use Rattle.std.specs.Prelude.{◌≡◌, [], IfOk, unwrap_or, option_copied};
 ghost use Rattle.mailhead.specs.Fields.{texts_of};
-ghost use Rattle.sieveexec.specs.Mails.{mail_of, raws_keyed};
+ghost use Rattle.sieveexec.specs.Mails.{mail_of};
+ghost use Rattle.sieveexec.specs.Indexes.{raws_keyed};
 ghost use Rattle.sieveexec.specs.Truth.{is_beyond, is_some_there, all_exist};
 
 use crate::envelope::Envelope;

@@ -4,7 +4,7 @@ use Rattle.std.proofs.lemmas.Map.Text.{is_eq-slice_cmp}
 use Rattle.std.proofs.lemmas.Slice.Eq.{bytes_eq-Decides}
 use Rattle.std.specs.Str.{bytes_eq}
 use Rattle.mailhead.specs.Fields.{texts_of}
-use Rattle.sieveexec.specs.Mails.{raws_keyed}
+use Rattle.sieveexec.specs.Indexes.{raws_keyed}
 use Rattle.sieveexec.proofs.IndexLemmas.{raws_more}
 use Rattle.sieveexec.proofs.index.index_of.Goals as goal
 

@@ -4,7 +4,7 @@ use Rattle.std.specs.Ordering.{nat_cmp}
 use Rattle.std.specs.Cmp.Lexicographic.{slice_cmp}
 use Rattle.std.specs.BTreeMap.{get}
 use Rattle.mailhead.specs.Fields.{texts_of}
-use Rattle.sieveexec.specs.Mails.{raws_keyed}
+use Rattle.sieveexec.specs.Indexes.{raws_keyed}
 use Rattle.sieveexec.proofs.index.index_of.Given as goal
 
 abbrev pub invariant-loop-field : goal.invariant-loop-field

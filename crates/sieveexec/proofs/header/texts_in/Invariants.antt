@@ -2,7 +2,7 @@
 use Rattle.std.proofs.Common.{◌≡◌, map, take}
 use Rattle.mailhead.specs.Heads.{unfold_of}
 use Rattle.sieveexec.specs.Mails.{text_shown}
-use Rattle.sieveexec.proofs.text_cache.texts_in.Given as goal
+use Rattle.sieveexec.proofs.header.texts_in.Given as goal
 
 abbrev pub invariant-loop-raw : goal.invariant-loop-raw
 invariant-loop-raw l = l.texts ≡ map text_shown (map unfold_of (map (λ raw. raw.now) (take l.raw-index l.raws)))

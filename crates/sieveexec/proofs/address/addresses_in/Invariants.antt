@@ -3,7 +3,7 @@ use Rattle.std.proofs.Common.{◌≡◌, map, take}
 use Rattle.std.specs.List.{flat_map}
 use Rattle.mailhead.specs.Heads.{unfold_of}
 use Rattle.addrparts.specs.Reading.{addrs}
-use Rattle.sieveexec.proofs.address_cache.addresses_in.Given as goal
+use Rattle.sieveexec.proofs.address.addresses_in.Given as goal
 
 abbrev pub invariant-loop-raw : goal.invariant-loop-raw
 invariant-loop-raw l = l.found ≡ flat_map addrs (map unfold_of (map (λ raw. raw.now) (take l.raw-index l.raws)))

@@ -1,0 +1,110 @@
+//! What `address` looks at: the addresses of fields (RFC 5228, 5.1).
+ghost use Rattle.std.specs.Prelude.{◌≡◌, IfOk, map};
+ghost use Rattle.std.specs.List.{list_any, flat_map};
+ghost use Rattle.mailhead.specs.Heads.{unfold_of};
+ghost use Rattle.addrparts.specs.Reading.{addrs};
+ghost use Rattle.sieveexec.specs.Indexes.{is_address_key};
+ghost use Rattle.sieveexec.specs.Truth.{address_matches};
+
+use crate::field_cache::{FieldTest, FieldValues};
+use crate::joined_address::{JoinedAddress, push_joined};
+use crate::mail::Mail;
+use crate::matching::matches_some;
+use addrparts::addresses;
+use mailhead::unfolded;
+use octets::{ListOf, Octets};
+use sievesyntax::Address;
+use std::alloc::{AllocError, Global};
+
+/// The names of the fields that have addresses, in lower case.
+const ADDRESS_FIELDS: [&[u8]; 14] = [
+    b"from",
+    b"to",
+    b"cc",
+    b"bcc",
+    b"sender",
+    b"reply-to",
+    b"resent-from",
+    b"resent-to",
+    b"resent-cc",
+    b"resent-bcc",
+    b"resent-sender",
+    b"delivered-to",
+    b"x-original-to",
+    b"return-path",
+];
+
+impl FieldValues for ListOf<JoinedAddress> {
+    ghost use Rattle.sieveexec.specs.Indexes.{addresses_keyed};
+
+    ghost keyed = { addresses_keyed };
+
+    /// None where fields of the name have no addresses.
+    fn read(
+        alloc: Global,
+        mail: &Mail<'_>,
+        key: &Octets,
+    ) -> Result<ListOf<JoinedAddress>, AllocError> {
+        if !is_address_key(key.as_slice()) {
+            return Ok(ListOf::new(alloc));
+        }
+        match mail.raws(key) {
+            Some(raws) => addresses_in(alloc, raws.as_slice()),
+            None => Ok(ListOf::new(alloc)),
+        }
+    }
+}
+
+impl FieldTest<ListOf<JoinedAddress>> for Address {
+    ghost use Rattle.std.specs.List.{list_any};
+    ghost use Rattle.sieveexec.specs.Truth.{address_matches};
+
+    ghost names = { λ address. address.fields };
+
+    ghost passes = { λ address found. list_any (address_matches address) found };
+
+    fn fields(&self) -> &[Octets] {
+        self.fields.as_slice()
+    }
+
+    fn holds_of(&self, values: &ListOf<JoinedAddress>) -> bool {
+        address_matches(self, values.as_slice())
+    }
+}
+
+/// Whether fields of a name in lower case have addresses.
+fn is_address_key(key: &[u8]) -> bool
+    ensures { result ≡ is_address_key key.now }
+{
+    ADDRESS_FIELDS.contains(&key)
+}
+
+/// The addresses in raw values, which are unfolded and not decoded. Linear in the values.
+fn addresses_in(alloc: Global, raws: &[&[u8]]) -> Result<ListOf<JoinedAddress>, AllocError>
+    ensures { IfOk result (λ found. found ≡ flat_map addrs (map unfold_of (map (λ raw. raw.now) raws.now))) }
+{
+    let mut found = ListOf::new(alloc);
+    for raw in raws {
+        let value = unfolded(alloc, raw)?;
+        let more = addresses(alloc, value.as_slice())?;
+        push_joined(alloc, &mut found, more.as_slice())?;
+    }
+    Ok(found)
+}
+
+/// Whether the part of some address matches some key.
+fn address_matches(address: &Address, found: &[JoinedAddress]) -> bool
+    ensures { result ≡ list_any (address_matches address.now) found.now }
+{
+    for one in found {
+        if matches_some(
+            address.comparator,
+            address.matching,
+            address.keys.as_slice(),
+            one.part(address.part),
+        ) {
+            return true;
+        }
+    }
+    false
+}

@@ -1,0 +1,128 @@
+//! What tests look at in the fields of a mail, kept from test to test.
+ghost use Rattle.std.specs.Prelude.{◌≡◌, IfOk, OnOk, Some};
+ghost use Rattle.std.specs.List.{list_any};
+ghost use Rattle.std.specs.Ordering.{nat_cmp};
+ghost use Rattle.std.specs.Cmp.Lexicographic.{slice_cmp};
+ghost use Rattle.std.specs.BTreeMap.{get};
+ghost use Rattle.octets.specs.Ascii.{lowered};
+ghost use Rattle.sieveexec.specs.Indexes.{AreKnown};
+
+use crate::mail::Mail;
+use octets::{Octets, lowered};
+use std::alloc::{AllocError, Global};
+use std::collections::BTreeMap;
+use std::marker::Model;
+
+/// What is read of the fields of a name.
+pub trait FieldValues: Sized + Drop {
+    ghost use Rattle.std.specs.Prelude.{◌≡◌, ℕ, List, IfOk};
+    ghost use Rattle.sieveexec.specs.Mails.{MailSpec};
+
+    ghost keyed: { MailSpec → List ℕ → Self };
+
+    /// Reads the fields of a name in lower case.
+    fn read(alloc: Global, mail: &Mail<'_>, key: &Octets) -> Result<Self, AllocError>
+        ensures { IfOk result (λ values. values ≡ keyed mail.now key.now) };
+}
+
+/// A test that looks at what is read of fields.
+pub trait FieldTest<V: FieldValues> {
+    ghost use Rattle.std.specs.Prelude.{◌≡◌, ℕ, List, Bool};
+
+    ghost names: { Self → List (List ℕ) };
+
+    ghost passes: { Self → V → Bool };
+
+    /// The names of the fields, as they were written.
+    fn fields(&self) -> &[Octets]
+        ensures { result.now ≡ names self.now };
+
+    /// Whether the test holds of what was read of the fields of one name.
+    fn holds_of(&self, values: &V) -> bool
+        ensures { result ≡ passes self.now values.now };
+}
+
+/// What is read of the fields of a mail that some test asked for. Contracts see the mail.
+#[derive(Drop)]
+pub struct FieldCache<'m, 'a, V: FieldValues> {
+    mail: &'m Mail<'a>,
+    known: BTreeMap<Octets, V>,
+}
+
+impl<'m, 'a, V: FieldValues> Model for FieldCache<'m, 'a, V> {
+    ghost use Rattle.sieveexec.specs.Mails.{MailSpec};
+    ghost use Rattle.sieveexec.specs.Indexes.{AreKnown};
+
+    ghost Value = { MailSpec };
+
+    ghost view = { λ cache. cache.mail.now };
+
+    ghost invariant = { λ cache. AreKnown (V.keyed cache.mail.now) cache.known };
+}
+
+impl<'m, 'a, V: FieldValues> FieldCache<'m, 'a, V> {
+    /// No test asked for anything yet. Takes no memory.
+    pub(crate) fn new(alloc: Global, mail: &'m Mail<'a>) -> FieldCache<'m, 'a, V>
+        ensures { result ≡ mail.now }
+    {
+        FieldCache {
+            mail,
+            known: BTreeMap::new(alloc),
+        }
+    }
+
+    /// Whether a test holds of the fields of some of its names. The fields of a name are read when the first test asks for them.
+    pub(crate) fn holds<T: FieldTest<V>>(
+        &mut self,
+        alloc: Global,
+        test: &T,
+    ) -> Result<bool, AllocError>
+        ensures holds { IfOk result (λ holds. holds ≡ list_any (λ name. T.passes test.now (V.keyed self.old (lowered name))) (T.names test.now)) }
+        ensures kept { self.new ≡ self.old }
+    {
+        for name in test.fields() {
+            if self.holds_at(alloc, name.as_slice(), test)? {
+                return Ok(true);
+            }
+        }
+        Ok(false)
+    }
+
+    /// Whether a test holds of the fields of a name, whose ASCII case is ignored.
+    fn holds_at<T: FieldTest<V>>(
+        &mut self,
+        alloc: Global,
+        name: &[u8],
+        test: &T,
+    ) -> Result<bool, AllocError>
+        ensures holds { IfOk result (λ holds. holds ≡ T.passes test.now (V.keyed self.old (lowered name.now))) }
+        ensures kept { self.new ≡ self.old }
+    {
+        let key = lowered(alloc, name)?;
+        load(alloc, self.mail, &mut self.known, &key)?;
+        match self.known.get(&key) {
+            Some(values) => Ok(test.holds_of(values)),
+            None => unreachable!(),
+        }
+    }
+}
+
+/// Reads the fields of a name in lower case, unless they are known.
+fn load<V: FieldValues>(
+    alloc: Global,
+    mail: &Mail<'_>,
+    known: &mut BTreeMap<Octets, V>,
+    key: &Octets,
+) -> Result<(), AllocError>
+    requires { AreKnown (V.keyed mail.now) known.old }
+    ensures kept { AreKnown (V.keyed mail.now) known.new }
+    ensures there { OnOk result (get (slice_cmp nat_cmp) known.new key.now ≡ Some (V.keyed mail.now key.now)) }
+{
+    if known.contains_key(key) {
+        return Ok(());
+    }
+    let values = V::read(alloc, mail, key)?;
+    let name = key.copied(alloc)?;
+    known.insert(name, values)?;
+    Ok(())
+}

@@ -1,0 +1,82 @@
+//! What `header` looks at: the texts of fields (RFC 5228, 5.7).
+ghost use Rattle.std.specs.Prelude.{◌≡◌, IfOk, map};
+ghost use Rattle.std.specs.List.{list_any};
+ghost use Rattle.mailhead.specs.Heads.{unfold_of};
+ghost use Rattle.sieveexec.specs.Mails.{text_shown};
+ghost use Rattle.sieveexec.specs.Truth.{text_matches};
+
+use crate::field_cache::{FieldTest, FieldValues};
+use crate::mail::Mail;
+use crate::matching::matches_some;
+use encwords::decoded;
+use mailhead::unfolded;
+use octets::{Octets, Texts, trim_blanks};
+use sievesyntax::Header;
+use std::alloc::{AllocError, Global};
+
+impl FieldValues for Texts {
+    ghost use Rattle.sieveexec.specs.Indexes.{texts_keyed};
+
+    ghost keyed = { texts_keyed };
+
+    fn read(alloc: Global, mail: &Mail<'_>, key: &Octets) -> Result<Texts, AllocError> {
+        match mail.raws(key) {
+            Some(raws) => texts_in(alloc, raws.as_slice()),
+            None => Ok(Texts::new(alloc)),
+        }
+    }
+}
+
+impl FieldTest<Texts> for Header {
+    ghost use Rattle.std.specs.List.{list_any};
+    ghost use Rattle.sieveexec.specs.Truth.{text_matches};
+
+    ghost names = { λ header. header.fields };
+
+    ghost passes = { λ header texts. list_any (text_matches header) texts };
+
+    fn fields(&self) -> &[Octets] {
+        self.fields.as_slice()
+    }
+
+    fn holds_of(&self, values: &Texts) -> bool {
+        text_matches(self, values.as_slice())
+    }
+}
+
+/// The texts of raw values.
+fn texts_in(alloc: Global, raws: &[&[u8]]) -> Result<Texts, AllocError>
+    ensures { IfOk result (λ texts. texts ≡ map text_shown (map unfold_of (map (λ raw. raw.now) raws.now))) }
+{
+    let mut texts = Texts::new(alloc);
+    for raw in raws {
+        texts.push(text_in(alloc, raw)?)?;
+    }
+    Ok(texts)
+}
+
+/// The text of a raw value: unfolded, decoded, and then without the blanks at its ends. Linear in the value.
+fn text_in(alloc: Global, raw: &[u8]) -> Result<Octets, AllocError>
+    ensures { IfOk result (λ text. text ≡ text_shown (unfold_of raw.now)) }
+{
+    let value = unfolded(alloc, raw)?;
+    let text = decoded(alloc, value.as_slice())?;
+    Octets::copy(alloc, trim_blanks(text.as_slice()))
+}
+
+/// Whether some text matches some key.
+fn text_matches(header: &Header, texts: &[Octets]) -> bool
+    ensures { result ≡ list_any (text_matches header.now) texts.now }
+{
+    for text in texts {
+        if matches_some(
+            header.comparator,
+            header.matching,
+            header.keys.as_slice(),
+            text.as_slice(),
+        ) {
+            return true;
+        }
+    }
+    false
+}
