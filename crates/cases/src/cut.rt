@@ -35,7 +35,7 @@ fn answers(
     place: usize,
     steps: usize,
 ) -> Result<Octets, AllocError> {
-    let (front, back) = stream.split_at(place);
+    let (front, back) = stream.split_at(place.min(stream.len()));
     let mut events = Vec::new(alloc);
     events.push(Event::Open(NUMBER))?;
     for piece in [front, back] {
