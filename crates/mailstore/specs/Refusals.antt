@@ -1,8 +1,21 @@
 -- Which refusals a call may give.
-use Rattle.std.specs.Prelude.{◌≡◌, ◌⊎◌}
+use Rattle.std.specs.Prelude.{◌≡◌, ◌↔◌, ◌⊎◌, Option, Some, None}
+use Rattle.sqlite.specs.declared.error.Error.{Error}
+use Rattle.sqlite.specs.declared.error.Error.TheVariants.{SqliteFailure}
+use Rattle.sqlite.specs.declared.error.ErrorCode.{ErrorCode}
+use Rattle.sqlite.specs.declared.error.ErrorCode.TheVariants.{OutOfMemory}
 use Rattle.mailstore.specs.declared.refusal.Refusal.{Refusal}
 use Rattle.mailstore.specs.declared.refusal.Refusal.TheVariants.{Memory, Store}
 
 -- lack of memory, or a failure of the store: these may come without visible cause
 abbrev pub IsPassing : Refusal → Type 0
 IsPassing e = (e ≡ Memory) ⊎ (e ≡ Store)
+
+-- what SQLite says of a failure, where it says something
+abbrev pub code_in : Error → Option ErrorCode
+code_in (SqliteFailure code) = Some code
+code_in _ = None
+
+-- the refusal is lack of memory exactly where SQLite says so
+abbrev pub IsMemoryBy : Option ErrorCode → Refusal → Type 0
+IsMemoryBy code e = (e ≡ Memory) ↔ (code ≡ Some OutOfMemory)

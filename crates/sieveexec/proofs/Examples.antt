@@ -1,5 +1,5 @@
 -- The definitions at a few mails: what they fit, and what is near it that they don't.
-use Rattle.std.proofs.Common.{◌≡◌, ℕ, ◌<◌, lit<, sym, true, false, inl, inr, [], ◌∷◌, ◌++◌, codes, refl, arith}
+use Rattle.std.proofs.Common.{◌≡◌, lit<, true, false, inl, inr, [], ◌∷◌, ◌++◌, codes, refl, arith}
 use Rattle.sievesyntax.specs.declared.tree.checks.Matching.TheVariants.{Is, Contains}
 use Rattle.sievesyntax.specs.declared.tree.checks.AddressPart.TheVariants.{LocalPart, Domain}
 use Rattle.sievesyntax.specs.declared.tree.checks.AddressPart.TheVariants as part
