@@ -1,16 +1,21 @@
 -- The definitions of own acts and of spacing on small cases: one that is right, and one that nearly is.
-use Rattle.std.proofs.Common.{◌≡◌, ℕ, ◌+◌, ◌≤◌, true, false, List, [], ◌∷◌, codes, Option, Some, None, refl, sym, ◌∙◌, arith}
-use Rattle.std.specs.FinMap.{empty, insert}
+use Rattle.std.proofs.Common.{◌≡◌, ℕ, ◌+◌, ◌≤◌, Bool, true, false, cond, List, [], ◌∷◌, codes, Option, Some, None, refl, sym, ap, ◌∙◌, arith}
+use Rattle.std.proofs.lemmas.Cmp.{nat_list_cmp_total}
+use Rattle.std.specs.FinMap.{empty, get, get-remove}
 use Rattle.vacreply.specs.Handles.{Named}
+use Rattle.mailstore.specs.Account.{Account, deletes_script}
 use Rattle.mailstore.specs.declared.refusal.Refusal.TheVariants.{Memory, NoUser}
-use Rattle.msproto.specs.declared.commands.Command.TheVariants.{ListScripts, Noop}
+use Rattle.msproto.specs.declared.commands.Command.TheVariants.{ListScripts, Noop, PutScript}
 use Rattle.sessions.specs.Clients.{Client, new_client}
+use Rattle.sessions.specs.Replies.{is_ok}
+use Rattle.sessions.specs.Scripts.{carried_out}
 use Rattle.mailengine.specs.declared.event.Event.TheVariants.{TakeOut}
 use Rattle.mailengine.specs.declared.answer.Answer.TheVariants.{Refused}
 use Rattle.mailengine.specs.OwnActs as own
-use Rattle.mailengine.specs.OwnActs.{ActsAlone, acts_in, command_acts}
-use Rattle.mailengine.specs.Spacing.{Entry, Thread, AreSpaced, IsPast}
+use Rattle.mailengine.specs.OwnActs.{Act, ActsAlone, Alone, acts_in, command_acts}
+use Rattle.mailengine.specs.Spacing.{Entry, Thread, AreSpaced, kept_in}
 use Rattle.mailengine.specs.World.{World}
+use Rattle.mailengine.proofs.ActLaws.{alone_ends}
 
 -- ---- spacing
 
@@ -68,3 +73,30 @@ listed_by_bob = refl
 noop_by_alice : command_acts (codes "alice") alices (Noop None) [] ≡ []
 unfolding alices
 noop_by_alice = refl
+
+-- ---- what a user alone can't see, whatever the table of events says
+
+-- a script goes by another user's command: the user did nothing
+deleted_by_another : (a : Account) (text : List ℕ) → get a.scripts (codes "away") ≡ Some text → Alone (codes "carol") (Some a) [] (Some (deletes_script (codes "away") a)) → ⊥
+deleted_by_another a text has is =
+    let same : deletes_script (codes "away") a ≡ a = cc in
+    let no : None ≡ Some text = sym (get-remove nat_list_cmp_total a.scripts (codes "away") (codes "away")) ∙ (ap (λ b. get b.scripts (codes "away")) same ∙ has) in
+    cc
+
+-- a row of the queue gets one number, whatever numbers other users' rows have
+one_number : (act : Act) (a one two : Account) → ActsAlone (codes "carol") (Some a) act (Some one) → ActsAlone (codes "carol") (Some a) act (Some two) → one.next_out ≡ two.next_out
+one_number act a one two is was =
+    let ends : Some one ≡ Some two = alone_ends (codes "carol") (act ∷ []) (Some a) (Some one) (Some two) (Some one, is, refl) (Some two, was, refl) in
+    let same : one ≡ two = cc in
+    ap (λ b. b.next_out) same
+
+-- a script that is stored makes the account forget the moment of an answer
+answer_forgotten : (a later : Account) (name text octets : List ℕ) (last : ℕ) → kept_in (Some a) to_bob ≡ Some last → kept_in (Some later) to_bob ≡ None
+    → ActsAlone (codes "alice") (Some a) (own.Commands (PutScript name text) octets) (Some later) → ⊥
+answer_forgotten a later name text octets last has none is =
+    let no : None ≡ Some last = sym none ∙ (ap (λ o. kept_in o to_bob) is.changed ∙ (put (is_ok is.reply.word) ∙ has)) in
+    cc
+  where
+    put : (ok : Bool) → kept_in (Some (cond ok (carried_out (PutScript name text) a) a)) to_bob ≡ kept_in (Some a) to_bob
+    put true = refl
+    put false = refl
