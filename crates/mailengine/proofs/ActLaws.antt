@@ -151,7 +151,7 @@ act_one user account (own.TakesOut id answer) one two is was = go account is was
     go : (o : Option Account) → TakesAloneIn o id answer one → TakesAloneIn o id answer two → one ≡ two
     go None is was = is.stays ∙ sym was.stays
     go (Some a) is was = row a (row_with id a.queue) is was
-act_one trees user account (own.TakesMail folder answer) one two is was = go account is was
+act_one user account (own.TakesMail folder answer) one two is was = go account is was
   where
     row : (a : Account) (messages : List (List ℕ)) → TakesFirstAlone a folder messages answer one → TakesFirstAlone a folder messages answer two → one ≡ two
     row a [] is was = is.stays ∙ sym was.stays
