@@ -123,6 +123,7 @@ impl<'a> Talk<'a> {
             "adduser" => new_user(alloc, note, section.text)?,
             "deliver" => self.delivery(alloc, section, note)?,
             "takeout" => row_taken(alloc, note)?,
+            "takemail" => mail_taken(alloc, note)?,
             _ => return Ok(None),
         }))
     }
@@ -226,6 +227,15 @@ fn row_taken(alloc: Global, note: &str) -> Result<Event, AllocError> {
     })
 }
 
+/// A folder whose first message is to be taken out: `USER FOLDER`.
+fn mail_taken(alloc: Global, note: &str) -> Result<Event, AllocError> {
+    let (user, folder) = note.split_once(' ').unwrap_or((note, ""));
+    Ok(Event::TakeMail {
+        user: Octets::copy(alloc, user.as_bytes())?,
+        folder: Octets::copy(alloc, folder.as_bytes())?,
+    })
+}
+
 /// A user to be added: the address is the first line, the password the second.
 fn new_user(alloc: Global, name: &str, text: &str) -> Result<Event, AllocError> {
     let (address, password) = text.split_once('\n').unwrap_or((text, ""));
@@ -273,6 +283,7 @@ fn add_asked(
         "scripts" => add_scripts(store, out, user)?,
         "folder" => add_folder(store, out, user, name)?,
         "folders" => add_folders(store, out, user)?,
+        "first" => add_first(store, out, user, name)?,
         _ => return Ok(false),
     }
     Ok(true)
@@ -307,6 +318,7 @@ fn add_answer(alloc: Global, out: &mut Octets, answer: &Answer) -> Result<(), Al
         Answer::Delivered(report) => { out.extend_from_slice(of_report(alloc, report)?.as_slice()) }
         Answer::Added => add_line(out, b"", b"added"),
         Answer::Taken(row) => add_row(out, row),
+        Answer::MailTaken => add_line(out, b"", b"mail taken"),
         Answer::Ignored => add_line(out, b"", b"ignored"),
         Answer::Refused(refusal) => add_refusal(alloc, out, *refusal),
     }
@@ -382,6 +394,23 @@ fn add_folder(
     write_decimal(out, messages.len() as u64)?;
     out.push(b'\n')?;
     add_lines(out, b"", &messages)?;
+    Ok(())
+}
+
+/// Appends the number of the folder's first message and the message, or `none`.
+fn add_first(
+    store: &mut Store<MemStore>,
+    out: &mut Octets,
+    user: &[u8],
+    name: &[u8],
+) -> Result<(), Refusal> {
+    match store.first_message(user, name)? {
+        Some(first) => {
+            write_decimal(out, first.number)?;
+            add_line(out, b" ", first.message.as_slice())?;
+        }
+        None => add_line(out, b"", b"none")?,
+    }
     Ok(())
 }
 
