@@ -93,8 +93,8 @@ impl<'a> Talk<'a> {
 
     /// Takes an event so many times: `== step 1`, or `== deliver USER x300`. Answers false where the section is no event.
     fn add(&mut self, alloc: Global, section: &Section<'a>) -> Result<bool, AllocError> {
-        let (note, times) = section.note.split_once(" x").unwrap_or((section.note, "1"));
-        for _ in 0..number(times) {
+        let (note, times) = times_in(section.note);
+        for _ in 0..times {
             let Some(event) = self.event(alloc, section, note)? else {
                 return Ok(false);
             };
@@ -125,6 +125,7 @@ impl<'a> Talk<'a> {
             "adduser" => new_user(alloc, note, section.text)?,
             "deliver" => self.delivery(alloc, section, note)?,
             "takeout" => row_taken(alloc, note)?,
+            "takemail" => mail_taken(alloc, note)?,
             _ => return Ok(None),
         }))
     }
@@ -219,12 +220,32 @@ fn session(digits: &str) -> u32 {
     u32::try_from(number(digits)).unwrap_or(0)
 }
 
+/// What a note says before `xN`, and how often an event is meant: N times, else once.
+fn times_in(note: &str) -> (&str, u64) {
+    let Some((front, digits)) = note.split_once(" x") else {
+        return (note, 1);
+    };
+    match parse_decimal(digits.as_bytes()) {
+        Some(times) => (front, times),
+        None => (note, 1),
+    }
+}
+
 /// A row to be taken out: `USER ID`.
 fn row_taken(alloc: Global, note: &str) -> Result<Event, AllocError> {
     let (user, id) = note.split_once(' ').unwrap_or((note, ""));
     Ok(Event::TakeOut {
         user: Octets::copy(alloc, user.as_bytes())?,
         id: number(id),
+    })
+}
+
+/// A folder whose first message is to be taken out: `USER FOLDER`.
+fn mail_taken(alloc: Global, note: &str) -> Result<Event, AllocError> {
+    let (user, folder) = note.split_once(' ').unwrap_or((note, ""));
+    Ok(Event::TakeMail {
+        user: Octets::copy(alloc, user.as_bytes())?,
+        folder: Octets::copy(alloc, folder.as_bytes())?,
     })
 }
 
@@ -275,6 +296,7 @@ fn add_asked(
         "scripts" => add_scripts(store, out, user)?,
         "folder" => add_folder(store, out, user, name)?,
         "folders" => add_folders(store, out, user)?,
+        "first" => add_first(store, out, user, name)?,
         "queue" => out.extend_from_slice(of_queue(
             alloc,
             store.queue(user)?.as_slice(),
@@ -317,6 +339,7 @@ fn add_answer(alloc: Global, out: &mut Octets, answer: &Answer) -> Result<(), Al
         Answer::Delivered(report) => { out.extend_from_slice(of_report(alloc, report)?.as_slice()) }
         Answer::Added => add_line(out, b"", b"added"),
         Answer::Taken(row) => add_row(out, row),
+        Answer::MailTaken => add_line(out, b"", b"mail taken"),
         Answer::Ignored => add_line(out, b"", b"ignored"),
         Answer::Refused(refusal) => add_refusal(alloc, out, *refusal),
     }
@@ -392,6 +415,23 @@ fn add_folder(
     write_decimal(out, messages.len() as u64)?;
     out.push(b'\n')?;
     add_lines(out, b"", &messages)?;
+    Ok(())
+}
+
+/// Appends the number of the folder's first message and the message, or `none`.
+fn add_first(
+    store: &mut Store<MemStore>,
+    out: &mut Octets,
+    user: &[u8],
+    name: &[u8],
+) -> Result<(), Refusal> {
+    match store.first_message(user, name)? {
+        Some(first) => {
+            write_decimal(out, first.number)?;
+            add_line(out, b" ", first.message.as_slice())?;
+        }
+        None => add_line(out, b"", b"none")?,
+    }
     Ok(())
 }
 
