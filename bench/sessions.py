@@ -80,13 +80,6 @@ def row(what, figure):
     print(f"| {what} | {figure:.0f} |", flush=True)
 
 
-def with_socat(store):
-    command = " ".join(store.words("session", "--wait"))
-    listener = subprocess.Popen(["socat", "TCP-LISTEN:41900,bind=127.0.0.1,fork,reuseaddr,backlog=128", f"EXEC:{command}"])
-    time.sleep(0.5)
-    return listener, 41900
-
-
 def command_times(port):
     """The median time of a command, in milliseconds, over `serve`: a table."""
     times = {"connect and greeting": [], "AUTHENTICATE": [], "NOOP": [], "LISTSCRIPTS": [], "GETSCRIPT": [], "CHECKSCRIPT": [], "PUTSCRIPT": [], "LOGOUT": []}
@@ -156,10 +149,9 @@ def main():
     rates("serve", port)
     times = command_times(port)
     end(server)
-    listener, port = with_socat(store)
+    listener, port = store.listen("--wait")
     rates("session", port)
-    listener.terminate()
-    listener.wait()
+    end(listener)
     print("\n| Command over `serve` | Median ms | More than NOOP |")
     print("|---|---|---|")
     for name, took in times.items():

@@ -6,13 +6,12 @@
 Prints a line for each trial, and ends with 1 where one failed. No gate runs it. It needs python3 and, for `fifty`, socat.
 The trials: octets, rubbish, silent, thousand, killed_serve, killed_session, fifty, fifty_put_off; without a word, all.
 """
-import os, random, socket, subprocess, sys, threading, time
-from managesieve import SIEVED, Client, Gone, Store, connect, end
+import os, random, socket, sys, threading, time
+from managesieve import SIEVED, Gone, Store, connect, end
 
 RULES = b'require "fileinto";\r\nif header :contains "subject" "[list]" { fileinto "lists"; }\r\n'
 SESSION = (b'CAPABILITY\r\nAUTHENTICATE "PLAIN" "AGFsaWNlAHNlY3JldA=="\r\nPUTSCRIPT "rules" {%d+}\r\n%s\r\nSETACTIVE "rules"\r\n'
            b'LISTSCRIPTS\r\nGETSCRIPT "rules"\r\nwrong\r\nNOOP "a"\r\nSETACTIVE ""\r\nDELETESCRIPT "rules"\r\nLOGOUT\r\n') % (len(RULES), RULES)
-sieved = SIEVED
 
 
 def said(port, pieces):
@@ -181,10 +180,7 @@ def killed_session(store):
 
 def fifty(store, *more):
     """Fifty clients at once, each its own user, while ten others are silent."""
-    port = free_port()
-    command = " ".join(store.words("session", *more))
-    listener = subprocess.Popen(["socat", f"TCP-LISTEN:{port},bind=127.0.0.1,fork,reuseaddr,backlog=128", f"EXEC:{command}"])
-    await_port(port)
+    listener, port = store.listen(*more)
     others = [connect(port) for _ in range(10)]
     results = [None] * 50
     began = time.time()
@@ -196,29 +192,13 @@ def fifty(store, *more):
     took = time.time() - began
     for other in others:
         other.close()
-    listener.terminate()
-    listener.wait()
+    end(listener)
     assert all(type(result) is int for result in results), results
     return f"50 clients beside 10 silent ones, 20 scripts each: {took:.1f} s, {sum(results)} times put off, nothing lost, each answer its own"
 
 
 def fifty_put_off(store):
     return fifty(store)
-
-
-def free_port():
-    with socket.socket() as sock:
-        sock.bind(("127.0.0.1", 0))
-        return sock.getsockname()[1]
-
-
-def await_port(port):
-    for _ in range(100):
-        try:
-            return connect(port).close()
-        except (OSError, Gone):
-            time.sleep(0.05)
-    raise SystemExit(f"nothing listens on {port}")
 
 
 def lives(port, n, results):

@@ -1,5 +1,5 @@
 """A small ManageSieve client (RFC 5804) and the programs that it speaks with, for tests/ and bench/."""
-import base64, os, re, socket, subprocess, tempfile
+import base64, os, re, socket, subprocess, tempfile, time
 
 HERE = os.path.dirname(os.path.abspath(__file__))
 SIEVED = os.path.abspath(f"{HERE}/../crates/sieved/out/sieved")
@@ -15,8 +15,8 @@ class Gone(Exception):
 class Client:
     """One client over anything that is read and written as a file: `reply` gives an answer's lines, the last one last."""
 
-    def __init__(self, incoming, outgoing):
-        self.incoming, self.outgoing = incoming, outgoing
+    def __init__(self, incoming, outgoing, sock=None):
+        self.incoming, self.outgoing, self.sock = incoming, outgoing, sock
 
     def line(self):
         line = self.incoming.readline()
@@ -66,7 +66,7 @@ class Client:
         return lines[0] if lines[-1].startswith(b"OK") else None
 
     def close(self):
-        for side in (self.outgoing, self.incoming):
+        for side in filter(None, (self.outgoing, self.incoming, self.sock)):
             try:
                 side.close()
             except OSError:
@@ -77,8 +77,7 @@ def connect(port, greeted=True, seconds=60):
     """A client of whatever listens on the loopback address."""
     sock = socket.create_connection(("127.0.0.1", port), timeout=seconds)
     sock.setsockopt(socket.IPPROTO_TCP, socket.TCP_NODELAY, 1)
-    client = Client(sock.makefile("rb"), sock.makefile("wb", buffering=0))
-    client.sock = sock
+    client = Client(sock.makefile("rb"), sock.makefile("wb", buffering=0), sock)
     if greeted:
         client.reply()
     return client
@@ -109,6 +108,21 @@ class Store:
         server = subprocess.Popen(self.words("serve", "--port", "0", *more), stdout=subprocess.PIPE)
         told = server.stdout.readline()
         return server, int(told.rsplit(b":", 1)[1])
+
+    def listen(self, *more):
+        """socat, which starts a session for each connection, and its port."""
+        with socket.socket() as sock:
+            sock.bind(("127.0.0.1", 0))
+            port = sock.getsockname()[1]
+        command = " ".join(self.words("session", *more))
+        listener = subprocess.Popen(["socat", f"TCP-LISTEN:{port},bind=127.0.0.1,fork,reuseaddr,backlog=128", f"EXEC:{command}"])
+        for _ in range(100):
+            try:
+                connect(port).close()
+                return listener, port
+            except (OSError, Gone):
+                time.sleep(0.05)
+        raise SystemExit(f"nothing listens on {port}")
 
     def session(self, *more):
         """The process of one session, and its client, which was greeted."""
