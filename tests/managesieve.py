@@ -19,7 +19,10 @@ class Client:
         self.incoming, self.outgoing, self.sock = incoming, outgoing, sock
 
     def line(self):
-        line = self.incoming.readline()
+        try:
+            line = self.incoming.readline()
+        except ConnectionError as error:
+            raise Gone(error)
         if not line.endswith(b"\r\n"):
             raise Gone(line)
         return line
