@@ -67,7 +67,8 @@ def store(folder, count):
     sql(file, f"INSERT INTO script VALUES (CAST('alice' AS BLOB), CAST('main' AS BLOB), CAST('{text}' AS BLOB)); UPDATE account SET active = CAST('main' AS BLOB);")
     if count:
         sql(file, f"""WITH RECURSIVE k(n) AS (SELECT 1 UNION ALL SELECT n + 1 FROM k WHERE n < {count})
-            INSERT INTO copy(owner, folder, n, message) SELECT CAST('alice' AS BLOB), CAST('INBOX' AS BLOB), n, randomblob(8192) FROM k;
+            INSERT INTO message(owner, id, bytes) SELECT CAST('alice' AS BLOB), n, randomblob(8192) FROM k;
+            INSERT INTO copy(owner, folder, n, id) SELECT owner, CAST('INBOX' AS BLOB), id, id FROM message;
             UPDATE account SET next_copy = {count + 1};""")
     return file
 
