@@ -14,6 +14,8 @@ SIEVED = os.path.abspath(sys.argv[1] if len(sys.argv) > 1 else f"{HERE}/../crate
 RUNS = 15
 SALT = "00112233445566778899aabbccddeeff"
 SCRIPT = 'require ["fileinto", "envelope"];\nif header :contains "subject" "[list]" { fileinto "lists"; }\nelsif envelope :domain "from" "example.net" { fileinto "net"; }\n'
+INBOX = "keep;"
+WHOLE = 'require ["fileinto", "vacation"]; fileinto "a"; fileinto "b"; redirect "c@example.com"; vacation "Away.";'
 
 
 def message(size):
@@ -59,11 +61,11 @@ def sql(file, text):
     subprocess.run(["sqlite3", file], input=text.encode(), check=True, stdout=subprocess.DEVNULL)
 
 
-def store(folder, count):
-    file = f"{folder}/mail-{count}.db"
+def store(folder, count, script=SCRIPT):
+    file = f"{folder}/mail-{count}-{len(script)}.db"
     run([SIEVED, "init", "--db", file])
     run([SIEVED, "adduser", "--db", file, "--salt", SALT, "alice", "alice@example.org"], b"secret\n")
-    text = SCRIPT.replace("'", "''")
+    text = script.replace("'", "''")
     sql(file, f"INSERT INTO script VALUES (CAST('alice' AS BLOB), CAST('main' AS BLOB), CAST('{text}' AS BLOB)); UPDATE account SET active = CAST('main' AS BLOB);")
     if count:
         sql(file, f"""WITH RECURSIVE k(n) AS (SELECT 1 UNION ALL SELECT n + 1 FROM k WHERE n < {count})
@@ -98,6 +100,17 @@ def stores(folder):
             size = len(message(30_000_000))
             took, most = least(deliver(file), message(30_000_000), before=fresh, runs=5)
             row(f"`deliver`, {size:,} octets ({(most or 0) * 1024 / size:.2f} times its size)", took, most)
+
+
+def scripts(folder):
+    """A delivery into INBOX beside one that files into two folders, redirects and answers."""
+    for count in (10, 10_000):
+        for script, what in ((INBOX, "INBOX alone"), (WHOLE, "two folders, a redirect and an answer")):
+            file = store(folder, count, script)
+            whole = f"{file}.whole"
+            shutil.copy(file, whole)
+            took, most = least(deliver(file), message(8_192), before=lambda: shutil.copy(whole, file), runs=RUNS if count < 10_000 else 5)
+            row(f"`deliver`, {count:,} messages kept: {what}", took, most)
 
 
 CONF = """
@@ -165,6 +178,7 @@ def main():
     folder = tempfile.mkdtemp(prefix="sieved-bench-")
     try:
         stores(folder)
+        scripts(folder)
         dovecot(folder)
     finally:
         shutil.rmtree(folder)
