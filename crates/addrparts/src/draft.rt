@@ -243,8 +243,8 @@ impl<'a> Draft<'a> {
             return Ok(None);
         }
         Ok(Some(Addr {
-            local: self.local.copied(alloc)?,
-            domain: self.domain.copied(alloc)?,
+            local: self.local.try_clone(alloc)?,
+            domain: self.domain.try_clone(alloc)?,
         }))
     }
 

@@ -126,13 +126,13 @@ impl<'a> Pieces<'a> {
     }
 
     /// A copy of the octets, at their exact size.
-    pub(crate) fn copied(&self, alloc: Global) -> Result<Octets, AllocError>
+    pub(crate) fn try_clone(&self, alloc: Global) -> Result<Octets, AllocError>
         ensures { IfOk result (λ text. text ≡ self.now) }
     {
         if self.is_copied {
-            return self.copy.copied(alloc);
+            return self.copy.try_clone(alloc);
         }
         let (run, _) = self.from.split_at(self.len);
-        Octets::copy(alloc, run)
+        Octets::from_slice(alloc, run)
     }
 }

@@ -38,8 +38,8 @@ pub fn spelled(
     local: &[u8],
     domain: &[u8],
 ) -> Result<(), AllocError> {
-    let local = Octets::copy(alloc, local)?;
-    let domain = Octets::copy(alloc, domain)?;
+    let local = Octets::from_slice(alloc, local)?;
+    let domain = Octets::from_slice(alloc, domain)?;
     let address = Addr { local, domain };
     out.extend_from_slice(spell(alloc, &address)?.as_slice())
 }

@@ -73,6 +73,16 @@ fn add(out: &mut Octets, asked: Asked<'_>) -> Result<(), AllocError> {
             add_place(out, "notices", place)?;
             add_texts(out, &[user])
         }
+        Asked::Drain {
+            place,
+            most,
+            user,
+            folder,
+            maildir,
+        } => {
+            add_place(out, "drain", place)?;
+            add_texts(out, &[most.unwrap_or("no number"), user, folder, maildir])
+        }
         Asked::Serve {
             place,
             port,

@@ -39,7 +39,7 @@ fn answers(
     let mut events = Vec::new(alloc);
     events.push(Event::Open(NUMBER))?;
     for piece in [front, back] {
-        events.push(Event::Give(NUMBER, Octets::copy(alloc, piece)?))?;
+        events.push(Event::Give(NUMBER, Octets::from_slice(alloc, piece)?))?;
         for _ in 0..steps {
             events.push(Event::Step(NUMBER))?;
         }

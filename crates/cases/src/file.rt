@@ -2,18 +2,20 @@
 use crate::run::{add_run, answer, text_in};
 use crate::table::{Answers, try_rows};
 use crate::tally::Tally;
-use keepers::{FileKeeper, Keeper};
+use keepers::{FileKeeper, Keeper, MailSink, Maildir};
 use mailstore::Store;
 use octets::Octets;
 use sqlite::{Alter, Connection, Error};
 use std::alloc::{AllocError, Global};
 use std::{env, format, fs, io, process};
 
-/// Runs on the store of a file, by one keeper, while the other one may have it.
+/// Runs on the store of a file, by one keeper, while the other one may have it. Messages leave it into a Maildir.
 #[derive(Drop)]
-struct FileRuns<K: Drop> {
-    keeper: K,
-    other: K,
+struct FileRuns<'a> {
+    rt: &'a HostRuntime,
+    keeper: FileKeeper<'a>,
+    other: FileKeeper<'a>,
+    sink: Maildir<'a>,
     path: String,
 }
 
@@ -22,8 +24,10 @@ pub fn try_all(rt: &HostRuntime, tally: &mut Tally, file: &str) -> io::Result<()
     let path = path_for(rt)?;
     clear(rt, path.as_str())?;
     let mut runs = FileRuns {
+        rt,
         keeper: FileKeeper::new(rt),
         other: FileKeeper::new(rt),
+        sink: Maildir::new(rt),
         path,
     };
     try_rows(rt.alloc(), tally, &mut runs, file)?;
@@ -36,15 +40,30 @@ fn path_for(rt: &HostRuntime) -> io::Result<String> {
     Ok(format!(in rt.alloc(); "{}", path.display())?)
 }
 
-/// Takes away the database with what lies beside it.
+/// Takes away the database with what lies beside it, the Maildir too.
 fn clear(rt: &HostRuntime, path: &str) -> Result<(), AllocError> {
     for end in ["", "-wal", "-journal", ".lock"] {
         let _ = fs::remove_file(rt, format!(in rt.alloc(); "{path}{end}")?.as_str());
     }
+    let _ = fs::remove_dir_all(rt, format!(in rt.alloc(); "{path}.d")?.as_str());
     Ok(())
 }
 
-impl<K: Keeper + Drop> Answers for FileRuns<K> {
+/// Appends what comes of making a directory of the Maildir.
+fn add_made(rt: &HostRuntime, out: &mut Octets, path: &str, name: &str) -> Result<(), AllocError> {
+    let made = fs::create_dir_all(rt, format!(in rt.alloc(); "{path}.d/{name}")?.as_str());
+    out.extend_from_slice(if made.is_ok() { b"done" } else { b"refused" })
+}
+
+/// Appends the octets of a file of the Maildir.
+fn add_file(rt: &HostRuntime, out: &mut Octets, path: &str, name: &str) -> Result<(), AllocError> {
+    match fs::read(rt, format!(in rt.alloc(); "{path}.d/{name}")?.as_str()) {
+        Ok(octets) => out.extend_from_slice(&octets),
+        Err(_) => out.extend_from_slice(b"no such file"),
+    }
+}
+
+impl Answers for FileRuns<'_> {
     fn answer(
         &mut self,
         alloc: Global,
@@ -61,16 +80,30 @@ impl<K: Keeper + Drop> Answers for FileRuns<K> {
                     text_in(query),
                 )
             }
+            [call, name] if call.as_slice() == b"made".as_slice() => {
+                add_made(self.rt, out, self.path.as_str(), text_in(name))
+            }
+            [call, name] if call.as_slice() == b"file".as_slice() => {
+                add_file(self.rt, out, self.path.as_str(), text_in(name))
+            }
             [call, words, input] if call.as_slice() == b"locked".as_slice() => add_locked(
                 alloc,
                 out,
                 &mut self.other,
                 &mut self.keeper,
+                &mut self.sink,
                 self.path.as_str(),
                 text_in(words),
                 input.as_slice(),
             ),
-            _ => answer(alloc, out, &mut self.keeper, self.path.as_str(), given),
+            _ => answer(
+                alloc,
+                out,
+                &mut self.keeper,
+                &mut self.sink,
+                self.path.as_str(),
+                given,
+            ),
         }
     }
 }
@@ -103,11 +136,12 @@ fn number<S: Alter + Drop>(conn: &mut Connection<S>, query: &str) -> Result<i64,
 }
 
 /// Appends what a run leaves while another keeper has the store.
-fn add_locked<K: Keeper>(
+fn add_locked<K: Keeper, T: MailSink>(
     alloc: Global,
     out: &mut Octets,
     other: &mut K,
     keeper: &mut K,
+    sink: &mut T,
     path: &str,
     words: &str,
     input: &[u8],
@@ -115,7 +149,7 @@ fn add_locked<K: Keeper>(
     let Ok(store) = other.take(path, false) else {
         return out.extend_from_slice(b"not taken");
     };
-    let ran = add_run(alloc, out, keeper, path, words, input);
+    let ran = add_run(alloc, out, keeper, sink, path, words, input);
     if other.hand_back(store).is_err() {
         return out.extend_from_slice(b" not closed");
     }

@@ -32,8 +32,8 @@ fn record_of(
     rounds: &Octets,
     kept: &Octets,
 ) -> Result<Record, AllocError> {
-    let salt = salt.copied(alloc)?;
-    let digest = kept.copied(alloc)?;
+    let salt = salt.try_clone(alloc)?;
+    let digest = kept.try_clone(alloc)?;
     Ok(Record {
         salt,
         rounds: rounds_of(rounds),

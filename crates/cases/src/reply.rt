@@ -1,6 +1,6 @@
 //! Answers of ManageSieve as they are spelled (RFC 5804).
 use msproto::{Code, Line, Reply, Status, spell};
-use octets::{ListOf, Octets};
+use octets::{List, Octets};
 use std::alloc::{AllocError, Global};
 
 /// The octets of an answer of one line.
@@ -25,21 +25,21 @@ fn line_of(alloc: Global, kind: &[u8], given: &[Octets]) -> Result<Option<Line>,
     match (kind, given) {
         (b"capability", [name, value]) => capability(alloc, name, value),
         (b"script", [name, state]) => script(alloc, name, state.as_slice()),
-        (b"text", [text]) => Ok(Some(Line::Text(text.copied(alloc)?))),
+        (b"text", [text]) => Ok(Some(Line::Text(text.try_clone(alloc)?))),
         (b"empty", []) => Ok(Some(Line::Empty)),
         _ => Ok(None),
     }
 }
 
 fn capability(alloc: Global, name: &Octets, value: &Octets) -> Result<Option<Line>, AllocError> {
-    let name = name.copied(alloc)?;
+    let name = name.try_clone(alloc)?;
     let value = some(alloc, value)?;
     Ok(Some(Line::Capability { name, value }))
 }
 
 fn script(alloc: Global, name: &Octets, state: &[u8]) -> Result<Option<Line>, AllocError> {
     let active = state == b"active".as_slice();
-    let name = name.copied(alloc)?;
+    let name = name.try_clone(alloc)?;
     Ok(Some(Line::Script { name, active }))
 }
 
@@ -49,7 +49,7 @@ fn spell_line(
     line: Line,
     word: Option<Status>,
 ) -> Result<(), AllocError> {
-    let mut lines = ListOf::new(alloc);
+    let mut lines = List::new(alloc);
     lines.push(line)?;
     let reply = Reply {
         lines,
@@ -70,7 +70,7 @@ fn spell_last(
     let code = code_of(alloc, code)?;
     let text = some(alloc, text)?;
     let reply = Reply {
-        lines: ListOf::new(alloc),
+        lines: List::new(alloc),
         word,
         code,
         text,
@@ -83,7 +83,7 @@ fn some(alloc: Global, text: &Octets) -> Result<Option<Octets>, AllocError> {
     if text.is_empty() {
         return Ok(None);
     }
-    Ok(Some(text.copied(alloc)?))
+    Ok(Some(text.try_clone(alloc)?))
 }
 
 fn word_of(word: &[u8]) -> Option<Status> {
@@ -97,7 +97,7 @@ fn word_of(word: &[u8]) -> Option<Status> {
 
 fn code_of(alloc: Global, code: &[u8]) -> Result<Option<Code>, AllocError> {
     if let Some(tag) = code.strip_prefix(b"tag:") {
-        return Ok(Some(Code::Tag(Octets::copy(alloc, tag)?)));
+        return Ok(Some(Code::Tag(Octets::from_slice(alloc, tag)?)));
     }
     Ok(match code {
         b"maxsize" => Some(Code::MaxSize),

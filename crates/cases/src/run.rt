@@ -2,7 +2,7 @@
 use crate::table::Answers;
 use crate::talk;
 use crate::text::words_of;
-use keepers::{Keeper, MemoryKeeper};
+use keepers::{Keeper, MailSink, MemoryKeeper, MemorySink};
 use octets::{Octets, parse_decimal, write_decimal};
 use sievedrun::drive::drive;
 use sievedrun::fault::Fault;
@@ -15,7 +15,7 @@ use std::{format, io, str};
 const CLOCK: Option<u64> = Some(1_700_000_000);
 
 /// What a run may tell, those too that no case can bring about.
-const FAULTS: [Fault; 15] = [
+const FAULTS: [Fault; 16] = [
     Fault::Memory,
     Fault::Store,
     Fault::Busy,
@@ -29,14 +29,19 @@ const FAULTS: [Fault; 15] = [
     Fault::BadUser,
     Fault::NoRow,
     Fault::NoMessage,
+    Fault::NoMaildir,
     Fault::BadInput,
     Fault::BadArgument,
 ];
 
-/// Runs on a store in memory.
+/// The words of a delivery to alice.
+const DELIVERY: &str = "deliver --db F --to alice@example.org alice";
+
+/// Runs on a store in memory, whose messages leave it into memory.
 #[derive(Drop)]
 pub struct MemoryRuns {
     keeper: MemoryKeeper,
+    sink: MemorySink,
 }
 
 impl MemoryRuns {
@@ -44,15 +49,54 @@ impl MemoryRuns {
     pub fn new(alloc: Global) -> Result<MemoryRuns, AllocError> {
         Ok(MemoryRuns {
             keeper: MemoryKeeper::new(alloc)?,
+            sink: MemorySink::new(alloc),
         })
     }
 
-    /// From now on the database is another one, made by these statements of SQL.
+    /// From now on the database is another one, made by these statements of SQL, and no message has left it.
     fn replace(&mut self, alloc: Global, sql: &str) -> Result<(), Error> {
         let mut conn = Connection::open_in_memory(alloc)?;
         let made = conn.execute_batch(sql);
         self.keeper = MemoryKeeper::over(alloc, conn);
+        self.sink = MemorySink::new(alloc);
         made
+    }
+
+    /// Delivers that many messages of the same octets to alice.
+    fn deliver(&mut self, alloc: Global, times: u64) -> Result<(), AllocError> {
+        for _ in 0..times {
+            let mut out = Octets::new(alloc);
+            add_run(
+                alloc,
+                &mut out,
+                &mut self.keeper,
+                &mut self.sink,
+                "",
+                DELIVERY,
+                b"Subject: more\n\n",
+            )?;
+        }
+        Ok(())
+    }
+
+    /// Appends what comes of a row on where messages go: `fail` and `nowhere` say what the sink refuses, `kept` tells
+    /// what it has, and `mails` delivers.
+    fn add_kept(
+        &mut self,
+        alloc: Global,
+        out: &mut Octets,
+        call: &[u8],
+        text: &[u8],
+    ) -> Result<(), AllocError> {
+        let number = parse_decimal(text).unwrap_or(0);
+        match call {
+            b"fail" => self.sink.fail_after(number),
+            b"nowhere" => self.sink.refuse_maildir(),
+            b"mails" => self.deliver(alloc, number)?,
+            b"kept" => return add_messages(out, self.sink.messages()),
+            _ => return out.extend_from_slice(b"no such call"),
+        }
+        out.extend_from_slice(b"done")
     }
 }
 
@@ -73,17 +117,29 @@ impl Answers for MemoryRuns {
                     .be_busy_after(parse_decimal(calls.as_slice()).unwrap_or(0));
                 out.extend_from_slice(b"done")
             }
-            _ => answer(alloc, out, &mut self.keeper, "", given),
+            [call, text] => self.add_kept(alloc, out, call.as_slice(), text.as_slice()),
+            _ => answer(alloc, out, &mut self.keeper, &mut self.sink, "", given),
         }
     }
 }
 
+/// Appends how many messages there are, and each of them after a `|`.
+fn add_messages(out: &mut Octets, messages: &[Octets]) -> Result<(), AllocError> {
+    write_decimal(out, messages.len() as u64)?;
+    for message in messages {
+        out.push(b'|')?;
+        out.extend_from_slice(message.as_slice())?;
+    }
+    Ok(())
+}
+
 /// Appends what comes of a row that any keeper can have: `run` and `full` are runs of the program, `send` is a
 /// command, and `greet`, `talk`, `gone` and `deaf` are sessions.
-pub fn answer<K: Keeper>(
+pub fn answer<K: Keeper, T: MailSink>(
     alloc: Global,
     out: &mut Octets,
     keeper: &mut K,
+    sink: &mut T,
     path: &str,
     given: &[Octets],
 ) -> Result<(), AllocError> {
@@ -91,8 +147,24 @@ pub fn answer<K: Keeper>(
         return out.extend_from_slice(b"not so many columns");
     };
     match call.as_slice() {
-        b"run" => add_run(alloc, out, keeper, path, text_in(text), input.as_slice()),
-        b"full" => add_full(alloc, out, keeper, path, text_in(text), input.as_slice()),
+        b"run" => add_run(
+            alloc,
+            out,
+            keeper,
+            sink,
+            path,
+            text_in(text),
+            input.as_slice(),
+        ),
+        b"full" => add_full(
+            alloc,
+            out,
+            keeper,
+            sink,
+            path,
+            text_in(text),
+            input.as_slice(),
+        ),
         b"told" => add_told(alloc, out, text_in(text)),
         b"send" => talk::add_sent(alloc, out, keeper, path, input.as_slice()),
         b"greet" | b"talk" | b"gone" | b"deaf" => talk::answer(
@@ -112,10 +184,11 @@ pub fn text_in(column: &Octets) -> &str {
 }
 
 /// Appends what a run leaves.
-pub fn add_run<K: Keeper>(
+pub fn add_run<K: Keeper, T: MailSink>(
     alloc: Global,
     out: &mut Octets,
     keeper: &mut K,
+    sink: &mut T,
     path: &str,
     words: &str,
     input: &[u8],
@@ -130,16 +203,18 @@ pub fn add_run<K: Keeper>(
         &mut faults,
         keeper,
         CLOCK,
+        sink,
     );
     add_left(out, status, output.as_slice(), faults.as_slice())?;
     add_unread(out, left.len())
 }
 
 /// Appends what a run leaves whose output takes nothing.
-fn add_full<K: Keeper>(
+fn add_full<K: Keeper, T: MailSink>(
     alloc: Global,
     out: &mut Octets,
     keeper: &mut K,
+    sink: &mut T,
     path: &str,
     words: &str,
     input: &[u8],
@@ -154,6 +229,7 @@ fn add_full<K: Keeper>(
         &mut faults,
         keeper,
         CLOCK,
+        sink,
     );
     add_left(out, status, b"", faults.as_slice())
 }

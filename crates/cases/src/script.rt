@@ -123,7 +123,7 @@ impl<'a> Trial<'a> {
 
 /// A script that discards where a test holds.
 fn discarding(alloc: Global, test: &str) -> Result<Octets, AllocError> {
-    let mut script = Octets::copy(alloc, b"require \"envelope\"; if ")?;
+    let mut script = Octets::from_slice(alloc, b"require \"envelope\"; if ")?;
     script.extend_from_slice(decoded(alloc, test)?.as_slice())?;
     script.extend_from_slice(b" { discard; }")?;
     Ok(script)

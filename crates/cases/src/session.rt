@@ -137,7 +137,7 @@ impl<'a> Talk<'a> {
         user: &str,
     ) -> Result<Event, AllocError> {
         Ok(Event::Deliver {
-            user: Octets::copy(alloc, user.as_bytes())?,
+            user: Octets::from_slice(alloc, user.as_bytes())?,
             envelope: self.envelope(alloc)?,
             message: octets_in(alloc, section)?,
             moment: self.moment,
@@ -146,7 +146,7 @@ impl<'a> Talk<'a> {
 
     fn envelope(&self, alloc: Global) -> Result<Envelope, AllocError> {
         let from = decoded(alloc, self.from)?;
-        let to = Octets::copy(alloc, b"alice@example.org")?;
+        let to = Octets::from_slice(alloc, b"alice@example.org")?;
         Ok(Envelope { from, to })
     }
 
@@ -205,7 +205,7 @@ pub fn login(alloc: Global, user: &[u8]) -> Result<Octets, AllocError> {
     message.push(0)?;
     message.extend_from_slice(PASSWORD)?;
     let text = STANDARD.encode(alloc, message.as_slice())?;
-    let mut line = Octets::copy(alloc, b"AUTHENTICATE \"PLAIN\" \"")?;
+    let mut line = Octets::from_slice(alloc, b"AUTHENTICATE \"PLAIN\" \"")?;
     line.extend_from_slice(text.as_bytes())?;
     line.extend_from_slice(b"\"\r\n")?;
     Ok(line)
@@ -235,7 +235,7 @@ fn times_in(note: &str) -> (&str, u64) {
 fn row_taken(alloc: Global, note: &str) -> Result<Event, AllocError> {
     let (user, id) = note.split_once(' ').unwrap_or((note, ""));
     Ok(Event::TakeOut {
-        user: Octets::copy(alloc, user.as_bytes())?,
+        user: Octets::from_slice(alloc, user.as_bytes())?,
         id: number(id),
     })
 }
@@ -244,8 +244,8 @@ fn row_taken(alloc: Global, note: &str) -> Result<Event, AllocError> {
 fn mail_taken(alloc: Global, note: &str) -> Result<Event, AllocError> {
     let (user, folder) = note.split_once(' ').unwrap_or((note, ""));
     Ok(Event::TakeMail {
-        user: Octets::copy(alloc, user.as_bytes())?,
-        folder: Octets::copy(alloc, folder.as_bytes())?,
+        user: Octets::from_slice(alloc, user.as_bytes())?,
+        folder: Octets::from_slice(alloc, folder.as_bytes())?,
     })
 }
 

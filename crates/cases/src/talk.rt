@@ -25,7 +25,7 @@ pub fn add_sent<K: Keeper>(
     path: &str,
     bytes: &[u8],
 ) -> Result<(), AllocError> {
-    let mut sent = Octets::copy(alloc, LOGIN)?;
+    let mut sent = Octets::from_slice(alloc, LOGIN)?;
     sent.extend_from_slice(bytes)?;
     let mut left = sent.as_slice();
     let mut told = Vec::new(alloc);

@@ -76,15 +76,19 @@ fn add_plain(alloc: Global, out: &mut Octets, text: &str) -> Result<(), AllocErr
     out.extend_from_slice(octets.as_slice())
 }
 
-/// Words with a blank between two of them; `F` stands for the path. Two blanks have an empty word between them.
+/// Words with a blank between two of them; `F` stands for the path, and `F.d` for the path with `.d` after it. Two blanks
+/// have an empty word between them.
 pub fn words_of(alloc: Global, text: &str, path: &str) -> Result<Vec<String>, AllocError> {
     let mut words = Vec::new(alloc);
     if text.is_empty() {
         return Ok(words);
     }
     for word in text.split(' ') {
-        let word = if word == "F" { path } else { word };
-        words.push(format!(in alloc; "{word}")?)?;
+        words.push(match word {
+            "F" => format!(in alloc; "{path}")?,
+            "F.d" => format!(in alloc; "{path}.d")?,
+            _ => format!(in alloc; "{word}")?,
+        })?;
     }
     Ok(words)
 }

@@ -1,10 +1,10 @@
 //! The tokens of a script (RFC 5228, 8.1).
 use octets::{Octets, write_decimal};
-use sievelex::{Kind, ScriptError, Token, Value, tokens};
+use sievelex::{Content, Mark, ScriptError, Token, tokens};
 use std::alloc::{AllocError, Global};
 use std::format;
 
-/// Each token with its kind, what it says, its place and its line; or the fault.
+/// Each token with what it is and says, its place and its line; or the fault.
 pub fn told(alloc: Global, out: &mut Octets, script: &[u8]) -> Result<(), AllocError> {
     match tokens(alloc, script) {
         Ok(found) => add_all(out, found.as_slice()),
@@ -24,9 +24,7 @@ fn add_all(out: &mut Octets, found: &[Token]) -> Result<(), AllocError> {
 }
 
 fn add(out: &mut Octets, token: &Token) -> Result<(), AllocError> {
-    out.extend_from_slice(name(token.kind).as_bytes())?;
-    out.push(b' ')?;
-    add_value(out, &token.value)?;
+    add_content(out, &token.content)?;
     write_decimal(out, token.start as u64)?;
     out.push(b'-')?;
     write_decimal(out, token.end as u64)?;
@@ -34,34 +32,39 @@ fn add(out: &mut Octets, token: &Token) -> Result<(), AllocError> {
     write_decimal(out, token.line)
 }
 
-fn add_value(out: &mut Octets, value: &Value) -> Result<(), AllocError> {
-    match value {
-        Value::Nothing => Ok(()),
-        Value::Amount(amount) => {
-            write_decimal(out, *amount)?;
+fn add_content(out: &mut Octets, content: &Content) -> Result<(), AllocError> {
+    match content {
+        Content::Identifier(name) => add_said(out, "Identifier", name.as_slice()),
+        Content::Tag(name) => add_said(out, "Tag", name.as_slice()),
+        Content::Text(value) => add_said(out, "Text", value.as_slice()),
+        Content::Number(number) => {
+            out.extend_from_slice(b"Number ")?;
+            write_decimal(out, *number)?;
             out.push(b' ')
         }
-        Value::Chars(chars) => {
-            out.push(b'<')?;
-            out.extend_from_slice(chars.as_slice())?;
-            out.extend_from_slice(b"> ")
+        Content::Mark(mark) => {
+            out.extend_from_slice(name_of(*mark).as_bytes())?;
+            out.push(b' ')
         }
     }
 }
 
-fn name(kind: Kind) -> &'static str {
-    match kind {
-        Kind::Identifier => "Identifier",
-        Kind::Tag => "Tag",
-        Kind::Number => "Number",
-        Kind::Text => "Text",
-        Kind::Semicolon => "Semicolon",
-        Kind::OpenBrace => "OpenBrace",
-        Kind::CloseBrace => "CloseBrace",
-        Kind::OpenBracket => "OpenBracket",
-        Kind::CloseBracket => "CloseBracket",
-        Kind::OpenParen => "OpenParen",
-        Kind::CloseParen => "CloseParen",
-        Kind::Comma => "Comma",
+fn add_said(out: &mut Octets, kind: &str, said: &[u8]) -> Result<(), AllocError> {
+    out.extend_from_slice(kind.as_bytes())?;
+    out.extend_from_slice(b" <")?;
+    out.extend_from_slice(said)?;
+    out.extend_from_slice(b"> ")
+}
+
+fn name_of(mark: Mark) -> &'static str {
+    match mark {
+        Mark::Semicolon => "Semicolon",
+        Mark::OpenBrace => "OpenBrace",
+        Mark::CloseBrace => "CloseBrace",
+        Mark::OpenBracket => "OpenBracket",
+        Mark::CloseBracket => "CloseBracket",
+        Mark::OpenParen => "OpenParen",
+        Mark::CloseParen => "CloseParen",
+        Mark::Comma => "Comma",
     }
 }

@@ -95,7 +95,7 @@ impl<'a> Trial<'a> {
         let wanted = decoded(alloc, section.text)?;
         let got = match self.asked(alloc)? {
             Some(args) => key(alloc, &args)?,
-            None => Octets::copy(alloc, b"no vacation")?,
+            None => Octets::from_slice(alloc, b"no vacation")?,
         };
         tally.note(
             section.line,
@@ -142,7 +142,7 @@ impl<'a> Trial<'a> {
         let mail = Mail::read(alloc, message.as_slice(), self.envelope(alloc)?)?;
         match (self.asked(alloc)?, self.own(alloc)?) {
             (Some(args), Some(own)) => reply(alloc, &args, &mail, &own, self.moment.as_bytes()),
-            _ => Octets::copy(alloc, b"no vacation"),
+            _ => Octets::from_slice(alloc, b"no vacation"),
         }
     }
 
@@ -198,7 +198,7 @@ impl<'a> Trial<'a> {
 
 fn key(alloc: Global, args: &VacArgs) -> Result<Octets, AllocError> {
     if !has_short_texts(args) {
-        return Octets::copy(alloc, b"long texts");
+        return Octets::from_slice(alloc, b"long texts");
     }
     handle_key(alloc, args)
 }
@@ -212,7 +212,7 @@ fn reply(
 ) -> Result<Octets, AllocError> {
     match parse_decimal(trimmed(moment)) {
         Some(moment) if moment <= MAX_MOMENT => reply_bytes(alloc, args, mail, own, moment),
-        _ => Octets::copy(alloc, b"no moment"),
+        _ => Octets::from_slice(alloc, b"no moment"),
     }
 }
 

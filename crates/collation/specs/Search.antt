@@ -19,6 +19,12 @@ image_in image text k = image (slice_index text k)
 abbrev pub LacksFrom : (ℕ → ℕ) → List ℕ → ℕ → ℕ → ℕ → Type 0
 LacksFrom image text from count wanted = (k : ℕ) → k < count → image_in image text (from + k) ≢ wanted
 
+-- a place from `from` on and no further than `end`, before which, from `from` on, no octet has an image
+pub record GoesPast (image : ℕ → ℕ) (text : List ℕ) (from end wanted place : ℕ) : Type 0 where
+  pub low : from ≤ place
+  pub high : place ≤ end
+  pub passed : (k : ℕ) → from ≤ k → k < place → image_in image text k ≢ wanted
+
 -- the images of the key's octets, of which there are m, stand in those of the value from a place on
 abbrev pub StandsAt : (ℕ → ℕ) → (ℕ → ℕ) → ℕ → List ℕ → ℕ → Type 0
 StandsAt image octet_at m value place = OccursIn (image_at image octet_at) m (image_in image value) (length value) place

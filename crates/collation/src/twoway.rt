@@ -7,7 +7,7 @@ ghost use Rattle.std.specs.Prelude.{◌≡◌, ◌≢◌, ◌↔◌, ℕ, ◌+�
 ghost use Rattle.std.specs.Ordering.{MatchOrdering};
 ghost use Rattle.memchr.specs.Critical.{IsSuffixAt, IsCutPlace};
 ghost use Rattle.memchr.specs.Find.{Nowhere};
-ghost use Rattle.collation.specs.Search.{image_at, image_in, LacksFrom, StandsAt, FindsKey, Precedes, IsCut};
+ghost use Rattle.collation.specs.Search.{image_at, image_in, LacksFrom, GoesPast, StandsAt, FindsKey, Precedes, IsCut};
 
 use crate::Comparator;
 use crate::spelling::{Key, Spot};
@@ -219,9 +219,7 @@ fn run_lacks<C: Comparator>(value: &[u8], from: usize, wanted: u8) -> bool
 fn past_runs<C: Comparator>(value: &[u8], from: usize, end: usize, wanted: u8) -> usize
     requires ordered { from ≤ end }
     requires within { end ≤ length value.now }
-    ensures low { from ≤ result }
-    ensures high { result ≤ end }
-    ensures passed { (k : ℕ) → from ≤ k → k < result → image_in C.image_of value.now k ≢ wanted }
+    ensures { GoesPast C.image_of value.now from end wanted result }
 {
     let mut place = from;
     while RUN <= end - place && run_lacks::<C>(value, place, wanted) {
@@ -235,9 +233,7 @@ fn past_runs<C: Comparator>(value: &[u8], from: usize, end: usize, wanted: u8) -
 fn next_place<C: Comparator>(value: &[u8], from: usize, end: usize, wanted: u8) -> usize
     requires ordered { from ≤ end }
     requires within { end ≤ length value.now }
-    ensures low { from ≤ result }
-    ensures high { result ≤ end }
-    ensures passed { (k : ℕ) → from ≤ k → k < result → image_in C.image_of value.now k ≢ wanted }
+    ensures { GoesPast C.image_of value.now from end wanted result }
 {
     let mut place = past_runs::<C>(value, from, end, wanted);
     while place < end && C::image(value[place]) != wanted {

@@ -10,12 +10,12 @@ ghost use Rattle.deliverplan.specs.Views.{IsViewOf, moment_under};
 use crate::looping::is_looping;
 use crate::notice::{INVALID_TEXT, LOOP_TEXT, failure_text};
 use crate::outcome::outcome_on;
-use crate::texts::{copied, inbox, spelled};
+use crate::texts::{inbox, spelled};
 use crate::vacation::{VacationPlan, plan_vacation};
 use crate::view::View;
 use addrparts::{Addr, spell};
 use mailstore::{Letter, Plan, Report, VacationReport};
-use octets::{ListOf, Octets, Texts};
+use octets::{List, Octets, Texts};
 use sieveexec::{Mail, Outcome};
 use sievelex::ScriptError;
 use sievesyntax::VacArgs;
@@ -73,14 +73,14 @@ fn leave_notice<'m>(
 {
     let copies = inbox(alloc)?;
     let filed = inbox(alloc)?;
-    let notice = Octets::copy(alloc, text)?;
-    let told = Octets::copy(alloc, text)?;
+    let notice = Octets::from_slice(alloc, text)?;
+    let told = Octets::from_slice(alloc, text)?;
     Ok(Plan {
         message: mail.message(),
         sender: mail.from(),
         moment,
         copies,
-        outgoing: ListOf::new(alloc),
+        outgoing: List::new(alloc),
         remember: None,
         notice: Some(notice),
         report: Report {
@@ -106,7 +106,7 @@ fn act<'m>(
     ensures { IfOk result (IsActingPlan view.now.address moment mail.now (moment_under view.now.replies)
         (record { filed = filed; sent = targets.now; reply = option_copied reply.entry })) }
 {
-    let copies = copied(alloc, filed.as_slice())?;
+    let copies = filed.try_clone(alloc)?;
     let sent = spelled(alloc, targets)?;
     let mut outgoing = redirects(alloc, targets)?;
     let VacationPlan {
@@ -133,10 +133,10 @@ fn act<'m>(
 }
 
 /// The letters that send a message on to these addresses.
-fn redirects(alloc: Global, targets: &[Addr]) -> Result<ListOf<Letter>, AllocError>
+fn redirects(alloc: Global, targets: &[Addr]) -> Result<List<Letter>, AllocError>
     ensures { IfOk result (λ letters. letters ≡ redirect_letters targets.now) }
 {
-    let mut letters = ListOf::new(alloc);
+    let mut letters = List::new(alloc);
     for address in targets {
         let target = spell(alloc, address)?;
         letters.push(Letter::Redirect { target })?;
@@ -145,7 +145,7 @@ fn redirects(alloc: Global, targets: &[Addr]) -> Result<ListOf<Letter>, AllocErr
 }
 
 /// Appends a letter, if there is one.
-fn push_some(letters: &mut ListOf<Letter>, letter: Option<Letter>) -> Result<(), AllocError>
+fn push_some(letters: &mut List<Letter>, letter: Option<Letter>) -> Result<(), AllocError>
     ensures { OnOk result (letters.new ≡ with_letter letters.old letter) }
 {
     let Some(letter) = letter else {

@@ -15,19 +15,8 @@ pub(crate) fn inbox(alloc: Global) -> Result<Texts, AllocError>
     ensures { IfOk result (λ filed. filed ≡ inbox_of ∷ []) }
 {
     let mut filed = Texts::new(alloc);
-    filed.push(Octets::copy(alloc, INBOX)?)?;
+    filed.push(Octets::from_slice(alloc, INBOX)?)?;
     Ok(filed)
-}
-
-/// The same texts.
-pub(crate) fn copied(alloc: Global, texts: &[Octets]) -> Result<Texts, AllocError>
-    ensures { IfOk result (λ copy. copy ≡ texts.now) }
-{
-    let mut copy = Texts::new(alloc);
-    for text in texts {
-        copy.push(text.copied(alloc)?)?;
-    }
-    Ok(copy)
 }
 
 /// Addresses as they are written.

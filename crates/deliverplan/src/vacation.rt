@@ -76,8 +76,8 @@ fn send(
     ensures { IfOk result (SendsReply view.now.address moment mail.now args.now key) }
 {
     let message = reply_bytes(alloc, args, mail, &view.address, moment)?;
-    let target = Octets::copy(alloc, mail.from())?;
-    let sender = Octets::copy(alloc, mail.from())?;
+    let target = Octets::from_slice(alloc, mail.from())?;
+    let sender = Octets::from_slice(alloc, mail.from())?;
     Ok(VacationPlan {
         vacation: VacationReport::Sent,
         letter: Some(Letter::Reply { target, message }),

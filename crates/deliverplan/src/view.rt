@@ -4,7 +4,7 @@ ghost use Rattle.deliverplan.specs.Views.{moment_under};
 
 use addrparts::Addr;
 use mailstore::KeptReply;
-use octets::ListOf;
+use octets::List;
 
 /// What a delivery has to know of the account, beside the text of its active script.
 #[derive(Debug, Drop)]
@@ -12,7 +12,7 @@ pub struct View {
     /// The account's address.
     pub address: Addr,
     /// The moments that are kept of responses to the sender, case ignored in the sender; each key once, in any order.
-    pub replies: ListOf<KeptReply>,
+    pub replies: List<KeptReply>,
 }
 
 impl View {

@@ -1,5 +1,5 @@
 -- Facts that the keepers' laws cite.
-use Rattle.std.specs.Prelude.{◌≡◌, true, false, IsTrue}
+use Rattle.std.specs.Prelude.{false, IsTrue}
 
 -- a keeper that tells nothing owes nothing
 pub never_told : {P : Type 0} → IsTrue false → P

@@ -1,3 +1,5 @@
+pub mod FileName
+pub mod Kept
 pub mod Laws
 pub mod Memory
 pub mod Taken

@@ -2,14 +2,21 @@
 use sqlite::ErrorCode;
 use std::io::ErrorKind;
 
-/// Of a file that can't be opened or locked.
-pub fn of_file(kind: ErrorKind) -> &'static str {
+/// Of a lock's file that can't be opened or locked.
+pub fn of_lock(kind: ErrorKind) -> &'static str {
+    of_file(kind).unwrap_or("lock file can't be used")
+}
+
+/// Of a file that can't be opened, written or renamed; none where nothing more is known of it.
+pub fn of_file(kind: ErrorKind) -> Option<&'static str> {
     match kind {
-        ErrorKind::NotFound => "no such directory",
-        ErrorKind::PermissionDenied => "permission denied",
-        ErrorKind::ReadOnlyFilesystem => "file system is read-only",
-        ErrorKind::StorageFull => "disk is full",
-        _ => "lock file can't be used",
+        ErrorKind::NotFound => Some("no such directory"),
+        ErrorKind::PermissionDenied => Some("permission denied"),
+        ErrorKind::ReadOnlyFilesystem => Some("file system is read-only"),
+        ErrorKind::StorageFull => Some("disk is full"),
+        ErrorKind::QuotaExceeded => Some("disk quota is used up"),
+        ErrorKind::FileTooLarge => Some("file would be too large"),
+        _ => None,
     }
 }
 

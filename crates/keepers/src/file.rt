@@ -2,7 +2,7 @@
 ghost use Rattle.std.specs.Prelude.{◌≡◌, IfErr};
 ghost use Rattle.mailstore.specs.Refusals.{IsPassing};
 
-use crate::cause::{of_file, of_sqlite};
+use crate::cause::{of_lock, of_sqlite};
 use crate::keeper::{Held, Keeper, store_of};
 use mailstore::{Refusal, Store};
 use sqlite::{Connection, Error, ErrorCode, File as Database, FileStore};
@@ -148,7 +148,7 @@ fn locked(rt: &HostRuntime, path: &str, waits: bool) -> Result<File, Failure> {
 fn unlocked(error: io::Error) -> Failure {
     Failure {
         held: Held::Refused(Refusal::Store),
-        cause: Some(of_file(error.kind())),
+        cause: Some(of_lock(error.kind())),
     }
 }
 

@@ -1,7 +1,5 @@
 -- The same acts of a user leave the user with the same account.
-use Rattle.std.proofs.Common.{◌≡◌, ◌⊎◌, ℕ, Bool, true, false, cond, List, [], ◌∷◌, Option, Some, None, option_map, refl, sym, ◌∙◌, ap, subst, inl, inr}
-use Rattle.addrparts.specs.declared.address.Addr.{Addr}
-use Rattle.addrparts.specs.Outbound.{IsBareAddress}
+use Rattle.std.proofs.Common.{◌≡◌, ℕ, Bool, true, false, cond, List, [], ◌∷◌, Option, Some, None, option_map, refl, sym, ◌∙◌, ap, subst, inl, inr}
 use Rattle.addrparts.proofs.Outbounds.{bare-found}
 use Rattle.sieveexec.specs.Mails.{mail_of}
 use Rattle.sieveexec.specs.declared.envelope.Envelope.{Envelope}
@@ -13,8 +11,8 @@ use Rattle.mailstore.specs.Account.{Account, messages_in}
 use Rattle.mailstore.specs.declared.queue.Outgoing.{Outgoing}
 use Rattle.mailstore.specs.declared.report.Report.{Report}
 use Rattle.mailstore.specs.declared.refusal.Refusal.{Refusal}
-use Rattle.sessions.specs.Replies.{is_ok, declined, done}
-use Rattle.sessions.specs.Scripts.{Where, TellsFault, RepliesToText, RepliesToHaveSpace, RepliesToPut, RepliesToSet, RepliesToDelete, RepliesToRename, RepliesToCheck, RepliesTo, obeyed, carried_out}
+use Rattle.sessions.specs.Replies.{is_ok}
+use Rattle.sessions.specs.Scripts.{Where, TellsFault, RepliesToText, RepliesToPut, RepliesToSet, RepliesToDelete, RepliesToRename, RepliesTo, obeyed, carried_out}
 use Rattle.deliverplan.specs.Delivered.{Delivers}
 use Rattle.deliverplan.proofs.DeliveryLaws.{one_delivery}
 use Rattle.mailengine.specs.declared.answer.Answer.{Answer}

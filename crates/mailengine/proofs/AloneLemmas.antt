@@ -1,7 +1,7 @@
 -- What becomes of one user's account in a run, by the user's acts alone.
 use Rattle.std.proofs.Common.{◌≡◌, ℕ, ◌⊎◌, Bool, true, false, cond, List, [], ◌∷◌, ◌++◌, Option, Some, None, option_map, refl, sym, ◌∙◌, ap, subst, inl, inr, codes}
 use Rattle.std.specs.Prelude.{◌&&◌, not, is_some, is_none, nat_lt, MatchBool}
-use Rattle.std.specs.FinMap.{FinMap, get, insert, get-insert}
+use Rattle.std.specs.FinMap.{get, insert, get-insert}
 use Rattle.std.proofs.lemmas.Cmp.{nat_list_cmp_total}
 use Rattle.msproto.specs.declared.commands.Command.{Command}
 use Rattle.msproto.specs.declared.commands.Command.TheVariants.{Capability, Noop, Logout, Authenticate, Unauthenticate, HaveSpace, PutScript, CheckScript, ListScripts, SetActive, GetScript, DeleteScript, RenameScript, Response}
@@ -20,7 +20,7 @@ use Rattle.mailstore.specs.declared.refusal.Refusal.TheVariants.{Memory, Store, 
 use Rattle.sessions.specs.Clients.{Client, item_in, past}
 use Rattle.sessions.specs.Logins.{admitted, admitted_by, checked_by, has_password, is_plain, is_star, login_reply}
 use Rattle.sessions.specs.Replies.{is_ok, declined, farewell}
-use Rattle.sessions.specs.Scripts.{carried_out, obeyed}
+use Rattle.sessions.specs.Scripts.{obeyed}
 use Rattle.sessions.specs.Steps.{changed_for, Obeys, Answers, StepsAt, IsStep}
 use Rattle.sessions.specs.Table.{needs_login, early_reply, account_of, RepliesOf, RepliesIn, RepliesTaken}
 use Rattle.sessions.specs.Turns.{login_text}
@@ -29,11 +29,11 @@ use Rattle.sessions.specs.declared.progress.Progress.TheVariants as p
 use Rattle.mailengine.specs.declared.event.Event.{Event}
 use Rattle.mailengine.specs.declared.event.Event.TheVariants.{Open, Give, Step, GiveUp, Close, Deliver, AddUser, TakeOut, TakeMail}
 use Rattle.mailengine.specs.declared.answer.Answer.{Answer}
-use Rattle.mailengine.specs.declared.answer.Answer.TheVariants.{Out, Delivered, Added, Taken, Ignored, Refused, MailTaken}
-use Rattle.mailengine.specs.Limits.{limit_refusal, IsNewUser}
+use Rattle.mailengine.specs.declared.answer.Answer.TheVariants.{Delivered, Added, Taken, Refused, MailTaken}
+use Rattle.mailengine.specs.Limits.{limit_refusal}
 use Rattle.mailengine.specs.AccountEvents.{row_with, Refuses, DeliversIn, DeliversUnder, Delivery, AddsUnder, Addition, TakesRow, TakesIn, Taking, TakesFirst, TakesMailIn, MailTaking}
 use Rattle.mailengine.specs.OwnActs.{Act, Commands, LogsIn, Receives, Joins, TakesOut, TakesMail, TakesFirstAlone, TakesMailAloneIn, RepliesAlone, CommandsAlone, admits, ReceivesIn, JoinsIn, TakesRowAlone, TakesAloneIn, ActsAlone, Alone, is_user, when_of, is_welcome, login_acts, text_acts, command_acts, item_acts, step_acts, is_lost, event_acts, acts_in, acts, IsAlone}
-use Rattle.mailengine.specs.World.{World, Clients, Ignores, InSession, Opens, Steps, Happens, MayRefuse, IsRefused, Next, Runs}
+use Rattle.mailengine.specs.World.{World, InSession, Opens, Steps, Happens, MayRefuse, IsRefused, Next, Runs}
 
 -- ---- accounts by name
 

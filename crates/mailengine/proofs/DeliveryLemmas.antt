@@ -1,6 +1,6 @@
 -- A delivery: the limits, the reads, and then the write.
-use Rattle.std.proofs.Common.{◌≡◌, ◌≤◌, ◌⊎◌, ℕ, Bool, true, false, cond, not, nat_lt, length, List, Option, Some, None, Ok, Err, Result, OnOk, IfOk, IfErr, IsSome, IsTrue, refl, sym, ap, ◌∙◌, subst, inl, inr, arith}
-use Rattle.std.specs.FinMap.{get, insert}
+use Rattle.std.proofs.Common.{◌≡◌, ◌≤◌, ◌⊎◌, ℕ, Bool, true, false, cond, not, nat_lt, length, List, Option, Some, None, Ok, Err, Result, OnOk, IfOk, IfErr, IsSome, refl, sym, subst, inl, inr}
+use Rattle.std.specs.FinMap.{get}
 use Rattle.std.proofs.lemmas.Bool.{ltb-false}
 use Rattle.sqlite.specs.State.{State, HasCleanDisk}
 use Rattle.sieveexec.specs.declared.envelope.Envelope.{Envelope}
@@ -16,12 +16,12 @@ use Rattle.mailstore.specs.Account.{Account, Accounts, in_place, with_user, deli
 use Rattle.mailstore.specs.Promises.{HasUser, IsFree, OfUser, WritesAccount}
 use Rattle.mailstore.specs.Refusals.{IsPassing}
 use Rattle.mailstore.specs.Shows.{Presents}
-use Rattle.sessions.specs.Acts.{HasAccounts, Acts}
+use Rattle.sessions.specs.Acts.{HasAccounts}
 use Rattle.sessions.proofs.ActLemmas.{no_glance, glanced, acts_read, acts_made, acts_undone}
 use Rattle.mailengine.specs.declared.answer.Answer.{Answer}
 use Rattle.mailengine.specs.declared.answer.Answer.TheVariants.{Delivered, Refused}
 use Rattle.mailengine.specs.declared.delivery.Lookup.{Lookup}
-use Rattle.mailengine.specs.AccountEvents.{Refuses, DeliversUser, DeliversIn, DeliversUnder, Delivery}
+use Rattle.mailengine.specs.AccountEvents.{DeliversIn, DeliversUnder, Delivery}
 use Rattle.mailengine.specs.Hosts.{TurnsBy, MayTurnBy, MayRefuseDelivery, RefusesDelivery, ActsDelivery}
 use Rattle.mailengine.specs.Limits.{limit_refusal, message_limit, is_envelope, moment_limit}
 use Rattle.mailengine.specs.Lookups.{LooksUp, IsLookup}

@@ -1,5 +1,5 @@
 -- The events of accounts on small cases: what is right, and beside it what nearly is.
-use Rattle.std.proofs.Common.{◌≡◌, ℕ, true, false, List, [], ◌∷◌, codes, Option, Some, None, refl, sym, ap, ◌∙◌, subst, inl, inr}
+use Rattle.std.proofs.Common.{◌≡◌, ℕ, true, false, List, [], ◌∷◌, codes, Some, None, refl, sym, ap, ◌∙◌, subst, inl, inr}
 use Rattle.std.specs.FinMap.{get, insert, get-empty}
 use Rattle.addrparts.specs.declared.address.Addr.{Addr}
 use Rattle.addrparts.specs.Outbound.{IsBareAddress}
@@ -14,7 +14,7 @@ use Rattle.deliverplan.specs.Delivered.{Acts, kept, Silent, report_of}
 use Rattle.mailengine.specs.declared.answer.Answer.{Answer}
 use Rattle.mailengine.specs.declared.answer.Answer.TheVariants.{Delivered, Added, Taken, Refused}
 use Rattle.mailengine.specs.Limits.{IsNewUser}
-use Rattle.mailengine.specs.AccountEvents.{active_text, DeliversIn, Delivery, AddsUnder, Addition, row_with, TakesIn, TakesRow, Taking}
+use Rattle.mailengine.specs.AccountEvents.{DeliversIn, Delivery, AddsUnder, Addition, row_with, TakesIn, TakesRow, Taking}
 use Rattle.mailengine.proofs.AloneLemmas.{put_own, put_other, delivery_other}
 
 abbrev alice : List ℕ

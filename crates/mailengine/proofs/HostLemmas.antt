@@ -1,11 +1,11 @@
 -- Sessions in a map are the machine's, one event at a time.
-use Rattle.std.proofs.Common.{◌≡◌, ℕ, Bool, true, false, cond, List, [], ◌∷◌, ◌++◌, map, Option, Some, None, option_map, is_some, Ok, Err, Result, refl, sym, ◌∙◌, ap, subst, inl, inr}
-use Rattle.std.specs.Prelude.{IfSome}
+use Rattle.std.proofs.Common.{◌≡◌, ℕ, Bool, true, false, cond, List, [], ◌∷◌, ◌++◌, map, Option, Some, None, option_map, is_some, Ok, Err, Result, MatchResult, IsOkAnd, refl, sym, ◌∙◌, ap, subst, inl, inr}
 use Rattle.std.specs.declared.cmp.Ordering.{Ordering}
 use Rattle.std.specs.declared.cmp.Ordering.TheVariants.{Less, Equal, Greater}
+use Rattle.std.specs.Result.{result_and}
 use Rattle.std.specs.Ordering.{nat_cmp, is_eq}
 use Rattle.std.specs.Cmp.{eq_by_cmp_equiv, nat_cmp_total}
-use Rattle.std.specs.FinMap.{FinMap, get, insert, remove, get-insert, get-remove, get-from_entries, find, nat_cmp-IsAntisymmetric}
+use Rattle.std.specs.FinMap.{get, insert, remove, get-insert, get-remove, get-from_entries, find, nat_cmp-IsAntisymmetric}
 use Rattle.std.specs.Map.{lookup}
 use Rattle.std.specs.BTreeMap as tree
 use Rattle.std.specs.BTreeMap.{BTreeMap}
@@ -15,7 +15,7 @@ use Rattle.mailstore.specs.Refusals.{IsPassing}
 use Rattle.sieveexec.specs.declared.envelope.Envelope.{Envelope}
 use Rattle.mailstore.specs.declared.refusal.Refusal.{Refusal}
 use Rattle.mailstore.specs.declared.refusal.Refusal.TheVariants.{Memory, Store, NotOurs, NoUser, TooLarge, BadEnvelope, BadMoment, UserExists, BadUser, NoRow}
-use Rattle.sqlite.specs.State.{State, HasCleanDisk, Survives}
+use Rattle.sqlite.specs.State.{State, Survives}
 use Rattle.sqlite.proofs.StateLemmas.{survives_weaker}
 use Rattle.sessions.specs.Acts.{Acts, CrashLeaves, HasAccounts}
 use Rattle.sessions.specs.Orders.{StepsTo, MayStep, MayRefuse as MayRefuseStep}
@@ -32,7 +32,7 @@ use Rattle.mailengine.specs.declared.event.Event.TheVariants.{Open, Give, Step, 
 use Rattle.mailengine.specs.declared.answer.Answer.{Answer}
 use Rattle.mailengine.specs.declared.answer.Answer.TheVariants.{Out, Ignored, Refused}
 use Rattle.mailengine.specs.World.{World, Clients, with_accounts, Ignores, Becomes, InSession, Opens, Steps, Happens, MayRefuse, with_session, without_session, MayLack, MayFail, if_open, is_closed, Next}
-use Rattle.mailengine.specs.Hosts.{clients_of, HasClients, Implements, IsSessionEvent, IsEvent, EventCrashLeaves, TurnsBy, MayTurnBy, MayRefuseDelivery, MayRefuseAddition}
+use Rattle.mailengine.specs.Hosts.{clients_of, HasClients, host, Implements, IsSessionEvent, IsEvent, EventCrashLeaves, answer_by, answer_of, TurnsBy, MayTurnBy, MayRefuseDelivery, MayRefuseAddition}
 
 abbrev pub Kept : Type 0
 Kept = BTreeMap ℕ SessionView
@@ -227,7 +227,7 @@ stepped w n c d progress octets later has is =
 module _ (old new : State) (kept behind : Kept) (n : ℕ) (v u : SessionView) (r : Result Progress Refusal) (before after : List ℕ) (one : Some v ≡ tree.get nat_cmp kept n) (put : tree.Updates nat_cmp kept behind n (Some u))
     (acts : Acts (StepsTo v.client u.client r before after) (MayStep v.client) old new r) where
   -- it answered
-  pub step_told : (progress : Progress) → r ≡ Ok progress → before ≡ [] → IsEvent (Step n) (Out progress after) old kept new behind
+  pub step_told : (progress : Progress) → r ≡ Ok progress → before ≡ [] → IsEvent (Step n) (Out progress after) (host old kept) (host new behind)
   step_told progress is none clean w had =
       let turned = acts.carries clean w.accounts had.accounts in
       let made : StepsTo v.client u.client (Ok progress) before after w.accounts turned.0 = subst (λ q. StepsTo v.client u.client q before after w.accounts turned.0) is turned.1 in
@@ -239,7 +239,7 @@ module _ (old new : State) (kept behind : Kept) (n : ℕ) (v u : SessionView) (r
       )
 
   -- it was refused, and the session is as it was
-  pub step_undone : (answer : Answer) (refusal : Refusal) → r ≡ Err refusal → answer ≡ Refused refusal → MayRefuseStep v.client refusal → u ≡ v → IsEvent (Step n) answer old kept new behind
+  pub step_undone : (answer : Answer) (refusal : Refusal) → r ≡ Err refusal → answer ≡ Refused refusal → MayRefuseStep v.client refusal → u ≡ v → IsEvent (Step n) answer (host old kept) (host new behind)
   step_undone answer refusal is told may same clean w had =
       let turned = acts.carries clean w.accounts had.accounts in
       let stays : turned.0 ≡ w.accounts = subst (λ q. StepsTo v.client u.client q before after w.accounts turned.0) is turned.1 in (
@@ -249,14 +249,14 @@ module _ (old new : State) (kept behind : Kept) (n : ℕ) (v u : SessionView) (r
       )
 
 -- what a crash leaves of it
-pub step_crash : (old new : State) (kept : Kept) (n : ℕ) (v : SessionView) → Some v ≡ tree.get nat_cmp kept n → Survives old new (CrashLeaves (MayStep v.client) old) → Survives old new (EventCrashLeaves (Step n) old kept)
+pub step_crash : (old new : State) (kept : Kept) (n : ℕ) (v : SessionView) → Some v ≡ tree.get nat_cmp kept n → Survives old new (CrashLeaves (MayStep v.client) old) → Survives old new (EventCrashLeaves (Step n) (host old kept))
 step_crash old new kept n v one crash = survives_weaker old new _ _ (λ clean trees may w shown has.
     let left = may w.accounts shown in
     let step = left.1 in
     (Out step.0 step.1, record { accounts = left.0; sessions = insert w.sessions n step.2 }, inl (stepped w n v.client step.2 step.0 step.1 left.0 (one_there kept w.sessions n v has one) step.3), left.2)) crash
 
 -- an event of sessions alone asks no store
-pub session_event : (event : Event) (answer : Answer) (s : State) (kept behind : Kept) → IsSessionEvent event answer kept behind → IsEvent event answer s kept s behind
+pub session_event : (event : Event) (answer : Answer) (s : State) (kept behind : Kept) → IsSessionEvent event answer kept behind → IsEvent event answer (host s kept) (host s behind)
 session_event event answer s kept behind is clean w had =
     let made = is w had.sessions in
     (record { accounts = w.accounts; sessions = made.0 }, made.1, record { accounts = had.accounts; sessions = made.2 })
@@ -268,18 +268,18 @@ ignored_step kept behind n none same = ignored (Step n) kept behind n (λ w gone
 
 module _ (event : Event) (Row : Accounts → Answer → Accounts → Type 0) (May : Refusal → Type 0) (rows : (w : World) (answer : Answer) (next : World) → with_accounts w (Row w.accounts) answer next → Happens w event answer next)
     (refuses : (w : World) (refusal : Refusal) → May refusal → MayRefuse w event refusal) (old new : State) (kept : Kept) where
-  pub account_event : {X : Type 0} (r : Result X Refusal) (answer : Answer) → Acts (TurnsBy Row May answer) (MayTurnBy Row) old new r → IsEvent event answer old kept new kept
+  pub account_event : {X : Type 0} (r : Result X Refusal) (answer : Answer) → Acts (TurnsBy Row May answer) (MayTurnBy Row) old new r → IsEvent event answer (host old kept) (host new kept)
   account_event r answer acts clean w had =
       let turned = acts.carries clean w.accounts had.accounts in
       go turned.0 turned.1 turned.2
     where
-      go : (later : Accounts) → TurnsBy Row May answer w.accounts later → HasAccounts new later → (next : World) × Next w event answer next × Implements new kept next
+      go : (later : Accounts) → TurnsBy Row May answer w.accounts later → HasAccounts new later → (next : World) × Next w event answer next × Implements (host new kept) next
       go later (inl row) shown =
           (record { accounts = later; sessions = w.sessions }, inl (rows w answer (record { accounts = later; sessions = w.sessions }) (later, row, refl)), record { accounts = shown; sessions = had.sessions })
       go later (inr (refusal, may, is, same)) shown =
           (w, inr (record { refusal = refusal; may = refuses w refusal may; refused = is; stays = refl }), record { accounts = subst (HasAccounts new) same shown; sessions = had.sessions })
 
-  pub account_crash : {X : Type 0} (r : Result X Refusal) (answer : Answer) → Acts (TurnsBy Row May answer) (MayTurnBy Row) old new r → Survives old new (EventCrashLeaves event old kept)
+  pub account_crash : {X : Type 0} (r : Result X Refusal) (answer : Answer) → Acts (TurnsBy Row May answer) (MayTurnBy Row) old new r → Survives old new (EventCrashLeaves event (host old kept))
   account_crash r answer acts = survives_weaker old new _ _ (λ clean trees may w shown has.
       let left = may w.accounts shown in
       (left.1.0, record { accounts = left.0; sessions = w.sessions }, inl (rows w left.1.0 (record { accounts = left.0; sessions = w.sessions }) (left.0, left.1.1, refl)), left.2)) acts.crash
@@ -308,9 +308,21 @@ pub mail_taking_may : (user folder : List ℕ) (w : World) (refusal : Refusal) �
 mail_taking_may user folder w refusal (inl is) = lacking_may w (TakeMail user folder) refusal is tt
 mail_taking_may user folder w refusal (inr is) = failing_may w (TakeMail user folder) refusal is tt
 
--- the same event with the same answer
-pub event_is : (event told_of : Event) (answer told : Answer) (old new : State) (kept behind : Kept) → event ≡ told_of → answer ≡ told → IsEvent told_of told old kept new behind → IsEvent event answer old kept new behind
-event_is event told_of answer told old new kept behind is same made = subst (λ e. IsEvent e answer old kept new behind) (sym is) (subst (λ a. IsEvent told_of a old kept new behind) (sym same) made)
+-- the answer that is made of what a call gave
+pub told_by : {X : Type 0} (told : X → Answer) (done : Result X Refusal) (made : Result Answer Refusal) (answer : Answer) → MatchResult done (λ x. IsOkAnd made (λ y. y ≡ told x)) (λ e. made ≡ Err e) → answer ≡ answer_of made
+    → answer ≡ answer_by told done
+told_by told (Ok x) (Ok y) answer cases is = is ∙ cases
+told_by told (Ok x) (Err e) answer cases is = absurd cases
+told_by told (Err e) made answer cases is = is ∙ ap answer_of cases
 
-pub crash_is : (event told_of : Event) (old new : State) (kept : Kept) → event ≡ told_of → Survives old new (EventCrashLeaves told_of old kept) → Survives old new (EventCrashLeaves event old kept)
-crash_is event told_of old new kept is made = subst (λ e. Survives old new (EventCrashLeaves e old kept)) (sym is) made
+-- the same of a call that gives nothing
+pub told_done : (told : Answer) (done : Result (Unit {0}) Refusal) (made : Result Answer Refusal) (answer : Answer) → made ≡ result_and done (Ok told) → answer ≡ answer_of made → answer ≡ answer_by (λ x. told) done
+told_done told (Ok x) made answer same is = is ∙ ap answer_of same
+told_done told (Err e) made answer same is = is ∙ ap answer_of same
+
+-- the same event with the same answer
+pub event_is : (event told_of : Event) (answer told : Answer) (old new : State) (kept behind : Kept) → event ≡ told_of → answer ≡ told → IsEvent told_of told (host old kept) (host new behind) → IsEvent event answer (host old kept) (host new behind)
+event_is event told_of answer told old new kept behind is same made = subst (λ e. IsEvent e answer (host old kept) (host new behind)) (sym is) (subst (λ a. IsEvent told_of a (host old kept) (host new behind)) (sym same) made)
+
+pub crash_is : (event told_of : Event) (old new : State) (kept : Kept) → event ≡ told_of → Survives old new (EventCrashLeaves told_of (host old kept)) → Survives old new (EventCrashLeaves event (host old kept))
+crash_is event told_of old new kept is made = subst (λ e. Survives old new (EventCrashLeaves e (host old kept))) (sym is) made

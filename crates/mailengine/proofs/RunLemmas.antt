@@ -1,26 +1,25 @@
 -- Runs, one event after the other.
-use Rattle.std.proofs.Common.{◌≡◌, ◌⊎◌, ℕ, ◌+◌, ◌<◌, List, [], ◌∷◌, ◌++◌, take, length, get_or, IsTrue, Result, refl, sym, ◌∙◌, ap, subst, inl, inr}
+use Rattle.std.proofs.Common.{◌≡◌, ℕ, ◌+◌, ◌<◌, List, [], ◌∷◌, ◌++◌, take, length, get_or, IsTrue, Result, refl, sym, ◌∙◌, ap, subst, inl, inr}
 use Rattle.std.proofs.lemmas.List.{take_more}
-use Rattle.sqlite_trees.specs.Tree.{Trees}
-use Rattle.sqlite.specs.State.{State, HasCleanDisk, Survives}
-use Rattle.sqlite.proofs.StateLemmas.{survives_then, survives_weaker}
+use Rattle.sqlite.specs.State.{State, HasCleanDisk}
+use Rattle.sqlite.proofs.StateLemmas.{survives_then}
 use Rattle.sieveexec.specs.declared.envelope.Envelope.{Envelope}
 use Rattle.mailstore.specs.declared.refusal.Refusal.{Refusal}
 use Rattle.mailstore.specs.declared.report.Report.{Report}
 use Rattle.mailstore.specs.Account.{Accounts}
-use Rattle.mailstore.specs.Shows.{Presents}
 use Rattle.mailstore.proofs.OneLemmas.{accounts_one}
 use Rattle.mailengine.specs.declared.event.Event.{Event}
 use Rattle.mailengine.specs.declared.event.Event.TheVariants.{Deliver}
 use Rattle.mailengine.specs.declared.answer.Answer.{Answer}
+use Rattle.mailengine.specs.declared.answer.Answer.TheVariants.{Delivered}
 use Rattle.mailengine.specs.AccountEvents.{Delivery}
 use Rattle.mailengine.specs.World.{World, Next, Runs}
-use Rattle.mailengine.specs.Hosts.{clients_of, HasClients, Implements, IsEvent, EventCrashLeaves, IsRun, IsRunAlone, IsRunSpaced, IsSpacedDelivery, RunCrashLeaves, TurnsBy, MayRefuseDelivery, ActsDelivery, answer_of_delivery}
+use Rattle.mailengine.specs.Hosts.{clients_of, Host, IsEvent, SurvivesEvent, answered, IsRun, IsRunAlone, IsRunSpaced, IsSpacedDelivery, SurvivesRun, TurnsBy, MayRefuseDelivery, ActsDelivery, answer_by}
 use Rattle.mailengine.specs.Sound.{AreSound, KeepsSound}
 use Rattle.mailengine.proofs.AloneLemmas.{projection}
 use Rattle.mailengine.proofs.SpacingLemmas.{spacing}
 use Rattle.mailengine.proofs.SoundLemmas.{runs_sound}
-use Rattle.mailengine.proofs.HostLemmas.{Kept, clients_are, delivery_may}
+use Rattle.mailengine.proofs.HostLemmas.{clients_are, delivery_may}
 
 -- a run goes on with one event more
 pub runs_more : (events : List Event) (told : List Answer) (w mid end : World) (event : Event) (answer : Answer) → Runs w events told mid → Next mid event answer end → Runs w (events ++ event ∷ []) (told ++ answer ∷ []) end
@@ -30,32 +29,32 @@ runs_more [] (a ∷ told) w mid end event answer run next = absurd run
 runs_more (e ∷ events) [] w mid end event answer run next = absurd run
 
 -- no event
-pub run_none : (s : State) (kept : Kept) → IsRun [] [] s kept s kept
-run_none s kept clean w had = (w, refl, had)
+pub run_none : (h : Host) → IsRun [] [] h h
+run_none h clean w had = (w, refl, had)
 
 -- one event more
-pub run_more : (old mid new : State) (before between behind : Kept) (events : List Event) (told : List Answer) (event : Event) (answer : Answer) → IsRun events told old before mid between → (HasCleanDisk new → HasCleanDisk mid)
-    → IsEvent event answer mid between new behind → IsRun (events ++ event ∷ []) (told ++ answer ∷ []) old before new behind
-run_more old mid new before between behind events told event answer ran was here clean w had =
+pub run_more : (old mid new : Host) (events : List Event) (told : List Answer) (event : Event) (answer : Answer) → IsRun events told old mid → (HasCleanDisk new.store → HasCleanDisk mid.store)
+    → IsEvent event answer mid new → IsRun (events ++ event ∷ []) (told ++ answer ∷ []) old new
+run_more old mid new events told event answer ran was here clean w had =
     let one = ran (was clean) w had in
     let two = here clean one.0 one.2 in
     (two.0, runs_more events told w one.0 two.0 event answer one.1 two.1, two.2)
 
-module _ (old mid new : State) (before between behind : Kept) (events : List Event) (at : ℕ) (event : Event) (within : at < length events) (item : event ≡ get_or events at event) where
+module _ (old mid new : Host) (events : List Event) (at : ℕ) (event : Event) (within : at < length events) (item : event ≡ get_or events at event) where
   next_taken : take (at + 1) events ≡ take at events ++ event ∷ []
   next_taken = take_more events at event within ∙ ap (λ e. take at events ++ e ∷ []) (sym item)
 
   -- the next event of a list has happened
-  pub run_goes : (told all : List Answer) (answer : Answer) → IsRun (take at events) told old before mid between → all ≡ told ++ answer ∷ [] → (HasCleanDisk new → HasCleanDisk mid) → IsEvent event answer mid between new behind
-      → IsRun (take (at + 1) events) all old before new behind
+  pub run_goes : (told all : List Answer) (answer : Answer) → IsRun (take at events) told old mid → all ≡ told ++ answer ∷ [] → (HasCleanDisk new.store → HasCleanDisk mid.store) → IsEvent event answer mid new
+      → IsRun (take (at + 1) events) all old new
   run_goes told all answer ran is was here =
-      let went : IsRun (take at events ++ event ∷ []) (told ++ answer ∷ []) old before new behind = run_more old mid new before between behind (take at events) told event answer ran was here in
-      subst (λ l. IsRun (take (at + 1) events) l old before new behind) (sym is) (subst (λ l. IsRun l (told ++ answer ∷ []) old before new behind) (sym next_taken) went)
+      let went : IsRun (take at events ++ event ∷ []) (told ++ answer ∷ []) old new = run_more old mid new (take at events) told event answer ran was here in
+      subst (λ l. IsRun (take (at + 1) events) l old new) (sym is) (subst (λ l. IsRun l (told ++ answer ∷ []) old new) (sym next_taken) went)
 
-  -- what a crash leaves behind it
-  pub crash_goes : (told : List Answer) → IsRun (take at events) told old before mid between → (HasCleanDisk new → HasCleanDisk mid) → (HasCleanDisk new → IsTrue new.is_open → IsTrue mid.is_open)
-      → Survives old mid (RunCrashLeaves events old before mid) → Survives mid new (EventCrashLeaves event mid between) → Survives old new (RunCrashLeaves events old before new)
-  crash_goes told ran was shut early late = survives_then old mid new _ _ _ (λ clean trees left live. left (shut clean live))
+  -- what a crash leaves after it
+  pub crash_goes : (told : List Answer) → IsRun (take at events) told old mid → (HasCleanDisk new.store → HasCleanDisk mid.store) → (HasCleanDisk new.store → IsTrue new.store.is_open → IsTrue mid.store.is_open)
+      → SurvivesRun events old mid → SurvivesEvent event mid new → SurvivesRun events old new
+  crash_goes told ran was shut early late = survives_then old.store mid.store new.store _ _ _ (λ clean trees left live. left (shut clean live))
       (λ clean trees left live w shown has.
       let one = ran (was clean) w (record { accounts = λ o. shown; sessions = has }) in
       let two = left one.0 (one.2.accounts (shut clean live)) one.2.sessions in
@@ -63,10 +62,9 @@ module _ (old mid new : State) (before between behind : Kept) (events : List Eve
       (at + 1, told ++ two.0 ∷ [], two.1, subst (λ l. Runs w l (told ++ two.0 ∷ []) two.1) (sym next_taken) run, two.3)) early late
 
 -- a run of as many events as there are answers
-pub run_counted : (old new : State) (before behind : Kept) (events : List Event) (at : ℕ) (told all : List Answer) → IsRun (take at events) told old before new behind → length told ≡ at → all ≡ told
-    → IsRun (take (length all) events) all old before new behind
-run_counted old new before behind events at told all ran count is =
-    subst (λ l. IsRun (take (length l) events) l old before new behind) (sym is) (subst (λ n. IsRun (take n events) told old before new behind) (sym count) ran)
+pub run_counted : (old new : Host) (events : List Event) (at : ℕ) (told all : List Answer) → IsRun (take at events) told old new → length told ≡ at → all ≡ told → IsRun (answered events all) all old new
+run_counted old new events at told all ran count is =
+    subst (λ l. IsRun (take (length l) events) l old new) (sym is) (subst (λ n. IsRun (take n events) told old new) (sym count) ran)
 
 -- ---- a delivery alone
 
@@ -84,24 +82,24 @@ pub delivery_spaced : (user : List ℕ) (envelope : Envelope) (message : List �
 delivery_spaced user envelope message moment old new q acts clean w had =
     let turned = acts.carries clean w.accounts had in
     let end : World = record { accounts = turned.0; sessions = w.sessions } in
-    let run : Runs w (Deliver user envelope message moment ∷ []) (answer_of_delivery q ∷ []) end = (end, delivery_next user envelope message moment w (answer_of_delivery q) turned.0 turned.1, refl) in
-    (end, run, turned.2, spacing (Deliver user envelope message moment ∷ []) (answer_of_delivery q ∷ []) w end run)
+    let run : Runs w (Deliver user envelope message moment ∷ []) (answer_by Delivered q ∷ []) end = (end, delivery_next user envelope message moment w (answer_by Delivered q) turned.0 turned.1, refl) in
+    (end, run, turned.2, spacing (Deliver user envelope message moment ∷ []) (answer_by Delivered q ∷ []) w end run)
 
 -- ---- what every run is
 
 -- a run from a store of sound accounts leaves sound accounts
-pub run_sound : (events : List Event) (told : List Answer) (old new : State) (before behind : Kept) → IsRun events told old before new behind → KeepsSound old new
-run_sound events told old new before behind ran clean accounts later was sound live now =
-    let w : World = record { accounts = accounts; sessions = clients_of before } in
-    let end = ran clean w (record { accounts = λ o. was; sessions = clients_are before }) in
-    subst AreSound (accounts_one new.now end.0.accounts later (end.2.accounts live) now) (runs_sound events told w end.0 sound end.1)
+pub run_sound : (events : List Event) (told : List Answer) (old new : Host) → IsRun events told old new → KeepsSound old.store new.store
+run_sound events told old new ran clean accounts later was sound live now =
+    let w : World = record { accounts = accounts; sessions = clients_of old.sessions } in
+    let end = ran clean w (record { accounts = λ o. was; sessions = clients_are old.sessions }) in
+    subst AreSound (accounts_one new.store.now end.0.accounts later (end.2.accounts live) now) (runs_sound events told w end.0 sound end.1)
 
-pub run_alone : (events : List Event) (told : List Answer) (old new : State) (before behind : Kept) → IsRun events told old before new behind → IsRunAlone events told old before new behind
-run_alone events told old new before behind ran clean w had =
+pub run_alone : (events : List Event) (told : List Answer) (old new : Host) → IsRun events told old new → IsRunAlone events told old new
+run_alone events told old new ran clean w had =
     let end = ran clean w had in
     (end.0, end.1, end.2, projection events told w end.0 end.1)
 
-pub run_spaced : (events : List Event) (told : List Answer) (old new : State) (before behind : Kept) → IsRun events told old before new behind → IsRunSpaced events told old before new behind
-run_spaced events told old new before behind ran clean w had =
+pub run_spaced : (events : List Event) (told : List Answer) (old new : Host) → IsRun events told old new → IsRunSpaced events told old new
+run_spaced events told old new ran clean w had =
     let end = ran clean w had in
     (end.0, end.1, end.2, spacing events told w end.0 end.1)

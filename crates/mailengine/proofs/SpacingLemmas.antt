@@ -1,10 +1,8 @@
 -- Answers to one sender under one handle are spaced by their periods.
-use Rattle.std.proofs.Common.{◌≡◌, ℕ, ◌+◌, ◌≤◌, ◌⊎◌, Bool, true, false, cond, List, [], ◌∷◌, ◌++◌, Option, Some, None, option_map, refl, sym, ◌∙◌, ap, subst, inl, inr, nat_lt, arith}
-use Rattle.std.specs.Prelude.{◌||◌}
+use Rattle.std.proofs.Common.{◌≡◌, ℕ, ◌+◌, ◌≤◌, Bool, true, false, cond, List, [], ◌∷◌, ◌++◌, Option, Some, None, option_map, refl, sym, ◌∙◌, ap, subst, inl, inr, arith}
 use Rattle.std.specs.declared.cmp.Ordering.{Ordering}
 use Rattle.std.specs.declared.cmp.Ordering.TheVariants.{Less, Equal, Greater}
-use Rattle.std.specs.FinMap.{FinMap, get, insert, get-insert, get-empty}
-use Rattle.std.specs.List.{fold}
+use Rattle.std.specs.FinMap.{get, get-insert}
 use Rattle.std.specs.Ordering.{is_eq, ordering_then}
 use Rattle.std.proofs.lemmas.Bool.Decides.{nat_tests}
 use Rattle.mailstore.proofs.MapLemmas.{tied_is}
@@ -18,7 +16,6 @@ use Rattle.sessions.specs.Replies.{is_ok}
 use Rattle.mailstore.specs.declared.queue.Outgoing.{Outgoing}
 use Rattle.msproto.specs.declared.replies.Status.{Status}
 use Rattle.sieveexec.specs.Mails.{MailSpec, mail_of}
-use Rattle.sieveexec.specs.declared.envelope.Envelope.{Envelope}
 use Rattle.sievesyntax.specs.Meaning.{Actions}
 use Rattle.sievesyntax.specs.declared.tree.vacation.VacArgs.{VacArgs}
 use Rattle.vacreply.specs.Cases.{period_of, is_early}
@@ -28,7 +25,7 @@ use Rattle.vacreply.specs.declared.reason.Reason.{Reason}
 use Rattle.vacreply.specs.declared.reason.Reason.TheVariants as R
 use Rattle.vacreply.specs.declared.reason.Decision.{Decision}
 use Rattle.vacreply.specs.declared.reason.Decision.TheVariants as D
-use Rattle.mailstore.specs.Account.{bytes_cmp, reply_cmp, Account, Accounts, files_copies, notes, remembers, queues, takes_out, messages_in}
+use Rattle.mailstore.specs.Account.{bytes_cmp, reply_cmp, Account, Accounts, files_copies, remembers, queues, messages_in}
 use Rattle.mailstore.specs.declared.queue.Kind.TheVariants as kind
 use Rattle.mailstore.specs.declared.report.Report.{Report}
 use Rattle.mailstore.specs.declared.report.VacationReport.{VacationReport}
@@ -36,16 +33,16 @@ use Rattle.mailstore.specs.declared.report.VacationReport.TheVariants as V
 use Rattle.mailstore.specs.declared.refusal.Refusal.{Refusal}
 use Rattle.sessions.specs.Scripts.{carried_out, obeyed}
 use Rattle.deliverplan.specs.Views.{last_reply}
-use Rattle.deliverplan.specs.Delivered.{Disposition, Acts, Tells, Response, Silent, Quiet, Sent, Follows, Responds, acts, redirects, responds, vacation_report, report_of, CarriesOut, LeavesNotice, DeliversAs}
+use Rattle.deliverplan.specs.Delivered.{Disposition, Acts, Tells, Response, Silent, Quiet, Sent, Follows, Responds, acts, redirects, responds, vacation_report, DeliversAs}
 use Rattle.mailengine.specs.declared.event.Event.{Event}
 use Rattle.mailengine.specs.declared.event.Event.TheVariants.{Open, Give, Step, GiveUp, Close, Deliver, AddUser, TakeOut, TakeMail}
 use Rattle.mailengine.specs.declared.answer.Answer.{Answer}
 use Rattle.mailengine.specs.Limits.{limit_refusal}
-use Rattle.mailengine.specs.AccountEvents.{row_with, DeliversTo, DeliversIn, DeliversUnder}
+use Rattle.mailengine.specs.AccountEvents.{row_with, DeliversIn, DeliversUnder}
 use Rattle.mailengine.specs.OwnActs as own
 use Rattle.mailengine.specs.OwnActs.{Act, ActsAlone, Alone, ReceivesIn, JoinsIn, TakesRowAlone, TakesAloneIn, TakesFirstAlone, TakesMailAloneIn}
-use Rattle.mailengine.specs.World.{World, Happens, IsRefused, Next, Runs}
-use Rattle.mailengine.specs.Spacing.{Thread, Entry, entry_of, entries_if, vacation_in, sent_to, sent_in, sent_under, sent_by, sent_at, sent, kept_in, kept, IsPast, ComeAfter, Follow, AreSpaced, IsAtLeast, AreKept, IsSpacing}
+use Rattle.mailengine.specs.World.{World, Next, Runs}
+use Rattle.mailengine.specs.Spacing.{Thread, Entry, entry_of, entries_if, vacation_in, sent_in, sent_under, sent_by, sent_at, sent, kept_in, kept, IsPast, ComeAfter, Follow, IsAtLeast, IsSpacing}
 use Rattle.mailengine.proofs.AloneLemmas.{put_own, next_alone, projection}
 use Rattle.mailstore.proofs.AccountLemmas.{reply_total, reply_antisymmetric}
 use Rattle.sqlite_typed.proofs.TestLemmas.{bytes_eq_refl}

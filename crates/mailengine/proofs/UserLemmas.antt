@@ -1,17 +1,16 @@
 -- A new user: the tests, the read of the account, and then the write.
-use Rattle.std.proofs.Common.{◌≡◌, ◌⊎◌, ℕ, List, Option, Some, None, option_map, Ok, Err, Result, OnOk, IfOk, IfErr, refl, sym, ap, ◌∙◌, subst, inl, inr}
+use Rattle.std.proofs.Common.{◌≡◌, ℕ, List, Option, Some, None, option_map, Ok, Err, Result, OnOk, IfOk, IfErr, refl, sym, subst, inl, inr}
 use Rattle.std.specs.FinMap.{get}
 use Rattle.sqlite.specs.State.{State, HasCleanDisk}
 use Rattle.saslplain.specs.Password.{digest_of}
 use Rattle.mailstore.specs.declared.profile.Profile.{Profile}
 use Rattle.mailstore.specs.declared.refusal.Refusal.{Refusal}
 use Rattle.mailstore.specs.declared.refusal.Refusal.TheVariants.{Memory, UserExists, BadUser}
-use Rattle.mailstore.specs.Account.{Account, Accounts, new_user}
+use Rattle.mailstore.specs.Account.{Accounts, new_user}
 use Rattle.mailstore.specs.AccountTable.{profile_of}
-use Rattle.mailstore.specs.Promises.{IsFree, OfUser, ReadsProfile, Writes}
+use Rattle.mailstore.specs.Promises.{IsFree, ReadsProfile, Writes}
 use Rattle.mailstore.specs.Refusals.{IsPassing}
 use Rattle.mailstore.specs.Shows.{Presents}
-use Rattle.sessions.specs.Acts.{HasAccounts, Acts}
 use Rattle.sessions.proofs.ActLemmas.{no_glance, glanced, read_shows, acts_read, acts_made, acts_undone}
 use Rattle.mailengine.specs.declared.answer.Answer.{Answer}
 use Rattle.mailengine.specs.declared.answer.Answer.TheVariants.{Added, Refused}

@@ -1,5 +1,5 @@
 -- The machine on small cases: what is right, and beside it what nearly is.
-use Rattle.std.proofs.Common.{◌≡◌, ℕ, true, false, List, [], ◌∷◌, ◌++◌, codes, length, map, Option, Some, None, option_map, Ok, Err, refl, sym, ap, ◌∙◌, subst, inl, inr}
+use Rattle.std.proofs.Common.{◌≡◌, ℕ, true, false, List, [], ◌∷◌, ◌++◌, codes, length, map, Option, Some, None, option_map, Err, refl, sym, ap, ◌∙◌, subst, inl, inr}
 use Rattle.std.specs.Cmp.{nat_cmp_total}
 use Rattle.std.specs.FinMap.{empty, get, insert, get-empty, get-insert, get-remove, from_entries}
 use Rattle.std.specs.Map.{lookup}
@@ -21,10 +21,10 @@ use Rattle.sessions.specs.declared.progress.Progress.{Progress}
 use Rattle.sessions.specs.declared.progress.Progress.TheVariants as p
 use Rattle.mailengine.specs.declared.event.Event.TheVariants.{Open, Give, Step, GiveUp, Close, Deliver, AddUser, TakeOut}
 use Rattle.mailengine.specs.declared.answer.Answer.{Answer}
-use Rattle.mailengine.specs.declared.answer.Answer.TheVariants.{Out, Ignored, Refused}
+use Rattle.mailengine.specs.declared.answer.Answer.TheVariants.{Out, Ignored, Taken, Refused}
 use Rattle.mailengine.specs.AccountEvents.{TakesIn}
 use Rattle.mailengine.specs.World.{World, Clients, with_session, without_session, Becomes, Opens, InSession, Steps, Happens, if_open, MayRefuse, IsRefused, Next, Runs}
-use Rattle.mailengine.specs.Hosts.{HasClients, IsPrepared, MayRefuseDelivery, RefusesTaking, answer_of_taking}
+use Rattle.mailengine.specs.Hosts.{HasClients, MayRefuseDelivery, RefusesTaking, answer_by}
 use Rattle.mailengine.proofs.AloneLemmas.{put_own}
 use Rattle.mailengine.proofs.HostLemmas.{clients_are}
 
@@ -227,7 +227,7 @@ module _ (kept : BTreeMap ℕ SessionView) (session : SessionView) (one : kept.e
       cc
 
 -- a row that isn't there is told so; near miss: as a user who can't be made
-told_none : (answer_of_taking (Err NoRow) ≡ Refused NoRow) × RefusesTaking NoRow
+told_none : (answer_by Taken (Err NoRow) ≡ Refused NoRow) × RefusesTaking NoRow
 told_none = (refl, inr (inl refl))
 
 told_bad : RefusesTaking BadUser → ⊥

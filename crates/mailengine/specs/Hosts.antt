@@ -1,11 +1,13 @@
 -- What a store and a map of sessions have of the machine.
-use Rattle.std.specs.Prelude.{◌≡◌, ℕ, ◌⊎◌, List, [], ◌∷◌, map, take, Option, Some, None, Ok, Err, Result, IsTrue, IfSome, option_map}
+use Rattle.std.specs.Prelude.{◌≡◌, ℕ, ◌⊎◌, List, [], ◌∷◌, map, take, length, Some, None, Ok, Err, Result, IsTrue, IfSome, option_map}
 use Rattle.std.specs.FinMap.{get, from_entries}
 use Rattle.std.specs.Ordering.{nat_cmp}
 use Rattle.std.specs.BTreeMap as tree
 use Rattle.std.specs.BTreeMap.{BTreeMap}
 use Rattle.sqlite_trees.specs.Tree.{Trees}
-use Rattle.sqlite.specs.State.{State, HasCleanDisk}
+use Rattle.sqlite_trees.specs.declared.store.Store.{Ghosts}
+use Rattle.sqlite.specs.Held.{state}
+use Rattle.sqlite.specs.State.{State, HasCleanDisk, Survives}
 use Rattle.mailstore.specs.Account.{Accounts}
 use Rattle.mailstore.specs.Refusals.{IsPassing}
 use Rattle.mailstore.specs.Shows.{Presents, ShowsIn}
@@ -15,14 +17,14 @@ use Rattle.mailstore.specs.declared.report.Report.{Report}
 use Rattle.mailstore.specs.declared.refusal.Refusal.{Refusal}
 use Rattle.mailstore.specs.declared.refusal.Refusal.TheVariants.{Memory, Store, NoUser, UserExists, BadUser, NoRow}
 use Rattle.sessions.specs.Acts.{HasAccounts, Acts}
-use Rattle.sessions.specs.Clients.{Client}
 use Rattle.sessions.specs.Counts.{SessionView}
 use Rattle.sessions.specs.GivenUp.{text_given_up}
 use Rattle.mailengine.specs.declared.event.Event.TheVariants.{Deliver, GiveUp}
 use Rattle.mailengine.specs.OwnActs.{IsAlone}
-use Rattle.mailengine.specs.Spacing.{IsSpacing, sent}
+use Rattle.mailengine.specs.Spacing.{IsSpaced}
 use Rattle.mailengine.specs.declared.event.Event.{Event}
 use Rattle.mailengine.specs.declared.answer.Answer.{Answer}
+use Rattle.mailengine.specs.declared.machine.World.{World as Machine}
 use Rattle.mailengine.specs.declared.answer.Answer.TheVariants.{Delivered, Added, Taken, MailTaken, Refused}
 use Rattle.mailengine.specs.AccountEvents.{Delivery, Addition, Taking, MailTaking}
 use Rattle.mailengine.specs.Limits.{limit_refusal, IsNewUser}
@@ -36,10 +38,22 @@ clients_of kept = from_entries (map (λ entry. (entry.0, entry.1.client)) kept.e
 abbrev pub HasClients : BTreeMap ℕ SessionView → Clients → Type 0
 HasClients kept clients = (s : ℕ) → option_map (λ session. session.client) (tree.get nat_cmp kept s) ≡ get clients s
 
+-- a store and the sessions beside it
+pub record Host : Type 1 where
+  pub store : State
+  pub sessions : BTreeMap ℕ SessionView
+
+abbrev pub host : State → BTreeMap ℕ SessionView → Host
+host store sessions = record { store = store; sessions = sessions }
+
+-- of the values that the code has
+abbrev pub host_of : {S : Type 0} → Ghosts S → Machine S → Host
+host_of g machine = host (state g machine.store) machine.sessions
+
 -- the store shows the machine's accounts, and the sessions are the machine's; of a connection that a fault of the disk has shut nothing is said
-pub record Implements (s : State) (kept : BTreeMap ℕ SessionView) (w : World) : Type 0 where
-  pub accounts : HasAccounts s w.accounts
-  pub sessions : HasClients kept w.sessions
+pub record Implements (h : Host) (w : World) : Type 0 where
+  pub accounts : HasAccounts h.store w.accounts
+  pub sessions : HasClients h.sessions w.sessions
 
 -- ---- one event
 
@@ -48,14 +62,18 @@ abbrev pub IsSessionEvent : Event → Answer → BTreeMap ℕ SessionView → BT
 IsSessionEvent event answer before behind =
     (w : World) → HasClients before w.sessions → (clients : Clients) × Next w event answer (record { accounts = w.accounts; sessions = clients }) × HasClients behind clients
 
--- the step from one state of the store and its sessions to another is the event with this answer, of whatever world there was
-abbrev pub IsEvent : Event → Answer → State → BTreeMap ℕ SessionView → State → BTreeMap ℕ SessionView → Type 0
-IsEvent event answer old before new behind = HasCleanDisk new → (w : World) → Implements old before w → (next : World) × Next w event answer next × Implements new behind next
+-- from one store and its sessions to another it is the event with this answer, of whatever world there was
+abbrev pub IsEvent : Event → Answer → Host → Host → Type 0
+IsEvent event answer old new = HasCleanDisk new.store → (w : World) → Implements old w → (next : World) × Next w event answer next × Implements new next
 
 -- what a crash leaves of the event shows the accounts of a world after it, as a whole
-abbrev pub EventCrashLeaves : Event → State → BTreeMap ℕ SessionView → Trees → Type 0
-EventCrashLeaves event s kept trees =
-    (w : World) → Presents s.now w.accounts → HasClients kept w.sessions → (answer : Answer) × (next : World) × Next w event answer next × ShowsIn trees next.accounts
+abbrev pub EventCrashLeaves : Event → Host → Trees → Type 0
+EventCrashLeaves event old trees =
+    (w : World) → Presents old.store.now w.accounts → HasClients old.sessions w.sessions → (answer : Answer) × (next : World) × Next w event answer next × ShowsIn trees next.accounts
+
+-- at the end a crash leaves what it left before the event, or this of it
+abbrev pub SurvivesEvent : Event → Host → Host → Type 0
+SurvivesEvent event old new = Survives old.store new.store (EventCrashLeaves event old)
 
 -- a text that was made ready for the event: that of giving up, where it is one
 abbrev pub IsPrepared : Event → BTreeMap ℕ SessionView → List ℕ → Type 0
@@ -64,50 +82,44 @@ IsPrepared event kept text = Unit {0}
 
 -- ---- events in turn
 
-abbrev pub IsRun : List Event → List Answer → State → BTreeMap ℕ SessionView → State → BTreeMap ℕ SessionView → Type 0
-IsRun events answers old before new behind = HasCleanDisk new → (w : World) → Implements old before w → (end : World) × Runs w events answers end × Implements new behind end
+-- the events that were answered: the first ones, one for each answer
+abbrev pub answered : List Event → List Answer → List Event
+answered events answers = take (length answers) events
+
+-- from one store and its sessions to another it is these events with these answers, of whatever world there was
+abbrev pub IsRun : List Event → List Answer → Host → Host → Type 0
+IsRun events answers old new = HasCleanDisk new.store → (w : World) → Implements old w → (end : World) × Runs w events answers end × Implements new end
 
 -- a run in which each user is alone: its account at the end is what its own acts make of the one at the start, and each answer among them is allowed
-abbrev pub IsRunAlone : List Event → List Answer → State → BTreeMap ℕ SessionView → State → BTreeMap ℕ SessionView → Type 0
-IsRunAlone events answers old before new behind =
-    HasCleanDisk new → (w : World) → Implements old before w → (end : World) × (run : Runs w events answers end) × Implements new behind end × IsAlone w events answers end run
+abbrev pub IsRunAlone : List Event → List Answer → Host → Host → Type 0
+IsRunAlone events answers old new =
+    HasCleanDisk new.store → (w : World) → Implements old w → (end : World) × (run : Runs w events answers end) × Implements new end × IsAlone w events answers end run
 
 -- a run whose answers to senders are spaced by their periods
-abbrev pub IsRunSpaced : List Event → List Answer → State → BTreeMap ℕ SessionView → State → BTreeMap ℕ SessionView → Type 0
-IsRunSpaced events answers old before new behind =
-    HasCleanDisk new → (w : World) → Implements old before w → (end : World) × (run : Runs w events answers end) × Implements new behind end × IsSpacing w.accounts end.accounts (sent w events answers end run)
+abbrev pub IsRunSpaced : List Event → List Answer → Host → Host → Type 0
+IsRunSpaced events answers old new =
+    HasCleanDisk new.store → (w : World) → Implements old w → (end : World) × (run : Runs w events answers end) × Implements new end × IsSpaced w events answers end run
 
 -- what a crash leaves of a run, where no fault of the disk has shut the connection at its end, shows the accounts of a world that some of the first events lead to
-abbrev pub RunCrashLeaves : List Event → State → BTreeMap ℕ SessionView → State → Trees → Type 0
-RunCrashLeaves events old kept new trees =
-    IsTrue new.is_open → (w : World) → Presents old.now w.accounts → HasClients kept w.sessions → (count : ℕ) × (told : List Answer) × (end : World) × Runs w (take count events) told end × ShowsIn trees end.accounts
+abbrev pub RunCrashLeaves : List Event → Host → Host → Trees → Type 0
+RunCrashLeaves events old new trees =
+    IsTrue new.store.is_open → (w : World) → Presents old.store.now w.accounts → HasClients old.sessions w.sessions
+    → (count : ℕ) × (told : List Answer) × (end : World) × Runs w (take count events) told end × ShowsIn trees end.accounts
+
+-- at the end a crash leaves what it left before the run, or this of it
+abbrev pub SurvivesRun : List Event → Host → Host → Type 0
+SurvivesRun events old new = Survives old.store new.store (RunCrashLeaves events old new)
 
 -- ---- the calls on accounts
 
+-- the answer that is told of what a call gives, or the refusal
+abbrev pub answer_by : {X : Type 0} → (X → Answer) → Result X Refusal → Answer
+answer_by told (Ok x) = told x
+answer_by told (Err refusal) = Refused refusal
+
 -- the answer, or the refusal
 abbrev pub answer_of : Result Answer Refusal → Answer
-answer_of (Ok answer) = answer
-answer_of (Err refusal) = Refused refusal
-
--- the answer to a delivery
-abbrev pub answer_of_delivery : Result Report Refusal → Answer
-answer_of_delivery (Ok report) = Delivered report
-answer_of_delivery (Err refusal) = Refused refusal
-
--- the answer to a new user
-abbrev pub answer_of_addition : Result (Unit {0}) Refusal → Answer
-answer_of_addition (Ok done) = Added
-answer_of_addition (Err refusal) = Refused refusal
-
--- the answer to who takes a row out
-abbrev pub answer_of_taking : Result Outgoing Refusal → Answer
-answer_of_taking (Ok row) = Taken row
-answer_of_taking (Err refusal) = Refused refusal
-
--- the answer to who takes a message out of a folder
-abbrev pub answer_of_mail_taking : Result (Unit {0}) Refusal → Answer
-answer_of_mail_taking (Ok done) = MailTaken
-answer_of_mail_taking (Err refusal) = Refused refusal
+answer_of = answer_by (λ answer. answer)
 
 -- the accounts turn by the event's row with this answer, or the event is refused without visible cause, where it may be, and they stay
 abbrev pub TurnsBy : (Accounts → Answer → Accounts → Type 0) → (Refusal → Type 0) → Answer → Accounts → Accounts → Type 0
@@ -128,28 +140,28 @@ MayRefuseAddition name address password refusal = (refusal ≡ Memory) ⊎ ((ref
 -- what a delivery makes of the store
 abbrev pub ActsDelivery : List ℕ → Envelope → List ℕ → ℕ → State → State → Result Report Refusal → Type 0
 ActsDelivery user envelope message moment old new result =
-    Acts (TurnsBy (λ accounts. Delivery accounts user envelope message moment) (MayRefuseDelivery envelope message moment) (answer_of_delivery result)) (MayTurnBy (λ accounts. Delivery accounts user envelope message moment)) old new result
+    Acts (TurnsBy (λ accounts. Delivery accounts user envelope message moment) (MayRefuseDelivery envelope message moment) (answer_by Delivered result)) (MayTurnBy (λ accounts. Delivery accounts user envelope message moment)) old new result
 
 -- a delivery is a run of one event, over whatever sessions there are, and the answer that it sends, if it sends one, is spaced by its period
 abbrev pub IsSpacedDelivery : List ℕ → Envelope → List ℕ → ℕ → State → State → Result Report Refusal → Type 0
 IsSpacedDelivery user envelope message moment old new result =
     HasCleanDisk new → (w : World) → HasAccounts old w.accounts
-    → (end : World) × (run : Runs w (Deliver user envelope message moment ∷ []) (answer_of_delivery result ∷ []) end) × HasAccounts new end.accounts
-    × IsSpacing w.accounts end.accounts (sent w (Deliver user envelope message moment ∷ []) (answer_of_delivery result ∷ []) end run)
+    → (end : World) × (run : Runs w (Deliver user envelope message moment ∷ []) (answer_by Delivered result ∷ []) end) × HasAccounts new end.accounts
+    × IsSpaced w (Deliver user envelope message moment ∷ []) (answer_by Delivered result ∷ []) end run
 
 -- what a new user makes of it
 abbrev pub ActsAddition : List ℕ → List ℕ → List ℕ → List ℕ → State → State → Result (Unit {0}) Refusal → Type 0
 ActsAddition name address salt password old new result =
-    Acts (TurnsBy (λ accounts. Addition accounts name address salt password) (MayRefuseAddition name address password) (answer_of_addition result)) (MayTurnBy (λ accounts. Addition accounts name address salt password)) old new result
+    Acts (TurnsBy (λ accounts. Addition accounts name address salt password) (MayRefuseAddition name address password) (answer_by (λ done. Added) result)) (MayTurnBy (λ accounts. Addition accounts name address salt password)) old new result
 
 -- what a row that is taken out makes of it
 abbrev pub ActsTaking : List ℕ → ℕ → State → State → Result Outgoing Refusal → Type 0
-ActsTaking user id old new result = Acts (TurnsBy (λ accounts. Taking accounts user id) IsPassing (answer_of_taking result)) (MayTurnBy (λ accounts. Taking accounts user id)) old new result
+ActsTaking user id old new result = Acts (TurnsBy (λ accounts. Taking accounts user id) IsPassing (answer_by Taken result)) (MayTurnBy (λ accounts. Taking accounts user id)) old new result
 
 -- what a message that is taken out of a folder makes of it
 abbrev pub ActsMailTaking : List ℕ → List ℕ → State → State → Result (Unit {0}) Refusal → Type 0
 ActsMailTaking user folder old new result =
-    Acts (TurnsBy (λ accounts. MailTaking accounts user folder) IsPassing (answer_of_mail_taking result)) (MayTurnBy (λ accounts. MailTaking accounts user folder)) old new result
+    Acts (TurnsBy (λ accounts. MailTaking accounts user folder) IsPassing (answer_by (λ done. MailTaken) result)) (MayTurnBy (λ accounts. MailTaking accounts user folder)) old new result
 
 -- ---- refusals, by name
 

@@ -1,8 +1,7 @@
 -- What the engine reads of one user's account.
-use Rattle.std.specs.Prelude.{◌≡◌, ℕ, List, Option, Result, IfErr, IsTrue}
+use Rattle.std.specs.Prelude.{◌≡◌, ℕ, List, Result, IfErr, IsTrue}
 use Rattle.sqlite.specs.State.{State, HasCleanDisk}
 use Rattle.deliverplan.specs.Views.{IsViewOf}
-use Rattle.mailstore.specs.declared.profile.Profile.{Profile}
 use Rattle.mailstore.specs.declared.refusal.Refusal.{Refusal}
 use Rattle.mailstore.specs.declared.refusal.Refusal.TheVariants.{NoUser}
 use Rattle.mailstore.specs.Account.{Account}

@@ -18,7 +18,7 @@ use Rattle.mailengine.specs.declared.event.Event.TheVariants.{Deliver}
 use Rattle.mailengine.specs.declared.answer.Answer.{Answer}
 use Rattle.mailengine.specs.Limits.{limit_refusal}
 use Rattle.mailengine.specs.AccountEvents.{DeliversTo, DeliversIn, DeliversUnder}
-use Rattle.mailengine.specs.World.{World, Happens, IsRefused, Next, Runs}
+use Rattle.mailengine.specs.World.{World, Happens, Next, Runs}
 
 -- to whom an answer went: whose it is, by what it is known, and the sender, case ignored
 pub record Thread : Type 0 where
@@ -123,3 +123,7 @@ pub record IsSpacing (start end : Accounts) (entries : List Entry) : Type 0 wher
   pub after_start : ComeAfter start entries
   pub spaced : AreSpaced entries
   pub kept_in_the_end : AreKept end entries
+
+-- a run's answers are
+abbrev pub IsSpaced : (w : World) (events : List Event) (told : List Answer) (end : World) → Runs w events told end → Type 0
+IsSpaced w events told end run = IsSpacing w.accounts end.accounts (sent w events told end run)

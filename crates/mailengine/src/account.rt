@@ -7,7 +7,7 @@ ghost use Rattle.mailstore.specs.Account.{messages_in};
 ghost use Rattle.mailengine.specs.Lookups.{LooksUp, IsActiveScript};
 
 use mailstore::{NumberedMessage, Outgoing, Profile, Refusal, Store};
-use octets::{ListOf, Octets};
+use octets::{List, Octets};
 use sqlite::Alter;
 
 /// What the store keeps of an account, with the text of its active script.
@@ -47,18 +47,20 @@ pub(crate) fn active_script<S: Alter>(
 }
 
 /// The user's messages on their way out, in the order of their numbers.
-pub(crate) fn queue<S: Alter>(
-    store: &mut Store<S>,
-    user: &[u8],
-) -> Result<ListOf<Outgoing>, Refusal>
+pub(crate) fn queue<S: Alter>(store: &mut Store<S>, user: &[u8]) -> Result<List<Outgoing>, Refusal>
     ensures { LooksUp user.now (λ queue a. queue ≡ a.queue) (state S.Store store.old) (state S.Store store.new) result }
 {
     let _ = profile(store, user)?;
     store.queue(user)
 }
 
-/// The first message of the user's folder, with its number; none where the folder is absent.
-pub(crate) fn first_message<S: Alter>(
+/// The first message of the user's folder, with its number; none where the folder is absent. Where the user's copies are is
+/// read, and the message: memory is in proportion to both.
+///
+/// # Errors
+///
+/// [`Refusal::NoUser`]; [`Refusal::Memory`] and [`Refusal::Store`] may come at any place.
+pub fn first_message<S: Alter>(
     store: &mut Store<S>,
     user: &[u8],
     folder: &[u8],

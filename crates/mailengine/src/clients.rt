@@ -1,9 +1,9 @@
 //! Sessions by their numbers, and what happens to one.
 ghost use Rattle.std.specs.Prelude.{◌≡◌, IfOk, IsTrue};
 ghost use Rattle.sqlite.specs.Held.{state};
-ghost use Rattle.sqlite.specs.State.{HasCleanDisk, Survives};
+ghost use Rattle.sqlite.specs.State.{HasCleanDisk};
 ghost use Rattle.mailengine.specs.declared.event.Event.TheVariants.{Open, Give, Step, GiveUp, Close};
-ghost use Rattle.mailengine.specs.Hosts.{IsSessionEvent, IsEvent, EventCrashLeaves, IsPrepared, answer_of};
+ghost use Rattle.mailengine.specs.Hosts.{host, IsSessionEvent, IsEvent, SurvivesEvent, IsPrepared, answer_of};
 
 use crate::answer::Answer;
 use mailstore::{Refusal, Store};
@@ -55,8 +55,8 @@ pub fn step<S: Alter>(
     store: &mut Store<S>,
     number: u32,
 ) -> Result<Answer, Refusal>
-    ensures event { IsEvent (Step number) (answer_of result) (state S.Store store.old) sessions.old (state S.Store store.new) sessions.new }
-    ensures crash { Survives (state S.Store store.old) (state S.Store store.new) (EventCrashLeaves (Step number) (state S.Store store.old) sessions.old) }
+    ensures event { IsEvent (Step number) (answer_of result) (host (state S.Store store.old) sessions.old) (host (state S.Store store.new) sessions.new) }
+    ensures crash { SurvivesEvent (Step number) (host (state S.Store store.old) sessions.old) (host (state S.Store store.new) sessions.new) }
     ensures shut { HasCleanDisk (state S.Store store.new) → IsTrue (state S.Store store.new).is_open → IsTrue (state S.Store store.old).is_open }
 {
     let Some(session) = sessions.get_mut(&number) else {
@@ -78,7 +78,7 @@ pub fn text_given_up(
     let Some(session) = sessions.get(&number) else {
         return Ok(Octets::new(alloc));
     };
-    Octets::copy(alloc, session.text_given_up())
+    Octets::from_slice(alloc, session.text_given_up())
 }
 
 /// The first item that a client sent can't be answered now, and is dropped. Takes no memory: the text that is answered is

@@ -6,7 +6,7 @@ ghost use Rattle.mailengine.specs.Sound.{AreSound};
 ghost use Rattle.mailengine.specs.World.{World, Next, Runs};
 ghost use Rattle.mailstore.specs.Account.{Account};
 ghost use Rattle.mailengine.specs.OwnActs.{Act, Alone, IsAlone};
-ghost use Rattle.mailengine.specs.Spacing.{IsSpacing, sent};
+ghost use Rattle.mailengine.specs.Spacing.{IsSpaced};
 
 /// What becomes of a user's account, and what it is answered, is by the user's own acts alone.
 pub fn each_user_alone()
@@ -20,7 +20,7 @@ pub fn account_by_acts()
 
 /// No sender gets two answers under one handle within the period.
 pub fn answers_spaced()
-    ensures { (events : List Event) (told : List Answer) (w end : World) (run : Runs w events told end) → IsSpacing w.accounts end.accounts (sent w events told end run) }
+    ensures { (events : List Event) (told : List Answer) (w end : World) (run : Runs w events told end) → IsSpaced w events told end run }
 {}
 
 /// Sound accounts stay sound, whatever happens to them and whatever is answered.

@@ -14,6 +14,7 @@ mod replay;
 mod taking;
 mod user;
 
+pub use account::first_message;
 pub use answer::Answer;
 pub use delivery::deliver;
 pub use evaluate::attempt;
@@ -23,5 +24,5 @@ pub use mailstore::{Kind, Outgoing, Refusal, Report};
 pub use replay::{Ran, run};
 pub use sessions::Progress;
 pub use sieveexec::{Envelope, Failure, Outcome};
-pub use taking::{take_mail, take_out};
+pub use taking::{remove_first, take_mail, take_out};
 pub use user::add_user;

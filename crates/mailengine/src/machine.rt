@@ -1,10 +1,10 @@
 //! The machine: the accounts of a store and the sessions of its clients.
 ghost use Rattle.std.specs.Prelude.{◌≡◌, [], IsTrue, IfOk};
 ghost use Rattle.sqlite.specs.Held.{state};
-ghost use Rattle.sqlite.specs.State.{HasCleanDisk, Survives};
+ghost use Rattle.sqlite.specs.State.{HasCleanDisk};
 ghost use Rattle.mailengine.specs.declared.event.Event.TheVariants.{Deliver};
 ghost use Rattle.mailengine.specs.Hosts as hosts;
-ghost use Rattle.mailengine.specs.Hosts.{IsEvent, EventCrashLeaves, IsPrepared, ActsDelivery};
+ghost use Rattle.mailengine.specs.Hosts.{host, IsEvent, SurvivesEvent, IsPrepared, ActsDelivery};
 
 use crate::answer::Answer;
 use crate::clients::{close, give, give_up, open, step, text_given_up};
@@ -89,8 +89,8 @@ pub(crate) fn happen<S: Alter>(
     text: Octets,
 ) -> Answer
     requires { IsPrepared event.now sessions.old text }
-    ensures event { IsEvent event.now result (state S.Store store.old) sessions.old (state S.Store store.new) sessions.new }
-    ensures crash { Survives (state S.Store store.old) (state S.Store store.new) (EventCrashLeaves event.now (state S.Store store.old) sessions.old) }
+    ensures event { IsEvent event.now result (host (state S.Store store.old) sessions.old) (host (state S.Store store.new) sessions.new) }
+    ensures crash { SurvivesEvent event.now (host (state S.Store store.old) sessions.old) (host (state S.Store store.new) sessions.new) }
     ensures shut { HasCleanDisk (state S.Store store.new) → IsTrue (state S.Store store.new).is_open → IsTrue (state S.Store store.old).is_open }
 {
     match event {
@@ -106,32 +106,40 @@ pub(crate) fn happen<S: Alter>(
             envelope,
             message,
             moment,
-        } => answer_of_delivery(handed(
-            alloc,
-            store,
-            user.as_slice(),
-            envelope,
-            message.as_slice(),
-            *moment,
-        )),
+        } => {
+            let report = handed(
+                alloc,
+                store,
+                user.as_slice(),
+                envelope,
+                message.as_slice(),
+                *moment,
+            );
+            answer_of(report.map(Answer::Delivered))
+        }
         Event::AddUser {
             name,
             address,
             salt,
             password,
-        } => answer_of_addition(add_user(
-            alloc,
-            store,
-            name.as_slice(),
-            address.as_slice(),
-            *salt,
-            password.as_slice(),
-        )),
+        } => {
+            let added = add_user(
+                alloc,
+                store,
+                name.as_slice(),
+                address.as_slice(),
+                *salt,
+                password.as_slice(),
+            );
+            answer_of(added.and(Ok(Answer::Added)))
+        }
         Event::TakeOut { user, id } => {
-            answer_of_taking(take_out(alloc, store, user.as_slice(), *id))
+            let row = take_out(alloc, store, user.as_slice(), *id);
+            answer_of(row.map(Answer::Taken))
         }
         Event::TakeMail { user, folder } => {
-            answer_of_mail_taking(take_mail(store, user.as_slice(), folder.as_slice()))
+            let taken = take_mail(store, user.as_slice(), folder.as_slice());
+            answer_of(taken.and(Ok(Answer::MailTaken)))
         }
     }
 }
@@ -151,18 +159,8 @@ fn handed<S: Alter>(
     if let Some(refusal) = limit_refusal(envelope, message, moment) {
         return Err(refusal);
     }
-    let envelope = copied(alloc, envelope)?;
+    let envelope = envelope.try_clone(alloc)?;
     deliver(alloc, store, user, envelope, message, moment)
-}
-
-/// The same addresses.
-fn copied(alloc: Global, envelope: &Envelope) -> Result<Envelope, AllocError>
-    ensures { IfOk result (λ copy. copy ≡ envelope.now) }
-{
-    Ok(Envelope {
-        from: envelope.from.copied(alloc)?,
-        to: envelope.to.copied(alloc)?,
-    })
 }
 
 fn answer_of(done: Result<Answer, Refusal>) -> Answer
@@ -170,42 +168,6 @@ fn answer_of(done: Result<Answer, Refusal>) -> Answer
 {
     match done {
         Ok(answer) => answer,
-        Err(refusal) => Answer::Refused(refusal),
-    }
-}
-
-fn answer_of_delivery(done: Result<Report, Refusal>) -> Answer
-    ensures { result ≡ hosts.answer_of_delivery done }
-{
-    match done {
-        Ok(report) => Answer::Delivered(report),
-        Err(refusal) => Answer::Refused(refusal),
-    }
-}
-
-fn answer_of_addition(done: Result<(), Refusal>) -> Answer
-    ensures { result ≡ hosts.answer_of_addition done }
-{
-    match done {
-        Ok(()) => Answer::Added,
-        Err(refusal) => Answer::Refused(refusal),
-    }
-}
-
-fn answer_of_taking(done: Result<Outgoing, Refusal>) -> Answer
-    ensures { result ≡ hosts.answer_of_taking done }
-{
-    match done {
-        Ok(row) => Answer::Taken(row),
-        Err(refusal) => Answer::Refused(refusal),
-    }
-}
-
-fn answer_of_mail_taking(done: Result<(), Refusal>) -> Answer
-    ensures { result ≡ hosts.answer_of_mail_taking done }
-{
-    match done {
-        Ok(()) => Answer::MailTaken,
         Err(refusal) => Answer::Refused(refusal),
     }
 }

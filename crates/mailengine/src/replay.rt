@@ -1,18 +1,13 @@
 //! Events in turn.
-ghost use Rattle.std.specs.Prelude.{◌≡◌, ◌↔◌, IsTrue, length, take};
+ghost use Rattle.std.specs.Prelude.{◌≡◌, ◌↔◌, IsTrue, length};
 ghost use Rattle.sqlite.specs.Held.{state};
-ghost use Rattle.sqlite.specs.State.{Survives};
-ghost use Rattle.mailengine.specs.Hosts.{IsRun, IsRunAlone, IsRunSpaced, RunCrashLeaves};
+ghost use Rattle.mailengine.specs.Hosts.{answered, host_of, IsRun, IsRunAlone, IsRunSpaced, SurvivesRun};
 ghost use Rattle.mailengine.specs.Sound.{KeepsSound};
 
 use crate::answer::Answer;
 use crate::event::Event;
 use crate::machine::{World, happen, prepared};
-use mailstore::Store;
-use sessions::Session;
 use sqlite::Alter;
-use std::alloc::Global;
-use std::collections::BTreeMap;
 
 /// What came of a list of events.
 #[derive(Drop)]
@@ -30,26 +25,23 @@ pub struct Ran {
 /// changes nothing, and the next one follows. Events are borrowed, and a message is not copied. Memory beside that of the
 /// events themselves is in proportion to their number and to what the sessions hold.
 pub fn run<S: Alter>(world: &mut World<S>, events: &[Event]) -> Ran
-    ensures runs { IsRun (take (length result.answers.items) events.now) result.answers.items (state S.Store world.old.store) world.old.sessions (state S.Store world.new.store) world.new.sessions }
+    ensures runs { IsRun (answered events.now result.answers.items) result.answers.items (host_of S.Store world.old) (host_of S.Store world.new) }
     ensures whole { IsTrue result.whole ↔ (length result.answers.items ≡ length events.now) }
     ensures sound { KeepsSound (state S.Store world.old.store) (state S.Store world.new.store) }
-    ensures alone { IsRunAlone (take (length result.answers.items) events.now) result.answers.items (state S.Store world.old.store) world.old.sessions (state S.Store world.new.store) world.new.sessions }
-    ensures spaced { IsRunSpaced (take (length result.answers.items) events.now) result.answers.items (state S.Store world.old.store) world.old.sessions (state S.Store world.new.store) world.new.sessions }
-    ensures crash { Survives (state S.Store world.old.store) (state S.Store world.new.store) (RunCrashLeaves events.now (state S.Store world.old.store) world.old.sessions (state S.Store world.new.store)) }
+    ensures alone { IsRunAlone (answered events.now result.answers.items) result.answers.items (host_of S.Store world.old) (host_of S.Store world.new) }
+    ensures spaced { IsRunSpaced (answered events.now result.answers.items) result.answers.items (host_of S.Store world.old) (host_of S.Store world.new) }
+    ensures crash { SurvivesRun events.now (host_of S.Store world.old) (host_of S.Store world.new) }
 {
-    run_events(world.alloc, &mut world.store, &mut world.sessions, events)
+    run_events(world, events)
 }
 
-fn run_events<S: Alter>(
-    alloc: Global,
-    store: &mut Store<S>,
-    sessions: &mut BTreeMap<u32, Session>,
-    events: &[Event],
-) -> Ran
-    ensures runs { IsRun (take (length result.answers.items) events.now) result.answers.items (state S.Store store.old) sessions.old (state S.Store store.new) sessions.new }
+/// The events in turn. What else `run` promises is true of every run.
+fn run_events<S: Alter>(world: &mut World<S>, events: &[Event]) -> Ran
+    ensures runs { IsRun (answered events.now result.answers.items) result.answers.items (host_of S.Store world.old) (host_of S.Store world.new) }
     ensures whole { IsTrue result.whole ↔ (length result.answers.items ≡ length events.now) }
-    ensures crash { Survives (state S.Store store.old) (state S.Store store.new) (RunCrashLeaves events.now (state S.Store store.old) sessions.old (state S.Store store.new)) }
+    ensures crash { SurvivesRun events.now (host_of S.Store world.old) (host_of S.Store world.new) }
 {
+    let alloc = world.alloc;
     let mut answers = Vec::new(alloc);
     for event in events {
         if answers.reserve(1).is_err() {
@@ -58,13 +50,13 @@ fn run_events<S: Alter>(
                 whole: false,
             };
         }
-        let Ok(text) = prepared(alloc, sessions, event) else {
+        let Ok(text) = prepared(alloc, &world.sessions, event) else {
             return Ran {
                 answers,
                 whole: false,
             };
         };
-        let answer = happen(alloc, store, sessions, event, text);
+        let answer = happen(alloc, &mut world.store, &mut world.sessions, event, text);
         answers.push_reserved(answer);
     }
     Ran {

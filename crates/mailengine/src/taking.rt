@@ -1,5 +1,5 @@
 //! Rows taken out of the queue, and messages out of folders.
-ghost use Rattle.std.specs.Prelude.{◌≡◌, IfOk, IfErr, option_copied};
+ghost use Rattle.std.specs.Prelude.{◌≡◌, IfErr, option_copied};
 ghost use Rattle.sqlite.specs.Held.{state};
 ghost use Rattle.mailengine.specs.AccountEvents as events;
 ghost use Rattle.mailengine.specs.Hosts.{ActsTaking, ActsMailTaking, RefusesTaking};
@@ -10,7 +10,7 @@ ghost use Rattle.mailstore.specs.Refusals.{IsPassing};
 use crate::account::{first_message, queue};
 use mailstore::{Outgoing, Refusal, Store};
 use sqlite::Alter;
-use std::alloc::{AllocError, Global};
+use std::alloc::Global;
 
 /// Takes a row out of the user's queue and hands it out, in one transaction, which is its last act. The number isn't used
 /// again.
@@ -34,7 +34,7 @@ pub fn take_out<S: Alter>(
     let Some(row) = row_with(queue.as_slice(), id) else {
         return Err(Refusal::NoRow);
     };
-    let row = copied(alloc, row)?;
+    let row = row.try_clone(alloc)?;
     store.take_out(user, id)?;
     Ok(row)
 }
@@ -44,19 +44,6 @@ fn row_with(rows: &[Outgoing], id: u64) -> Option<&Outgoing>
     ensures { option_copied result ≡ events.row_with id rows.now }
 {
     rows.iter().find(|row| row.id == id)
-}
-
-/// The same row.
-fn copied(alloc: Global, row: &Outgoing) -> Result<Outgoing, AllocError>
-    ensures { IfOk result (λ copy. copy ≡ row.now) }
-{
-    Ok(Outgoing {
-        id: row.id,
-        kind: row.kind,
-        sender: row.sender.copied(alloc)?,
-        target: row.target.copied(alloc)?,
-        message: row.message.copied(alloc)?,
-    })
 }
 
 /// Takes the first message out of the user's folder, in one transaction, which is its last act. The folder goes with its last
@@ -79,8 +66,19 @@ pub fn take_mail<S: Alter>(store: &mut Store<S>, user: &[u8], folder: &[u8]) -> 
     remove_first(store, user, folder)
 }
 
-/// Removes the first message. An account that was read a moment ago is there: a store that finds none is refused as `Store`.
-fn remove_first<S: Alter>(store: &mut Store<S>, user: &[u8], folder: &[u8]) -> Result<(), Refusal>
+/// Removes the first message of the user's folder, which [`first_message`] has found a moment ago, in one transaction. The folder
+/// goes with its last message. The message's number isn't used again. From a folder without messages nothing is removed.
+///
+/// Where the user's copies are is read, and no message.
+///
+/// # Errors
+///
+/// [`Refusal::Memory`], and [`Refusal::Store`], also where the user's account has gone since. The store then stays as it was.
+pub fn remove_first<S: Alter>(
+    store: &mut Store<S>,
+    user: &[u8],
+    folder: &[u8],
+) -> Result<(), Refusal>
     ensures writes { WritesAccount user.now (takes_mail folder.now 1) (state S.Store store.old) (state S.Store store.new) result }
     ensures named { IfErr result IsPassing }
 {

@@ -1,5 +1,5 @@
 -- Entries with numbers of their own: none, one more, a higher counter, and that the rows tell the entries.
-use Rattle.std.proofs.Common.{◌≡◌, Bool, not, ℕ, zero, suc, ◌+◌, ◌<◌, ◌≤◌, ◌==◌, false, inl, inr, filter, eq-eqb, ne_eqb, List, [], ◌∷◌, ◌++◌, map, length, get_or, refl, sym, ap, ◌∙◌, subst, arith, is_lt, Less, Greater, IsPermutation, IsSorted}
+use Rattle.std.proofs.Common.{◌≡◌, Bool, not, ℕ, zero, suc, ◌<◌, ◌≤◌, ◌==◌, false, inl, inr, filter, eq-eqb, ne_eqb, List, [], ◌∷◌, ◌++◌, map, length, get_or, sym, ap, ◌∙◌, subst, arith, is_lt, Less, Greater, IsPermutation, IsSorted}
 use Rattle.std.specs.List.{AllByRecursion}
 use Rattle.std.specs.Cmp.{nat_cmp_is}
 use Rattle.std.specs.Ordering.{nat_cmp, on}

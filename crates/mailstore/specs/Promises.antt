@@ -143,8 +143,8 @@ abbrev pub WritesKnown : {X : Type 0} → List ℕ → (Account → Type 0) → 
 WritesKnown user Known change = Writes (λ all. OfUser all user Known) (λ all. with_user all user change)
 
 -- a write that gives a script another name, where its text and the active name are known
-abbrev pub WritesRenamed : {X : Type 0} → List ℕ → List ℕ → List ℕ → Option (List ℕ) → Option (List ℕ) → State → State → Result X Refusal → Type 0
-WritesRenamed user name other text active = WritesKnown user (IsRenaming name other text active) (renames_script name other)
+abbrev pub Renames : {X : Type 0} → List ℕ → List ℕ → List ℕ → Option (List ℕ) → Option (List ℕ) → State → State → Result X Refusal → Type 0
+Renames user name other text active = WritesKnown user (IsRenaming name other text active) (renames_script name other)
 
 -- a write of one user's account that first asks whether there is one
 pub record WritesAccount {X : Type 0} (user : List ℕ) (change : Account → Account) (old new : State) (result : Result X Refusal) : Type 0 where

@@ -12,7 +12,7 @@ ghost use Rattle.mailstore.specs.Shows.{AreFilingRows, AreFilings};
 use crate::cell::text_at;
 use crate::refusal::Refusal;
 use crate::store::Store;
-use octets::{ListOf, Octets};
+use octets::{List, Octets};
 use sqlite::{Alter, Connection, Error, Row, params};
 use std::alloc::Global;
 
@@ -56,7 +56,7 @@ fn filing_in(row: &Row) -> Result<Filing, Refusal>
 }
 
 /// The copies that the rows show, in their order.
-fn filings_in(alloc: Global, rows: &[Row]) -> Result<ListOf<Filing>, Refusal>
+fn filings_in(alloc: Global, rows: &[Row]) -> Result<List<Filing>, Refusal>
     ensures ok { IfOk result (λ all. map filing_cells all ≡ map first_three rows.now) }
     ensures named { IfErr result IsPassing }
 {
@@ -64,7 +64,7 @@ fn filings_in(alloc: Global, rows: &[Row]) -> Result<ListOf<Filing>, Refusal>
     for row in rows {
         all.push(filing_in(row)?)?;
     }
-    Ok(ListOf::from_vec(all))
+    Ok(List::from_vec(all))
 }
 
 impl<S: Alter> Store<S> {
@@ -77,7 +77,7 @@ impl<S: Alter> Store<S> {
     }
 
     /// Where the user's copies are, in the order of their numbers. No message is read; memory is in proportion to the copies.
-    pub(crate) fn filings(&mut self, user: &[u8]) -> Result<ListOf<Filing>, Refusal>
+    pub(crate) fn filings(&mut self, user: &[u8]) -> Result<List<Filing>, Refusal>
         ensures { ReadsOwn user.now (AreFilings user.now) (state S.Store self.old) (state S.Store self.new) result }
     {
         let rows = self.filing_rows(user)?;

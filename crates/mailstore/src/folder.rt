@@ -16,7 +16,7 @@ ghost use Rattle.sqlite_value.specs.Order.{column};
 use crate::cell::{text_at, texts};
 use crate::refusal::Refusal;
 use crate::store::Store;
-use octets::{ListOf, Octets, Texts};
+use octets::{List, Octets, Texts};
 use sqlite::{Alter, Connection, Error, Row, Transaction, params};
 use std::alloc::Global;
 
@@ -132,7 +132,7 @@ fn count(folders: &mut Vec<Folder>, name: Octets) -> Result<(), Refusal>
 }
 
 /// The folders whose names are in the rows, in order, each with how often it stands there.
-fn tally(alloc: Global, rows: &[Row]) -> Result<ListOf<Folder>, Refusal>
+fn tally(alloc: Global, rows: &[Row]) -> Result<List<Folder>, Refusal>
     ensures ok { IfOk result (λ all. (names : List (List ℕ)) → map (λ r. column r 0) rows.now ≡ map (λ n. Blob n) names → all ≡ tallied names) }
     ensures named { IfErr result IsPassing }
 {
@@ -140,7 +140,7 @@ fn tally(alloc: Global, rows: &[Row]) -> Result<ListOf<Folder>, Refusal>
     for row in rows {
         count(&mut all, text_at(row, 0)?)?;
     }
-    Ok(ListOf::from_vec(all))
+    Ok(List::from_vec(all))
 }
 
 impl<S: Alter> Store<S> {
@@ -170,7 +170,7 @@ impl<S: Alter> Store<S> {
 
     /// The user's folders in the order of the octets of their names, with how many messages they
     /// have. No message is read.
-    pub fn folders(&mut self, user: &[u8]) -> Result<ListOf<Folder>, Refusal>
+    pub fn folders(&mut self, user: &[u8]) -> Result<List<Folder>, Refusal>
         ensures { Reads user.now AreFolders (state S.Store self.old) (state S.Store self.new) result }
     {
         let rows = self.folder_rows(user)?;

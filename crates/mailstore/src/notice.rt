@@ -15,7 +15,7 @@ ghost use Rattle.mailstore.specs.Refusals.{IsPassing};
 use crate::cell::text_at;
 use crate::refusal::Refusal;
 use crate::store::Store;
-use octets::{ListOf, Octets};
+use octets::{List, Octets};
 use sqlite::{Alter, Connection, Error, Row, Transaction, params};
 use std::alloc::Global;
 
@@ -85,7 +85,7 @@ fn notice_in(row: &Row) -> Result<Notice, Error>
 }
 
 /// The notices that the rows show, in their order.
-fn notices_in(alloc: Global, rows: &[Row]) -> Result<ListOf<Notice>, Refusal>
+fn notices_in(alloc: Global, rows: &[Row]) -> Result<List<Notice>, Refusal>
     ensures ok { IfOk result (λ all. map notice_cells all ≡ map first_two rows.now) }
     ensures named { IfErr result IsPassing }
 {
@@ -93,7 +93,7 @@ fn notices_in(alloc: Global, rows: &[Row]) -> Result<ListOf<Notice>, Refusal>
     for row in rows {
         all.push(notice_in(row)?)?;
     }
-    Ok(ListOf::from_vec(all))
+    Ok(List::from_vec(all))
 }
 
 impl<S: Alter> Store<S> {
@@ -106,7 +106,7 @@ impl<S: Alter> Store<S> {
     }
 
     /// The user's notices, in the order in which they came.
-    pub fn notices(&mut self, user: &[u8]) -> Result<ListOf<Notice>, Refusal>
+    pub fn notices(&mut self, user: &[u8]) -> Result<List<Notice>, Refusal>
         ensures { Reads user.now (λ notices a. notices ≡ a.notices) (state S.Store self.old) (state S.Store self.new) result }
     {
         let rows = self.notice_rows(user)?;

@@ -17,9 +17,9 @@ use crate::cell::{number, text_at};
 use crate::change::Change;
 use crate::refusal::Refusal;
 use crate::store::Store;
-use octets::{ListOf, Octets};
+use octets::{List, Octets};
 use sqlite::{Alter, Connection, Error, Row, Transaction, params};
-use std::alloc::Global;
+use std::alloc::{AllocError, Global};
 
 /// Why a message goes out.
 #[derive(Clone, Copy, Debug, PartialEq, Eq)]
@@ -40,6 +40,21 @@ pub struct Outgoing {
     pub sender: Octets,
     pub target: Octets,
     pub message: Octets,
+}
+
+impl Outgoing {
+    /// A copy of the row. Lack of memory is the only error.
+    pub fn try_clone(&self, alloc: Global) -> Result<Outgoing, AllocError>
+        ensures { IfOk result (λ row. row ≡ self.now) }
+    {
+        Ok(Outgoing {
+            id: self.id,
+            kind: self.kind,
+            sender: self.sender.try_clone(alloc)?,
+            target: self.target.try_clone(alloc)?,
+            message: self.message.try_clone(alloc)?,
+        })
+    }
 }
 
 /// Makes the table `outgoing`, inside a transaction.
@@ -152,7 +167,7 @@ fn outgoing_in(row: &Row) -> Result<Outgoing, Refusal>
 }
 
 /// The messages that the rows show, in their order.
-fn messages_out(alloc: Global, rows: &[Row]) -> Result<ListOf<Outgoing>, Refusal>
+fn messages_out(alloc: Global, rows: &[Row]) -> Result<List<Outgoing>, Refusal>
     ensures ok { IfOk result (λ all. map outgoing_cells all ≡ map first_five rows.now) }
     ensures named { IfErr result IsPassing }
 {
@@ -160,7 +175,7 @@ fn messages_out(alloc: Global, rows: &[Row]) -> Result<ListOf<Outgoing>, Refusal
     for row in rows {
         all.push(outgoing_in(row)?)?;
     }
-    Ok(ListOf::from_vec(all))
+    Ok(List::from_vec(all))
 }
 
 impl<S: Alter> Store<S> {
@@ -173,7 +188,7 @@ impl<S: Alter> Store<S> {
     }
 
     /// The user's messages on their way out, in the order of their numbers. All are in memory at once.
-    pub fn queue(&mut self, user: &[u8]) -> Result<ListOf<Outgoing>, Refusal>
+    pub fn queue(&mut self, user: &[u8]) -> Result<List<Outgoing>, Refusal>
         ensures { Reads user.now (λ queue a. queue ≡ a.queue) (state S.Store self.old) (state S.Store self.new) result }
     {
         let rows = self.queue_rows(user)?;

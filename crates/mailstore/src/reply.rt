@@ -15,7 +15,7 @@ ghost use Rattle.mailstore.specs.Schema.{schema_4, schema_5};
 use crate::cell::text_at;
 use crate::refusal::Refusal;
 use crate::store::Store;
-use octets::{ListOf, Octets};
+use octets::{List, Octets};
 use sqlite::{Alter, Connection, Error, Row, Transaction, params};
 use std::alloc::Global;
 
@@ -141,7 +141,7 @@ fn reply_in(row: &Row) -> Result<KeptReply, Error>
 }
 
 /// The replies that the rows show, in their order.
-fn replies_in(alloc: Global, rows: &[Row]) -> Result<ListOf<KeptReply>, Refusal>
+fn replies_in(alloc: Global, rows: &[Row]) -> Result<List<KeptReply>, Refusal>
     ensures ok { IfOk result (λ all. map kept_cells all ≡ map first_two rows.now) }
     ensures named { IfErr result IsPassing }
 {
@@ -149,7 +149,7 @@ fn replies_in(alloc: Global, rows: &[Row]) -> Result<ListOf<KeptReply>, Refusal>
     for row in rows {
         all.push(reply_in(row)?)?;
     }
-    Ok(ListOf::from_vec(all))
+    Ok(List::from_vec(all))
 }
 
 impl<S: Alter> Store<S> {
@@ -190,7 +190,7 @@ impl<S: Alter> Store<S> {
 
     /// The moments of the last replies to the sender, in the order of the octets of their handles' keys; case ignored
     /// in the sender.
-    pub fn replies(&mut self, user: &[u8], sender: &[u8]) -> Result<ListOf<KeptReply>, Refusal>
+    pub fn replies(&mut self, user: &[u8], sender: &[u8]) -> Result<List<KeptReply>, Refusal>
         ensures { Reads user.now (AreReplies sender.now) (state S.Store self.old) (state S.Store self.new) result }
     {
         let sender = octets::lowered(self.alloc, sender)?;

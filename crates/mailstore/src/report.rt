@@ -1,5 +1,5 @@
 //! What a delivery is to write, and what it reports.
-use octets::{ListOf, Octets, Texts};
+use octets::{List, Octets, Texts};
 
 /// What a delivery did about a vacation reply.
 #[derive(Clone, Copy, Debug, PartialEq, Eq)]
@@ -56,7 +56,7 @@ pub struct Plan<'a> {
     /// The names of the folders, in order. A name that stands twice gets two copies.
     pub copies: Texts,
     /// What joins the queue, in order.
-    pub outgoing: ListOf<Letter>,
+    pub outgoing: List<Letter>,
     /// The reply that is remembered, if one is sent.
     pub remember: Option<Remembered>,
     /// The text of the notice that is left to the user, if there is one.

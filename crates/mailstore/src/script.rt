@@ -1,7 +1,7 @@
 //! The table of scripts.
 ghost use Rattle.std.specs.Prelude.{◌≡◌, false, option_map};
 ghost use Rattle.sqlite.specs.Held.{state};
-ghost use Rattle.mailstore.specs.Promises.{Finds, Reads, ReadsRows, WritesAccount, WritesRenamed, WritesUser};
+ghost use Rattle.mailstore.specs.Promises.{Finds, Reads, ReadsRows, Renames, WritesAccount, WritesUser};
 ghost use Rattle.mailstore.specs.ScriptTable.{AreNameRows, HasTextAndActive, HasTextRow};
 ghost use Rattle.sqlite.specs.State.{Survives};
 ghost use Rattle.mailstore.specs.Connection.{Makes, MakesTable};
@@ -189,7 +189,7 @@ impl<S: Alter> Store<S> {
         text: Option<&'a Octets>,
         active: Option<&'a [u8]>,
     ) -> Result<(), Refusal>
-        ensures { WritesRenamed user.now name.now other.now (contents text.entry) (contents active.entry) (state S.Store self.old) (state S.Store self.new) result }
+        ensures { Renames user.now name.now other.now (contents text.entry) (contents active.entry) (state S.Store self.old) (state S.Store self.new) result }
     {
         let Some(text) = text else {
             return self.apply(&[Change::SetActive { name: user, active }]);

@@ -1,6 +1,7 @@
 -- Each definition at work: what it takes, and one beside it that it doesn't.
 use Rattle.std.proofs.Common.{◌≡◌, ℕ, zero, suc, inl, inr, true, false, List, [], ◌∷◌, ◌++◌, length, Some, None, refl, ap, subst, arith}
 use Rattle.std.specs.Prelude.{codes, replicate}
+use Rattle.std.specs.List.{prefix_len}
 use Rattle.msproto.specs.declared.commands.Command.TheVariants as command
 use Rattle.msproto.specs.declared.items.Item.TheVariants as item
 use Rattle.msproto.specs.declared.items.Reach.{Reach}
@@ -15,7 +16,7 @@ use Rattle.msproto.specs.Machine.{LineEnd, Quoted, Dead, rows, start}
 use Rattle.msproto.specs.Scanning.{Open, reach_of, ScanView, new_scan, StandsFor}
 use Rattle.msproto.specs.Values.{item_of}
 use Rattle.msproto.specs.Replies.{string_spelled, line_spelled, last_spelled, Extends}
-use Rattle.msproto.specs.Shown.{is_plain, is_inner, passing, spelling}
+use Rattle.msproto.specs.Shown.{is_plain, is_inner, spelling}
 use Rattle.msproto.proofs.Law.{spelling_whole, live_viable, viable_live}
 use Rattle.msproto.proofs.Outside.{literal_free, not_free, outside_from, counts, counts_only}
 use Rattle.msproto.proofs.Heads.{head_large}
@@ -225,10 +226,10 @@ noop_item = refl
 
 -- ---- octets that leave a line where it stands
 
-plain_front : passing is_plain (codes "ab\\\"") ≡ 2
+plain_front : prefix_len is_plain (codes "ab\\\"") ≡ 2
 plain_front = refl
 
-inner_front : passing is_inner (13 ∷ 10 ∷ []) ≡ 1
+inner_front : prefix_len is_inner (13 ∷ 10 ∷ []) ≡ 1
 inner_front = refl
 
 letters_front : spelling (codes "OOP") (codes "oOx") ≡ 2

@@ -3,6 +3,8 @@ use Rattle.std.proofs.Common.{◌≡◌, ℕ, zero, suc, ◌+◌, ◌-◌, ◌�
 use Rattle.std.specs.Prelude.{nat_lt, fold}
 use Rattle.std.proofs.lemmas.Bool.{le-ltb, lt-ltb, eqb-true, and_parts, or_parts, not-true}
 use Rattle.std.specs.Char.{to_ascii_uppercase}
+use Rattle.std.specs.List.{prefix_len}
+use Rattle.std.proofs.lemmas.List.Sums.{prefix_len-le-length}
 use Rattle.std.proofs.Math.Seq.{take-add}
 use Rattle.std.proofs.lemmas.List.{length-take-le, take_min, take_at, length_push, append-nil, take-append-drop}
 use Rattle.msproto.specs.declared.items.Reach.{Reach}
@@ -14,7 +16,7 @@ use Rattle.msproto.specs.declared.verb.Params as code_params
 use Rattle.msproto.specs.declared.verb.Verb.{Verb}
 use Rattle.msproto.specs.Machine.{Params, State, Word, Quoted, Body, Dead, word_of, begins, step, room}
 use Rattle.msproto.specs.Scanning.{Scanned, Open, turned, found, literal_rest}
-use Rattle.msproto.specs.Shown.{shown, params_shown, scan_shown, is_plain, is_inner, passing, spelling, letters_read, skimmed, behind}
+use Rattle.msproto.specs.Shown.{shown, params_shown, scan_shown, is_plain, is_inner, spelling, letters_read, skimmed, behind}
 use Rattle.msproto.proofs.Names.{begins-append}
 use Rattle.msproto.proofs.Verbs.{word_more}
 use Rattle.msproto.proofs.Turning.{is_open, passed, body_is}
@@ -25,20 +27,12 @@ abbrev Pass : (ℕ → Bool) → List ℕ → Type 0
 Pass test [] = Unit {0}
 Pass test (octet ∷ rest) = (test octet ≡ true) × Pass test rest
 
-pub passing_small : (test : ℕ → Bool) (t : List ℕ) → passing test t ≤ length t
-passing_small test [] = omega arith
-passing_small test (x ∷ t) = go (test x) (passing_small test t)
-  where
-    go : (b : Bool) → passing test t ≤ length t → cond b (suc (passing test t)) zero ≤ suc (length t)
-    go true h = omega (arith, h)
-    go false h = omega arith
-
-front_passes : (test : ℕ → Bool) (t : List ℕ) → Pass test (take (passing test t) t)
+front_passes : (test : ℕ → Bool) (t : List ℕ) → Pass test (take (prefix_len test t) t)
 front_passes test [] = tt
 front_passes test (x ∷ t) = go (test x) refl (front_passes test t)
   where
-    go : (b : Bool) → test x ≡ b → Pass test (take (passing test t) t) → Pass test (take (cond b (suc (passing test t)) zero) (x ∷ t))
-    go true e h = (e, h)
+    go : (b : Bool) → test x ≡ b → Pass test (take (prefix_len test t) t) → Pass test (take (cond b (1 + prefix_len test t) zero) (x ∷ t))
+    go true e h = let more : 1 + prefix_len test t ≡ suc (prefix_len test t) = omega arith in rw more (e, h)
     go false e h = tt
 
 -- ---- one octet
@@ -197,8 +191,8 @@ skims_name v count n k m t low =
 skims_quoted : (left : ℕ) (params : code_params.Params) (n k m : ℕ) (t : List ℕ) → n + m ≤ 8192 → Skims (code_state.Quoted left params) n k (skimmed (code_state.Quoted left params) (take m t)) t
 skims_quoted left params n k m t low =
     let u = take left (take m t) in
-    let c = passing is_plain u in
-    let small : c ≤ length u = passing_small is_plain u in
+    let c = prefix_len is_plain u in
+    let small : c ≤ length u = prefix_len-le-length is_plain u in
     let within : c ≤ length (take m t) = front_small left (take m t) c small in
     let len : length (take c u) ≡ c = length-take-le c u small in
     ap (fold turned (Open (Quoted left (params_shown params)) n k)) (fronts c m t within ∙ fronts c left (take m t) small)
@@ -208,8 +202,8 @@ skims_quoted left params n k m t low =
 skims_dead : (n k m : ℕ) (t : List ℕ) → n + m ≤ 8192 → Skims code_state.Dead n k (skimmed code_state.Dead (take m t)) t
 skims_dead n k m t low =
     let u = take m t in
-    let c = passing is_inner u in
-    let small : c ≤ length u = passing_small is_inner u in
+    let c = prefix_len is_inner u in
+    let small : c ≤ length u = prefix_len-le-length is_inner u in
     let len : length (take c u) ≡ c = length-take-le c u small in
     ap (fold turned (Open Dead n k)) (fronts c m t small)
     ∙ dead_passed (take c u) n k (front_passes is_inner u) (omega (arith, len, small, take_small m t, low))

@@ -1,6 +1,7 @@
 -- What the states of the code stand for.
 use Rattle.std.specs.Prelude.{Bool, List, None, Option, Some, [], cond, drop, false, length, min, nat_lt, not, suc, take, true, zero, ℕ, ◌&&◌, ◌++◌, ◌+◌, ◌-◌, ◌==◌, ◌^◌, ◌||◌, ◌∷◌, ◌≡◌}
 use Rattle.std.specs.Char.{to_ascii_uppercase, is_ascii_digit}
+use Rattle.std.specs.List.{prefix_len}
 use Rattle.octets.specs.Decimal.{with_digit}
 use Rattle.msproto.specs.declared.verb.Verb.{Verb}
 use Rattle.msproto.specs.declared.verb.Params.{Params}
@@ -69,11 +70,6 @@ is_plain octet = is_quotable octet && not (octet == 34 || octet == 92)
 abbrev pub is_inner : ℕ → Bool
 is_inner octet = not (octet == 10)
 
--- how many octets in front pass a test
-abbrev pub passing : (ℕ → Bool) → List ℕ → ℕ
-passing test [] = zero
-passing test (octet ∷ rest) = cond (test octet) (suc (passing test rest)) zero
-
 -- how many octets in front are these letters in upper or lower case
 abbrev pub spelling : List ℕ → List ℕ → ℕ
 spelling [] octets = zero
@@ -87,8 +83,8 @@ letters_read verb count = min count (length (machine.word_of verb))
 -- how many octets in front leave the line in the same name, between the same quotation marks, or on the same bad line
 abbrev pub skimmed : State → List ℕ → ℕ
 skimmed (state.Word verb count) octets = spelling (drop (letters_read verb count) (machine.word_of verb)) octets
-skimmed (state.Quoted left params) octets = passing is_plain (take left octets)
-skimmed state.Dead octets = passing is_inner octets
+skimmed (state.Quoted left params) octets = prefix_len is_plain (take left octets)
+skimmed state.Dead octets = prefix_len is_inner octets
 skimmed _ octets = zero
 
 -- the state behind so many of these

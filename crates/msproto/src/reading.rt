@@ -179,7 +179,7 @@ fn literal(alloc: Global, count: usize, text: &[u8]) -> Result<Option<(Octets, &
         return Ok(None);
     }
     let (value, rest) = body.split_at(count);
-    Ok(Some((Octets::copy(alloc, value)?, rest)))
+    Ok(Some((Octets::from_slice(alloc, value)?, rest)))
 }
 
 // The number in front, below 2^32, and what stands behind it.

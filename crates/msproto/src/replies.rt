@@ -1,5 +1,5 @@
 //! What the server answers.
-use octets::{ListOf, Octets};
+use octets::{List, Octets};
 
 /// An answer: the lines before the last one, and the last one's parts (RFC 5804, section 1.3).
 ///
@@ -7,7 +7,7 @@ use octets::{ListOf, Octets};
 #[derive(Drop)]
 pub struct Reply {
     /// The lines before the last one.
-    pub lines: ListOf<Line>,
+    pub lines: List<Line>,
     /// The last line's word, where there is a last line.
     pub word: Option<Status>,
     /// What the last line says for programs.

@@ -1,5 +1,6 @@
 //! Where a line stands behind each of its octets: a state, and no search.
 ghost use Rattle.std.specs.Prelude.{◌≡◌, ◌≤◌, ℕ, length, take};
+ghost use Rattle.std.specs.List.{prefix_len};
 ghost use Rattle.msproto.specs.Machine as m;
 ghost use Rattle.msproto.specs.Shown as s;
 
@@ -124,36 +125,21 @@ fn spelling_length(letters: &[u8], octets: &[u8]) -> usize
 
 // How many octets in front stand between quotation marks as they are.
 fn plain_length(octets: &[u8]) -> usize
-    ensures value { result ≡ s.passing s.is_plain octets.now }
+    ensures value { result ≡ prefix_len s.is_plain octets.now }
     ensures within { result ≤ length octets.now }
 {
-    let mut rest = octets;
-    let mut count = 0;
-    while let Some((octet, more)) = rest.split_first() {
-        if matches!(*octet, b'"' | b'\\' | b'\0' | b'\n' | b'\r') {
-            break;
-        }
-        count += 1;
-        rest = more;
-    }
-    count
+    octets
+        .iter()
+        .take_while(|octet| !matches!(**octet, b'"' | b'\\' | b'\0' | b'\n' | b'\r'))
+        .count()
 }
 
 // How many octets stand before the first LF.
 fn inner_length(octets: &[u8]) -> usize
-    ensures value { result ≡ s.passing s.is_inner octets.now }
+    ensures value { result ≡ prefix_len s.is_inner octets.now }
     ensures within { result ≤ length octets.now }
 {
-    let mut rest = octets;
-    let mut count = 0;
-    while let Some((octet, more)) = rest.split_first() {
-        if *octet == b'\n' {
-            break;
-        }
-        count += 1;
-        rest = more;
-    }
-    count
+    octets.iter().take_while(|octet| **octet != b'\n').count()
 }
 
 // One octet that must be this one.

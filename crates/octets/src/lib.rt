@@ -11,5 +11,5 @@ pub mod string;
 
 pub use ascii::{is_blank, is_letter, is_printable, lowered, trim_blanks};
 pub use decimal::{parse_decimal, write_decimal};
-pub use list::{ListOf, Texts};
+pub use list::{List, Texts};
 pub use string::Octets;

@@ -1,5 +1,5 @@
 //! A list.
-ghost use Rattle.std.specs.Prelude.{◌≡◌, ◌↔◌, [], ◌∷◌, ◌++◌, length, IsTrue, OnOk, OnErr};
+ghost use Rattle.std.specs.Prelude.{◌≡◌, ◌↔◌, [], ◌∷◌, ◌++◌, length, IsTrue, IfOk, OnOk, OnErr};
 
 use crate::string::Octets;
 use std::alloc::{AllocError, Global};
@@ -9,14 +9,14 @@ use std::marker::Model;
 /// A list of what the crates of the workspace make types of: texts, lines, addresses. Contracts see the list of its
 /// items, without the vector's room.
 #[derive(Drop)]
-pub struct ListOf<T> {
+pub struct List<T> {
     items: Vec<T>,
 }
 
 /// A list of texts. Contracts see the list of their octets.
-pub type Texts = ListOf<Octets>;
+pub type Texts = List<Octets>;
 
-impl<T> Model for ListOf<T> {
+impl<T> Model for List<T> {
     ghost use Rattle.std.specs.Prelude.{List};
 
     ghost Value = { List T };
@@ -24,21 +24,21 @@ impl<T> Model for ListOf<T> {
     ghost view = { λ list. list.items.items };
 }
 
-impl<T: Drop> ListOf<T> {
+impl<T: Drop> List<T> {
     /// No items. Takes no memory.
-    pub fn new(alloc: Global) -> ListOf<T>
+    pub fn new(alloc: Global) -> List<T>
         ensures { result ≡ [] }
     {
-        ListOf {
+        List {
             items: Vec::new(alloc),
         }
     }
 
     /// The same items, without a copy.
-    pub fn from_vec(items: Vec<T>) -> ListOf<T>
+    pub fn from_vec(items: Vec<T>) -> List<T>
         ensures { result ≡ items.items }
     {
-        ListOf { items }
+        List { items }
     }
 
     /// The items, in order. Takes no memory.
@@ -73,7 +73,20 @@ impl<T: Drop> ListOf<T> {
     }
 }
 
-impl<T: fmt::Debug + Drop> fmt::Debug for ListOf<T> {
+impl List<Octets> {
+    /// A copy of the texts, in order: one allocation for the list, and one for each text that isn't empty.
+    pub fn try_clone(&self, alloc: Global) -> Result<Texts, AllocError>
+        ensures { IfOk result (λ copy. copy ≡ self.now) }
+    {
+        let mut copies = Texts::from_vec(Vec::with_capacity(alloc, self.len())?);
+        for text in self.as_slice() {
+            copies.push(text.try_clone(alloc)?)?;
+        }
+        Ok(copies)
+    }
+}
+
+impl<T: fmt::Debug + Drop> fmt::Debug for List<T> {
     fn fmt<W: fmt::Write>(&self, f: &mut fmt::Formatter<W>) -> fmt::Result {
         self.as_slice().fmt(f)
     }

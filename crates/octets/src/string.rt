@@ -41,7 +41,7 @@ impl Octets {
     }
 
     /// A copy of the octets of a slice.
-    pub fn copy(alloc: Global, items: &[u8]) -> Result<Octets, AllocError>
+    pub fn from_slice(alloc: Global, items: &[u8]) -> Result<Octets, AllocError>
         ensures { IfOk result (λ text. text ≡ items.now) }
     {
         Ok(Octets {
@@ -101,10 +101,10 @@ impl Octets {
     }
 
     /// A copy of the text.
-    pub fn copied(&self, alloc: Global) -> Result<Octets, AllocError>
+    pub fn try_clone(&self, alloc: Global) -> Result<Octets, AllocError>
         ensures { IfOk result (λ text. text ≡ self.now) }
     {
-        Octets::copy(alloc, self.as_slice())
+        Octets::from_slice(alloc, self.as_slice())
     }
 }
 

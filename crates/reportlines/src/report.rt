@@ -39,7 +39,7 @@ pub fn of_report(alloc: Global, report: &Report) -> Result<Octets, AllocError>
 {
     let text = of_delivery(alloc, report)?;
     if text.is_empty() {
-        return Octets::copy(alloc, b"discard\n");
+        return Octets::from_slice(alloc, b"discard\n");
     }
     Ok(text)
 }
@@ -107,7 +107,7 @@ fn of_deeds(
 {
     let text = of_lines(alloc, filed, sent, answers)?;
     if text.is_empty() {
-        return Octets::copy(alloc, b"discard\n");
+        return Octets::from_slice(alloc, b"discard\n");
     }
     Ok(text)
 }

@@ -50,8 +50,8 @@ fn read_login(alloc: Global, message: &[u8]) -> Result<Option<Login>, AllocError
         return Ok(None);
     }
     Ok(Some(Login {
-        user: Octets::copy(alloc, user)?,
-        password: Octets::copy(alloc, password)?,
+        user: Octets::from_slice(alloc, user)?,
+        password: Octets::from_slice(alloc, password)?,
     }))
 }
 

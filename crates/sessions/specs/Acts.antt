@@ -1,5 +1,5 @@
 -- What a call makes of the accounts that a store shows.
-use Rattle.std.specs.Prelude.{◌⊎◌, Result, Ok, Err, OnErr, IsTrue}
+use Rattle.std.specs.Prelude.{◌⊎◌, Result, Ok, Err, OnErr, IfOk, IfErr, IsTrue}
 use Rattle.sqlite_trees.specs.Tree.{Trees}
 use Rattle.sqlite.specs.State.{State, HasCleanDisk, Survives}
 use Rattle.mailstore.specs.declared.refusal.Refusal.{Refusal}
@@ -44,3 +44,9 @@ pub record Glances (old new : State) : Type 0 where
   pub same : HasCleanDisk new → HasOurTables old.now → StaysSame old new
   pub shut : HasCleanDisk new → IsTrue new.is_open → IsTrue old.is_open
   pub crash : Survives old new (λ _. HasOurTables old.now → ⊥)
+
+-- a read of the accounts, if any: this holds of the answer and of whatever accounts the store showed; no refusal comes but those that may without visible cause
+pub record ReadsAccounts {X : Type 0} (Part : X → Accounts → Type 0) (old new : State) (result : Result X Refusal) : Type 0 where
+  pub found : HasCleanDisk new → (accounts : Accounts) → HasAccounts old accounts → IfOk result (λ x. Part x accounts)
+  pub glances : Glances old new
+  pub named : IfErr result IsPassing

@@ -1,6 +1,7 @@
 -- Commands that are answered over a store: what a step over one comes to.
-use Rattle.std.specs.Prelude.{◌≡◌, ℕ, true, false, List, ◌++◌, Some, Result, Ok, Err}
+use Rattle.std.specs.Prelude.{◌≡◌, ℕ, true, false, List, ◌++◌, Some, Result, Ok, Err, OnOk, OnErr, IfErr}
 use Rattle.std.specs.FinMap.{get}
+use Rattle.sqlite.specs.State.{State}
 use Rattle.msproto.specs.declared.commands.Command.{Command}
 use Rattle.msproto.specs.declared.items.Item.TheVariants as item
 use Rattle.msproto.specs.declared.replies.Reply.{Reply}
@@ -8,9 +9,12 @@ use Rattle.msproto.specs.Replies as octets_of
 use Rattle.mailstore.specs.declared.refusal.Refusal.{Refusal}
 use Rattle.mailstore.specs.declared.refusal.Refusal.TheVariants.{Memory, Store}
 use Rattle.mailstore.specs.Account.{Account, Accounts, with_user}
+use Rattle.mailstore.specs.Refusals.{IsPassing}
 use Rattle.sessions.specs.declared.progress.Progress.{Progress}
+use Rattle.sessions.specs.Acts.{Acts}
 use Rattle.sessions.specs.Clients.{Client, item_in}
 use Rattle.sessions.specs.Scripts.{RepliesTo, obeyed}
+use Rattle.sessions.specs.Counts.{SessionView, scanned_past}
 use Rattle.sessions.specs.Steps.{IsStep, may_lack, may_fail, is_free}
 use Rattle.sessions.specs.Table.{is_early}
 
@@ -32,6 +36,10 @@ ObeyedTo user command (Err refusal) before behind accounts later = later ≡ acc
 abbrev pub MayObey : List ℕ → Command → Accounts → Accounts → Type 0
 MayObey user command accounts later = (reply : Reply) × ObeysUser user command reply accounts later
 
+-- what the command makes of the store, with what was written between two outputs
+abbrev pub ActsCommand : List ℕ → Command → List ℕ → List ℕ → State → State → Result (Unit {0}) Refusal → Type 0
+ActsCommand user command before behind old new result = Acts (ObeyedTo user command result before behind) (MayObey user command) old new result
+
 -- ---- a step
 
 -- what the call wrote between two outputs answers a step that leaves the session and the accounts so; after a refusal nothing changed
@@ -42,6 +50,18 @@ StepsTo c d (Err refusal) before behind accounts later = later ≡ accounts
 -- what the accounts may turn into by a step of the session
 abbrev pub MayStep : Client → Accounts → Accounts → Type 0
 MayStep c accounts later = (progress : Progress) × (octets : List ℕ) × (d : Client) × IsStep accounts c progress octets d later
+
+-- what a step from one session to another makes of the store, with what was written between two outputs
+abbrev pub ActsStep : Client → Client → List ℕ → List ℕ → State → State → Result Progress Refusal → Type 0
+ActsStep c d before behind old new result = Acts (StepsTo c d result before behind) (MayStep c) old new result
+
+-- a step of a command that is answered over the store: its item is taken off, and the scan of it counts; after a refusal the session and the output are as before
+pub record StepsAsked (from to : SessionView) (before behind : List ℕ) (old new : State) (result : Result Progress Refusal) : Type 0 where
+  pub acts : ActsStep from.client to.client before behind old new result
+  pub counts : OnOk result (to.given ≡ from.given)
+  pub scans : OnOk result (to.scanned ≡ scanned_past from)
+  pub err : OnErr result ((to ≡ from) × (behind ≡ before))
+  pub named : IfErr result IsPassing
 
 -- which refusals a step may give
 abbrev pub MayRefuse : Client → Refusal → Type 0

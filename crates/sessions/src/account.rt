@@ -1,16 +1,14 @@
 //! What a session reads of its user's account, and what it writes there.
-ghost use Rattle.std.specs.Prelude.{◌≡◌, ◌⊎◌, true, take, OnErr, IfOk, IfErr};
-ghost use Rattle.std.specs.FinMap.{get};
+ghost use Rattle.std.specs.Prelude.{◌≡◌, ◌⊎◌, true, take, Some, OnErr, IfErr};
 ghost use Rattle.sqlite.specs.Held.{state};
-ghost use Rattle.sqlite.specs.State.{HasCleanDisk};
-ghost use Rattle.mailstore.specs.Account.{Accounts};
 ghost use Rattle.mailstore.specs.declared.refusal.Refusal.TheVariants.{NoUser};
 ghost use Rattle.mailstore.specs.Promises.{Reads, WritesAccount};
 ghost use Rattle.mailstore.specs.Refusals.{IsPassing};
-ghost use Rattle.sessions.specs.Acts.{HasAccounts, Acts, Glances};
+ghost use Rattle.saslplain.specs.Parts.{login_shown};
+ghost use Rattle.sessions.specs.Acts.{ReadsAccounts};
 ghost use Rattle.sessions.specs.Decisions.{AreScripts, Decides, change_made};
-ghost use Rattle.sessions.specs.Logins.{checked_by};
-ghost use Rattle.sessions.specs.Orders.{ObeyedTo, MayObey};
+ghost use Rattle.sessions.specs.Logins.{admitted_by};
+ghost use Rattle.sessions.specs.Orders.{ActsCommand};
 ghost use Rattle.sessions.specs.Replies.{value_of};
 ghost use Rattle.sessions.specs.Table.{is_about_scripts};
 ghost use Rattle.sessions.specs.Turns.{admitted_in};
@@ -43,7 +41,7 @@ pub(crate) fn obey<S: Alter>(
     out: &mut Octets,
 ) -> Result<(), Refusal>
     requires { is_about_scripts command.now ≡ true }
-    ensures acts { Acts (ObeyedTo user.now command.now result out.old out.new) (MayObey user.now command.now) (state S.Store store.old) (state S.Store store.new) result }
+    ensures acts { ActsCommand user.now command.now out.old out.new (state S.Store store.old) (state S.Store store.new) result }
     ensures err { OnErr result (out.new ≡ out.old) }
     ensures named { IfErr result (λ e. (e ≡ NoUser) ⊎ IsPassing e) }
 {
@@ -66,9 +64,7 @@ pub(crate) fn admitted<S: Alter>(
     store: &mut Store<S>,
     text: Option<&[u8]>,
 ) -> Result<Option<Octets>, Refusal>
-    ensures found { HasCleanDisk (state S.Store store.new) → (accounts : Accounts) → HasAccounts (state S.Store store.old) accounts → IfOk result (λ who. admitted_in accounts (value_of text.entry) ≡ who) }
-    ensures glances { Glances (state S.Store store.old) (state S.Store store.new) }
-    ensures named { IfErr result IsPassing }
+    ensures { ReadsAccounts (λ who accounts. admitted_in accounts (value_of text.entry) ≡ who) (state S.Store store.old) (state S.Store store.new) result }
 {
     let Some(text) = text else {
         return Ok(None);
@@ -81,9 +77,7 @@ pub(crate) fn admitted<S: Alter>(
 
 /// The user of the login, if the account has the password.
 fn checked<S: Alter>(store: &mut Store<S>, login: Login) -> Result<Option<Octets>, Refusal>
-    ensures found { HasCleanDisk (state S.Store store.new) → (accounts : Accounts) → HasAccounts (state S.Store store.old) accounts → IfOk result (λ who. checked_by (login.user, login.password) (get accounts login.user) ≡ who) }
-    ensures glances { Glances (state S.Store store.old) (state S.Store store.new) }
-    ensures named { IfErr result IsPassing }
+    ensures { ReadsAccounts (λ who accounts. admitted_by accounts (login_shown (Some login)) ≡ who) (state S.Store store.old) (state S.Store store.new) result }
 {
     let Some(profile) = store.account(login.user.as_slice())? else {
         return Ok(None);

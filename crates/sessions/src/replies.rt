@@ -5,7 +5,7 @@ ghost use Rattle.msproto.specs.declared.replies.Line.TheVariants as line;
 ghost use Rattle.sessions.specs.Replies as s;
 
 use msproto::{Code, Line, Reply, Status};
-use octets::{ListOf, Octets};
+use octets::{List, Octets};
 use sievelex::ScriptFault;
 use std::alloc::{AllocError, Global};
 
@@ -13,7 +13,7 @@ use std::alloc::{AllocError, Global};
 pub fn accepted(alloc: Global, text: &[u8]) -> Result<Reply, AllocError>
     ensures { IfOk result (λ reply. reply ≡ s.accepted text.now) }
 {
-    let text = Octets::copy(alloc, text)?;
+    let text = Octets::from_slice(alloc, text)?;
     Ok(of_one_line(alloc, Status::Ok, None, text))
 }
 
@@ -21,7 +21,7 @@ pub fn accepted(alloc: Global, text: &[u8]) -> Result<Reply, AllocError>
 pub fn declined(alloc: Global, code: Option<Code>, text: &[u8]) -> Result<Reply, AllocError>
     ensures { IfOk result (λ reply. reply ≡ s.declined code text.now) }
 {
-    let text = Octets::copy(alloc, text)?;
+    let text = Octets::from_slice(alloc, text)?;
     Ok(of_one_line(alloc, Status::No, code, text))
 }
 
@@ -37,7 +37,7 @@ pub fn faulty(alloc: Global, fault: ScriptFault) -> Result<Reply, AllocError>
 pub fn farewell(alloc: Global, text: &[u8]) -> Result<Reply, AllocError>
     ensures { IfOk result (λ reply. reply ≡ s.farewell text.now) }
 {
-    let text = Octets::copy(alloc, text)?;
+    let text = Octets::from_slice(alloc, text)?;
     Ok(of_one_line(alloc, Status::Bye, None, text))
 }
 
@@ -48,13 +48,13 @@ pub fn done_with(alloc: Global, tag: &Option<Octets>) -> Result<Reply, AllocErro
     let Some(tag) = tag else {
         return accepted(alloc, b"Done.");
     };
-    let tag = tag.copied(alloc)?;
-    let text = Octets::copy(alloc, b"Done.")?;
+    let tag = tag.try_clone(alloc)?;
+    let text = Octets::from_slice(alloc, b"Done.")?;
     Ok(of_one_line(alloc, Status::Ok, Some(Code::Tag(tag)), text))
 }
 
 /// Lines, and `OK` alone.
-pub fn listed(lines: ListOf<Line>) -> Reply
+pub fn listed(lines: List<Line>) -> Reply
     ensures { result ≡ s.listed lines }
 {
     Reply {
@@ -69,7 +69,7 @@ pub fn listed(lines: ListOf<Line>) -> Reply
 pub fn challenge(alloc: Global) -> Result<Reply, AllocError>
     ensures { IfOk result (λ reply. reply ≡ s.challenge) }
 {
-    let mut lines = ListOf::new(alloc);
+    let mut lines = List::new(alloc);
     lines.push(Line::Empty)?;
     Ok(Reply {
         lines,
@@ -83,7 +83,7 @@ pub fn challenge(alloc: Global) -> Result<Reply, AllocError>
 pub fn capabilities(alloc: Global, user: &Option<Octets>) -> Result<Reply, AllocError>
     ensures { IfOk result (λ reply. reply ≡ s.capabilities user.now) }
 {
-    let mut lines = ListOf::new(alloc);
+    let mut lines = List::new(alloc);
     add_capability(alloc, &mut lines, b"IMPLEMENTATION", Some(b"sieved 1"))?;
     add_capability(alloc, &mut lines, b"SASL", Some(b"PLAIN"))?;
     add_capability(
@@ -104,14 +104,14 @@ pub fn capabilities(alloc: Global, user: &Option<Octets>) -> Result<Reply, Alloc
 // One capability more, with its value if it has one.
 fn add_capability(
     alloc: Global,
-    lines: &mut ListOf<Line>,
+    lines: &mut List<Line>,
     name: &[u8],
     value: Option<&[u8]>,
 ) -> Result<(), AllocError>
     ensures { OnOk result (lines.new ≡ lines.old ++ line.Capability name.now (s.value_of value.entry) ∷ []) }
 {
     let value = copy_of(alloc, value)?;
-    let name = Octets::copy(alloc, name)?;
+    let name = Octets::from_slice(alloc, name)?;
     lines.push(Line::Capability { name, value })
 }
 
@@ -120,7 +120,7 @@ fn copy_of(alloc: Global, text: Option<&[u8]>) -> Result<Option<Octets>, AllocEr
     ensures { IfOk result (λ copy. copy ≡ s.value_of text.entry) }
 {
     match text {
-        Some(text) => Ok(Some(Octets::copy(alloc, text)?)),
+        Some(text) => Ok(Some(Octets::from_slice(alloc, text)?)),
         None => Ok(None),
     }
 }
@@ -129,7 +129,7 @@ fn of_one_line(alloc: Global, status: Status, code: Option<Code>, text: Octets) 
     ensures { result ≡ record { lines = []; word = Some status; code = code; text = Some text } }
 {
     Reply {
-        lines: ListOf::new(alloc),
+        lines: List::new(alloc),
         word: Some(status),
         code,
         text: Some(text),

@@ -13,7 +13,7 @@ use crate::decision::{Change, Decision};
 use crate::replies::{accepted, declined, faulty, listed};
 use crate::script_name::is_script_name;
 use msproto::{Code, Command, Line, Reply};
-use octets::{ListOf, Octets};
+use octets::{List, Octets};
 use sievelex::{ScriptError, ScriptFault};
 use sievesyntax::check;
 use std::alloc::{AllocError, Global};
@@ -58,7 +58,7 @@ pub fn get_script(alloc: Global, text: Option<Octets>) -> Result<Reply, AllocErr
     let Some(text) = text else {
         return declined(alloc, Some(Code::NonExistent), b"No such script.");
     };
-    let mut lines = ListOf::new(alloc);
+    let mut lines = List::new(alloc);
     lines.push(Line::Text(text))?;
     Ok(listed(lines))
 }
@@ -140,13 +140,13 @@ fn lines_of(
     alloc: Global,
     names: &[Octets],
     active: Option<&[u8]>,
-) -> Result<ListOf<Line>, AllocError>
+) -> Result<List<Line>, AllocError>
     ensures { IfOk result (λ lines. lines ≡ s.script_lines (r.value_of active.entry) names.now) }
 {
-    let mut lines = ListOf::new(alloc);
+    let mut lines = List::new(alloc);
     for name in names {
         let active = is_active(active, name.as_slice());
-        let name = name.copied(alloc)?;
+        let name = name.try_clone(alloc)?;
         lines.push(Line::Script { name, active })?;
     }
     Ok(lines)

@@ -7,9 +7,7 @@ ghost use Rattle.sessions.specs.GivenUp.{text_given_up, client_given_up, progres
 ghost use Rattle.sessions.specs.Logins.{login_client};
 ghost use Rattle.sessions.specs.Replies as r;
 ghost use Rattle.sqlite.specs.Held.{state};
-ghost use Rattle.mailstore.specs.Refusals.{IsPassing};
-ghost use Rattle.sessions.specs.Acts.{Acts};
-ghost use Rattle.sessions.specs.Orders.{StepsTo, MayStep, MayRefuse, Asked};
+ghost use Rattle.sessions.specs.Orders.{ActsStep, StepsAsked, MayRefuse, Asked};
 ghost use Rattle.sessions.specs.Steps.{progress_of, StepsOver, StepsFree, IfAsks, IfMade, has_command, may_lack};
 ghost use Rattle.sessions.specs.Turns.{followed, is_login as is_login_of};
 
@@ -250,7 +248,7 @@ impl Session {
         store: &mut Store<S>,
         out: &mut Octets,
     ) -> Result<Progress, Refusal>
-        ensures acts { Acts (StepsTo self.old.client self.new.client result out.old out.new) (MayStep self.old.client) (state S.Store store.old) (state S.Store store.new) result }
+        ensures acts { ActsStep self.old.client self.new.client out.old out.new (state S.Store store.old) (state S.Store store.new) result }
         ensures counts { OnOk result (self.new.given ≡ self.old.given) }
         ensures scans { OnOk result (self.new.scanned ≡ scanned_in_step self.old) }
         ensures err { OnErr result ((self.new ≡ self.old) × (out.new ≡ out.old)) }
@@ -270,11 +268,7 @@ impl Session {
         out: &mut Octets,
     ) -> Result<Progress, Refusal>
         requires { Asked self.old.client command.now }
-        ensures acts { Acts (StepsTo self.old.client self.new.client result out.old out.new) (MayStep self.old.client) (state S.Store store.old) (state S.Store store.new) result }
-        ensures counts { OnOk result (self.new.given ≡ self.old.given) }
-        ensures scans { OnOk result (self.new.scanned ≡ scanned_past self.old) }
-        ensures err { OnErr result ((self.new ≡ self.old) × (out.new ≡ out.old)) }
-        ensures named { IfErr result IsPassing }
+        ensures { StepsAsked self.old self.new out.old out.new (state S.Store store.old) (state S.Store store.new) result }
     {
         if is_login(command) {
             return self.step_login(store, command, out);
@@ -291,11 +285,7 @@ impl Session {
     ) -> Result<Progress, Refusal>
         requires asked { Asked self.old.client command.now }
         requires login { is_login_of command.now ≡ true }
-        ensures acts { Acts (StepsTo self.old.client self.new.client result out.old out.new) (MayStep self.old.client) (state S.Store store.old) (state S.Store store.new) result }
-        ensures counts { OnOk result (self.new.given ≡ self.old.given) }
-        ensures scans { OnOk result (self.new.scanned ≡ scanned_past self.old) }
-        ensures err { OnErr result ((self.new ≡ self.old) × (out.new ≡ out.old)) }
-        ensures named { IfErr result IsPassing }
+        ensures { StepsAsked self.old self.new out.old out.new (state S.Store store.old) (state S.Store store.new) result }
     {
         let who = admitted(self.alloc, store, login_text(&self.user, command))?;
         let turn = exchange(self.alloc, &self.user, self.failures, command, who)?;
@@ -312,11 +302,7 @@ impl Session {
     ) -> Result<Progress, Refusal>
         requires asked { Asked self.old.client command.now }
         requires other { is_login_of command.now ≡ false }
-        ensures acts { Acts (StepsTo self.old.client self.new.client result out.old out.new) (MayStep self.old.client) (state S.Store store.old) (state S.Store store.new) result }
-        ensures counts { OnOk result (self.new.given ≡ self.old.given) }
-        ensures scans { OnOk result (self.new.scanned ≡ scanned_past self.old) }
-        ensures err { OnErr result ((self.new ≡ self.old) × (out.new ≡ out.old)) }
-        ensures named { IfErr result IsPassing }
+        ensures { StepsAsked self.old self.new out.old out.new (state S.Store store.old) (state S.Store store.new) result }
     {
         let Some(user) = &self.user else {
             unreachable!();

@@ -4,7 +4,7 @@
 
 mod listener;
 
-use keepers::FileKeeper;
+use keepers::{FileKeeper, Maildir};
 use listener::{Service, serve};
 use sievedrun::drive::drive;
 use sievedrun::fault::{Fault, refuse};
@@ -65,6 +65,7 @@ fn run(rt: &HostRuntime, words: &[String]) -> u8 {
             &mut faults,
             &mut keeper,
             clock(rt),
+            &mut Maildir::new(rt),
         ),
     }
 }

@@ -1,7 +1,7 @@
 -- Framing and rounds of a session by example: right ones, and what is near them.
 use Prim.Native.Nat.{zero}
-use Rattle.std.proofs.Common.{true, false, inl, inr, lit≤, suc, ◌<◌, get_or, refl, ◌≡◌, ◌≢◌, ℕ, List, [], ◌∷◌, ◌++◌, Option, Some, None, arith}
-use Rattle.std.specs.Prelude.{codes, length}
+use Rattle.std.proofs.Common.{true, false, inl, inr, lit≤, suc, ◌<◌, get_or, refl, ◌≡◌, ℕ, List, [], ◌∷◌, ◌++◌, arith}
+use Rattle.std.specs.Prelude.{codes}
 use Rattle.octets.specs.Ascii.{is_digit}
 use Rattle.octets.specs.Decimal.{Writes, number_of}
 use Rattle.msproto.specs.Machine.{rows as machine_rows}

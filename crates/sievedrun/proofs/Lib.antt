@@ -1,4 +1,8 @@
+mod DrainExamples
+mod DrainLemmas
 pub mod FramingLemmas
+mod LeaveLemmas
+mod MoveLemmas
 mod PromiseLemmas
 mod ServingLemmas
 pub mod StreamLemmas

@@ -1,5 +1,5 @@
 -- What a run leaves of the accounts, from what its steps leave.
-use Rattle.std.proofs.Common.{◌≡◌, ◌⊎◌, ℕ, Option, Some, None, List, Bool, Result, Ok, Err, OnOk, IfErr, IsTrue, refl, sym, ◌∙◌, ap, subst, inl, inr}
+use Rattle.std.proofs.Common.{◌≡◌, ℕ, Option, List, [], ◌∷◌, Result, Ok, Err, OnOk, IfErr, IsTrue, refl, sym, ◌∙◌, ap, subst, inl, inr}
 use Rattle.sqlite_schema.specs.declared.schema.Schema.{Schema}
 use Rattle.sqlite.specs.Effect.{Database}
 use Rattle.sqlite.specs.State.{State, HasCleanDisk}
@@ -24,7 +24,7 @@ use Rattle.mailstore.specs.declared.report.Report.{Report}
 use Rattle.sievedrun.specs.declared.fault.Fault.{Fault}
 use Rattle.sievedrun.specs.declared.fault.Fault.TheVariants.{Stream}
 use Rattle.sievedrun.specs.Faults.{status_of, fault_of, IsFailure}
-use Rattle.sievedrun.specs.Promise.{status_after, Brings, Takes, MayFollow, world_of, ShowsAfter, Leaves, LeavesAll, LeavesAfter, LeavesNew, LeavesSound}
+use Rattle.sievedrun.specs.Promise.{status_after, Brings, Takes, MayFollow, world_of, IsOne, AreTakings, AreOfWord, ShowsAfter, Leaves, LeavesAll, LeavesAfterAll, LeavesAfter, LeavesNew, LeavesSound}
 
 -- what was left alone
 pub leaves_same : (Changed : Accounts → Database → Type 0) (Made : Database → Type 0) (old new : Database) → new ≡ old → Leaves Changed Made old new
@@ -95,7 +95,15 @@ module _ (held new : Database) (taken given : State) (seen : taken.now ≡ held)
   event_made OfThese status event answer Turn carries made of_these may = record {
     accounts = λ accounts p.
         let h = carries clean accounts (λ _. stood accounts p) in
-        inr (record { told = may; event = event; is_of = of_these; answer = answer; next = world_of h.0; made = made accounts h.0 h.1; shown = told h.0 (h.2 live) });
+        inr (record {
+          told = may;
+          events = event ∷ [];
+          are = (event, refl, of_these);
+          answers = answer ∷ [];
+          end = world_of h.0;
+          made = (world_of h.0, made accounts h.0 h.1, refl);
+          shown = told h.0 (h.2 live);
+        });
     none = λ blank. absurd (ours_not_none held ours blank);
   }
 
@@ -107,12 +115,17 @@ module _ (held new : Database) (taken given : State) (seen : taken.now ≡ held)
     none = λ blank. absurd (ours_not_none held ours blank);
   }
 
--- the same events, told by another name and with the status of a later step, which doesn't deny them where this one didn't
+-- the same events, told by another name and with a status that doesn't deny them where this one didn't
+shows_later : (AreThese Others : List Event → Type 0) (status later : ℕ) → ((events : List Event) → AreThese events → Others events) → (MayFollow status → MayFollow later) → (accounts : Accounts) (new : Database)
+    → ShowsAfter AreThese status accounts new → ShowsAfter Others later accounts new
+shows_later AreThese Others status later are may accounts new h =
+    record { told = may h.told; events = h.events; are = are h.events h.are; answers = h.answers; end = h.end; made = h.made; shown = h.shown }
+
+-- with the status of a later step
 pub after_later : (OfThese Others : Event → Type 0) (status later : ℕ) → ((event : Event) → OfThese event → Others event) → (MayFollow status → MayFollow later) → (old new : Database) → LeavesAfter OfThese status old new → LeavesAfter Others later old new
 after_later OfThese Others status later of may old new leaves =
-    leaves_wider (ShowsAfter OfThese status) (ShowsAfter Others later) (λ _. ⊥) (λ _. ⊥) old new
-    (λ accounts h. record { told = may h.told; event = h.event; is_of = of h.event h.is_of; answer = h.answer; next = h.next; made = h.made; shown = h.shown })
-    (λ h. h) leaves
+    leaves_wider (ShowsAfter (IsOne OfThese) status) (ShowsAfter (IsOne Others) later) (λ _. ⊥) (λ _. ⊥) old new
+    (λ accounts. shows_later (IsOne OfThese) (IsOne Others) status later (λ events one. (one.0, one.1, of one.0 one.2)) may accounts new) (λ h. h) leaves
 
 -- a store that couldn't be closed, or memory that is lacking, doesn't deny an event
 pub passing_may_follow : (refusal : Refusal) → IsPassing refusal → MayFollow (status_of (fault_of refusal))
@@ -129,25 +142,32 @@ on_ok_anyway (Err e) P p = tt
 
 -- ---- what the whole program leaves, from what each word leaves
 
+abbrev Sound : Option (List ℕ) → ℕ → Accounts → Database → Type 0
+Sound given status = ShowsAfter (AreOfWord given) status
+
 pub sound_same : (given : Option (List ℕ)) (status : ℕ) (old new : Database) → new ≡ old → LeavesSound given status old new
-sound_same given status old new same = leaves_same (ShowsAfter (Brings given) status) (λ db. Presents db no_accounts) old new same
+sound_same given status old new same = leaves_same (Sound given status) (λ db. Presents db no_accounts) old new same
 
 pub sound_all : (given : Option (List ℕ)) (status : ℕ) (old new : Database) → LeavesAll old new → LeavesSound given status old new
-sound_all given status old new leaves =
-    leaves_wider (λ _ _. ⊥) (ShowsAfter (Brings given) status) (λ _. ⊥) (λ db. Presents db no_accounts) old new (λ accounts h. absurd h) (λ h. absurd h) leaves
+sound_all given status old new leaves = leaves_wider (λ _ _. ⊥) (Sound given status) (λ _. ⊥) (λ db. Presents db no_accounts) old new (λ accounts h. absurd h) (λ h. absurd h) leaves
 
 pub sound_new : (given : Option (List ℕ)) (status : ℕ) (old new : Database) → LeavesNew old new → LeavesSound given status old new
 sound_new given status old new leaves =
-    leaves_wider (λ _ _. ⊥) (ShowsAfter (Brings given) status) (λ db. Presents db no_accounts) (λ db. Presents db no_accounts) old new (λ accounts h. absurd h) (λ h. h) leaves
+    leaves_wider (λ _ _. ⊥) (Sound given status) (λ db. Presents db no_accounts) (λ db. Presents db no_accounts) old new (λ accounts h. absurd h) (λ h. h) leaves
 
 pub sound_after : (given : Option (List ℕ)) (status told : ℕ) (old new : Database) → told ≡ status → LeavesAfter (Brings given) status old new → LeavesSound given told old new
 sound_after given status told old new is leaves =
-    leaves_wider (ShowsAfter (Brings given) status) (ShowsAfter (Brings given) told) (λ _. ⊥) (λ db. Presents db no_accounts) old new
-    (λ accounts h. subst (λ s. ShowsAfter (Brings given) s accounts new) (sym is) h) (λ h. absurd h) leaves
+    leaves_wider (ShowsAfter (IsOne (Brings given)) status) (Sound given told) (λ _. ⊥) (λ db. Presents db no_accounts) old new
+    (λ accounts. shows_later (IsOne (Brings given)) (AreOfWord given) status told (λ events one. inl one) (λ may. subst MayFollow (sym is) may) accounts new) (λ h. absurd h) leaves
 
 pub sound_taken : (given : Option (List ℕ)) (status : ℕ) (user digits : List ℕ) (old new : Database) → LeavesAfter (Takes user digits) status old new → LeavesSound given status old new
 sound_taken given status user digits old new leaves =
     sound_after given status status old new refl (after_later (Takes user digits) (Brings given) status status (λ event h. subst (Brings given) (sym h.2) tt) (λ may. may) old new leaves)
+
+pub sound_moved : (given : Option (List ℕ)) (status : ℕ) (user folder : List ℕ) (old new : Database) → LeavesAfterAll (AreTakings user folder) status old new → LeavesSound given status old new
+sound_moved given status user folder old new leaves =
+    leaves_wider (ShowsAfter (AreTakings user folder) status) (Sound given status) (λ _. ⊥) (λ db. Presents db no_accounts) old new
+    (λ accounts. shows_later (AreTakings user folder) (AreOfWord given) status status (λ events are. inr (user, folder, are)) (λ may. may) accounts new) (λ h. absurd h) leaves
 
 -- a step that may fail to write, or to get memory, doesn't deny what came before it
 pub step_may_follow : {X : Type 0} (r : Result X Fault) → IfErr r IsFailure → MayFollow (status_after r)

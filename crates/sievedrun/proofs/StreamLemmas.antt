@@ -1,8 +1,8 @@
 -- Lemmas on what a run of reads takes from an input and a run of writes gives to an output.
-use Rattle.std.proofs.Common.{◌≡◌, ℕ, ◌+◌, ◌≤◌, ◌-◌, List, [], ◌++◌, Option, Some, None, refl, sym, ap, ◌∙◌, subst, append_assoc, append-nil, length, take, drop, arith, take-append-drop}
+use Rattle.std.proofs.Common.{◌≡◌, ℕ, ◌+◌, List, [], ◌++◌, Option, Some, None, refl, sym, ap, ◌∙◌, subst, append_assoc, append-nil, take, drop}
 use Rattle.std.proofs.Math.Seq.{take-add}
 use Rattle.std.specs.Io.KnownBytes.{Appends, Consumes, IsAtEnd, Keeps}
-use Rattle.sievedrun.specs.Streams.{ReadsAll, AppendsFront}
+use Rattle.sievedrun.specs.Streams.{ReadsAll}
 
 -- before the first read nothing is taken
 pub nothing_read : (a : Option (List ℕ)) → Consumes a a []

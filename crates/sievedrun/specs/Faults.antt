@@ -4,8 +4,10 @@ use Rattle.mailstore.specs.declared.refusal.Refusal.{Refusal}
 use Rattle.mailstore.specs.declared.refusal.Refusal.TheVariants as refusal
 use Rattle.keepers.specs.declared.keeper.Held.{Held}
 use Rattle.keepers.specs.declared.keeper.Held.TheVariants as held
+use Rattle.keepers.specs.declared.sink.SinkError.{SinkError}
+use Rattle.keepers.specs.declared.sink.SinkError.TheVariants as sink
 use Rattle.sievedrun.specs.declared.fault.Fault.{Fault}
-use Rattle.sievedrun.specs.declared.fault.Fault.TheVariants.{Memory, Store, Busy, Stream, NotOurs, NoUser, TooLarge, BadEnvelope, BadMoment, UserExists, BadUser, NoRow, NoMessage, BadInput, BadArgument}
+use Rattle.sievedrun.specs.declared.fault.Fault.TheVariants.{Memory, Store, Busy, Stream, NotOurs, NoUser, TooLarge, BadEnvelope, BadMoment, UserExists, BadUser, NoRow, NoMessage, NoMaildir, BadInput, BadArgument}
 
 -- the exit status of a fault (sysexits.h): wrong use, wrong data, no such user, try again
 abbrev pub status_of : Fault → ℕ
@@ -22,6 +24,7 @@ status_of UserExists = 65
 status_of BadUser = 65
 status_of NoRow = 65
 status_of NoMessage = 65
+status_of NoMaildir = 65
 status_of BadInput = 65
 status_of BadArgument = 64
 
@@ -40,6 +43,7 @@ text_of UserExists = codes "user exists"
 text_of BadUser = codes "bad user"
 text_of NoRow = codes "no such row"
 text_of NoMessage = codes "no such message"
+text_of NoMaildir = codes "no such Maildir"
 text_of BadInput = codes "bad input"
 text_of BadArgument = codes "bad argument"
 
@@ -64,6 +68,12 @@ fault_of refusal.NoRow = NoRow
 abbrev pub fault_held : Held → Fault
 fault_held held.Busy = Busy
 fault_held (held.Refused cause) = fault_of cause
+
+-- the fault that it is where a message can't be kept
+abbrev pub fault_sunk : SinkError → Fault
+fault_sunk sink.Memory = Memory
+fault_sunk sink.NoMaildir = NoMaildir
+fault_sunk sink.Failed = Stream
 
 -- what a failure to read or to write, or lack of memory, is told as
 abbrev pub IsFailure : Fault → Type 0

@@ -1,3 +1,4 @@
+pub mod Draining
 pub mod Faults
 pub mod Framing
 pub mod Promise

@@ -142,3 +142,8 @@ Converses accounts in_old in_new out_old out_new new (Err fault) = BreaksOff acc
 pub record Serves (in_old in_new out_old out_new : Option (List ℕ)) (old new : Database) (result : Result (Unit {0}) Fault) : Type 0 where
   pub talks : (accounts : Accounts) → Presents old accounts → Converses accounts in_old in_new out_old out_new new result
   pub none : old.schema ≡ no_schema → new.schema ≡ no_schema
+
+-- the same of a reader, a writer and a keeper, by what is still to be read of the one, what was written to the other, and the tables of the third
+abbrev pub ServesBy : {A B C : Type 0} → (A → Option (List ℕ)) → A → A → (B → Option (List ℕ)) → B → B → (C → Database) → C → C → Result (Unit {0}) Fault → Type 0
+ServesBy remaining in_old in_new contents out_old out_new holds old new result =
+    Serves (remaining in_old) (remaining in_new) (contents out_old) (contents out_new) (holds old) (holds new) result

@@ -6,15 +6,16 @@ ghost use Rattle.mailstore.specs.Shows.{Presents};
 ghost use Rattle.keepers.specs.Taken.{IsTaken};
 ghost use Rattle.mailengine.specs.declared.event.Event.TheVariants.{Deliver, AddUser};
 ghost use Rattle.sievedrun.specs.Faults.{IsFailure};
-ghost use Rattle.sievedrun.specs.Promise.{Brings, LeavesAll, LeavesAfter, LeavesNew, status_after};
+ghost use Rattle.sievedrun.specs.Promise.{Brings, LeavesAll, LeavesAfter, MayCome, LeavesNew, status_after};
 
+use crate::account_read::{FoldersOf, MessagesOf, read_once};
 use crate::fault::Fault;
 use crate::stream::{read_all, write_all};
 use crate::values::{decimal, envelope_of, first_line, moment_of, salt_of};
 use keepers::Keeper;
 use mailengine::{Envelope, Report, add_user, deliver};
 use mailstore::{Folder, Store};
-use octets::{ListOf, Octets, Texts, write_decimal};
+use octets::{Octets, write_decimal};
 use reportlines::of_report;
 use sievedwords::Place;
 use std::alloc::{AllocError, Global};
@@ -98,7 +99,7 @@ fn add<K: Keeper>(
 ) -> Result<(), Fault>
     ensures late { status_after result ≢ 64 }
     ensures back { K.is_out keeper.old ≡ false → K.is_out keeper.new ≡ false }
-    ensures leaves { IsTrue K.tells → LeavesAfter (λ event. event ≡ AddUser name.now address.now salt password.now) (status_after result) (K.holds keeper.old) (K.holds keeper.new) }
+    ensures leaves { IsTrue K.tells → MayCome (AddUser name.now address.now salt password.now) (status_after result) (K.holds keeper.old) (K.holds keeper.new) }
 {
     let mut store = taken(place, false, keeper)?;
     let added = add_user(alloc, &mut store, name, address, salt, password);
@@ -108,7 +109,7 @@ fn add<K: Keeper>(
 }
 
 fn added_line(alloc: Global, name: &str) -> Result<Octets, AllocError> {
-    let mut line = Octets::copy(alloc, b"added ")?;
+    let mut line = Octets::from_slice(alloc, b"added ")?;
     line.extend_from_slice(name.as_bytes())?;
     line.push(b'\n')?;
     Ok(line)
@@ -157,7 +158,7 @@ fn post<K: Keeper>(
 ) -> Result<Report, Fault>
     ensures late { status_after result ≢ 64 }
     ensures back { K.is_out keeper.old ≡ false → K.is_out keeper.new ≡ false }
-    ensures leaves { IsTrue K.tells → LeavesAfter (λ event. event ≡ Deliver user.now envelope message.now moment) (status_after result) (K.holds keeper.old) (K.holds keeper.new) }
+    ensures leaves { IsTrue K.tells → MayCome (Deliver user.now envelope message.now moment) (status_after result) (K.holds keeper.old) (K.holds keeper.new) }
 {
     let mut store = taken(place, false, keeper)?;
     let delivered = deliver(alloc, &mut store, user, envelope, message, moment);
@@ -185,26 +186,9 @@ pub fn run_folders<W: Write, K: Keeper>(
     ensures back { K.is_out keeper.old ≡ false → K.is_out keeper.new ≡ false }
     ensures leaves { IsTrue K.tells → LeavesAll (K.holds keeper.old) (K.holds keeper.new) }
 {
-    let folders = folders_of(place, user, keeper)?;
+    let folders = read_once(place, &FoldersOf(user), keeper)?;
     let text = folder_lines(alloc, folders.as_slice())?;
     write_all(output, text.as_slice())
-}
-
-/// The folders of a user, of a store that is taken and handed back.
-fn folders_of<K: Keeper>(
-    place: Place<'_>,
-    user: &str,
-    keeper: &mut K,
-) -> Result<ListOf<Folder>, Fault>
-    ensures back { K.is_out keeper.old ≡ false → K.is_out keeper.new ≡ false }
-    ensures leaves { IsTrue K.tells → LeavesAll (K.holds keeper.old) (K.holds keeper.new) }
-{
-    let mut store = taken(place, false, keeper)?;
-    let listed = store.folders(user.as_bytes());
-    let closed = keeper.hand_back(store);
-    let folders = listed?;
-    closed?;
-    Ok(folders)
 }
 
 fn folder_lines(alloc: Global, folders: &[Folder]) -> Result<Octets, AllocError> {
@@ -231,27 +215,9 @@ pub fn run_show<W: Write, K: Keeper>(
     ensures leaves { IsTrue K.tells → LeavesAll (K.holds keeper.old) (K.holds keeper.new) }
 {
     let number = decimal(number)?;
-    let messages = messages_of(place, user, folder, keeper)?;
+    let messages = read_once(place, &MessagesOf(user, folder), keeper)?;
     let message = numbered(messages.as_slice(), number).ok_or(Fault::NoMessage)?;
     write_all(output, message)
-}
-
-/// The messages of a folder, of a store that is taken and handed back.
-fn messages_of<K: Keeper>(
-    place: Place<'_>,
-    user: &str,
-    folder: &str,
-    keeper: &mut K,
-) -> Result<Texts, Fault>
-    ensures back { K.is_out keeper.old ≡ false → K.is_out keeper.new ≡ false }
-    ensures leaves { IsTrue K.tells → LeavesAll (K.holds keeper.old) (K.holds keeper.new) }
-{
-    let mut store = taken(place, false, keeper)?;
-    let found = store.folder(user.as_bytes(), folder.as_bytes());
-    let closed = keeper.hand_back(store);
-    let messages = found?;
-    closed?;
-    Ok(messages)
 }
 
 /// The message with this number, from 1.

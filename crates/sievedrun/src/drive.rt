@@ -1,10 +1,12 @@
 //! A run of the program: the words, and what comes of them.
 ghost use Rattle.std.specs.Prelude.{◌≡◌, false, IsTrue};
+ghost use Rattle.sievedrun.specs.Draining.{KeepsMail};
 ghost use Rattle.sievedrun.specs.Promise.{LeavesAll, LeavesSound, status_after};
 
 use crate::commands::{
     NewUser, Posting, run_adduser, run_deliver, run_folders, run_init, run_show,
 };
+use crate::drain::{Draining, run_drain};
 use crate::fault::{Fault, refuse};
 use crate::queue::{run_done, run_notices, run_queue, run_queued};
 use crate::stream::write_all;
@@ -12,7 +14,7 @@ use crate::trial::try_run;
 use crate::values::envelope_of;
 use clap::Error;
 use clap::error::ErrorKind;
-use keepers::Keeper;
+use keepers::{Keeper, MailSink};
 use sievedwords::{Asked, read};
 use std::alloc::{AllocError, Global};
 use std::format;
@@ -25,8 +27,9 @@ const USAGE: u8 = 64;
 /// script is read from the input, the answer is written to the output, and what goes wrong to the faults.
 ///
 /// `clock` is the moment in seconds since 1970, where the clock could be read. Where words or values are wrong nothing is
-/// read. The store is taken at most once, and handed back before the answer is written.
-pub fn drive<R: Read, W: Write, F: Write, K: Keeper>(
+/// read. The store is taken at most once, and handed back before the answer is written. Messages that leave it go into the
+/// sink.
+pub fn drive<R: Read, W: Write, F: Write, K: Keeper, T: MailSink>(
     alloc: Global,
     words: &[String],
     input: &mut R,
@@ -34,19 +37,21 @@ pub fn drive<R: Read, W: Write, F: Write, K: Keeper>(
     faults: &mut F,
     keeper: &mut K,
     clock: Option<u64>,
+    sink: &mut T,
 ) -> u8
     ensures unread { result ≡ 64 → input.new ≡ input.old }
     ensures back { K.is_out keeper.old ≡ false → K.is_out keeper.new ≡ false }
     ensures leaves { IsTrue K.tells → LeavesSound (R.remaining input.old) result (K.holds keeper.old) (K.holds keeper.new) }
+    ensures kept { IsTrue K.tells → KeepsMail T.tells (T.kept sink.old) (T.kept sink.new) (K.holds keeper.old) (K.holds keeper.new) }
 {
     match read(alloc, words) {
-        Ok(asked) => run(alloc, asked, input, output, faults, keeper, clock),
+        Ok(asked) => run(alloc, asked, input, output, faults, keeper, clock, sink),
         Err(error) => tell(alloc, &error, output, faults),
     }
 }
 
 /// Does what the words ask for, and answers the exit status.
-fn run<R: Read, W: Write, F: Write, K: Keeper>(
+fn run<R: Read, W: Write, F: Write, K: Keeper, T: MailSink>(
     alloc: Global,
     asked: Asked<'_>,
     input: &mut R,
@@ -54,10 +59,12 @@ fn run<R: Read, W: Write, F: Write, K: Keeper>(
     faults: &mut F,
     keeper: &mut K,
     clock: Option<u64>,
+    sink: &mut T,
 ) -> u8
     ensures unread { result ≡ 64 → input.new ≡ input.old }
     ensures back { K.is_out keeper.old ≡ false → K.is_out keeper.new ≡ false }
     ensures leaves { IsTrue K.tells → LeavesSound (R.remaining input.old) result (K.holds keeper.old) (K.holds keeper.new) }
+    ensures kept { IsTrue K.tells → KeepsMail T.tells (T.kept sink.old) (T.kept sink.new) (K.holds keeper.old) (K.holds keeper.new) }
 {
     if let Asked::Try { from, to } = asked {
         return match envelope_of(alloc, from, to) {
@@ -65,23 +72,24 @@ fn run<R: Read, W: Write, F: Write, K: Keeper>(
             Err(_) => refuse(faults, Fault::Memory),
         };
     }
-    let done = act(alloc, asked, input, output, keeper, clock);
-    ended(done, faults, keeper)
+    let done = act(alloc, asked, input, output, keeper, clock, sink);
+    ended(done, faults, keeper, sink)
 }
 
-/// Does what a word asks for that works on a store. A word that writes none, or asks for more than one event, is none
-/// of these.
-fn act<R: Read, W: Write, K: Keeper>(
+/// Does what a word asks for that works on a store. A word that writes none is none of these.
+fn act<R: Read, W: Write, K: Keeper, T: MailSink>(
     alloc: Global,
     asked: Asked<'_>,
     input: &mut R,
     output: &mut W,
     keeper: &mut K,
     clock: Option<u64>,
+    sink: &mut T,
 ) -> Result<(), Fault>
     ensures unread { status_after result ≡ 64 → input.new ≡ input.old }
     ensures back { K.is_out keeper.old ≡ false → K.is_out keeper.new ≡ false }
     ensures leaves { IsTrue K.tells → LeavesSound (R.remaining input.old) (status_after result) (K.holds keeper.old) (K.holds keeper.new) }
+    ensures kept { IsTrue K.tells → KeepsMail T.tells (T.kept sink.old) (T.kept sink.new) (K.holds keeper.old) (K.holds keeper.new) }
 {
     match asked {
         Asked::Init(place) => run_init(place, output, keeper),
@@ -109,6 +117,21 @@ fn act<R: Read, W: Write, K: Keeper>(
             run_deliver(alloc, place, posting, clock, input, output, keeper)
         }
         Asked::Done { place, user, id } => run_done(alloc, place, user, id, output, keeper),
+        Asked::Drain {
+            place,
+            most,
+            user,
+            folder,
+            maildir,
+        } => {
+            let draining = Draining {
+                most,
+                user,
+                folder,
+                maildir,
+            };
+            run_drain(alloc, place, draining, output, keeper, sink)
+        }
         _ => look(alloc, asked, output, keeper),
     }
 }
@@ -146,21 +169,29 @@ fn look<W: Write, K: Keeper>(
     }
 }
 
-/// The status of what was done in a store, or of the fault. It is told, and what the keeper knows of it.
-fn ended<F: Write, K: Keeper>(done: Result<(), Fault>, faults: &mut F, keeper: &K) -> u8
+/// The status of what was done in a store, or of the fault. It is told, and what the keeper or the sink knows of it.
+fn ended<F: Write, K: Keeper, T: MailSink>(
+    done: Result<(), Fault>,
+    faults: &mut F,
+    keeper: &K,
+    sink: &T,
+) -> u8
     ensures { result ≡ status_after done }
 {
     let Err(fault) = done else {
         return 0;
     };
     let status = refuse(faults, fault);
-    if fault == Fault::Store {
-        tell_cause(faults, keeper.cause());
-    }
+    let cause = match fault {
+        Fault::Store => keeper.cause(),
+        Fault::Stream | Fault::NoMaildir => sink.cause(),
+        _ => None,
+    };
+    tell_cause(faults, cause);
     status
 }
 
-/// A second line on why the store failed, for who runs it. Where it can't be written the first one has told.
+/// A second line on what failed, for who runs it. Where it can't be written the first one has told.
 fn tell_cause<F: Write>(faults: &mut F, cause: Option<&'static str>) {
     if let Some(text) = cause {
         let _ = write_all(faults, b"sieved: ");

@@ -4,7 +4,7 @@ ghost use Rattle.sievedrun.specs.Faults.{status_of, line_of};
 ghost use Rattle.sievedrun.specs.Streams.{AppendsFront};
 
 use crate::stream;
-use keepers::Held;
+use keepers::{Held, SinkError};
 use mailstore::Refusal;
 use std::alloc::AllocError;
 use std::io::Write;
@@ -52,6 +52,9 @@ pub enum Fault {
     /// No message of the folder has the number.
     #[error("no such message")]
     NoMessage,
+    /// The path is no Maildir: `tmp` or `new` isn't there.
+    #[error("no such Maildir")]
+    NoMaildir,
     /// The input is no count, script and message.
     #[error("bad input")]
     BadInput,
@@ -91,6 +94,7 @@ impl Fault {
             Fault::BadUser => b"sieved: bad user\n",
             Fault::NoRow => b"sieved: no such row\n",
             Fault::NoMessage => b"sieved: no such message\n",
+            Fault::NoMaildir => b"sieved: no such Maildir\n",
             Fault::BadInput => b"sieved: bad input\n",
             Fault::BadArgument => b"sieved: bad argument\n",
         }
@@ -140,6 +144,21 @@ impl From<Held> for Fault {
         match held {
             Held::Busy => Fault::Busy,
             Held::Refused(refusal) => Fault::from(refusal),
+        }
+    }
+}
+
+impl From<SinkError> for Fault {
+    ghost use Rattle.std.specs.Prelude.{◌≡◌};
+    ghost use Rattle.sievedrun.specs.Faults.{fault_sunk};
+
+    ghost from_gives = { λ error fault. fault ≡ fault_sunk error };
+
+    fn from(error: SinkError) -> Fault {
+        match error {
+            SinkError::Memory => Fault::Memory,
+            SinkError::NoMaildir => Fault::NoMaildir,
+            SinkError::Failed => Fault::Stream,
         }
     }
 }

@@ -1,16 +1,16 @@
 //! The words on what leaves the store: a user's queue, and the notices on deliveries.
 ghost use Rattle.std.specs.Prelude.{◌≡◌, ◌≢◌, false, IsTrue};
 ghost use Rattle.mailengine.specs.declared.event.Event.TheVariants.{TakeOut};
-ghost use Rattle.sievedrun.specs.Promise.{LeavesAll, LeavesAfter, Takes, status_after};
+ghost use Rattle.sievedrun.specs.Promise.{LeavesAll, LeavesAfter, MayCome, Takes, status_after};
 
+use crate::account_read::{NoticesOf, QueueOf, read_once};
 use crate::commands::taken;
 use crate::fault::Fault;
 use crate::stream::write_all;
 use crate::values::decimal;
 use keepers::Keeper;
 use mailengine::take_out;
-use mailstore::{Notice, Outgoing};
-use octets::{ListOf, Octets, write_decimal};
+use octets::{Octets, write_decimal};
 use reportlines::{of_notices, of_queue};
 use sievedwords::Place;
 use std::alloc::{AllocError, Global};
@@ -27,7 +27,7 @@ pub fn run_queue<W: Write, K: Keeper>(
     ensures back { K.is_out keeper.old ≡ false → K.is_out keeper.new ≡ false }
     ensures leaves { IsTrue K.tells → LeavesAll (K.holds keeper.old) (K.holds keeper.new) }
 {
-    let queue = queue_of(place, user, keeper)?;
+    let queue = read_once(place, &QueueOf(user), keeper)?;
     let text = of_queue(alloc, queue.as_slice())?;
     write_all(output, text.as_slice())
 }
@@ -44,26 +44,9 @@ pub fn run_queued<W: Write, K: Keeper>(
     ensures leaves { IsTrue K.tells → LeavesAll (K.holds keeper.old) (K.holds keeper.new) }
 {
     let id = decimal(id)?;
-    let queue = queue_of(place, user, keeper)?;
+    let queue = read_once(place, &QueueOf(user), keeper)?;
     let row = queue.as_slice().iter().find(|row| row.id == id);
     write_all(output, row.ok_or(Fault::NoRow)?.message.as_slice())
-}
-
-/// The queue of a user, of a store that is taken and handed back.
-fn queue_of<K: Keeper>(
-    place: Place<'_>,
-    user: &str,
-    keeper: &mut K,
-) -> Result<ListOf<Outgoing>, Fault>
-    ensures back { K.is_out keeper.old ≡ false → K.is_out keeper.new ≡ false }
-    ensures leaves { IsTrue K.tells → LeavesAll (K.holds keeper.old) (K.holds keeper.new) }
-{
-    let mut store = taken(place, false, keeper)?;
-    let listed = store.queue(user.as_bytes());
-    let closed = keeper.hand_back(store);
-    let queue = listed?;
-    closed?;
-    Ok(queue)
 }
 
 /// `done`: a message leaves the queue, since it went out.
@@ -94,7 +77,7 @@ fn take<K: Keeper>(
 ) -> Result<(), Fault>
     ensures late { status_after result ≢ 64 }
     ensures back { K.is_out keeper.old ≡ false → K.is_out keeper.new ≡ false }
-    ensures leaves { IsTrue K.tells → LeavesAfter (λ event. event ≡ TakeOut user.now id) (status_after result) (K.holds keeper.old) (K.holds keeper.new) }
+    ensures leaves { IsTrue K.tells → MayCome (TakeOut user.now id) (status_after result) (K.holds keeper.old) (K.holds keeper.new) }
 {
     let mut store = taken(place, false, keeper)?;
     let done = take_out(alloc, &mut store, user, id);
@@ -104,7 +87,7 @@ fn take<K: Keeper>(
 }
 
 fn taken_line(alloc: Global, id: u64) -> Result<Octets, AllocError> {
-    let mut line = Octets::copy(alloc, b"taken ")?;
+    let mut line = Octets::from_slice(alloc, b"taken ")?;
     write_decimal(&mut line, id)?;
     line.push(b'\n')?;
     Ok(line)
@@ -121,24 +104,7 @@ pub fn run_notices<W: Write, K: Keeper>(
     ensures back { K.is_out keeper.old ≡ false → K.is_out keeper.new ≡ false }
     ensures leaves { IsTrue K.tells → LeavesAll (K.holds keeper.old) (K.holds keeper.new) }
 {
-    let notices = notices_of(place, user, keeper)?;
+    let notices = read_once(place, &NoticesOf(user), keeper)?;
     let text = of_notices(alloc, notices.as_slice())?;
     write_all(output, text.as_slice())
-}
-
-/// The notices of a user, of a store that is taken and handed back.
-fn notices_of<K: Keeper>(
-    place: Place<'_>,
-    user: &str,
-    keeper: &mut K,
-) -> Result<ListOf<Notice>, Fault>
-    ensures back { K.is_out keeper.old ≡ false → K.is_out keeper.new ≡ false }
-    ensures leaves { IsTrue K.tells → LeavesAll (K.holds keeper.old) (K.holds keeper.new) }
-{
-    let mut store = taken(place, false, keeper)?;
-    let listed = store.notices(user.as_bytes());
-    let closed = keeper.hand_back(store);
-    let notices = listed?;
-    closed?;
-    Ok(notices)
 }

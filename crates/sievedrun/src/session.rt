@@ -7,7 +7,7 @@ ghost use Rattle.mailstore.specs.Shows.{Presents};
 ghost use Rattle.sessions.specs.Clients.{is_ready};
 ghost use Rattle.sievedrun.specs.declared.fault.Fault.{Fault};
 ghost use Rattle.sievedrun.specs.Promise.{status_after};
-ghost use Rattle.sievedrun.specs.Serving.{AnswersAll, AnswersFirst, Converses, Served, Serves, StepsOn};
+ghost use Rattle.sievedrun.specs.Serving.{AnswersAll, AnswersFirst, Converses, Served, ServesBy, StepsOn};
 ghost use Rattle.sievedrun.specs.Streams.{AppendsFront};
 
 use crate::fault::{Fault, refuse};
@@ -47,7 +47,7 @@ pub fn serve_one<R: Read, W: Write, K: Keeper>(
     keeper: &mut K,
 ) -> Result<(), Fault>
     ensures back { K.is_out keeper.old ≡ false → K.is_out keeper.new ≡ false }
-    ensures serves { IsTrue K.tells → Serves (R.remaining input.old) (R.remaining input.new) (W.contents output.old) (W.contents output.new) (K.holds keeper.old) (K.holds keeper.new) result }
+    ensures serves { IsTrue K.tells → ServesBy R.remaining input.old input.new W.contents output.old output.new K.holds keeper.old keeper.new result }
 {
     let mut greeting = Octets::new(alloc);
     let mut session = Session::new(alloc, &mut greeting)?;
@@ -66,7 +66,7 @@ pub fn run_session<R: Read, W: Write, F: Write, K: Keeper>(
 ) -> u8
     ensures back { K.is_out keeper.old ≡ false → K.is_out keeper.new ≡ false }
     ensures serves { IsTrue K.tells → (ending : Result (Unit {0}) Fault) × (result ≡ status_after ending)
-        × Serves (R.remaining input.old) (R.remaining input.new) (W.contents output.old) (W.contents output.new) (K.holds keeper.old) (K.holds keeper.new) ending }
+        × ServesBy R.remaining input.old input.new W.contents output.old output.new K.holds keeper.old keeper.new ending }
 {
     keeper.wait_for_lock(place.waits);
     match serve_one(alloc, place.path, input, output, keeper) {
@@ -139,8 +139,9 @@ fn answer_first<W: Write, K: Keeper>(
 ) -> Result<(), Fault>
     requires { is_ready session.old.client ≡ true }
     ensures back { K.is_out keeper.old ≡ false → K.is_out keeper.new ≡ false }
-    ensures answers { IsTrue K.tells → (accounts : Accounts) → Presents (K.holds keeper.old) accounts →
-        AnswersFirst accounts session.old.client (W.contents output.old) answers.old (W.contents output.new) answers.new session.new.client (K.holds keeper.new) result }
+    ensures answers { IsTrue K.tells → (accounts : Accounts) → Presents (K.holds keeper.old) accounts
+        → AnswersFirst accounts session.old.client (W.contents output.old) answers.old (W.contents output.new) answers.new
+        session.new.client (K.holds keeper.new) result }
     ensures none { IsTrue K.tells → (K.holds keeper.old).schema ≡ no_schema → (K.holds keeper.new).schema ≡ no_schema }
 {
     if step_over_store(session, path, answers, keeper) {

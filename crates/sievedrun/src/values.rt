@@ -51,8 +51,8 @@ pub fn moment_of(at: Option<&str>, clock: Option<u64>) -> Result<u64, Fault> {
 /// The envelope of these addresses.
 pub fn envelope_of(alloc: Global, from: &str, to: &str) -> Result<Envelope, AllocError> {
     Ok(Envelope {
-        from: Octets::copy(alloc, from.as_bytes())?,
-        to: Octets::copy(alloc, to.as_bytes())?,
+        from: Octets::from_slice(alloc, from.as_bytes())?,
+        to: Octets::from_slice(alloc, to.as_bytes())?,
     })
 }
 

@@ -84,6 +84,18 @@ pub enum Asked<'a> {
         /// The account's name.
         user: &'a str,
     },
+    /// `drain`: a folder's messages move into a Maildir.
+    Drain {
+        place: Place<'a>,
+        /// How many messages move at most, in decimal; all of the folder's where it is left out.
+        most: Option<&'a str>,
+        /// The account's name.
+        user: &'a str,
+        /// The folder's name.
+        folder: &'a str,
+        /// The path of the Maildir.
+        maildir: &'a str,
+    },
     /// `serve`: clients of ManageSieve on the loopback address, one after the other.
     Serve {
         place: Place<'a>,
@@ -149,6 +161,13 @@ fn asked_by<'a>(word: &str, given: &ArgMatches<'a>) -> Asked<'a> {
         "notices" => Asked::Notices {
             place: place_in(given),
             user: text(given, "user"),
+        },
+        "drain" => Asked::Drain {
+            place: place_in(given),
+            most: given.get_str("most"),
+            user: text(given, "user"),
+            folder: text(given, "folder"),
+            maildir: text(given, "maildir"),
         },
         "serve" => Asked::Serve {
             place: place_in(given),

@@ -21,6 +21,7 @@ pub fn sieved<'a>(alloc: Global) -> Result<Command<'a>, AllocError> {
         .subcommand(queue(alloc)?)?
         .subcommand(done(alloc)?)?
         .subcommand(notices(alloc)?)?
+        .subcommand(drain(alloc)?)?
         .subcommand(serve(alloc)?)?
         .subcommand(session(alloc)?)
 }
@@ -157,6 +158,35 @@ fn notices<'a>(alloc: Global) -> Result<Command<'a>, AllocError> {
 Status 0: listed. 64: wrong words. 65: no such store. 67: no such user. 75: try again later.",
     )?
     .arg(operand(alloc, "user", "USER", "The account's name"))
+}
+
+fn drain<'a>(alloc: Global) -> Result<Command<'a>, AllocError> {
+    stored(
+        alloc,
+        "drain",
+        "Moves a folder's messages into a Maildir, the first ones first",
+        "Reads nothing. Prints `drained N`: how many moved. A message leaves the store once it is on the disk in MAILDIR.
+Status 0: moved. 64: wrong words or number. 65: no such Maildir or store. 67: no such user. 75: some may have moved; try again later.",
+    )?
+    .arg(option(
+        alloc,
+        "most",
+        "K",
+        "Moves at most K messages [default: all]",
+    ))?
+    .arg(operand(alloc, "user", "USER", "The account's name"))?
+    .arg(operand(
+        alloc,
+        "folder",
+        "FOLDER",
+        "The folder's name, as `folders` prints it",
+    ))?
+    .arg(operand(
+        alloc,
+        "maildir",
+        "MAILDIR",
+        "A directory that has `tmp` and `new`",
+    ))
 }
 
 fn serve<'a>(alloc: Global) -> Result<Command<'a>, AllocError> {

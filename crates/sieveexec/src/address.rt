@@ -12,7 +12,7 @@ use crate::mail::Mail;
 use crate::matching::matches_some;
 use addrparts::addresses;
 use mailhead::unfolded;
-use octets::{ListOf, Octets};
+use octets::{List, Octets};
 use sievesyntax::Address;
 use std::alloc::{AllocError, Global};
 
@@ -34,7 +34,7 @@ const ADDRESS_FIELDS: [&[u8]; 14] = [
     b"return-path",
 ];
 
-impl FieldValues for ListOf<JoinedAddress> {
+impl FieldValues for List<JoinedAddress> {
     ghost use Rattle.sieveexec.specs.Indexes.{addresses_keyed};
 
     ghost keyed = { addresses_keyed };
@@ -44,18 +44,18 @@ impl FieldValues for ListOf<JoinedAddress> {
         alloc: Global,
         mail: &Mail<'_>,
         key: &Octets,
-    ) -> Result<ListOf<JoinedAddress>, AllocError> {
+    ) -> Result<List<JoinedAddress>, AllocError> {
         if !is_address_key(key.as_slice()) {
-            return Ok(ListOf::new(alloc));
+            return Ok(List::new(alloc));
         }
         match mail.raws(key) {
             Some(raws) => addresses_in(alloc, raws.as_slice()),
-            None => Ok(ListOf::new(alloc)),
+            None => Ok(List::new(alloc)),
         }
     }
 }
 
-impl FieldTest<ListOf<JoinedAddress>> for Address {
+impl FieldTest<List<JoinedAddress>> for Address {
     ghost use Rattle.std.specs.List.{list_any};
     ghost use Rattle.sieveexec.specs.Truth.{address_matches};
 
@@ -67,7 +67,7 @@ impl FieldTest<ListOf<JoinedAddress>> for Address {
         self.fields.as_slice()
     }
 
-    fn holds_of(&self, values: &ListOf<JoinedAddress>) -> bool {
+    fn holds_of(&self, values: &List<JoinedAddress>) -> bool {
         address_matches(self, values.as_slice())
     }
 }
@@ -80,10 +80,10 @@ fn is_address_key(key: &[u8]) -> bool
 }
 
 /// The addresses in raw values, which are unfolded and not decoded. Linear in the values.
-fn addresses_in(alloc: Global, raws: &[&[u8]]) -> Result<ListOf<JoinedAddress>, AllocError>
+fn addresses_in(alloc: Global, raws: &[&[u8]]) -> Result<List<JoinedAddress>, AllocError>
     ensures { IfOk result (λ found. found ≡ flat_map addrs (map unfold_of (map (λ raw. raw.now) raws.now))) }
 {
-    let mut found = ListOf::new(alloc);
+    let mut found = List::new(alloc);
     for raw in raws {
         let value = unfolded(alloc, raw)?;
         let more = addresses(alloc, value.as_slice())?;

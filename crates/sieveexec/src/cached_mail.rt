@@ -7,7 +7,7 @@ use crate::field_cache::FieldCache;
 use crate::joined_address::JoinedAddress;
 use crate::mail::Mail;
 use crate::matching::matches_some;
-use octets::{ListOf, Texts};
+use octets::{List, Texts};
 use sievesyntax::{Check, EnvelopeTest};
 use std::alloc::{AllocError, Global};
 use std::marker::Model;
@@ -18,7 +18,7 @@ use std::marker::Model;
 pub struct CachedMail<'m, 'a> {
     mail: &'m Mail<'a>,
     texts: FieldCache<'m, 'a, Texts>,
-    addresses: FieldCache<'m, 'a, ListOf<JoinedAddress>>,
+    addresses: FieldCache<'m, 'a, List<JoinedAddress>>,
 }
 
 impl<'m, 'a> Model for CachedMail<'m, 'a> {

@@ -2,7 +2,7 @@
 ghost use Rattle.std.specs.Prelude.{◌≡◌, IfOk};
 
 use addrparts::Addr;
-use octets::{ListOf, Octets};
+use octets::{List, Octets};
 use sievesyntax::{ReplyFrom, VacArgs};
 use std::alloc::{AllocError, Global};
 
@@ -11,8 +11,8 @@ pub(crate) fn copied_address(alloc: Global, address: &Addr) -> Result<Addr, Allo
     ensures { IfOk result (λ copy. copy ≡ address.now) }
 {
     Ok(Addr {
-        local: address.local.copied(alloc)?,
-        domain: address.domain.copied(alloc)?,
+        local: address.local.try_clone(alloc)?,
+        domain: address.domain.try_clone(alloc)?,
     })
 }
 
@@ -27,7 +27,7 @@ pub(crate) fn copied_args(alloc: Global, args: &VacArgs) -> Result<VacArgs, Allo
         addresses: copied_addresses(alloc, args.addresses.as_slice())?,
         mime: args.mime,
         handle: copied_text(alloc, &args.handle)?,
-        reason: args.reason.copied(alloc)?,
+        reason: args.reason.try_clone(alloc)?,
     })
 }
 
@@ -35,7 +35,7 @@ fn copied_text(alloc: Global, text: &Option<Octets>) -> Result<Option<Octets>, A
     ensures { IfOk result (λ copy. copy ≡ text.now) }
 {
     match text {
-        Some(text) => Ok(Some(text.copied(alloc)?)),
+        Some(text) => Ok(Some(text.try_clone(alloc)?)),
         None => Ok(None),
     }
 }
@@ -45,18 +45,18 @@ fn copied_from(alloc: Global, from: &Option<ReplyFrom>) -> Result<Option<ReplyFr
 {
     match from {
         Some(from) => Ok(Some(ReplyFrom {
-            text: from.text.copied(alloc)?,
-            display: from.display.copied(alloc)?,
+            text: from.text.try_clone(alloc)?,
+            display: from.display.try_clone(alloc)?,
             address: copied_address(alloc, &from.address)?,
         })),
         None => Ok(None),
     }
 }
 
-fn copied_addresses(alloc: Global, addresses: &[Addr]) -> Result<ListOf<Addr>, AllocError>
+fn copied_addresses(alloc: Global, addresses: &[Addr]) -> Result<List<Addr>, AllocError>
     ensures { IfOk result (λ copies. copies ≡ addresses.now) }
 {
-    let mut copies = ListOf::new(alloc);
+    let mut copies = List::new(alloc);
     for address in addresses {
         copies.push(copied_address(alloc, address)?)?;
     }

@@ -1,10 +1,11 @@
 //! The envelope of a message.
-ghost use Rattle.std.specs.Prelude.{◌≡◌};
+ghost use Rattle.std.specs.Prelude.{◌≡◌, IfOk};
 ghost use Rattle.sieveexec.specs.Parts.{part_in, local_of, domain_of};
 
 use memchr::memrchr;
 use octets::Octets;
 use sievesyntax::AddressPart;
+use std::alloc::{AllocError, Global};
 
 /// The addresses with which a message was received, as they were written; the null reverse-path is the empty text.
 #[derive(Debug, Drop)]
@@ -13,6 +14,18 @@ pub struct Envelope {
     pub from: Octets,
     /// The recipient (RFC 5321, 4.1.1.3).
     pub to: Octets,
+}
+
+impl Envelope {
+    /// A copy of both addresses. Lack of memory is the only error.
+    pub fn try_clone(&self, alloc: Global) -> Result<Envelope, AllocError>
+        ensures { IfOk result (λ envelope. envelope ≡ self.now) }
+    {
+        Ok(Envelope {
+            from: self.from.try_clone(alloc)?,
+            to: self.to.try_clone(alloc)?,
+        })
+    }
 }
 
 /// A part of an address of the envelope, which is cut at its last `@` and is a local part alone where there is none.

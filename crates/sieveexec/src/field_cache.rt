@@ -122,7 +122,7 @@ fn load<V: FieldValues>(
         return Ok(());
     }
     let values = V::read(alloc, mail, key)?;
-    let name = key.copied(alloc)?;
+    let name = key.try_clone(alloc)?;
     known.insert(name, values)?;
     Ok(())
 }

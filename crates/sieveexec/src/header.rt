@@ -61,7 +61,7 @@ fn text_in(alloc: Global, raw: &[u8]) -> Result<Octets, AllocError>
 {
     let value = unfolded(alloc, raw)?;
     let text = decoded(alloc, value.as_slice())?;
-    Octets::copy(alloc, trim_blanks(text.as_slice()))
+    Octets::from_slice(alloc, trim_blanks(text.as_slice()))
 }
 
 /// Whether some text matches some key.

@@ -3,7 +3,7 @@ ghost use Rattle.std.specs.Prelude.{◌≡◌, ◌++◌, IfOk, OnOk};
 ghost use Rattle.sieveexec.specs.Parts.{part_of};
 
 use addrparts::Addr;
-use octets::{ListOf, Octets};
+use octets::{List, Octets};
 use sievesyntax::AddressPart;
 use std::alloc::{AllocError, Global};
 use std::marker::Model;
@@ -55,7 +55,7 @@ impl JoinedAddress {
 /// Writes out addresses behind those that are there.
 pub(crate) fn push_joined(
     alloc: Global,
-    joined: &mut ListOf<JoinedAddress>,
+    joined: &mut List<JoinedAddress>,
     addresses: &[Addr],
 ) -> Result<(), AllocError>
     ensures { OnOk result (joined.new ≡ joined.old ++ addresses.now) }

@@ -1,6 +1,6 @@
 //! What a script comes to.
 use addrparts::Addr;
-use octets::{ListOf, Texts};
+use octets::{List, Texts};
 use sievesyntax::VacArgs;
 
 /// What a script comes to on a message.
@@ -12,7 +12,7 @@ pub enum Outcome {
         /// implicit keep comes last (RFC 5228, 2.10.2 and 2.10.3).
         filed: Texts,
         /// The addresses that the message is sent to, each once, in the order of the first command that says so.
-        sent: ListOf<Addr>,
+        sent: List<Addr>,
         /// What the sender is answered, if `vacation` was executed (RFC 5230).
         reply: Option<VacArgs>,
     },

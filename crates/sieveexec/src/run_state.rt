@@ -11,7 +11,7 @@ ghost use Rattle.sievesyntax.specs.Meaning.{Done, actions_of};
 use crate::copies::{copied_address, copied_args};
 use crate::outcome::{Failure, Outcome};
 use addrparts::Addr;
-use octets::{ListOf, Octets, Texts};
+use octets::{List, Octets, Texts};
 use sievesyntax::{Action, VacArgs};
 use std::alloc::{AllocError, Global};
 use std::collections::BTreeSet;
@@ -28,7 +28,7 @@ pub struct RunState {
     /// The mailboxes that the message goes into, in the order of the commands that say so.
     pub named: Texts,
     /// The addresses that the message is sent to, each once, in the order of the first command that says so.
-    pub sent: ListOf<Addr>,
+    pub sent: List<Addr>,
     /// The arguments of the `vacation` that was run, if one was.
     pub reply: Option<VacArgs>,
     /// Whether the implicit keep is cancelled.
@@ -44,7 +44,7 @@ impl RunState {
     {
         RunState {
             named: Texts::new(alloc),
-            sent: ListOf::new(alloc),
+            sent: List::new(alloc),
             reply: None,
             cancelled: false,
         }
@@ -89,7 +89,7 @@ impl RunState {
         ensures reply { self.new.reply ≡ self.old.reply }
     {
         if !self.cancelled {
-            self.named.push(Octets::copy(alloc, INBOX)?)?;
+            self.named.push(Octets::from_slice(alloc, INBOX)?)?;
         }
         without_repeats(alloc, self.named.as_slice())
     }
@@ -97,7 +97,7 @@ impl RunState {
     fn file_into(&mut self, alloc: Global, mailbox: &[u8]) -> Result<Option<Failure>, AllocError>
         ensures { IfOk result (λ failed. flow_of failed (run_state_of self.new) ≡ flow_of None (filed_into mailbox.now (run_state_of self.old))) }
     {
-        self.named.push(Octets::copy(alloc, mailbox)?)?;
+        self.named.push(Octets::from_slice(alloc, mailbox)?)?;
         self.cancelled = true;
         Ok(None)
     }
@@ -149,7 +149,7 @@ fn without_repeats(alloc: Global, named: &[Octets]) -> Result<Texts, AllocError>
     let mut filed = Texts::new(alloc);
     for mailbox in named {
         if is_first(alloc, &mut known, mailbox)? {
-            filed.push(mailbox.copied(alloc)?)?;
+            filed.push(mailbox.try_clone(alloc)?)?;
         }
     }
     Ok(filed)
@@ -164,7 +164,7 @@ fn is_first(
     ensures first { IfOk result (λ first. first ≡ not (contains (slice_cmp nat_cmp) known.old mailbox.now)) }
     ensures known { OnOk result (Updates (slice_cmp nat_cmp) known.old known.new mailbox.now true) }
 {
-    Ok(known.insert(mailbox.copied(alloc)?)?)
+    Ok(known.insert(mailbox.try_clone(alloc)?)?)
 }
 
 /// The mailbox that a name means: `INBOX` in any ASCII case is `INBOX`, others are taken as they are.

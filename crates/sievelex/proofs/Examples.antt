@@ -1,8 +1,7 @@
 -- Examples of the definitions: a right one and a near miss each.
 use Rattle.std.proofs.Common.{◌≡◌, ℕ, [], ◌∷◌, ◌++◌, get_or, refl, ap, arith, lit<, lit≤}
 use Rattle.std.specs.Prelude.{codes}
-use Rattle.sievelex.specs.declared.token.Kind.TheVariants.{Identifier, Number, Text}
-use Rattle.sievelex.specs.declared.token.Value.TheVariants.{Amount, Chars}
+use Rattle.sievelex.specs.declared.token.Content.TheVariants.{Identifier, Number, Text}
 use Rattle.sievelex.specs.declared.front.Front.{Front}
 use Rattle.sievelex.specs.Shape.{IsQuoted}
 use Rattle.sievelex.specs.Shape.Piece.{Plain, Escaped, BareLineEnd}
@@ -18,23 +17,23 @@ use Rattle.sievelex.proofs.Numbered.{number_found, number_none}
 use Rattle.sievelex.proofs.Strings.{string_none}
 
 -- `keep` begins `keep;`, and `kee` is no token there
-keep_found : IsFound (codes "keep;") (record { kind = Identifier; value = Chars (codes "keep"); len = 4 })
+keep_found : IsFound (codes "keep;") (record { content = Identifier (codes "keep"); len = 4 })
 keep_found = identifier_found (codes "keep;") (codes "keep") (codes ";") (codes "keep") 4 refl refl refl refl refl refl (λ t. let e : 107 ≡ 116 = ap (λ s. get_or s 0 0) t.0 in omega arith)
 
-kee_none : IsToken (codes "keep;") Identifier (Chars (codes "kee")) 3 → ⊥
+kee_none : IsToken (codes "keep;") (Identifier (codes "kee")) 3 → ⊥
 kee_none t =
-    let same : (3 ≡ 4) × ((Identifier ≡ Identifier) × (Chars (codes "kee") ≡ Chars (codes "keep"))) = best_only (codes "keep;") Identifier (Chars (codes "keep")) 4 (identifier_best (codes "keep;") refl (λ t. let e : 107 ≡ 116 = ap (λ s. get_or s 0 0) t.0 in omega arith)) Identifier (Chars (codes "kee")) 3 t in
+    let same : (3 ≡ 4) × (Identifier (codes "kee") ≡ Identifier (codes "keep")) = best_only (codes "keep;") (Identifier (codes "keep")) 4 (identifier_best (codes "keep;") refl (λ t. let e : 107 ≡ 116 = ap (λ s. get_or s 0 0) t.0 in omega arith)) (Identifier (codes "kee")) 3 t in
     cc (same.0)
 
 -- `text` is an identifier before a blank, and nothing before a colon
-text_found : IsFound (codes "text :x") (record { kind = Identifier; value = Chars (codes "text"); len = 4 })
+text_found : IsFound (codes "text :x") (record { content = Identifier (codes "text"); len = 4 })
 text_found = identifier_found (codes "text :x") (codes "text") (codes " :x") (codes "text") 4 refl refl refl refl refl refl (λ t. cc (t.1))
 
 text_none : (g : Front) → IsFront (codes "TexT:") g → ⊥
 text_none = several_none (codes "TexT:") [] refl refl refl
 
 -- `text:` LF `..a` LF `.` stands for `.a` CRLF; before a dot and more it is open
-several : IsFound (codes "text:" ++ (10 ∷ (46 ∷ (46 ∷ (97 ∷ (10 ∷ (46 ∷ []))))))) (record { kind = Text; value = Chars (46 ∷ (97 ∷ (13 ∷ (10 ∷ [])))); len = 11 })
+several : IsFound (codes "text:" ++ (10 ∷ (46 ∷ (46 ∷ (97 ∷ (10 ∷ (46 ∷ []))))))) (record { content = Text (46 ∷ (97 ∷ (13 ∷ (10 ∷ [])))); len = 11 })
 several = several_found (codes "text:" ++ (10 ∷ (46 ∷ (46 ∷ (97 ∷ (10 ∷ (46 ∷ []))))))) (10 ∷ (46 ∷ (46 ∷ (97 ∷ (10 ∷ (46 ∷ [])))))) (46 ∷ (97 ∷ (13 ∷ (10 ∷ [])))) 6 refl refl (lit≤ tt) refl
 
 several_open : (g : Front) → IsFront (codes "text:" ++ (10 ∷ (46 ∷ (120 ∷ [])))) g → ⊥
@@ -54,7 +53,7 @@ tail : IsTail (codes " #a")
 tail = record { pieces = White 32 ∷ []; last = codes "#a"; each = (refl, tt); comment = (refl, refl); spelled = refl }
 
 -- the greatest number with a multiplier, and the first one that is too large
-number_taken : IsFound (codes "8589934591G;") (record { kind = Number; value = Amount 9223372035781033984; len = 11 })
+number_taken : IsFound (codes "8589934591G;") (record { content = Number 9223372035781033984; len = 11 })
 number_taken = number_found (codes "8589934591G;") (codes "8589934591") (codes "G;") 10 1 1073741824 9223372035781033984 refl refl refl refl refl refl (lit≤ tt) refl refl (lit< tt)
 
 number_refused : (g : Front) → IsFront (codes "8589934592G;") g → ⊥
@@ -65,7 +64,7 @@ quoted : IsQuoted (34 ∷ (97 ∷ (92 ∷ (34 ∷ (10 ∷ (34 ∷ [])))))) (97 �
 quoted = record { pieces = Plain 97 ∷ (Escaped 34 ∷ (BareLineEnd ∷ [])); each = ((refl, refl, refl, refl), ((refl, refl, refl), (tt, tt))); spelled = refl; valued = refl }
 
 unquoted : (g : Front) → IsFront (34 ∷ (97 ∷ (92 ∷ (34 ∷ [])))) g → ⊥
-unquoted g t = string_none (97 ∷ (92 ∷ (34 ∷ []))) refl g.kind g.value g.len _ t.shape
+unquoted g t = string_none (97 ∷ (92 ∷ (34 ∷ []))) refl g.content g.len _ t.shape
 
 apart : (a b : ℕ) → a ≡ 0 → b ≡ 10 → a ≡ b → ⊥
 apart a b p q e = omega arith

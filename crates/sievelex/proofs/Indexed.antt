@@ -1,12 +1,12 @@
 -- The token of an index.
-use Rattle.std.proofs.Common.{◌≡◌, ℕ, ◌+◌, ◌≤◌, List, [], ◌∷◌, ◌++◌, Some, length, slice_get, ap, sym, ◌∙◌, refl}
+use Rattle.std.proofs.Common.{◌≡◌, ℕ, ◌+◌, ◌-◌, ◌≤◌, List, [], ◌∷◌, ◌++◌, Some, length, slice_get, ap, sym, ◌∙◌, refl, arith, length-append}
 use Rattle.std.proofs.lemmas.Option.{slice_get_past}
 use Rattle.sievelex.specs.declared.token.Token.{Token}
 use Rattle.sievelex.specs.Spelling.{IsNext, SpellsFrom}
 use Rattle.sievelex.specs.Text.{line_ends}
-use Rattle.sievelex.specs.Said.{line_or, line_at}
+use Rattle.sievelex.specs.Contents.{line_or, line_at}
 use Rattle.sievelex.proofs.Next.{tail_no_next, line_within}
-use Rattle.sievelex.proofs.Scanned.{IsFront}
+use Rattle.sievelex.proofs.Scanned.{IsFront, front_more}
 
 -- what stands behind a list is found at its length
 get_behind : (so_far more : List Token) (t : Token) → slice_get (so_far ++ t ∷ more) (length so_far) ≡ Some t
@@ -23,6 +23,15 @@ pub line_here : (text : List ℕ) (at index : ℕ) (t : Token) (so_far us : List
 line_here text at index t so_far us f count here one s =
     let r : (ts : List Token) × ((us ≡ so_far ++ ts) × SpellsFrom text at ts) = f.only us s in
     sym (ap (λ i. line_at i us) (sym count) ∙ ap line_or (first_at text at t so_far us here one r.0 r.1.0 r.1.1))
+
+-- so many tokens were read, and this many come before the one of the index
+abbrev pub IsCounted : List ℕ → ℕ → ℕ → ℕ → Type 0
+IsCounted text at before index = (so_far : List Token) × (IsFront text so_far at × (length so_far + before ≡ index))
+
+-- one token more
+pub count_more : (text : List ℕ) (at before index : ℕ) (t : Token) → IsNext text at t → ((u : Token) → IsNext text at u → Some t ≡ Some u) → (before ≡ 0 → ⊥) → IsCounted text at before index → IsCounted text t.end (before - 1) index
+count_more text at before index t here one some c =
+    (c.0 ++ t ∷ [], (front_more text at t c.0 c.1.0 here one, omega (arith, c.1.1, some, length-append c.0 (t ∷ []))))
 
 -- behind the last token there is none
 pub line_past : (index : ℕ) (us : List Token) → length us ≤ index → 1 ≡ line_at index us

@@ -11,7 +11,7 @@ use Rattle.sievelex.specs.Text.{line_ends, is_line_feed}
 use Rattle.sievelex.specs.Front.{IsFront}
 use Rattle.sievelex.specs.Space.{IsTail}
 use Rattle.sievelex.specs.Skip.{space_from}
-use Rattle.sievelex.specs.Spelling.{IsToken, IsNext, SpellsFrom}
+use Rattle.sievelex.specs.Spelling.{IsToken, IsNext, IsPlaced, SpellsFrom}
 use Rattle.sievelex.specs.Shape.{IsShape}
 use Rattle.sievelex.proofs.Prefixes.{take_sum}
 use Rattle.sievelex.proofs.Gaps.{gap_is, gap_only, tail_is, tail_all, empty_none, shape_some}
@@ -51,7 +51,7 @@ line_within text n line le m e = (omega arith, omega (arith, sum_by-take-le (λ 
 pub next_inside : (text : List ℕ) (at : ℕ) (t : Token) → IsNext text at t → t.start < length text
 next_inside text at t h = elim (cases_lt t.start (length text)) [
   | inl l ↦ l
-  | inr ge ↦ absurd (empty_none (drop t.start text) t.kind t.value _ _ (omega (arith, length-drop t.start text)) h.token.shape)
+  | inr ge ↦ absurd (empty_none (drop t.start text) t.content _ _ (omega (arith, length-drop t.start text)) h.token.shape)
 ]
 
 -- behind the white space
@@ -60,8 +60,8 @@ next_start text at t h =
     let ahead : at ≤ t.start = h.ahead in
     let n : ℕ = t.end - t.start in
     let same : drop t.start text ≡ drop (t.start - at) (drop at text) = ap (λ i. drop i text) (omega arith) ∙ sym (drop-drop (t.start - at) at text) in
-    let P : List ℕ → Type 0 = λ x. IsShape t.kind t.value (take n x) (drop n x) in
-    gap_only (drop at text) (t.start - at) t.kind t.value n _ h.gap (subst P same h.token.shape) ∙ ap (λ x. Some x) (sym same)
+    let P : List ℕ → Type 0 = λ x. IsShape t.content (take n x) (drop n x) in
+    gap_only (drop at text) (t.start - at) t.content n _ h.gap (subst P same h.token.shape) ∙ ap (λ x. Some x) (sym same)
 
 same_start : (text octets : List ℕ) (at start : ℕ) (t : Token) → IsAhead text at start octets → IsNext text at t → t.start ≡ start
 same_start text octets at start t a h =
@@ -73,19 +73,19 @@ same_start text octets at start t a h =
 -- and it is not empty
 pub next_further : (text : List ℕ) (at : ℕ) (t : Token) → IsNext text at t → (at < t.end) × (t.end ≤ length text)
 next_further text at t h =
-    let some : 0 < t.end - t.start = shape_some (drop t.start text) t.kind t.value _ _ h.token.shape in
+    let some : 0 < t.end - t.start = shape_some (drop t.start text) t.content _ _ h.token.shape in
     let ahead : at ≤ t.start = h.ahead in
     let within : t.end - t.start ≤ length (drop t.start text) = h.token.within in
     let inside : t.start < length text = next_inside text at t h in
     (omega arith, omega (arith, length-drop t.start text))
 
 pub next_found : (text octets : List ℕ) (at start line : ℕ) (f : Front) → IsAhead text at start octets → (length octets ≡ 0 → ⊥) → line ≡ 1 + line_ends (take start text) → IsFront octets f
-    → IsNext text at (record { kind = f.kind; value = f.value; start = start; end = start + f.len; line = line })
+    → IsNext text at (record { content = f.content; start = start; end = start + f.len; line = line })
 next_found text octets at start line f a some le h =
     let order : at ≤ start = a.order in
     let same : octets ≡ drop (start - at) (drop at text) = a.octets_are ∙ ap (λ i. drop i text) (omega arith) ∙ sym (drop-drop (start - at) at text) in
-    let T : List ℕ → Type 0 = λ x. IsToken x f.kind f.value f.len in
-    let N : ℕ → Type 0 = λ i. IsToken (drop start text) f.kind f.value i in
+    let T : List ℕ → Type 0 = λ x. IsToken x f.content f.len in
+    let N : ℕ → Type 0 = λ i. IsToken (drop start text) f.content i in
     record {
       ahead = order;
       gap = gap_is (drop at text) (start - at) (a.skipped ∙ ap (λ x. Some x) same) (λ e. some (ap length same ∙ e));
@@ -95,18 +95,18 @@ next_found text octets at start line f a some le h =
     }
 
 pub next_only : (text octets : List ℕ) (at start line : ℕ) (f : Front) → IsAhead text at start octets → line ≡ 1 + line_ends (take start text) → ((g : Front) → IsFront octets g → g ≡ f)
-    → (t : Token) → IsNext text at t → Some (record { kind = f.kind; value = f.value; start = start; end = start + f.len; line = line }) ≡ Some t
+    → (t : Token) → IsNext text at t → Some (record { content = f.content; start = start; end = start + f.len; line = line }) ≡ Some t
 next_only text octets at start line f a le only t h =
     let same : t.start ≡ start = same_start text octets at start t a h in
     let octets_are : drop t.start text ≡ octets = ap (λ i. drop i text) same ∙ sym a.octets_are in
-    let g : Front = record { kind = t.kind; value = t.value; len = t.end - t.start } in
+    let g : Front = record { content = t.content; len = t.end - t.start } in
     let T : List ℕ → Type 0 = λ x. IsFront x g in
     let fe : g ≡ f = only g (subst T octets_are h.token) in
     let len : t.end - t.start ≡ f.len = ap (λ x. x.len) fe in
     let forward : t.start ≤ t.end = h.forward in
     let end_is : start + f.len ≡ t.end = omega arith in
     let line_is : line ≡ t.line = le ∙ ap (λ i. 1 + line_ends (take i text)) (sym same) ∙ sym h.line in
-    ap Some (λ i. record { kind = (sym fe i).kind; value = (sym fe i).value; start = sym same i; end = end_is i; line = line_is i })
+    ap Some (λ i. record { content = (sym fe i).content; start = sym same i; end = end_is i; line = line_is i })
 
 -- only white space is left
 pub next_empty : (text octets : List ℕ) (at start : ℕ) → IsAhead text at start octets → length octets ≡ 0 → IsTail (drop at text)
@@ -124,7 +124,7 @@ pub next_none : (text octets : List ℕ) (at start : ℕ) → IsAhead text at st
 next_none text octets at start a some without [] g = some (ap length (some_is octets [] (sym a.skipped ∙ tail_all (drop at text) g)))
 next_none text octets at start a some without (t ∷ ts) h =
     let same : drop t.start text ≡ octets = ap (λ i. drop i text) (same_start text octets at start t a h.0) ∙ sym a.octets_are in
-    let g : Front = record { kind = t.kind; value = t.value; len = t.end - t.start } in
+    let g : Front = record { content = t.content; len = t.end - t.start } in
     let T : List ℕ → Type 0 = λ x. IsFront x g in
     without g (subst T same h.0.token)
 
@@ -133,9 +133,15 @@ pub open_none : (text ahead : List ℕ) (at : ℕ) → ahead ≡ drop at text �
 open_none text ahead at ae h [] g = let e : None ≡ Some [] = sym h ∙ ap (space_from Between) ae ∙ tail_all (drop at text) g in cc
 open_none text ahead at ae h (t ∷ ts) g = let e : None ≡ Some (drop t.start text) = sym h ∙ ap (space_from Between) ae ∙ next_start text at t g.0 in cc
 
--- the line behind a token
-pub lines_behind : (text rest spelled : List ℕ) (at feeds : ℕ) (t : Token) → IsNext text at t → rest ≡ drop t.start text → spelled ≡ take (t.end - t.start) rest → feeds ≡ line_ends spelled → t.line + feeds ≡ 1 + line_ends (take t.end text)
-lines_behind text rest spelled at feeds t h re se fe =
+-- it stands at its place
+pub next_placed : (text : List ℕ) (at : ℕ) (t : Token) → IsNext text at t → (at < t.end) × IsPlaced text t
+next_placed text at t h =
+    let further : (at < t.end) × (t.end ≤ length text) = next_further text at t h in
+    (further.0, record { forward = h.forward; inside = further.1; line = h.line })
+
+-- the line on which a token ends
+pub line_behind : (text rest spelled : List ℕ) (feeds : ℕ) (t : Token) → IsPlaced text t → rest ≡ drop t.start text → spelled ≡ take (t.end - t.start) rest → feeds ≡ line_ends spelled → t.line + feeds ≡ 1 + line_ends (take t.end text)
+line_behind text rest spelled feeds t h re se fe =
     let lines : line_ends spelled ≡ line_ends (take (t.end - t.start) (drop t.start text)) = ap line_ends (se ∙ ap (take (t.end - t.start)) re) in
     let before : t.line ≡ 1 + line_ends (take t.start text) = h.line in
     let forward : t.start ≤ t.end = h.forward in

@@ -8,10 +8,8 @@ use Rattle.octets.specs.Ascii.{is_digit}
 use Rattle.octets.specs.Decimal.{number_of}
 use Rattle.octets.proofs.Lists.{some_is}
 use Rattle.sievelex.specs.declared.front.Front.{Front}
-use Rattle.sievelex.specs.declared.token.Kind.{Kind}
-use Rattle.sievelex.specs.declared.token.Kind.TheVariants.{Number}
-use Rattle.sievelex.specs.declared.token.Value.{Value}
-use Rattle.sievelex.specs.declared.token.Value.TheVariants.{Amount}
+use Rattle.sievelex.specs.declared.token.Content.{Content}
+use Rattle.sievelex.specs.declared.token.Content.TheVariants.{Number}
 use Rattle.sievelex.specs.declared.class.Class.TheVariants.{Digit}
 use Rattle.sievelex.specs.Class.{class_of}
 use Rattle.sievelex.specs.Shape.{IsShape, IsNumber, factor_of}
@@ -27,16 +25,16 @@ pub letter_no_digit : (c f : ℕ) → factor_of (c ∷ []) ≡ Some f → is_dig
 letter_no_digit c f h = grind (arith, nat_tests)
 
 -- where a digit stands first, only a number does
-only_numbered : (b : ℕ) (k : Kind) (v : Value) → is_digit b ≡ true → Opens b k v → (n : ℕ) × ((k ≡ Number) × (v ≡ Amount n))
-only_numbered b k v h o =
+only_numbered : (b : ℕ) (v : Content) → is_digit b ≡ true → Opens b v → (n : ℕ) × (v ≡ Number n)
+only_numbered b v h o =
     let digit : class_of b ≡ Digit = class_digit b h in
     elim o [
-      | Named name s c ke ve ↦ absurd (cc)
-      | Worded value s c ke ve ↦ absurd (cc)
-      | Numbered n d c ke ve ↦ (n, (ke, ve))
-      | Tagged name e c ke ve ↦ absurd (cc)
-      | Quoted value e c ke ve ↦ absurd (cc)
-      | Marked c ve ↦ absurd (cc)
+      | Named name s c ve ↦ absurd (cc)
+      | Worded value s c ve ↦ absurd (cc)
+      | Numbered n d c ve ↦ (n, ve)
+      | Tagged name e c ve ↦ absurd (cc)
+      | Quoted value e c ve ↦ absurd (cc)
+      | Marked m c ve ↦ absurd (cc)
     ]
 
 -- the longest number at a front: its digits, its multiplier, and how long it is
@@ -102,15 +100,15 @@ some_digits [] h e = cc
 some_digits (b ∷ more) h e = let s : b ∷ take (prefix_len is_digit more) more ≡ [] = rw (h, one_more (prefix_len is_digit more)) at e in cc
 
 -- where a digit stands first the spelling is a number's
-number_spelled : (octets : List ℕ) (k : Kind) (v : Value) (m : ℕ) → is_digit (get_or octets 0 0) ≡ true → IsShape k v (take m octets) (drop m octets) → (n : ℕ) × ((k ≡ Number) × ((v ≡ Amount n) × IsNumber (take m octets) n))
-number_spelled [] k v m h s = absurd (cc)
-number_spelled (b ∷ more) k v m h s =
-    let kind : (n : ℕ) × ((k ≡ Number) × (v ≡ Amount n)) = only_numbered b k v h (front_opened b more k v m _ s).1 in
-    (kind.0, (kind.1.0, (kind.1.1, shape_at _ _ _ _ _ _ kind.1.0 kind.1.1 s)))
+number_spelled : (octets : List ℕ) (v : Content) (m : ℕ) → is_digit (get_or octets 0 0) ≡ true → IsShape v (take m octets) (drop m octets) → (n : ℕ) × ((v ≡ Number n) × IsNumber (take m octets) n)
+number_spelled [] v m h s = absurd (cc)
+number_spelled (b ∷ more) v m h s =
+    let number : (n : ℕ) × (v ≡ Number n) = only_numbered b v h (front_opened b more v m _ s).1 in
+    (number.0, (number.1, shape_at _ _ _ _ number.1 s))
 
 -- the longest spelling where a digit stands first
 number_best : (octets : List ℕ) (factor : ℕ) → is_digit (get_or octets 0 0) ≡ true → factor_of (take (letter_len (after_digits octets)) (after_digits octets)) ≡ Some factor → letter_len (after_digits octets) ≤ length (after_digits octets)
-    → IsBest octets Number (Amount (number_of (digits_at octets) * factor)) (number_len octets)
+    → IsBest octets (Number (number_of (digits_at octets) * factor)) (number_len octets)
 number_best octets factor h hf w = record {
   within = omega (arith, length-drop (prefix_len is_digit octets) octets, prefix_len-le-length is_digit octets);
   shape = record {
@@ -123,40 +121,40 @@ number_best octets factor h hf w = record {
     scaled = hf;
     valued = refl;
   };
-  best = λ k v m within s.
-      let t : (n : ℕ) × ((k ≡ Number) × ((v ≡ Amount n) × IsNumber (take m octets) n)) = number_spelled octets k v m h s in
-      let n : IsNumber (take m octets) t.0 = t.1.1.1 in
+  best = λ v m within s.
+      let t : (n : ℕ) × ((v ≡ Number n) × IsNumber (take m octets) n) = number_spelled octets v m h s in
+      let n : IsNumber (take m octets) t.0 = t.1.1 in
       elim (number_bound octets factor m t.0 hf within n.digits n.letter n.factor n.spelled n.decimal n.scaled n.valued) [
         | inl less ↦ inl less
-        | inr same ↦ inr (same.0, (t.1.0, t.1.1.0 ∙ ap Amount same.1))
+        | inr same ↦ inr (same.0, t.1.0 ∙ ap Number same.1)
       ];
 }
 
 -- the parts that the reader has are those
 number_best_at : (octets digits rest : List ℕ) (n letters factor : ℕ) → is_digit (get_or octets 0 0) ≡ true → n ≡ prefix_len is_digit octets → digits ≡ take n octets → rest ≡ drop n octets
-    → letters ≡ letter_len rest → letters ≤ length rest → factor_of (take letters rest) ≡ Some factor → IsBest octets Number (Amount (number_of digits * factor)) (n + letters)
+    → letters ≡ letter_len rest → letters ≤ length rest → factor_of (take letters rest) ≡ Some factor → IsBest octets (Number (number_of digits * factor)) (n + letters)
 number_best_at octets digits rest n letters factor h ne de re le w hf =
     let digits_are : digits_at octets ≡ digits = ap (λ i. take i octets) (sym ne) ∙ sym de in
     let rest_is : after_digits octets ≡ rest = ap (λ i. drop i octets) (sym ne) ∙ sym re in
     let letters_are : letter_len (after_digits octets) ≡ letters = ap letter_len rest_is ∙ sym le in
     let read : factor_of (take (letter_len (after_digits octets)) (after_digits octets)) ≡ Some factor = (λ i. factor_of (take (letters_are i) (rest_is i))) ∙ hf in
     let within : letter_len (after_digits octets) ≤ length (after_digits octets) = omega (arith, ap length rest_is) in
-    let b : IsBest octets Number (Amount (number_of (digits_at octets) * factor)) (number_len octets) = number_best octets factor h read within in
-    let P : ℕ → Type 0 = λ i. IsBest octets Number (Amount (number_of (digits_at octets) * factor)) i in
-    let Q : List ℕ → Type 0 = λ x. IsBest octets Number (Amount (number_of x * factor)) (n + letters) in
+    let b : IsBest octets (Number (number_of (digits_at octets) * factor)) (number_len octets) = number_best octets factor h read within in
+    let P : ℕ → Type 0 = λ i. IsBest octets (Number (number_of (digits_at octets) * factor)) i in
+    let Q : List ℕ → Type 0 = λ x. IsBest octets (Number (number_of x * factor)) (n + letters) in
     subst Q digits_are (subst P (λ i. sym ne i + letters_are i) b)
 
 -- what the reader of numbers finds
 pub number_found : (octets digits rest : List ℕ) (n letters factor amount : ℕ) → is_digit (get_or octets 0 0) ≡ true → n ≡ prefix_len is_digit octets → digits ≡ take n octets → rest ≡ drop n octets → length digits ≡ n
     → letters ≡ letter_len rest → letters ≤ length rest → factor_of (take letters rest) ≡ Some factor → amount ≡ number_of digits * factor → amount < 2 ^ 63
-    → IsFound octets (record { kind = Number; value = Amount amount; len = length digits + letters })
+    → IsFound octets (record { content = Number amount; len = length digits + letters })
 number_found octets digits rest n letters factor amount h ne de re count le w hf ae small =
-    found_at octets Number _ _ _ _ (ap Amount (sym ae)) (ap (λ i. i + letters) (sym count))
-    (best_found octets (record { kind = Number; value = Amount (number_of digits * factor); len = n + letters }) (number_best_at octets digits rest n letters factor h ne de re le w hf) (omega arith) (λ t. t))
+    found_at octets _ _ _ _ (ap Number (sym ae)) (ap (λ i. i + letters) (sym count))
+    (best_found octets (record { content = Number (number_of digits * factor); len = n + letters }) (number_best_at octets digits rest n letters factor h ne de re le w hf) (omega arith) (λ t. t))
 
 -- and where the number is too large
 pub number_none : (octets digits rest : List ℕ) (n letters factor : ℕ) → is_digit (get_or octets 0 0) ≡ true → n ≡ prefix_len is_digit octets → digits ≡ take n octets → rest ≡ drop n octets
     → letters ≡ letter_len rest → letters ≤ length rest → factor_of (take letters rest) ≡ Some factor → 2 ^ 63 ≤ number_of digits * factor
     → (g : Front) → IsFront octets g → ⊥
 number_none octets digits rest n letters factor h ne de re le w hf large =
-    best_too_large octets Number (Amount (number_of digits * factor)) (n + letters) (number_best_at octets digits rest n letters factor h ne de re le w hf) (λ small. omega arith)
+    best_too_large octets (Number (number_of digits * factor)) (n + letters) (number_best_at octets digits rest n letters factor h ne de re le w hf) (λ small. omega arith)

@@ -6,10 +6,8 @@ use Rattle.std.proofs.lemmas.Bool.{eqb-true}
 use Rattle.octets.proofs.Lists.{fork, some_pair}
 use Rattle.sievelex.specs.declared.quoted.Mode.{Mode}
 use Rattle.sievelex.specs.declared.quoted.Mode.TheVariants.{Inside, Escape, Return}
-use Rattle.sievelex.specs.declared.token.Kind.{Kind}
-use Rattle.sievelex.specs.declared.token.Kind.TheVariants.{Text}
-use Rattle.sievelex.specs.declared.token.Value.{Value}
-use Rattle.sievelex.specs.declared.token.Value.TheVariants.{Chars}
+use Rattle.sievelex.specs.declared.token.Content.{Content}
+use Rattle.sievelex.specs.declared.token.Content.TheVariants.{Text}
 use Rattle.sievelex.specs.declared.front.Front.{Front}
 use Rattle.sievelex.specs.Inside.{onto, string_from}
 use Rattle.sievelex.specs.Front.{IsFront}
@@ -102,51 +100,49 @@ string_is Return (b ∷ s) value rest h = elim (fork (b == 10) _ _ _ h) [
 ]
 
 -- where a quotation mark stands first, only a string does
-only_quoted : (k : Kind) (v : Value) → Opens 34 k v → (value : List ℕ) × ((k ≡ Text) × (v ≡ Chars value))
-only_quoted k v o = elim o [
-  | Named name s c ke ve ↦ absurd (cc)
-  | Worded value s c ke ve ↦ absurd (cc)
-  | Numbered n d c ke ve ↦ absurd (cc)
-  | Tagged name e c ke ve ↦ absurd (cc)
-  | Quoted value e c ke ve ↦ (value, (ke, ve))
-  | Marked c ve ↦ absurd (cc)
+only_quoted : (v : Content) → Opens 34 v → (value : List ℕ) × (v ≡ Text value)
+only_quoted v o = elim o [
+  | Named name s c ve ↦ absurd (cc)
+  | Worded value s c ve ↦ absurd (cc)
+  | Numbered n d c ve ↦ absurd (cc)
+  | Tagged name e c ve ↦ absurd (cc)
+  | Quoted value e c ve ↦ (value, ve)
+  | Marked m c ve ↦ absurd (cc)
 ]
 
 -- a string at the front is read from the left
-record IsStringAt (more : List ℕ) (k : Kind) (v : Value) (m : ℕ) : Type 0 where
-  kind : k ≡ Text
+record IsStringAt (more : List ℕ) (v : Content) (m : ℕ) : Type 0 where
   value : List ℕ
-  chars : v ≡ Chars value
+  text : v ≡ Text value
   read : string_from Inside more ≡ Some (value, drop m more)
 
-string_at : (more : List ℕ) (k : Kind) (v : Value) (m : ℕ) (rest : List ℕ) → IsShape k v (take (suc m) (34 ∷ more)) rest → IsStringAt more k v m
-string_at more k v m rest s =
-    let kind : (value : List ℕ) × ((k ≡ Text) × (v ≡ Chars value)) = only_quoted k v (front_opened 34 more k v (suc m) rest s).1 in
-    let shape : IsQuoted (34 ∷ take m more) kind.0 = quoted_shape kind.0 (take m more) rest (shape_at _ _ _ _ _ _ kind.1.0 kind.1.1 s) in
+string_at : (more : List ℕ) (v : Content) (m : ℕ) (rest : List ℕ) → IsShape v (take (suc m) (34 ∷ more)) rest → IsStringAt more v m
+string_at more v m rest s =
+    let text : (value : List ℕ) × (v ≡ Text value) = only_quoted v (front_opened 34 more v (suc m) rest s).1 in
+    let shape : IsQuoted (34 ∷ take m more) text.0 = quoted_shape text.0 (take m more) rest (shape_at _ _ _ _ text.1 s) in
     let spelled : 34 ∷ take m more ≡ 34 ∷ (flat_map spelling_of shape.pieces ++ 34 ∷ []) = shape.spelled in
     let front : take m more ≡ flat_map spelling_of shape.pieces ++ 34 ∷ [] = cc in
     let whole : more ≡ flat_map spelling_of shape.pieces ++ (34 ∷ drop m more) = front_of more _ m front ∙ append_assoc (flat_map spelling_of shape.pieces) (34 ∷ []) (drop m more) in
     record {
-      kind = kind.1.0;
-      value = kind.0;
-      chars = kind.1.1;
+      value = text.0;
+      text = text.1;
       read = ap (string_from Inside) whole ∙ string_again shape.pieces (drop m more) shape.each ∙ ap (λ x. Some (x, drop m more)) (sym shape.valued);
     }
 
 same_rest : (xs : List ℕ) (m n : ℕ) → m ≤ length xs → n ≤ length xs → drop m xs ≡ drop n xs → m ≡ n
 same_rest xs m n mw nw e = omega (arith, simp length-drop at (ap length e))
 
-string_bound : (more value : List ℕ) (n : ℕ) → n ≤ length more → string_from Inside more ≡ Some (value, drop n more) → (k : Kind) (v : Value) (m : ℕ) → m ≤ length (34 ∷ more) → IsShape k v (take m (34 ∷ more)) (drop m (34 ∷ more))
-    → (m < 1 + n) ⊎ ((m ≡ 1 + n) × ((k ≡ Text) × (v ≡ Chars value)))
-string_bound more value n w h k v zero within s = absurd (let p : 0 < 0 = (front_opened 34 more k v zero _ s).0 in omega arith)
-string_bound more value n w h k v (suc m) within s =
-    let t : IsStringAt more k v m = string_at more k v m _ s in
+string_bound : (more value : List ℕ) (n : ℕ) → n ≤ length more → string_from Inside more ≡ Some (value, drop n more) → (v : Content) (m : ℕ) → m ≤ length (34 ∷ more) → IsShape v (take m (34 ∷ more)) (drop m (34 ∷ more))
+    → (m < 1 + n) ⊎ ((m ≡ 1 + n) × (v ≡ Text value))
+string_bound more value n w h v zero within s = absurd (let p : 0 < 0 = (front_opened 34 more v zero _ s).0 in omega arith)
+string_bound more value n w h v (suc m) within s =
+    let t : IsStringAt more v m = string_at more v m _ s in
     let same : (t.value ≡ value) × (drop m more ≡ drop n more) = some_pair (t.value, drop m more) (value, drop n more) (sym t.read ∙ h) in
     let e : m ≡ n = same_rest more m n (omega arith) w same.1 in
-    inr (omega arith, (t.kind, t.chars ∙ ap Chars same.0))
+    inr (omega arith, t.text ∙ ap Text same.0)
 
 -- the longest spelling where a quotation mark stands first
-pub string_best : (more value : List ℕ) (n : ℕ) → n ≤ length more → string_from Inside more ≡ Some (value, drop n more) → IsBest (34 ∷ more) Text (Chars value) (1 + n)
+pub string_best : (more value : List ℕ) (n : ℕ) → n ≤ length more → string_from Inside more ≡ Some (value, drop n more) → IsBest (34 ∷ more) (Text value) (1 + n)
 string_best more value n w h =
     let r : IsRead more value (drop n more) = string_is Inside more value (drop n more) h in
     let whole : take n more ++ drop n more ≡ (flat_map spelling_of r.pieces ++ 34 ∷ []) ++ drop n more =
@@ -159,13 +155,13 @@ string_best more value n w h =
     }
 
 -- a string without its end is no token
-pub string_none : (more : List ℕ) → string_from Inside more ≡ None → (k : Kind) (v : Value) (m : ℕ) (rest : List ℕ) → IsShape k v (take m (34 ∷ more)) rest → ⊥
-string_none more h k v zero rest s = let p : 0 < 0 = (front_opened 34 more k v zero _ s).0 in omega arith
-string_none more h k v (suc m) rest s = let t : IsStringAt more k v m = string_at more k v m rest s in let e : None ≡ Some (t.value, drop m more) = sym h ∙ t.read in cc
+pub string_none : (more : List ℕ) → string_from Inside more ≡ None → (v : Content) (m : ℕ) (rest : List ℕ) → IsShape v (take m (34 ∷ more)) rest → ⊥
+string_none more h v zero rest s = let p : 0 < 0 = (front_opened 34 more v zero _ s).0 in omega arith
+string_none more h v (suc m) rest s = let t : IsStringAt more v m = string_at more v m rest s in let e : None ≡ Some (t.value, drop m more) = sym h ∙ t.read in cc
 
 -- what the reader of strings finds
-pub string_found : (more value : List ℕ) (n : ℕ) → n ≤ length more → string_from Inside more ≡ Some (value, drop n more) → IsFound (34 ∷ more) (record { kind = Text; value = Chars value; len = 1 + n })
-string_found more value n w h = best_found (34 ∷ more) (record { kind = Text; value = Chars value; len = 1 + n }) (string_best more value n w h) tt (λ t. t)
+pub string_found : (more value : List ℕ) (n : ℕ) → n ≤ length more → string_from Inside more ≡ Some (value, drop n more) → IsFound (34 ∷ more) (record { content = Text value; len = 1 + n })
+string_found more value n w h = best_found (34 ∷ more) (record { content = Text value; len = 1 + n }) (string_best more value n w h) tt (λ t. t)
 
 pub no_string : (more : List ℕ) → string_from Inside more ≡ None → (g : Front) → IsFront (34 ∷ more) g → ⊥
-no_string more h g t = string_none more h g.kind g.value g.len _ t.shape
+no_string more h g t = string_none more h g.content g.len _ t.shape

@@ -6,10 +6,10 @@ use Rattle.std.proofs.lemmas.List.{take_at, drop_at, length-take-le}
 use Rattle.octets.specs.Ascii.{is_digit}
 use Rattle.octets.specs.Decimal.{number_of}
 use Rattle.octets.proofs.Lists.{some_is, some_pair}
-use Rattle.sievelex.specs.declared.token.Kind.{Kind}
-use Rattle.sievelex.specs.declared.token.Kind.TheVariants.{Identifier, Tag, Number, Text}
-use Rattle.sievelex.specs.declared.token.Value.{Value}
-use Rattle.sievelex.specs.declared.token.Value.TheVariants.{Nothing, Amount, Chars}
+use Rattle.sievelex.specs.declared.token.Content.{Content}
+use Rattle.sievelex.specs.declared.token.Content.TheVariants.{Identifier, Tag, Number, Text}
+use Rattle.sievelex.specs.declared.token.Content.TheVariants as C
+use Rattle.sievelex.specs.declared.token.Mark.{Mark}
 use Rattle.sievelex.specs.declared.token.Token.{Token}
 use Rattle.sievelex.specs.declared.quoted.Mode.TheVariants.{Inside}
 use Rattle.sievelex.specs.Class.{is_name_start}
@@ -27,74 +27,74 @@ use Rattle.sievelex.proofs.Strings.{string_again}
 use Rattle.sievelex.proofs.Worded.{short, word_is, word_len, multi_word, multi_again}
 
 -- where both are spelled alike, they are of these kinds
-data Alike (k l : Kind) (v w : Value) : Type 0 where
-  Names : (a b : List ℕ) → k ≡ Identifier → l ≡ Identifier → v ≡ Chars a → w ≡ Chars b → Alike k l v w
-  Tags : (a b : List ℕ) → k ≡ Tag → l ≡ Tag → v ≡ Chars a → w ≡ Chars b → Alike k l v w
-  Numbers : (m n : ℕ) → k ≡ Number → l ≡ Number → v ≡ Amount m → w ≡ Amount n → Alike k l v w
-  Texts : (a b : List ℕ) → k ≡ Text → l ≡ Text → v ≡ Chars a → w ≡ Chars b → Alike k l v w
-  Marks : k ≡ l → v ≡ Nothing → w ≡ Nothing → Alike k l v w
-  NameText : (a b : List ℕ) → k ≡ Identifier → l ≡ Text → v ≡ Chars a → w ≡ Chars b → Alike k l v w
-  TextName : (a b : List ℕ) → k ≡ Text → l ≡ Identifier → v ≡ Chars a → w ≡ Chars b → Alike k l v w
+data Alike (v w : Content) : Type 0 where
+  Names : (a b : List ℕ) → v ≡ Identifier a → w ≡ Identifier b → Alike v w
+  Tags : (a b : List ℕ) → v ≡ Tag a → w ≡ Tag b → Alike v w
+  Numbers : (m n : ℕ) → v ≡ Number m → w ≡ Number n → Alike v w
+  Texts : (a b : List ℕ) → v ≡ Text a → w ≡ Text b → Alike v w
+  Marks : (m n : Mark) → m ≡ n → v ≡ C.Mark m → w ≡ C.Mark n → Alike v w
+  NameText : (a b : List ℕ) → v ≡ Identifier a → w ≡ Text b → Alike v w
+  TextName : (a b : List ℕ) → v ≡ Text a → w ≡ Identifier b → Alike v w
 
-alike : (b : ℕ) (k l : Kind) (v w : Value) → Opens b k v → Opens b l w → Alike k l v w
-alike b k l v w one two = elim one [
-  | Named x s c ke ve ↦ elim two [
-    | Named y t d le we ↦ Names x y ke le ve we
-    | Worded y t d le we ↦ NameText x y ke le ve we
-    | Numbered y t d le we ↦ absurd (cc)
-    | Tagged y t d le we ↦ absurd (cc)
-    | Quoted y t d le we ↦ absurd (cc)
-    | Marked d we ↦ absurd (cc)
+alike : (b : ℕ) (v w : Content) → Opens b v → Opens b w → Alike v w
+alike b v w one two = elim one [
+  | Named x s c ve ↦ elim two [
+    | Named y t d we ↦ Names x y ve we
+    | Worded y t d we ↦ NameText x y ve we
+    | Numbered y t d we ↦ absurd (cc)
+    | Tagged y t d we ↦ absurd (cc)
+    | Quoted y t d we ↦ absurd (cc)
+    | Marked n d we ↦ absurd (cc)
   ]
-  | Worded x s c ke ve ↦ elim two [
-    | Named y t d le we ↦ TextName x y ke le ve we
-    | Worded y t d le we ↦ Texts x y ke le ve we
-    | Numbered y t d le we ↦ absurd (cc)
-    | Tagged y t d le we ↦ absurd (cc)
-    | Quoted y t d le we ↦ absurd (cc)
-    | Marked d we ↦ absurd (cc)
+  | Worded x s c ve ↦ elim two [
+    | Named y t d we ↦ TextName x y ve we
+    | Worded y t d we ↦ Texts x y ve we
+    | Numbered y t d we ↦ absurd (cc)
+    | Tagged y t d we ↦ absurd (cc)
+    | Quoted y t d we ↦ absurd (cc)
+    | Marked n d we ↦ absurd (cc)
   ]
-  | Numbered x s c ke ve ↦ elim two [
-    | Named y t d le we ↦ absurd (cc)
-    | Worded y t d le we ↦ absurd (cc)
-    | Numbered y t d le we ↦ Numbers x y ke le ve we
-    | Tagged y t d le we ↦ absurd (cc)
-    | Quoted y t d le we ↦ absurd (cc)
-    | Marked d we ↦ absurd (cc)
+  | Numbered x s c ve ↦ elim two [
+    | Named y t d we ↦ absurd (cc)
+    | Worded y t d we ↦ absurd (cc)
+    | Numbered y t d we ↦ Numbers x y ve we
+    | Tagged y t d we ↦ absurd (cc)
+    | Quoted y t d we ↦ absurd (cc)
+    | Marked n d we ↦ absurd (cc)
   ]
-  | Tagged x s c ke ve ↦ elim two [
-    | Named y t d le we ↦ absurd (cc)
-    | Worded y t d le we ↦ absurd (cc)
-    | Numbered y t d le we ↦ absurd (cc)
-    | Tagged y t d le we ↦ Tags x y ke le ve we
-    | Quoted y t d le we ↦ absurd (cc)
-    | Marked d we ↦ absurd (cc)
+  | Tagged x s c ve ↦ elim two [
+    | Named y t d we ↦ absurd (cc)
+    | Worded y t d we ↦ absurd (cc)
+    | Numbered y t d we ↦ absurd (cc)
+    | Tagged y t d we ↦ Tags x y ve we
+    | Quoted y t d we ↦ absurd (cc)
+    | Marked n d we ↦ absurd (cc)
   ]
-  | Quoted x s c ke ve ↦ elim two [
-    | Named y t d le we ↦ absurd (cc)
-    | Worded y t d le we ↦ absurd (cc)
-    | Numbered y t d le we ↦ absurd (cc)
-    | Tagged y t d le we ↦ absurd (cc)
-    | Quoted y t d le we ↦ Texts x y ke le ve we
-    | Marked d we ↦ absurd (cc)
+  | Quoted x s c ve ↦ elim two [
+    | Named y t d we ↦ absurd (cc)
+    | Worded y t d we ↦ absurd (cc)
+    | Numbered y t d we ↦ absurd (cc)
+    | Tagged y t d we ↦ absurd (cc)
+    | Quoted y t d we ↦ Texts x y ve we
+    | Marked n d we ↦ absurd (cc)
   ]
-  | Marked c ve ↦ elim two [
-    | Named y t d le we ↦ absurd (cc)
-    | Worded y t d le we ↦ absurd (cc)
-    | Numbered y t d le we ↦ absurd (cc)
-    | Tagged y t d le we ↦ absurd (cc)
-    | Quoted y t d le we ↦ absurd (cc)
-    | Marked d we ↦ Marks (cc) ve we
+  | Marked m c ve ↦ elim two [
+    | Named y t d we ↦ absurd (cc)
+    | Worded y t d we ↦ absurd (cc)
+    | Numbered y t d we ↦ absurd (cc)
+    | Tagged y t d we ↦ absurd (cc)
+    | Quoted y t d we ↦ absurd (cc)
+    | Marked n d we ↦ Marks m n (cc) ve we
   ]
 ]
 
-shapes_alike : (s rest : List ℕ) (k l : Kind) (v w : Value) → IsShape k v s rest → IsShape l w s rest → Alike k l v w
-shapes_alike s rest k l v w one two =
-    let a = shape_opened k v s rest one in
-    let b = shape_opened l w s rest two in
+shapes_alike : (s rest : List ℕ) (v w : Content) → IsShape v s rest → IsShape w s rest → Alike v w
+shapes_alike s rest v w one two =
+    let a = shape_opened v s rest one in
+    let b = shape_opened w s rest two in
     let e : a.first ∷ a.more ≡ b.first ∷ b.more = sym a.spelled ∙ b.spelled in
     let same : a.first ≡ b.first = cc in
-    alike b.first k l v w (subst (λ x. Opens x k v) same a.opens) b.opens
+    alike b.first v w (subst (λ x. Opens x v) same a.opens) b.opens
 
 -- a number has one value
 digits_len : (digits letter : List ℕ) (f : ℕ) → list_all is_digit digits ≡ true → factor_of letter ≡ Some f → prefix_len is_digit (digits ++ letter) ≡ length digits
@@ -127,21 +127,21 @@ quoted_only : (s a b : List ℕ) → IsQuoted s a → IsQuoted s b → a ≡ b
 quoted_only s a b one two = (some_pair (a, []) (b, []) (sym (quoted_value s a one) ∙ quoted_value s b two)).0
 
 -- a string that begins as a quoted one is one
-quoted_too : (s rest a b : List ℕ) → IsQuoted s a → IsShape Text (Chars b) s rest → IsQuoted s b
+quoted_too : (s rest a b : List ℕ) → IsQuoted s a → IsShape (Text b) s rest → IsQuoted s b
 quoted_too s rest a b q shape =
-    let P : List ℕ → Type 0 = λ t. IsShape Text (Chars b) t rest in
+    let P : List ℕ → Type 0 = λ t. IsShape (Text b) t rest in
     let Q : List ℕ → Type 0 = λ t. IsQuoted t b in
     subst Q (sym q.spelled) (quoted_shape b (flat_map spelling_of q.pieces ++ 34 ∷ []) rest (subst P q.spelled shape))
 
 module _ (octets : List ℕ) (n : ℕ) where
   -- a string has one value
-  text_only : (a b : List ℕ) → IsShape Text (Chars a) (take n octets) (drop n octets) → IsShape Text (Chars b) (take n octets) (drop n octets) → a ≡ b
+  text_only : (a b : List ℕ) → IsShape (Text a) (take n octets) (drop n octets) → IsShape (Text b) (take n octets) (drop n octets) → a ≡ b
   text_only a b (inl q) two = quoted_only (take n octets) a b q (quoted_too (take n octets) (drop n octets) a b q two)
   text_only a b (inr m) (inl q) = quoted_only (take n octets) a b (quoted_too (take n octets) (drop n octets) b a q (inr m)) q
   text_only a b (inr m) (inr l) = (some_pair (a, drop n octets) (b, drop n octets) (sym (multi_again octets a n m) ∙ multi_again octets b n l)).0
 
   -- no name is spelled as a string
-  name_no_text : (a b : List ℕ) → n ≤ length octets → IsShape Identifier (Chars a) (take n octets) (drop n octets) → IsShape Text (Chars b) (take n octets) (drop n octets) → ⊥
+  name_no_text : (a b : List ℕ) → n ≤ length octets → IsShape (Identifier a) (take n octets) (drop n octets) → IsShape (Text b) (take n octets) (drop n octets) → ⊥
   name_no_text a b within name (inl q) = absurd (first a (sym name.0 ∙ q.spelled) name.1) where
     first : (a : List ℕ) {more : List ℕ} → a ≡ 34 ∷ more → IsName a → ⊥
     first [] e is = is
@@ -154,43 +154,43 @@ module _ (octets : List ℕ) (n : ℕ) where
       omega (arith, four, bound, five, long, length-take-le n octets within)
 
   -- what the same octets spell is one thing
-  shape_only : (k l : Kind) (v w : Value) → n ≤ length octets → IsShape k v (take n octets) (drop n octets) → IsShape l w (take n octets) (drop n octets) → (k ≡ l) × (v ≡ w)
-  shape_only k l v w within one two = elim (shapes_alike (take n octets) (drop n octets) k l v w one two) [
-    | Names a b ke le ve we ↦
-        let x = shape_at _ _ _ _ _ _ ke ve one in
-        let y = shape_at _ _ _ _ _ _ le we two in
+  shape_only : (v w : Content) → n ≤ length octets → IsShape v (take n octets) (drop n octets) → IsShape w (take n octets) (drop n octets) → v ≡ w
+  shape_only v w within one two = elim (shapes_alike (take n octets) (drop n octets) v w one two) [
+    | Names a b ve we ↦
+        let x = shape_at _ _ _ _ ve one in
+        let y = shape_at _ _ _ _ we two in
         let same : a ≡ b = sym x.0 ∙ y.0 in
-        (ke ∙ sym le, ve ∙ (ap Chars same ∙ sym we))
-    | Tags a b ke le ve we ↦
-        let x = shape_at _ _ _ _ _ _ ke ve one in
-        let y = shape_at _ _ _ _ _ _ le we two in
+        ve ∙ (ap Identifier same ∙ sym we)
+    | Tags a b ve we ↦
+        let x = shape_at _ _ _ _ ve one in
+        let y = shape_at _ _ _ _ we two in
         let e : 58 ∷ a ≡ 58 ∷ b = sym x.0 ∙ y.0 in
         let same : a ≡ b = cc in
-        (ke ∙ sym le, ve ∙ (ap Chars same ∙ sym we))
-    | Numbers a b ke le ve we ↦
-        let x = shape_at _ _ _ _ _ _ ke ve one in
-        let y = shape_at _ _ _ _ _ _ le we two in
-        (ke ∙ sym le, ve ∙ (ap Amount (number_only (take n octets) a b x y) ∙ sym we))
-    | Texts a b ke le ve we ↦
-        let x = shape_at _ _ _ _ _ _ ke ve one in
-        let y = shape_at _ _ _ _ _ _ le we two in
-        (ke ∙ sym le, ve ∙ (ap Chars (text_only a b x y) ∙ sym we))
-    | Marks same ve we ↦ (same, ve ∙ sym we)
-    | NameText a b ke le ve we ↦ absurd (name_no_text a b within (shape_at _ _ _ _ _ _ ke ve one) (shape_at _ _ _ _ _ _ le we two))
-    | TextName a b ke le ve we ↦ absurd (name_no_text b a within (shape_at _ _ _ _ _ _ le we two) (shape_at _ _ _ _ _ _ ke ve one))
+        ve ∙ (ap Tag same ∙ sym we)
+    | Numbers a b ve we ↦
+        let x = shape_at _ _ _ _ ve one in
+        let y = shape_at _ _ _ _ we two in
+        ve ∙ (ap Number (number_only (take n octets) a b x y) ∙ sym we)
+    | Texts a b ve we ↦
+        let x = shape_at _ _ _ _ ve one in
+        let y = shape_at _ _ _ _ we two in
+        ve ∙ (ap Text (text_only a b x y) ∙ sym we)
+    | Marks a b same ve we ↦ ve ∙ (ap C.Mark same ∙ sym we)
+    | NameText a b ve we ↦ absurd (name_no_text a b within (shape_at _ _ _ _ ve one) (shape_at _ _ _ _ we two))
+    | TextName a b ve we ↦ absurd (name_no_text b a within (shape_at _ _ _ _ we two) (shape_at _ _ _ _ ve one))
   ]
 
 -- one token at most stands at a front
-token_only : (octets : List ℕ) (k l : Kind) (v w : Value) (m n : ℕ) → IsToken octets k v m → IsToken octets l w n → (m ≡ n) × ((k ≡ l) × (v ≡ w))
-token_only octets k l v w m n one two =
+token_only : (octets : List ℕ) (v w : Content) (m n : ℕ) → IsToken octets v m → IsToken octets w n → (m ≡ n) × (v ≡ w)
+token_only octets v w m n one two =
     let same : m ≡ n = same_len in
-    let P : ℕ → Type 0 = λ i. IsShape k v (take i octets) (drop i octets) in
-    (same, shape_only octets n k l v w two.within (subst P same one.shape) two.shape) where
+    let P : ℕ → Type 0 = λ i. IsShape v (take i octets) (drop i octets) in
+    (same, shape_only octets n v w two.within (subst P same one.shape) two.shape) where
       same_len : m ≡ n
       same_len = elim (cases_lt m n) [
-        | inl less ↦ absurd (one.longest l w n less two.within two.shape)
+        | inl less ↦ absurd (one.longest w n less two.within two.shape)
         | inr more ↦ elim (cases_lt n m) [
-          | inl less ↦ absurd (two.longest k v m less one.within one.shape)
+          | inl less ↦ absurd (two.longest v m less one.within one.shape)
           | inr other ↦ omega (arith, more, other)
         ]
       ]
@@ -202,11 +202,11 @@ next_same text at t u one two =
     let in_one = next_inside text at t one in
     let in_two = next_inside text at u two in
     let start : t.start ≡ u.start = omega (arith, in_one, in_two, ap length dropped, length-drop t.start text, length-drop u.start text) in
-    let P : List ℕ → Type 0 = λ x. IsToken x t.kind t.value (t.end - t.start) in
-    let same = token_only (drop u.start text) t.kind u.kind t.value u.value (t.end - t.start) (u.end - u.start) (subst P dropped one.token) two.token in
+    let P : List ℕ → Type 0 = λ x. IsToken x t.content (t.end - t.start) in
+    let same = token_only (drop u.start text) t.content u.content (t.end - t.start) (u.end - u.start) (subst P dropped one.token) two.token in
     let end : t.end ≡ u.end = omega (arith, same.0, start, one.forward, two.forward) in
     let line : t.line ≡ u.line = one.line ∙ (ap (λ i. 1 + line_ends (take i text)) start ∙ sym two.line) in
-    λ i. record { kind = same.1.0 i; value = same.1.1 i; start = start i; end = end i; line = line i }
+    λ i. record { content = same.1 i; start = start i; end = end i; line = line i }
 
 rest_same : (text : List ℕ) (at : ℕ) (ts us : List Token) → SpellsFrom text at ts → SpellsFrom text at us → ts ≡ us
 rest_same text at [] [] one two = refl

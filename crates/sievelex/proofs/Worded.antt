@@ -6,8 +6,7 @@ use Rattle.std.specs.List.{flat_map, prefix_len}
 use Rattle.std.proofs.lemmas.List.{length-map, take_at, drop_at}
 use Rattle.std.proofs.lemmas.Bool.Decides.{nat_tests}
 use Rattle.octets.specs.Ascii.{lowered}
-use Rattle.sievelex.specs.declared.token.Kind.TheVariants.{Identifier}
-use Rattle.sievelex.specs.declared.token.Value.TheVariants.{Chars}
+use Rattle.sievelex.specs.declared.token.Content.TheVariants.{Identifier}
 use Rattle.sievelex.specs.declared.multiline.Stage.TheVariants.{Opening}
 use Rattle.sievelex.specs.Class.{is_name_octet, is_name_start}
 use Rattle.sievelex.specs.Body.{body_from}
@@ -70,10 +69,10 @@ word_len octets w =
     let d : is_name_octet w.d ≡ true = start_octet w.d w.d_starts in
     ap (prefix_len is_name_octet) w.octets_are ∙ (rw (a, b, c, d) refl)
 
-pub word_opens : (octets : List ℕ) → IsWord octets → OpensText Identifier (Chars (take (prefix_len is_name_octet octets) octets)) (drop (prefix_len is_name_octet octets) octets)
+pub word_opens : (octets : List ℕ) → IsWord octets → OpensText (Identifier (take (prefix_len is_name_octet octets) octets)) (drop (prefix_len is_name_octet octets) octets)
 word_opens octets w =
-    let P : ℕ → Type 0 = λ i. OpensText Identifier (Chars (take i octets)) (drop i octets) in
-    let Q : List ℕ → Type 0 = λ x. OpensText Identifier (Chars (take 4 x)) (drop 4 x) in
+    let P : ℕ → Type 0 = λ i. OpensText (Identifier (take i octets)) (drop i octets) in
+    let Q : List ℕ → Type 0 = λ x. OpensText (Identifier (take 4 x)) (drop 4 x) in
     subst P (sym (word_len octets w)) (subst Q (sym w.octets_are) (w.named, refl))
 
 -- what a string of several lines is before what follows it

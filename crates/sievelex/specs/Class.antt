@@ -3,7 +3,7 @@ use Rattle.std.specs.Prelude.{ℕ, Bool, ◌==◌, ◌||◌, cond}
 use Rattle.octets.specs.Ascii.{is_blank, is_letter, is_digit}
 use Rattle.sievelex.specs.declared.class.Class.{Class}
 use Rattle.sievelex.specs.declared.class.Class.TheVariants.{Letter, Digit, White, Colon, Quote, Mark, Other}
-use Rattle.sievelex.specs.declared.token.Kind.TheVariants.{Semicolon, OpenBrace, CloseBrace, OpenBracket, CloseBracket, OpenParen, CloseParen, Comma}
+use Rattle.sievelex.specs.declared.token.Mark.TheVariants.{Semicolon, OpenBrace, CloseBrace, OpenBracket, CloseBracket, OpenParen, CloseParen, Comma}
 
 -- a letter or `_` begins an identifier
 abbrev pub is_name_start : ℕ → Bool

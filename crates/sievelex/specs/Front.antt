@@ -5,4 +5,4 @@ use Rattle.sievelex.specs.Spelling.{IsToken}
 
 -- this token stands at the front
 abbrev pub IsFront : List ℕ → Front → Type 0
-IsFront octets f = IsToken octets f.kind f.value f.len
+IsFront octets f = IsToken octets f.content f.len

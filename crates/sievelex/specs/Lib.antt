@@ -1,12 +1,12 @@
 pub mod Body
 pub mod Class
+pub mod Contents
 pub mod Digits
 pub mod Faults
 pub mod Finding
 pub mod Front
 pub mod Inside
 pub mod Lines
-pub mod Said
 pub mod Shape
 pub mod Skip
 pub mod Space

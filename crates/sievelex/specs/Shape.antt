@@ -3,11 +3,9 @@ use Rattle.std.specs.Prelude.{◌≡◌, ◌≢◌, ◌⊎◌, ℕ, ◌*◌, ◌
 use Rattle.std.specs.List.{list_all, flat_map}
 use Rattle.octets.specs.Ascii.{is_digit}
 use Rattle.octets.specs.Decimal.{number_of}
-use Rattle.sievelex.specs.declared.token.Kind.{Kind}
-use Rattle.sievelex.specs.declared.token.Kind.TheVariants.{Identifier, Tag, Number, Text}
-use Rattle.sievelex.specs.declared.token.Value.{Value}
-use Rattle.sievelex.specs.declared.token.Value.TheVariants.{Nothing, Amount, Chars}
-use Rattle.sievelex.specs.declared.class.Class.TheVariants.{Mark}
+use Rattle.sievelex.specs.declared.token.Content.{Content}
+use Rattle.sievelex.specs.declared.token.Content.TheVariants.{Identifier, Tag, Number, Text, Mark}
+use Rattle.sievelex.specs.declared.class.Class.TheVariants as Class
 use Rattle.sievelex.specs.Lines.{IsMultiline}
 use Rattle.sievelex.specs.Class.{is_name_start, is_name_octet, class_of}
 
@@ -75,11 +73,10 @@ pub record IsQuoted (s value : List ℕ) : Type 0 where
   pub spelled : s ≡ 34 ∷ (flat_map spelling_of pieces ++ 34 ∷ [])
   pub valued : value ≡ flat_map value_of pieces
 
--- s spells a token of this kind and value before the rest of the text
-abbrev pub IsShape : Kind → Value → List ℕ → List ℕ → Type 0
-IsShape kind Nothing s rest = (b : ℕ) × ((class_of b ≡ Mark kind) × (s ≡ b ∷ []))
-IsShape Identifier (Chars name) s rest = (s ≡ name) × IsName name
-IsShape Tag (Chars name) s rest = (s ≡ 58 ∷ name) × IsName name
-IsShape Text (Chars value) s rest = IsQuoted s value ⊎ IsMultiline s value rest
-IsShape Number (Amount n) s rest = IsNumber s n
-IsShape _ _ s rest = ⊥
+-- s spells this token before the rest of the text
+abbrev pub IsShape : Content → List ℕ → List ℕ → Type 0
+IsShape (Identifier name) s rest = (s ≡ name) × IsName name
+IsShape (Tag name) s rest = (s ≡ 58 ∷ name) × IsName name
+IsShape (Number n) s rest = IsNumber s n
+IsShape (Text value) s rest = IsQuoted s value ⊎ IsMultiline s value rest
+IsShape (Mark mark) s rest = (b : ℕ) × ((class_of b ≡ Class.Mark mark) × (s ≡ b ∷ []))

@@ -1,39 +1,43 @@
 -- The tokens of a text (RFC 5228, 8.1).
 use Rattle.std.specs.Prelude.{◌≡◌, ℕ, ◌+◌, ◌-◌, ◌<◌, ◌≤◌, ◌^◌, List, [], ◌∷◌, length, take, drop, slice_get, Some, codes}
 use Rattle.octets.specs.Ascii.{lowered}
-use Rattle.sievelex.specs.declared.token.Kind.{Kind}
-use Rattle.sievelex.specs.declared.token.Kind.TheVariants.{Identifier}
-use Rattle.sievelex.specs.declared.token.Value.{Value}
-use Rattle.sievelex.specs.declared.token.Value.TheVariants.{Amount, Chars}
+use Rattle.sievelex.specs.declared.token.Content.{Content}
+use Rattle.sievelex.specs.declared.token.Content.TheVariants.{Identifier, Number}
 use Rattle.sievelex.specs.declared.token.Token.{Token}
 use Rattle.sievelex.specs.Shape.{IsShape}
 use Rattle.sievelex.specs.Space.{IsGap, IsTail}
 use Rattle.sievelex.specs.Text.{IsText, line_ends}
 
 -- the value of a number is at most 2^63 - 1
-abbrev pub IsInRange : Value → Type 0
-IsInRange (Amount n) = n < 2 ^ 63
+abbrev pub IsInRange : Content → Type 0
+IsInRange (Number n) = n < 2 ^ 63
 IsInRange _ = Unit {0}
 
 -- the identifier `text`, of any case, with a colon right behind it, which begins a text of several lines
-abbrev pub OpensText : Kind → Value → List ℕ → Type 0
-OpensText Identifier (Chars name) rest = (lowered name ≡ codes "text") × (slice_get rest 0 ≡ Some 58)
-OpensText _ _ rest = ⊥
+abbrev pub OpensText : Content → List ℕ → Type 0
+OpensText (Identifier name) rest = (lowered name ≡ codes "text") × (slice_get rest 0 ≡ Some 58)
+OpensText _ rest = ⊥
 
--- the first n octets are a token of this kind and value: they spell it, and no longer front spells any
-pub record IsToken (octets : List ℕ) (kind : Kind) (value : Value) (n : ℕ) : Type 0 where
+-- the first n octets are this token: they spell it, and no longer front spells any
+pub record IsToken (octets : List ℕ) (content : Content) (n : ℕ) : Type 0 where
   pub within : n ≤ length octets
-  pub shape : IsShape kind value (take n octets) (drop n octets)
-  pub longest : (k : Kind) (v : Value) (m : ℕ) → n < m → m ≤ length octets → IsShape k v (take m octets) (drop m octets) → ⊥
-  pub in_range : IsInRange value
-  pub bare : OpensText kind value (drop n octets) → ⊥
+  pub shape : IsShape content (take n octets) (drop n octets)
+  pub longest : (other : Content) (m : ℕ) → n < m → m ≤ length octets → IsShape other (take m octets) (drop m octets) → ⊥
+  pub in_range : IsInRange content
+  pub bare : OpensText content (drop n octets) → ⊥
 
 -- behind white space that begins at a place of the text, this token comes next
 pub record IsNext (text : List ℕ) (from : ℕ) (t : Token) : Type 0 where
   pub ahead : from ≤ t.start
   pub gap : IsGap (take (t.start - from) (drop from text))
   pub forward : t.start ≤ t.end
-  pub token : IsToken (drop t.start text) t.kind t.value (t.end - t.start)
+  pub token : IsToken (drop t.start text) t.content (t.end - t.start)
+  pub line : t.line ≡ 1 + line_ends (take t.start text)
+
+-- a token stands at its place, within the text and on its line
+pub record IsPlaced (text : List ℕ) (t : Token) : Type 0 where
+  pub forward : t.start ≤ t.end
+  pub inside : t.end ≤ length text
   pub line : t.line ≡ 1 + line_ends (take t.start text)
 
 -- from this place on the text is these tokens with white space between and around them

@@ -1,19 +1,16 @@
--- Packed tokens: a row of forms, and beside it the numbers and the octets that they say.
+-- Packed tokens: a row of kinds, and beside it the numbers and the octets that they say.
 use Rattle.std.specs.Prelude.{ℕ, List, [], ◌∷◌, take, drop, slice_index}
-use Rattle.sievelex.specs.declared.token.Kind.{Kind}
-use Rattle.sievelex.specs.declared.token.Value.{Value}
-use Rattle.sievelex.specs.declared.token.Value.TheVariants as V
-use Rattle.sievelex.specs.declared.packed.Form.{Form}
-use Rattle.sievelex.specs.declared.packed.Form.TheVariants as F
+use Rattle.sievelex.specs.declared.token.Content.{Content}
+use Rattle.sievelex.specs.declared.token.Content.TheVariants.{Identifier, Tag, Number, Text, Mark}
+use Rattle.sievelex.specs.declared.packed.PackedKind.{PackedKind}
+use Rattle.sievelex.specs.declared.packed.PackedKind.TheVariants as K
 
--- what a token is and says
-abbrev pub Saying : Type 0
-Saying = Kind × Value
-
--- what the tokens are and say: one that says a number takes the first number; one that says octets takes the first
--- number, and as many of the octets
-abbrev pub unpacked : List Form → List ℕ → List ℕ → List Saying
+-- what the tokens are and say: a number takes the first number; a name or a string takes the first number, and as
+-- many of the octets
+abbrev pub unpacked : List PackedKind → List ℕ → List ℕ → List Content
 unpacked [] numbers octets = []
-unpacked (F.Bare kind ∷ forms) numbers octets = (kind, V.Nothing) ∷ unpacked forms numbers octets
-unpacked (F.Amount kind ∷ forms) numbers octets = (kind, V.Amount (slice_index numbers 0)) ∷ unpacked forms (drop 1 numbers) octets
-unpacked (F.Chars kind ∷ forms) numbers octets = (kind, V.Chars (take (slice_index numbers 0) octets)) ∷ unpacked forms (drop 1 numbers) (drop (slice_index numbers 0) octets)
+unpacked (K.Identifier ∷ kinds) numbers octets = Identifier (take (slice_index numbers 0) octets) ∷ unpacked kinds (drop 1 numbers) (drop (slice_index numbers 0) octets)
+unpacked (K.Tag ∷ kinds) numbers octets = Tag (take (slice_index numbers 0) octets) ∷ unpacked kinds (drop 1 numbers) (drop (slice_index numbers 0) octets)
+unpacked (K.Number ∷ kinds) numbers octets = Number (slice_index numbers 0) ∷ unpacked kinds (drop 1 numbers) octets
+unpacked (K.Text ∷ kinds) numbers octets = Text (take (slice_index numbers 0) octets) ∷ unpacked kinds (drop 1 numbers) (drop (slice_index numbers 0) octets)
+unpacked (K.Mark mark ∷ kinds) numbers octets = Mark mark ∷ unpacked kinds numbers octets

@@ -2,7 +2,7 @@
 ghost use Rattle.std.specs.Prelude.{◌≡◌};
 ghost use Rattle.sievelex.specs.Class.{class_of, is_name_start, is_name_octet, is_white};
 
-use crate::token::Kind;
+use crate::token::Mark;
 use octets::is_blank;
 
 /// What an octet begins where a token may stand.
@@ -19,7 +19,7 @@ pub(crate) enum Class {
     /// A quoted string.
     Quote,
     /// The octet is one of the eight marks.
-    Mark(Kind),
+    Mark(Mark),
     /// Nothing.
     Other,
 }
@@ -55,14 +55,14 @@ pub(crate) fn class_of(octet: u8) -> Class
         b' ' | b'\t' | b'\r' | b'\n' => Class::White,
         b':' => Class::Colon,
         b'"' => Class::Quote,
-        b';' => Class::Mark(Kind::Semicolon),
-        b'{' => Class::Mark(Kind::OpenBrace),
-        b'}' => Class::Mark(Kind::CloseBrace),
-        b'[' => Class::Mark(Kind::OpenBracket),
-        b']' => Class::Mark(Kind::CloseBracket),
-        b'(' => Class::Mark(Kind::OpenParen),
-        b')' => Class::Mark(Kind::CloseParen),
-        b',' => Class::Mark(Kind::Comma),
+        b';' => Class::Mark(Mark::Semicolon),
+        b'{' => Class::Mark(Mark::OpenBrace),
+        b'}' => Class::Mark(Mark::CloseBrace),
+        b'[' => Class::Mark(Mark::OpenBracket),
+        b']' => Class::Mark(Mark::CloseBracket),
+        b'(' => Class::Mark(Mark::OpenParen),
+        b')' => Class::Mark(Mark::CloseParen),
+        b',' => Class::Mark(Mark::Comma),
         _ => Class::Other,
     }
 }

@@ -124,7 +124,7 @@ impl ScriptFault {
     pub fn told(&self, alloc: Global) -> Result<Octets, AllocError>
         ensures { IfOk result (λ text. text ≡ fault_line self.now.line self.now.kind) }
     {
-        let mut text = Octets::copy(alloc, b"line ")?;
+        let mut text = Octets::from_slice(alloc, b"line ")?;
         write_decimal(&mut text, self.line)?;
         text.extend_from_slice(b": ")?;
         text.extend_from_slice(self.kind.text().as_bytes())?;

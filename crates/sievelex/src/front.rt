@@ -12,15 +12,14 @@ use crate::fault::{FaultKind, ScriptError, ScriptFault};
 use crate::multiline::read_body;
 use crate::number::{amount, digit_count, multiplier};
 use crate::quoted::read_quoted;
-use crate::token::{Kind, Value};
+use crate::token::Content;
 use octets::Octets;
 use std::alloc::Global;
 
 /// A token at the front of a text, and how many octets spell it.
 #[derive(Drop)]
 pub(crate) struct Front {
-    pub(crate) kind: Kind,
-    pub(crate) value: Value,
+    pub(crate) content: Content,
     pub(crate) len: usize,
 }
 
@@ -50,9 +49,8 @@ pub(crate) fn read_front(alloc: Global, octets: &[u8], line: u64) -> Result<Fron
         return read_string(alloc, rest, line);
     }
     match class_of(*first) {
-        Class::Mark(kind) => Ok(Front {
-            kind,
-            value: Value::Nothing,
+        Class::Mark(mark) => Ok(Front {
+            content: Content::Mark(mark),
             len: 1,
         }),
         _ => Err(bad),
@@ -67,17 +65,16 @@ fn read_identifier(alloc: Global, octets: &[u8], line: u64) -> Result<Front, Scr
 {
     let (name, rest) = octets.split_at(name_len(octets));
     if opens_text(name, rest) {
-        return read_several(alloc, octets, line);
+        return read_multiline(alloc, octets, line);
     }
     Ok(Front {
-        kind: Kind::Identifier,
-        value: Value::Chars(Octets::copy(alloc, name)?),
+        content: Content::Identifier(Octets::from_slice(alloc, name)?),
         len: name.len(),
     })
 }
 
 /// The string of several lines that begins with the text's first octets, `text:`.
-fn read_several(alloc: Global, octets: &[u8], line: u64) -> Result<Front, ScriptError>
+fn read_multiline(alloc: Global, octets: &[u8], line: u64) -> Result<Front, ScriptError>
     requires { lowered (take 5 octets.now) ≡ codes "text:" }
     ensures found { Finds (IsFront octets.now) result }
     ensures lines { IfFaultLine result (λ n. n ≡ line) }
@@ -85,15 +82,14 @@ fn read_several(alloc: Global, octets: &[u8], line: u64) -> Result<Front, Script
     let (_, body) = octets.split_at(5);
     let (value, len) = read_body(alloc, body, line)?;
     Ok(Front {
-        kind: Kind::Text,
-        value: Value::Chars(value),
+        content: Content::Text(value),
         len: 5 + len,
     })
 }
 
 /// The name `text`, of any case, with a colon right behind it: it begins a string of several lines.
 fn opens_text(name: &[u8], rest: &[u8]) -> bool
-    ensures { IsTrue result ↔ OpensText Kind.Identifier (Value.Chars name.now) rest.now }
+    ensures { IsTrue result ↔ OpensText (Content.Identifier name.now) rest.now }
 {
     rest.first() == Some(&b':') && name.eq_ignore_ascii_case(b"text")
 }
@@ -111,8 +107,7 @@ fn read_tag(alloc: Global, octets: &[u8], line: u64) -> Result<Front, ScriptErro
     }
     let (name, _) = octets.split_at(name_len(octets));
     Ok(Front {
-        kind: Kind::Tag,
-        value: Value::Chars(Octets::copy(alloc, name)?),
+        content: Content::Tag(Octets::from_slice(alloc, name)?),
         len: 1 + name.len(),
     })
 }
@@ -127,8 +122,7 @@ fn read_number(octets: &[u8], line: u64) -> Result<Front, ScriptError>
     let (factor, letters) = multiplier(rest);
     match amount(digits, factor) {
         Some(amount) => Ok(Front {
-            kind: Kind::Number,
-            value: Value::Amount(amount),
+            content: Content::Number(amount),
             len: digits.len() + letters,
         }),
         None => Err(ScriptError::Fault(ScriptFault {
@@ -145,8 +139,7 @@ fn read_string(alloc: Global, octets: &[u8], line: u64) -> Result<Front, ScriptE
 {
     let (value, len) = read_quoted(alloc, octets, line)?;
     Ok(Front {
-        kind: Kind::Text,
-        value: Value::Chars(value),
+        content: Content::Text(value),
         len: 1 + len,
     })
 }

@@ -15,6 +15,6 @@ mod text;
 mod token;
 
 pub use fault::{FaultKind, ScriptError, ScriptFault};
-pub use packed::{Cursor, Packed, Piece, line_of, pack};
+pub use packed::{ContentRef, Cursor, Packed, line_of, pack};
 pub use scanner::tokens;
-pub use token::{Kind, Token, Value};
+pub use token::{Content, Mark, Token};

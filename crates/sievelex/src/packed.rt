@@ -1,35 +1,39 @@
 //! The tokens of a text in little memory: what they are and what they say, without their places.
-ghost use Rattle.std.specs.Prelude.{◌≡◌, ◌+◌, ◌≤◌, ℕ, List, [], ◌∷◌, length, take, drop, slice_index, IfOk, OnOk, MatchOption};
+ghost use Rattle.std.specs.Prelude.{◌≡◌, ◌+◌, ◌≤◌, ℕ, List, [], ◌∷◌, ◌++◌, length, take, drop, slice_index, IfOk, OnOk, MatchOption};
 ghost use Rattle.sievelex.specs.declared.token.Token.{Token};
 ghost use Rattle.sievelex.specs.Finding.{IfFault, IfFaultLine};
 ghost use Rattle.sievelex.specs.Spelling.{SpellsFrom, Spells};
 ghost use Rattle.sievelex.specs.Text.{line_ends};
-ghost use Rattle.sievelex.specs.Said.{said, said_by, piece_said, says, line_at, Appends};
+ghost use Rattle.sievelex.specs.Contents.{contents, contents_of, content_of, line_at, Appends};
 
 use crate::fault::ScriptError;
-use crate::scanner::next;
-use crate::text::{line_feeds, text_fault};
-use crate::token::{Kind, Token, Value};
+use crate::scanner::{end_line, next};
+use crate::text::text_fault;
+use crate::token::{Content, Mark, Token};
 use std::alloc::{AllocError, Global};
 use std::marker::Model;
 
-/// What a token is, and where that stands which it says.
+/// What a packed token is. What it says stands in the rows of [`Packed`].
 #[derive(Clone, Copy)]
-pub(crate) enum Form {
-    /// It says nothing beside its kind.
-    Bare(Kind),
-    /// It says the next of the numbers.
-    Amount(Kind),
-    /// It says the next of the octets, as many as the next of the numbers tells.
-    Chars(Kind),
+pub(crate) enum PackedKind {
+    /// Its name is the next of the octets, as many as the next of the numbers tells.
+    Identifier,
+    /// Its name, as that of an identifier.
+    Tag,
+    /// Its value is the next of the numbers.
+    Number,
+    /// What it stands for, as the name of an identifier.
+    Text,
+    /// It says nothing more.
+    Mark(Mark),
 }
 
 /// The tokens of a text, in order: what they are and what they say, without their places.
 ///
-/// A token takes a few octets for its kind, 8 where it says something, and the octets that it says.
+/// A token takes a few octets for its kind, 8 where it is no mark, and the octets that it says.
 #[derive(Drop)]
 pub struct Packed {
-    pub(crate) forms: Vec<Form>,
+    pub(crate) kinds: Vec<PackedKind>,
     pub(crate) numbers: Vec<u64>,
     pub(crate) octets: Vec<u8>,
 }
@@ -37,49 +41,88 @@ pub struct Packed {
 impl Packed {
     /// How many tokens.
     pub fn len(&self) -> usize
-        ensures { result ≡ length (said self.now) }
+        ensures { result ≡ length (contents self.now) }
     {
         self.cursor().left()
     }
 
     /// Before the first token.
     pub fn cursor(&self) -> Cursor<'_>
-        ensures { result ≡ said self.now }
+        ensures { result ≡ contents self.now }
     {
         Cursor {
-            forms: self.forms.as_slice(),
-            numbers: self.numbers.as_slice(),
-            octets: self.octets.as_slice(),
+            kinds: self.kinds.as_slice(),
+            rows: Rows {
+                numbers: self.numbers.as_slice(),
+                octets: self.octets.as_slice(),
+            },
         }
     }
 }
 
-/// What a token is and what it says.
+/// What a packed token is and says: a [`Content`] over the octets of [`Packed`].
 #[derive(Clone, Copy)]
-pub enum Piece<'a> {
-    /// Of this kind, and nothing beside it.
-    Bare(Kind),
-    /// Of this kind, with a number.
-    Amount(Kind, u64),
-    /// Of this kind, with a name or with what a string stands for.
-    Chars(Kind, &'a [u8]),
+pub enum ContentRef<'a> {
+    /// A name, as it was written.
+    Identifier(&'a [u8]),
+    /// A name behind a colon, as it was written.
+    Tag(&'a [u8]),
+    /// The value of a number.
+    Number(u64),
+    /// What a string stands for.
+    Text(&'a [u8]),
+    /// One of the eight marks.
+    Mark(Mark),
+}
+
+/// What the packed tokens that are still to be read say.
+#[derive(Clone, Copy)]
+pub(crate) struct Rows<'a> {
+    pub(crate) numbers: &'a [u64],
+    pub(crate) octets: &'a [u8],
+}
+
+impl<'a> Rows<'a> {
+    /// The first number, or 0 where there is none, and what follows it.
+    fn split_number(self) -> (u64, Rows<'a>)
+        ensures first { result.0 ≡ slice_index self.entry.numbers.now 0 }
+        ensures numbers { result.1.numbers.now ≡ drop 1 self.entry.numbers.now }
+        ensures octets { result.1.octets.now ≡ self.entry.octets.now }
+    {
+        match self.numbers.split_first() {
+            Some((first, numbers)) => (*first, Rows { numbers, ..self }),
+            None => (0, self),
+        }
+    }
+
+    /// The first octets, as many as the first number tells or all that there are, and what follows them.
+    fn split_octets(self) -> (&'a [u8], Rows<'a>)
+        ensures first { result.0.now ≡ take (slice_index self.entry.numbers.now 0) self.entry.octets.now }
+        ensures numbers { result.1.numbers.now ≡ drop 1 self.entry.numbers.now }
+        ensures octets { result.1.octets.now ≡ drop (slice_index self.entry.numbers.now 0) self.entry.octets.now }
+    {
+        let (len, rest) = self.split_number();
+        let len = (len as usize).min(rest.octets.len());
+        let (first, octets) = rest.octets.split_at(len);
+        (first, Rows { octets, ..rest })
+    }
 }
 
 /// The packed tokens that are still to be read. Contracts see what they are and what they say.
 #[derive(Drop)]
 pub struct Cursor<'a> {
-    forms: &'a [Form],
-    numbers: &'a [u64],
-    octets: &'a [u8],
+    kinds: &'a [PackedKind],
+    rows: Rows<'a>,
 }
 
 impl<'a> Model for Cursor<'a> {
     ghost use Rattle.std.specs.Prelude.{List};
-    ghost use Rattle.sievelex.specs.Unpacked.{Saying, unpacked};
+    ghost use Rattle.sievelex.specs.declared.token.Content.{Content};
+    ghost use Rattle.sievelex.specs.Unpacked.{unpacked};
 
-    ghost Value = { List Saying };
+    ghost Value = { List Content };
 
-    ghost view = { λ c. unpacked c.forms.now c.numbers.now c.octets.now };
+    ghost view = { λ c. unpacked c.kinds.now c.rows.numbers.now c.rows.octets.now };
 }
 
 impl<'a> Cursor<'a> {
@@ -87,80 +130,43 @@ impl<'a> Cursor<'a> {
     pub fn left(&self) -> usize
         ensures { result ≡ length self.now }
     {
-        self.forms.len()
+        self.kinds.len()
     }
 
     /// The next token, and what follows it; none at the end. Copies nothing.
-    pub fn split_first(&self) -> Option<(Piece<'a>, Cursor<'a>)>
-        ensures { MatchOption result (self.now ≡ []) (λ found. self.now ≡ piece_said found.0 ∷ found.1) }
+    pub fn split_first(&self) -> Option<(ContentRef<'a>, Cursor<'a>)>
+        ensures { MatchOption result (self.now ≡ []) (λ found. self.now ≡ content_of found.0 ∷ found.1) }
     {
-        let (form, forms) = self.forms.split_first()?;
-        match *form {
-            Form::Bare(kind) => Some((
-                Piece::Bare(kind),
-                Cursor {
-                    forms,
-                    numbers: self.numbers,
-                    octets: self.octets,
-                },
-            )),
-            Form::Amount(kind) => {
-                let (number, numbers) = first_number(self.numbers);
-                Some((
-                    Piece::Amount(kind, number),
-                    Cursor {
-                        forms,
-                        numbers,
-                        octets: self.octets,
-                    },
-                ))
+        let (kind, kinds) = self.kinds.split_first()?;
+        let (content, rows) = match *kind {
+            PackedKind::Identifier => {
+                let (name, rows) = self.rows.split_octets();
+                (ContentRef::Identifier(name), rows)
             }
-            Form::Chars(kind) => {
-                let (len, numbers) = first_number(self.numbers);
-                let (chars, octets) = first_octets(self.octets, len);
-                Some((
-                    Piece::Chars(kind, chars),
-                    Cursor {
-                        forms,
-                        numbers,
-                        octets,
-                    },
-                ))
+            PackedKind::Tag => {
+                let (name, rows) = self.rows.split_octets();
+                (ContentRef::Tag(name), rows)
             }
-        }
+            PackedKind::Number => {
+                let (number, rows) = self.rows.split_number();
+                (ContentRef::Number(number), rows)
+            }
+            PackedKind::Text => {
+                let (value, rows) = self.rows.split_octets();
+                (ContentRef::Text(value), rows)
+            }
+            PackedKind::Mark(mark) => (ContentRef::Mark(mark), self.rows),
+        };
+        Some((content, Cursor { kinds, rows }))
     }
-}
-
-/// The first number, or 0 where there is none, and the others.
-fn first_number(numbers: &[u64]) -> (u64, &[u64])
-    ensures first { result.0 ≡ slice_index numbers.now 0 }
-    ensures others { result.1.now ≡ drop 1 numbers.now }
-{
-    match numbers.split_first() {
-        Some((first, others)) => (*first, others),
-        None => (0, numbers),
-    }
-}
-
-/// The first octets, so many or all that there are, and the others.
-fn first_octets(octets: &[u8], len: u64) -> (&[u8], &[u8])
-    ensures first { result.0.now ≡ take len octets.now }
-    ensures others { result.1.now ≡ drop len octets.now }
-{
-    let len = len as usize;
-    octets.split_at(if len < octets.len() {
-        len
-    } else {
-        octets.len()
-    })
 }
 
 /// The tokens of a script, as [`tokens`](crate::tokens) tells them, packed: without their places and lines.
 ///
 /// It answers the same faults, in the same time. Beside what is answered it takes the memory of one token.
 pub fn pack(alloc: Global, text: &[u8]) -> Result<Packed, ScriptError>
-    ensures found { IfOk result (λ packed. (ts : List Token) × (Spells text.now ts × (said packed ≡ says ts))) }
-    ensures only { IfOk result (λ packed. (us : List Token) → Spells text.now us → says us ≡ said packed) }
+    ensures found { IfOk result (λ packed. (ts : List Token) × (Spells text.now ts × (contents packed ≡ contents_of ts))) }
+    ensures only { IfOk result (λ packed. (us : List Token) → Spells text.now us → contents_of us ≡ contents packed) }
     ensures fault { IfFault result ((ts : List Token) → Spells text.now ts → ⊥) }
     ensures lines { IfFaultLine result (λ n. (1 ≤ n) × (n ≤ 1 + line_ends text.now)) }
 {
@@ -172,45 +178,56 @@ pub fn pack(alloc: Global, text: &[u8]) -> Result<Packed, ScriptError>
 
 /// The tokens of a text that has no bad octet.
 fn pack_tokens(alloc: Global, text: &[u8]) -> Result<Packed, ScriptError>
-    ensures found { IfOk result (λ packed. (ts : List Token) × (SpellsFrom text.now 0 ts × (said packed ≡ says ts))) }
-    ensures only { IfOk result (λ packed. (us : List Token) → SpellsFrom text.now 0 us → says us ≡ said packed) }
+    ensures found { IfOk result (λ packed. (ts : List Token) × (SpellsFrom text.now 0 ts × (contents packed ≡ contents_of ts))) }
+    ensures only { IfOk result (λ packed. (us : List Token) → SpellsFrom text.now 0 us → contents_of us ≡ contents packed) }
     ensures fault { IfFault result ((ts : List Token) → SpellsFrom text.now 0 ts → ⊥) }
     ensures lines { IfFaultLine result (λ n. (1 ≤ n) × (n ≤ 1 + line_ends text.now)) }
 {
     let mut packed = Packed {
-        forms: Vec::new(alloc),
+        kinds: Vec::new(alloc),
         numbers: Vec::new(alloc),
         octets: Vec::new(alloc),
     };
     let mut at = 0;
     let mut line = 1;
     'tokens: while let Some(token) = next(alloc, text, at, line)? {
-        let (_, spelled) = text.split_at(token.start);
-        let (spelled, _) = spelled.split_at(token.end - token.start);
-        line = token.line + line_feeds(spelled);
+        line = end_line(text, &token);
         at = token.end;
-        append(&mut packed, &token)?;
+        append(&mut packed, token.content)?;
     }
     Ok(packed)
 }
 
 /// Appends what one token is and says.
-fn append(packed: &mut Packed, token: &Token) -> Result<(), AllocError>
-    ensures { OnOk result (Appends token.now packed.old packed.new) }
+fn append(packed: &mut Packed, content: Content) -> Result<(), AllocError>
+    ensures { OnOk result (Appends content packed.old packed.new) }
 {
-    match &token.value {
-        Value::Nothing => packed.forms.push(Form::Bare(token.kind))?,
-        Value::Amount(number) => {
-            packed.forms.push(Form::Amount(token.kind))?;
-            packed.numbers.push(*number)?;
+    match content {
+        Content::Identifier(name) => append_octets(
+            packed,
+            PackedKind::Identifier,
+            name.as_slice(),
+        )?,
+        Content::Tag(name) => append_octets(packed, PackedKind::Tag, name.as_slice())?,
+        Content::Number(number) => {
+            packed.kinds.push(PackedKind::Number)?;
+            packed.numbers.push(number)?;
         }
-        Value::Chars(chars) => {
-            packed.forms.push(Form::Chars(token.kind))?;
-            packed.numbers.push(chars.len() as u64)?;
-            packed.octets.extend_from_slice(chars.as_slice())?;
-        }
+        Content::Text(value) => append_octets(packed, PackedKind::Text, value.as_slice())?,
+        Content::Mark(mark) => packed.kinds.push(PackedKind::Mark(mark))?,
     }
     Ok(())
+}
+
+/// Appends a token that says octets.
+fn append_octets(packed: &mut Packed, kind: PackedKind, octets: &[u8]) -> Result<(), AllocError>
+    ensures kinds { OnOk result (packed.new.kinds.items ≡ packed.old.kinds.items ++ kind ∷ []) }
+    ensures numbers { OnOk result (packed.new.numbers.items ≡ packed.old.numbers.items ++ length octets.now ∷ []) }
+    ensures octets { OnOk result (packed.new.octets.items ≡ packed.old.octets.items ++ octets.now) }
+{
+    packed.kinds.push(kind)?;
+    packed.numbers.push(octets.len() as u64)?;
+    packed.octets.extend_from_slice(octets)
 }
 
 /// The line of the token of this index, from 0 on, of a script; 1 where it has no such token.
@@ -230,9 +247,7 @@ pub fn line_of(alloc: Global, text: &[u8], index: usize) -> Result<u64, ScriptEr
             return Ok(token.line);
         }
         before -= 1;
-        let (_, spelled) = text.split_at(token.start);
-        let (spelled, _) = spelled.split_at(token.end - token.start);
-        line = token.line + line_feeds(spelled);
+        line = end_line(text, &token);
         at = token.end;
     }
     Ok(1)

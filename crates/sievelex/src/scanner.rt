@@ -1,7 +1,7 @@
 //! The tokens of a text.
-ghost use Rattle.std.specs.Prelude.{◌≡◌, ◌+◌, ◌≤◌, List, [], Some, length, take, IfOk, MatchOption};
+ghost use Rattle.std.specs.Prelude.{◌≡◌, ◌+◌, ◌<◌, ◌≤◌, List, [], Some, length, take, IfOk, MatchOption};
 ghost use Rattle.sievelex.specs.Finding.{IfFault, IfFaultLine};
-ghost use Rattle.sievelex.specs.Spelling.{IsNext, SpellsFrom, Spells};
+ghost use Rattle.sievelex.specs.Spelling.{IsNext, IsPlaced, SpellsFrom, Spells};
 ghost use Rattle.sievelex.specs.Text.{line_ends};
 ghost use Rattle.sievelex.specs.declared.token.Token.{Token};
 
@@ -41,9 +41,7 @@ fn read_tokens(alloc: Global, text: &[u8]) -> Result<Vec<Token>, ScriptError>
     let mut at = 0;
     let mut line = 1;
     while let Some(token) = next(alloc, text, at, line)? {
-        let (_, spelled) = text.split_at(token.start);
-        let (spelled, _) = spelled.split_at(token.end - token.start);
-        line = token.line + line_feeds(spelled);
+        line = end_line(text, &token);
         at = token.end;
         tokens.push(token)?;
     }
@@ -61,6 +59,7 @@ pub(crate) fn next(
     requires on_line { line ≡ 1 + line_ends (take at text.now) }
     ensures found { IfOk result (λ o. MatchOption o (SpellsFrom text.now at []) (λ t. IsNext text.now at t)) }
     ensures only { IfOk result (λ o. (t : Token) → IsNext text.now at t → o ≡ Some t) }
+    ensures further { IfOk result (λ o. MatchOption o (Unit {0}) (λ t. (at < t.end) × IsPlaced text.now t)) }
     ensures fault { IfFault result ((ts : List Token) → SpellsFrom text.now at ts → ⊥) }
     ensures lines { IfFaultLine result (λ n. (1 ≤ n) × (n ≤ 1 + line_ends text.now)) }
 {
@@ -84,10 +83,19 @@ pub(crate) fn next(
     let front = read_front(alloc, octets, line)?;
     let start = at + white;
     Ok(Some(Token {
-        kind: front.kind,
-        value: front.value,
+        content: front.content,
         start,
         end: start + front.len,
         line,
     }))
+}
+
+/// The line on which this token of the text ends.
+pub(crate) fn end_line(text: &[u8], token: &Token) -> u64
+    requires { IsPlaced text.now token.now }
+    ensures { result ≡ 1 + line_ends (take token.now.end text.now) }
+{
+    let (_, spelled) = text.split_at(token.start);
+    let (spelled, _) = spelled.split_at(token.end - token.start);
+    token.line + line_feeds(spelled)
 }

@@ -1,16 +1,23 @@
 use octets::Octets;
 
-/// What a token is (RFC 5228, 8.1).
+/// What a token is and says (RFC 5228, 8.1).
+#[derive(Debug, Drop, PartialEq, Eq)]
+pub enum Content {
+    /// A name as it was written: a letter or `_`, then letters, digits and `_`.
+    Identifier(Octets),
+    /// The name behind a `:`, as it was written and without the colon.
+    Tag(Octets),
+    /// The value of a number, its multiplier `K`, `M` or `G` counted: at most 2^63 - 1.
+    Number(u64),
+    /// What a string, quoted or of several lines, stands for.
+    Text(Octets),
+    /// One of the eight marks.
+    Mark(Mark),
+}
+
+/// A token of one octet that stands for itself (RFC 5228, 8.1).
 #[derive(Clone, Copy, Debug, PartialEq, Eq)]
-pub enum Kind {
-    /// A name: a letter or `_`, then letters, digits and `_`.
-    Identifier,
-    /// `:` and a name.
-    Tag,
-    /// Digits, with a multiplier `K`, `M` or `G` or without one.
-    Number,
-    /// A string, quoted or of several lines.
-    Text,
+pub enum Mark {
     /// `;`
     Semicolon,
     /// `{`
@@ -29,25 +36,11 @@ pub enum Kind {
     Comma,
 }
 
-/// What a token says beside its kind.
-#[derive(Debug, Drop, PartialEq, Eq)]
-pub enum Value {
-    /// Nothing: the token is one of the eight marks.
-    Nothing,
-    /// The value of a number, its multiplier counted: at most 2^63 - 1.
-    Amount(u64),
-    /// The name of an identifier or of a tag, as it was written and without the colon, or what a string
-    /// stands for.
-    Chars(Octets),
-}
-
 /// A token of a script and where it stands.
 #[derive(Debug, Drop, PartialEq, Eq)]
 pub struct Token {
-    /// What it is.
-    pub kind: Kind,
-    /// What it says beside its kind.
-    pub value: Value,
+    /// What it is and says.
+    pub content: Content,
     /// The place of its first octet in the text, counted from 0.
     pub start: usize,
     /// The place after its last octet.

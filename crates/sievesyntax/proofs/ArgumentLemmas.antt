@@ -1,7 +1,7 @@
 -- Lemmas on arguments.
 use Rattle.std.proofs.Common.{◌≡◌, ℕ, List, [], ◌∷◌, ◌++◌, ◌<◌, ◌≤◌, length, refl, sym, ap, ◌∙◌, subst, arith}
-use Rattle.sievelex.specs.declared.token.Kind.{Kind}
-use Rattle.sievelex.specs.declared.token.Kind.TheVariants as K
+use Rattle.sievelex.specs.declared.token.Mark.{Mark}
+use Rattle.sievelex.specs.declared.token.Mark.TheVariants as K
 use Rattle.sievesyntax.specs.declared.parser.argument.Argument.{Argument}
 use Rattle.sievesyntax.specs.declared.parser.argument.Argument.TheVariants as A
 use Rattle.sievesyntax.specs.Chains.{Chain}
@@ -10,7 +10,7 @@ use Rattle.sievesyntax.specs.Arguments.{IsOther, AreStrings, IsArgument, IsEnd, 
 use Rattle.sievesyntax.proofs.Chains.{IsSoFar, chain_more, chain_ends, chain_fails}
 
 -- this mark stands at the front
-abbrev pub IsMarked : Kind → List Lexeme → Type 0
+abbrev pub IsMarked : Mark → List Lexeme → Type 0
 IsMarked kind rest = (to : List Lexeme) × (rest ≡ mark kind ∷ to)
 
 module _ (whole : List Lexeme) (so_far : List (List ℕ)) (rest : List Lexeme) (so : IsSoFar IsOther (IsMarked K.CloseBracket) whole so_far rest) where

@@ -1,6 +1,6 @@
 -- Lemmas on blocks and branches.
 use Rattle.std.proofs.Common.{◌≡◌, inl, inr, ◌++◌, ℕ, ◌≤◌, ◌<◌, ◌+◌, List, [], ◌∷◌, length, refl, sym, ap, ◌∙◌, subst, arith, max, suc}
-use Rattle.sievelex.specs.declared.token.Kind.TheVariants as K
+use Rattle.sievelex.specs.declared.token.Mark.TheVariants as K
 use Rattle.sievesyntax.specs.declared.table.keyword.Keyword.{Keyword}
 use Rattle.sievesyntax.specs.declared.table.keyword.Keyword.TheVariants as W
 use Rattle.sievesyntax.specs.declared.table.capability.Capabilities.{Capabilities}

@@ -3,7 +3,7 @@ use Rattle.std.proofs.Common.{◌≡◌, ℕ, Bool, true, false, List, [], ◌�
 use Rattle.std.specs.Prelude.{codes}
 use Rattle.std.specs.List.{list_all}
 use Rattle.octets.proofs.Lists.{some_pair}
-use Rattle.sievelex.specs.declared.token.Kind.TheVariants as K
+use Rattle.sievelex.specs.declared.token.Mark.TheVariants as K
 use Rattle.sievesyntax.specs.declared.table.keyword.Keyword.TheVariants as W
 use Rattle.sievesyntax.specs.declared.table.tag.Tag.TheVariants as T
 use Rattle.sievesyntax.specs.declared.parser.argument.Argument.TheVariants as A
@@ -25,7 +25,9 @@ use Rattle.sievesyntax.specs.declared.tree.vacation.VacArgs.{VacArgs}
 use Rattle.sievesyntax.specs.declared.tree.action.Action.TheVariants as D
 use Rattle.sievesyntax.specs.Lexemes.{Lexeme, keyword, tag, number, text, mark}
 use Rattle.sievesyntax.specs.Arguments.{AreStrings, AreArguments}
-use Rattle.sievesyntax.specs.Tags.{IsPlain, IsSplit}
+use Rattle.std.proofs.lemmas.List.Elements.{Contains-push, Contains-push_cases}
+use Rattle.sievesyntax.proofs.TagLemmas.{none_there, first_there}
+use Rattle.sievesyntax.specs.Tags.{group_of, IsPlain, IsSplit}
 use Rattle.sievesyntax.specs.Table.{SaysSize, SaysAddress, SaysEnvelope, NamesParts, is_part, IsPlainTest, IsPlainCommand}
 use Rattle.sievesyntax.specs.Tests.{IsTest, ReadsTest}
 use Rattle.sievesyntax.specs.Grammar.{Reads}
@@ -47,15 +49,15 @@ no_strings (x ∷ more) to end are = let e : mark K.CloseBracket ∷ to ≡ text
 -- `:comparator "i;octet" :contains "a"`
 tag_values : IsSplit (P.Comparator ∷ (P.Matching ∷ [])) (A.Tag T.Comparator ∷ (A.Text (codes "i;octet") ∷ (A.Tag T.Contains ∷ (A.Text (codes "a") ∷ [])))) (S.Comparator C.Octet ∷ (S.Matching M.Contains ∷ [])) (A.Text (codes "a") ∷ [])
 tag_values = record {
-  written = (A.Tag T.Contains ∷ (A.Text (codes "a") ∷ []), ((refl, inl refl), (A.Text (codes "a") ∷ [], ((refl, inr (inl refl)), refl))));
+  written = (A.Tag T.Contains ∷ (A.Text (codes "a") ∷ []), ((refl, first_there P.Comparator (P.Matching ∷ [])), (A.Text (codes "a") ∷ [], ((refl, Contains-push (P.Comparator ∷ []) P.Matching), refl))));
   plain = tt;
-  once = (λ among. elim among [ inl e ↦ cc e | inr none ↦ none ], (λ none. none, tt));
+  once = (λ among. elim (Contains-push_cases [] P.Matching P.Comparator among) [ inl none ↦ none_there P.Comparator none | inr e ↦ cc e ], (λ none. none_there P.Matching none, tt));
 }
 
 -- a tag where no setting is allowed
 no_tag_value : (tag_values : List TagValue) (positional : List Argument) → IsSplit [] (A.Tag T.Mime ∷ []) tag_values positional → ⊥
 no_tag_value [] positional is = let e : A.Tag T.Mime ∷ [] ≡ positional = is.written in subst IsPlain (sym e) is.plain
-no_tag_value (s ∷ more) positional is = is.written.1.0.1
+no_tag_value (s ∷ more) positional is = none_there (group_of s) is.written.1.0.1
 
 -- `header "a" "b"` compares by `:is` and `i;ascii-casemap`
 header : IsPlainTest W.Header (A.Text (codes "a") ∷ (A.Text (codes "b") ∷ [])) (looks (L.Header (record { comparator = C.AsciiCasemap; matching = M.Is; fields = codes "a" ∷ []; keys = codes "b" ∷ [] })))

@@ -1,6 +1,6 @@
 -- Lemmas on tests, commands and blocks.
 use Rattle.std.proofs.Common.{◌≡◌, ℕ, ◌≤◌, List, ◌∷◌, sym, ◌∙◌, subst, arith}
-use Rattle.sievelex.specs.declared.token.Kind.TheVariants as K
+use Rattle.sievelex.specs.declared.token.Mark.TheVariants as K
 use Rattle.sievesyntax.specs.declared.table.keyword.Keyword.{Keyword}
 use Rattle.sievesyntax.specs.declared.table.keyword.Keyword.TheVariants as W
 use Rattle.sievesyntax.specs.declared.parser.argument.Argument.{Argument}

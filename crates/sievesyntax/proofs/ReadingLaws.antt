@@ -2,8 +2,8 @@
 use Rattle.std.proofs.Common.{◌≡◌, ℕ, List, [], ◌∷◌, refl, sym, ap, ◌∙◌, subst, inl, inr}
 use Rattle.octets.proofs.Lists.{some_is}
 use Rattle.addrparts.specs.declared.address.Addr.{Addr}
-use Rattle.sievelex.specs.declared.token.Kind.{Kind}
-use Rattle.sievelex.specs.declared.token.Kind.TheVariants as K
+use Rattle.sievelex.specs.declared.token.Mark.{Mark}
+use Rattle.sievelex.specs.declared.token.Mark.TheVariants as K
 use Rattle.sievesyntax.specs.declared.table.keyword.Keyword.{Keyword}
 use Rattle.sievesyntax.specs.declared.table.keyword.Keyword.TheVariants as W
 use Rattle.sievesyntax.specs.declared.parser.argument.Argument.{Argument}
@@ -131,7 +131,7 @@ headed_at P from name behind opens headed =
     let there : headed.1.0 ≡ behind = cc in
     subst (P name) there (subst (λ w. P w headed.1.0) named headed.1.1.1)
 
-marked_at : (kind : Kind) (P : List Lexeme → Type 0) (from behind : List Lexeme) → from ≡ mark kind ∷ behind → Marked kind P from → P behind
+marked_at : (kind : Mark) (P : List Lexeme → Type 0) (from behind : List Lexeme) → from ≡ mark kind ∷ behind → Marked kind P from → P behind
 marked_at kind P from behind opens marked =
     let same : mark kind ∷ marked.0 ≡ mark kind ∷ behind = sym marked.1.0 ∙ opens in
     let there : marked.0 ≡ behind = cc in

@@ -6,8 +6,9 @@ use Rattle.std.specs.Str.{IsAscii}
 use Rattle.std.proofs.lemmas.Str.{IsUtf8-from_ascii}
 use Rattle.std.proofs.lemmas.Bool.Decides.{nat_tests}
 use Rattle.octets.proofs.Lists.{some_is}
-use Rattle.sievelex.specs.declared.token.Kind.TheVariants as K
-use Rattle.sievelex.specs.declared.token.Value.TheVariants as V
+use Rattle.sievelex.specs.declared.token.Mark.TheVariants as K
+use Rattle.sievelex.specs.declared.token.Content.TheVariants as C
+use Rattle.sievelex.specs.Contents.{contents_of}
 use Rattle.sievelex.specs.declared.token.Token.{Token}
 use Rattle.sievelex.specs.Space.{IsTail}
 use Rattle.sievelex.specs.Space.Space.{White}
@@ -25,7 +26,7 @@ use Rattle.sievesyntax.specs.declared.parser.argument.Argument.{Argument}
 use Rattle.sievesyntax.specs.declared.parser.argument.Argument.TheVariants as A
 use Rattle.sievesyntax.specs.declared.tree.action.Action.TheVariants as D
 use Rattle.sievesyntax.specs.Chains.{Chain}
-use Rattle.sievesyntax.specs.Lexemes.{Lexeme, keyword, tag, number, text, mark, lexemes}
+use Rattle.sievesyntax.specs.Lexemes.{Lexeme, keyword, tag, number, text, mark, lexemes_of}
 use Rattle.sievesyntax.specs.Arguments.{IsArgument}
 use Rattle.sievesyntax.specs.Tree.{CommandTree, require, choose, stop, act, no_branches, branch, Commands, no_commands, command}
 use Rattle.sievesyntax.specs.Grammar.{IsStatement, IsCommand, Reads}
@@ -61,15 +62,15 @@ plain_text s low high = record {
 }
 
 abbrev keep_token : Token
-keep_token = record { kind = K.Identifier; value = V.Chars (codes "keep"); start = 0; end = 4; line = 1 }
+keep_token = record { content = C.Identifier (codes "keep"); start = 0; end = 4; line = 1 }
 
 abbrev semicolon : Token
-semicolon = record { kind = K.Semicolon; value = V.Nothing; start = 4; end = 5; line = 1 }
+semicolon = record { content = C.Mark K.Semicolon; start = 4; end = 5; line = 1 }
 
-keep_found : IsFound (codes "keep; # a") (record { kind = K.Identifier; value = V.Chars (codes "keep"); len = 4 })
+keep_found : IsFound (codes "keep; # a") (record { content = C.Identifier (codes "keep"); len = 4 })
 keep_found = identifier_found (codes "keep; # a") (codes "keep") (codes "; # a") (codes "keep") 4 refl refl refl refl refl refl (λ t. let e : 107 ≡ 116 = ap (λ s. get_or s 0 0) t.0 in omega arith)
 
-semicolon_found : IsFound (codes "; # a") (record { kind = K.Semicolon; value = V.Nothing; len = 1 })
+semicolon_found : IsFound (codes "; # a") (record { content = C.Mark K.Semicolon; len = 1 })
 semicolon_found = mark_found (codes "; # a") 59 (codes " # a") K.Semicolon refl refl
 
 first_ahead : IsAhead (codes "keep; # a") 0 0 (codes "keep; # a")
@@ -91,8 +92,8 @@ keeps = record {
   spelled = record {
     written = plain_text (codes "keep; # a") refl refl;
     spelled = (
-      next_found (codes "keep; # a") (codes "keep; # a") 0 0 1 (record { kind = K.Identifier; value = V.Chars (codes "keep"); len = 4 }) first_ahead (some_octets 8) refl keep_found.0,
-      (next_found (codes "keep; # a") (codes "; # a") 4 4 1 (record { kind = K.Semicolon; value = V.Nothing; len = 1 }) second_ahead (some_octets 4) refl semicolon_found.0, last),
+      next_found (codes "keep; # a") (codes "keep; # a") 0 0 1 (record { content = C.Identifier (codes "keep"); len = 4 }) first_ahead (some_octets 8) refl keep_found.0,
+      (next_found (codes "keep; # a") (codes "; # a") 4 4 1 (record { content = C.Mark K.Semicolon; len = 1 }) second_ahead (some_octets 4) refl semicolon_found.0, last),
     );
   };
   read = ([], ((W.Keep, (mark K.Semicolon ∷ [], (refl, ([], (record { spelled = refl; all = tt }, record { none = refl; tree_is = refl }))))), refl));
@@ -126,7 +127,7 @@ keyword_alone (command first more) h =
     no_command first h.1.0.0 h.0 (cc) (subst P behind h.1.0.1.1.1)
 
 -- `keep` alone means nothing: it is one token, and no command is a word alone
-bare_found : IsFound (codes "keep") (record { kind = K.Identifier; value = V.Chars (codes "keep"); len = 4 })
+bare_found : IsFound (codes "keep") (record { content = C.Identifier (codes "keep"); len = 4 })
 bare_found = identifier_found (codes "keep") (codes "keep") [] (codes "keep") 4 refl refl refl refl refl refl (λ t. let e : 107 ≡ 116 = ap (λ s. get_or s 0 0) t.0 in omega arith)
 
 bare_ahead : IsAhead (codes "keep") 0 0 (codes "keep")
@@ -135,7 +136,7 @@ bare_ahead = record { order = lit≤ tt; inside = lit≤ tt; octets_are = refl; 
 bare_tokens : (ts : List Token) → SpellsFrom (codes "keep") 0 ts → ts ≡ keep_token ∷ []
 bare_tokens [] h = let e : Some (codes "keep") ≡ Some [] = tail_all (codes "keep") h in absurd (cc)
 bare_tokens (t ∷ ts) h =
-    let same : keep_token ≡ t = some_is keep_token t (next_only (codes "keep") (codes "keep") 0 0 1 (record { kind = K.Identifier; value = V.Chars (codes "keep"); len = 4 }) bare_ahead refl bare_found.1 t h.0) in
+    let same : keep_token ≡ t = some_is keep_token t (next_only (codes "keep") (codes "keep") 0 0 1 (record { content = C.Identifier (codes "keep"); len = 4 }) bare_ahead refl bare_found.1 t h.0) in
     let P : Token → Type 0 = λ x. SpellsFrom (codes "keep") x.end ts in
     λ i. sym same i ∷ behind ts (subst P (sym same) h.1) i
   where
@@ -145,5 +146,5 @@ bare_tokens (t ∷ ts) h =
 
 keeps_nothing : (tree : Commands) → Means (codes "keep") tree → ⊥
 keeps_nothing tree m =
-    let P : List Token → Type 0 = λ ts. Reads tree (lexemes ts) in
+    let P : List Token → Type 0 = λ ts. Reads tree (lexemes_of (contents_of ts)) in
     keyword_alone tree (subst P (bare_tokens m.tokens m.spelled.spelled) m.read)

@@ -1,7 +1,7 @@
 -- Lemmas on tags.
-use Rattle.std.proofs.Common.{◌≡◌, ◌⊎◌, ℕ, List, [], ◌∷◌, ◌++◌, ◌<◌, length, map, Option, Some, None, option_map, cond, codes, nat_eq, refl, sym, ap, ◌∙◌, subst, arith, inl, inr}
-use Rattle.std.proofs.Common.{drop, get_or}
-use Rattle.std.proofs.Math.Seq.{drop-cons}
+use Rattle.std.proofs.Common.{◌≡◌, ℕ, List, [], ◌∷◌, ◌++◌, ◌<◌, length, map, Option, Some, None, option_map, cond, codes, nat_eq, refl, sym, ap, ◌∙◌, subst, arith, inl, inr}
+use Rattle.std.specs.List.{Contains}
+use Rattle.std.proofs.lemmas.List.Elements.{Contains-append_left, Contains-append_right, Contains-append_cases, Contains-push, Contains-push_cases}
 use Rattle.std.specs.Cmp.Lexicographic.{pointwise}
 use Rattle.octets.proofs.Lists.{some_pair}
 use Rattle.sievesyntax.specs.declared.table.tag.Tag.TheVariants as T
@@ -16,7 +16,7 @@ use Rattle.sievesyntax.specs.declared.table.tag_group.TagValue.{TagValue}
 use Rattle.sievesyntax.specs.declared.table.tag_group.TagValue.TheVariants as S
 use Rattle.sievesyntax.specs.declared.table.tag_group.TagGroup.{TagGroup}
 use Rattle.sievesyntax.specs.Chains.{Chain}
-use Rattle.sievesyntax.specs.Tags.{strings_of, IsTagValue, group_of, Among, AreApart, IsAllowed, IsPlain, IsSplit, HasNoTag}
+use Rattle.sievesyntax.specs.Tags.{strings_of, IsTagValue, group_of, AreApart, IsAllowed, IsPlain, IsSplit, HasNoTag}
 use Rattle.sievesyntax.proofs.Chains.{IsSoFar, chain_begins, chain_more, chain_ends}
 
 abbrev collation_named : List ℕ → Option Collation
@@ -64,11 +64,11 @@ pub tag_value_only : (s t : TagValue) (from to end : List Argument) → IsTagVal
 tag_value_only s t from to end at also = some_pair (t, end) (s, to) (sym (tag_value_again t from end also) ∙ tag_value_again s from to at)
 
 -- a tag of no allowed group, or of a group that is taken, stands first: no other does
-pub not_allowed : (allowed taken : List TagGroup) (t : TagValue) (from end : List Argument) → IsTagValue t from end → (Among (group_of t) allowed → ⊥) → HasNoTag allowed taken from
-not_allowed allowed taken t from end at bad s to is free = bad (subst (λ x. Among (group_of x) allowed) (sym (tag_value_only s t from to end is.0 at).0) is.1)
+pub not_allowed : (allowed taken : List TagGroup) (t : TagValue) (from end : List Argument) → IsTagValue t from end → (Contains allowed (group_of t) → ⊥) → HasNoTag allowed taken from
+not_allowed allowed taken t from end at bad s to is free = bad (subst (λ x. Contains allowed (group_of x)) (sym (tag_value_only s t from to end is.0 at).0) is.1)
 
-pub not_free : (allowed taken : List TagGroup) (t : TagValue) (from end : List Argument) → IsTagValue t from end → Among (group_of t) taken → HasNoTag allowed taken from
-not_free allowed taken t from end at among s to is free = free (subst (λ x. Among (group_of x) taken) (tag_value_only s t from to end is.0 at).0 among)
+pub not_free : (allowed taken : List TagGroup) (t : TagValue) (from end : List Argument) → IsTagValue t from end → Contains taken (group_of t) → HasNoTag allowed taken from
+not_free allowed taken t from end at among s to is free = free (subst (λ x. Contains taken (group_of x)) (tag_value_only s t from to end is.0 at).0 among)
 
 pub not_there : (allowed taken : List TagGroup) (from : List Argument) → ((t : TagValue) (to : List Argument) → IsTagValue t from to → ⊥) → HasNoTag allowed taken from
 not_there allowed taken from none s to is free = none s to is.0
@@ -99,26 +99,29 @@ tag_value_longer (S.Addresses xs) from to at = omega (arith, ap length (at.1.0))
 tag_value_longer S.Mime from to at = omega (arith, ap length at)
 tag_value_longer (S.Handle s) from to at = omega (arith, ap length at)
 
--- one group more
-pub apart_push : (xs : List TagGroup) (x : TagGroup) → AreApart xs → (Among x xs → ⊥) → AreApart (xs ++ x ∷ [])
-apart_push [] x apart free = (λ none. none, tt)
-apart_push (y ∷ ys) x apart free = (λ among. free (either among), apart_push ys x apart.1 (λ among. free (inr among)))
-  where
-    last : (zs : List TagGroup) → Among y (zs ++ x ∷ []) → Among y zs ⊎ (y ≡ x)
-    last [] among = elim among [ inl same ↦ inr same | inr none ↦ absurd none ]
-    last (z ∷ zs) among = elim among [ inl same ↦ inl (inl same) | inr more ↦ elim (last zs more) [ inl there ↦ inl (inr there) | inr same ↦ inr same ] ]
+-- nothing is among none
+pub none_there : (x : TagGroup) → Contains [] x → ⊥
+none_there x among = omega (arith, among.1)
 
-    either : Among y (ys ++ x ∷ []) → Among x (y ∷ ys)
-    either among = elim (last ys among) [ inl there ↦ absurd (apart.0 there) | inr same ↦ inl (sym same) ]
+-- the first of them is
+pub first_there : (x : TagGroup) (xs : List TagGroup) → Contains (x ∷ xs) x
+first_there x xs = Contains-append_left (x ∷ []) xs x (Contains-push [] x)
+
+-- one group more
+pub apart_push : (xs : List TagGroup) (x : TagGroup) → AreApart xs → (Contains xs x → ⊥) → AreApart (xs ++ x ∷ [])
+apart_push [] x apart free = (λ among. none_there x among, tt)
+apart_push (y ∷ ys) x apart free = (λ among. free (either among), apart_push ys x apart.1 (λ among. free (Contains-append_right (y ∷ []) ys x among)))
+  where
+    either : Contains (ys ++ x ∷ []) y → Contains (y ∷ ys) x
+    either among = elim (Contains-push_cases ys x y among) [ inl there ↦ absurd (apart.0 there) | inr same ↦ subst (Contains (y ∷ ys)) (sym same) (first_there y ys) ]
 
 -- a group isn't among those before it
-pub apart_not : (xs : List TagGroup) (y : TagGroup) (ys : List TagGroup) → AreApart (xs ++ y ∷ ys) → Among y xs → ⊥
-apart_not [] y ys apart none = none
-apart_not (x ∷ xs) y ys apart among = elim among [ inl same ↦ apart.0 (behind xs (sym same)) | inr more ↦ apart_not xs y ys apart.1 more ]
-  where
-    behind : (zs : List TagGroup) → x ≡ y → Among x (zs ++ y ∷ ys)
-    behind [] same = inl same
-    behind (z ∷ zs) same = inr (behind zs same)
+pub apart_not : (xs : List TagGroup) (y : TagGroup) (ys : List TagGroup) → AreApart (xs ++ y ∷ ys) → Contains xs y → ⊥
+apart_not [] y ys apart among = none_there y among
+apart_not (x ∷ xs) y ys apart among = elim (Contains-append_cases (x ∷ []) xs y among) [
+  | inl first ↦ elim (Contains-push_cases [] x y first) [ inl none ↦ none_there y none | inr same ↦ apart.0 (subst (Contains (xs ++ y ∷ ys)) (sym same) (Contains-append_right xs (y ∷ ys) y (first_there y ys))) ]
+  | inr more ↦ apart_not xs y ys apart.1 more
+]
 
 map_middle : (xs : List TagValue) (y : TagValue) (ys : List TagValue) → map group_of (xs ++ y ∷ ys) ≡ map group_of xs ++ group_of y ∷ map group_of ys
 map_middle [] y ys = refl
@@ -134,7 +137,7 @@ module _ (allowed : List TagGroup) (args : List Argument) where
   pub taken_begins : IsTaken allowed args [] [] args
   taken_begins = record { so_far = chain_begins (IsAllowed allowed) IsPlain args; taken_is = refl; apart = tt }
 
-  pub taken_more : (tag_values : List TagValue) (taken : List TagGroup) (rest : List Argument) → IsTaken allowed args tag_values taken rest → (s : TagValue) (after : List Argument) → IsAllowed allowed s rest after → (Among (group_of s) taken → ⊥) → IsTaken allowed args (tag_values ++ s ∷ []) (taken ++ group_of s ∷ []) after
+  pub taken_more : (tag_values : List TagValue) (taken : List TagGroup) (rest : List Argument) → IsTaken allowed args tag_values taken rest → (s : TagValue) (after : List Argument) → IsAllowed allowed s rest after → (Contains taken (group_of s) → ⊥) → IsTaken allowed args (tag_values ++ s ∷ []) (taken ++ group_of s ∷ []) after
   taken_more tag_values taken rest kept s after at free = record {
     so_far = chain_more (IsAllowed allowed) IsPlain args tag_values rest s after kept.so_far at (λ y to also. tag_value_only s y rest after to at.0 also.0) (plain_none s rest after at.0);
     taken_is = ap (λ l. l ++ group_of s ∷ []) kept.taken_is ∙ sym (map_middle tag_values s []);
@@ -149,15 +152,11 @@ module _ (allowed : List TagGroup) (args : List Argument) where
   )
 
   -- a tag stands there, and no tag of a free group
-  pub taken_fails : (tag_values : List TagValue) (taken : List TagGroup) (rest : List Argument) → IsTaken allowed args tag_values taken rest → (IsPlain rest → ⊥) → ((s : TagValue) (to : List Argument) → IsAllowed allowed s rest to → (Among (group_of s) taken → ⊥) → ⊥) → (others : List TagValue) (positional : List Argument) → IsSplit allowed args others positional → ⊥
+  pub taken_fails : (tag_values : List TagValue) (taken : List TagGroup) (rest : List Argument) → IsTaken allowed args tag_values taken rest → (IsPlain rest → ⊥) → ((s : TagValue) (to : List Argument) → IsAllowed allowed s rest to → (Contains taken (group_of s) → ⊥) → ⊥) → (others : List TagValue) (positional : List Argument) → IsSplit allowed args others positional → ⊥
   taken_fails tag_values taken rest kept begun none others positional is = let found = kept.so_far.only others positional is.written is.plain in last found.0 found.1.0 found.1.1
     where
       last : (more : List TagValue) → others ≡ tag_values ++ more → Chain (IsAllowed allowed) more rest positional → ⊥
       last [] same at = begun (subst IsPlain (sym at) is.plain)
       last (y ∷ ys) same chain =
           let all : AreApart (map group_of tag_values ++ group_of y ∷ map group_of ys) = subst AreApart (ap (map group_of) same ∙ map_middle tag_values y ys) is.once in
-          none y chain.0 chain.1.0 (λ among. apart_not (map group_of tag_values) (group_of y) (map group_of ys) all (subst (Among (group_of y)) kept.taken_is among))
-
--- the group at this place is among them
-pub among_at : (group : TagGroup) (groups : List TagGroup) (i : ℕ) → i < length groups → group ≡ get_or groups i group → Among group (drop i groups)
-among_at group groups i within same = rw (drop-cons groups i group within) (inl same)
+          none y chain.0 chain.1.0 (λ among. apart_not (map group_of tag_values) (group_of y) (map group_of ys) all (subst (λ l. Contains l (group_of y)) kept.taken_is among))

@@ -1,6 +1,6 @@
 -- Lemmas on tests.
-use Rattle.std.proofs.Common.{◌≡◌, ◌++◌, ℕ, ◌≤◌, ◌<◌, ◌+◌, List, [], ◌∷◌, length, map, Result, Ok, Err, Vec, Global, IfOk, refl, sym, ap, ◌∙◌, subst, arith, max, suc}
-use Rattle.sievelex.specs.declared.token.Kind.TheVariants as K
+use Rattle.std.proofs.Common.{◌≡◌, ◌++◌, ℕ, ◌≤◌, ◌<◌, ◌+◌, List, [], ◌∷◌, length, map, Result, Ok, Err, Vec, Global, refl, sym, ap, ◌∙◌, subst, arith, max, suc}
+use Rattle.sievelex.specs.declared.token.Mark.TheVariants as K
 use Rattle.sievesyntax.specs.declared.table.keyword.Keyword.{Keyword}
 use Rattle.sievesyntax.specs.declared.table.keyword.Keyword.TheVariants as W
 use Rattle.sievesyntax.specs.declared.parser.argument.Argument.{Argument}
@@ -12,7 +12,7 @@ use Rattle.sievesyntax.specs.Table.{IsPlainTest}
 use Rattle.sievesyntax.specs.Tree.{TestTree, yes, no, looks, not_of, all_of, any_of, Tests, no_tests, test, list_depth, lists_depth, not_depth, nots_depth}
 use Rattle.sievesyntax.specs.declared.error.ReadError.{ReadError}
 use Rattle.sievesyntax.specs.declared.tree.test.Test.{Test}
-use Rattle.sievesyntax.specs.Parsing.{IfFault, Parses, StandsNowhere, Adds, AddsAlone}
+use Rattle.sievesyntax.specs.Parsing.{Parses, ParsesMore}
 use Rattle.sievesyntax.specs.View.{test_view, tests_view, tests_of}
 use Rattle.sievesyntax.specs.Valid.{MayTest, MayAllTest}
 use Rattle.sievesyntax.specs.Tests.{IsPlain, IsTest, AreTests, AreMoreTests, ReadsTest}
@@ -306,11 +306,10 @@ module _ (granted : Capabilities) (lists nots : ℕ) (from inside : List Lexeme)
 
       -- what the tests after the first one come to
       pub tests_after : (one : List Test) (to : List Lexeme) (r : Result (Vec Test Global) ReadError) → map test_view one ≡ first ∷ []
-          → IfOk r (λ all. Adds test_view (TakesMoreTests granted fewer nots) one all.items next to) → IfOk r (λ all. AddsAlone test_view (TakesMoreTests granted fewer nots) one all.items next to)
-          → IfFault r (StandsNowhere (TakesMoreTests granted fewer nots) next) → Parses (λ v. tests_view v.items) (TakesTests granted lists nots) from to r
-      tests_after one to (Ok all) is adds alone fault =
-          tests_found (map test_view all.items) to (adds.0, (adds.1.0 ∙ ap (λ xs. xs ++ adds.0) is, adds.1.1)) (λ trees end chain. let same = alone trees end chain in (same.0 ∙ ap (λ xs. xs ++ trees) is, same.1))
-      tests_after one to (Err e) is adds alone fault = fault_on e _ _ tests_no_more fault
+          → ParsesMore (λ all. map test_view all.items) (TakesMoreTests granted fewer nots) (map test_view one) next to r → Parses (λ v. tests_view v.items) (TakesTests granted lists nots) from to r
+      tests_after one to (Ok all) is more =
+          tests_found (map test_view all.items) to (more.0.0, (more.0.1.0 ∙ ap (λ xs. xs ++ more.0.0) is, more.0.1.1)) (λ trees end chain. let same = more.1 trees end chain in (same.0 ∙ ap (λ xs. xs ++ trees) is, same.1))
+      tests_after one to (Err e) is none = fault_on e _ _ tests_no_more none
 
 module _ (granted : Capabilities) (lists nots : ℕ) (whole : List Lexeme) (so_far : List TestTree) (rest : List Lexeme) (so : IsSoFar (TakesNextTest granted lists nots) (IsMarked K.CloseParen) whole so_far rest) where
   -- neither a comma nor the close parenthesis

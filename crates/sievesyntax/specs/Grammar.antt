@@ -1,6 +1,6 @@
 -- The grammar of commands (RFC 5228, 8.2).
 use Rattle.std.specs.Prelude.{◌≡◌, ◌⊎◌, List, [], ◌∷◌}
-use Rattle.sievelex.specs.declared.token.Kind.TheVariants as K
+use Rattle.sievelex.specs.declared.token.Mark.TheVariants as K
 use Rattle.sievesyntax.specs.declared.table.keyword.Keyword.{Keyword}
 use Rattle.sievesyntax.specs.declared.table.keyword.Keyword.TheVariants as W
 use Rattle.sievesyntax.specs.declared.parser.argument.Argument.{Argument}

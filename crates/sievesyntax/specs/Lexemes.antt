@@ -2,12 +2,9 @@
 use Rattle.std.specs.Prelude.{ℕ, Bool, cond, nat_eq, List, map, codes}
 use Rattle.std.specs.Cmp.Lexicographic.{pointwise}
 use Rattle.octets.specs.Ascii.{lowered}
-use Rattle.sievelex.specs.declared.token.Kind.{Kind}
-use Rattle.sievelex.specs.declared.token.Kind.TheVariants as K
-use Rattle.sievelex.specs.declared.token.Value.{Value}
-use Rattle.sievelex.specs.declared.token.Value.TheVariants as V
-use Rattle.sievelex.specs.declared.token.Token.{Token}
-use Rattle.sievelex.specs.Unpacked.{Saying}
+use Rattle.sievelex.specs.declared.token.Mark.{Mark}
+use Rattle.sievelex.specs.declared.token.Content.{Content}
+use Rattle.sievelex.specs.declared.token.Content.TheVariants as C
 use Rattle.sievesyntax.specs.declared.table.keyword.Keyword.{Keyword}
 use Rattle.sievesyntax.specs.declared.table.keyword.Keyword.TheVariants as W
 use Rattle.sievesyntax.specs.declared.table.tag.Tag.{Tag}
@@ -64,40 +61,29 @@ tag_of name =
     (cond (same_name name (codes "handle")) T.Handle
     T.Other))))))))))))))
 
--- a word of the grammar (RFC 5228, 8.2); a mark is known by its kind
+-- a word of the grammar (RFC 5228, 8.2)
 pub data Lexeme : Type 0 where
   keyword : Keyword → Lexeme
   tag : Tag → Lexeme
   number : ℕ → Lexeme
   text : List ℕ → Lexeme
-  mark : Kind → Lexeme
+  mark : Mark → Lexeme
 
 -- lexemes in a row
 abbrev pub Lexemes : Type 0
 Lexemes = List Lexeme
 
-abbrev pub lexeme : Value → Kind → Lexeme
-lexeme (V.Chars name) K.Identifier = keyword (keyword_of name)
-lexeme (V.Chars name) K.Tag = tag (tag_of name)
-lexeme (V.Chars value) K.Text = text value
-lexeme (V.Amount n) K.Number = number n
-lexeme _ kind = mark kind
-
--- what the grammar sees of a token: not its place, nor the case of its name
-abbrev pub lexeme_of : Token → Lexeme
-lexeme_of token = lexeme token.value token.kind
+-- what the grammar sees of a token: not the case of its name
+abbrev pub lexeme_of : Content → Lexeme
+lexeme_of (C.Identifier name) = keyword (keyword_of name)
+lexeme_of (C.Tag name) = tag (tag_of name)
+lexeme_of (C.Number n) = number n
+lexeme_of (C.Text value) = text value
+lexeme_of (C.Mark m) = mark m
 
 -- the same of tokens in a row
-abbrev pub lexemes : List Token → List Lexeme
-lexemes tokens = map lexeme_of tokens
-
--- the same of what a token is and says
-abbrev pub lexeme_said : Saying → Lexeme
-lexeme_said saying = lexeme saying.1 saying.0
-
--- the same of what tokens in a row are and say
-abbrev pub lexemes_said : List Saying → List Lexeme
-lexemes_said sayings = map lexeme_said sayings
+abbrev pub lexemes_of : List Content → List Lexeme
+lexemes_of contents = map lexeme_of contents
 
 -- the lexeme that a borrowed one stands for
 abbrev pub lexeme_view : BorrowedLexeme → Lexeme
@@ -105,4 +91,4 @@ lexeme_view (S.Keyword w) = keyword w
 lexeme_view (S.Tag t) = tag t
 lexeme_view (S.Number n) = number n
 lexeme_view (S.Text value) = text value.now
-lexeme_view (S.Mark kind) = mark kind
+lexeme_view (S.Mark m) = mark m

@@ -2,7 +2,8 @@
 use Rattle.std.specs.Prelude.{ℕ, List}
 use Rattle.sievelex.specs.declared.token.Token.{Token}
 use Rattle.sievelex.specs.Spelling.{Spells}
-use Rattle.sievesyntax.specs.Lexemes.{lexemes}
+use Rattle.sievelex.specs.Contents.{contents_of}
+use Rattle.sievesyntax.specs.Lexemes.{lexemes_of}
 use Rattle.sievesyntax.specs.Tree.{Commands}
 use Rattle.sievesyntax.specs.Grammar.{Reads}
 use Rattle.sievesyntax.specs.Valid.{IsValid}
@@ -11,5 +12,5 @@ use Rattle.sievesyntax.specs.Valid.{IsValid}
 pub record Means (text : List ℕ) (tree : Commands) : Type 0 where
   pub tokens : List Token
   pub spelled : Spells text tokens
-  pub read : Reads tree (lexemes tokens)
+  pub read : Reads tree (lexemes_of (contents_of tokens))
   pub valid : IsValid tree

@@ -1,8 +1,8 @@
 -- What a part of the parser answers.
-use Rattle.std.specs.Prelude.{◌≡◌, List, ◌∷◌, ◌++◌, map, Result, Ok, Err}
+use Rattle.std.specs.Prelude.{◌≡◌, List, ◌∷◌, ◌++◌, Result, Ok, Err}
 use Rattle.sievesyntax.specs.declared.error.ReadError.{ReadError}
 use Rattle.sievesyntax.specs.declared.error.ReadError.TheVariants.{Memory, Fault}
-use Rattle.sievelex.specs.declared.token.Kind.{Kind}
+use Rattle.sievelex.specs.declared.token.Mark.{Mark}
 use Rattle.sievesyntax.specs.Lexemes.{Lexeme, mark}
 
 -- this holds where the error is a fault of the script; lack of memory says nothing
@@ -46,13 +46,12 @@ Extends {Y} P old new from to = (more : List Y) × ((new ≡ old ++ more) × P m
 abbrev pub ExtendsAlone : {Y : Type 0} → (List Y → List Lexeme → List Lexeme → Type 0) → List Y → List Y → List Lexeme → List Lexeme → Type 0
 ExtendsAlone {Y} P old new from to = (more : List Y) (end : List Lexeme) → P more from end → (new ≡ old ++ more) × (end ≡ to)
 
--- the same of both, as what was read is seen
-abbrev pub Adds : {X Y : Type 0} → (X → Y) → (List Y → List Lexeme → List Lexeme → Type 0) → List X → List X → List Lexeme → List Lexeme → Type 0
-Adds view P old new from to = Extends P (map view old) (map view new) from to
-
-abbrev pub AddsAlone : {X Y : Type 0} → (X → Y) → (List Y → List Lexeme → List Lexeme → Type 0) → List X → List X → List Lexeme → List Lexeme → Type 0
-AddsAlone view P old new from to = ExtendsAlone P (map view old) (map view new) from to
+-- those with P at the front of `from` are added after the old ones, up to `to`, and no others stand there; or a
+-- fault where none do
+abbrev pub ParsesMore : {X Y : Type 0} → (X → List Y) → (List Y → List Lexeme → List Lexeme → Type 0) → List Y → List Lexeme → List Lexeme → Result X ReadError → Type 0
+ParsesMore view P old from to (Ok all) = Extends P old (view all) from to × ExtendsAlone P old (view all) from to
+ParsesMore view P old from to (Err e) = OnFault e (StandsNowhere P from)
 
 -- what stands there up to a mark, and the mark
-abbrev pub Closed : {Y : Type 0} → Kind → (Y → List Lexeme → List Lexeme → Type 0) → Y → List Lexeme → List Lexeme → Type 0
+abbrev pub Closed : {Y : Type 0} → Mark → (Y → List Lexeme → List Lexeme → Type 0) → Y → List Lexeme → List Lexeme → Type 0
 Closed kind P y from to = P y from (mark kind ∷ to)

@@ -1,5 +1,6 @@
 -- Tagged arguments: each tag with its value, in any order, and then the positional arguments (RFC 5228, 2.6.2).
-use Rattle.std.specs.Prelude.{◌≡◌, ◌⊎◌, ℕ, List, [], ◌∷◌, map, codes, Option, Some, None}
+use Rattle.std.specs.Prelude.{◌≡◌, ℕ, List, [], ◌∷◌, map, codes, Option, Some, None}
+use Rattle.std.specs.List.{Contains}
 use Rattle.sievesyntax.specs.declared.table.tag.Tag.{Tag}
 use Rattle.sievesyntax.specs.declared.table.tag.Tag.TheVariants as T
 use Rattle.sievesyntax.specs.declared.tree.checks.Bound.{Bound}
@@ -72,19 +73,14 @@ group_of (S.Addresses _) = P.Addresses
 group_of S.Mime = P.Mime
 group_of (S.Handle _) = P.Handle
 
--- is one of these groups
-abbrev pub Among : TagGroup → List TagGroup → Type 0
-Among group [] = ⊥
-Among group (first ∷ more) = (group ≡ first) ⊎ Among group more
-
 -- no group stands twice
 abbrev pub AreApart : List TagGroup → Type 0
 AreApart [] = Unit {0}
-AreApart (first ∷ more) = (Among first more → ⊥) × AreApart more
+AreApart (first ∷ more) = (Contains more first → ⊥) × AreApart more
 
 -- a tag of one of these groups stands at the front
 abbrev pub IsAllowed : List TagGroup → TagValue → List Argument → List Argument → Type 0
-IsAllowed allowed tag_value from to = IsTagValue tag_value from to × Among (group_of tag_value) allowed
+IsAllowed allowed tag_value from to = IsTagValue tag_value from to × Contains allowed (group_of tag_value)
 
 -- no tag stands first
 abbrev pub IsPlain : List Argument → Type 0
@@ -112,4 +108,4 @@ IsSplitAlone allowed args tag_values positional =
 
 -- no tag of an allowed group that isn't taken stands first
 abbrev pub HasNoTag : List TagGroup → List TagGroup → List Argument → Type 0
-HasNoTag allowed taken args = (s : TagValue) (to : List Argument) → IsAllowed allowed s args to → (Among (group_of s) taken → ⊥) → ⊥
+HasNoTag allowed taken args = (s : TagValue) (to : List Argument) → IsAllowed allowed s args to → (Contains taken (group_of s) → ⊥) → ⊥

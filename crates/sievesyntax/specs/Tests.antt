@@ -1,7 +1,7 @@
 -- The grammar of tests (RFC 5228, 8.2).
 use Rattle.std.specs.Prelude.{◌≡◌, List, ◌∷◌}
-use Rattle.sievelex.specs.declared.token.Kind.{Kind}
-use Rattle.sievelex.specs.declared.token.Kind.TheVariants as K
+use Rattle.sievelex.specs.declared.token.Mark.{Mark}
+use Rattle.sievelex.specs.declared.token.Mark.TheVariants as K
 use Rattle.sievesyntax.specs.declared.table.keyword.Keyword.{Keyword}
 use Rattle.sievesyntax.specs.declared.table.keyword.Keyword.TheVariants as W
 use Rattle.sievesyntax.specs.declared.parser.argument.Argument.{Argument}
@@ -15,7 +15,7 @@ abbrev pub Headed : (Keyword → List Lexeme → Type 0) → List Lexeme → Typ
 Headed P from = (name : Keyword) × ((behind : List Lexeme) × ((from ≡ keyword name ∷ behind) × P name behind))
 
 -- a mark stands at the front, and this is so of what is after it
-abbrev pub Marked : Kind → (List Lexeme → Type 0) → List Lexeme → Type 0
+abbrev pub Marked : Mark → (List Lexeme → Type 0) → List Lexeme → Type 0
 Marked kind P from = (behind : List Lexeme) × ((from ≡ mark kind ∷ behind) × P behind)
 
 -- test = identifier arguments, after its identifier, for the tests that have no test in them

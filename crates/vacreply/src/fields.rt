@@ -32,12 +32,7 @@ pub(crate) fn is_automatic(mail: &Mail<'_>) -> bool
 fn has_automatic(fields: &[Field<'_>]) -> bool
     ensures { result ≡ list_any (λ field. cases.has_value (codes "auto-submitted" ∷ []) cases.is_automatic (text_of field)) fields.now }
 {
-    for field in fields {
-        if is_automatic_field(field) {
-            return true;
-        }
-    }
-    false
+    fields.iter().any(|field| is_automatic_field(field))
 }
 
 fn is_automatic_field(field: &Field<'_>) -> bool
@@ -62,12 +57,7 @@ pub(crate) fn is_list_mail(mail: &Mail<'_>) -> bool
 fn has_list_field(fields: &[Field<'_>]) -> bool
     ensures { result ≡ list_any (λ field. cases.has_value cases.list_fields (λ value. true) (text_of field)) fields.now }
 {
-    for field in fields {
-        if is_list_field(field) {
-            return true;
-        }
-    }
-    false
+    fields.iter().any(|field| is_list_field(field))
 }
 
 fn is_list_field(field: &Field<'_>) -> bool
@@ -86,12 +76,7 @@ pub(crate) fn is_bulk(mail: &Mail<'_>) -> bool
 fn has_bulk(fields: &[Field<'_>]) -> bool
     ensures { result ≡ list_any (λ field. cases.has_value (codes "precedence" ∷ []) cases.is_bulk (text_of field)) fields.now }
 {
-    for field in fields {
-        if is_bulk_field(field) {
-            return true;
-        }
-    }
-    false
+    fields.iter().any(|field| is_bulk_field(field))
 }
 
 fn is_bulk_field(field: &Field<'_>) -> bool

@@ -1,8 +1,8 @@
 //! Arguments, by the grammar alone (RFC 5228, 8.2).
 ghost use Rattle.std.specs.Prelude.{◌≡◌, ℕ, List, [], ◌∷◌, ◌++◌, Result, Ok, MatchOption, IfOk, true, false};
-ghost use Rattle.sievelex.specs.declared.token.Kind.TheVariants as K;
+ghost use Rattle.sievelex.specs.declared.token.Mark.TheVariants as K;
 ghost use Rattle.sievesyntax.specs.Lexemes.{Lexemes, text, mark};
-ghost use Rattle.sievesyntax.specs.Parsing.{IfFault, Parses, StandsAlone, StandsNowhere, Extends, ExtendsAlone, Closed};
+ghost use Rattle.sievesyntax.specs.Parsing.{IfFault, Parses, ParsesMore, StandsAlone, StandsNowhere, Closed};
 ghost use Rattle.sievesyntax.specs.Chains.{Chain};
 
 use crate::error::ReadError;
@@ -10,7 +10,7 @@ use crate::parser::lexeme::Lexeme;
 use crate::parser::reader::Reader;
 use crate::table::tag::Tag;
 use octets::{Octets, Texts};
-use sievelex::{FaultKind, Kind};
+use sievelex::{FaultKind, Mark};
 use std::alloc::Global;
 
 /// An argument of a command or a test.
@@ -63,9 +63,9 @@ fn read_argument(alloc: Global, reader: &mut Reader<'_>) -> Result<Option<Argume
         }
         Lexeme::Text(string) => {
             *reader = after;
-            Ok(Some(Argument::Text(Octets::copy(alloc, string)?)))
+            Ok(Some(Argument::Text(Octets::from_slice(alloc, string)?)))
         }
-        Lexeme::Mark(Kind::OpenBracket) => {
+        Lexeme::Mark(Mark::OpenBracket) => {
             *reader = after;
             Ok(Some(Argument::Strings(read_strings(alloc, reader)?)))
         }
@@ -84,19 +84,17 @@ fn read_strings(alloc: Global, reader: &mut Reader<'_>) -> Result<Texts, ReadErr
 
 /// The other strings of a list, and its close bracket.
 fn read_others(alloc: Global, reader: &mut Reader<'_>, strings: Texts) -> Result<Texts, ReadError>
-    ensures found { IfOk result (λ all. Extends (Closed K.CloseBracket (Chain IsOther)) strings all reader.old reader.new) }
-    ensures only { IfOk result (λ all. ExtendsAlone (Closed K.CloseBracket (Chain IsOther)) strings all reader.old reader.new) }
-    ensures fault { IfFault result (StandsNowhere (Closed K.CloseBracket (Chain IsOther)) reader.old) }
+    ensures { ParsesMore (λ all. all) (Closed K.CloseBracket (Chain IsOther)) strings reader.old reader.new result }
 {
     let mut strings = strings;
-    'others: while read_separator(reader, Kind::CloseBracket)? {
+    'others: while read_separator(reader, Mark::CloseBracket)? {
         strings.push(read_text(alloc, reader)?)?;
     }
     Ok(strings)
 }
 
 /// Whether a comma stands at the front, and not this closing mark.
-pub(crate) fn read_separator(reader: &mut Reader<'_>, close: Kind) -> Result<bool, ReadError>
+pub(crate) fn read_separator(reader: &mut Reader<'_>, close: Mark) -> Result<bool, ReadError>
     ensures comma { result ≡ Ok true → reader.old ≡ mark K.Comma ∷ reader.new }
     ensures closed { result ≡ Ok false → reader.old ≡ mark close ∷ reader.new }
     ensures no_comma { IfFault result ((to : Lexemes) → reader.old ≡ mark K.Comma ∷ to → ⊥) }
@@ -107,8 +105,8 @@ pub(crate) fn read_separator(reader: &mut Reader<'_>, close: Kind) -> Result<boo
     };
     *reader = after;
     match lexeme {
-        Lexeme::Mark(kind) if kind == Kind::Comma => Ok(true),
-        Lexeme::Mark(kind) if kind == close => Ok(false),
+        Lexeme::Mark(mark) if mark == Mark::Comma => Ok(true),
+        Lexeme::Mark(mark) if mark == close => Ok(false),
         _ => Err(ReadError::Fault(FaultKind::Unexpected)),
     }
 }
@@ -123,7 +121,7 @@ fn read_text(alloc: Global, reader: &mut Reader<'_>) -> Result<Octets, ReadError
     };
     *reader = after;
     match lexeme {
-        Lexeme::Text(string) => Ok(Octets::copy(alloc, string)?),
+        Lexeme::Text(string) => Ok(Octets::from_slice(alloc, string)?),
         _ => Err(ReadError::Fault(FaultKind::Unexpected)),
     }
 }

@@ -2,7 +2,7 @@
 ghost use Rattle.std.specs.Prelude.{◌≡◌, ◌↔◌, ◌++◌, ◌∷◌, [], ℕ, List, IfOk, IsTrue, MatchBool, map};
 ghost use Rattle.sievesyntax.specs.declared.table.keyword.Keyword.TheVariants as W;
 ghost use Rattle.sievesyntax.specs.Lexemes.{Lexemes, keyword};
-ghost use Rattle.sievesyntax.specs.Parsing.{IfFault, Parses, StandsNowhere, Adds, AddsAlone};
+ghost use Rattle.sievesyntax.specs.Parsing.{Parses, ParsesMore};
 ghost use Rattle.sievesyntax.specs.Tree.{TestTree, CommandTree, Commands};
 ghost use Rattle.sievesyntax.specs.View.{branch_view, command_view, commands_view};
 ghost use Rattle.sievesyntax.specs.Grammar.{IsPastBranches};
@@ -18,7 +18,7 @@ use crate::table::command::plain_command;
 use crate::table::keyword::Keyword;
 use crate::tree::command::{Branch, Command};
 use crate::tree::test::Test;
-use sievelex::{FaultKind, Kind};
+use sievelex::{FaultKind, Mark};
 use std::alloc::{AllocError, Global};
 
 /// How many test lists may enclose a test at most: it bounds the stack of the check.
@@ -36,9 +36,7 @@ pub(crate) fn read_commands(
     room: usize,
     commands: Vec<Command>,
 ) -> Result<Vec<Command>, ReadError>
-    ensures found { IfOk result (λ all. Adds command_view (TakesAll granted room) commands.items all.items reader.old reader.new) }
-    ensures only { IfOk result (λ all. AddsAlone command_view (TakesAll granted room) commands.items all.items reader.old reader.new) }
-    ensures fault { IfFault result (StandsNowhere (TakesAll granted room) reader.old) }
+    ensures { ParsesMore (λ all. map command_view all.items) (TakesAll granted room) (map command_view commands.items) reader.old reader.new result }
 {
     let mut commands = commands;
     'commands: while !is_stop(reader) {
@@ -105,9 +103,7 @@ fn read_elsifs(
     room: usize,
     branches: Vec<Branch>,
 ) -> Result<Vec<Branch>, ReadError>
-    ensures found { IfOk result (λ all. Adds branch_view (TakesElsifs granted room) branches.items all.items reader.old reader.new) }
-    ensures only { IfOk result (λ all. AddsAlone branch_view (TakesElsifs granted room) branches.items all.items reader.old reader.new) }
-    ensures fault { IfFault result (StandsNowhere (TakesElsifs granted room) reader.old) }
+    ensures { ParsesMore (λ all. map branch_view all.items) (TakesElsifs granted room) (map branch_view branches.items) reader.old reader.new result }
 {
     let mut branches = branches;
     'elsifs: while take_elsif(reader) {
@@ -126,9 +122,7 @@ fn read_else(
     branches: Vec<Branch>,
 ) -> Result<Vec<Branch>, ReadError>
     requires { IsPastElsif reader.old }
-    ensures found { IfOk result (λ all. Adds branch_view (TakesElse granted room) branches.items all.items reader.old reader.new) }
-    ensures only { IfOk result (λ all. AddsAlone branch_view (TakesElse granted room) branches.items all.items reader.old reader.new) }
-    ensures fault { IfFault result (StandsNowhere (TakesElse granted room) reader.old) }
+    ensures { ParsesMore (λ all. map branch_view all.items) (TakesElse granted room) (map branch_view branches.items) reader.old reader.new result }
 {
     let mut branches = branches;
     if take_else(reader) {
@@ -151,13 +145,13 @@ fn read_block(
 ) -> Result<Vec<Command>, ReadError>
     ensures { Parses (λ v. commands_view v.items) (TakesBlock granted room) reader.old reader.new result }
 {
-    reader.read_mark(Kind::OpenBrace)?;
+    reader.read_mark(Mark::OpenBrace)?;
     if room == 0 {
         return Err(ReadError::Fault(FaultKind::TooDeep));
     }
     let none = no_commands(alloc, reader)?;
     let block = read_commands(alloc, reader, granted, room - 1, none)?;
-    reader.read_mark(Kind::CloseBrace)?;
+    reader.read_mark(Mark::CloseBrace)?;
     Ok(block)
 }
 
@@ -185,7 +179,7 @@ fn read_statement(
 {
     let args = read_arguments(alloc, reader)?;
     let command = plain_command(alloc, name, args.as_slice(), granted)?;
-    reader.read_mark(Kind::Semicolon)?;
+    reader.read_mark(Mark::Semicolon)?;
     Ok(command)
 }
 
@@ -195,7 +189,7 @@ fn is_stop(reader: &Reader<'_>) -> bool
 {
     match reader.split_first() {
         None => true,
-        Some((Lexeme::Mark(Kind::CloseBrace), _)) => true,
+        Some((Lexeme::Mark(Mark::CloseBrace), _)) => true,
         Some(_) => false,
     }
 }

@@ -1,14 +1,14 @@
 //! The tokens that are still to be read.
 ghost use Rattle.std.specs.Prelude.{◌≡◌, List, [], ◌∷◌, length, MatchOption, IfOk, OnOk};
 ghost use Rattle.sievesyntax.specs.declared.table.keyword.Keyword.{Keyword};
-ghost use Rattle.sievelex.specs.Said.{said};
-ghost use Rattle.sievesyntax.specs.Lexemes.{Lexemes, keyword, mark, lexemes_said, lexeme_view};
+ghost use Rattle.sievelex.specs.Contents.{contents};
+ghost use Rattle.sievesyntax.specs.Lexemes.{Lexemes, keyword, mark, lexemes_of, lexeme_view};
 ghost use Rattle.sievesyntax.specs.Parsing.{IfFault};
 
 use crate::error::ReadError;
 use crate::parser::lexeme::{Lexeme, lexeme_of};
 use crate::table::keyword::Keyword;
-use sievelex::{Cursor, FaultKind, Kind, Packed};
+use sievelex::{Cursor, FaultKind, Mark, Packed};
 use std::marker::Model;
 
 /// The tokens that are still to be read. Contracts see the lexemes.
@@ -19,17 +19,17 @@ pub struct Reader<'a> {
 
 impl<'a> Model for Reader<'a> {
     ghost use Rattle.std.specs.Prelude.{List};
-    ghost use Rattle.sievesyntax.specs.Lexemes.{Lexeme, lexemes_said};
+    ghost use Rattle.sievesyntax.specs.Lexemes.{Lexeme, lexemes_of};
 
     ghost Value = { List Lexeme };
 
-    ghost view = { λ r. lexemes_said r.rest };
+    ghost view = { λ r. lexemes_of r.rest };
 }
 
 impl<'a> Reader<'a> {
     /// Before the first of these tokens.
     pub(crate) fn new(tokens: &'a Packed) -> Reader<'a>
-        ensures { result ≡ lexemes_said (said tokens.now) }
+        ensures { result ≡ lexemes_of (contents tokens.now) }
     {
         Reader {
             rest: tokens.cursor(),
@@ -52,7 +52,7 @@ impl<'a> Reader<'a> {
     }
 
     /// Reads this mark.
-    pub(crate) fn read_mark(&mut self, wanted: Kind) -> Result<(), ReadError>
+    pub(crate) fn read_mark(&mut self, wanted: Mark) -> Result<(), ReadError>
         ensures found { OnOk result (self.old ≡ mark wanted ∷ self.new) }
         ensures fault { IfFault result ((to : Lexemes) → self.old ≡ mark wanted ∷ to → ⊥) }
     {
@@ -61,7 +61,7 @@ impl<'a> Reader<'a> {
         };
         *self = after;
         match lexeme {
-            Lexeme::Mark(kind) if kind == wanted => Ok(()),
+            Lexeme::Mark(mark) if mark == wanted => Ok(()),
             _ => Err(ReadError::Fault(FaultKind::Unexpected)),
         }
     }

@@ -19,7 +19,7 @@ use crate::table::keyword::Keyword;
 use crate::table::positional::read_list;
 use crate::tree::command::Command;
 use octets::Texts;
-use sievelex::Kind;
+use sievelex::Mark;
 use std::alloc::Global;
 
 /// How deep blocks may stand in blocks at most: it bounds the stack of the check.
@@ -79,6 +79,6 @@ fn read_names(alloc: Global, reader: &mut Reader<'_>) -> Result<Texts, ReadError
 {
     let args = read_arguments(alloc, reader)?;
     let names = read_list(alloc, args.as_slice())?;
-    reader.read_mark(Kind::Semicolon)?;
+    reader.read_mark(Mark::Semicolon)?;
     Ok(names)
 }

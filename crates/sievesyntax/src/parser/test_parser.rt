@@ -1,10 +1,10 @@
 //! Tests, by recursive descent: no deeper than test lists and `not`s may enclose them.
 ghost use Rattle.std.specs.Prelude.{◌≡◌, ◌++◌, ◌∷◌, ℕ, List, IfOk, map};
-ghost use Rattle.sievelex.specs.declared.token.Kind.TheVariants as K;
+ghost use Rattle.sievelex.specs.declared.token.Mark.TheVariants as K;
 ghost use Rattle.sievesyntax.specs.declared.table.keyword.Keyword.TheVariants as W;
 ghost use Rattle.sievesyntax.specs.Chains.{Chain};
 ghost use Rattle.sievesyntax.specs.Lexemes.{Lexemes, mark};
-ghost use Rattle.sievesyntax.specs.Parsing.{IfFault, Parses, StandsNowhere, Adds, AddsAlone};
+ghost use Rattle.sievesyntax.specs.Parsing.{Parses, ParsesMore};
 ghost use Rattle.sievesyntax.specs.Tree.{TestTree};
 ghost use Rattle.sievesyntax.specs.View.{test_view, tests_view};
 ghost use Rattle.sievesyntax.specs.Steps.{TakesTest, AsksAfter, TakesMoreTests, TakesTests};
@@ -16,7 +16,7 @@ use crate::table::capability::Capabilities;
 use crate::table::keyword::Keyword;
 use crate::table::test::plain_test;
 use crate::tree::test::Test;
-use sievelex::{FaultKind, Kind};
+use sievelex::{FaultKind, Mark};
 use std::alloc::Global;
 
 /// A test that may stand here: that many test lists and that many `not`s may enclose the tests within it.
@@ -68,7 +68,7 @@ fn read_tests(
 ) -> Result<Vec<Test>, ReadError>
     ensures { Parses (λ v. tests_view v.items) (TakesTests granted lists nots) reader.old reader.new result }
 {
-    reader.read_mark(Kind::OpenParen)?;
+    reader.read_mark(Mark::OpenParen)?;
     if lists == 0 {
         return Err(ReadError::Fault(FaultKind::TooDeep));
     }
@@ -87,12 +87,10 @@ fn read_more_tests(
     nots: usize,
     tests: Vec<Test>,
 ) -> Result<Vec<Test>, ReadError>
-    ensures found { IfOk result (λ all. Adds test_view (TakesMoreTests granted lists nots) tests.items all.items reader.old reader.new) }
-    ensures only { IfOk result (λ all. AddsAlone test_view (TakesMoreTests granted lists nots) tests.items all.items reader.old reader.new) }
-    ensures fault { IfFault result (StandsNowhere (TakesMoreTests granted lists nots) reader.old) }
+    ensures { ParsesMore (λ all. map test_view all.items) (TakesMoreTests granted lists nots) (map test_view tests.items) reader.old reader.new result }
 {
     let mut tests = tests;
-    'tests: while read_separator(reader, Kind::CloseParen)? {
+    'tests: while read_separator(reader, Mark::CloseParen)? {
         tests.push(read_test(alloc, reader, granted, lists, nots)?)?;
     }
     Ok(tests)

@@ -41,7 +41,7 @@ pub(crate) fn text(alloc: Global, args: &[Argument]) -> Result<Octets, ReadError
     ensures fault { IfFault result (one_text args.now ≡ None) }
 {
     match args {
-        [Argument::Text(string)] => Ok(string.copied(alloc)?),
+        [Argument::Text(string)] => Ok(string.try_clone(alloc)?),
         _ => Err(ReadError::Fault(count_fault(args, 1))),
     }
 }

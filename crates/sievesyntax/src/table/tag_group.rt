@@ -1,8 +1,9 @@
 //! Tagged arguments, in any order (RFC 5228, 2.6.2).
-ghost use Rattle.std.specs.Prelude.{◌≡◌, ◌↔◌, List, [], ◌∷◌, MatchOption, IfOk, IsTrue};
+ghost use Rattle.std.specs.Prelude.{◌≡◌, List, [], ◌∷◌, MatchOption, IfOk};
+ghost use Rattle.std.specs.List.{Contains};
 ghost use Rattle.sievesyntax.specs.declared.parser.argument.Argument.TheVariants as A;
 ghost use Rattle.sievesyntax.specs.Parsing.{IfFault};
-ghost use Rattle.sievesyntax.specs.Tags.{IsTagValue, group_of, Among, IsAllowed, IsPlain, IsSplit, IsSplitAlone, HasNoTag};
+ghost use Rattle.sievesyntax.specs.Tags.{IsTagValue, group_of, IsAllowed, IsPlain, IsSplit, IsSplitAlone, HasNoTag};
 
 use crate::error::ReadError;
 use crate::parser::argument::Argument;
@@ -106,7 +107,7 @@ fn next_tag<'a>(
     taken: &[TagGroup],
 ) -> Result<Option<(TagValue, &'a [Argument])>, ReadError>
     ensures found { IfOk result (λ o. MatchOption o (IsPlain args.now) (λ r. IsAllowed allowed.now r.0 args.now r.1.now)) }
-    ensures free { IfOk result (λ o. MatchOption o (Unit {0}) (λ r. Among (group_of r.0) taken.now → ⊥)) }
+    ensures free { IfOk result (λ o. MatchOption o (Unit {0}) (λ r. Contains taken.now (group_of r.0) → ⊥)) }
     ensures begun { IfFault result (IsPlain args.now → ⊥) }
     ensures fault { IfFault result (HasNoTag allowed.now taken.now args.now) }
 {
@@ -117,10 +118,10 @@ fn next_tag<'a>(
         return Ok(None);
     };
     let (tag_value, after) = tag_value_at(alloc, *tag, rest)?;
-    if !is_among(tag_value.group(), allowed) {
+    if !allowed.contains(&tag_value.group()) {
         return Err(ReadError::Fault(FaultKind::UnknownTag));
     }
-    if is_among(tag_value.group(), taken) {
+    if taken.contains(&tag_value.group()) {
         return Err(ReadError::Fault(FaultKind::DoubleTag));
     }
     Ok(Some((tag_value, after)))
@@ -171,21 +172,4 @@ fn tag_value_at<'a>(
         }
         Tag::Other => Err(ReadError::Fault(FaultKind::UnknownTag)),
     }
-}
-
-fn is_among(group: TagGroup, groups: &[TagGroup]) -> bool
-    ensures { IsTrue result ↔ Among group groups.now }
-{
-    for other in groups {
-        if is_same(group, *other) {
-            return true;
-        }
-    }
-    false
-}
-
-fn is_same(group: TagGroup, other: TagGroup) -> bool
-    ensures { IsTrue result ↔ group ≡ other }
-{
-    group == other
 }

@@ -88,7 +88,7 @@ pub(crate) fn given_subject(
 {
     for tag_value in tag_values {
         if let TagValue::Subject(subject) = tag_value {
-            return Ok(Some(subject.copied(alloc)?));
+            return Ok(Some(subject.try_clone(alloc)?));
         }
     }
     Ok(None)
@@ -103,7 +103,7 @@ pub(crate) fn given_handle(
 {
     for tag_value in tag_values {
         if let TagValue::Handle(handle) = tag_value {
-            return Ok(Some(handle.copied(alloc)?));
+            return Ok(Some(handle.try_clone(alloc)?));
         }
     }
     Ok(None)

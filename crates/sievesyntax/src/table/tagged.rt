@@ -46,7 +46,7 @@ pub(crate) fn text_at<'a>(
 {
     let (value, rest) = value_at(args)?;
     match value {
-        Argument::Text(string) => Ok((string.copied(alloc)?, rest)),
+        Argument::Text(string) => Ok((string.try_clone(alloc)?, rest)),
         _ => Err(ReadError::Fault(FaultKind::WrongArgument)),
     }
 }
@@ -96,21 +96,10 @@ pub(crate) fn strings(alloc: Global, value: &Argument) -> Result<Texts, ReadErro
     match value {
         Argument::Text(string) => {
             let mut strings = Texts::from_vec(Vec::with_capacity(alloc, 1)?);
-            strings.push(string.copied(alloc)?)?;
+            strings.push(string.try_clone(alloc)?)?;
             Ok(strings)
         }
-        Argument::Strings(strings) => copied(alloc, strings.as_slice()),
+        Argument::Strings(strings) => Ok(strings.try_clone(alloc)?),
         _ => Err(ReadError::Fault(FaultKind::WrongArgument)),
     }
-}
-
-fn copied(alloc: Global, strings: &[Octets]) -> Result<Texts, ReadError>
-    ensures found { IfOk result (λ xs. xs ≡ strings.now) }
-    ensures fault { IfFault result ⊥ }
-{
-    let mut copies = Texts::from_vec(Vec::with_capacity(alloc, strings.len())?);
-    for string in strings {
-        copies.push(string.copied(alloc)?)?;
-    }
-    Ok(copies)
 }

@@ -14,7 +14,7 @@ use crate::table::tag_group::{TagGroup, TagValue, split_tags};
 use crate::table::tag_values::{given_days, given_handle, given_mime, given_subject};
 use crate::tree::vacation::{ReplyFrom, VacArgs};
 use addrparts::{Addr, sieve_address};
-use octets::{ListOf, Octets};
+use octets::{List, Octets};
 use std::alloc::{AllocError, Global};
 
 /// The arguments of `vacation`.
@@ -97,14 +97,14 @@ fn reply_from(alloc: Global, text: &Octets) -> Result<ReplyFrom, ReadError>
 {
     let (display, address) = outbound(alloc, text.as_slice())?;
     Ok(ReplyFrom {
-        text: text.copied(alloc)?,
+        text: text.try_clone(alloc)?,
         display,
         address,
     })
 }
 
 /// The addresses of the texts of `:addresses`: none where it isn't given.
-fn given_addresses(alloc: Global, tag_values: &[TagValue]) -> Result<ListOf<Addr>, AllocError>
+fn given_addresses(alloc: Global, tag_values: &[TagValue]) -> Result<List<Addr>, AllocError>
     ensures { IfOk result (λ addresses. AreNamed (addresses_in tag_values.now) addresses) }
 {
     for tag_value in tag_values {
@@ -112,14 +112,14 @@ fn given_addresses(alloc: Global, tag_values: &[TagValue]) -> Result<ListOf<Addr
             return addresses_named(alloc, texts.as_slice());
         }
     }
-    Ok(ListOf::new(alloc))
+    Ok(List::new(alloc))
 }
 
 /// The addresses of those texts that name one.
-fn addresses_named(alloc: Global, texts: &[Octets]) -> Result<ListOf<Addr>, AllocError>
+fn addresses_named(alloc: Global, texts: &[Octets]) -> Result<List<Addr>, AllocError>
     ensures { IfOk result (λ addresses. AreNamed texts.now addresses) }
 {
-    let mut addresses = ListOf::new(alloc);
+    let mut addresses = List::new(alloc);
     for text in texts {
         add_named(alloc, &mut addresses, text.as_slice())?;
     }
@@ -127,7 +127,7 @@ fn addresses_named(alloc: Global, texts: &[Octets]) -> Result<ListOf<Addr>, Allo
 }
 
 /// Appends the address that the text names, if it names one.
-fn add_named(alloc: Global, addresses: &mut ListOf<Addr>, text: &[u8]) -> Result<(), AllocError>
+fn add_named(alloc: Global, addresses: &mut List<Addr>, text: &[u8]) -> Result<(), AllocError>
     ensures { OnOk result (AddsNamed text.now addresses.old addresses.new) }
 {
     match sieve_address(alloc, text)? {

@@ -2,7 +2,7 @@
 ghost use Rattle.std.specs.Prelude.{◌≡◌, IfOk};
 
 use addrparts::Addr;
-use octets::{ListOf, Octets};
+use octets::{List, Octets};
 use std::alloc::{AllocError, Global};
 use std::marker::Model;
 
@@ -50,7 +50,7 @@ pub struct VacArgs {
     pub from: Option<ReplyFrom>,
     /// `:addresses`: the addresses of the user besides those known already (RFC 5230, 4.5), in order. A text that
     /// is no address has none here.
-    pub addresses: ListOf<Addr>,
+    pub addresses: List<Addr>,
     /// `:mime`: the reason is a MIME entity, a header and a body (RFC 5230, 4.4).
     pub mime: bool,
     /// `:handle`: the name of the answer, under which it is known whether the sender has got it (RFC 5230, 4.2).

@@ -1,4 +1,4 @@
-use Rattle.std.proofs.Common.{Some, ap, ◌∙◌, Ok}
+use Rattle.std.proofs.Common.{ap, ◌∙◌, Ok}
 use Rattle.sqlite.specs.Held.{state}
 use Rattle.mailengine.proofs.LookupLemmas.{profile_there}
 use Rattle.mailengine.proofs.account.profile.Goals as goal

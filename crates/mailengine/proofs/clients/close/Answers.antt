@@ -1,4 +1,4 @@
-use Rattle.std.proofs.Common.{◌≡◌, rules}
+use Rattle.std.proofs.Common.{rules}
 use Rattle.mailengine.proofs.HostLemmas.{ignored_close, closed_now}
 use Rattle.mailengine.proofs.clients.close.Goals as goal
 

@@ -1,8 +1,8 @@
-use Rattle.std.proofs.Common.{◌≡◌, rules, Some, Ok, Err}
+use Rattle.std.proofs.Common.{◌≡◌, rules, Some}
 use Rattle.std.specs.Ordering.{nat_cmp}
 use Rattle.std.specs.BTreeMap as tree
 use Rattle.sqlite.specs.Held.{state}
-use Rattle.mailengine.specs.declared.answer.Answer.TheVariants.{Ignored, Refused}
+use Rattle.mailengine.specs.declared.answer.Answer.TheVariants.{Ignored}
 use Rattle.mailengine.specs.declared.event.Event.TheVariants.{Step}
 use Rattle.mailengine.specs.Hosts.{answer_of}
 use Rattle.mailengine.proofs.HostLemmas.{ignored_step, session_event, step_told, step_undone, step_crash}

@@ -1,4 +1,4 @@
-use Rattle.std.proofs.Common.{◌≡◌, ℕ, List, map, Err, IfSome, sym, ap, ◌∙◌, subst, rules}
+use Rattle.std.proofs.Common.{◌≡◌, ℕ, List, map, Err, IfSome, ap, ◌∙◌, subst, rules}
 use Rattle.sqlite.specs.Held.{state}
 use Rattle.octets.specs.Ascii.{lowered}
 use Rattle.addrparts.specs.declared.address.Addr.{Addr}
@@ -7,7 +7,7 @@ use Rattle.mailstore.specs.Account.{Account}
 use Rattle.mailstore.specs.declared.profile.Profile.{Profile}
 use Rattle.mailstore.specs.declared.reply.KeptReply.{KeptReply}
 use Rattle.mailstore.specs.ReplyTable.{replies_to, kept_reply}
-use Rattle.deliverplan.specs.Views.{moment_under, last_reply}
+use Rattle.deliverplan.specs.Views.{moment_under}
 use Rattle.mailengine.specs.Lookups.{IsActiveScript, IsLookup}
 use Rattle.mailengine.proofs.LookupLemmas.{looks_both, looks_then_refused}
 use Rattle.mailengine.proofs.KeptLemmas.{kept_under}

@@ -2,40 +2,41 @@ use Rattle.std.proofs.Common.{◌≡◌, ◌+◌, [], ◌∷◌, ◌++◌, lengt
 use Rattle.std.proofs.lemmas.List.{length_push}
 use Rattle.sqlite.specs.Held.{state}
 use Rattle.mailstore.proofs.WriteLemmas.{clean_before}
-use Rattle.mailengine.specs.Hosts.{IsRun}
+use Rattle.mailengine.specs.Hosts.{host, host_of, IsRun}
 use Rattle.mailengine.proofs.RunLemmas.{run_none, run_goes, run_counted, crash_goes}
 use Rattle.mailengine.proofs.replay.run_events.Goals as goal
 
 pub loop-event-init : goal.loop-event-init
 loop-event-init g c = record {
   answered = ap length c.new-answers.ensures.items;
-  ran = subst (λ l. IsRun [] l (state g.S.Store c.args.store.now) c.args.sessions.now (state g.S.Store c.args.store.now) c.args.sessions.now) (sym c.new-answers.ensures.items) (run_none (state g.S.Store c.args.store.now) c.args.sessions.now);
+  ran = subst (λ l. IsRun [] l (host_of g.S.Store c.args.world.now) (host_of g.S.Store c.args.world.now)) (sym c.new-answers.ensures.items) (run_none (host_of g.S.Store c.args.world.now));
   crash = search rules;
 }
 
 pub loop-event-preserved : goal.loop-event-preserved
 loop-event-preserved g c =
     let all : c.push_reserved.new.self.items ≡ c.loop-event.answers.items ++ c.happen-answer.result ∷ [] = c.push_reserved.ensures.items ∙ ap (λ l. l ++ c.happen-answer.result ∷ []) c.reserve.ensures.items in
-    let was = clean_before (state g.S.Store c.loop-event.store) (state g.S.Store c.happen-answer.new.store) _ c.happen-answer.ensures.crash in
+    let was = clean_before (state g.S.Store c.loop-event.world.store) (state g.S.Store c.happen-answer.new.store) _ c.happen-answer.ensures.crash in
+    let next = host (state g.S.Store c.happen-answer.new.store) c.happen-answer.new.sessions in
     record {
       answered = ap length all ∙ length_push c.loop-event.answers.items c.happen-answer.result ∙ ap (λ n. n + 1) c.loop-event.invariant.answered;
-      ran = run_goes (state g.S.Store c.args.store.now) (state g.S.Store c.loop-event.store) (state g.S.Store c.happen-answer.new.store) c.args.sessions.now c.loop-event.sessions c.happen-answer.new.sessions c.args.events.now c.loop-event.event-index c.event-item.result
+      ran = run_goes (host_of g.S.Store c.args.world.now) (host_of g.S.Store c.loop-event.world) next c.args.events.now c.loop-event.event-index c.event-item.result
           c.loop-event-test.true c.event-item.is c.loop-event.answers.items c.push_reserved.new.self.items c.happen-answer.result c.loop-event.invariant.ran all was c.happen-answer.ensures.event;
-      crash = crash_goes (state g.S.Store c.args.store.now) (state g.S.Store c.loop-event.store) (state g.S.Store c.happen-answer.new.store) c.args.sessions.now c.loop-event.sessions c.happen-answer.new.sessions c.args.events.now c.loop-event.event-index
+      crash = crash_goes (host_of g.S.Store c.args.world.now) (host_of g.S.Store c.loop-event.world) next c.args.events.now c.loop-event.event-index
           c.event-item.result c.loop-event-test.true c.event-item.is c.loop-event.answers.items c.loop-event.invariant.ran was c.happen-answer.ensures.shut c.loop-event.invariant.crash c.happen-answer.ensures.crash;
     }
 
 pub returns-clause-runs : goal.returns-clause-runs
 returns-clause-runs g c =
-    run_counted (state g.S.Store c.args.store.now) (state g.S.Store c.loop-event.store) c.args.sessions.now c.loop-event.sessions c.args.events.now c.loop-event.event-index c.loop-event.answers.items c.loop-event.answers.items
+    run_counted (host_of g.S.Store c.args.world.now) (host_of g.S.Store c.loop-event.world) c.args.events.now c.loop-event.event-index c.loop-event.answers.items c.loop-event.answers.items
     c.loop-event.invariant.ran c.loop-event.invariant.answered refl
 
 pub returns-then-is_err-clause-runs : goal.returns-then-is_err-clause-runs
 returns-then-is_err-clause-runs g c =
-    run_counted (state g.S.Store c.args.store.now) (state g.S.Store c.loop-event.store) c.args.sessions.now c.loop-event.sessions c.args.events.now c.loop-event.event-index c.loop-event.answers.items c.reserve.new.self.items
+    run_counted (host_of g.S.Store c.args.world.now) (host_of g.S.Store c.loop-event.world) c.args.events.now c.loop-event.event-index c.loop-event.answers.items c.reserve.new.self.items
     c.loop-event.invariant.ran c.loop-event.invariant.answered c.reserve.ensures.items
 
 pub returns-in_default-clause-runs : goal.returns-in_default-clause-runs
 returns-in_default-clause-runs g c =
-    run_counted (state g.S.Store c.args.store.now) (state g.S.Store c.loop-event.store) c.args.sessions.now c.loop-event.sessions c.args.events.now c.loop-event.event-index c.loop-event.answers.items c.reserve.new.self.items
+    run_counted (host_of g.S.Store c.args.world.now) (host_of g.S.Store c.loop-event.world) c.args.events.now c.loop-event.event-index c.loop-event.answers.items c.reserve.new.self.items
     c.loop-event.invariant.ran c.loop-event.invariant.answered c.reserve.ensures.items

@@ -1,4 +1,4 @@
-use Rattle.std.proofs.Common.{◌≡◌, Some, None, Err, OnOk, IfErr, sym, ap, ◌∙◌, rules}
+use Rattle.std.proofs.Common.{◌≡◌, Some, Err, OnOk, IfErr, sym, ap, ◌∙◌, rules}
 use Rattle.sqlite.specs.Held.{state}
 use Rattle.std.specs.Option.{option_copied}
 use Rattle.mailstore.specs.Refusals.{IsPassing}

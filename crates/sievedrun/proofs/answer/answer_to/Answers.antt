@@ -1,6 +1,4 @@
-use Rattle.std.proofs.Common.{rules, ◌≡◌, ap, ◌∙◌}
-use Rattle.sieveexec.specs.Mails.{mail_of}
-use Rattle.sieveexec.specs.Outcomes.{outcome_at}
+use Rattle.std.proofs.Common.{rules, ap, ◌∙◌}
 use Rattle.reportlines.specs.Reports.{report_of}
 use Rattle.sievedrun.proofs.answer.answer_to.Goals as goal
 

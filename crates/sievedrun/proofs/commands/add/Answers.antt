@@ -1,11 +1,10 @@
 -- The store was taken, the event came, and the store was handed back: it sees the event, or none where it was refused.
-use Rattle.std.proofs.Common.{◌≡◌, Ok, Err, refl, sym, subst, ap, rules, inl}
+use Rattle.std.proofs.Common.{◌≡◌, Err, refl, sym, subst, rules, inl}
 use Rattle.sqlite.specs.Held.{state}
-use Rattle.mailengine.specs.declared.event.Event.{Event}
 use Rattle.mailengine.specs.declared.event.Event.TheVariants.{AddUser}
 use Rattle.mailengine.specs.declared.answer.Answer.TheVariants.{Added}
-use Rattle.sievedrun.specs.Faults.{fault_of, status_of}
-use Rattle.sievedrun.specs.Promise.{MayFollow, ShowsAfter, status_after}
+use Rattle.sievedrun.specs.Faults.{fault_of}
+use Rattle.sievedrun.specs.Promise.{MayFollow, IsOne, ShowsAfter, status_after}
 use Rattle.sievedrun.proofs.PromiseLemmas.{event_refused, event_made, added_next, passing_may_follow}
 use Rattle.sievedrun.proofs.commands.add.Goals as goal
 
@@ -14,7 +13,7 @@ returns-in_err-added-clause-leaves g c tells =
     let got = c.in_ok-store.ensures.taken tells in
     let sure = g.met.K.Keeper.sure c.add_user-added.new.store tells in
     event_refused (g.K.Keeper.holds c.args.keeper.now) (g.K.Keeper.holds c.hand_back-closed.new.self) (state g.K.S.Store c.in_ok-store.store) (state g.K.S.Store c.add_user-added.new.store) got.0 got.1 sure.0 sure.1 (c.hand_back-closed.ensures.held tells)
-    (ShowsAfter (λ event. event ≡ AddUser c.args.name.now c.args.address.now c.args.salt c.args.password.now) (status_after c.from_residual-in_err-added.result)) (λ _. ⊥) c.in_err-added.ensures.acts.same
+    (ShowsAfter (IsOne (λ event. event ≡ AddUser c.args.name.now c.args.address.now c.args.salt c.args.password.now)) (status_after c.from_residual-in_err-added.result)) (λ _. ⊥) c.in_err-added.ensures.acts.same
 
 pub returns-in_err-closed-clause-leaves : goal.returns-in_err-closed-clause-leaves
 returns-in_err-closed-clause-leaves g c tells =

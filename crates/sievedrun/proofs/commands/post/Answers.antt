@@ -1,11 +1,10 @@
 -- The store was taken, the event came, and the store was handed back: it sees the event, or none where it was refused.
-use Rattle.std.proofs.Common.{◌≡◌, Ok, Err, refl, sym, subst, ap, rules, inl}
+use Rattle.std.proofs.Common.{◌≡◌, Err, refl, sym, subst, rules, inl}
 use Rattle.sqlite.specs.Held.{state}
-use Rattle.mailengine.specs.declared.event.Event.{Event}
 use Rattle.mailengine.specs.declared.event.Event.TheVariants.{Deliver}
 use Rattle.mailengine.specs.declared.answer.Answer.TheVariants.{Delivered}
-use Rattle.sievedrun.specs.Faults.{fault_of, status_of}
-use Rattle.sievedrun.specs.Promise.{MayFollow, ShowsAfter, status_after}
+use Rattle.sievedrun.specs.Faults.{fault_of}
+use Rattle.sievedrun.specs.Promise.{MayFollow, IsOne, ShowsAfter, status_after}
 use Rattle.sievedrun.proofs.PromiseLemmas.{event_refused, event_made, delivered_next, passing_may_follow}
 use Rattle.sievedrun.proofs.commands.post.Goals as goal
 
@@ -14,7 +13,7 @@ returns-in_err-report-clause-leaves g c tells =
     let got = c.in_ok-store.ensures.taken tells in
     let sure = g.met.K.Keeper.sure c.deliver-delivered.new.store tells in
     event_refused (g.K.Keeper.holds c.args.keeper.now) (g.K.Keeper.holds c.hand_back-closed.new.self) (state g.K.S.Store c.in_ok-store.store) (state g.K.S.Store c.deliver-delivered.new.store) got.0 got.1 sure.0 sure.1 (c.hand_back-closed.ensures.held tells)
-    (ShowsAfter (λ event. event ≡ Deliver c.args.user.now c.args.envelope c.args.message.now c.args.moment) (status_after c.from_residual-in_err-report.result)) (λ _. ⊥) c.in_err-report.ensures.acts.same
+    (ShowsAfter (IsOne (λ event. event ≡ Deliver c.args.user.now c.args.envelope c.args.message.now c.args.moment)) (status_after c.from_residual-in_err-report.result)) (λ _. ⊥) c.in_err-report.ensures.acts.same
 
 pub returns-in_err-closed-clause-leaves : goal.returns-in_err-closed-clause-leaves
 returns-in_err-closed-clause-leaves g c tells =

@@ -1,6 +1,5 @@
 -- The event's password is the first line of what was read; an answer that can't be written doesn't deny it.
-use Rattle.std.proofs.Common.{◌≡◌, Err, refl, subst, sym, ap, rules, ◌∙◌}
-use Rattle.mailengine.specs.declared.event.Event.{Event}
+use Rattle.std.proofs.Common.{◌≡◌, Err, subst, sym, rules}
 use Rattle.mailengine.specs.declared.event.Event.TheVariants.{AddUser}
 use Rattle.sievedrun.specs.Faults.{status_of}
 use Rattle.sievedrun.specs.Promise.{Brings, MayFollow, status_after, first_line}

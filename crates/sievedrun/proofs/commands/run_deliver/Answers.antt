@@ -1,6 +1,5 @@
 -- The event's message is what was read; a report that can't be written doesn't deny it.
-use Rattle.std.proofs.Common.{◌≡◌, Err, subst, sym, ap, rules}
-use Rattle.mailengine.specs.declared.event.Event.{Event}
+use Rattle.std.proofs.Common.{◌≡◌, Err, subst, sym, rules}
 use Rattle.mailengine.specs.declared.event.Event.TheVariants.{Deliver}
 use Rattle.sievedrun.specs.Faults.{status_of}
 use Rattle.sievedrun.specs.Streams.{ReadsAll}

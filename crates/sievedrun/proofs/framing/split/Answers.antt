@@ -1,4 +1,4 @@
-use Rattle.std.proofs.Common.{◌≡◌, length, arith, ap, sym, ◌∙◌, take, drop, length-append}
+use Rattle.std.proofs.Common.{length, arith, ap, sym, ◌∙◌, take, drop, length-append}
 use Rattle.std.proofs.Math.Seq.{take-append_seam, drop-append_seam}
 use Rattle.sievedrun.proofs.FramingLemmas.{counts_only}
 use Rattle.sievedrun.proofs.framing.split.Goals as goal

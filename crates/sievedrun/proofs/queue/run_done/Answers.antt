@@ -1,6 +1,5 @@
 -- The row with the number that the digits write was taken out; an answer that can't be written doesn't deny it.
 use Rattle.std.proofs.Common.{◌≡◌, Err, sym, subst, ap, ◌∙◌, rules}
-use Rattle.octets.specs.Decimal.{Writes}
 use Rattle.mailengine.specs.declared.event.Event.TheVariants.{TakeOut}
 use Rattle.sievedrun.specs.Faults.{status_of}
 use Rattle.sievedrun.specs.Promise.{MayFollow, Takes, status_after}

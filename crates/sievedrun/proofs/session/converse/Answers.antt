@@ -1,11 +1,10 @@
 -- A piece comes, and all that is whole is answered; or the session ends there, or breaks off.
-use Rattle.std.proofs.Common.{◌≡◌, ◌≤◌, ℕ, List, [], Option, None, Some, Ok, Err, unwrap_or, length, take, drop, refl, sym, ap, ◌∙◌, subst, inl, inr, true, rules, arith}
+use Rattle.std.proofs.Common.{◌≡◌, ◌≤◌, ℕ, [], Option, Ok, Err, unwrap_or, length, take, drop, sym, ap, subst, inl, inr, true, rules, arith}
 use Rattle.std.proofs.lemmas.List.{length-take}
 use Rattle.std.specs.Io.KnownBytes.{Consumes}
-use Rattle.mailstore.specs.Account.{Accounts}
 use Rattle.sessions.specs.Clients.{client_given}
 use Rattle.sievedrun.specs.declared.fault.Fault.TheVariants.{Memory}
-use Rattle.sievedrun.specs.Serving.{Converses, Served}
+use Rattle.sievedrun.specs.Serving.{Converses}
 use Rattle.sievedrun.proofs.ServingLemmas.{broken_served, served_at_end, served_on, broken_on}
 use Rattle.sievedrun.proofs.session.converse.Goals as goal
 

@@ -1,5 +1,5 @@
 -- The greeting is written, and then the client is served; or the session breaks off at the greeting.
-use Rattle.std.proofs.Common.{◌≡◌, [], None, Err, refl, sym, ap, ◌∙◌, subst, rules}
+use Rattle.std.proofs.Common.{◌≡◌, None, Err, refl, sym, ap, subst, rules}
 use Rattle.msproto.specs.Replies.{spelled}
 use Rattle.sessions.specs.Clients.{new_client}
 use Rattle.sessions.specs.Counts.{SessionView}

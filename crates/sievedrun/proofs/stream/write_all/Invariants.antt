@@ -1,5 +1,5 @@
 -- What is written so far is the text without its rest.
-use Rattle.std.proofs.Common.{◌≡◌, ◌≤◌, ℕ, take, drop, length}
+use Rattle.std.proofs.Common.{◌≡◌, ℕ, take, drop}
 use Rattle.std.specs.Io.KnownBytes.{Appends}
 use Rattle.sievedrun.proofs.stream.write_all.Given as goal
 

@@ -4,7 +4,7 @@ use Rattle.sievesyntax.specs.RunState.{with_mailbox}
 use Rattle.sieveexec.specs.Mailboxes.{without_repeats}
 use Rattle.sieveexec.proofs.MailboxLemmas.{Knows, knows_more, files_new, files_known}
 use Rattle.sieveexec.proofs.run_state.without_repeats.Goals as goal
-use Rattle.sieveexec.proofs.run_state.without_repeats.Goals.{then-branch+in_ok-copied+in_ok-push, else-branch}
+use Rattle.sieveexec.proofs.run_state.without_repeats.Goals.{then-branch+in_ok-try_clone+in_ok-push, else-branch}
 
 pub loop-mailbox-preserved : goal.loop-mailbox-preserved
 loop-mailbox-preserved c =
@@ -15,8 +15,8 @@ loop-mailbox-preserved c =
     let told = c.in_ok-is_first.ensures in
     let more : c.if-branch.filed ≡ with_mailbox before name =
     elim c.if-branch.branch [
-      | then-branch+in_ok-copied+in_ok-push w ↦
-          w.filed-is ∙ w.in_ok-push.ensures.ok ∙ ap (λ n. before ++ n ∷ []) w.in_ok-copied.ensures
+      | then-branch+in_ok-try_clone+in_ok-push w ↦
+          w.filed-is ∙ w.in_ok-push.ensures.ok ∙ ap (λ n. before ++ n ∷ []) w.in_ok-try_clone.ensures
           ∙ files_new c.loop-mailbox.known before name knows (sym w.if-branch.true ∙ told.first)
       | else-branch w ↦ w.filed-is ∙ files_known c.loop-mailbox.known before name knows (sym w.if-branch.false ∙ told.first)
     ] in

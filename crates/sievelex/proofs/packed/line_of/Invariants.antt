@@ -1,14 +1,13 @@
-use Rattle.std.proofs.Common.{◌≡◌, ◌+◌, ◌-◌, ◌≤◌, List, length, take}
-use Rattle.sievelex.specs.declared.token.Token.{Token}
+use Rattle.std.proofs.Common.{◌≡◌, ◌+◌, ◌-◌, ◌≤◌, length, take}
 use Rattle.sievelex.specs.Text.{line_ends}
-use Rattle.sievelex.proofs.Scanned.{IsFront}
+use Rattle.sievelex.proofs.Indexed.{IsCounted}
 use Rattle.sievelex.proofs.packed.line_of.Given as goal
 
 abbrev pub invariant-tokens : goal.invariant-tokens
 invariant-tokens l = record {
   inside : l.at ≤ length l.text;
   on_line : l.line ≡ 1 + line_ends (take l.at l.text);
-  front : (so_far : List Token) × (IsFront l.text so_far l.at × (length so_far + l.before ≡ l.index));
+  counted : IsCounted l.text l.at l.before l.index;
 }
 
 abbrev pub decreases-tokens : goal.decreases-tokens

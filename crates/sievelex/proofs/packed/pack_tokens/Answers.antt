@@ -2,53 +2,36 @@ use Rattle.std.proofs.Common.{List, [], ◌∷◌, ◌++◌, ap, sym, ◌∙◌,
 use Rattle.std.proofs.lemmas.List.{map-append}
 use Rattle.sievelex.specs.declared.token.Token.{Token}
 use Rattle.sievelex.specs.Spelling.{IsNext}
-use Rattle.sievelex.specs.Unpacked.{Saying}
-use Rattle.sievelex.specs.Said.{said_by, says, Holds}
-use Rattle.sievelex.proofs.Next.{next_further, lines_behind}
+use Rattle.sievelex.specs.declared.token.Content.{Content}
+use Rattle.sievelex.specs.Contents.{contents_of, HoldsContents}
+use Rattle.sievelex.proofs.Next.{next_further}
 use Rattle.sievelex.proofs.Scanned.{IsFront, front_more, front_ends, front_only}
-use Rattle.sievelex.proofs.Packing.{holds_said}
+use Rattle.sievelex.proofs.Packing.{holds_contents}
 use Rattle.sievelex.proofs.packed.pack_tokens.Goals as goal
-
-pub tokens-preserved-in_ok-append : goal.tokens-preserved-in_ok-append
-tokens-preserved-in_ok-append c =
-    let here : IsNext c.args.text.now c.tokens.at c.in-Some.token = rw c.in-Some.is at c.in_ok-token.ensures.found in
-    let front : (so_far : List Token) × (IsFront c.args.text.now so_far c.tokens.at × Holds c.tokens.packed (says so_far)) = c.tokens.invariant.front in
-    let P : List Saying → Type 0 = λ x. Holds c.append.new.packed x in
-    record {
-      inside = (next_further _ _ c.in-Some.token here).1;
-      on_line = lines_behind _ _ _ c.tokens.at _ c.in-Some.token here c.split_at.ensures.back c.split_at-in-Some.ensures.front c.line_feeds.ensures;
-      front = (
-        front.0 ++ c.in-Some.token ∷ [],
-        (
-          front_more _ c.tokens.at c.in-Some.token _ front.1.0 here (λ u h. sym c.in-Some.is ∙ c.in_ok-token.ensures.only u h),
-          subst P (sym (map-append said_by front.0 (c.in-Some.token ∷ []))) (c.in_ok-append.ensures (says front.0) front.1.1),
-        ),
-      );
-    }
 
 pub tokens-preserved : goal.tokens-preserved
 tokens-preserved c =
     let here : IsNext c.args.text.now c.tokens.at c.in-Some.token = rw c.in-Some.is at c.in_ok-token.ensures.found in
-    let front : (so_far : List Token) × (IsFront c.args.text.now so_far c.tokens.at × Holds c.tokens.packed (says so_far)) = c.tokens.invariant.front in
-    let P : List Saying → Type 0 = λ x. Holds c.append.new.packed x in
+    let front : (so_far : List Token) × (IsFront c.args.text.now so_far c.tokens.at × HoldsContents c.tokens.packed (contents_of so_far)) = c.tokens.invariant.front in
+    let P : List Content → Type 0 = λ x. HoldsContents c.append.new.packed x in
     record {
       inside = (next_further _ _ c.in-Some.token here).1;
-      on_line = lines_behind _ _ _ c.tokens.at _ c.in-Some.token here c.split_at.ensures.back c.split_at-in-Some.ensures.front c.line_feeds.ensures;
+      on_line = c.end_line-line.ensures;
       front = (
         front.0 ++ c.in-Some.token ∷ [],
         (
           front_more _ c.tokens.at c.in-Some.token _ front.1.0 here (λ u h. sym c.in-Some.is ∙ c.in_ok-token.ensures.only u h),
-          subst P (sym (map-append said_by front.0 (c.in-Some.token ∷ []))) (c.in_ok-append.ensures (says front.0) front.1.1),
+          subst P (sym (map-append (λ t. t.content) front.0 (c.in-Some.token ∷ []))) (c.in_ok-append.ensures (contents_of front.0) front.1.1),
         ),
       );
     }
 
 pub returns-clause-found : goal.returns-clause-found
 returns-clause-found c =
-    let front : (so_far : List Token) × (IsFront c.args.text.now so_far c.tokens.at × Holds c.tokens.packed (says so_far)) = c.tokens.invariant.front in
-    (front.0, (front_ends _ c.tokens.at _ front.1.0 (rw c.in_default.is at c.in_ok-token.ensures.found), holds_said _ _ front.1.1))
+    let front : (so_far : List Token) × (IsFront c.args.text.now so_far c.tokens.at × HoldsContents c.tokens.packed (contents_of so_far)) = c.tokens.invariant.front in
+    (front.0, (front_ends _ c.tokens.at _ front.1.0 (rw c.in_default.is at c.in_ok-token.ensures.found), holds_contents _ _ front.1.1))
 
 pub returns-clause-only : goal.returns-clause-only
 returns-clause-only c = λ us s.
-    let front : (so_far : List Token) × (IsFront c.args.text.now so_far c.tokens.at × Holds c.tokens.packed (says so_far)) = c.tokens.invariant.front in
-    ap says (front_only _ c.tokens.at _ front.1.0 (λ u h. c.in_default.not-Some u (c.in_ok-token.ensures.only u h)) us s) ∙ sym (holds_said _ _ front.1.1)
+    let front : (so_far : List Token) × (IsFront c.args.text.now so_far c.tokens.at × HoldsContents c.tokens.packed (contents_of so_far)) = c.tokens.invariant.front in
+    ap contents_of (front_only _ c.tokens.at _ front.1.0 (λ u h. c.in_default.not-Some u (c.in_ok-token.ensures.only u h)) us s) ∙ sym (holds_contents _ _ front.1.1)

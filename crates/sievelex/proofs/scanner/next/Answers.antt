@@ -7,7 +7,7 @@ use Rattle.sievelex.specs.Front.{IsFront}
 use Rattle.sievelex.specs.Spelling.{SpellsFrom}
 use Rattle.sievelex.specs.Text.{line_ends}
 use Rattle.sievelex.proofs.FaultLemmas.{fault_on, fault_line_on}
-use Rattle.sievelex.proofs.Next.{ahead_is, line_is, line_within, next_found, next_only, next_empty, tail_no_next, next_none, open_none}
+use Rattle.sievelex.proofs.Next.{ahead_is, line_is, line_within, next_found, next_only, next_placed, next_empty, tail_no_next, next_none, open_none}
 use Rattle.sievelex.proofs.scanner.next.Goals as goal
 
 pub split_at-requires-2 : goal.split_at-requires-2
@@ -56,3 +56,9 @@ pub returns-clause-only : goal.returns-clause-only
 returns-clause-only c =
     next_only _ _ _ _ _ c.in_ok-front.front (ahead_is _ _ _ _ _ c.requires.inside c.split_at.ensures.back c.in-Ok.ensures c.split_at-2.ensures.back)
     (line_is _ _ _ _ _ _ _ c.split_at.ensures.back c.split_at-2.ensures.front c.requires.on_line c.line_feeds-2.ensures) c.in_ok-front.ensures.found.1
+
+pub returns-clause-further : goal.returns-clause-further
+returns-clause-further c =
+    next_placed c.args.text.now c.args.at _ (next_found _ _ _ _ _ c.in_ok-front.front (ahead_is _ _ _ _ _ c.requires.inside c.split_at.ensures.back c.in-Ok.ensures c.split_at-2.ensures.back)
+    (eqb-false _ 0 (sym c.is_empty.ensures ∙ c.if-is_empty.false))
+    (line_is _ _ _ _ _ _ _ c.split_at.ensures.back c.split_at-2.ensures.front c.requires.on_line c.line_feeds-2.ensures) c.in_ok-front.ensures.found.0)

@@ -1,6 +1,6 @@
 use Rattle.std.proofs.Common.{sym, ◌∙◌}
 use Rattle.sievelex.specs.Spelling.{IsNext}
-use Rattle.sievelex.proofs.Next.{next_further, lines_behind}
+use Rattle.sievelex.proofs.Next.{next_further}
 use Rattle.sievelex.proofs.Scanned.{front_more, front_ends, front_only}
 use Rattle.sievelex.proofs.scanner.read_tokens.Goals as goal
 
@@ -9,7 +9,7 @@ loop-tokens-preserved c =
     let here : IsNext c.args.text.now c.loop-tokens.at c.in-Some.token = rw c.in-Some.is at c.in_ok-token.ensures.found in
     record {
       inside = (next_further _ _ c.in-Some.token here).1;
-      on_line = lines_behind _ _ _ c.loop-tokens.at _ c.in-Some.token here c.split_at.ensures.back c.split_at-in-Some.ensures.front c.line_feeds.ensures;
+      on_line = c.end_line-line.ensures;
       front = rw c.in_ok-push.ensures.items (front_more _ c.loop-tokens.at c.in-Some.token _ c.loop-tokens.invariant.front here (λ u h. sym c.in-Some.is ∙ c.in_ok-token.ensures.only u h));
     }
 

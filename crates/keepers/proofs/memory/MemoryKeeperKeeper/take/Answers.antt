@@ -1,5 +1,5 @@
 -- What a store taken from memory sees is what the connection saw that was held.
-use Rattle.std.proofs.Common.{◌≡◌, Some, refl, ◌∙◌, sym, ap, rules}
+use Rattle.std.proofs.Common.{◌≡◌, Some, refl, ◌∙◌, sym, ap}
 use Rattle.sqlite.proofs.Callers.{memory_is_clean}
 use Rattle.sqlite.specs.Held.{state}
 use Rattle.sqlite.specs.Steps.{over_memory}

@@ -5,29 +5,57 @@ use Rattle.sessions.specs.Turns.{IsTurn, FitsLogin, login_text, admitted_in}
 use Rattle.sessions.proofs.AskedLemmas.{refused_acts, login_answered}
 use Rattle.sessions.proofs.session.Session.step_login.Goals as goal
 
-pub returns-in_err-who-clause-acts : goal.returns-in_err-who-clause-acts
-returns-in_err-who-clause-acts g c =
+pub returns-in_err-who : goal.returns-in_err-who
+returns-in_err-who g c =
     let none : OnOk c.from_residual.result ⊥ = search rules in
-    refused_acts c.args.self.now.client c.args.self.now.client c.from_residual.result c.args.out.now c.args.out.now (state g.S.Store c.args.store.now) (state g.S.Store c.admitted.new.store) none c.admitted.ensures.glances
+    record {
+      acts =
+          refused_acts c.args.self.now.client c.args.self.now.client c.from_residual.result c.args.out.now c.args.out.now (state g.S.Store c.args.store.now) (state g.S.Store c.admitted.new.store) none c.admitted.ensures.glances;
+      counts = search rules;
+      scans = search rules;
+      err = search rules;
+      named = search rules;
+    }
 
-pub returns-in_err-turn-clause-acts : goal.returns-in_err-turn-clause-acts
-returns-in_err-turn-clause-acts g c =
+pub returns-in_err-turn : goal.returns-in_err-turn
+returns-in_err-turn g c =
     let none : OnOk c.from_residual-in_err-turn.result ⊥ = search rules in
-    refused_acts c.args.self.now.client c.args.self.now.client c.from_residual-in_err-turn.result c.args.out.now c.args.out.now (state g.S.Store c.args.store.now) (state g.S.Store c.admitted.new.store) none c.admitted.ensures.glances
+    record {
+      acts =
+          refused_acts c.args.self.now.client c.args.self.now.client c.from_residual-in_err-turn.result c.args.out.now c.args.out.now (state g.S.Store c.args.store.now) (state g.S.Store c.admitted.new.store) none c.admitted.ensures.glances;
+      counts = search rules;
+      scans = search rules;
+      err = search rules;
+      named = search rules;
+    }
 
-pub returns-in_err-progress-clause-acts : goal.returns-in_err-progress-clause-acts
-returns-in_err-progress-clause-acts g c =
+pub returns-in_err-progress : goal.returns-in_err-progress
+returns-in_err-progress g c =
     let none : OnOk c.from_residual-in_err-progress.result ⊥ = search rules in
-    refused_acts c.args.self.now.client c.take_turn.new.self.client c.from_residual-in_err-progress.result c.args.out.now c.take_turn.new.out (state g.S.Store c.args.store.now) (state g.S.Store c.admitted.new.store) none c.admitted.ensures.glances
+    record {
+      acts =
+          refused_acts c.args.self.now.client c.take_turn.new.self.client c.from_residual-in_err-progress.result c.args.out.now c.take_turn.new.out (state g.S.Store c.args.store.now) (state g.S.Store c.admitted.new.store) none c.admitted.ensures.glances;
+      counts = search rules;
+      scans = search rules;
+      err = search rules;
+      named = search rules;
+    }
 
-pub returns-clause-acts : goal.returns-clause-acts
-returns-clause-acts g c =
+pub returns : goal.returns
+returns g c =
     let user : c.self.inside.user ≡ c.args.self.now.client.user = ap (λ (v : SessionView). v.client.user) c.self.view_is in
     let failures : c.self.inside.failures ≡ c.args.self.now.client.failures = ap (λ (v : SessionView). v.client.failures) c.self.view_is in
     let turn = c.in_ok-turn.ensures in
-    login_answered c.args.self.now.client c.args.command.now c.requires.asked (state g.S.Store c.args.store.now) (state g.S.Store c.admitted.new.store) c.take_turn.new.self.client c.in_ok-who.who c.in_ok-turn.turn c.in_ok-progress.progress
-    c.args.out.now c.take_turn.new.out c.requires.login c.admitted.ensures.glances
-    (λ clean accounts shown. ap (λ o. admitted_in accounts o) (ap (λ o. login_text o c.args.command.now) (sym user) ∙ sym c.login_text.ensures) ∙ c.in_ok-who.ensures.found clean accounts shown)
-    (subst (λ f. IsTurn (FitsLogin c.args.self.now.client.user f c.args.command.now c.in_ok-who.who) c.args.command.now c.in_ok-turn.turn) failures
-    (subst (λ o. IsTurn (FitsLogin o c.self.inside.failures c.args.command.now c.in_ok-who.who) c.args.command.now c.in_ok-turn.turn) user turn))
-    c.in_ok-progress.ensures.told c.in_ok-progress.ensures.session c.in_ok-progress.ensures.goes_on
+    record {
+      acts =
+          login_answered c.args.self.now.client c.args.command.now c.requires.asked (state g.S.Store c.args.store.now) (state g.S.Store c.admitted.new.store) c.take_turn.new.self.client c.in_ok-who.who c.in_ok-turn.turn c.in_ok-progress.progress
+          c.args.out.now c.take_turn.new.out c.requires.login c.admitted.ensures.glances
+          (λ clean accounts shown. ap (λ o. admitted_in accounts o) (ap (λ o. login_text o c.args.command.now) (sym user) ∙ sym c.login_text.ensures) ∙ c.in_ok-who.ensures.found clean accounts shown)
+          (subst (λ f. IsTurn (FitsLogin c.args.self.now.client.user f c.args.command.now c.in_ok-who.who) c.args.command.now c.in_ok-turn.turn) failures
+          (subst (λ o. IsTurn (FitsLogin o c.self.inside.failures c.args.command.now c.in_ok-who.who) c.args.command.now c.in_ok-turn.turn) user turn))
+          c.in_ok-progress.ensures.told c.in_ok-progress.ensures.session c.in_ok-progress.ensures.goes_on;
+      counts = search rules;
+      scans = search rules;
+      err = search rules;
+      named = search rules;
+    }

@@ -3,4 +3,4 @@ use Rattle.sievelex.proofs.Packing.{length_unpacked}
 use Rattle.sievelex.proofs.packed.Cursor.left.Goals as goal
 
 pub returns : goal.returns
-returns c = sym (length_unpacked c.self.inside.forms.now c.self.inside.numbers.now c.self.inside.octets.now) ∙ ap length c.self.view_is
+returns c = sym (length_unpacked c.self.inside.kinds.now c.self.inside.rows.numbers.now c.self.inside.rows.octets.now) ∙ ap length c.self.view_is

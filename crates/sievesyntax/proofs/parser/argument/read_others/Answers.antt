@@ -1,17 +1,19 @@
-use Rattle.std.proofs.Common.{sym, ap, ◌∙◌, append_assoc, ◌∷◌, [], ◌++◌, Ok}
+use Rattle.std.proofs.Common.{subst, sym, ap, ◌∙◌, append_assoc, ◌∷◌, [], ◌++◌, Ok}
 use Rattle.std.proofs.lemmas.Result.{err_from_is_err_and}
+use Rattle.sievesyntax.specs.Arguments.{IsOther}
+use Rattle.sievesyntax.specs.Chains.{Chain}
 use Rattle.sievesyntax.proofs.FaultLemmas.{fault_on, faults_on}
 use Rattle.sievesyntax.proofs.ArgumentLemmas.{others_stop, others_lack, others_grow, others_end}
 use Rattle.sievesyntax.proofs.parser.argument.read_others.Goals as goal
 
-pub returns-in_err-read_separator-clause-fault : goal.returns-in_err-read_separator-clause-fault
-returns-in_err-read_separator-clause-fault c =
+pub returns-in_err-read_separator : goal.returns-in_err-read_separator
+returns-in_err-read_separator c =
     let p = err_from_is_err_and c.from_residual.result c.from_residual.ensures.1 in
     let l = c.others in
     rw (p.1, p.2) (faults_on _ _ _ _ (others_stop _ l.invariant.0 l.reader l.invariant.1.1) c.in_err-read_separator.ensures.no_comma c.in_err-read_separator.ensures.no_close)
 
-pub returns-in_err-read_text-clause-fault : goal.returns-in_err-read_text-clause-fault
-returns-in_err-read_text-clause-fault c =
+pub returns-in_err-read_text : goal.returns-in_err-read_text
+returns-in_err-read_text c =
     let p = err_from_is_err_and c.from_residual-in_err-read_text.result c.from_residual-in_err-read_text.ensures.1 in
     let l = c.others in
     let comma = c.in_ok-read_separator.ensures.comma (ap Ok c.if-branch.true) in
@@ -29,8 +31,12 @@ others-preserved c =
       ),
     )
 
-pub returns-clause-only : goal.returns-clause-only
-returns-clause-only c = λ more to chain.
+pub returns : goal.returns
+returns c =
     let l = c.others in
-    let found = others_end _ l.invariant.0 l.reader l.invariant.1.1 _ (c.in_ok-read_separator.ensures.closed (ap Ok c.if-branch.false)) more to chain in
-    (l.invariant.1.0 ∙ ap (λ xs. c.args.strings ++ xs) (sym found.0), found.1)
+    let closed = c.in_ok-read_separator.ensures.closed (ap Ok c.if-branch.false) in (
+      (l.invariant.0, (l.invariant.1.0, subst (Chain IsOther l.invariant.0 c.args.reader.now) closed l.invariant.1.1.joins)),
+      λ more to chain.
+          let found = others_end _ l.invariant.0 l.reader l.invariant.1.1 _ closed more to chain in
+          (l.invariant.1.0 ∙ ap (λ xs. c.args.strings ++ xs) (sym found.0), found.1),
+    )

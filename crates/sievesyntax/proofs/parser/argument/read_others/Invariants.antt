@@ -1,5 +1,5 @@
 use Rattle.std.proofs.Common.{◌≡◌, ℕ, List, ◌++◌, length}
-use Rattle.sievelex.specs.declared.token.Kind.TheVariants as K
+use Rattle.sievelex.specs.declared.token.Mark.TheVariants as K
 use Rattle.sievesyntax.specs.Arguments.{IsOther}
 use Rattle.sievesyntax.proofs.Chains.{IsSoFar}
 use Rattle.sievesyntax.proofs.ArgumentLemmas.{IsMarked}

@@ -31,40 +31,38 @@ read_branch-returns t c =
     let e = c.in_ok-block.ensures in
     rw view-Branch (branch_found c.args.granted c.args.room _ _ _ h.1 h.0 _ _ e)
 
-pub read_else-returns-in_err-block-clause-fault : goal.read_else-returns-in_err-block-clause-fault
-read_else-returns-in_err-block-clause-fault t c =
+pub read_else-returns-in_err-block : goal.read_else-returns-in_err-block
+read_else-returns-in_err-block t c =
     let opens = rw c.if-take_else.true at c.take_else.ensures in
     let e = c.in_err-block.ensures in
     let p = err_from_is_err_and c.from_residual.result c.from_residual.ensures.1 in
     rw (p.1, p.2) (fault_on _ _ _ (else_fails c.args.granted c.args.room _ _ opens) e)
 
-pub read_else-returns-clause-found : goal.read_else-returns-clause-found
-read_else-returns-clause-found t c =
+pub read_else-returns : goal.read_else-returns
+read_else-returns t c =
     elim c.if-take_else.branch [
       | read_else-then-take_else+in_ok-block+in_ok-push w ↦
           let opens = rw w.if-take_else.true at c.take_else.ensures in
-          rw (w.branches-is, w.reader-is)
-          ((yes, commands_view w.in_ok-block.block.items) ∷ [], (push-else c.args.branches.items _ w.in_ok-block.block w.in_ok-push.ensures.items, (_, (opens, (refl, w.in_ok-block.ensures.0)))))
+          let added = push-else c.args.branches.items _ w.in_ok-block.block w.in_ok-push.ensures.items in
+          rw (w.branches-is, w.reader-is) (
+            ((yes, commands_view w.in_ok-block.block.items) ∷ [], (added, (_, (opens, (refl, w.in_ok-block.ensures.0))))),
+            λ last to takes.
+                let found = else_only c.args.granted c.args.room _ _ opens (commands_view w.in_ok-block.block.items) _ w.in_ok-block.ensures.1 last to takes in
+                (added ∙ ap (λ l. map branch_view c.args.branches.items ++ l) (sym found.0), found.1),
+          )
       | read_else-else-take_else w ↦
           let kept = rw w.if-take_else.false at c.take_else.ensures in
-          rw (w.branches-is, w.reader-is) ([], (sym (append-nil (map branch_view c.args.branches.items)), (sym kept.1, kept.0 c.requires)))
+          let none = sym (append-nil (map branch_view c.args.branches.items)) in
+          rw (w.branches-is, w.reader-is) (
+            ([], (none, (sym kept.1, kept.0 c.requires))),
+            λ last to takes.
+                let found = else_none c.args.granted c.args.room _ (kept.0 c.requires) last to takes in
+                (none ∙ ap (λ l. map branch_view c.args.branches.items ++ l) (sym found.0), found.1 ∙ sym kept.1),
+          )
     ]
 
-pub read_else-returns-clause-only : goal.read_else-returns-clause-only
-read_else-returns-clause-only t c = λ last to takes.
-    elim c.if-take_else.branch [
-      | read_else-then-take_else+in_ok-block+in_ok-push w ↦
-          let opens = rw w.if-take_else.true at c.take_else.ensures in
-          let found = else_only c.args.granted c.args.room _ _ opens (commands_view w.in_ok-block.block.items) _ w.in_ok-block.ensures.1 last to takes in
-          rw (w.branches-is, w.reader-is) (push-else c.args.branches.items _ w.in_ok-block.block w.in_ok-push.ensures.items ∙ ap (λ l. map branch_view c.args.branches.items ++ l) (sym found.0), found.1)
-      | read_else-else-take_else w ↦
-          let kept = rw w.if-take_else.false at c.take_else.ensures in
-          let found = else_none c.args.granted c.args.room _ (kept.0 c.requires) last to takes in
-          rw (w.branches-is, w.reader-is) (sym (append-nil (map branch_view c.args.branches.items)) ∙ ap (λ l. map branch_view c.args.branches.items ++ l) (sym found.0), found.1 ∙ sym kept.1)
-    ]
-
-pub read_elsifs-returns-in_err-read_branch-clause-fault : goal.read_elsifs-returns-in_err-read_branch-clause-fault
-read_elsifs-returns-in_err-read_branch-clause-fault t c =
+pub read_elsifs-returns-in_err-read_branch : goal.read_elsifs-returns-in_err-read_branch
+read_elsifs-returns-in_err-read_branch t c =
     let l = c.elsifs in
     let opens = rw c.elsifs-test.true at c.take_elsif.ensures in
     let e = c.in_err-read_branch.ensures in
@@ -91,12 +89,15 @@ read_elsifs-elsifs-preserved t c =
       ),
     )
 
-pub read_elsifs-returns-clause-only : goal.read_elsifs-returns-clause-only
-read_elsifs-returns-clause-only t c = λ each to takes.
+pub read_elsifs-returns : goal.read_elsifs-returns
+read_elsifs-returns t c =
     let l = c.elsifs in
-    let ended = rw c.elsifs-test.false at c.take_elsif.ensures in
-    let found = elsifs_end c.args.granted c.args.room _ l.invariant.0 l.reader l.invariant.1.1 ended.0 each to takes in
-    (l.invariant.1.0 ∙ ap (λ bs. map branch_view c.args.branches.items ++ bs) (sym found.0), found.1 ∙ sym ended.1)
+    let ended = rw c.elsifs-test.false at c.take_elsif.ensures in (
+      (l.invariant.0, (l.invariant.1.0, rw ended.1 (l.invariant.1.1.joins, ended.0))),
+      λ each to takes.
+          let found = elsifs_end c.args.granted c.args.room _ l.invariant.0 l.reader l.invariant.1.1 ended.0 each to takes in
+          (l.invariant.1.0 ∙ ap (λ bs. map branch_view c.args.branches.items ++ bs) (sym found.0), found.1 ∙ sym ended.1),
+    )
 
 pub read_if-returns-in_err-first : goal.read_if-returns-in_err-first
 read_if-returns-in_err-first t c =
@@ -106,25 +107,25 @@ read_if-returns-in_err-first t c =
 
 pub read_if-returns-in_err-branches : goal.read_if-returns-in_err-branches
 read_if-returns-in_err-branches t c =
-    let e = c.in_err-branches.ensures.fault in
+    let e = c.in_err-branches.ensures in
     let p = err_from_is_err_and c.from_residual-in_err-branches.result c.from_residual-in_err-branches.ensures.1 in
     rw (p.1, p.2) (fault_on _ _ _ (if_no_elsifs c.args.granted c.args.room _ _ _ c.in_ok-first.ensures) e)
 
 pub read_if-returns-in_err-branches-2 : goal.read_if-returns-in_err-branches-2
 read_if-returns-in_err-branches-2 t c =
     let one = c.in_ok-one.ensures.items in
-    let only = rw one at c.in_ok-branches.ensures.only in
-    let e = c.in_err-branches-2.ensures.fault in
+    let only = rw one at c.in_ok-branches.ensures.1 in
+    let e = c.in_err-branches-2.ensures in
     let p = err_from_is_err_and c.from_residual-in_err-branches-2.result c.from_residual-in_err-branches-2.ensures.1 in
     rw (p.1, p.2) (fault_on _ _ _ (if_no_else c.args.granted c.args.room _ _ _ c.in_ok-first.ensures _ _ only) e)
 
 pub read_if-returns : goal.read_if-returns
 read_if-returns t c =
     let one = c.in_ok-one.ensures.items in
-    let only = rw one at c.in_ok-branches.ensures.only in
-    let each = rw one at c.in_ok-branches.ensures.found in
-    let last = c.in_ok-branches-2.ensures.found in
-    let alone = c.in_ok-branches-2.ensures.only in
+    let only = rw one at c.in_ok-branches.ensures.1 in
+    let each = rw one at c.in_ok-branches.ensures.0 in
+    let last = c.in_ok-branches-2.ensures.0 in
+    let alone = c.in_ok-branches-2.ensures.1 in
     rw view-If (
       if_takes c.args.granted c.args.room _ _ _ c.in_ok-first.ensures _ _ only _ _ alone each.0 last.0 each.1.0 each.1.1 last.1.0 last.1.1,
       if_only c.args.granted c.args.room _ _ _ c.in_ok-first.ensures _ _ only _ _ alone,
@@ -132,26 +133,26 @@ read_if-returns t c =
 
 pub read_block-returns-in_err-block : goal.read_block-returns-in_err-block
 read_block-returns-in_err-block t c =
-    let e = c.in_err-block.ensures.fault in
+    let e = c.in_err-block.ensures in
     let p = err_from_is_err_and c.from_residual-in_err-block.result c.from_residual-in_err-block.ensures.1 in
     rw (p.1, p.2) (fault_on _ _ _ (block_no_inside c.args.granted c.args.room _ (omega arith) _ _ c.in_ok-read_mark.ensures.found) e)
 
 pub read_block-returns-in_err-read_mark-2 : goal.read_block-returns-in_err-read_mark-2
 read_block-returns-in_err-read_mark-2 t c =
-    let only = rw c.in_ok-none.ensures at c.in_ok-block.ensures.only in
+    let only = rw c.in_ok-none.ensures at c.in_ok-block.ensures.1 in
     let e = c.in_err-read_mark-2.ensures.fault in
     let p = err_from_is_err_and c.from_residual-in_err-read_mark-2.result c.from_residual-in_err-read_mark-2.ensures.1 in
     rw (p.1, p.2) (fault_on _ _ _ (block_no_close c.args.granted c.args.room (c.args.room - 1) (omega arith) _ _ c.in_ok-read_mark.ensures.found _ _ only) e)
 
 pub read_block-returns : goal.read_block-returns
 read_block-returns t c =
-    let only = rw c.in_ok-none.ensures at c.in_ok-block.ensures.only in
-    let found = rw c.in_ok-none.ensures at c.in_ok-block.ensures.found in
+    let only = rw c.in_ok-none.ensures at c.in_ok-block.ensures.1 in
+    let found = rw c.in_ok-none.ensures at c.in_ok-block.ensures.0 in
     let all = rw (← found.1.0) at found.1.1 in
     block_found c.args.granted c.args.room (c.args.room - 1) (omega arith) _ _ c.in_ok-read_mark.ensures.found _ _ only all _ c.in_ok-read_mark-2.ensures.found
 
-pub read_commands-returns-in_err-read_command-clause-fault : goal.read_commands-returns-in_err-read_command-clause-fault
-read_commands-returns-in_err-read_command-clause-fault t c =
+pub read_commands-returns-in_err-read_command : goal.read_commands-returns-in_err-read_command
+read_commands-returns-in_err-read_command t c =
     let l = c.commands in
     let e = c.in_err-read_command.ensures in
     let p = err_from_is_err_and c.from_residual.result c.from_residual.ensures.1 in
@@ -173,8 +174,12 @@ read_commands-commands-preserved t c =
       ),
     )
 
-pub read_commands-returns-clause-only : goal.read_commands-returns-clause-only
-read_commands-returns-clause-only t c = λ more to all.
+pub read_commands-returns : goal.read_commands-returns
+read_commands-returns t c =
     let l = c.commands in
-    let found = commands_end c.args.granted c.args.room _ l.invariant.0 l.reader l.invariant.1.1 (c.commands-test.ensures.0 (search rules)) more to all in
-    (l.invariant.1.0 ∙ ap (λ trees. map command_view c.args.commands.items ++ trees) (sym found.0), found.1)
+    let stops = c.commands-test.ensures.0 (search rules) in (
+      (l.invariant.0, (l.invariant.1.0, (l.invariant.1.1.joins, stops))),
+      λ more to all.
+          let found = commands_end c.args.granted c.args.room _ l.invariant.0 l.reader l.invariant.1.1 stops more to all in
+          (l.invariant.1.0 ∙ ap (λ trees. map command_view c.args.commands.items ++ trees) (sym found.0), found.1),
+    )

@@ -1,6 +1,8 @@
-use Rattle.std.proofs.Common.{◌≡◌, ap, sym, ◌∙◌, ◌++◌, ◌∷◌, [], map, append_assoc, length, arith, Ok, ◌-◌}
+use Rattle.std.proofs.Common.{◌≡◌, subst, ap, sym, ◌∙◌, ◌++◌, ◌∷◌, [], map, append_assoc, length, arith, Ok, ◌-◌}
 use Rattle.std.proofs.lemmas.Result.{err_from_is_err_and}
 use Rattle.sievesyntax.specs.View.{test_view}
+use Rattle.sievesyntax.specs.Chains.{Chain}
+use Rattle.sievesyntax.specs.Steps.{TakesNextTest}
 use Rattle.sievesyntax.proofs.FaultLemmas.{fault_on, faults_on}
 use Rattle.sievesyntax.proofs.ViewLemmas.{view-Not, view-AllOf, view-AnyOf, push-test}
 use Rattle.sievesyntax.proofs.TestLemmas.{allof_none, allof_found, anyof_none, anyof_found, not_deep, not_none, not_found, tests_no_first, tests_after, next_stops, next_lacks, next_grows, next_ends, reads_test_longer}
@@ -50,17 +52,16 @@ read_tests-returns-in_err-first t c =
 
 pub read_tests-returns : goal.read_tests-returns
 read_tests-returns t c =
-    let h = c.read_more_tests.ensures in
-    tests_after c.args.granted c.args.lists c.args.nots _ _ c.in_ok-read_mark.ensures.found (c.args.lists - 1) (omega arith) _ _ c.in_ok-first.ensures c.in_ok-one.one.items _ c.read_more_tests.result (ap (map test_view) c.in_ok-one.ensures.items) h.found h.only h.fault
+    tests_after c.args.granted c.args.lists c.args.nots _ _ c.in_ok-read_mark.ensures.found (c.args.lists - 1) (omega arith) _ _ c.in_ok-first.ensures c.in_ok-one.one.items _ c.read_more_tests.result (ap (map test_view) c.in_ok-one.ensures.items) c.read_more_tests.ensures
 
-pub read_more_tests-returns-in_err-read_separator-clause-fault : goal.read_more_tests-returns-in_err-read_separator-clause-fault
-read_more_tests-returns-in_err-read_separator-clause-fault t c =
+pub read_more_tests-returns-in_err-read_separator : goal.read_more_tests-returns-in_err-read_separator
+read_more_tests-returns-in_err-read_separator t c =
     let p = err_from_is_err_and c.from_residual.result c.from_residual.ensures.1 in
     let l = c.tests in
     rw (p.1, p.2) (faults_on _ _ _ _ (next_stops c.args.granted c.args.lists c.args.nots _ l.invariant.0 l.reader l.invariant.1.1) c.in_err-read_separator.ensures.no_comma c.in_err-read_separator.ensures.no_close)
 
-pub read_more_tests-returns-in_err-read_test-clause-fault : goal.read_more_tests-returns-in_err-read_test-clause-fault
-read_more_tests-returns-in_err-read_test-clause-fault t c =
+pub read_more_tests-returns-in_err-read_test : goal.read_more_tests-returns-in_err-read_test
+read_more_tests-returns-in_err-read_test t c =
     let p = err_from_is_err_and c.from_residual-in_err-read_test.result c.from_residual-in_err-read_test.ensures.1 in
     let l = c.tests in
     let comma = c.in_ok-read_separator.ensures.comma (ap Ok c.if-branch.true) in
@@ -84,8 +85,12 @@ read_more_tests-tests-preserved t c =
       ),
     )
 
-pub read_more_tests-returns-clause-only : goal.read_more_tests-returns-clause-only
-read_more_tests-returns-clause-only t c = λ more to chain.
+pub read_more_tests-returns : goal.read_more_tests-returns
+read_more_tests-returns t c =
     let l = c.tests in
-    let found = next_ends c.args.granted c.args.lists c.args.nots _ l.invariant.0 l.reader l.invariant.1.1 _ (c.in_ok-read_separator.ensures.closed (ap Ok c.if-branch.false)) more to chain in
-    (l.invariant.1.0 ∙ ap (λ ts. map test_view c.args.tests.items ++ ts) (sym found.0), found.1)
+    let closed = c.in_ok-read_separator.ensures.closed (ap Ok c.if-branch.false) in (
+      (l.invariant.0, (l.invariant.1.0, subst (Chain (TakesNextTest c.args.granted c.args.lists c.args.nots) l.invariant.0 c.args.reader.now) closed l.invariant.1.1.joins)),
+      λ more to chain.
+          let found = next_ends c.args.granted c.args.lists c.args.nots _ l.invariant.0 l.reader l.invariant.1.1 _ closed more to chain in
+          (l.invariant.1.0 ∙ ap (λ ts. map test_view c.args.tests.items ++ ts) (sym found.0), found.1),
+    )

@@ -1,5 +1,5 @@
 use Rattle.std.proofs.Common.{◌≡◌, ◌+◌, ◌*◌, ◌++◌, List, length, map}
-use Rattle.sievelex.specs.declared.token.Kind.TheVariants as K
+use Rattle.sievelex.specs.declared.token.Mark.TheVariants as K
 use Rattle.sievesyntax.specs.Tree.{TestTree}
 use Rattle.sievesyntax.specs.View.{test_view}
 use Rattle.sievesyntax.specs.Steps.{TakesNextTest}

@@ -1,0 +1,17 @@
+-- The names of files that keep messages.
+use Rattle.std.specs.Prelude.{ℕ, List, length, ◌++◌, codes, decimal}
+use Rattle.std.specs.Int.{w64, to_be_bytes}
+use Rattle.sha2.specs.Sha256.{sha256}
+use Rattle.hex.specs.Hex.{encode_lower}
+
+-- a text after its length, in eight octets, the highest first
+abbrev pub counted : List ℕ → List ℕ
+counted text = to_be_bytes w64 (length text) ++ text
+
+-- a user, a folder and a message as one text
+abbrev pub joined : List ℕ → List ℕ → List ℕ → List ℕ
+joined user folder message = counted user ++ counted folder ++ message
+
+-- the number in decimal, a dot, and the digest of user, folder and message in hexadecimal digits
+abbrev pub file_name : List ℕ → List ℕ → ℕ → List ℕ → List ℕ
+file_name user folder number message = decimal number ++ (codes "." ++ encode_lower (sha256 (joined user folder message)))

@@ -1,0 +1,141 @@
+//! A sink over a Maildir.
+ghost use Rattle.std.specs.Prelude.{[]};
+
+use crate::cause::of_file;
+use crate::file_name::name_of;
+use crate::sink::{MailSink, SinkError};
+use std::fs::File;
+use std::io::{ErrorKind, Write};
+use std::{format, fs, io};
+
+/// Keeps messages in a Maildir, each as a file of `new`: one for any program that reads Maildirs.
+///
+/// A file is written under `tmp`, and stands in `new` only once all of it is on the disk. Memory is that of two paths.
+#[derive(Drop)]
+pub struct Maildir<'a> {
+    rt: &'a HostRuntime,
+    /// The path, where one was taken.
+    path: Option<String>,
+    cause: Option<&'static str>,
+}
+
+impl<'a> Maildir<'a> {
+    /// A sink that has no place yet.
+    pub fn new(rt: &'a HostRuntime) -> Maildir<'a> {
+        Maildir {
+            rt,
+            path: None,
+            cause: None,
+        }
+    }
+
+    /// What is answered for an error of the system. What is known of it is kept for `cause`.
+    fn refusal(&mut self, error: io::Error) -> SinkError {
+        self.cause = of_file(error.kind());
+        match error.kind() {
+            ErrorKind::OutOfMemory => SinkError::Memory,
+            _ => SinkError::Failed,
+        }
+    }
+}
+
+impl MailSink for Maildir<'_> {
+    ghost use Rattle.std.specs.Prelude.{false};
+
+    ghost tells = { false };
+
+    // Any, since it tells none.
+    ghost kept = { λ _. [] };
+
+    fn open(&mut self, path: &str) -> Result<(), SinkError> {
+        self.cause = None;
+        match is_maildir(self.rt, path) {
+            Ok(true) => {
+                self.path = Some(String::from_str(self.rt.alloc(), path)?);
+                Ok(())
+            }
+            Ok(false) => Err(SinkError::NoMaildir),
+            Err(error) => Err(self.refusal(error)),
+        }
+    }
+
+    fn keep(
+        &mut self,
+        user: &[u8],
+        folder: &[u8],
+        number: u64,
+        message: &[u8],
+    ) -> Result<(), SinkError> {
+        self.cause = None;
+        let Some(path) = &self.path else {
+            return Err(SinkError::NoMaildir);
+        };
+        let name = name_of(self.rt.alloc(), user, folder, number, message)?;
+        match keep_in(self.rt, path.as_str(), name.as_str(), message) {
+            Ok(()) => Ok(()),
+            Err(error) => Err(self.refusal(error)),
+        }
+    }
+
+    fn cause(&self) -> Option<&'static str> {
+        self.cause
+    }
+}
+
+/// Whether the path is a directory that has the directories `tmp` and `new`.
+fn is_maildir(rt: &HostRuntime, path: &str) -> io::Result<bool> {
+    let tmp = format!(in rt.alloc(); "{path}/tmp")?;
+    let new = format!(in rt.alloc(); "{path}/new")?;
+    Ok(!path.is_empty() && is_directory(rt, tmp.as_str())? && is_directory(rt, new.as_str())?)
+}
+
+/// Whether the path is a directory. One that can't be there isn't.
+fn is_directory(rt: &HostRuntime, path: &str) -> io::Result<bool> {
+    match fs::metadata(rt, path) {
+        Ok(found) => Ok(found.is_dir()),
+        Err(error) => match error.kind() {
+            ErrorKind::NotFound
+            | ErrorKind::NotADirectory
+            | ErrorKind::InvalidFilename
+            | ErrorKind::InvalidInput => Ok(false),
+            _ => Err(error),
+        },
+    }
+}
+
+/// Puts a message into a Maildir under a name. On Ok the file and its name are on the disk; a file that doesn't come into
+/// `new` isn't left under `tmp` either.
+fn keep_in(rt: &HostRuntime, path: &str, name: &str, message: &[u8]) -> io::Result<()> {
+    let first = format!(in rt.alloc(); "{path}/tmp/{name}")?;
+    let last = format!(in rt.alloc(); "{path}/new/{name}")?;
+    let new = format!(in rt.alloc(); "{path}/new")?;
+    if let Err(error) = write_and_move(rt, first.as_str(), last.as_str(), message) {
+        let _ = fs::remove_file(rt, first.as_str());
+        return Err(error);
+    }
+    File::open(rt, new.as_str())?.sync_all()
+}
+
+/// Writes a file and gives it its last path once all of it is on the disk. A file that has that path is replaced.
+fn write_and_move(rt: &HostRuntime, first: &str, last: &str, message: &[u8]) -> io::Result<()> {
+    write_whole(rt, first, message)?;
+    fs::rename(rt, first, last)
+}
+
+/// A new file that holds the message, on the disk. What an earlier try left under that path is removed first.
+fn write_whole(rt: &HostRuntime, path: &str, message: &[u8]) -> io::Result<()> {
+    let mut file = made(rt, path)?;
+    file.write_all(message)?;
+    file.sync_all()
+}
+
+/// A new file, without what was there under its path.
+fn made(rt: &HostRuntime, path: &str) -> io::Result<File> {
+    match File::create_new(rt, path) {
+        Err(error) if error.kind() == ErrorKind::AlreadyExists => {
+            fs::remove_file(rt, path)?;
+            File::create_new(rt, path)
+        }
+        made => made,
+    }
+}

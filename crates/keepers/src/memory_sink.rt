@@ -1,0 +1,88 @@
+//! A sink over memory, for tests.
+ghost use Rattle.std.specs.Prelude.{◌≡◌, []};
+
+use crate::sink::{MailSink, SinkError};
+use octets::{Octets, Texts};
+use std::alloc::Global;
+
+/// Keeps messages in memory, whatever path it is given, and fails at one call that was chosen.
+#[derive(Drop)]
+pub struct MemorySink {
+    messages: Texts,
+    alloc: Global,
+    /// How many calls of `keep` come before the one that fails.
+    fail_after: Option<u64>,
+    /// Whether each path is taken for one that isn't a Maildir's.
+    refuses: bool,
+}
+
+impl MemorySink {
+    /// A sink without messages. Takes no memory.
+    pub fn new(alloc: Global) -> MemorySink
+        ensures { result.messages ≡ [] }
+    {
+        MemorySink {
+            messages: Texts::new(alloc),
+            alloc,
+            fail_after: None,
+            refuses: false,
+        }
+    }
+
+    /// The one call of `keep` after that many others answers `Failed`, and keeps nothing.
+    pub fn fail_after(&mut self, calls: u64)
+        ensures { self.new.messages ≡ self.old.messages }
+    {
+        self.fail_after = Some(calls);
+    }
+
+    /// From now on each call of `open` answers `NoMaildir`.
+    pub fn refuse_maildir(&mut self)
+        ensures { self.new.messages ≡ self.old.messages }
+    {
+        self.refuses = true;
+    }
+
+    /// What was kept, in order. Takes no memory.
+    pub fn messages(&self) -> &[Octets]
+        ensures { result.now ≡ self.now.messages }
+    {
+        self.messages.as_slice()
+    }
+}
+
+impl MailSink for MemorySink {
+    ghost use Rattle.std.specs.Prelude.{true};
+
+    ghost tells = { true };
+
+    ghost kept = { λ sink. sink.messages };
+
+    fn open(&mut self, _path: &str) -> Result<(), SinkError> {
+        if self.refuses {
+            return Err(SinkError::NoMaildir);
+        }
+        Ok(())
+    }
+
+    fn keep(
+        &mut self,
+        _user: &[u8],
+        _folder: &[u8],
+        _number: u64,
+        message: &[u8],
+    ) -> Result<(), SinkError> {
+        let calls = self.fail_after;
+        self.fail_after = calls.and_then(|calls| calls.checked_sub(1));
+        if calls == Some(0) {
+            return Err(SinkError::Failed);
+        }
+        self.messages
+            .push(Octets::from_slice(self.alloc, message)?)?;
+        Ok(())
+    }
+
+    fn cause(&self) -> Option<&'static str> {
+        None
+    }
+}

@@ -1,0 +1,136 @@
+-- Messages that leave a folder, one after the other, and a sink that grows.
+use Prim.Native.Nat.{zero}
+use Rattle.std.proofs.Common.{◌≡◌, ◌⊎◌, ◌+◌, ℕ, suc, Bool, true, false, cond, List, [], ◌∷◌, ◌++◌, take, drop, replicate, Option, Some, None, option_map, unwrap_or, IsTrue, refl, sym, ◌∙◌, ap, subst, inl, inr, append_assoc, zero-add}
+use Rattle.std.proofs.Math.Nat.{suc-add}
+use Rattle.std.proofs.Math.Seq.{take-add}
+use Rattle.std.proofs.lemmas.List.{append-nil}
+use Rattle.std.specs.FinMap.{get}
+use Rattle.sqlite_typed.proofs.TestLemmas.{bytes_eq_refl}
+use Rattle.keepers.specs.Kept.{MayKeep}
+use Rattle.mailstore.specs.declared.refusal.Refusal.{Refusal}
+use Rattle.mailstore.specs.Account.{Account, Accounts, with_user, messages_in, takes_mail}
+use Rattle.mailstore.proofs.TakingLemmas.{held_get, unless_none}
+use Rattle.mailengine.specs.declared.event.Event.TheVariants.{TakeMail}
+use Rattle.mailengine.specs.declared.answer.Answer.{Answer}
+use Rattle.mailengine.specs.declared.answer.Answer.TheVariants.{MailTaken, Refused}
+use Rattle.mailengine.specs.AccountEvents.{TakesFirst, TakesMailIn, MailTaking}
+use Rattle.mailengine.specs.World.{World, Next, Runs}
+use Rattle.mailengine.proofs.AloneLemmas.{changed_own}
+use Rattle.sievedrun.specs.Draining.{mail_of, mail_in, Leave, GrowsBy}
+use Rattle.sievedrun.specs.Promise.{world_of}
+
+module _ (user folder : List ℕ) where
+  -- ---- one message
+
+  -- the folder after its first message left
+  left_of : (a : Account) → messages_in (takes_mail folder 1 a).folders folder ≡ drop 1 (messages_in a.folders folder)
+  left_of a =
+      let left = drop 1 (messages_in a.folders folder) in
+      ap (λ o. unwrap_or o []) (held_get a.folders folder left folder ∙ ap (λ b. cond b (unless_none left) (get a.folders folder)) (bytes_eq_refl folder)) ∙ whole left
+    where
+      whole : (xs : List (List ℕ)) → unwrap_or (unless_none xs) [] ≡ xs
+      whole [] = refl
+      whole (x ∷ xs) = refl
+
+  mail_left : (accounts : Accounts) (a : Account) → get accounts user ≡ Some a → mail_in (with_user accounts user (takes_mail folder 1)) user folder ≡ drop 1 (messages_in a.folders folder)
+  mail_left accounts a has =
+      ap (λ o. mail_of o folder) (changed_own accounts user (takes_mail folder 1) (bytes_eq_refl user) ∙ ap (option_map (takes_mail folder 1)) has) ∙ left_of a
+
+  mail_is : (accounts : Accounts) (a : Account) → get accounts user ≡ Some a → mail_in accounts user folder ≡ messages_in a.folders folder
+  mail_is accounts a has = ap (λ o. mail_of o folder) has
+
+  not_refused : {P : Type 0} (r : Refusal) → MailTaken ≡ Refused r → P
+  not_refused r is = absurd (let no = is in cc)
+
+  -- a message that was taken was the folder's first
+  pub taken_first : (accounts later : Accounts) → MailTaking accounts user folder MailTaken later → (message : List ℕ) × (mail_in accounts user folder ≡ message ∷ mail_in later user folder)
+  taken_first accounts later taking = go (get accounts user) refl taking
+    where
+      by : (a : Account) (messages : List (List ℕ)) → get accounts user ≡ Some a → messages_in a.folders folder ≡ messages → TakesFirst accounts user folder messages MailTaken later
+          → (message : List ℕ) × (mail_in accounts user folder ≡ message ∷ mail_in later user folder)
+      by a [] has is t = not_refused _ t.refused
+      by a (message ∷ more) has is t =
+          let rest : mail_in later user folder ≡ more = ap (λ all. mail_in all user folder) t.changed ∙ (mail_left accounts a has ∙ ap (drop 1) is) in
+          (message, mail_is accounts a has ∙ (is ∙ ap (λ l. message ∷ l) (sym rest)))
+
+      go : (o : Option Account) → get accounts user ≡ o → TakesMailIn accounts user folder o MailTaken later → (message : List ℕ) × (mail_in accounts user folder ≡ message ∷ mail_in later user folder)
+      go None has t = not_refused _ t.refused
+      go (Some a) has t = by a (messages_in a.folders folder) has refl t
+
+  -- of a folder that has a message the event takes it
+  pub has_first : (accounts later : Accounts) (answer : Answer) (message : List ℕ) (more : List (List ℕ)) → mail_in accounts user folder ≡ message ∷ more → MailTaking accounts user folder answer later → answer ≡ MailTaken
+  has_first accounts later answer message more has taking = go (get accounts user) has taking
+    where
+      by : (messages : List (List ℕ)) → messages ≡ message ∷ more → TakesFirst accounts user folder messages answer later → answer ≡ MailTaken
+      by [] is t = absurd (let no = is in cc)
+      by (m ∷ ms) is t = t.taken
+
+      go : (o : Option Account) → mail_of o folder ≡ message ∷ more → TakesMailIn accounts user folder o answer later → answer ≡ MailTaken
+      go None is t = absurd (let no = is in cc)
+      go (Some a) is t = by (messages_in a.folders folder) is t
+
+  -- the machine's event took a message
+  next_taking : (accounts : Accounts) (w : World) → Next (world_of accounts) (TakeMail user folder) MailTaken w → (later : Accounts) × MailTaking accounts user folder MailTaken later × (w ≡ world_of later)
+  next_taking accounts w (inl happens) = happens
+  next_taking accounts w (inr refused) = not_refused _ refused.refused
+
+  -- ---- several, in turn
+
+  pub leave_none : (accounts : Accounts) → Leave user folder 0 accounts accounts
+  leave_none accounts = refl
+
+  pub none_left : (accounts later : Accounts) → Leave user folder 0 accounts later → later ≡ accounts
+  none_left accounts later is = ap (λ (w : World). w.accounts) is
+
+  pub leave_one : (accounts later : Accounts) → MailTaking accounts user folder MailTaken later → Leave user folder 1 accounts later
+  leave_one accounts later taking = (world_of later, inl (later, taking, refl), refl)
+
+  -- the first event of several, and the others
+  opened : (count : ℕ) (accounts later : Accounts) → Leave user folder (suc count) accounts later → (mid : Accounts) × MailTaking accounts user folder MailTaken mid × Leave user folder count mid later
+  opened count accounts later left =
+      let one = next_taking accounts left.0 left.1 in
+      (one.0, one.1, subst (λ w. Runs w (replicate count (TakeMail user folder)) (replicate count MailTaken) (world_of later)) one.2 left.2)
+
+  pub leave_then : (count more : ℕ) (accounts mid later : Accounts) → Leave user folder count accounts mid → Leave user folder more mid later → Leave user folder (count + more) accounts later
+  leave_then zero more accounts mid later left right =
+      subst (λ n. Leave user folder n accounts later) (sym (zero-add more)) (subst (λ all. Leave user folder more all later) (none_left accounts mid left) right)
+  leave_then (suc count) more accounts mid later left right =
+      let one = opened count accounts mid left in
+      let rest = leave_then count more one.0 mid later one.2 right in
+      let whole : Leave user folder (suc (count + more)) accounts later = (world_of one.0, inl (one.0, one.1, refl), rest) in
+      subst (λ n. Leave user folder n accounts later) (sym (suc-add count more)) whole
+
+  -- what is left of the folder
+  pub mail_rest : (count : ℕ) (accounts later : Accounts) → Leave user folder count accounts later → mail_in later user folder ≡ drop count (mail_in accounts user folder)
+  mail_rest zero accounts later left = ap (λ all. mail_in all user folder) (none_left accounts later left)
+  mail_rest (suc count) accounts later left =
+      let one = opened count accounts later left in
+      let first = taken_first accounts one.0 one.1 in
+      mail_rest count one.0 later one.2 ∙ sym (ap (drop (suc count)) first.1)
+
+  -- the first messages, and those after them
+  pub take_then : (count more : ℕ) (accounts mid : Accounts) → Leave user folder count accounts mid
+      → take (count + more) (mail_in accounts user folder) ≡ take count (mail_in accounts user folder) ++ take more (mail_in mid user folder)
+  take_then count more accounts mid left =
+      take-add count more (mail_in accounts user folder) ∙ ap (λ l. take count (mail_in accounts user folder) ++ take more l) (sym (mail_rest count accounts mid left))
+
+-- ---- what a sink keeps
+
+-- it is as it was
+pub grown_none : (tells : Bool) (old : List (List ℕ)) → GrowsBy tells old old []
+grown_none tells old told = sym (append-nil old)
+
+pub grown_then : (tells : Bool) (old mid new xs ys : List (List ℕ)) → GrowsBy tells old mid xs → GrowsBy tells mid new ys → GrowsBy tells old new (xs ++ ys)
+grown_then tells old mid new xs ys one two told = two told ∙ (ap (λ l. l ++ ys) (one told) ∙ append_assoc old xs ys)
+
+-- of a sink that tells, one of two; of another either
+pub either_told : (tells : Bool) (P Q : Type 0) → (IsTrue tells → P ⊎ Q) → (IsTrue tells → P) ⊎ (IsTrue tells → Q)
+either_told true P Q h = elim (h refl) [ inl p ↦ inl (λ told. p) | inr q ↦ inr (λ told. q) ]
+either_told false P Q h = inl (λ told. absurd (let no = told in cc))
+
+-- a message that may be kept
+pub may_be_kept : (tells : Bool) (old new mail : List (List ℕ)) (message : List ℕ) (more : List (List ℕ)) → mail ≡ message ∷ more → (IsTrue tells → MayKeep old message new)
+    → GrowsBy tells old new (take 0 mail) ⊎ GrowsBy tells old new (take 1 mail)
+may_be_kept tells old new mail message more is may =
+    either_told tells (new ≡ old ++ take 0 mail) (new ≡ old ++ take 1 mail)
+    (λ told. elim (may told) [ inl same ↦ inl (same ∙ sym (append-nil old)) | inr one ↦ inr (one ∙ ap (λ l. old ++ take 1 l) (sym is)) ])

@@ -1,0 +1,133 @@
+-- Messages that go from a folder into a sink.
+use Rattle.std.specs.Prelude.{◌≡◌, ◌⊎◌, ℕ, suc, ◌<◌, ◌≤◌, Bool, true, false, List, [], ◌++◌, take, replicate, Option, Some, None, Result, Ok, Err, IsTrue, option_copied}
+use Rattle.std.specs.FinMap.{get}
+use Rattle.octets.specs.Decimal.{Writes}
+use Rattle.sqlite.specs.Effect.{Database}
+use Rattle.sqlite.specs.State.{State, HasCleanDisk, Survives}
+use Rattle.mailstore.specs.Account.{Account, Accounts, messages_in}
+use Rattle.mailstore.specs.Promises.{HasUser, IsFree}
+use Rattle.mailstore.specs.Schema.{no_schema}
+use Rattle.mailstore.specs.Shows.{Presents}
+use Rattle.sessions.specs.Acts.{Carries, CrashLeaves}
+use Rattle.mailengine.specs.declared.event.Event.TheVariants.{TakeMail}
+use Rattle.mailengine.specs.declared.answer.Answer.TheVariants.{MailTaken}
+use Rattle.mailengine.specs.World.{Runs}
+use Rattle.sievedrun.specs.declared.drain.Draining.{Draining}
+use Rattle.sievedrun.specs.declared.fault.Fault.{Fault}
+use Rattle.sievedrun.specs.declared.fault.Fault.TheVariants.{NoUser}
+use Rattle.sievedrun.specs.Faults.{status_of}
+use Rattle.sievedrun.specs.Promise.{world_of}
+
+-- the messages of an account's folder; none where there is no account
+abbrev pub mail_of : Option Account → List ℕ → List (List ℕ)
+mail_of None folder = []
+mail_of (Some a) folder = messages_in a.folders folder
+
+-- the messages of the user's folder, in the order in which they came; none where the user or the folder is absent
+abbrev pub mail_in : Accounts → List ℕ → List ℕ → List (List ℕ)
+mail_in accounts user folder = mail_of (get accounts user) folder
+
+-- that many messages leave the user's folder, each the first of it: an event of the machine takes it, and answers so
+abbrev pub Leave : List ℕ → List ℕ → ℕ → Accounts → Accounts → Type 0
+Leave user folder count accounts later = Runs (world_of accounts) (replicate count (TakeMail user folder)) (replicate count MailTaken) (world_of later)
+
+-- what a sink keeps grew by these messages, at its end; of one that doesn't tell what it keeps nothing is said
+abbrev pub GrowsBy : Bool → List (List ℕ) → List (List ℕ) → List (List ℕ) → Type 0
+GrowsBy tells old new messages = IsTrue tells → new ≡ old ++ messages
+
+-- tables that showed accounts then show what became of them; a database without tables stays so
+pub record TurnsTables (Became : Accounts → Accounts → Type 0) (old new : Database) : Type 0 where
+  pub accounts : (accounts : Accounts) → Presents old accounts → (later : Accounts) × Became accounts later × Presents new later
+  pub none : old.schema ≡ no_schema → new.schema ≡ no_schema
+
+-- ---- the user's folder, and a sink that grew by such messages
+module _ (user folder : List ℕ) (Grew : List (List ℕ) → Type 0) where
+  -- the first messages left the folder, that many, and the sink has exactly these more
+  pub record Moved (count : ℕ) (accounts later : Accounts) : Type 0 where
+    pub left : Leave user folder count accounts later
+    pub kept : Grew (take count (mail_in accounts user folder))
+
+  -- it ended early: the sink has those that left, and maybe the one after them, which is in the folder still
+  pub record StoppedShort (count : ℕ) (accounts later : Accounts) : Type 0 where
+    pub left : Leave user folder count accounts later
+    pub kept : Grew (take count (mail_in accounts user folder)) ⊎ Grew (take (suc count) (mail_in accounts user folder))
+
+  -- after a crash: each message that left is kept, be it with others
+  pub record LostNone (accounts later : Accounts) : Type 0 where
+    pub count : ℕ
+    pub left : Leave user folder count accounts later
+    pub others : List (List ℕ)
+    pub kept : Grew (take count (mail_in accounts user folder) ++ others)
+
+  -- over a store: whatever accounts it showed, it then shows what became of them; a connection that a fault of the disk has shut stays shut; and no crash loses a message
+  pub record MovesMail (Became : Accounts → Accounts → Type 0) (old new : State) : Type 0 where
+    pub carries : Carries Became old new
+    pub shut : HasCleanDisk new → IsTrue new.is_open → IsTrue old.is_open
+    pub crash : Survives old new (λ trees. IsTrue new.is_open → CrashLeaves LostNone old trees)
+
+  -- ---- the first message
+
+  -- it moved; or the folder has none; after a refusal it is in the folder still
+  abbrev pub FirstMoved : Result Bool Fault → Accounts → Accounts → Type 0
+  FirstMoved (Ok true) accounts later = Moved 1 accounts later
+  FirstMoved (Ok false) accounts later = Moved 0 accounts later × (mail_in accounts user folder ≡ [])
+  FirstMoved (Err fault) accounts later = StoppedShort 0 accounts later
+
+  -- ---- all of them, or as many of the first ones as are asked for
+
+  pub record AllMoved (most count : ℕ) (accounts later : Accounts) : Type 0 where
+    pub moved : Moved count accounts later
+    pub at_most : count ≤ most
+    pub whole : count < most → mail_in later user folder ≡ []
+
+  -- after a refusal that many had moved
+  abbrev pub AnyMoved : ℕ → Result ℕ Fault → Accounts → Accounts → Type 0
+  AnyMoved most (Ok count) accounts later = AllMoved most count accounts later
+  AnyMoved most (Err fault) accounts later = (count : ℕ) × StoppedShort count accounts later
+
+  -- it broke off with a fault; one that doesn't say that another try may help comes before any message has left
+  abbrev pub BrokeOff : Fault → Accounts → Accounts → Type 0
+  BrokeOff fault accounts later = (count : ℕ) × StoppedShort count accounts later × ((count ≡ 0) ⊎ (status_of fault ≡ 75))
+
+  -- of a user who has an account
+  abbrev pub Drained : ℕ → Result ℕ Fault → Accounts → Accounts → Type 0
+  Drained most (Ok count) accounts later = HasUser user accounts × AllMoved most count accounts later
+  Drained most (Err fault) accounts later = BrokeOff fault accounts later
+
+-- ---- a call over a store, and a sink that tells what it keeps or doesn't, before and afterwards
+
+abbrev pub MovesFirst : List ℕ → List ℕ → Bool → List (List ℕ) → List (List ℕ) → Result Bool Fault → State → State → Type 0
+MovesFirst user folder tells had has result = MovesMail user folder (GrowsBy tells had has) (FirstMoved user folder (GrowsBy tells had has) result)
+
+abbrev pub MovesAll : List ℕ → List ℕ → Bool → List (List ℕ) → List (List ℕ) → ℕ → Result ℕ Fault → State → State → Type 0
+MovesAll user folder tells had has most result = MovesMail user folder (GrowsBy tells had has) (AnyMoved user folder (GrowsBy tells had has) most result)
+
+-- and there is no such user where that is said
+abbrev pub Drains : List ℕ → List ℕ → Bool → List (List ℕ) → List (List ℕ) → ℕ → Result ℕ Fault → State → State → Type 0
+Drains user folder tells had has most result =
+    MovesMail user folder (GrowsBy tells had has) (λ accounts later. Drained user folder (GrowsBy tells had has) most result accounts later × (result ≡ Err NoUser → IsFree user accounts))
+
+-- ---- the word
+
+-- as many as the digits say; without digits all, 18,446,744,073,709,551,615 at most
+abbrev pub IsMost : Option (List ℕ) → ℕ → Type 0
+IsMost None most = most ≡ 18446744073709551615
+IsMost (Some digits) most = Writes digits most
+
+-- after Ok it did what it was asked for; after a fault the messages that moved stay so
+abbrev pub WordDrained : Draining → (List (List ℕ) → Type 0) → Result (Unit {0}) Fault → Accounts → Accounts → Type 0
+WordDrained asked Grew (Ok done) accounts later = (most : ℕ) × (count : ℕ) × IsMost (option_copied asked.most) most × Drained asked.user.now asked.folder.now Grew most (Ok count) accounts later
+WordDrained asked Grew (Err fault) accounts later = BrokeOff asked.user.now asked.folder.now Grew fault accounts later
+
+-- over tables: a store of theirs was drained
+abbrev pub MovesTables : Draining → Bool → List (List ℕ) → List (List ℕ) → ℕ → Result ℕ Fault → Database → Database → Type 0
+MovesTables asked tells had has most result = TurnsTables (Drained asked.user.now asked.folder.now (GrowsBy tells had has) most result)
+
+-- and the word was done
+abbrev pub HasDrained : Draining → Bool → List (List ℕ) → List (List ℕ) → Result (Unit {0}) Fault → Database → Database → Type 0
+HasDrained asked tells had has result = TurnsTables (WordDrained asked (GrowsBy tells had has) result)
+
+-- whatever the word: the sink is as it was, or messages of one folder moved into it
+abbrev pub KeepsMail : Bool → List (List ℕ) → List (List ℕ) → Database → Database → Type 0
+KeepsMail tells had has old new =
+    GrowsBy tells had has [] ⊎ ((user : List ℕ) × (folder : List ℕ) × TurnsTables (λ accounts later. (count : ℕ) × StoppedShort user folder (GrowsBy tells had has) count accounts later) old new)

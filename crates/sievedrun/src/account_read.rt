@@ -1,0 +1,88 @@
+//! Reads of one user's account, each of a store that is taken and handed back.
+ghost use Rattle.std.specs.Prelude.{◌≡◌, false, IsTrue};
+ghost use Rattle.sqlite.specs.Held.{state};
+ghost use Rattle.mailstore.specs.Promises.{Keeps};
+ghost use Rattle.sievedrun.specs.Promise.{LeavesAll};
+
+use crate::commands::taken;
+use crate::fault::Fault;
+use keepers::Keeper;
+use mailstore::{Folder, Notice, Outgoing, Refusal, Store};
+use octets::{List, Texts};
+use sievedwords::Place;
+use sqlite::Alter;
+
+/// What is read of a user's account.
+pub trait AccountRead {
+    /// What is found.
+    type Found: Drop;
+
+    /// Reads it of a store. Errors are those of the store's read.
+    fn read<S: Alter>(&self, store: &mut Store<S>) -> Result<Self::Found, Refusal>
+        ensures { Keeps (state S.Store store.old) (state S.Store store.new) result };
+}
+
+/// The folders of the user with this name.
+#[derive(Clone, Copy)]
+pub struct FoldersOf<'a>(pub &'a str);
+
+/// The messages of the folder with the second name, of the user with the first one.
+#[derive(Clone, Copy)]
+pub struct MessagesOf<'a>(pub &'a str, pub &'a str);
+
+/// The messages on their way out of the user with this name.
+#[derive(Clone, Copy)]
+pub struct QueueOf<'a>(pub &'a str);
+
+/// The notices of the user with this name.
+#[derive(Clone, Copy)]
+pub struct NoticesOf<'a>(pub &'a str);
+
+impl AccountRead for FoldersOf<'_> {
+    type Found = List<Folder>;
+
+    fn read<S: Alter>(&self, store: &mut Store<S>) -> Result<List<Folder>, Refusal> {
+        store.folders(self.0.as_bytes())
+    }
+}
+
+impl AccountRead for MessagesOf<'_> {
+    type Found = Texts;
+
+    fn read<S: Alter>(&self, store: &mut Store<S>) -> Result<Texts, Refusal> {
+        store.folder(self.0.as_bytes(), self.1.as_bytes())
+    }
+}
+
+impl AccountRead for QueueOf<'_> {
+    type Found = List<Outgoing>;
+
+    fn read<S: Alter>(&self, store: &mut Store<S>) -> Result<List<Outgoing>, Refusal> {
+        store.queue(self.0.as_bytes())
+    }
+}
+
+impl AccountRead for NoticesOf<'_> {
+    type Found = List<Notice>;
+
+    fn read<S: Alter>(&self, store: &mut Store<S>) -> Result<List<Notice>, Refusal> {
+        store.notices(self.0.as_bytes())
+    }
+}
+
+/// What is found in the store at a place, which is taken for this read and handed back.
+pub fn read_once<Q: AccountRead, K: Keeper>(
+    place: Place<'_>,
+    wanted: &Q,
+    keeper: &mut K,
+) -> Result<Q::Found, Fault>
+    ensures back { K.is_out keeper.old ≡ false → K.is_out keeper.new ≡ false }
+    ensures leaves { IsTrue K.tells → LeavesAll (K.holds keeper.old) (K.holds keeper.new) }
+{
+    let mut store = taken(place, false, keeper)?;
+    let listed = wanted.read(&mut store);
+    let closed = keeper.hand_back(store);
+    let found = listed?;
+    closed?;
+    Ok(found)
+}

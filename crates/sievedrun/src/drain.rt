@@ -1,0 +1,183 @@
+//! The word on what leaves a folder: its messages go into a sink, and then out of the store.
+ghost use Rattle.std.specs.Prelude.{◌≡◌, false, IfErr, IfOk, IsTrue, option_copied};
+ghost use Rattle.sqlite.specs.Held.{state};
+ghost use Rattle.sievedrun.specs.Draining.{IsMost, MovesFirst, MovesAll, Drains, MovesTables, HasDrained};
+ghost use Rattle.sievedrun.specs.Faults.{status_of};
+
+use crate::commands::taken;
+use crate::fault::Fault;
+use crate::stream::write_all;
+use crate::values::decimal;
+use keepers::{Keeper, MailSink, SinkError};
+use mailengine::{first_message, remove_first};
+use mailstore::{Refusal, Store};
+use octets::{Octets, write_decimal};
+use sievedwords::Place;
+use sqlite::Alter;
+use std::alloc::{AllocError, Global};
+use std::io::Write;
+
+/// What `drain` is told, as it is written in the words.
+#[derive(Clone, Copy)]
+pub struct Draining<'a> {
+    /// How many messages move at most, in decimal; all of the folder's where it is left out.
+    pub most: Option<&'a str>,
+    /// The account's name.
+    pub user: &'a str,
+    /// The folder's name.
+    pub folder: &'a str,
+    /// The path of the Maildir.
+    pub maildir: &'a str,
+}
+
+/// `drain`: a folder's messages move into a Maildir, the first ones first. Where the words or the path are wrong no store is
+/// taken.
+pub fn run_drain<W: Write, K: Keeper, T: MailSink>(
+    alloc: Global,
+    place: Place<'_>,
+    asked: Draining<'_>,
+    output: &mut W,
+    keeper: &mut K,
+    sink: &mut T,
+) -> Result<(), Fault>
+    ensures back { K.is_out keeper.old ≡ false → K.is_out keeper.new ≡ false }
+    ensures drains { IsTrue K.tells → HasDrained asked.entry T.tells (T.kept sink.old) (T.kept sink.new) result (K.holds keeper.old) (K.holds keeper.new) }
+{
+    let most = most_of(asked.most)?;
+    sink.open(asked.maildir)?;
+    let moved = drain_store(place, asked, most, keeper, sink)?;
+    let line = drained_line(alloc, moved)?;
+    write_all(output, line.as_slice())
+}
+
+/// How many messages the words ask for, at most.
+fn most_of(digits: Option<&str>) -> Result<u64, Fault>
+    ensures ok { IfOk result (IsMost (option_copied digits.entry)) }
+    ensures fault { IfErr result (λ fault. fault ≡ Fault.BadArgument) }
+{
+    match digits {
+        Some(digits) => decimal(digits),
+        None => Ok(u64::MAX),
+    }
+}
+
+/// The messages move out of a store that is taken and handed back. Answers how many moved.
+fn drain_store<K: Keeper, T: MailSink>(
+    place: Place<'_>,
+    asked: Draining<'_>,
+    most: u64,
+    keeper: &mut K,
+    sink: &mut T,
+) -> Result<u64, Fault>
+    ensures back { K.is_out keeper.old ≡ false → K.is_out keeper.new ≡ false }
+    ensures moves { IsTrue K.tells → MovesTables asked.entry T.tells (T.kept sink.old) (T.kept sink.new) most result (K.holds keeper.old) (K.holds keeper.new) }
+{
+    let user = asked.user.as_bytes();
+    let folder = asked.folder.as_bytes();
+    let mut store = taken(place, false, keeper)?;
+    let drained = drain(&mut store, user, folder, most, sink);
+    let closed = keeper.hand_back(store);
+    let moved = drained?;
+    closed?;
+    Ok(moved)
+}
+
+fn drained_line(alloc: Global, moved: u64) -> Result<Octets, AllocError> {
+    let mut line = Octets::from_slice(alloc, b"drained ")?;
+    write_decimal(&mut line, moved)?;
+    line.push(b'\n')?;
+    Ok(line)
+}
+
+/// Moves the first message of the folder of a user who has an account: the sink keeps it, and then it leaves the store.
+/// Answers whether there was one.
+///
+/// # Errors
+///
+/// `Memory`, `Store`, or `Stream` where the sink failed. The message is in the folder still, and may be kept too.
+fn move_first<S: Alter, T: MailSink>(
+    store: &mut Store<S>,
+    user: &[u8],
+    folder: &[u8],
+    sink: &mut T,
+) -> Result<bool, Fault>
+    ensures moves { MovesFirst user.now folder.now T.tells (T.kept sink.old) (T.kept sink.new) result (state S.Store store.old) (state S.Store store.new) }
+    ensures fault { IfErr result (λ fault. status_of fault ≡ 75) }
+{
+    let first = match first_message(store, user, folder) {
+        Ok(first) => first,
+        Err(refusal) => return Err(failure_of(refusal)),
+    };
+    let Some(first) = first else {
+        return Ok(false);
+    };
+    if let Err(error) = sink.keep(user, folder, first.number, first.message.as_slice()) {
+        return Err(unkept(error));
+    }
+    match remove_first(store, user, folder) {
+        Ok(()) => Ok(true),
+        Err(refusal) => Err(failure_of(refusal)),
+    }
+}
+
+/// Why a user or a message that was there a moment ago can't be read or removed.
+fn failure_of(refusal: Refusal) -> Fault
+    ensures { status_of result ≡ 75 }
+{
+    match refusal {
+        Refusal::Memory => Fault::Memory,
+        _ => Fault::Store,
+    }
+}
+
+/// Why a message isn't kept in a place that was taken.
+fn unkept(error: SinkError) -> Fault
+    ensures { status_of result ≡ 75 }
+{
+    match error {
+        SinkError::Memory => Fault::Memory,
+        _ => Fault::Stream,
+    }
+}
+
+/// Moves the first messages of the folder, of a user who has an account, until as many moved or none is left. Answers how
+/// many moved. Errors are those of `move_first`.
+fn move_all<S: Alter, T: MailSink>(
+    store: &mut Store<S>,
+    user: &[u8],
+    folder: &[u8],
+    most: u64,
+    sink: &mut T,
+) -> Result<u64, Fault>
+    ensures moves { MovesAll user.now folder.now T.tells (T.kept sink.old) (T.kept sink.new) most result (state S.Store store.old) (state S.Store store.new) }
+    ensures fault { IfErr result (λ fault. status_of fault ≡ 75) }
+{
+    for moved in 0..most {
+        if !move_first(store, user, folder, sink)? {
+            return Ok(moved);
+        }
+    }
+    Ok(most)
+}
+
+/// Moves messages of the user's folder into the sink, the first ones first, until as many moved or none is left. Answers
+/// how many moved. Memory is in proportion to one message and to the user's copies.
+///
+/// # Errors
+///
+/// `NoUser` where there is no such account, and then nothing moved. `Memory`, `Store`, and `Stream` where the sink failed,
+/// may come at any place: what moved until then stays so, and the next message may be kept though it is in the folder still.
+fn drain<S: Alter, T: MailSink>(
+    store: &mut Store<S>,
+    user: &[u8],
+    folder: &[u8],
+    most: u64,
+    sink: &mut T,
+) -> Result<u64, Fault>
+    ensures { Drains user.now folder.now T.tells (T.kept sink.old) (T.kept sink.new) most result (state S.Store store.old) (state S.Store store.new) }
+{
+    let Some(_account) = store.account(user)? else {
+        return Err(Fault::NoUser);
+    };
+    move_all(store, user, folder, most, sink)
+}

@@ -1,0 +1,43 @@
+-- What tokens are and say, without their places.
+use Rattle.std.specs.Prelude.{◌≡◌, ℕ, List, [], ◌∷◌, ◌++◌, Option, Some, None, map, slice_get}
+use Rattle.sievelex.specs.declared.token.Content.{Content}
+use Rattle.sievelex.specs.declared.token.Content.TheVariants.{Identifier, Tag, Number, Text, Mark}
+use Rattle.sievelex.specs.declared.token.Token.{Token}
+use Rattle.sievelex.specs.declared.packed.PackedKind.{PackedKind}
+use Rattle.sievelex.specs.declared.packed.Packed.{Packed}
+use Rattle.sievelex.specs.declared.packed.ContentRef.{ContentRef}
+use Rattle.sievelex.specs.declared.packed.ContentRef.TheVariants as R
+use Rattle.sievelex.specs.Unpacked.{unpacked}
+
+-- what tokens in a row are and say
+abbrev pub contents_of : List Token → List Content
+contents_of tokens = map (λ t. t.content) tokens
+
+-- the same of packed tokens
+abbrev pub contents : Packed → List Content
+contents packed = unpacked packed.kinds.items packed.numbers.items packed.octets.items
+
+-- the same of a token that was read
+abbrev pub content_of : ContentRef → Content
+content_of (R.Identifier name) = Identifier name.now
+content_of (R.Tag name) = Tag name.now
+content_of (R.Number n) = Number n
+content_of (R.Text value) = Text value.now
+content_of (R.Mark mark) = Mark mark
+
+-- the line of this token, or the first line
+abbrev pub line_or : Option Token → ℕ
+line_or None = 1
+line_or (Some token) = token.line
+
+-- the line of the token of this index, or the first line
+abbrev pub line_at : ℕ → List Token → ℕ
+line_at index tokens = line_or (slice_get tokens index)
+
+-- these tokens are packed so, whatever is packed behind them
+pub record HoldsContents (packed : Packed) (tokens : List Content) : Type 0 where
+  pub behind : (kinds : List PackedKind) (numbers octets : List ℕ) → unpacked (packed.kinds.items ++ kinds) (packed.numbers.items ++ numbers) (packed.octets.items ++ octets) ≡ tokens ++ unpacked kinds numbers octets
+
+-- a token is packed behind those that are packed already
+abbrev pub Appends : Content → Packed → Packed → Type 0
+Appends content before after = (tokens : List Content) → HoldsContents before tokens → HoldsContents after (tokens ++ content ∷ [])
