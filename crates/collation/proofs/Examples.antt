@@ -1,5 +1,5 @@
 -- The definitions at a few texts: one that they fit, and one near it that they don't.
-use Rattle.std.proofs.Common.{refl, ◌≡◌, ℕ, [], ◌∷◌, get_or, ap, arith}
+use Rattle.std.proofs.Common.{refl, [], ◌∷◌, get_or, ap, arith}
 use Rattle.std.specs.Char.{to_ascii_uppercase}
 use Rattle.collation.specs.Comparators.{EqualBy, ContainsBy}
 

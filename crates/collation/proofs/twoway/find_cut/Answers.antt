@@ -1,9 +1,8 @@
-use Rattle.std.proofs.Common.{◌≡◌, ℕ, ◌+◌, ◌-◌, ◌<◌, ◌≤◌, ◌⊎◌, length, sym, ap, subst, ◌∙◌, arith, inl, inr, ⊎_elim}
+use Rattle.std.proofs.Common.{◌≡◌, ℕ, ◌+◌, ◌<◌, ◌≤◌, ◌⊎◌, length, sym, ap, subst, ◌∙◌, arith, inl, inr, ⊎_elim}
 use Rattle.std.proofs.lemmas.Bool.{cases_lt}
-use Rattle.memchr.specs.Find.{Nowhere}
 use Rattle.memchr.proofs.lemmas.FindLemmas.{Nowhere-then}
 use Rattle.memchr.proofs.lemmas.SearchLemmas.{Nowhere-right, Nowhere-left, Nowhere-end}
-use Rattle.collation.specs.Search.{image_at, image_in, StandsAt}
+use Rattle.collation.specs.Search.{image_at, image_in}
 use Rattle.collation.specs.declared.spelling.Spot.{Spot}
 use Rattle.collation.proofs.twoway.find_cut.Goals as goal
 use Rattle.collation.proofs.twoway.find_cut.Goals.{then-known-cut, else-known-cut}
