@@ -33,12 +33,6 @@ not_blank_from octet nonblank = not_true (is_blank octet) nonblank where
   not_true true h = absurd (cc h)
   not_true false h = refl
 
-blank_from : (octet : ℕ) → is_nonblank octet ≡ false → is_blank octet ≡ true
-blank_from octet blank = not_false (is_blank octet) blank where
-  not_false : (test : Bool) → not test ≡ false → test ≡ true
-  not_false true h = refl
-  not_false false h = absurd (cc h)
-
 apart_nonblank : (octet : ℕ) (after : List ℕ) → is_nonblank octet ≡ true → begins_nonblank after ≡ false → before_runs octet (runs_of after) ≡ (octet ∷ []) ∷ runs_of after
 apart_nonblank octet [] nonblank ends = refl
 apart_nonblank octet (next ∷ rest) nonblank ends =
@@ -75,10 +69,6 @@ runs_blank (octet ∷ (next ∷ run)) after present all ends =
 nonblank_not_blank : (run : List ℕ) → list_all is_nonblank run ≡ true → begins_blank run ≡ false
 nonblank_not_blank [] all = refl
 nonblank_not_blank (octet ∷ run) all = not_blank_from octet (and_left _ _ all)
-
-blank_begins : (run : List ℕ) → run ≢ [] → list_all is_blank run ≡ true → begins_blank run ≡ true
-blank_begins [] present all = absurd (present refl)
-blank_begins (octet ∷ run) present all = and_left _ _ all
 
 begins-append : (run after : List ℕ) → run ≢ [] → begins_blank (run ++ after) ≡ begins_blank run
 begins-append [] after present = absurd (present refl)

@@ -10,10 +10,10 @@ use octets::is_printable;
 use std::alloc::{AllocError, Global};
 
 /// How many octets a plain text has at most.
-const PLAIN_LEN: usize = 200;
+const MAX_PLAIN_LEN: usize = 200;
 
 /// How many octets of text a word holds at most, so that the word has at most 72 octets.
-const WORD_LEN: usize = 45;
+const MAX_PIECE_LEN: usize = 45;
 
 /// A text as it is written in a header field: itself, where it has at most 200 octets, all 32 to
 /// 126, and no `=?` in it; else encoded words on lines of their own (RFC 2047).
@@ -30,7 +30,7 @@ pub fn header_text(alloc: Global, text: &str) -> Result<Vec<u8>, AllocError>
 fn is_plain(text: &[u8]) -> bool
     ensures { result ≡ is_plain text.now }
 {
-    text.len() <= PLAIN_LEN && (are_printable(text) && !has_mark(text))
+    text.len() <= MAX_PLAIN_LEN && (are_printable(text) && !has_mark(text))
 }
 
 fn are_printable(text: &[u8]) -> bool
@@ -63,7 +63,7 @@ fn next_piece(text: &str) -> (&str, &str)
     requires { 0 < length text.now }
     ensures { CutsPiece text.now result.0.now result.1.now }
 {
-    text.split_at(text.floor_char_boundary(WORD_LEN))
+    text.split_at(text.floor_char_boundary(MAX_PIECE_LEN))
 }
 
 /// Appends a word, on a line of its own after other words.

@@ -1,6 +1,6 @@
 -- A list that is read item by item: what is left of it from a place on.
-use Rattle.std.proofs.Common.{◌≡◌, ℕ, ◌+◌, ◌<◌, List, ◌∷◌, length, drop, get_or, sym, ap, ◌∙◌, arith}
-use Rattle.std.proofs.lemmas.List.{get_or-drop, drop-drop, length-drop}
+use Rattle.std.proofs.Common.{◌≡◌, ℕ, ◌+◌, List, ◌∷◌, drop, get_or, sym, ap, ◌∙◌, arith}
+use Rattle.std.proofs.lemmas.List.{get_or-drop, drop-drop}
 
 module _ {X : Type 0} (d : X) (xs : List X) (n : ℕ) (y : X) (ys : List X) (left : drop n xs ≡ y ∷ ys) where
   -- the item at the place
@@ -10,7 +10,3 @@ module _ {X : Type 0} (d : X) (xs : List X) (n : ℕ) (y : X) (ys : List X) (lef
   -- what is left after it
   pub left_after : drop (n + 1) xs ≡ ys
   left_after = sym (drop-drop 1 n xs) ∙ ap (drop 1) left
-
-  -- the place lies in the list
-  pub place_within : n < length xs
-  place_within = omega (arith, length-drop n xs, ap length left)

@@ -1,5 +1,5 @@
 -- The definitions at a few patterns: what they fit, and what is near it that they don't.
-use Rattle.std.proofs.Common.{refl, ◌≡◌, ℕ, [], ◌∷◌, arith}
+use Rattle.std.proofs.Common.{refl, ◌≡◌, [], ◌∷◌, arith}
 use Rattle.std.specs.Char.{to_ascii_uppercase}
 use Rattle.globmatch.specs.Glob.{items, Glob}
 use Rattle.globmatch.specs.declared.pattern.Item.TheVariants.{Star, One, Exact}

@@ -1,5 +1,5 @@
 -- The definitions at a few texts: what they hold of, and what is near it that they don't.
-use Rattle.std.proofs.Common.{refl, ◌≡◌, [], ◌∷◌, inl, inr, ⊎_elim}
+use Rattle.std.proofs.Common.{refl, ◌≡◌, inl, ⊎_elim}
 use Rattle.std.specs.Prelude.{codes}
 use Rattle.mailhead.specs.Lines.{HasEnd}
 use Rattle.mailhead.specs.Heads.{size_of}

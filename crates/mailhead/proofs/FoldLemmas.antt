@@ -1,6 +1,6 @@
 -- Lemmas on logical lines, and on what is left of a text after one.
-use Rattle.std.proofs.Common.{◌≡◌, ℕ, ◌+◌, ◌-◌, ◌<◌, Bool, true, false, cond, ◌==◌, ◌&&◌, None, Some, List, [], ◌∷◌, ◌++◌, length, take, drop, refl, sym, ap, ◌∙◌, arith}
-use Rattle.std.proofs.lemmas.List.{append_assoc, append-nil, take_at, drop_at, length-append}
+use Rattle.std.proofs.Common.{◌≡◌, ℕ, ◌<◌, Bool, true, false, cond, ◌==◌, ◌&&◌, None, Some, List, [], ◌∷◌, ◌++◌, length, refl, sym, ap, ◌∙◌, arith}
+use Rattle.std.proofs.lemmas.List.{append_assoc, append-nil}
 use Rattle.std.proofs.lemmas.List.Folds.{list_all-append, concat-append}
 use Rattle.std.specs.List.{concat, list_all}
 use Rattle.octets.specs.Ascii.{is_blank}
@@ -16,17 +16,6 @@ pub record IsFolded (text after : List ℕ) : Type 0 where
   pub spelled : text ≡ concat (first ∷ others) ++ after
   pub present : 0 < length first
   pub folded : list_all begins_blank others ≡ true
-
--- one line was read
-pub folded_one : (text line after : List ℕ) → CutsLine text line after → IsFolded text after
-folded_one text line after cut = record {
-  first = line;
-  others = [];
-  lines = cut.first;
-  spelled = cut.spelled ∙ ap (λ t. t ++ after) (sym (append-nil line));
-  present = cut.present;
-  folded = refl;
-}
 
 pub and_true : (a b : Bool) → a ≡ true → b ≡ true → (a && b) ≡ true
 and_true a b x y = rw (x, y) refl
@@ -52,25 +41,6 @@ folded_more text after line rest so_far blank cut = record {
       let begins : begins_blank line ≡ true = sym (begins_blank-append line rest cut.present) ∙ (ap begins_blank (sym cut.spelled) ∙ blank) in
       list_all-append begins_blank so_far.others (line ∷ []) ∙ and_true _ _ so_far.folded (and_true _ _ begins refl);
 }
-
--- the lines that were read are the logical line
-pub folded_all : (text after : List ℕ) → IsFolded text after → begins_blank after ≡ false → CutsLogicalLine text (take (length text - length after) text) (drop (length text - length after) text)
-folded_all text after so_far ended =
-    let line = concat (so_far.first ∷ so_far.others) in
-    let size : length text ≡ length line + length after = ap length so_far.spelled ∙ length-append line after in
-    let cut : length line ≡ length text - length after = omega arith in
-    let front : take (length text - length after) text ≡ line = ap (take (length text - length after)) so_far.spelled ∙ take_at line after _ cut in
-    let back : drop (length text - length after) text ≡ after = ap (drop (length text - length after)) so_far.spelled ∙ drop_at line after _ cut in
-    record {
-      first = so_far.first;
-      others = so_far.others;
-      lines = so_far.lines ∙ ap (λ t. so_far.first ∷ (so_far.others ++ lines_of t)) (sym back);
-      spelled = so_far.spelled ∙ (ap (λ t. t ++ after) (sym front) ∙ ap (λ t. take (length text - length after) text ++ t) (sym back));
-      parts = front;
-      present = so_far.present;
-      folded = so_far.folded;
-      ended = ap begins_blank back ∙ ended;
-    }
 
 pub and_left : (a b : Bool) → (a && b) ≡ true → a ≡ true
 and_left true b both = refl

@@ -1,5 +1,5 @@
 -- A read after a read, and a write after a read, of one user's account.
-use Rattle.std.proofs.Common.{◌≡◌, ◌⊎◌, ℕ, List, Option, Some, None, Ok, Err, Result, OnOk, OnErr, IfOk, IfErr, IsTrue, refl, sym, ap, ◌∙◌, subst, inl, inr, option_map}
+use Rattle.std.proofs.Common.{◌≡◌, ◌⊎◌, ℕ, List, Option, Some, None, Ok, Err, Result, OnOk, OnErr, IfOk, IfErr, IsTrue, refl, sym, ap, ◌∙◌, subst, inl, option_map}
 use Rattle.std.specs.FinMap.{get}
 use Rattle.sqlite.specs.State.{State, HasCleanDisk, Survives}
 use Rattle.sqlite.proofs.StateLemmas.{survives_then, survives_weaker}
@@ -146,10 +146,6 @@ write_refused a b r user change e q is kept absent named = record {
   crash = survives_weaker a b _ (MayShow (HasUser user) (λ all. with_user all user change) a) (λ clean db none accounts p has. absurd (none (p.0, p.1))) kept.crash;
   named = subst (λ o. IfErr o (λ f. (f ≡ NoUser) ⊎ IsPassing f)) (sym is) named;
 }
-
--- the counter was read, and then a refusal for memory, or of a number that does not fit
-pub write_failed : {X Y : Type 0} (a b : State) (r : Result X Refusal) (user : List ℕ) (change : Account → Account) (e : Refusal) (q : Result Y Refusal) → q ≡ Err e → Keeps a b r → IsPassing e → WritesAccount user change a b q
-write_failed {X} {Y} a b r user change e q is kept passing = write_refused a b r user change e q is kept (λ clean accounts p. passing_other {Y = Y} (Err e) (IsFree user accounts) passing) (inr passing)
 
 -- ---- the name of the active script
 

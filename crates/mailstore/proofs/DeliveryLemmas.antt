@@ -45,9 +45,6 @@ use Rattle.mailstore.proofs.AccountLemmas.{replies_put}
 
 -- ---- changes, one more at a time
 
-pub extends_none : (user : List ℕ) (ds : List Change) → Extends user (λ own. own) ds ds
-extends_none user ds = record { owned = λ were. were; makes = λ own. refl }
-
 pub extends_one : (user : List ℕ) (change : Tables → Tables) (ds next : List Change) (d : Change) → next ≡ ds ++ d ∷ [] → MakesOwn user change d → Extends user change ds next
 extends_one user change ds next d joined one = record {
   owned = λ were. subst (AreOf user) (sym joined) (all-append (λ e. owner_of e ≡ user) ds (d ∷ []) were (one.owned, tt));

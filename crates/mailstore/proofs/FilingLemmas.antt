@@ -174,15 +174,6 @@ module _ {X Y Z E : Type 0} (user : List ℕ) (P : X → Tables → Type 0) (Q :
     named = tt;
   }
 
-  pub own_then_failed : (end : Result Z Refusal) → OnOk end ⊥ → IfErr end IsPassing → ReadsOwn user R a c end
-  own_then_failed end none passing = record {
-    found = λ clean tables h. none_if end (λ z. R z (rows_of user tables)) none;
-    there = λ clean accounts p. none_ok end (HasUser user accounts) none;
-    absent = λ clean accounts p. passing_other end (IsFree user accounts) passing;
-    keeps = keeps_failed a c q end none (keeps_then a b c r x was q early.keeps late.keeps);
-    named = passing_named end passing;
-  }
-
 -- ---- what was read of the rows
 
 filing_one : (x y : Filing) → filing_cells x ≡ filing_cells y → x ≡ y

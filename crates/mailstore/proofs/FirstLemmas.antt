@@ -1,5 +1,5 @@
 -- The first message of a folder, read by its number.
-use Rattle.std.proofs.Common.{◌≡◌, ◌==◌, ℕ, ℤ, pos, List, [], ◌∷◌, map, filter, find, slice_get, Option, Some, None, option_map, Ok, Result, OnOk, IfOk, refl, sym, ap, ◌∙◌, subst, inl, inr, IsPermutation}
+use Rattle.std.proofs.Common.{◌≡◌, ◌==◌, ℕ, ℤ, pos, List, [], ◌∷◌, map, filter, find, slice_get, Option, Some, None, option_map, Ok, Result, IfOk, refl, sym, ap, ◌∙◌, subst, inl, inr, IsPermutation}
 use Rattle.sqlite_value.specs.declared.value.Value.TheVariants.{Int, Blob}
 use Rattle.sqlite_value.specs.Order.{Row, column}
 use Rattle.sqlite_sql.specs.Term.{col}
@@ -25,7 +25,7 @@ use Rattle.mailstore.proofs.TextFacts.{by_two, select_message_is, select_message
 use Rattle.mailstore.proofs.StatementLemmas.{message_index, message_agrees}
 use Rattle.mailstore.proofs.AccountLemmas.{message_is}
 use Rattle.mailstore.proofs.KeyLemmas.{key_owned}
-use Rattle.mailstore.proofs.KeepLemmas.{keeps_ok, keeps_failed, none_if}
+use Rattle.mailstore.proofs.KeepLemmas.{keeps_ok}
 use Rattle.mailstore.proofs.NumberLemmas.{alone_at}
 use Rattle.mailstore.proofs.OrderLemmas.{messages_are}
 use Rattle.mailstore.proofs.TakingLemmas.{find_filed}
@@ -50,9 +50,6 @@ octets_first octets rows (r ∷ all) are told = sym (told ∙ ap (λ l. option_m
 module _ {X Y E F : Type 0} (user : List ℕ) (P : X → Tables → Type 0) (Q : Y → Tables → Type 0) (a b : State) (r : Result X E) (h : FindsAmong user P a b r) where
   pub among_answer : (x : X) → r ≡ Ok x → (y : Y) → ((own : Tables) → P x own → Q y own) → FindsAmong {E = F} user Q a b (Ok y)
   among_answer x was y made = record { found = λ clean tables held. made (rows_of user tables) (subst (λ o. IfOk o (λ z. P z (rows_of user tables))) was (h.found clean tables held)); keeps = keeps_ok a b r x (Ok y) was h.keeps }
-
-  pub among_failed : (q : Result Y F) → OnOk q ⊥ → FindsAmong user Q a b q
-  among_failed q none = record { found = λ clean tables held. none_if q (λ y. Q y (rows_of user tables)) none; keeps = keeps_failed a b r q none h.keeps }
 
 -- ---- the first of a folder
 

@@ -1,5 +1,5 @@
 -- What a clause on Ok or on a refusal says.
-use Rattle.std.proofs.Common.{◌≡◌, Ok, Err, Result, OnOk, OnErr, IfOk}
+use Rattle.std.proofs.Common.{◌≡◌, Ok, Err, Result, OnOk, OnErr}
 
 -- what holds on Ok holds where Ok was answered
 pub on_ok : {X E : Type 0} (r : Result X E) (x : X) → r ≡ Ok x → (P : Type 0) → OnOk r P → P
@@ -9,10 +9,6 @@ on_ok (Ok y) x is P h = h
 pub on_any : {X E : Type 0} (r : Result X E) (P : Type 0) → P → OnOk r P
 on_any (Err e) P h = tt
 on_any (Ok x) P h = h
-
-pub if_ok : {X E : Type 0} (r : Result X E) (P Q : X → Type 0) → ((x : X) → P x → Q x) → IfOk r P → IfOk r Q
-if_ok (Err e) P Q f h = tt
-if_ok (Ok x) P Q f h = f x h
 
 pub on_err_any : {X E : Type 0} (r : Result X E) (P : Type 0) → P → OnErr r P
 on_err_any (Err e) P h = h

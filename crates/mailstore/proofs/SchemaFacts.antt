@@ -10,7 +10,6 @@ use Rattle.sqlite_schema.specs.Rules.{parent_key}
 use Rattle.sqlite_rules.specs.Lists.{Has}
 use Rattle.sqlite_rules.specs.Action.{works, work_by, pairs, deed_of}
 use Rattle.sqlite_resolve.specs.Compile.{table_defined_by}
-use Rattle.sqlite_catalog.specs.Change.{created}
 use Rattle.sqlite_tied.specs.Compute.{everything}
 use Rattle.sqlite.specs.Listing.{understood}
 use Rattle.sqlite.proofs.Callers.{IsPlain, command_of, statement_of}
@@ -53,9 +52,6 @@ pub no_works : (depth tree : ℕ) (olds news : List Row) → works mail_schema E
 no_works depth tree olds news =
     elim (length news == 0) as (λ b. flat_map (λ child. filter_map (λ ref. work_by depth tree (pairs olds news) child ref (deed_of Enforced b (cond b ref.on_delete ref.on_update)) (parent_key mail_schema.tables ref)) child.references) mail_schema.tables ≡ [])
     [ true ↦ refl | false ↦ refl ]
-
-pub schemas_are : created schema_7 (record copy { tree = 0 }) ≡ mail_schema
-schemas_are = refl
 
 pub meta_defined : table_defined_by create_meta ≡ Ok (record meta { tree = 0 })
 unfolding understood everything

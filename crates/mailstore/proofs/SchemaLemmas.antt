@@ -27,11 +27,6 @@ only_item xs x least below is = items_are (x ∷ []) xs (omega (arith, least, be
 pub two_items : {X : Type 0} (xs : List X) (x y : X) → 2 ≤ length xs → length xs < 3 → x ≡ get_or xs 0 x → y ≡ get_or xs 1 y → xs ≡ x ∷ y ∷ []
 two_items xs x y least below is last = items_are (x ∷ y ∷ []) xs (omega (arith, least, below)) (is, (last, tt))
 
-pub only_first : {X : Type 0} (xs : List X) (d : X) → 1 ≤ length xs → length xs < 2 → xs ≡ get_or xs 0 d ∷ []
-only_first [] d least below = absurd (omega (arith, least))
-only_first (x ∷ []) d least below = refl
-only_first (x ∷ y ∷ xs) d least below = absurd (omega (arith, below))
-
 pub only_same : {X : Type 0} (xs : List X) (x y : X) → xs ≡ x ∷ [] → xs ≡ y ∷ [] → x ≡ y
 only_same xs x y one other = ap (λ l. get_or l 0 x) (sym one ∙ other)
 

@@ -14,7 +14,7 @@ use Rattle.msproto.specs.declared.state.State as code
 use Rattle.msproto.specs.declared.state.State.TheVariants as code_state
 use Rattle.msproto.specs.declared.verb.Params as code_params
 use Rattle.msproto.specs.declared.verb.Verb.{Verb}
-use Rattle.msproto.specs.Machine.{Params, State, Word, Quoted, Body, Dead, word_of, begins, step, room}
+use Rattle.msproto.specs.Machine.{Params, State, Word, Quoted, Body, Dead, word_of, begins, step}
 use Rattle.msproto.specs.Scanning.{Scanned, Open, turned, found, literal_rest}
 use Rattle.msproto.specs.Shown.{shown, params_shown, scan_shown, is_plain, is_inner, spelling, letters_read, skimmed, behind}
 use Rattle.msproto.proofs.Names.{begins-append}
@@ -214,10 +214,6 @@ skims (code_state.Word v count) n k m t low = skims_name v count n k m t low
 skims (code_state.Quoted left params) n k m t low = skims_quoted left params n k m t low
 skims code_state.Dead n k m t low = skims_dead n k m t low
 skims st n k m t low = nothing_taken (shown st) n k
-
-pub room_behind : (st : code.State) (c : ℕ) → room (behind st c) ≡ room (shown st)
-room_behind (code_state.Quoted left params) c = refl
-room_behind st c = refl
 
 pub skim_takes : (st next : code.State) (o u m c : ℕ) (r : Reach) (sc : Scanned) (t : List ℕ) → scan_shown st o u r ≡ sc → found sc ≡ Need → o ≤ 8192 → m ≡ min (8192 - o) (length t) → c ≡ skimmed st (take m t) → shown next ≡ behind st c → scan_shown next (o + c) (u + c) r ≡ fold turned sc (take c t)
 skim_takes st next o u m c r sc t is need low cut count to =

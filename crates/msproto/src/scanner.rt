@@ -11,10 +11,10 @@ use crate::state::State;
 use std::marker::Model;
 
 /// The most octets outside literals of one item.
-const MOST_OUTSIDE: usize = 8192;
+const MAX_OUTSIDE: usize = 8192;
 
 /// The largest literal, in octets.
-const LARGEST_LITERAL: u32 = 1_048_576;
+const MAX_LITERAL: u32 = 1_048_576;
 
 /// A scan of a stream that comes in pieces: what came first in the octets so far, and how many were looked at.
 ///
@@ -159,7 +159,7 @@ impl Scan {
             self.skip_literal(count);
             return count;
         }
-        let most = (MOST_OUTSIDE - self.outside).min(octets.len());
+        let most = (MAX_OUTSIDE - self.outside).min(octets.len());
         let (line, count) = self.line.feed_run(&octets[..most]);
         self.line = line;
         self.outside += count;
@@ -208,7 +208,7 @@ fn ending(state: State, next: State, octet: u8, outside: usize, looked: usize) -
     requires { s.shown next ≡ m.step (s.shown state) octet }
     ensures { result ≡ s.ending (s.shown state) outside looked octet }
 {
-    if outside > MOST_OUTSIDE || (is_large(state) && octet == b'\n') {
+    if outside > MAX_OUTSIDE || (is_large(state) && octet == b'\n') {
         return Reach::TooBig;
     }
     match next {
@@ -223,7 +223,7 @@ fn is_large(state: State) -> bool
     ensures { result ≡ m.is_large (s.shown state) }
 {
     match state {
-        State::Return(number, _) => number > LARGEST_LITERAL,
+        State::Return(number, _) => number > MAX_LITERAL,
         _ => false,
     }
 }

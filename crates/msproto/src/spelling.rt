@@ -9,7 +9,7 @@ use std::alloc::{AllocError, Global};
 use std::mem;
 
 /// The most octets between quotation marks (RFC 5804, section 4).
-const LONGEST_QUOTED: usize = 1024;
+const MAX_QUOTED: usize = 1024;
 
 /// Appends the answer's octets: strings are quoted where they fit, with `\` before each `"` and `\`, else literals.
 ///
@@ -189,7 +189,7 @@ fn fits_quotes(text: &[u8]) -> bool
         } else {
             1
         };
-        if count > LONGEST_QUOTED {
+        if count > MAX_QUOTED {
             return false;
         }
         rest = more;

@@ -7,7 +7,7 @@ ghost use Rattle.msproto.specs.Shown as s;
 use crate::verb::{Params, Verb};
 
 /// The longest quoted string, in octets between its marks (RFC 5804, section 4).
-const LONGEST_QUOTED: u32 = 1024;
+const MAX_QUOTED: u32 = 1024;
 
 /// Where a line stands. Numbers are octets, or the number that was read so far.
 #[derive(Clone, Copy)]
@@ -190,7 +190,7 @@ fn open(params: Params, octet: u8) -> State
     ensures { s.shown result ≡ m.step (m.Opening (s.params_shown params)) octet }
 {
     match octet {
-        b'"' => State::Quoted(LONGEST_QUOTED, params),
+        b'"' => State::Quoted(MAX_QUOTED, params),
         b'{' => State::Brace(params),
         _ => State::Dead,
     }

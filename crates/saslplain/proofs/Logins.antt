@@ -34,12 +34,6 @@ found_login text message (Some login) by e bytes is = record {
   said = login_read message login.user login.password (sym is);
 }
 
-pub no_login : (text : List ℕ) (d : DecodeError) → Strict text → decode_of standard text ≡ Err d → (user password : List ℕ) → IsLogin text user password → ⊥
-no_login text d by e user password h =
-    let decoded : decode_of standard text ≡ Ok h.message = (by h.message h.octets).1 h.encoded in
-    let both = sym e ∙ decoded in
-    cc (both)
-
 pub if_found : {E : Type 0} (text message : List ℕ) (r : Result (Option Login) E) → Strict text → decode_of standard text ≡ Ok message → IsBytes message → IfOk r (λ found. login_shown found ≡ login_in message) → IfOk r (IsFound text)
 if_found text message (Ok found) by e bytes h = found_login text message found by e bytes h
 if_found text message (Err e) by d bytes h = tt

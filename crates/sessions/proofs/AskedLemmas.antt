@@ -1,5 +1,5 @@
 -- Steps over a store, from what their commands come to.
-use Rattle.std.proofs.Common.{◌≡◌, ℕ, Bool, true, false, not, ◌&&◌, List, ◌++◌, Option, Some, None, Ok, Err, Result, OnOk, OnErr, is_none, refl, sym, ap, ◌∙◌, subst, inl, inr}
+use Rattle.std.proofs.Common.{◌≡◌, ℕ, Bool, true, false, not, ◌&&◌, List, ◌++◌, Option, Some, Ok, Err, Result, OnOk, OnErr, refl, sym, ap, ◌∙◌, subst}
 use Rattle.std.proofs.lemmas.Bool.{false≢true}
 use Rattle.sqlite.specs.State.{State, HasCleanDisk}
 use Rattle.sqlite.proofs.StateLemmas.{survives_weaker}
@@ -17,10 +17,10 @@ use Rattle.sessions.specs.declared.progress.Progress.TheVariants.{Done}
 use Rattle.sessions.specs.declared.turn.Sequel.TheVariants.{Stay}
 use Rattle.sessions.specs.declared.turn.Turn.{Turn}
 use Rattle.sessions.specs.Acts.{HasAccounts, CrashLeaves, Acts, Glances, IsAnswered}
-use Rattle.sessions.specs.Clients.{Client, item_in, reach_in, past, without_first, is_item}
-use Rattle.sessions.specs.Orders.{ObeysUser, ObeyedTo, MayObey, StepsTo, MayStep, MayRefuse, Asked}
-use Rattle.sessions.specs.Steps.{IsStep, StepsOver, AsksFor, progress_of, is_free, asks_store, asks_memory, may_lack, has_command}
-use Rattle.sessions.specs.Table.{needs_login, is_early, is_about_scripts}
+use Rattle.sessions.specs.Clients.{Client, item_in, reach_in, past, without_first}
+use Rattle.sessions.specs.Orders.{ObeysUser, ObeyedTo, MayObey, StepsTo, MayStep, Asked}
+use Rattle.sessions.specs.Steps.{IsStep, StepsOver, AsksFor, progress_of, is_free, asks_memory, may_lack, has_command}
+use Rattle.sessions.specs.Table.{is_about_scripts}
 use Rattle.sessions.specs.Turns.{IsTurn, FitsLogin, followed, is_login, login_text, admitted_in}
 use Rattle.sessions.proofs.ActLemmas.{acts_read, no_glance}
 use Rattle.sessions.proofs.FreeLemmas.{from_item, live_first, command_first}
@@ -61,26 +61,6 @@ login_other (DeleteScript name) l = absurd (false≢true l)
 login_other (RenameScript old new) l = absurd (false≢true l)
 login_other (Response text) l = refl
 
--- of a command about scripts that isn't early someone is logged in
-pub asked_user : (c : Client) (command : Command) → is_early c command ≡ false → is_about_scripts command ≡ true → c.user ≡ None → ⊥
-asked_user c command late about none = go command about (subst (λ (o : Option (List ℕ)). (needs_login command && is_none o) ≡ false) none late)
-  where
-    go : (k : Command) → is_about_scripts k ≡ true → (needs_login k && true) ≡ false → ⊥
-    go Capability h e = false≢true h
-    go (Noop tag) h e = false≢true h
-    go Logout h e = false≢true h
-    go (Authenticate mechanism response) h e = false≢true h
-    go Unauthenticate h e = false≢true h
-    go (HaveSpace name size) h e = false≢true (sym e)
-    go (PutScript name script) h e = false≢true (sym e)
-    go (CheckScript text) h e = false≢true h
-    go ListScripts h e = false≢true (sym e)
-    go (SetActive name) h e = false≢true (sym e)
-    go (GetScript name) h e = false≢true (sym e)
-    go (DeleteScript name) h e = false≢true (sym e)
-    go (RenameScript old new) h e = false≢true (sym e)
-    go (Response text) h e = false≢true h
-
 -- ---- calls with another answer
 
 pub acts_other : {X Y : Type 0} (a b : State) (T U M N : Accounts → Accounts → Type 0) (r : Result X Refusal) (q : Result Y Refusal) → ((accounts later : Accounts) → T accounts later → U accounts later)
@@ -100,15 +80,6 @@ acts_other a b T U M N r q turn may err answered acts = record {
 module _ (c : Client) (command : Command) (asked : Asked c command) where
   pub first_reach : reach_in c ≡ reach.Command asked.used
   first_reach = from_item c.pending c.unread (reach_in c) command asked.used asked.first
-
-  pub first_item : is_item (reach_in c) ≡ true
-  first_item = ap is_item first_reach
-
-  pub refused_may : (e : Refusal) → IsPassing e → MayRefuse c e
-  refused_may e (inl memory) = subst (MayRefuse c) (sym memory) (ap (λ (b : Bool). not b && asks_memory (item_in c)) asked.live ∙ ap asks_memory asked.first)
-  refused_may e (inr store) =
-      subst (MayRefuse c) (sym store)
-      (ap (λ (b : Bool). not b && asks_store c (item_in c)) asked.live ∙ ap (asks_store c) asked.first ∙ ap (λ (b : Bool). not b && not (is_free command)) asked.late ∙ ap not asked.asks)
 
   module _ (user : List ℕ) (is : c.user ≡ Some user) (about : is_about_scripts command ≡ true) where
     obeyed_step : (reply : Reply) (accounts later : Accounts) → ObeysUser user command reply accounts later → IsStep accounts c Done (spelled reply) (past asked.used c) later

@@ -82,7 +82,7 @@ Status 0: delivered, and on the disk. 64: wrong words or values. 65: refused for
     .arg(option(alloc, "from", "A", "The envelope's sender [default: none]"))?
     .arg(option(alloc, "to", "A", "The envelope's recipient").required(true))?
     .arg(option(alloc, "at", "N", "Seconds since 1970 [default: the clock]"))?
-    .arg(operand(alloc, "user", "USER", "The account's name"))
+    .arg(user(alloc))
 }
 
 fn folders<'a>(alloc: Global) -> Result<Command<'a>, AllocError> {
@@ -93,7 +93,7 @@ fn folders<'a>(alloc: Global) -> Result<Command<'a>, AllocError> {
         "Reads nothing. Prints `NAME COUNT` for each, in the order of their octets.
 Status 0: listed. 64: wrong words. 65: no such store. 67: no such user. 75: try again later.",
     )?
-    .arg(operand(alloc, "user", "USER", "The account's name"))
+    .arg(user(alloc))
 }
 
 fn show<'a>(alloc: Global) -> Result<Command<'a>, AllocError> {
@@ -104,13 +104,8 @@ fn show<'a>(alloc: Global) -> Result<Command<'a>, AllocError> {
         "Reads nothing. Prints the message as it was received.
 Status 0: shown. 64: wrong words or number. 65: no such message or store. 67: no such user. 75: try again later.",
     )?
-    .arg(operand(alloc, "user", "USER", "The account's name"))?
-    .arg(operand(
-        alloc,
-        "folder",
-        "FOLDER",
-        "The folder's name, as `folders` prints it",
-    ))?
+    .arg(user(alloc))?
+    .arg(folder(alloc))?
     .arg(operand(
         alloc,
         "number",
@@ -128,7 +123,7 @@ fn queue<'a>(alloc: Global) -> Result<Command<'a>, AllocError> {
         "Reads nothing. Prints `ID KIND <SENDER> <TARGET> OCTETS` for each, or with ID the message as it goes out.
 Status 0: listed or shown. 64: wrong words or number. 65: no such row or store. 67: no such user. 75: try again later.",
     )?
-    .arg(operand(alloc, "user", "USER", "The account's name"))?
+    .arg(user(alloc))?
     .arg(id.required(false))
 }
 
@@ -140,7 +135,7 @@ fn done<'a>(alloc: Global) -> Result<Command<'a>, AllocError> {
         "Reads nothing. Prints `taken ID`.
 Status 0: taken, and on the disk. 64: wrong words or number. 65: no such row or store. 67: no such user. 75: try again later.",
     )?
-    .arg(operand(alloc, "user", "USER", "The account's name"))?
+    .arg(user(alloc))?
     .arg(operand(
         alloc,
         "id",
@@ -157,7 +152,7 @@ fn notices<'a>(alloc: Global) -> Result<Command<'a>, AllocError> {
         "Reads nothing. Prints `MOMENT TEXT` for each, the moment in seconds since 1970.
 Status 0: listed. 64: wrong words. 65: no such store. 67: no such user. 75: try again later.",
     )?
-    .arg(operand(alloc, "user", "USER", "The account's name"))
+    .arg(user(alloc))
 }
 
 fn drain<'a>(alloc: Global) -> Result<Command<'a>, AllocError> {
@@ -174,13 +169,8 @@ Status 0: moved. 64: wrong words or number. 65: no such Maildir or store. 67: no
         "K",
         "Moves at most K messages [default: all]",
     ))?
-    .arg(operand(alloc, "user", "USER", "The account's name"))?
-    .arg(operand(
-        alloc,
-        "folder",
-        "FOLDER",
-        "The folder's name, as `folders` prints it",
-    ))?
+    .arg(user(alloc))?
+    .arg(folder(alloc))?
     .arg(operand(
         alloc,
         "maildir",
@@ -250,4 +240,15 @@ fn operand<'a>(alloc: Global, name: &'a str, value: &'a str, help: &'a str) -> A
         .required(true)
         .value_name(value)
         .help(help)
+}
+
+/// The account's name.
+fn user<'a>(alloc: Global) -> Arg<'a> {
+    operand(alloc, "user", "USER", "The account's name")
+}
+
+/// A folder's name.
+fn folder<'a>(alloc: Global) -> Arg<'a> {
+    let help = "The folder's name, as `folders` prints it";
+    operand(alloc, "folder", "FOLDER", help)
 }

@@ -1,5 +1,5 @@
 -- The longest spelling at a front, and the token that it is.
-use Rattle.std.proofs.Common.{◌≡◌, ◌⊎◌, ℕ, ◌<◌, ◌≤◌, List, length, take, drop, sym, subst, inl, inr, arith}
+use Rattle.std.proofs.Common.{◌≡◌, ◌⊎◌, ℕ, ◌<◌, ◌≤◌, List, length, take, drop, subst, inl, inr, arith}
 use Rattle.sievelex.specs.declared.token.Content.{Content}
 use Rattle.sievelex.specs.declared.front.Front.{Front}
 use Rattle.sievelex.specs.Shape.{IsShape}
@@ -40,14 +40,6 @@ pub best_too_large : (octets : List ℕ) (v : Content) (n : ℕ) → IsBest octe
 best_too_large octets v n b out g t =
     let same : (g.len ≡ n) × (g.content ≡ v) = best_only octets v n b _ _ t in
     out (subst IsInRange same.1 t.in_range)
-
--- where a text of several lines is meant there is none
-pub best_open : (octets : List ℕ) (v : Content) (n : ℕ) → IsBest octets v n → OpensText v (drop n octets) → (g : Front) → IsFront octets g → ⊥
-best_open octets v n b begun g t =
-    let same : (g.len ≡ n) × (g.content ≡ v) = best_only octets v n b _ _ t in
-    let P : Content → Type 0 = λ x. OpensText x (drop g.len octets) in
-    let Q : ℕ → Type 0 = λ x. OpensText v (drop x octets) in
-    t.bare (subst P (sym same.1) (subst Q (sym same.0) begun))
 
 -- the one token at the front
 abbrev pub IsFound : List ℕ → Front → Type 0

@@ -3,9 +3,8 @@ use Rattle.std.proofs.Common.{◌≡◌, ℕ, ◌+◌, ◌-◌, ◌≤◌, List,
 use Rattle.std.proofs.lemmas.Option.{slice_get_past}
 use Rattle.sievelex.specs.declared.token.Token.{Token}
 use Rattle.sievelex.specs.Spelling.{IsNext, SpellsFrom}
-use Rattle.sievelex.specs.Text.{line_ends}
 use Rattle.sievelex.specs.Contents.{line_or, line_at}
-use Rattle.sievelex.proofs.Next.{tail_no_next, line_within}
+use Rattle.sievelex.proofs.Next.{tail_no_next}
 use Rattle.sievelex.proofs.Scanned.{IsFront, front_more}
 
 -- what stands behind a list is found at its length
@@ -36,7 +35,3 @@ count_more text at before index t here one some c =
 -- behind the last token there is none
 pub line_past : (index : ℕ) (us : List Token) → length us ≤ index → 1 ≡ line_at index us
 line_past index us past = sym (ap line_or (slice_get_past us index past))
-
--- within the text
-pub line_in : (text : List ℕ) (at : ℕ) (t : Token) → IsNext text at t → (1 ≤ t.line) × (t.line ≤ 1 + line_ends text)
-line_in text at t here = line_within text t.start t.line here.line t.line refl

@@ -2,32 +2,9 @@
 use Rattle.std.proofs.Common.{◌≡◌, ℕ, Bool, true, false, cond, ◌&&◌, ◌||◌, List, [], ◌∷◌, ◌++◌, Some, None, refl, sym, ap, ◌∙◌}
 use Rattle.std.specs.List.{list_all, list_any, concat}
 use Rattle.mailhead.specs.Lines.{lines_of, begins_blank, is_empty_line, logical_lines, header_lines}
-use Rattle.mailhead.specs.Cuts.{CutsLine, CutsLogicalLine, after_empty}
+use Rattle.mailhead.specs.Cuts.{CutsLogicalLine, after_empty}
 use Rattle.mailhead.proofs.FoldLemmas.{and_left, and_right, blank_not_empty, header_step}
-use Rattle.sievesyntax.specs.Reasons.{is_narrow, is_narrow_text, is_mime_line, is_entity}
-
--- one line more, or one that is too long
-pub narrow_step : (text line after : List ℕ) → CutsLine text line after → is_narrow line ≡ true → is_narrow_text after ≡ is_narrow_text text
-narrow_step text line after cut narrow = sym (ap (list_all is_narrow) cut.first ∙ ap (λ b. b && is_narrow_text after) narrow)
-
-pub narrow_stop : (text line after : List ℕ) → CutsLine text line after → is_narrow line ≡ false → false ≡ is_narrow_text text
-narrow_stop text line after cut wide = sym (ap (list_all is_narrow) cut.first ∙ ap (λ b. b && is_narrow_text after) wide)
-
--- the lines of a header, up to an empty line
-abbrev lines_entity : List (List ℕ) → Bool
-lines_entity lines = list_any is_empty_line lines && list_all is_mime_line (logical_lines (header_lines lines))
-
-entity_first : (empty : Bool) (line : List ℕ) (more : List (List ℕ)) (body : List ℕ) → cond empty (Some (concat more)) None ≡ Some body → (empty || list_any is_empty_line more) && list_all is_mime_line (logical_lines (cond empty [] (line ∷ header_lines more))) ≡ true
-entity_first true line more body is = refl
-entity_first false line more body is = absurd (cc is)
-
-entity_lines : (lines : List (List ℕ)) (body : List ℕ) → after_empty lines ≡ Some body → lines_entity lines ≡ true
-entity_lines [] body is = absurd (cc is)
-entity_lines (line ∷ more) body is = entity_first (is_empty_line line) line more body is
-
--- an empty line ends the header
-pub entity_ends : (text body : List ℕ) → after_empty (lines_of text) ≡ Some body → is_entity text ≡ true
-entity_ends text body is = entity_lines (lines_of text) body is
+use Rattle.sievesyntax.specs.Reasons.{is_mime_line, is_entity}
 
 no_empty : (test : Bool) (text : List ℕ) → cond test (Some text) None ≡ None → test ≡ false
 no_empty true text h = absurd (cc h)

@@ -1,5 +1,5 @@
 -- Lemmas on tags.
-use Rattle.std.proofs.Common.{◌≡◌, ℕ, List, [], ◌∷◌, ◌++◌, ◌<◌, length, map, Option, Some, None, option_map, cond, codes, nat_eq, refl, sym, ap, ◌∙◌, subst, arith, inl, inr}
+use Rattle.std.proofs.Common.{◌≡◌, ℕ, List, [], ◌∷◌, ◌++◌, map, Option, Some, None, option_map, cond, codes, nat_eq, refl, sym, ap, ◌∙◌, subst, arith, inl, inr}
 use Rattle.std.specs.List.{Contains}
 use Rattle.std.proofs.lemmas.List.Elements.{Contains-append_left, Contains-append_right, Contains-append_cases, Contains-push, Contains-push_cases}
 use Rattle.std.specs.Cmp.Lexicographic.{pointwise}
@@ -17,7 +17,7 @@ use Rattle.sievesyntax.specs.declared.table.tag_group.TagValue.TheVariants as S
 use Rattle.sievesyntax.specs.declared.table.tag_group.TagGroup.{TagGroup}
 use Rattle.sievesyntax.specs.Chains.{Chain}
 use Rattle.sievesyntax.specs.Tags.{strings_of, IsTagValue, group_of, AreApart, IsAllowed, IsPlain, IsSplit, HasNoTag}
-use Rattle.sievesyntax.proofs.Chains.{IsSoFar, chain_begins, chain_more, chain_ends}
+use Rattle.sievesyntax.proofs.Chains.{IsSoFar, chain_more, chain_ends}
 
 abbrev collation_named : List ℕ → Option Collation
 collation_named name = cond (pointwise nat_eq name (codes "i;octet")) (Some C.Octet) (cond (pointwise nat_eq name (codes "i;ascii-casemap")) (Some C.AsciiCasemap) None)
@@ -86,19 +86,6 @@ plain_none (S.Addresses xs) from to at plain = subst IsPlain at.1.0 plain
 plain_none S.Mime from to at plain = subst IsPlain at plain
 plain_none (S.Handle s) from to at plain = subst IsPlain at plain
 
--- a tag is not empty
-pub tag_value_longer : (s : TagValue) (from to : List Argument) → IsTagValue s from to → length to < length from
-tag_value_longer (S.Bound bound) from to at = omega (arith, ap length at)
-tag_value_longer (S.Comparator c) from to at = omega (arith, ap length at)
-tag_value_longer (S.Matching m) from to at = omega (arith, ap length at)
-tag_value_longer (S.Part p) from to at = omega (arith, ap length at)
-tag_value_longer (S.Days n) from to at = omega (arith, ap length at)
-tag_value_longer (S.Subject s) from to at = omega (arith, ap length at)
-tag_value_longer (S.From s) from to at = omega (arith, ap length at)
-tag_value_longer (S.Addresses xs) from to at = omega (arith, ap length (at.1.0))
-tag_value_longer S.Mime from to at = omega (arith, ap length at)
-tag_value_longer (S.Handle s) from to at = omega (arith, ap length at)
-
 -- nothing is among none
 pub none_there : (x : TagGroup) → Contains [] x → ⊥
 none_there x among = omega (arith, among.1)
@@ -134,9 +121,6 @@ pub record IsTaken (allowed : List TagGroup) (args : List Argument) (tag_values 
   pub apart : AreApart taken
 
 module _ (allowed : List TagGroup) (args : List Argument) where
-  pub taken_begins : IsTaken allowed args [] [] args
-  taken_begins = record { so_far = chain_begins (IsAllowed allowed) IsPlain args; taken_is = refl; apart = tt }
-
   pub taken_more : (tag_values : List TagValue) (taken : List TagGroup) (rest : List Argument) → IsTaken allowed args tag_values taken rest → (s : TagValue) (after : List Argument) → IsAllowed allowed s rest after → (Contains taken (group_of s) → ⊥) → IsTaken allowed args (tag_values ++ s ∷ []) (taken ++ group_of s ∷ []) after
   taken_more tag_values taken rest kept s after at free = record {
     so_far = chain_more (IsAllowed allowed) IsPlain args tag_values rest s after kept.so_far at (λ y to also. tag_value_only s y rest after to at.0 also.0) (plain_none s rest after at.0);

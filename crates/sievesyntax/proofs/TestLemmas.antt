@@ -253,10 +253,6 @@ module _ (granted : Capabilities) (lists nots : ℕ) where
 
 -- a test list at the front
 module _ (granted : Capabilities) (lists nots : ℕ) (from inside : List Lexeme) (opens : from ≡ mark K.OpenParen ∷ inside) where
-  -- too many lists
-  pub tests_deep : lists ≡ 0 → (ts : Tests) (to : List Lexeme) → TakesTests granted lists nots ts from to → ⊥
-  tests_deep none ts to takes = let low : lists_depth ts + 1 ≤ lists = takes.1.1.0 in absurd (omega (arith, low, none))
-
   module _ (fewer : ℕ) (more : lists ≡ fewer + 1) where
     tests_parts : (ts : Tests) (to : List Lexeme) → TakesTests granted lists nots ts from to → (first : TestTree) × ((others : Tests) × ((ts ≡ test first others) × ((middle : List Lexeme) × (TakesTest granted fewer nots first inside middle × Chain (TakesNextTest granted fewer nots) (list_of_tests others) middle (mark K.CloseParen ∷ to)))))
     tests_parts no_tests to takes = absurd takes.0.1.1

@@ -86,14 +86,6 @@ module _ (schema : Schema) (table : Table) (listed : Has schema.tables table) (i
   one_entry : IsAtMostOne (λ e. has_key key (cells_of e)) h.entries
   one_entry = lone id_of (λ e. has_key key (cells_of e)) h.entries h.keyed same_id
 
-  pub one_row : IsAtMostOne (has_key key) cells
-  one_row =
-      let found = ap (filter (has_key key)) h.cells_are ∙ filter-entries (has_key key) h.entries in
-      elim one_entry [
-        | inl none ↦ inl (found ∙ ap (map cells_of) none)
-        | inr one ↦ inr (cells_of one.0, subst (λ l. Has l (cells_of one.0)) (sym h.cells_are) (has_map cells_of h.entries one.0 one.1), one.2, found ∙ ap (map cells_of) one.3)
-      ]
-
 no_permutation : {X : Type 0} (ys : List X) → IsPermutation [] ys → ys ≡ []
 no_permutation [] same = refl
 no_permutation (y ∷ ys) same = absurd (omega (arith, length_permutation _ _ same))

@@ -1,5 +1,5 @@
 -- Which rows pass a test after a row joined, went or changed, and keys of blobs.
-use Rattle.std.proofs.Common.{◌≡◌, ◌≢◌, ℕ, Bool, true, false, not, cond, List, [], ◌∷◌, ◌++◌, map, filter, find, slice_get, refl, sym, ap, ◌∙◌, true≢false, append-nil, arith}
+use Rattle.std.proofs.Common.{◌≡◌, ◌≢◌, ℕ, Bool, true, false, not, cond, List, [], ◌∷◌, ◌++◌, map, filter, refl, sym, ap, ◌∙◌, true≢false, append-nil, arith}
 use Rattle.std.proofs.lemmas.Bool.{and_parts, and_from, false_from_ne_true}
 use Rattle.std.proofs.lemmas.List.Elements.{filter-append}
 use Rattle.sqlite_value.specs.declared.value.Value.{Value}
@@ -11,7 +11,6 @@ use Rattle.sqlite_sql.specs.Ops.{binary}
 use Rattle.sqlite_sql.specs.declared.ops.CompareOp.TheVariants.{Eq}
 use Rattle.sqlite_schema.specs.Rules.{equal}
 use Rattle.sqlite_keyed.specs.Lists.{update_where, delete_where}
-use Rattle.sqlite_keyed.proofs.ListLemmas.{slice_get-filter}
 use Rattle.sqlite_typed.proofs.TestLemmas.{at_blobs, same_bytes, bytes_eq_refl}
 use Rattle.sqlrows.specs.Rows.{has_key}
 
@@ -55,10 +54,6 @@ module _ {X : Type 0} (p : X → Bool) where
         go true is more = rw (stays x is, apart x is) more
         go false is more = elim (p x) as (λ b. cond b (x ∷ filter p (update_where q f xs)) (filter p (update_where q f xs)) ≡ cond b (x ∷ filter p xs) (filter p xs)) [ true ↦ ap (λ l. x ∷ l) more | false ↦ more ]
 
-  -- the first that passes is the first of those that pass
-  pub find_is : (xs : List X) → find p xs ≡ slice_get (filter p xs) 0
-  find_is xs = sym (slice_get-filter p xs)
-
 pub equal_blob : (v : Value) (a : List ℕ) → equal Binary v (Blob a) ≡ true → v ≡ Blob a
 unfolding binary
 equal_blob Null a h = absurd (true≢false (sym h))
@@ -82,12 +77,6 @@ owned_as a cells h = equal_blob (column cells 0) a (and_parts _ _ h).0
 
 pub owned_by : (a : List ℕ) (rest : Row) → has_key (owner_key a) (Blob a ∷ rest) ≡ true
 owned_by a rest = and_from _ _ (equal_itself a) refl
-
-pub keyed_as : (a b : List ℕ) (cells : Row) → has_key (pair_key a b) cells ≡ true → (column cells 0 ≡ Blob a) × (column cells 1 ≡ Blob b)
-keyed_as a b cells h = let parts = and_parts _ _ h in (equal_blob (column cells 0) a parts.0, equal_blob (column cells 1) b (and_parts _ _ parts.1).0)
-
-pub keyed_by : (a b : List ℕ) (rest : Row) → has_key (pair_key a b) (Blob a ∷ Blob b ∷ rest) ≡ true
-keyed_by a b rest = and_from _ _ (equal_itself a) (and_from _ _ (equal_itself b) refl)
 
 same_blob : (a b : List ℕ) → Blob a ≡ Blob b → a ≡ b
 same_blob a b e = cc
