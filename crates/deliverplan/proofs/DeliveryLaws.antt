@@ -1,5 +1,5 @@
 -- A delivery has one report, and the account is one afterwards.
-use Rattle.std.proofs.Common.{◌≡◌, ℕ, ◌⊎◌, Bool, true, false, List, Option, Some, None, ap, sym, ◌∙◌, subst, inl, inr}
+use Rattle.std.proofs.Common.{◌≡◌, ℕ, Bool, true, false, List, Option, Some, None, ap, sym, ◌∙◌, subst, inl, inr}
 use Rattle.addrparts.specs.declared.address.Addr.{Addr}
 use Rattle.sievesyntax.specs.Meaning.{Actions}
 use Rattle.sievesyntax.specs.declared.tree.vacation.VacArgs.{VacArgs}

@@ -1,11 +1,11 @@
 -- A plan meets the definition of a delivery, by what becomes of the message.
-use Rattle.std.proofs.Common.{◌≡◌, ℕ, ◌⊎◌, Bool, true, false, List, Option, Some, None, refl, ap, sym, ◌∙◌, subst, inl, inr, Result, IfOk}
+use Rattle.std.proofs.Common.{◌≡◌, ℕ, Bool, true, false, List, Option, Some, None, refl, ap, sym, ◌∙◌, subst, inl, inr, Result, IfOk}
 use Rattle.std.specs.declared.alloc.AllocError.{AllocError}
 use Rattle.addrparts.specs.declared.address.Addr.{Addr}
 use Rattle.sievesyntax.specs.Tree.{Commands}
 use Rattle.sievesyntax.specs.Means.{Means}
 use Rattle.sievesyntax.specs.RunState.{Failure}
-use Rattle.sievesyntax.specs.Meaning.{Actions, Outcome, Done, Failed}
+use Rattle.sievesyntax.specs.Meaning.{Actions, Done, Failed}
 use Rattle.sieveexec.specs.Mails.{MailSpec}
 use Rattle.sieveexec.specs.Outcomes.{outcome_at}
 use Rattle.mailstore.specs.Account.{Account, delivers}

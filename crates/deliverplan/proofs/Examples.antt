@@ -1,20 +1,18 @@
 -- The definitions on small cases: one that is right, and one that nearly is.
-use Rattle.std.proofs.Common.{◌≡◌, ℕ, suc, true, false, List, [], ◌∷◌, ◌++◌, codes, Option, Some, None, refl, ap, sym, ◌∙◌}
+use Rattle.std.proofs.Common.{◌≡◌, ℕ, suc, true, false, List, [], ◌∷◌, ◌++◌, codes, Some, None, refl, ap}
 use Rattle.std.specs.Prelude.{replicate}
 use Rattle.mailhead.specs.Fields.{FieldText}
 use Rattle.addrparts.specs.declared.address.Addr.{Addr}
 use Rattle.sievesyntax.specs.RunState.{TwoVacations, TooManyRedirects, inbox}
-use Rattle.sievesyntax.specs.Meaning.{Actions, Failed}
+use Rattle.sievesyntax.specs.Meaning.{Failed}
 use Rattle.sievesyntax.specs.declared.tree.vacation.VacArgs.{VacArgs}
 use Rattle.sieveexec.specs.Mails.{MailSpec}
-use Rattle.vacreply.specs.Reasons.{decision_of}
-use Rattle.vacreply.specs.declared.reason.Decision.TheVariants as D
 use Rattle.vacreply.specs.declared.reason.Reason.TheVariants as R
 use Rattle.mailstore.specs.Account.{Account, files_copies, notes, remembers}
 use Rattle.mailstore.specs.declared.queue.Kind.TheVariants.{Redirect, Reply}
 use Rattle.mailstore.specs.declared.report.VacationReport.TheVariants as V
-use Rattle.deliverplan.specs.Views.{last_reply, moment_under}
-use Rattle.deliverplan.specs.Delivered.{Disposition, Acts, Tells, Disposes, disposition_of, invalid_text, is_looping, is_received, kept, loop_text, Response, Silent, Quiet, Sent, Responds, acts, responds, redirects, report_of, notice_report, CarriesOut, LeavesNotice, Delivers}
+use Rattle.deliverplan.specs.Views.{moment_under}
+use Rattle.deliverplan.specs.Delivered.{Acts, Tells, Disposes, disposition_of, invalid_text, is_looping, is_received, kept, loop_text, Silent, Quiet, Sent, Responds, responds, redirects, report_of, notice_report, Delivers}
 use Rattle.deliverplan.proofs.DeliveryLaws.{one_delivery}
 
 abbrev alice : Addr

@@ -15,22 +15,23 @@ use Rattle.sqlite.specs.Effect.{Database}
 use Rattle.sqlite.specs.Does.{Tally, lacks_sequence}
 use Rattle.sqlite.specs.Listing.{understood}
 use Rattle.sqlite.specs.declared.error.Error.{Error}
-use Rattle.sqlite.specs.State.{State, HasCleanDisk, Survives, Writes, Executes, ExecutesInside, KeepsCommit, Shows}
+use Rattle.sqlite.specs.declared.transaction.Transaction.{Transaction}
+use Rattle.sqlite.specs.State.{State, HasCleanDisk, Survives, Writes, Executes, KeepsCommit, Shows}
 use Rattle.sqlite.specs.Held.{Held, state}
 use Rattle.sqlite_trees.specs.declared.store.Store.{Ghosts}
 use Rattle.sqlite.proofs.StateLemmas.{survives_then}
 use Rattle.sqlite.proofs.Callers.{IsPlain, command_of, statement_of, runs_as, survives_begin}
-use Rattle.sqlite.proofs.InsideLemmas.{inside_keeps, keeps_then}
+use Rattle.sqlite.proofs.InsideLemmas.{keeps_then}
 use Rattle.sqlrows.specs.Rows.{Entry, IsHeld, Holds, cells_of, stored}
 use Rattle.sqlrows.proofs.StepLemmas.{went, same_value}
 use Rattle.std.specs.FinMap.{get-empty}
 use Rattle.sqlrows.specs.Rows.{Tables, added}
 use Rattle.mailstore.specs.Schema.{no_schema, mail_schema}
-use Rattle.mailstore.specs.Connection.{no_rows, MakesRows, MakesSchema}
+use Rattle.mailstore.specs.Connection.{no_rows, TurnsRows, TurnsSchema, MakesTables}
 use Rattle.mailstore.specs.Account.{bytes_cmp, no_accounts}
 use Rattle.mailstore.specs.MetaTable.{version_row, meta_tree}
 use Rattle.mailstore.specs.Shows.{rows_of, IsAbsent, IsShownOrAbsent, ShowsAccounts, Presents, MayCreate}
-use Rattle.mailstore.proofs.WriteLemmas.{clean_before}
+use Rattle.mailstore.proofs.WriteLemmas.{MakesInside, clean_before}
 
 no_entries : (rows : List Row) → IsHeld rows [] → rows ≡ []
 no_entries rows h = h.rows_are ∙ go h.entries h.cells_are
@@ -44,7 +45,7 @@ nothing_held rows none = record { entries = []; keyed = tt; rows_are = none; cel
 
 module _ (schema : Schema) (sql : List ℕ) (table : Table) (defined : table_defined_by sql ≡ Ok table) (is : command_of (understood schema sql) ≡ CreateTable)
     (text : statement_of sql (understood schema sql) ≡ sql) (plain : IsPlain (understood schema sql)) (uncounted : lacks_sequence (created schema table) ≡ false) where
-  creates : (old new : State) (count : ℕ) → Executes sql [] old new (Ok count) → Holds schema old.now no_rows → Holds (created schema table) new.now no_rows
+  pub creates : (old new : State) (count : ℕ) → Executes sql [] old new (Ok count) → TurnsSchema schema (created schema table) old.now new.now
   creates old new count ran h =
       let w = subst (λ t. Writes old new None CreateTable t [] count) text (runs_as sql [] old new schema h.is CreateTable is plain count ran) in
       let all = went w.changed in
@@ -68,11 +69,6 @@ module _ (schema : Schema) (sql : List ℕ) (table : Table) (defined : table_def
         ];
       }
 
-  pub table_made : (old new : State) (r : Result ℕ Error) → ExecutesInside 0 sql [] old new r
-      → KeepsCommit old new × OnOk r ((Holds schema old.now no_rows → Holds (created schema table) new.now no_rows) × Shows old new new.now old.committed true)
-  table_made old new (Err e) ran = (inside_keeps old new 0 false sql [] (Err e) ran, tt)
-  table_made old new (Ok count) ran = (inside_keeps old new 0 false sql [] (Ok count) ran, (creates old new count ran.0, ran.1))
-
 -- the tables without a user, and with the row of their version
 pub shows_nobody : ShowsAccounts (added meta_tree version_row no_rows) no_accounts
 shows_nobody = record { version = refl; users = λ user. subst (IsShownOrAbsent user (rows_of user (added meta_tree version_row no_rows))) (sym (get-empty bytes_cmp user)) (absent user) }
@@ -85,7 +81,7 @@ pub starts_empty : (db : Database) → db.schema ≡ no_schema → Holds no_sche
 starts_empty db is = record { is = is; fits = record { rules = λ rule other. tt; indexed = tt }; each = λ t none. absurd none }
 
 -- one table after another
-pub then_makes : {X Y : Type 0} (a b c : State) (s t u : Schema) (r : Result X Error) (x : X) (q : Result Y Error) → r ≡ Ok x → Survives b c (λ _. ⊥) → MakesSchema a b r s t → MakesSchema b c q t u → MakesSchema a c q s u
+pub then_makes : {X Y : Type 0} (a b c : State) (s t u : Schema) (r : Result X Error) (x : X) (q : Result Y Error) → r ≡ Ok x → Survives b c (λ _. ⊥) → MakesInside (TurnsSchema s t) a b r → MakesInside (TurnsSchema t u) b c q → MakesInside (TurnsSchema s u) a c q
 then_makes {X} {Y} a b c s t u r x q ok survives one two clean inside = go q (two clean first.1.mode)
   where
     begun : KeepsCommit a b × OnOk r ((Holds s a.now no_rows → Holds t b.now no_rows) × Shows a b b.now a.committed true)
@@ -99,9 +95,17 @@ then_makes {X} {Y} a b c s t u r x q ok survives one two clean inside = go q (tw
     go (Err e) h = (keeps_then a b c begun.0 h.0, tt)
     go (Ok y) h = (keeps_then a b c begun.0 h.0, (λ k. h.1.0 (first.0 k), record { was_open = first.1.was_open; is_open = h.1.1.is_open; now_is = refl; committed_is = h.1.1.committed_is ∙ first.1.committed_is; mode = h.1.1.mode }))
 
+-- the same of what the statements of a transaction promise
+pub makes_then : {S X Y : Type 0} (g : Ghosts S) (a b c : Transaction S) (s t u : Schema) (r : Result X Error) (x : X) (q : Result Y Error) → r ≡ Ok x → MakesTables g s t a b r → MakesTables g t u b c q → MakesTables g s u a c q
+makes_then g a b c s t u r x q ok one two = record {
+  same_reference = two.same_reference ∙ one.same_reference;
+  made = then_makes (state g a.conn.now) (state g b.conn.now) (state g c.conn.now) s t u r x q ok two.survives one.made two.made;
+  survives = survives_then (state g a.conn.now) (state g b.conn.now) (state g c.conn.now) _ _ _ (λ _ db none. none) (λ _ db none. none) one.survives two.survives;
+}
+
 -- all tables and the row of the version
 pub all_ready : {X Y : Type 0} (old two three : State) (r : Result X Error) (x : X) (q : Result Y Error) (y : Y) → r ≡ Ok x → q ≡ Ok y → IsTrue old.in_transaction → Survives two three (λ _. ⊥)
-    → MakesSchema old two r no_schema mail_schema → MakesRows two three q (added meta_tree version_row) → HasCleanDisk three → old.now.schema ≡ no_schema → Presents three.now no_accounts
+    → MakesInside (TurnsSchema no_schema mail_schema) old two r → MakesInside (TurnsRows (added meta_tree version_row)) two three q → HasCleanDisk three → old.now.schema ≡ no_schema → Presents three.now no_accounts
 all_ready old two three r x q y rok qok inside s1 tables version late blank =
     let early = clean_before two three (λ _. ⊥) s1 late in
     let first = subst (λ o. OnOk o ((Holds no_schema old.now no_rows → Holds mail_schema two.now no_rows) × Shows old two two.now old.committed true)) rok (tables early inside).1 in

@@ -3,17 +3,40 @@ use Rattle.std.proofs.Common.{◌≡◌, ℕ, ◌+◌, ◌<◌, true, false, Lis
 use Rattle.std.proofs.lemmas.List.{take_more}
 use Rattle.sqlite_trees.specs.Tree.{Trees}
 use Rattle.sqlite_trees.specs.declared.store.Store.{Ghosts}
+use Rattle.sqlite.specs.Effect.{Database}
 use Rattle.sqlite.specs.Held.{Held, state}
 use Rattle.sqlite.specs.declared.error.Error.{Error}
-use Rattle.sqlite.specs.State.{State, HasCleanDisk, KeepsCommit, Survives, Shows}
-use Rattle.sqlite.proofs.InsideLemmas.{keeps_then}
+use Rattle.sqlite.specs.declared.transaction.Transaction.{Transaction}
+use Rattle.sqlite_value.specs.Order.{Row}
+use Rattle.sqlite.specs.State.{State, HasCleanDisk, Executes, KeepsCommit, Survives, Shows}
+use Rattle.sqlite.proofs.InsideLemmas.{inside_keeps, keeps_then}
 use Rattle.sqlite.proofs.StateLemmas.{survives_then}
 use Rattle.sqlite.proofs.Callers.{survives_begin}
 use Rattle.sqlrows.specs.Rows.{Tables, Holds}
 use Rattle.mailstore.specs.declared.change.Change.{Change}
 use Rattle.mailstore.specs.Schema.{mail_schema}
-use Rattle.mailstore.specs.Connection.{MakesRows}
+use Rattle.mailstore.specs.Connection.{RunsInside, RunsText, RunsStatement, Makes, TurnsRows}
 use Rattle.mailstore.specs.Changes.{made_one, made, MayHave}
+
+-- what is made inside a transaction, where the disk is honest
+abbrev pub MakesInside : {X : Type 0} → (Database → Database → Type 0) → State → State → Result X Error → Type 0
+MakesInside Turned old new result = HasCleanDisk new → IsTrue old.in_transaction → Makes Turned old new result
+
+-- a statement that ran or failed, where it is known how what is seen then turned
+makes_text : {X : Type 0} (Turned : Database → Database → Type 0) (sql : List ℕ) (params : Row) (old new : State) (r : Result X Error)
+    → ((count : ℕ) → Executes sql params old new (Ok count) → Turned old.now new.now) → RunsText sql params old new r → Makes Turned old new r
+makes_text Turned sql params old new (Err e) turns ran = (inside_keeps old new 0 false sql params (Err e) ran, tt)
+makes_text Turned sql params old new (Ok x) turns ran = (inside_keeps old new 0 false sql params (Ok ran.0) ran.1, (turns ran.0 ran.1.0, ran.1.1))
+
+-- the same inside a transaction
+pub statement_makes : {S X : Type 0} (g : Ghosts S) (Turned : Database → Database → Type 0) (sql : List ℕ) (params : Row) (old new : Transaction S) (r : Result X Error)
+    → ((count : ℕ) → Executes sql params (state g old.conn.now) (state g new.conn.now) (Ok count) → Turned (state g old.conn.now).now (state g new.conn.now).now)
+    → RunsStatement g sql params old new r → RunsInside g (Makes Turned) old new r
+statement_makes g Turned sql params old new r turns ran = record {
+  same_reference = ran.same_reference;
+  made = λ clean inside. makes_text Turned sql params (state g old.conn.now) (state g new.conn.now) r turns (ran.made clean inside);
+  survives = ran.survives;
+}
 
 -- what a loop over the changes keeps
 pub record HasMade (old now : State) (changes : List Change) : Type 0 where
@@ -29,7 +52,7 @@ pub clean_before : (mid new : State) (P : Trees → Type 0) → Survives mid new
 clean_before mid new P s clean = let low = s.clean in omega arith
 
 pub one_more : {X : Type 0} (old mid new : State) (changes : List Change) (at : ℕ) (d : Change) (r : Result X Error) (x : X) → r ≡ Ok x → at < length changes → (HasCleanDisk mid → HasMade old mid (take at changes))
-    → Survives mid new (λ _. ⊥) → MakesRows mid new r (made_one (get_or changes at d)) → HasCleanDisk new → HasMade old new (take (at + 1) changes)
+    → Survives mid new (λ _. ⊥) → MakesInside (TurnsRows (made_one (get_or changes at d))) mid new r → HasCleanDisk new → HasMade old new (take (at + 1) changes)
 one_more old mid new changes at d r x ok within was survives makes clean =
     let before = was (clean_before mid new _ survives clean) in
     let done = makes clean before.inside in

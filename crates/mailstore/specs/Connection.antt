@@ -1,25 +1,57 @@
 -- What a call leaves of a connection: after Ok, after a refusal, and where a crash comes.
-use Rattle.std.specs.Prelude.{◌≡◌, ◌⊎◌, ◌≤◌, ◌||◌, Bool, true, [], codes, is_some, Result, OnOk, IsTrue}
+use Rattle.std.specs.Prelude.{◌≡◌, ◌⊎◌, ◌≤◌, ◌||◌, ℕ, Bool, true, List, [], codes, is_some, Result, Ok, Err, OnOk, IsTrue}
+use Rattle.sqlite_value.specs.Order.{Row}
 use Rattle.sqlite_schema.specs.declared.schema.Schema.{Schema}
 use Rattle.sqlite_schema.specs.Names.{table_named}
 use Rattle.sqlite_trees.specs.declared.store.Store.{Ghosts}
 use Rattle.sqlite_trees.specs.Tree.{Trees}
 use Rattle.sqlite_trees.specs.View.{doubt}
 use Rattle.sqlite.specs.declared.error.Error.{Error}
-use Rattle.sqlite.specs.Held.{Held, state}
-use Rattle.sqlite.specs.State.{State, HasCleanDisk, KeepsCommit, Shows}
+use Rattle.sqlite.specs.declared.transaction.Transaction.{Transaction}
+use Rattle.sqlite.specs.Effect.{Database}
+use Rattle.sqlite.specs.Held.{state}
+use Rattle.sqlite.specs.State.{State, HasCleanDisk, ExecutesInside, KeepsCommit, Shows, Survives}
 use Rattle.sqlrows.specs.Rows.{Tables, Holds}
 use Rattle.mailstore.specs.Schema.{mail_schema}
 
--- inside a transaction, where the tables hold these, they then hold what the function makes of them, and the last commit stands
-abbrev pub MakesRows : {X : Type 0} → State → State → Result X Error → (Tables → Tables) → Type 0
-MakesRows old new result change =
-    HasCleanDisk new → IsTrue old.in_transaction
-    → KeepsCommit old new × OnOk result (((tables : Tables) → Holds mail_schema old.now tables → Holds mail_schema new.now (change tables)) × Shows old new new.now old.committed true)
+-- no table has a row
+abbrev pub no_rows : Tables
+no_rows tree = []
 
--- the same, of what the connection holds
-abbrev pub Makes : {S X : Type 0} → Ghosts S → Held S → Held S → Result X Error → (Tables → Tables) → Type 0
-Makes g old new result change = MakesRows (state g old) (state g new) result change
+-- statements inside a transaction, which run like this: it stays one of the same connection, and a crash leaves what it left before
+pub record RunsInside {S X : Type 0} (g : Ghosts S) (Run : State → State → Result X Error → Type 0) (old new : Transaction S) (result : Result X Error) : Type 0 where
+  pub same_reference : new.conn.ghost_name ≡ old.conn.ghost_name
+  pub made : HasCleanDisk (state g new.conn.now) → IsTrue (state g old.conn.now).in_transaction → Run (state g old.conn.now) (state g new.conn.now) result
+  pub survives : Survives (state g old.conn.now) (state g new.conn.now) (λ _. ⊥)
+
+-- the statement of this text ran or failed; how many rows it changed is not told
+abbrev pub RunsText : {X : Type 0} → List ℕ → Row → State → State → Result X Error → Type 0
+RunsText sql params old new (Ok x) = (count : ℕ) × ExecutesInside 0 sql params old new (Ok count)
+RunsText sql params old new (Err e) = ExecutesInside 0 sql params old new (Err e)
+
+-- the last commit stands, and after Ok what is seen has turned like this
+abbrev pub Makes : {X : Type 0} → (Database → Database → Type 0) → State → State → Result X Error → Type 0
+Makes Turned old new result = KeepsCommit old new × OnOk result (Turned old.now new.now × Shows old new new.now old.committed true)
+
+-- the tables that held these then hold what the function makes of them
+abbrev pub TurnsRows : (Tables → Tables) → Database → Database → Type 0
+TurnsRows change old new = (tables : Tables) → Holds mail_schema old tables → Holds mail_schema new (change tables)
+
+-- where the empty schema was the first one, it is then the next
+abbrev pub TurnsSchema : Schema → Schema → Database → Database → Type 0
+TurnsSchema schema next old new = Holds schema old no_rows → Holds next new no_rows
+
+-- a statement inside a transaction
+abbrev pub RunsStatement : {S X : Type 0} → Ghosts S → List ℕ → Row → Transaction S → Transaction S → Result X Error → Type 0
+RunsStatement g sql params = RunsInside g (RunsText sql params)
+
+-- changes of our tables' rows inside a transaction
+abbrev pub ChangesRows : {S X : Type 0} → Ghosts S → (Tables → Tables) → Transaction S → Transaction S → Result X Error → Type 0
+ChangesRows g change = RunsInside g (Makes (TurnsRows change))
+
+-- tables made inside a transaction, from the one empty schema to the next
+abbrev pub MakesTables : {S X : Type 0} → Ghosts S → Schema → Schema → Transaction S → Transaction S → Result X Error → Type 0
+MakesTables g schema next = RunsInside g (Makes (TurnsSchema schema next))
 
 -- the connection is open, and sees its last commit
 pub record SeesCommit (s : State) : Type 0 where
@@ -46,19 +78,6 @@ pub record Leaves (old new : State) : Type 0 where
 pub record Outlives (Left : Trees → Type 0) (old new : State) : Type 0 where
   pub faults : doubt old.is_clean ≤ doubt new.is_clean
   pub crash : HasCleanDisk new → (db : Trees) → new.may_leave db → old.may_leave db ⊎ Left db
-
--- no table has a row
-abbrev pub no_rows : Tables
-no_rows tree = []
-
--- inside a transaction a table is made: where the empty schema was this one, it is then the next
-abbrev pub MakesSchema : {X : Type 0} → State → State → Result X Error → Schema → Schema → Type 0
-MakesSchema old new result schema next =
-    HasCleanDisk new → IsTrue old.in_transaction → KeepsCommit old new × OnOk result ((Holds schema old.now no_rows → Holds next new.now no_rows) × Shows old new new.now old.committed true)
-
--- the same, of what the connection holds
-abbrev pub MakesTable : {S X : Type 0} → Ghosts S → Held S → Held S → Result X Error → Schema → Schema → Type 0
-MakesTable g old new result schema next = MakesSchema (state g old) (state g new) result schema next
 
 -- a table has one of our names, as the database compares them
 abbrev pub has_our_name : Schema → Bool

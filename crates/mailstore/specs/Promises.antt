@@ -1,10 +1,12 @@
 -- What the calls of the store promise of accounts.
-use Rattle.std.specs.Prelude.{◌≡◌, ◌⊎◌, List, [], ℕ, Option, Result, Vec, OnOk, OnErr, IfOk, IfErr, IfSome, IsTrue, IsSome, None, Some, map, option_map}
+use Rattle.std.specs.Prelude.{◌≡◌, ◌⊎◌, false, List, [], ℕ, Option, Result, Vec, OnOk, OnErr, IfOk, IfErr, IfSome, IsTrue, IsSome, None, Some, map, option_map}
 use Rattle.std.specs.declared.alloc.Global.{Global}
 use Rattle.std.specs.FinMap.{get}
 use Rattle.sqlite_value.specs.Order.{Row}
 use Rattle.sqlite_trees.specs.Tree.{Trees}
+use Rattle.sqlite_trees.specs.declared.store.Store.{Ghosts}
 use Rattle.sqlite.specs.Effect.{Database}
+use Rattle.sqlite.specs.Held.{Held, state}
 use Rattle.sqlite.specs.State.{State, HasCleanDisk, Survives}
 use Rattle.sqlrows.specs.Rows.{Tables, Holds}
 use Rattle.mailstore.specs.declared.change.Change.{Change}
@@ -47,6 +49,12 @@ pub record Keeps {X E : Type 0} (old new : State) (result : Result X E) : Type 0
   pub live : HasCleanDisk new → OnOk result (IsTrue new.is_open)
   pub shut : HasCleanDisk new → IsTrue new.is_open → IsTrue old.is_open
   pub crash : Survives old new (λ _. HasOurTables old.now → ⊥)
+
+-- a query outside a transaction: none is begun, the limit of steps stays, and this is found
+pub record Queries {S X E : Type 0} (g : Ghosts S) (Found : State → State → Result X E → Type 0) (old new : Held S) (result : Result X E) : Type 0 where
+  pub ended : new.in_transaction ≡ false
+  pub limit : new.step_limit ≡ old.step_limit
+  pub finds : Found (state g old) (state g new) result
 
 -- a query for the user's rows in one table: it shows this of each
 pub record FindsOwn {E : Type 0} (user : List ℕ) (tree : ℕ) (show : Row → Row) (old new : State) (result : Result (Vec Row Global) E) : Type 0 where

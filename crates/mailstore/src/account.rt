@@ -2,9 +2,8 @@
 ghost use Rattle.std.specs.Prelude.{◌≡◌, false, ◌⊎◌, [], pos, Some, option_map, slice_get, IfOk, IfErr};
 ghost use Rattle.sqlite.specs.Held.{state};
 ghost use Rattle.mailstore.specs.AccountTable.{account_tree, shown_account, shown_counters, counter_cells, IsRead};
-ghost use Rattle.mailstore.specs.Promises.{FindsOwn, Reads, ReadsCounters, ReadsProfile, Requires, IsFree, Writes, WritesUser};
-ghost use Rattle.sqlite.specs.State.{Survives};
-ghost use Rattle.mailstore.specs.Connection.{Makes, MakesTable};
+ghost use Rattle.mailstore.specs.Promises.{FindsOwn, Reads, ReadsCounters, ReadsProfile, Requires, IsFree, Writes, WritesUser, Queries};
+ghost use Rattle.mailstore.specs.Connection.{ChangesRows, MakesTables};
 ghost use Rattle.mailstore.specs.Cells.{contents, first_three, or_null};
 ghost use Rattle.mailstore.specs.Changes.{account_added, active_set, counters_set};
 ghost use Rattle.mailstore.specs.Schema.{schema_1, schema_2};
@@ -17,6 +16,7 @@ use crate::cell::{optional_text_at, text_at};
 use crate::change::Change;
 use crate::profile::Profile;
 use crate::refusal::Refusal;
+use crate::statement::execute;
 use crate::store::Store;
 use octets::Octets;
 use sqlite::{Alter, Connection, Error, Row, Transaction, params};
@@ -32,15 +32,13 @@ pub struct Counters {
 
 /// Makes the table `account`, inside a transaction.
 pub fn make_account<S: Alter>(tx: &mut Transaction<'_, S>) -> Result<(), Error>
-    ensures same_reference { tx.new.conn.ghost_name ≡ tx.old.conn.ghost_name }
-    ensures made { MakesTable S.Store tx.old.conn.now tx.new.conn.now result schema_1 schema_2 }
-    ensures survives { Survives (state S.Store tx.old.conn.now) (state S.Store tx.new.conn.now) (λ _. ⊥) }
+    ensures { MakesTables S.Store schema_1 schema_2 tx.old tx.new result }
 {
-    tx.execute(
+    execute(
+        tx,
         "CREATE TABLE account (name BLOB NOT NULL PRIMARY KEY, address BLOB NOT NULL, salt BLOB NOT NULL, rounds INTEGER NOT NULL, digest BLOB NOT NULL, active BLOB, next_copy INTEGER NOT NULL, next_out INTEGER NOT NULL, next_notice INTEGER NOT NULL) STRICT",
         &[],
-    )?;
-    Ok(())
+    )
 }
 
 /// A new account without an active script, whose counters begin at 1. Inside a transaction.
@@ -52,15 +50,13 @@ pub fn add_account<S: Alter>(
     rounds: u32,
     digest: &[u8],
 ) -> Result<(), Error>
-    ensures same_reference { tx.new.conn.ghost_name ≡ tx.old.conn.ghost_name }
-    ensures made { Makes S.Store tx.old.conn.now tx.new.conn.now result (account_added name.now address.now salt.now rounds digest.now) }
-    ensures survives { Survives (state S.Store tx.old.conn.now) (state S.Store tx.new.conn.now) (λ _. ⊥) }
+    ensures { ChangesRows S.Store (account_added name.now address.now salt.now rounds digest.now) tx.old tx.new result }
 {
-    tx.execute(
+    execute(
+        tx,
         "INSERT INTO account (name, address, salt, rounds, digest, active, next_copy, next_out, next_notice) VALUES (?1, ?2, ?3, ?4, ?5, NULL, 1, 1, 1)",
         params![name, address, salt, rounds, digest],
-    )?;
-    Ok(())
+    )
 }
 
 /// Another script is active, or none. Inside a transaction.
@@ -69,15 +65,13 @@ pub fn set_active<S: Alter>(
     name: &[u8],
     active: Option<&[u8]>,
 ) -> Result<(), Error>
-    ensures same_reference { tx.new.conn.ghost_name ≡ tx.old.conn.ghost_name }
-    ensures made { Makes S.Store tx.old.conn.now tx.new.conn.now result (active_set name.now (contents active.entry)) }
-    ensures survives { Survives (state S.Store tx.old.conn.now) (state S.Store tx.new.conn.now) (λ _. ⊥) }
+    ensures { ChangesRows S.Store (active_set name.now (contents active.entry)) tx.old tx.new result }
 {
-    tx.execute(
+    execute(
+        tx,
         "UPDATE account SET active = ?2 WHERE name = ?1",
         params![name, active],
-    )?;
-    Ok(())
+    )
 }
 
 /// Other counters: of copies, of messages on their way out, and of notices. Inside a transaction.
@@ -88,23 +82,19 @@ pub fn set_counters<S: Alter>(
     out: &i64,
     notice: &i64,
 ) -> Result<(), Error>
-    ensures same_reference { tx.new.conn.ghost_name ≡ tx.old.conn.ghost_name }
-    ensures made { Makes S.Store tx.old.conn.now tx.new.conn.now result (counters_set name.now copy.now out.now notice.now) }
-    ensures survives { Survives (state S.Store tx.old.conn.now) (state S.Store tx.new.conn.now) (λ _. ⊥) }
+    ensures { ChangesRows S.Store (counters_set name.now copy.now out.now notice.now) tx.old tx.new result }
 {
-    tx.execute(
+    execute(
+        tx,
         "UPDATE account SET next_copy = ?2, next_out = ?3, next_notice = ?4 WHERE name = ?1",
         params![name, copy, out, notice],
-    )?;
-    Ok(())
+    )
 }
 
 /// The address, salt, rounds, digest and active script of the account.
 fn find_account<S: Alter>(conn: &mut Connection<S>, name: &[u8]) -> Result<Vec<Row>, Error>
     requires { conn.old.in_transaction ≡ false }
-    ensures ended { conn.new.in_transaction ≡ false }
-    ensures limit { conn.new.step_limit ≡ conn.old.step_limit }
-    ensures finds { FindsOwn name.now account_tree shown_account (state S.Store conn.old) (state S.Store conn.new) result }
+    ensures { Queries S.Store (FindsOwn name.now account_tree shown_account) conn.old conn.new result }
 {
     let _settled = conn.is_autocommit();
     conn.query_all(
@@ -116,9 +106,7 @@ fn find_account<S: Alter>(conn: &mut Connection<S>, name: &[u8]) -> Result<Vec<R
 /// The counters of the account.
 fn find_counters<S: Alter>(conn: &mut Connection<S>, name: &[u8]) -> Result<Vec<Row>, Error>
     requires { conn.old.in_transaction ≡ false }
-    ensures ended { conn.new.in_transaction ≡ false }
-    ensures limit { conn.new.step_limit ≡ conn.old.step_limit }
-    ensures finds { FindsOwn name.now account_tree shown_counters (state S.Store conn.old) (state S.Store conn.new) result }
+    ensures { Queries S.Store (FindsOwn name.now account_tree shown_counters) conn.old conn.new result }
 {
     let _settled = conn.is_autocommit();
     conn.query_all(

@@ -3,7 +3,7 @@ ghost use Rattle.std.specs.Prelude.{◌≡◌, false, OnOk, OnErr, IfErr};
 ghost use Rattle.sqlite.specs.Held.{state};
 ghost use Rattle.mailstore.specs.Promises.{MakesAll};
 ghost use Rattle.sqlite.specs.State.{Survives, HasCleanDisk};
-ghost use Rattle.mailstore.specs.Connection.{Makes, IsSettled, StaysSame};
+ghost use Rattle.mailstore.specs.Connection.{ChangesRows, IsSettled, StaysSame};
 ghost use Rattle.mailstore.specs.Changes.{MayHave, made_one};
 ghost use Rattle.mailstore.specs.Refusals.{IsPassing};
 
@@ -100,9 +100,7 @@ pub enum Change<'a> {
 
 /// Makes the change, inside a transaction.
 fn make<S: Alter>(tx: &mut Transaction<'_, S>, change: &Change<'_>) -> Result<(), Error>
-    ensures same_reference { tx.new.conn.ghost_name ≡ tx.old.conn.ghost_name }
-    ensures made { Makes S.Store tx.old.conn.now tx.new.conn.now result (made_one change.now) }
-    ensures survives { Survives (state S.Store tx.old.conn.now) (state S.Store tx.new.conn.now) (λ _. ⊥) }
+    ensures { ChangesRows S.Store (made_one change.now) tx.old tx.new result }
 {
     match change {
         Change::AddAccount {

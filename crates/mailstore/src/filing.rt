@@ -1,20 +1,15 @@
 //! Which copies a user has, in which folders.
-ghost use Rattle.std.specs.Prelude.{◌≡◌, false, pos, map, IfOk, IfErr};
-ghost use Rattle.sqlite_value.specs.declared.value.Value.TheVariants.{Int, Blob};
-ghost use Rattle.sqlite_value.specs.Order.{column};
+ghost use Rattle.std.specs.Prelude.{◌≡◌, false};
 ghost use Rattle.sqlite.specs.Held.{state};
-ghost use Rattle.mailstore.specs.Cells.{first_three};
-ghost use Rattle.mailstore.specs.CopyTable.{filing_cells};
-ghost use Rattle.mailstore.specs.Promises.{FindsAmong, ReadsOwn};
-ghost use Rattle.mailstore.specs.Refusals.{IsPassing};
+ghost use Rattle.mailstore.specs.Promises.{FindsAmong, ReadsOwn, Queries};
 ghost use Rattle.mailstore.specs.Shows.{AreFilingRows, AreFilings};
 
 use crate::cell::text_at;
 use crate::refusal::Refusal;
+use crate::row::{FromRow, all_from_rows};
 use crate::store::Store;
 use octets::{List, Octets};
 use sqlite::{Alter, Connection, Error, Row, params};
-use std::alloc::Global;
 
 /// A copy in a folder, without its message.
 #[derive(Debug, Drop)]
@@ -30,9 +25,7 @@ pub struct Filing {
 /// Where the user's copies are, in the order of their numbers.
 fn find_filings<S: Alter>(conn: &mut Connection<S>, owner: &[u8]) -> Result<Vec<Row>, Error>
     requires { conn.old.in_transaction ≡ false }
-    ensures ended { conn.new.in_transaction ≡ false }
-    ensures limit { conn.new.step_limit ≡ conn.old.step_limit }
-    ensures finds { FindsAmong owner.now (λ rows. AreFilingRows owner.now rows.items) (state S.Store conn.old) (state S.Store conn.new) result }
+    ensures { Queries S.Store (FindsAmong owner.now (λ rows. AreFilingRows owner.now rows.items)) conn.old conn.new result }
 {
     let _settled = conn.is_autocommit();
     conn.query_all(
@@ -41,30 +34,21 @@ fn find_filings<S: Alter>(conn: &mut Connection<S>, owner: &[u8]) -> Result<Vec<
     )
 }
 
-/// The copy that the row shows.
-fn filing_in(row: &Row) -> Result<Filing, Refusal>
-    ensures folder { IfOk result (λ f. column row.now 0 ≡ Blob f.folder) }
-    ensures n { IfOk result (λ f. column row.now 1 ≡ Int (pos f.n)) }
-    ensures id { IfOk result (λ f. column row.now 2 ≡ Int (pos f.id)) }
-    ensures named { IfErr result IsPassing }
-{
-    Ok(Filing {
-        folder: text_at(row, 0)?,
-        n: row.get(1)?,
-        id: row.get(2)?,
-    })
-}
+impl FromRow for Filing {
+    ghost use Rattle.mailstore.specs.Cells.{first_three};
+    ghost use Rattle.mailstore.specs.CopyTable.{filing_cells};
 
-/// The copies that the rows show, in their order.
-fn filings_in(alloc: Global, rows: &[Row]) -> Result<List<Filing>, Refusal>
-    ensures ok { IfOk result (λ all. map filing_cells all ≡ map first_three rows.now) }
-    ensures named { IfErr result IsPassing }
-{
-    let mut all = Vec::new(alloc);
-    for row in rows {
-        all.push(filing_in(row)?)?;
+    ghost cells_of = { first_three };
+
+    ghost shows = { filing_cells };
+
+    fn from_row(row: &Row) -> Result<Filing, Refusal> {
+        Ok(Filing {
+            folder: text_at(row, 0)?,
+            n: row.get(1)?,
+            id: row.get(2)?,
+        })
     }
-    Ok(List::from_vec(all))
 }
 
 impl<S: Alter> Store<S> {
@@ -81,6 +65,6 @@ impl<S: Alter> Store<S> {
         ensures { ReadsOwn user.now (AreFilings user.now) (state S.Store self.old) (state S.Store self.new) result }
     {
         let rows = self.filing_rows(user)?;
-        filings_in(self.alloc, &rows)
+        all_from_rows(self.alloc, &rows)
     }
 }

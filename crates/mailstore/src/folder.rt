@@ -2,10 +2,9 @@
 ghost use Rattle.std.specs.Prelude.{◌≡◌, ℕ, false, OnOk, List, map, IfOk, IfErr};
 ghost use Rattle.sqlite.specs.Held.{state};
 ghost use Rattle.mailstore.specs.CopyTable.{AreMessageRows};
-ghost use Rattle.mailstore.specs.Promises.{Finds, Reads, ReadsRows};
+ghost use Rattle.mailstore.specs.Promises.{Finds, Reads, ReadsRows, Queries};
 ghost use Rattle.mailstore.specs.Tally.{AreFolderRows, tallied, AreFolders, counted};
-ghost use Rattle.sqlite.specs.State.{Survives};
-ghost use Rattle.mailstore.specs.Connection.{Makes, MakesTable};
+ghost use Rattle.mailstore.specs.Connection.{ChangesRows, MakesTables};
 ghost use Rattle.mailstore.specs.Changes.{copy_added, copy_removed};
 ghost use Rattle.mailstore.specs.Schema.{mail_schema, schema_7};
 ghost use Rattle.mailstore.specs.Account.{messages_in};
@@ -15,6 +14,7 @@ ghost use Rattle.sqlite_value.specs.Order.{column};
 
 use crate::cell::{text_at, texts};
 use crate::refusal::Refusal;
+use crate::statement::execute;
 use crate::store::Store;
 use octets::{List, Octets, Texts};
 use sqlite::{Alter, Connection, Error, Row, Transaction, params};
@@ -29,15 +29,13 @@ pub struct Folder {
 
 /// Makes the table `copy`, inside a transaction.
 pub fn make_copy<S: Alter>(tx: &mut Transaction<'_, S>) -> Result<(), Error>
-    ensures same_reference { tx.new.conn.ghost_name ≡ tx.old.conn.ghost_name }
-    ensures made { MakesTable S.Store tx.old.conn.now tx.new.conn.now result schema_7 mail_schema }
-    ensures survives { Survives (state S.Store tx.old.conn.now) (state S.Store tx.new.conn.now) (λ _. ⊥) }
+    ensures { MakesTables S.Store schema_7 mail_schema tx.old tx.new result }
 {
-    tx.execute(
+    execute(
+        tx,
         "CREATE TABLE copy (owner BLOB NOT NULL REFERENCES account (name), folder BLOB NOT NULL, n INTEGER NOT NULL, id INTEGER NOT NULL, PRIMARY KEY (owner, folder, n), FOREIGN KEY (owner, id) REFERENCES message (owner, id)) STRICT",
         &[],
-    )?;
-    Ok(())
+    )
 }
 
 /// A copy in a folder, with its number, of the message with the number `id`, which is there. Inside a transaction.
@@ -48,15 +46,13 @@ pub fn add_copy<S: Alter>(
     n: &i64,
     id: &i64,
 ) -> Result<(), Error>
-    ensures same_reference { tx.new.conn.ghost_name ≡ tx.old.conn.ghost_name }
-    ensures made { Makes S.Store tx.old.conn.now tx.new.conn.now result (copy_added owner.now folder.now n.now id.now) }
-    ensures survives { Survives (state S.Store tx.old.conn.now) (state S.Store tx.new.conn.now) (λ _. ⊥) }
+    ensures { ChangesRows S.Store (copy_added owner.now folder.now n.now id.now) tx.old tx.new result }
 {
-    tx.execute(
+    execute(
+        tx,
         "INSERT INTO copy (owner, folder, n, id) VALUES (?1, ?2, ?3, ?4)",
         params![owner, folder, n, id],
-    )?;
-    Ok(())
+    )
 }
 
 /// The copy with the number goes from the folder, if there is one. Inside a transaction.
@@ -66,15 +62,13 @@ pub fn remove_copy<S: Alter>(
     folder: &[u8],
     n: &i64,
 ) -> Result<(), Error>
-    ensures same_reference { tx.new.conn.ghost_name ≡ tx.old.conn.ghost_name }
-    ensures made { Makes S.Store tx.old.conn.now tx.new.conn.now result (copy_removed owner.now folder.now n.now) }
-    ensures survives { Survives (state S.Store tx.old.conn.now) (state S.Store tx.new.conn.now) (λ _. ⊥) }
+    ensures { ChangesRows S.Store (copy_removed owner.now folder.now n.now) tx.old tx.new result }
 {
-    tx.execute(
+    execute(
+        tx,
         "DELETE FROM copy WHERE owner = ?1 AND folder = ?2 AND n = ?3",
         params![owner, folder, n],
-    )?;
-    Ok(())
+    )
 }
 
 /// The messages of the folder, in the order of their numbers.
@@ -84,9 +78,7 @@ fn find_messages<S: Alter>(
     folder: &[u8],
 ) -> Result<Vec<Row>, Error>
     requires { conn.old.in_transaction ≡ false }
-    ensures ended { conn.new.in_transaction ≡ false }
-    ensures limit { conn.new.step_limit ≡ conn.old.step_limit }
-    ensures finds { Finds owner.now (AreMessageRows folder.now) (state S.Store conn.old) (state S.Store conn.new) result }
+    ensures { Queries S.Store (Finds owner.now (AreMessageRows folder.now)) conn.old conn.new result }
 {
     let _settled = conn.is_autocommit();
     conn.query_all(
@@ -98,9 +90,7 @@ fn find_messages<S: Alter>(
 /// The folder of each copy, in the order of their octets.
 fn find_folders<S: Alter>(conn: &mut Connection<S>, owner: &[u8]) -> Result<Vec<Row>, Error>
     requires { conn.old.in_transaction ≡ false }
-    ensures ended { conn.new.in_transaction ≡ false }
-    ensures limit { conn.new.step_limit ≡ conn.old.step_limit }
-    ensures finds { Finds owner.now AreFolderRows (state S.Store conn.old) (state S.Store conn.new) result }
+    ensures { Queries S.Store (Finds owner.now AreFolderRows) conn.old conn.new result }
 {
     let _settled = conn.is_autocommit();
     conn.query_all(

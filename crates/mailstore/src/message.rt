@@ -1,31 +1,29 @@
 //! The table of the messages that folders have: each is kept once.
 ghost use Rattle.std.specs.Prelude.{◌≡◌, false, IfErr};
-ghost use Rattle.mailstore.specs.Promises.{FindsAmong};
+ghost use Rattle.mailstore.specs.Promises.{FindsAmong, Queries};
 ghost use Rattle.mailstore.specs.Refusals.{IsPassing};
 ghost use Rattle.mailstore.specs.Shows.{AreOctetRows, HasOctets};
 ghost use Rattle.sqlite.specs.Held.{state};
-ghost use Rattle.sqlite.specs.State.{Survives};
 ghost use Rattle.mailstore.specs.Changes.{message_added, message_removed};
-ghost use Rattle.mailstore.specs.Connection.{Makes, MakesTable};
+ghost use Rattle.mailstore.specs.Connection.{ChangesRows, MakesTables};
 ghost use Rattle.mailstore.specs.Schema.{schema_6, schema_7};
 
 use crate::cell::{first_text, number};
 use crate::refusal::Refusal;
+use crate::statement::execute;
 use crate::store::Store;
 use octets::Octets;
 use sqlite::{Alter, Connection, Error, Row, Transaction, params};
 
 /// Makes the table `message`, inside a transaction.
 pub fn make_message<S: Alter>(tx: &mut Transaction<'_, S>) -> Result<(), Error>
-    ensures same_reference { tx.new.conn.ghost_name ≡ tx.old.conn.ghost_name }
-    ensures made { MakesTable S.Store tx.old.conn.now tx.new.conn.now result schema_6 schema_7 }
-    ensures survives { Survives (state S.Store tx.old.conn.now) (state S.Store tx.new.conn.now) (λ _. ⊥) }
+    ensures { MakesTables S.Store schema_6 schema_7 tx.old tx.new result }
 {
-    tx.execute(
+    execute(
+        tx,
         "CREATE TABLE message (owner BLOB NOT NULL REFERENCES account (name), id INTEGER NOT NULL, bytes BLOB NOT NULL, PRIMARY KEY (owner, id)) STRICT",
         &[],
-    )?;
-    Ok(())
+    )
 }
 
 /// A message with its number. Inside a transaction.
@@ -35,15 +33,13 @@ pub fn add_message<S: Alter>(
     id: &i64,
     bytes: &[u8],
 ) -> Result<(), Error>
-    ensures same_reference { tx.new.conn.ghost_name ≡ tx.old.conn.ghost_name }
-    ensures made { Makes S.Store tx.old.conn.now tx.new.conn.now result (message_added owner.now id.now bytes.now) }
-    ensures survives { Survives (state S.Store tx.old.conn.now) (state S.Store tx.new.conn.now) (λ _. ⊥) }
+    ensures { ChangesRows S.Store (message_added owner.now id.now bytes.now) tx.old tx.new result }
 {
-    tx.execute(
+    execute(
+        tx,
         "INSERT INTO message (owner, id, bytes) VALUES (?1, ?2, ?3)",
         params![owner, id, bytes],
-    )?;
-    Ok(())
+    )
 }
 
 /// The row with the number goes, if there is one; no copy may refer to it. Inside a transaction.
@@ -52,15 +48,13 @@ pub fn remove_message<S: Alter>(
     owner: &[u8],
     id: &i64,
 ) -> Result<(), Error>
-    ensures same_reference { tx.new.conn.ghost_name ≡ tx.old.conn.ghost_name }
-    ensures made { Makes S.Store tx.old.conn.now tx.new.conn.now result (message_removed owner.now id.now) }
-    ensures survives { Survives (state S.Store tx.old.conn.now) (state S.Store tx.new.conn.now) (λ _. ⊥) }
+    ensures { ChangesRows S.Store (message_removed owner.now id.now) tx.old tx.new result }
 {
-    tx.execute(
+    execute(
+        tx,
         "DELETE FROM message WHERE owner = ?1 AND id = ?2",
         params![owner, id],
-    )?;
-    Ok(())
+    )
 }
 
 /// The octets of the message with the number.
@@ -70,9 +64,7 @@ fn find_message<S: Alter>(
     id: &i64,
 ) -> Result<Vec<Row>, Error>
     requires { conn.old.in_transaction ≡ false }
-    ensures ended { conn.new.in_transaction ≡ false }
-    ensures limit { conn.new.step_limit ≡ conn.old.step_limit }
-    ensures finds { FindsAmong owner.now (λ rows. AreOctetRows owner.now id.now rows.items) (state S.Store conn.old) (state S.Store conn.new) result }
+    ensures { Queries S.Store (FindsAmong owner.now (λ rows. AreOctetRows owner.now id.now rows.items)) conn.old conn.new result }
 {
     let _settled = conn.is_autocommit();
     conn.query_all(

@@ -1,21 +1,21 @@
 //! The table of messages on their way out.
-ghost use Rattle.std.specs.Prelude.{◌≡◌, false, pos, map, IfOk, IfErr};
-ghost use Rattle.sqlite_value.specs.declared.value.Value.TheVariants.{Int, Blob};
+ghost use Rattle.std.specs.Prelude.{◌≡◌, false, pos, IfOk, IfErr};
+ghost use Rattle.sqlite_value.specs.declared.value.Value.TheVariants.{Int};
 ghost use Rattle.sqlite_value.specs.Order.{column};
 ghost use Rattle.sqlite.specs.Held.{state};
-ghost use Rattle.sqlite.specs.State.{Survives};
 ghost use Rattle.mailstore.specs.Account.{takes_out};
 ghost use Rattle.mailstore.specs.Changes.{outgoing_added, outgoing_removed};
-ghost use Rattle.mailstore.specs.Connection.{Makes, MakesTable};
+ghost use Rattle.mailstore.specs.Connection.{ChangesRows, MakesTables};
 ghost use Rattle.mailstore.specs.Schema.{schema_3, schema_4};
-ghost use Rattle.mailstore.specs.Cells.{first_five};
-ghost use Rattle.mailstore.specs.Promises.{Finds, Reads, ReadsRows, WritesUser};
-ghost use Rattle.mailstore.specs.QueueTable.{AreQueueRows, kind_number, outgoing_cells};
+ghost use Rattle.mailstore.specs.Promises.{Finds, Reads, ReadsRows, WritesUser, Queries};
+ghost use Rattle.mailstore.specs.QueueTable.{AreQueueRows, kind_number};
 ghost use Rattle.mailstore.specs.Refusals.{IsPassing};
 
 use crate::cell::{number, text_at};
 use crate::change::Change;
 use crate::refusal::Refusal;
+use crate::row::{FromRow, all_from_rows};
+use crate::statement::execute;
 use crate::store::Store;
 use octets::{List, Octets};
 use sqlite::{Alter, Connection, Error, Row, Transaction, params};
@@ -59,15 +59,13 @@ impl Outgoing {
 
 /// Makes the table `outgoing`, inside a transaction.
 pub fn make_outgoing<S: Alter>(tx: &mut Transaction<'_, S>) -> Result<(), Error>
-    ensures same_reference { tx.new.conn.ghost_name ≡ tx.old.conn.ghost_name }
-    ensures made { MakesTable S.Store tx.old.conn.now tx.new.conn.now result schema_3 schema_4 }
-    ensures survives { Survives (state S.Store tx.old.conn.now) (state S.Store tx.new.conn.now) (λ _. ⊥) }
+    ensures { MakesTables S.Store schema_3 schema_4 tx.old tx.new result }
 {
-    tx.execute(
+    execute(
+        tx,
         "CREATE TABLE outgoing (owner BLOB NOT NULL REFERENCES account (name), id INTEGER NOT NULL, kind INTEGER NOT NULL, sender BLOB NOT NULL, target BLOB NOT NULL, message BLOB NOT NULL, PRIMARY KEY (owner, id)) STRICT",
         &[],
-    )?;
-    Ok(())
+    )
 }
 
 /// The number of the kind, as the table has it.
@@ -90,16 +88,14 @@ pub fn add_outgoing<S: Alter>(
     target: &[u8],
     message: &[u8],
 ) -> Result<(), Error>
-    ensures same_reference { tx.new.conn.ghost_name ≡ tx.old.conn.ghost_name }
-    ensures made { Makes S.Store tx.old.conn.now tx.new.conn.now result (outgoing_added owner.now id.now kind sender.now target.now message.now) }
-    ensures survives { Survives (state S.Store tx.old.conn.now) (state S.Store tx.new.conn.now) (λ _. ⊥) }
+    ensures { ChangesRows S.Store (outgoing_added owner.now id.now kind sender.now target.now message.now) tx.old tx.new result }
 {
     let kind = number_of(kind);
-    tx.execute(
+    execute(
+        tx,
         "INSERT INTO outgoing (owner, id, kind, sender, target, message) VALUES (?1, ?2, ?3, ?4, ?5, ?6)",
         params![owner, id, kind, sender, target, message],
-    )?;
-    Ok(())
+    )
 }
 
 /// The row with the number goes, if there is one. Inside a transaction.
@@ -108,23 +104,19 @@ pub fn remove_outgoing<S: Alter>(
     owner: &[u8],
     id: &i64,
 ) -> Result<(), Error>
-    ensures same_reference { tx.new.conn.ghost_name ≡ tx.old.conn.ghost_name }
-    ensures made { Makes S.Store tx.old.conn.now tx.new.conn.now result (outgoing_removed owner.now id.now) }
-    ensures survives { Survives (state S.Store tx.old.conn.now) (state S.Store tx.new.conn.now) (λ _. ⊥) }
+    ensures { ChangesRows S.Store (outgoing_removed owner.now id.now) tx.old tx.new result }
 {
-    tx.execute(
+    execute(
+        tx,
         "DELETE FROM outgoing WHERE owner = ?1 AND id = ?2",
         params![owner, id],
-    )?;
-    Ok(())
+    )
 }
 
 /// The user's queue, in the order of its numbers.
 fn find_queue<S: Alter>(conn: &mut Connection<S>, owner: &[u8]) -> Result<Vec<Row>, Error>
     requires { conn.old.in_transaction ≡ false }
-    ensures ended { conn.new.in_transaction ≡ false }
-    ensures limit { conn.new.step_limit ≡ conn.old.step_limit }
-    ensures finds { Finds owner.now AreQueueRows (state S.Store conn.old) (state S.Store conn.new) result }
+    ensures { Queries S.Store (Finds owner.now AreQueueRows) conn.old conn.new result }
 {
     let _settled = conn.is_autocommit();
     conn.query_all(
@@ -148,34 +140,23 @@ fn kind_at(row: &Row, at: usize) -> Result<Kind, Refusal>
     Err(Refusal::Store)
 }
 
-/// The message that the row shows.
-fn outgoing_in(row: &Row) -> Result<Outgoing, Refusal>
-    ensures id { IfOk result (λ out. column row.now 0 ≡ Int (pos out.id)) }
-    ensures kind { IfOk result (λ out. column row.now 1 ≡ Int (pos (kind_number out.kind))) }
-    ensures sender { IfOk result (λ out. column row.now 2 ≡ Blob out.sender) }
-    ensures target { IfOk result (λ out. column row.now 3 ≡ Blob out.target) }
-    ensures message { IfOk result (λ out. column row.now 4 ≡ Blob out.message) }
-    ensures named { IfErr result IsPassing }
-{
-    Ok(Outgoing {
-        id: row.get(0)?,
-        kind: kind_at(row, 1)?,
-        sender: text_at(row, 2)?,
-        target: text_at(row, 3)?,
-        message: text_at(row, 4)?,
-    })
-}
+impl FromRow for Outgoing {
+    ghost use Rattle.mailstore.specs.Cells.{first_five};
+    ghost use Rattle.mailstore.specs.QueueTable.{outgoing_cells};
 
-/// The messages that the rows show, in their order.
-fn messages_out(alloc: Global, rows: &[Row]) -> Result<List<Outgoing>, Refusal>
-    ensures ok { IfOk result (λ all. map outgoing_cells all ≡ map first_five rows.now) }
-    ensures named { IfErr result IsPassing }
-{
-    let mut all = Vec::new(alloc);
-    for row in rows {
-        all.push(outgoing_in(row)?)?;
+    ghost cells_of = { first_five };
+
+    ghost shows = { outgoing_cells };
+
+    fn from_row(row: &Row) -> Result<Outgoing, Refusal> {
+        Ok(Outgoing {
+            id: row.get(0)?,
+            kind: kind_at(row, 1)?,
+            sender: text_at(row, 2)?,
+            target: text_at(row, 3)?,
+            message: text_at(row, 4)?,
+        })
     }
-    Ok(List::from_vec(all))
 }
 
 impl<S: Alter> Store<S> {
@@ -192,7 +173,7 @@ impl<S: Alter> Store<S> {
         ensures { Reads user.now (λ queue a. queue ≡ a.queue) (state S.Store self.old) (state S.Store self.new) result }
     {
         let rows = self.queue_rows(user)?;
-        messages_out(self.alloc, &rows)
+        all_from_rows(self.alloc, &rows)
     }
 
     /// The row with the number leaves the queue; the number is not used again. That a row has the number is for the

@@ -1,23 +1,22 @@
 //! The table of the moments of the last replies.
-ghost use Rattle.std.specs.Prelude.{◌≡◌, false, pos, map, option_map, slice_get, IfOk, IfErr};
-ghost use Rattle.sqlite_value.specs.declared.value.Value.TheVariants.{Int, Blob};
+ghost use Rattle.std.specs.Prelude.{◌≡◌, false, pos, option_map, slice_get, IfOk, IfErr};
+ghost use Rattle.sqlite_value.specs.declared.value.Value.TheVariants.{Int};
 ghost use Rattle.sqlite_value.specs.Order.{column};
-ghost use Rattle.mailstore.specs.Cells.{first_two};
-ghost use Rattle.mailstore.specs.Promises.{Finds, Reads, ReadsRows};
+ghost use Rattle.mailstore.specs.Promises.{Finds, Reads, ReadsRows, Queries};
 ghost use Rattle.mailstore.specs.Refusals.{IsPassing};
-ghost use Rattle.mailstore.specs.ReplyTable.{AreReplies, AreReplyRows, HasMomentRow, IsLastReply, kept_cells};
+ghost use Rattle.mailstore.specs.ReplyTable.{AreReplies, AreReplyRows, HasMomentRow, IsLastReply};
 ghost use Rattle.sqlite.specs.Held.{state};
-ghost use Rattle.sqlite.specs.State.{Survives};
 ghost use Rattle.mailstore.specs.Changes.{reply_added, reply_removed};
-ghost use Rattle.mailstore.specs.Connection.{Makes, MakesTable};
+ghost use Rattle.mailstore.specs.Connection.{ChangesRows, MakesTables};
 ghost use Rattle.mailstore.specs.Schema.{schema_4, schema_5};
 
 use crate::cell::text_at;
 use crate::refusal::Refusal;
+use crate::row::{FromRow, all_from_rows};
+use crate::statement::execute;
 use crate::store::Store;
 use octets::{List, Octets};
 use sqlite::{Alter, Connection, Error, Row, Transaction, params};
-use std::alloc::Global;
 
 /// The moment of the last reply under a handle.
 #[derive(Debug, Drop)]
@@ -30,15 +29,13 @@ pub struct KeptReply {
 
 /// Makes the table `reply`, inside a transaction.
 pub fn make_reply<S: Alter>(tx: &mut Transaction<'_, S>) -> Result<(), Error>
-    ensures same_reference { tx.new.conn.ghost_name ≡ tx.old.conn.ghost_name }
-    ensures made { MakesTable S.Store tx.old.conn.now tx.new.conn.now result schema_4 schema_5 }
-    ensures survives { Survives (state S.Store tx.old.conn.now) (state S.Store tx.new.conn.now) (λ _. ⊥) }
+    ensures { MakesTables S.Store schema_4 schema_5 tx.old tx.new result }
 {
-    tx.execute(
+    execute(
+        tx,
         "CREATE TABLE reply (owner BLOB NOT NULL REFERENCES account (name), handle BLOB NOT NULL, sender BLOB NOT NULL, moment INTEGER NOT NULL, PRIMARY KEY (owner, handle, sender)) STRICT",
         &[],
-    )?;
-    Ok(())
+    )
 }
 
 /// The moment of the last reply to a sender, where none is kept under the handle yet. Inside a transaction.
@@ -49,15 +46,13 @@ pub fn add_reply<S: Alter>(
     sender: &[u8],
     moment: &i64,
 ) -> Result<(), Error>
-    ensures same_reference { tx.new.conn.ghost_name ≡ tx.old.conn.ghost_name }
-    ensures made { Makes S.Store tx.old.conn.now tx.new.conn.now result (reply_added owner.now handle.now sender.now moment.now) }
-    ensures survives { Survives (state S.Store tx.old.conn.now) (state S.Store tx.new.conn.now) (λ _. ⊥) }
+    ensures { ChangesRows S.Store (reply_added owner.now handle.now sender.now moment.now) tx.old tx.new result }
 {
-    tx.execute(
+    execute(
+        tx,
         "INSERT INTO reply (owner, handle, sender, moment) VALUES (?1, ?2, ?3, ?4)",
         params![owner, handle, sender, moment],
-    )?;
-    Ok(())
+    )
 }
 
 /// The row of the handle and the sender goes, if there is one. Inside a transaction.
@@ -67,15 +62,13 @@ pub fn remove_reply<S: Alter>(
     handle: &[u8],
     sender: &[u8],
 ) -> Result<(), Error>
-    ensures same_reference { tx.new.conn.ghost_name ≡ tx.old.conn.ghost_name }
-    ensures made { Makes S.Store tx.old.conn.now tx.new.conn.now result (reply_removed owner.now handle.now sender.now) }
-    ensures survives { Survives (state S.Store tx.old.conn.now) (state S.Store tx.new.conn.now) (λ _. ⊥) }
+    ensures { ChangesRows S.Store (reply_removed owner.now handle.now sender.now) tx.old tx.new result }
 {
-    tx.execute(
+    execute(
+        tx,
         "DELETE FROM reply WHERE owner = ?1 AND handle = ?2 AND sender = ?3",
         params![owner, handle, sender],
-    )?;
-    Ok(())
+    )
 }
 
 /// The moment that is kept under the handle's key and the sender.
@@ -86,9 +79,7 @@ fn find_moment<S: Alter>(
     sender: &[u8],
 ) -> Result<Vec<Row>, Error>
     requires { conn.old.in_transaction ≡ false }
-    ensures ended { conn.new.in_transaction ≡ false }
-    ensures limit { conn.new.step_limit ≡ conn.old.step_limit }
-    ensures finds { Finds owner.now (HasMomentRow (handle.now, sender.now)) (state S.Store conn.old) (state S.Store conn.new) result }
+    ensures { Queries S.Store (Finds owner.now (HasMomentRow (handle.now, sender.now))) conn.old conn.new result }
 {
     let _settled = conn.is_autocommit();
     conn.query_all(
@@ -104,9 +95,7 @@ fn find_replies<S: Alter>(
     sender: &[u8],
 ) -> Result<Vec<Row>, Error>
     requires { conn.old.in_transaction ≡ false }
-    ensures ended { conn.new.in_transaction ≡ false }
-    ensures limit { conn.new.step_limit ≡ conn.old.step_limit }
-    ensures finds { Finds owner.now (AreReplyRows sender.now) (state S.Store conn.old) (state S.Store conn.new) result }
+    ensures { Queries S.Store (Finds owner.now (AreReplyRows sender.now)) conn.old conn.new result }
 {
     let _settled = conn.is_autocommit();
     conn.query_all(
@@ -129,27 +118,20 @@ fn first_moment(rows: &[Row]) -> Result<Option<u64>, Refusal>
     }
 }
 
-/// The reply that the row shows.
-fn reply_in(row: &Row) -> Result<KeptReply, Error>
-    ensures handle { IfOk result (λ kept. column row.now 0 ≡ Blob kept.handle) }
-    ensures moment { IfOk result (λ kept. column row.now 1 ≡ Int (pos kept.moment)) }
-{
-    Ok(KeptReply {
-        handle: text_at(row, 0)?,
-        moment: row.get(1)?,
-    })
-}
+impl FromRow for KeptReply {
+    ghost use Rattle.mailstore.specs.Cells.{first_two};
+    ghost use Rattle.mailstore.specs.ReplyTable.{kept_cells};
 
-/// The replies that the rows show, in their order.
-fn replies_in(alloc: Global, rows: &[Row]) -> Result<List<KeptReply>, Refusal>
-    ensures ok { IfOk result (λ all. map kept_cells all ≡ map first_two rows.now) }
-    ensures named { IfErr result IsPassing }
-{
-    let mut all = Vec::new(alloc);
-    for row in rows {
-        all.push(reply_in(row)?)?;
+    ghost cells_of = { first_two };
+
+    ghost shows = { kept_cells };
+
+    fn from_row(row: &Row) -> Result<KeptReply, Refusal> {
+        Ok(KeptReply {
+            handle: text_at(row, 0)?,
+            moment: row.get(1)?,
+        })
     }
-    Ok(List::from_vec(all))
 }
 
 impl<S: Alter> Store<S> {
@@ -195,6 +177,6 @@ impl<S: Alter> Store<S> {
     {
         let sender = octets::lowered(self.alloc, sender)?;
         let rows = self.reply_rows(user, sender.as_slice())?;
-        replies_in(self.alloc, &rows)
+        all_from_rows(self.alloc, &rows)
     }
 }

@@ -1,10 +1,9 @@
 //! The table of scripts.
 ghost use Rattle.std.specs.Prelude.{◌≡◌, false, option_map};
 ghost use Rattle.sqlite.specs.Held.{state};
-ghost use Rattle.mailstore.specs.Promises.{Finds, Reads, ReadsRows, Renames, WritesAccount, WritesUser};
+ghost use Rattle.mailstore.specs.Promises.{Finds, Reads, ReadsRows, Renames, WritesAccount, WritesUser, Queries};
 ghost use Rattle.mailstore.specs.ScriptTable.{AreNameRows, HasTextAndActive, HasTextRow};
-ghost use Rattle.sqlite.specs.State.{Survives};
-ghost use Rattle.mailstore.specs.Connection.{Makes, MakesTable};
+ghost use Rattle.mailstore.specs.Connection.{ChangesRows, MakesTables};
 ghost use Rattle.mailstore.specs.Cells.{contents};
 ghost use Rattle.mailstore.specs.Changes.{script_added, script_removed};
 ghost use Rattle.mailstore.specs.Schema.{schema_2, schema_3};
@@ -14,21 +13,20 @@ ghost use Rattle.std.specs.FinMap.{get, keys};
 use crate::cell::{first_text, texts};
 use crate::change::Change;
 use crate::refusal::Refusal;
+use crate::statement::execute;
 use crate::store::Store;
 use octets::{Octets, Texts};
 use sqlite::{Alter, Connection, Error, Row, Transaction, params};
 
 /// Makes the table `script`, inside a transaction.
 pub fn make_script<S: Alter>(tx: &mut Transaction<'_, S>) -> Result<(), Error>
-    ensures same_reference { tx.new.conn.ghost_name ≡ tx.old.conn.ghost_name }
-    ensures made { MakesTable S.Store tx.old.conn.now tx.new.conn.now result schema_2 schema_3 }
-    ensures survives { Survives (state S.Store tx.old.conn.now) (state S.Store tx.new.conn.now) (λ _. ⊥) }
+    ensures { MakesTables S.Store schema_2 schema_3 tx.old tx.new result }
 {
-    tx.execute(
+    execute(
+        tx,
         "CREATE TABLE script (owner BLOB NOT NULL REFERENCES account (name), name BLOB NOT NULL, text BLOB NOT NULL, PRIMARY KEY (owner, name)) STRICT",
         &[],
-    )?;
-    Ok(())
+    )
 }
 
 /// A script that has no row of its name yet. Inside a transaction.
@@ -38,15 +36,13 @@ pub fn add_script<S: Alter>(
     name: &[u8],
     text: &[u8],
 ) -> Result<(), Error>
-    ensures same_reference { tx.new.conn.ghost_name ≡ tx.old.conn.ghost_name }
-    ensures made { Makes S.Store tx.old.conn.now tx.new.conn.now result (script_added owner.now name.now text.now) }
-    ensures survives { Survives (state S.Store tx.old.conn.now) (state S.Store tx.new.conn.now) (λ _. ⊥) }
+    ensures { ChangesRows S.Store (script_added owner.now name.now text.now) tx.old tx.new result }
 {
-    tx.execute(
+    execute(
+        tx,
         "INSERT INTO script (owner, name, text) VALUES (?1, ?2, ?3)",
         params![owner, name, text],
-    )?;
-    Ok(())
+    )
 }
 
 /// The row of the name goes, if there is one. Inside a transaction.
@@ -55,15 +51,13 @@ pub fn remove_script<S: Alter>(
     owner: &[u8],
     name: &[u8],
 ) -> Result<(), Error>
-    ensures same_reference { tx.new.conn.ghost_name ≡ tx.old.conn.ghost_name }
-    ensures made { Makes S.Store tx.old.conn.now tx.new.conn.now result (script_removed owner.now name.now) }
-    ensures survives { Survives (state S.Store tx.old.conn.now) (state S.Store tx.new.conn.now) (λ _. ⊥) }
+    ensures { ChangesRows S.Store (script_removed owner.now name.now) tx.old tx.new result }
 {
-    tx.execute(
+    execute(
+        tx,
         "DELETE FROM script WHERE owner = ?1 AND name = ?2",
         params![owner, name],
-    )?;
-    Ok(())
+    )
 }
 
 /// The text of the script.
@@ -73,9 +67,7 @@ fn find_script<S: Alter>(
     name: &[u8],
 ) -> Result<Vec<Row>, Error>
     requires { conn.old.in_transaction ≡ false }
-    ensures ended { conn.new.in_transaction ≡ false }
-    ensures limit { conn.new.step_limit ≡ conn.old.step_limit }
-    ensures finds { Finds owner.now (HasTextRow name.now) (state S.Store conn.old) (state S.Store conn.new) result }
+    ensures { Queries S.Store (Finds owner.now (HasTextRow name.now)) conn.old conn.new result }
 {
     let _settled = conn.is_autocommit();
     conn.query_all(
@@ -87,9 +79,7 @@ fn find_script<S: Alter>(
 /// The names of the scripts, in the order of their octets.
 fn find_names<S: Alter>(conn: &mut Connection<S>, owner: &[u8]) -> Result<Vec<Row>, Error>
     requires { conn.old.in_transaction ≡ false }
-    ensures ended { conn.new.in_transaction ≡ false }
-    ensures limit { conn.new.step_limit ≡ conn.old.step_limit }
-    ensures finds { Finds owner.now AreNameRows (state S.Store conn.old) (state S.Store conn.new) result }
+    ensures { Queries S.Store (Finds owner.now AreNameRows) conn.old conn.new result }
 {
     let _settled = conn.is_autocommit();
     conn.query_all(

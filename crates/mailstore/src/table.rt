@@ -3,7 +3,7 @@ ghost use Rattle.std.specs.Prelude.{◌≡◌, false, ◌↔◌, IsTrue, OnOk, O
 ghost use Rattle.sqlite.specs.Held.{state};
 ghost use Rattle.mailstore.specs.Shows.{Creates, MayCreate};
 ghost use Rattle.sqlite.specs.State.{Survives, HasCleanDisk};
-ghost use Rattle.mailstore.specs.Connection.{MakesTable, IsSettled, StaysSame, has_our_name};
+ghost use Rattle.mailstore.specs.Connection.{MakesTables, IsSettled, StaysSame, has_our_name};
 ghost use Rattle.mailstore.specs.Schema.{no_schema, mail_schema, schema_3, schema_6};
 
 use crate::account::make_account;
@@ -42,9 +42,7 @@ pub fn is_blank(schema: &Schema) -> bool
 
 /// The first three tables, inside a transaction.
 fn make_first<S: Alter>(tx: &mut Transaction<'_, S>) -> Result<(), Error>
-    ensures same_reference { tx.new.conn.ghost_name ≡ tx.old.conn.ghost_name }
-    ensures made { MakesTable S.Store tx.old.conn.now tx.new.conn.now result no_schema schema_3 }
-    ensures survives { Survives (state S.Store tx.old.conn.now) (state S.Store tx.new.conn.now) (λ _. ⊥) }
+    ensures { MakesTables S.Store no_schema schema_3 tx.old tx.new result }
 {
     make_meta(tx)?;
     make_account(tx)?;
@@ -53,9 +51,7 @@ fn make_first<S: Alter>(tx: &mut Transaction<'_, S>) -> Result<(), Error>
 
 /// The tables of messages and copies, which are the folders, inside a transaction.
 fn make_folders<S: Alter>(tx: &mut Transaction<'_, S>) -> Result<(), Error>
-    ensures same_reference { tx.new.conn.ghost_name ≡ tx.old.conn.ghost_name }
-    ensures made { MakesTable S.Store tx.old.conn.now tx.new.conn.now result schema_6 mail_schema }
-    ensures survives { Survives (state S.Store tx.old.conn.now) (state S.Store tx.new.conn.now) (λ _. ⊥) }
+    ensures { MakesTables S.Store schema_6 mail_schema tx.old tx.new result }
 {
     make_message(tx)?;
     make_copy(tx)
@@ -63,9 +59,7 @@ fn make_folders<S: Alter>(tx: &mut Transaction<'_, S>) -> Result<(), Error>
 
 /// The other five, inside a transaction.
 fn make_others<S: Alter>(tx: &mut Transaction<'_, S>) -> Result<(), Error>
-    ensures same_reference { tx.new.conn.ghost_name ≡ tx.old.conn.ghost_name }
-    ensures made { MakesTable S.Store tx.old.conn.now tx.new.conn.now result schema_3 mail_schema }
-    ensures survives { Survives (state S.Store tx.old.conn.now) (state S.Store tx.new.conn.now) (λ _. ⊥) }
+    ensures { MakesTables S.Store schema_3 mail_schema tx.old tx.new result }
 {
     make_outgoing(tx)?;
     make_reply(tx)?;

@@ -3,45 +3,42 @@ ghost use Rattle.std.specs.Prelude.{◌≡◌, false, ◌↔◌, IsTrue, pos, If
 ghost use Rattle.sqlite.specs.Held.{state};
 ghost use Rattle.mailstore.specs.Shows.{IsOurs};
 ghost use Rattle.mailstore.specs.MetaTable.{AreVersions, version_row, meta_tree, SaysTwo};
-ghost use Rattle.mailstore.specs.Promises.{Asks};
-ghost use Rattle.sqlite.specs.State.{Survives};
-ghost use Rattle.mailstore.specs.Connection.{Makes, MakesTable};
+ghost use Rattle.mailstore.specs.Promises.{Asks, Queries};
+ghost use Rattle.mailstore.specs.Connection.{ChangesRows, MakesTables};
 ghost use Rattle.sqlrows.specs.Rows.{added};
 ghost use Rattle.mailstore.specs.Schema.{no_schema, schema_1};
 ghost use Rattle.sqlite_value.specs.declared.value.Value.TheVariants.{Int};
 ghost use Rattle.sqlite_value.specs.Order.{column};
 
+use crate::statement::execute;
 use sqlite::{Alter, Connection, Error, Row, Transaction, params};
 
 /// Makes the table `meta`, inside a transaction.
 pub fn make_meta<S: Alter>(tx: &mut Transaction<'_, S>) -> Result<(), Error>
-    ensures same_reference { tx.new.conn.ghost_name ≡ tx.old.conn.ghost_name }
-    ensures made { MakesTable S.Store tx.old.conn.now tx.new.conn.now result no_schema schema_1 }
-    ensures survives { Survives (state S.Store tx.old.conn.now) (state S.Store tx.new.conn.now) (λ _. ⊥) }
+    ensures { MakesTables S.Store no_schema schema_1 tx.old tx.new result }
 {
-    tx.execute(
+    execute(
+        tx,
         "CREATE TABLE meta (item TEXT NOT NULL PRIMARY KEY, value INTEGER NOT NULL) STRICT",
         &[],
-    )?;
-    Ok(())
+    )
 }
 
 /// The row of the version, inside a transaction.
 pub fn add_version<S: Alter>(tx: &mut Transaction<'_, S>) -> Result<(), Error>
-    ensures same_reference { tx.new.conn.ghost_name ≡ tx.old.conn.ghost_name }
-    ensures made { Makes S.Store tx.old.conn.now tx.new.conn.now result (added meta_tree version_row) }
-    ensures survives { Survives (state S.Store tx.old.conn.now) (state S.Store tx.new.conn.now) (λ _. ⊥) }
+    ensures { ChangesRows S.Store (added meta_tree version_row) tx.old tx.new result }
 {
-    tx.execute("INSERT INTO meta (item, value) VALUES ('version', 2)", &[])?;
-    Ok(())
+    execute(
+        tx,
+        "INSERT INTO meta (item, value) VALUES ('version', 2)",
+        &[],
+    )
 }
 
 /// The numbers in the rows of the version.
 fn find_version<S: Alter>(conn: &mut Connection<S>) -> Result<Vec<Row>, Error>
     requires { conn.old.in_transaction ≡ false }
-    ensures ended { conn.new.in_transaction ≡ false }
-    ensures limit { conn.new.step_limit ≡ conn.old.step_limit }
-    ensures asks { Asks (AreVersions (state S.Store conn.old).now.trees) (state S.Store conn.old) (state S.Store conn.new) result }
+    ensures { Queries S.Store (Asks (AreVersions (state S.Store conn.old).now.trees)) conn.old conn.new result }
 {
     let _settled = conn.is_autocommit();
     conn.query_all("SELECT value FROM meta WHERE item = ?1", params!["version"])
@@ -50,9 +47,7 @@ fn find_version<S: Alter>(conn: &mut Connection<S>) -> Result<Vec<Row>, Error>
 /// Whether the row of the version is there once, and says 2.
 pub fn has_version<S: Alter>(conn: &mut Connection<S>) -> Result<bool, Error>
     requires { conn.old.in_transaction ≡ false }
-    ensures ended { conn.new.in_transaction ≡ false }
-    ensures limit { conn.new.step_limit ≡ conn.old.step_limit }
-    ensures asks { Asks (λ is. IsTrue is ↔ IsOurs (state S.Store conn.old).now) (state S.Store conn.old) (state S.Store conn.new) result }
+    ensures { Queries S.Store (Asks (λ is. IsTrue is ↔ IsOurs (state S.Store conn.old).now)) conn.old conn.new result }
 {
     let rows = find_version(conn)?;
     says_version_2(&rows)

@@ -7,10 +7,14 @@ use Rattle.mailstore.proofs.QueryLemmas.{account_found}
 use Rattle.mailstore.proofs.KeepLemmas.{finds_own}
 use Rattle.mailstore.proofs.account.find_account.Goals as goal
 
-pub returns-clause-finds : goal.returns-clause-finds
-returns-clause-finds g c =
+pub returns : goal.returns
+returns g c =
     let old = state g.S.Store c.args.conn.now in
     let new = state g.S.Store c.query_all.new.self in
     let settled : IsTrue old.is_open → old.now ≡ old.committed = search rules in
-    finds_own select_account (owner_key c.args.name.now) old new select_account_plain.0 c.query_all.result settled (rw (c.params-to_sql.ensures) at c.query_all.ensures.ok) (rw (c.params-to_sql.ensures) at c.query_all.ensures.err) (rw (c.params-to_sql.ensures) at c.query_all.ensures.survives)
-    c.args.name.now account_tree shown_account (λ rows tables h. account_found old new rows tables h c.args.name.now)
+    record {
+      ended = search rules;
+      limit = search rules;
+      finds = finds_own select_account (owner_key c.args.name.now) old new select_account_plain.0 c.query_all.result settled (rw (c.params-to_sql.ensures) at c.query_all.ensures.ok) (rw (c.params-to_sql.ensures) at c.query_all.ensures.err) (rw (c.params-to_sql.ensures) at c.query_all.ensures.survives)
+          c.args.name.now account_tree shown_account (λ rows tables h. account_found old new rows tables h c.args.name.now);
+    }

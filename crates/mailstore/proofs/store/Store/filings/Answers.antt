@@ -14,4 +14,4 @@ returns-in_err-rows g c =
 pub returns : goal.returns
 returns g c =
     own_answer c.args.user.now (λ (rows : Vec Row Global). AreFilingRows c.args.user.now rows.items) (AreFilings c.args.user.now) (state g.S.Store c.args.self.now) (state g.S.Store c.filing_rows.new.self) c.filing_rows.result c.in_ok-rows.rows c.in_ok-rows.was
-    c.filings_in.result c.filings_in.ensures.named (λ own is. filings_are c.args.user.now c.filings_in.result c.deref.result.now own (λ a s. c.deref.ensures.value ∙ is a s) c.filings_in.ensures.ok) c.filing_rows.ensures
+    c.all_from_rows.result c.all_from_rows.ensures.named (λ own is. filings_are c.args.user.now c.all_from_rows.result c.deref.result.now own (λ a s. c.deref.ensures.value ∙ is a s) c.all_from_rows.ensures.ok) c.filing_rows.ensures

@@ -14,5 +14,5 @@ returns-in_err-rows g c =
 
 pub returns : goal.returns
 returns g c =
-    reads_answer c.args.user.now (λ (rows : Vec Row Global). AreNoticeRows rows.items) (λ notices a. notices ≡ a.notices) (state g.S.Store c.args.self.now) (state g.S.Store c.notice_rows.new.self) c.notice_rows.result c.in_ok-rows.rows c.in_ok-rows.was c.notices_in.result c.notices_in.ensures.named
-    (λ a is. notices_are c.notices_in.result c.deref.result.now a (c.deref.ensures.value ∙ is) c.notices_in.ensures.ok) c.notice_rows.ensures
+    reads_answer c.args.user.now (λ (rows : Vec Row Global). AreNoticeRows rows.items) (λ notices a. notices ≡ a.notices) (state g.S.Store c.args.self.now) (state g.S.Store c.notice_rows.new.self) c.notice_rows.result c.in_ok-rows.rows c.in_ok-rows.was c.all_from_rows.result c.all_from_rows.ensures.named
+    (λ a is. notices_are c.all_from_rows.result c.deref.result.now a (c.deref.ensures.value ∙ is) c.all_from_rows.ensures.ok) c.notice_rows.ensures

@@ -7,25 +7,25 @@ use Rattle.mailstore.proofs.store.Store.open.Goals as goal
 pub returns-in-Ok-true-clause-shown : goal.returns-in-Ok-true-clause-shown
 returns-in-Ok-true-clause-shown g c clean accounts p =
     let ours : c.args.conn.schema ≡ mail_schema = search rules in
-    let live = rw (c.in-Ok-true.is) at ((rw (c.set_step_limit.ensures) at c.has_version.ensures.asks.live) ours clean) in
-    let same = (rw (c.set_step_limit.ensures) at c.has_version.ensures.asks.same) ours clean in
+    let live = rw (c.in-Ok-true.is) at ((rw (c.set_step_limit.ensures) at c.has_version.ensures.finds.live) ours clean) in
+    let same = (rw (c.set_step_limit.ensures) at c.has_version.ensures.finds.same) ours clean in
     shows_again (state g.S.Store c.args.conn).now (state g.S.Store c.has_version.new.conn).now accounts ours (same.now_is live.is_open) p
 
 pub returns-in-Ok-true-clause-ours : goal.returns-in-Ok-true-clause-ours
 returns-in-Ok-true-clause-ours g c clean =
     let ours : c.args.conn.schema ≡ mail_schema = search rules in
-    let said = rw (c.in-Ok-true.is, c.in-Ok-true.field-0-test) at ((rw (c.set_step_limit.ensures) at c.has_version.ensures.asks.found) ours clean) in
+    let said = rw (c.in-Ok-true.is, c.in-Ok-true.field-0-test) at ((rw (c.set_step_limit.ensures) at c.has_version.ensures.finds.found) ours clean) in
     said.0 refl
 
 pub returns-in-Ok-true-clause-settled : goal.returns-in-Ok-true-clause-settled
 returns-in-Ok-true-clause-settled g c clean =
     let ours : c.args.conn.schema ≡ mail_schema = search rules in
-    let live = rw (c.in-Ok-true.is) at ((rw (c.set_step_limit.ensures) at c.has_version.ensures.asks.live) ours clean) in
+    let live = rw (c.in-Ok-true.is) at ((rw (c.set_step_limit.ensures) at c.has_version.ensures.finds.live) ours clean) in
     record { is_open = live.is_open; same = live.same; alone = λ db leaves. g.met.S.Store.settled c.has_version.new.conn.store db live.is_open leaves }
 
 pub returns-in-Ok-false-clause-not_ours : goal.returns-in-Ok-false-clause-not_ours
 returns-in-Ok-false-clause-not_ours g c clean same ours =
-    let said = rw (c.in-Ok-false.is, c.in-Ok-false.field-0-test) at ((rw (c.set_step_limit.ensures) at c.has_version.ensures.asks.found) ours.schema clean) in
+    let said = rw (c.in-Ok-false.is, c.in-Ok-false.field-0-test) at ((rw (c.set_step_limit.ensures) at c.has_version.ensures.finds.found) ours.schema clean) in
     let no = said.1 ours in
     absurd (let e : false ≡ true = no in cc)
 

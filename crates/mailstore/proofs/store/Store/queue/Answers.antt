@@ -14,5 +14,5 @@ returns-in_err-rows g c =
 
 pub returns : goal.returns
 returns g c =
-    reads_answer c.args.user.now (λ (rows : Vec Row Global). AreQueueRows rows.items) (λ queue a. queue ≡ a.queue) (state g.S.Store c.args.self.now) (state g.S.Store c.queue_rows.new.self) c.queue_rows.result c.in_ok-rows.rows c.in_ok-rows.was c.messages_out.result c.messages_out.ensures.named
-    (λ a is. queue_is c.messages_out.result c.deref.result.now a (c.deref.ensures.value ∙ is) c.messages_out.ensures.ok) c.queue_rows.ensures
+    reads_answer c.args.user.now (λ (rows : Vec Row Global). AreQueueRows rows.items) (λ queue a. queue ≡ a.queue) (state g.S.Store c.args.self.now) (state g.S.Store c.queue_rows.new.self) c.queue_rows.result c.in_ok-rows.rows c.in_ok-rows.was c.all_from_rows.result c.all_from_rows.ensures.named
+    (λ a is. queue_is c.all_from_rows.result c.deref.result.now a (c.deref.ensures.value ∙ is) c.all_from_rows.ensures.ok) c.queue_rows.ensures

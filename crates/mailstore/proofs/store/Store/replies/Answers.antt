@@ -25,6 +25,6 @@ pub returns : goal.returns
 returns g c =
     let folded : c.as_slice.result.now ≡ lowered c.args.sender.now = search rules in
     reads_answer c.args.user.now (λ (rows : Vec Row Global). AreReplyRows c.as_slice.result.now rows.items) (λ replies a. replies ≡ map kept_reply (replies_to (lowered c.args.sender.now) a.replies)) (state g.S.Store c.args.self.now)
-    (state g.S.Store c.reply_rows.new.self) c.reply_rows.result c.in_ok-rows.rows c.in_ok-rows.was c.replies_in.result c.replies_in.ensures.named
-    (λ a is. replies_are c.replies_in.result c.deref.result.now (map kept_reply (replies_to (lowered c.args.sender.now) a.replies))
-    (c.deref.ensures.value ∙ is ∙ ap (λ k. map kept_cells (map kept_reply (replies_to k a.replies))) folded) c.replies_in.ensures.ok) c.reply_rows.ensures
+    (state g.S.Store c.reply_rows.new.self) c.reply_rows.result c.in_ok-rows.rows c.in_ok-rows.was c.all_from_rows.result c.all_from_rows.ensures.named
+    (λ a is. replies_are c.all_from_rows.result c.deref.result.now (map kept_reply (replies_to (lowered c.args.sender.now) a.replies))
+    (c.deref.ensures.value ∙ is ∙ ap (λ k. map kept_cells (map kept_reply (replies_to k a.replies))) folded) c.all_from_rows.ensures.ok) c.reply_rows.ensures
