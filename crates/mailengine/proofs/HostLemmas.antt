@@ -37,9 +37,6 @@ use Rattle.mailengine.specs.Hosts.{clients_of, HasClients, host, Implements, IsS
 abbrev pub Kept : Type 0
 Kept = BTreeMap ℕ SessionView
 
-client_of : SessionView → Client
-client_of session = session.client
-
 -- ---- maps
 
 turned_round : (n s : ℕ) → is_eq (nat_cmp n s) ≡ is_eq (nat_cmp s n)

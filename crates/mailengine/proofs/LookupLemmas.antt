@@ -59,36 +59,7 @@ module _ (user : List ℕ) (a b : State) (r : Result (Option Profile) Refusal) (
     sure = λ clean. tt;
   }
 
-  pub profile_absent : r ≡ Ok None → LooksUp {X = Profile} user (λ profile account. profile ≡ profile_of account) a b (Err NoUser)
-  profile_absent is = record {
-    reads = record {
-      found = λ clean accounts shows. tt;
-      absent = λ clean accounts shows none. free_of accounts user (found None is clean accounts shows);
-      keeps = keeps_ok a b r None (Err NoUser) is read.keeps;
-      named = inl refl;
-    };
-    sure = λ clean none. read.keeps.shut clean (on_ok r None is (IsTrue b.is_open) (read.keeps.live clean));
-  }
-
-  pub profile_failed : {X : Type 0} (Part : X → Account → Type 0) (q : Result X Refusal) → OnOk q ⊥ → IfErr q IsPassing → LooksUp user Part a b q
-  profile_failed Part q undone passing = record {
-    reads = record {
-      found = λ clean accounts shows. none_if q (λ x. OfUser accounts user (Part x)) undone;
-      absent = λ clean accounts shows. passing_other q (IsFree user accounts) passing;
-      keeps = keeps_failed a b r q undone read.keeps;
-      named = passing_named q passing;
-    };
-    sure = λ clean. sure_of_passing q (IsTrue a.is_open) passing;
-  }
-
 -- ---- another answer
-
--- the same refusal
-pub looks_refused : {X Y : Type 0} (user : List ℕ) (P : X → Account → Type 0) (Q : Y → Account → Type 0) (a b : State) (e : Refusal) (q : Result Y Refusal) → q ≡ Err e → LooksUp user P a b (Err e) → LooksUp user Q a b q
-looks_refused user P Q a b e q is look = record {
-  reads = reads_refused user P Q a b e q is look.reads;
-  sure = λ clean. subst (λ o. IfErr o (λ f. f ≡ NoUser → IsTrue a.is_open)) (sym is) (look.sure clean);
-}
 
 -- an answer that is made of what was read, or a refusal without visible cause
 pub looks_answer : {X Y : Type 0} (user : List ℕ) (P : X → Account → Type 0) (Q : Y → Account → Type 0) (a b : State) (r : Result X Refusal) (x : X) → r ≡ Ok x → (q : Result Y Refusal) → IfErr q IsPassing

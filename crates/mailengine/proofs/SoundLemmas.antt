@@ -257,10 +257,6 @@ delivers_sound addr moment mail (Tells text) a a2 report own is =
 
 -- ---- the acts of one user
 
--- an account, if there is one, is sound
-IsSoundIf : Option Account → Type 0
-IsSoundIf o = IfSome o IsSound
-
 -- an account that was just added
 sound_fresh : (name address salt password : List ℕ) → IsNewUser name address password → IsSound (fresh address salt password)
 sound_fresh name address salt password new = record {

@@ -1,5 +1,5 @@
 -- From the cells of rows to what a call answers.
-use Rattle.std.proofs.Common.{◌≡◌, ℕ, List, [], ◌∷◌, map, Option, Some, None, option_map, slice_get, Ok, Err, Result, IfOk, refl, sym, ap, ap₂, ◌∙◌, subst, arith}
+use Rattle.std.proofs.Common.{◌≡◌, ℕ, List, [], ◌∷◌, map, Option, Some, None, option_map, slice_get, Ok, Err, Result, IfOk, refl, sym, ap, ◌∙◌, subst, arith}
 use Rattle.sqlite_value.specs.declared.value.Value.TheVariants.{Blob}
 use Rattle.sqlite_value.specs.Order.{Row, column}
 use Rattle.sqlite_keyed.proofs.ListLemmas.{map-map}
@@ -11,20 +11,17 @@ use Rattle.mailstore.specs.declared.queue.Kind.TheVariants.{Redirect, Reply}
 use Rattle.mailstore.specs.declared.queue.Outgoing.{Outgoing}
 use Rattle.mailstore.specs.declared.notice.Notice.{Notice}
 use Rattle.mailstore.specs.NoticeTable.{AreNoticeRows, notice_cells}
-use Rattle.mailstore.specs.Cells.{first_five, first_two}
+use Rattle.mailstore.specs.Cells.{text_cells, first_one, first_five, first_two}
 use Rattle.mailstore.specs.QueueTable.{AreQueueRows, kind_number, outgoing_cells}
 use Rattle.mailstore.proofs.OneLemmas.{map_one}
 
-same_blobs : (xs ys : List (List ℕ)) → map (λ t. Blob t) xs ≡ map (λ t. Blob t) ys → xs ≡ ys
-same_blobs [] [] e = refl
-same_blobs [] (y ∷ ys) e = cc
-same_blobs (x ∷ xs) [] e = cc
-same_blobs (x ∷ xs) (y ∷ ys) e = let head : x ≡ y = cc in let tail : map (λ t. Blob t) xs ≡ map (λ t. Blob t) ys = cc in ap₂ ◌∷◌ head (same_blobs xs ys tail)
+text_one : (x y : List ℕ) → text_cells x ≡ text_cells y → x ≡ y
+text_one x y e = cc
 
 -- texts that were read from rows of one column
-pub texts_are : {E : Type 0} (r : Result (List (List ℕ)) E) (rows : List Row) (wanted : List (List ℕ)) → rows ≡ map (λ t. Blob t ∷ []) wanted → IfOk r (λ all. map (λ t. Blob t) all ≡ map (λ row. column row 0) rows) → IfOk r (λ all. all ≡ wanted)
+pub texts_are : {E : Type 0} (r : Result (List (List ℕ)) E) (rows : List Row) (wanted : List (List ℕ)) → rows ≡ map text_cells wanted → IfOk r (λ all. map text_cells all ≡ map first_one rows) → IfOk r (λ all. all ≡ wanted)
 texts_are (Err e) rows wanted are h = tt
-texts_are (Ok all) rows wanted are h = same_blobs all wanted (h ∙ ap (map (λ row. column row 0)) are ∙ map-map (λ (row : Row). column row 0) (λ (t : List ℕ). Blob t ∷ []) wanted)
+texts_are (Ok all) rows wanted are h = map_one text_cells text_one all wanted (h ∙ ap (map first_one) are ∙ map-map first_one text_cells wanted)
 
 same_text : (x y : Option (List ℕ)) → option_map (λ t. Blob t) x ≡ option_map (λ t. Blob t) y → x ≡ y
 same_text None None e = refl

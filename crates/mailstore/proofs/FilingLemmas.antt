@@ -1,5 +1,5 @@
 -- The query for a user's copies, and reads of one user's rows.
-use Rattle.std.proofs.Common.{◌≡◌, ◌⊎◌, ℕ, pos, ◌<◌, List, [], ◌∷◌, map, filter, Ok, Err, Result, Vec, IfOk, IfErr, OnOk, IsTrue, IsSome, Option, Some, None, refl, sym, ap, ◌∙◌, subst, arith, Less, IsPermutation}
+use Rattle.std.proofs.Common.{◌≡◌, ◌⊎◌, ℕ, pos, ◌<◌, List, [], ◌∷◌, map, filter, Ok, Err, Result, Vec, IfOk, IfErr, OnOk, IsSome, Option, Some, None, refl, sym, ap, ◌∙◌, subst, arith, Less, IsPermutation}
 use Rattle.std.specs.declared.alloc.Global.{Global}
 use Rattle.std.specs.FinMap.{get}
 use Rattle.std.proofs.lemmas.Int.{ints}
@@ -16,10 +16,8 @@ use Rattle.sqlite_keyed.proofs.ListLemmas.{map-map, ascending-map, ascending_wea
 use Rattle.sqlite_keyed.proofs.KeyedLemmas.{Less-from_lt}
 use Rattle.sqlite_keyed.proofs.SortLemmas.{sorted_unique}
 use Rattle.sqlite_typed.proofs.TestLemmas.{last_key}
-use Rattle.sqlite.specs.Listing.{understood}
 use Rattle.sqlite.specs.declared.error.Error.{Error}
-use Rattle.sqlite.specs.State.{State, HasCleanDisk, Survives, CommitsShowing, Shown, FailsToQuery}
-use Rattle.sqlite.proofs.Callers.{IsPlain}
+use Rattle.sqlite.specs.State.{State, Shown}
 use Rattle.sqlrows.specs.Forms.{over}
 use Rattle.sqlrows.specs.Rows.{Tables, Holds, has_key}
 use Rattle.sqlrows.proofs.AnswerLemmas.{cells_in_order}
@@ -39,9 +37,8 @@ use Rattle.mailstore.proofs.SchemaFacts.{copy_listed}
 use Rattle.mailstore.proofs.TextFacts.{by_one, filings_shown, select_filings_is, select_filings_plain}
 use Rattle.mailstore.proofs.ResultLemmas.{on_ok}
 use Rattle.mailstore.proofs.WriteLemmas.{clean_before}
-use Rattle.mailstore.proofs.QueryLemmas.{if_shown}
 use Rattle.mailstore.proofs.OneLemmas.{map_one}
-use Rattle.mailstore.proofs.KeepLemmas.{query_keeps, keeps_ok, keeps_refused, keeps_failed, keeps_then, mid_holds, none_ok, none_if, passing_other, passing_named}
+use Rattle.mailstore.proofs.KeepLemmas.{keeps_ok, keeps_refused, keeps_failed, keeps_then, mid_holds, none_ok, none_if, passing_other, passing_named}
 
 -- ---- the query
 
@@ -69,15 +66,6 @@ module _ (old new : State) (rows : List Row) (tables : Tables) (h : Holds mail_s
       let rising = ascending-map (λ x y. output_cmp by_copy x y ≡ Less) filing_output copies (ascending_weaker _ (λ x y. output_cmp by_copy (filing_output x) (filing_output y) ≡ Less) filings_rise copies s.copies.numbered.rise) in
       let is = sorted_unique (output_cmp by_copy) (output_cmp_total by_copy) (map filing_output copies) found.0 rising (IsPermutation-trans _ _ _ outs found.1) found.2 in
       found.3 ∙ ap (map (λ (o : Output). o.1)) is ∙ map-map (λ (o : Output). o.1) filing_output copies ∙ sym (map-map filing_cells filing_of copies)
-
--- a query of a plain text, outside a transaction, that shows this of the user's rows
-pub finds_among : (sql : List ℕ) (params : Row) (old new : State) → IsPlain (understood mail_schema sql) → (r : Result (Vec Row Global) Error) → (IsTrue old.is_open → old.now ≡ old.committed)
-    → (HasCleanDisk new → IfOk r (λ rows. Shown sql params old new rows.items)) → (HasCleanDisk new → IfErr r (FailsToQuery sql params old new)) → Survives old new (CommitsShowing sql params old)
-    → (user : List ℕ) (Part : List Row → Tables → Type 0) → ((rows : List Row) (tables : Tables) → Holds mail_schema old.now tables → Shown sql params old new rows → Part rows (rows_of user tables)) → FindsAmong user (λ (rows : Vec Row Global). Part rows.items) old new r
-finds_among sql params old new plain r settled ok err survives user Part shows = record {
-  found = λ clean tables h. if_shown r (Shown sql params old new) (λ rows. Part rows (rows_of user tables)) (λ rows. shows rows tables h) (ok clean);
-  keeps = query_keeps sql params old new plain r settled ok err survives;
-}
 
 -- ---- reads of one user's rows
 

@@ -3,10 +3,12 @@ use Rattle.std.proofs.Common.{◌≡◌, ◌⊎◌, ℕ, List, [], map, Option, 
 use Rattle.std.specs.declared.alloc.Global.{Global}
 use Rattle.std.specs.FinMap.{get}
 use Rattle.sqlite_value.specs.Order.{Row}
+use Rattle.sqlite_trees.specs.declared.store.Store.{Ghosts}
 use Rattle.sqlite_trees.specs.Tree.{Trees}
 use Rattle.sqlite.specs.Listing.{understood}
 use Rattle.sqlite.specs.declared.error.Error.{Error}
-use Rattle.sqlite.specs.State.{State, HasCleanDisk, Survives, CommitsShowing, Shown, FailsToQuery}
+use Rattle.sqlite.specs.Held.{Held, state}
+use Rattle.sqlite.specs.State.{State, HasCleanDisk, Survives, Shown}
 use Rattle.sqlite.proofs.Callers.{IsPlain}
 use Rattle.sqlite.proofs.StateLemmas.{survives_then}
 use Rattle.sqlrows.specs.Rows.{Tables, Holds}
@@ -23,7 +25,7 @@ use Rattle.mailstore.specs.Account.{Account, Accounts}
 use Rattle.mailstore.specs.Refusals.{IsPassing}
 use Rattle.mailstore.specs.AccountTable.{account_tree, counter_cells, shown_account, shown_counters, profile_row, profile_of, IsRead, Counts}
 use Rattle.mailstore.specs.Shows.{rows_of, IsShownOrAbsent, ShowsAccounts, Presents}
-use Rattle.mailstore.specs.Promises.{HasOurTables, IsFree, OfUser, MakesAll, Keeps, FindsOwn, Finds, Reads, ReadsRows, Requires, ReadsCounters, ReadsProfile, Writes, Turns, MayShow}
+use Rattle.mailstore.specs.Promises.{HasOurTables, IsFree, OfUser, MakesAll, Keeps, Queries, Answers, FindsOwn, FindsAmong, Finds, Reads, ReadsRows, Requires, ReadsCounters, ReadsProfile, Writes, Turns, MayShow}
 use Rattle.mailstore.proofs.ResultLemmas.{on_ok, on_any, on_err_any}
 use Rattle.mailstore.proofs.WriteLemmas.{clean_before}
 use Rattle.mailstore.proofs.QueryLemmas.{query_same, query_quiet, stays_shut, if_shown}
@@ -33,31 +35,45 @@ use Rattle.mailstore.proofs.CallLemmas.{Carries, applied, crashed}
 
 -- ---- what is kept
 
--- a query of a plain text, outside a transaction
-pub query_keeps : (sql : List ℕ) (params : Row) (old new : State) → IsPlain (understood mail_schema sql) → (r : Result (Vec Row Global) Error) → (IsTrue old.is_open → old.now ≡ old.committed)
-    → (HasCleanDisk new → IfOk r (λ rows. Shown sql params old new rows.items)) → (HasCleanDisk new → IfErr r (FailsToQuery sql params old new)) → Survives old new (CommitsShowing sql params old) → Keeps old new r
-query_keeps sql params old new plain r settled ok err survives = record {
-  same = query_same sql params old new plain r settled ok err;
-  live = λ clean. (stays_shut sql params old new r ok err clean).1;
-  shut = λ clean. (stays_shut sql params old new r ok err clean).0;
-  crash = query_quiet sql params old new plain survives;
+-- a query of a plain text
+query_keeps : (sql : List ℕ) (params : Row) (old new : State) → IsPlain (understood mail_schema sql) → (r : Result (Vec Row Global) Error) → Answers sql params old new r → Keeps old new r
+query_keeps sql params old new plain r asked = record {
+  same = query_same sql params old new plain r asked.settled asked.ok asked.err;
+  live = λ clean. (stays_shut sql params old new r asked.ok asked.err clean).1;
+  shut = λ clean. (stays_shut sql params old new r asked.ok asked.err clean).0;
+  crash = query_quiet sql params old new plain asked.survives;
 }
 
 -- a query of a plain text, outside a transaction, that shows this
-module _ (sql : List ℕ) (params : Row) (old new : State) (plain : IsPlain (understood mail_schema sql)) (r : Result (Vec Row Global) Error) (settled : IsTrue old.is_open → old.now ≡ old.committed)
-    (ok : HasCleanDisk new → IfOk r (λ rows. Shown sql params old new rows.items)) (err : HasCleanDisk new → IfErr r (FailsToQuery sql params old new)) (survives : Survives old new (CommitsShowing sql params old)) where
-  pub finds_own : (user : List ℕ) (tree : ℕ) (show : Row → Row) → ((rows : List Row) (tables : Tables) → Holds mail_schema old.now tables → Shown sql params old new rows → rows ≡ map show (rows_of user tables tree))
-      → FindsOwn user tree show old new r
+module _ {S : Type 0} (g : Ghosts S) (sql : List ℕ) (params : Row) (plain : IsPlain (understood mail_schema sql)) (old new : Held S) (r : Result (Vec Row Global) Error) (asked : Queries g (Answers sql params) old new r) where
+  keeps : Keeps (state g old) (state g new) r
+  keeps = query_keeps sql params (state g old) (state g new) plain r asked.finds
+
+  abbrev shown : List Row → Type 0
+  shown = Shown sql params (state g old) (state g new)
+
+  pub finds_own : (user : List ℕ) (tree : ℕ) (show : Row → Row) → ((rows : List Row) (tables : Tables) → Holds mail_schema (state g old).now tables → shown rows → rows ≡ map show (rows_of user tables tree))
+      → Queries g (FindsOwn user tree show) old new r
   finds_own user tree show shows = record {
-    found = λ clean tables h. if_shown r (Shown sql params old new) (λ rows. rows ≡ map show (rows_of user tables tree)) (λ rows. shows rows tables h) (ok clean);
-    keeps = query_keeps sql params old new plain r settled ok err survives;
+    ended = asked.ended;
+    limit = asked.limit;
+    finds = record { found = λ clean tables h. if_shown r shown (λ rows. rows ≡ map show (rows_of user tables tree)) (λ rows. shows rows tables h) (asked.finds.ok clean); keeps = keeps };
   }
 
-  pub finds : (user : List ℕ) (Part : List Row → Account → Type 0) → ((rows : List Row) (accounts : Accounts) → Presents old.now accounts → Shown sql params old new rows → IfSome (get accounts user) (Part rows))
-      → Finds user Part old new r
+  pub finds : (user : List ℕ) (Part : List Row → Account → Type 0) → ((rows : List Row) (accounts : Accounts) → Presents (state g old).now accounts → shown rows → IfSome (get accounts user) (Part rows))
+      → Queries g (Finds user Part) old new r
   finds user Part shows = record {
-    found = λ clean accounts p. if_shown r (Shown sql params old new) (λ rows. IfSome (get accounts user) (Part rows)) (λ rows. shows rows accounts p) (ok clean);
-    keeps = query_keeps sql params old new plain r settled ok err survives;
+    ended = asked.ended;
+    limit = asked.limit;
+    finds = record { found = λ clean accounts p. if_shown r shown (λ rows. IfSome (get accounts user) (Part rows)) (λ rows. shows rows accounts p) (asked.finds.ok clean); keeps = keeps };
+  }
+
+  pub finds_among : (user : List ℕ) (Part : List Row → Tables → Type 0) → ((rows : List Row) (tables : Tables) → Holds mail_schema (state g old).now tables → shown rows → Part rows (rows_of user tables))
+      → Queries g (FindsAmong user (λ (rows : Vec Row Global). Part rows.items)) old new r
+  finds_among user Part shows = record {
+    ended = asked.ended;
+    limit = asked.limit;
+    finds = record { found = λ clean tables h. if_shown r shown (λ rows. Part rows (rows_of user tables)) (λ rows. shows rows tables h) (asked.finds.ok clean); keeps = keeps };
   }
 
 -- with another answer, once Ok was answered

@@ -16,7 +16,7 @@ use Rattle.sqlite_schema.specs.Rules.{equal, Fits}
 use Rattle.sqlite.specs.Effect.{Database}
 use Rattle.sqlite.specs.Listing.{understood}
 use Rattle.sqlite.specs.declared.error.Error.{Error}
-use Rattle.sqlite.specs.State.{State, HasCleanDisk, Survives, CommitsShowing, Shown, FailsToQuery}
+use Rattle.sqlite.specs.State.{State, HasCleanDisk, Shown, FailsToQuery}
 use Rattle.sqlite_keyed.proofs.ListLemmas.{map-map}
 use Rattle.sqlite.proofs.Callers.{IsPlain, one_permutation}
 use Rattle.sqlrows.specs.Forms.{over}
@@ -30,7 +30,7 @@ use Rattle.mailstore.specs.Shows.{IsOurs, ShowsIn, Presents}
 use Rattle.mailstore.proofs.TextFacts.{by_one, select_version_is, select_version_plain}
 use Rattle.mailstore.proofs.QueryLemmas.{same_unchanged, same_undone}
 use Rattle.mailstore.proofs.SchemaFacts.{meta_listed}
-use Rattle.mailstore.specs.Promises.{Asks}
+use Rattle.mailstore.specs.Promises.{Asks, Answers}
 use Rattle.mailstore.proofs.ResultLemmas.{on_any, on_ok}
 
 -- a query whose text is plain, where the tables are ours
@@ -100,13 +100,12 @@ version_says db rows ours same (Err e) said = tt
 version_says db rows ours same (Ok is) said = let both = says_ours db rows _ ours refl same in (λ e. both.0 (said.0 e), λ h. said.1 (both.1 h))
 
 -- the query for the version
-pub asks_version : (old new : State) (r : Result (Vec Row Global) Error) → (IsTrue old.is_open → old.now ≡ old.committed) → (HasCleanDisk new → IfOk r (λ rows. Shown select_version version_key old new rows.items))
-    → (HasCleanDisk new → IfErr r (FailsToQuery select_version version_key old new)) → Survives old new (CommitsShowing select_version version_key old) → Asks (AreVersions old.now.trees) old new r
-asks_version old new r settled ok err survives = record {
-  found = λ ours clean. found r ours (ok clean);
-  same = λ ours. keeps_same select_version version_key old new ours select_version_plain.0 r settled ok err;
-  live = λ ours. sees_commit select_version version_key old new ours select_version_plain.0 r settled ok;
-  crash = λ ours. quiet mail_schema select_version version_key old new ours select_version_plain.0 survives;
+pub asks_version : (old new : State) (r : Result (Vec Row Global) Error) → Answers select_version version_key old new r → Asks (AreVersions old.now.trees) old new r
+asks_version old new r asked = record {
+  found = λ ours clean. found r ours (asked.ok clean);
+  same = λ ours. keeps_same select_version version_key old new ours select_version_plain.0 r asked.settled asked.ok asked.err;
+  live = λ ours. sees_commit select_version version_key old new ours select_version_plain.0 r asked.settled asked.ok;
+  crash = λ ours. quiet mail_schema select_version version_key old new ours select_version_plain.0 asked.survives;
 }
   where
     found : (o : Result (Vec Row Global) Error) → old.now.schema ≡ mail_schema → IfOk o (λ rows. Shown select_version version_key old new rows.items) → IfOk o (AreVersions old.now.trees)

@@ -14,7 +14,14 @@ abbrev pub or_null : Option (List ℕ) → Value
 or_null None = Null
 or_null (Some b) = Blob b
 
+-- what a query for texts shows of one
+abbrev pub text_cells : List ℕ → Row
+text_cells text = Blob text ∷ []
+
 -- the first cells of a row
+abbrev pub first_one : Row → Row
+first_one row = column row 0 ∷ []
+
 abbrev pub first_two : Row → Row
 first_two row = column row 0 ∷ column row 1 ∷ []
 

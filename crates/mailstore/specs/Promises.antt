@@ -5,9 +5,10 @@ use Rattle.std.specs.FinMap.{get}
 use Rattle.sqlite_value.specs.Order.{Row}
 use Rattle.sqlite_trees.specs.Tree.{Trees}
 use Rattle.sqlite_trees.specs.declared.store.Store.{Ghosts}
+use Rattle.sqlite.specs.declared.error.Error.{Error}
 use Rattle.sqlite.specs.Effect.{Database}
 use Rattle.sqlite.specs.Held.{Held, state}
-use Rattle.sqlite.specs.State.{State, HasCleanDisk, Survives}
+use Rattle.sqlite.specs.State.{State, HasCleanDisk, CommitsShowing, FailsToQuery, Shown, Survives}
 use Rattle.sqlrows.specs.Rows.{Tables, Holds}
 use Rattle.mailstore.specs.declared.change.Change.{Change}
 use Rattle.mailstore.specs.declared.account.Counters.{Counters}
@@ -55,6 +56,13 @@ pub record Queries {S X E : Type 0} (g : Ghosts S) (Found : State → State → 
   pub ended : new.in_transaction ≡ false
   pub limit : new.step_limit ≡ old.step_limit
   pub finds : Found (state g old) (state g new) result
+
+-- the answer to the query of this text, over a connection that, where it is open, sees its last commit
+pub record Answers (sql : List ℕ) (params : Row) (old new : State) (result : Result (Vec Row Global) Error) : Type 0 where
+  pub settled : IsTrue old.is_open → old.now ≡ old.committed
+  pub ok : HasCleanDisk new → IfOk result (λ rows. Shown sql params old new rows.items)
+  pub err : HasCleanDisk new → IfErr result (FailsToQuery sql params old new)
+  pub survives : Survives old new (CommitsShowing sql params old)
 
 -- a query for the user's rows in one table: it shows this of each
 pub record FindsOwn {E : Type 0} (user : List ℕ) (tree : ℕ) (show : Row → Row) (old new : State) (result : Result (Vec Row Global) E) : Type 0 where

@@ -16,7 +16,7 @@ use crate::cell::{optional_text_at, text_at};
 use crate::change::Change;
 use crate::profile::Profile;
 use crate::refusal::Refusal;
-use crate::statement::execute;
+use crate::statement::{execute, query};
 use crate::store::Store;
 use octets::Octets;
 use sqlite::{Alter, Connection, Error, Row, Transaction, params};
@@ -96,8 +96,8 @@ fn find_account<S: Alter>(conn: &mut Connection<S>, name: &[u8]) -> Result<Vec<R
     requires { conn.old.in_transaction ≡ false }
     ensures { Queries S.Store (FindsOwn name.now account_tree shown_account) conn.old conn.new result }
 {
-    let _settled = conn.is_autocommit();
-    conn.query_all(
+    query(
+        conn,
         "SELECT address, salt, rounds, digest, active FROM account WHERE name = ?1",
         params![name],
     )
@@ -108,8 +108,8 @@ fn find_counters<S: Alter>(conn: &mut Connection<S>, name: &[u8]) -> Result<Vec<
     requires { conn.old.in_transaction ≡ false }
     ensures { Queries S.Store (FindsOwn name.now account_tree shown_counters) conn.old conn.new result }
 {
-    let _settled = conn.is_autocommit();
-    conn.query_all(
+    query(
+        conn,
         "SELECT next_copy, next_out, next_notice FROM account WHERE name = ?1",
         params![name],
     )

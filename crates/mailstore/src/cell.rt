@@ -1,14 +1,14 @@
 //! The texts and numbers in the cells of rows.
-ghost use Rattle.std.specs.Prelude.{◌≡◌, pos, ◌<◌, ◌^◌, option_map, map, slice_get, IfOk, IfErr};
+ghost use Rattle.std.specs.Prelude.{◌≡◌, pos, ◌<◌, ◌^◌, option_map, slice_get, IfOk, IfErr};
 ghost use Rattle.mailstore.specs.Cells.{or_null};
 ghost use Rattle.mailstore.specs.Refusals.{IsPassing};
 ghost use Rattle.sqlite_value.specs.declared.value.Value.TheVariants.{Blob};
 ghost use Rattle.sqlite_value.specs.Order.{column};
 
 use crate::refusal::Refusal;
-use octets::{Octets, Texts};
+use crate::row::FromRow;
+use octets::Octets;
 use sqlite::{Error, Row};
-use std::alloc::Global;
 
 /// The text in the cell.
 pub fn text_at(row: &Row, at: usize) -> Result<Octets, Error>
@@ -43,16 +43,16 @@ pub fn first_text(rows: &[Row]) -> Result<Option<Octets>, Refusal>
     }
 }
 
-/// The texts in the rows, in their order.
-pub fn texts(alloc: Global, rows: &[Row]) -> Result<Texts, Refusal>
-    ensures ok { IfOk result (λ all. map (λ t. Blob t) all ≡ map (λ r. column r 0) rows.now) }
-    ensures named { IfErr result IsPassing }
-{
-    let mut all = Texts::new(alloc);
-    for row in rows {
-        all.push(text_at(row, 0)?)?;
+impl FromRow for Octets {
+    ghost use Rattle.mailstore.specs.Cells.{first_one, text_cells};
+
+    ghost cells_of = { first_one };
+
+    ghost shows = { text_cells };
+
+    fn from_row(row: &Row) -> Result<Octets, Refusal> {
+        Ok(text_at(row, 0)?)
     }
-    Ok(all)
 }
 
 /// The number as the database keeps it; past 2^63 - 1 it is refused.

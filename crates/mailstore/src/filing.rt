@@ -7,6 +7,7 @@ ghost use Rattle.mailstore.specs.Shows.{AreFilingRows, AreFilings};
 use crate::cell::text_at;
 use crate::refusal::Refusal;
 use crate::row::{FromRow, all_from_rows};
+use crate::statement::query;
 use crate::store::Store;
 use octets::{List, Octets};
 use sqlite::{Alter, Connection, Error, Row, params};
@@ -27,8 +28,8 @@ fn find_filings<S: Alter>(conn: &mut Connection<S>, owner: &[u8]) -> Result<Vec<
     requires { conn.old.in_transaction ≡ false }
     ensures { Queries S.Store (FindsAmong owner.now (λ rows. AreFilingRows owner.now rows.items)) conn.old conn.new result }
 {
-    let _settled = conn.is_autocommit();
-    conn.query_all(
+    query(
+        conn,
         "SELECT folder, n, id FROM copy WHERE owner = ?1 ORDER BY n",
         params![owner],
     )

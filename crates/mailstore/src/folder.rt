@@ -12,9 +12,10 @@ ghost use Rattle.mailstore.specs.Refusals.{IsPassing};
 ghost use Rattle.sqlite_value.specs.declared.value.Value.TheVariants.{Blob};
 ghost use Rattle.sqlite_value.specs.Order.{column};
 
-use crate::cell::{text_at, texts};
+use crate::cell::text_at;
 use crate::refusal::Refusal;
-use crate::statement::execute;
+use crate::row::all_from_rows;
+use crate::statement::{execute, query};
 use crate::store::Store;
 use octets::{List, Octets, Texts};
 use sqlite::{Alter, Connection, Error, Row, Transaction, params};
@@ -80,8 +81,8 @@ fn find_messages<S: Alter>(
     requires { conn.old.in_transaction ≡ false }
     ensures { Queries S.Store (Finds owner.now (AreMessageRows folder.now)) conn.old conn.new result }
 {
-    let _settled = conn.is_autocommit();
-    conn.query_all(
+    query(
+        conn,
         "SELECT message.bytes FROM copy JOIN message ON message.owner = copy.owner AND message.id = copy.id WHERE copy.owner = ?1 AND copy.folder = ?2 ORDER BY copy.n",
         params![owner, folder],
     )
@@ -92,8 +93,8 @@ fn find_folders<S: Alter>(conn: &mut Connection<S>, owner: &[u8]) -> Result<Vec<
     requires { conn.old.in_transaction ≡ false }
     ensures { Queries S.Store (Finds owner.now AreFolderRows) conn.old conn.new result }
 {
-    let _settled = conn.is_autocommit();
-    conn.query_all(
+    query(
+        conn,
         "SELECT folder FROM copy WHERE owner = ?1 ORDER BY folder",
         params![owner],
     )
@@ -147,7 +148,7 @@ impl<S: Alter> Store<S> {
         ensures { Reads user.now (λ messages a. messages ≡ messages_in a.folders folder.now) (state S.Store self.old) (state S.Store self.new) result }
     {
         let rows = self.message_rows(user, folder)?;
-        texts(self.alloc, &rows)
+        all_from_rows(self.alloc, &rows)
     }
 
     /// The rows with the folder of each copy, in the order of their octets.

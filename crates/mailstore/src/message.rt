@@ -10,7 +10,7 @@ ghost use Rattle.mailstore.specs.Schema.{schema_6, schema_7};
 
 use crate::cell::{first_text, number};
 use crate::refusal::Refusal;
-use crate::statement::execute;
+use crate::statement::{execute, query};
 use crate::store::Store;
 use octets::Octets;
 use sqlite::{Alter, Connection, Error, Row, Transaction, params};
@@ -66,8 +66,8 @@ fn find_message<S: Alter>(
     requires { conn.old.in_transaction ≡ false }
     ensures { Queries S.Store (FindsAmong owner.now (λ rows. AreOctetRows owner.now id.now rows.items)) conn.old conn.new result }
 {
-    let _settled = conn.is_autocommit();
-    conn.query_all(
+    query(
+        conn,
         "SELECT bytes FROM message WHERE owner = ?1 AND id = ?2",
         params![owner, id],
     )

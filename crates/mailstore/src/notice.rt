@@ -10,7 +10,7 @@ ghost use Rattle.mailstore.specs.Promises.{Finds, Reads, ReadsRows, Queries};
 use crate::cell::text_at;
 use crate::refusal::Refusal;
 use crate::row::{FromRow, all_from_rows};
-use crate::statement::execute;
+use crate::statement::{execute, query};
 use crate::store::Store;
 use octets::{List, Octets};
 use sqlite::{Alter, Connection, Error, Row, Transaction, params};
@@ -56,8 +56,8 @@ fn find_notices<S: Alter>(conn: &mut Connection<S>, owner: &[u8]) -> Result<Vec<
     requires { conn.old.in_transaction ≡ false }
     ensures { Queries S.Store (Finds owner.now AreNoticeRows) conn.old conn.new result }
 {
-    let _settled = conn.is_autocommit();
-    conn.query_all(
+    query(
+        conn,
         "SELECT moment, text FROM notice WHERE owner = ?1 ORDER BY id",
         params![owner],
     )

@@ -15,7 +15,7 @@ use crate::cell::{number, text_at};
 use crate::change::Change;
 use crate::refusal::Refusal;
 use crate::row::{FromRow, all_from_rows};
-use crate::statement::execute;
+use crate::statement::{execute, query};
 use crate::store::Store;
 use octets::{List, Octets};
 use sqlite::{Alter, Connection, Error, Row, Transaction, params};
@@ -118,8 +118,8 @@ fn find_queue<S: Alter>(conn: &mut Connection<S>, owner: &[u8]) -> Result<Vec<Ro
     requires { conn.old.in_transaction ≡ false }
     ensures { Queries S.Store (Finds owner.now AreQueueRows) conn.old conn.new result }
 {
-    let _settled = conn.is_autocommit();
-    conn.query_all(
+    query(
+        conn,
         "SELECT id, kind, sender, target, message FROM outgoing WHERE owner = ?1 ORDER BY id",
         params![owner],
     )

@@ -13,7 +13,7 @@ ghost use Rattle.mailstore.specs.Schema.{schema_4, schema_5};
 use crate::cell::text_at;
 use crate::refusal::Refusal;
 use crate::row::{FromRow, all_from_rows};
-use crate::statement::execute;
+use crate::statement::{execute, query};
 use crate::store::Store;
 use octets::{List, Octets};
 use sqlite::{Alter, Connection, Error, Row, Transaction, params};
@@ -81,8 +81,8 @@ fn find_moment<S: Alter>(
     requires { conn.old.in_transaction ≡ false }
     ensures { Queries S.Store (Finds owner.now (HasMomentRow (handle.now, sender.now))) conn.old conn.new result }
 {
-    let _settled = conn.is_autocommit();
-    conn.query_all(
+    query(
+        conn,
         "SELECT moment FROM reply WHERE owner = ?1 AND handle = ?2 AND sender = ?3",
         params![owner, handle, sender],
     )
@@ -97,8 +97,8 @@ fn find_replies<S: Alter>(
     requires { conn.old.in_transaction ≡ false }
     ensures { Queries S.Store (Finds owner.now (AreReplyRows sender.now)) conn.old conn.new result }
 {
-    let _settled = conn.is_autocommit();
-    conn.query_all(
+    query(
+        conn,
         "SELECT handle, moment FROM reply WHERE owner = ?1 AND sender = ?2 ORDER BY handle",
         params![owner, sender],
     )

@@ -10,10 +10,11 @@ ghost use Rattle.mailstore.specs.Schema.{schema_2, schema_3};
 ghost use Rattle.mailstore.specs.Account.{deletes_script, keeps_script, other_name, renames_script};
 ghost use Rattle.std.specs.FinMap.{get, keys};
 
-use crate::cell::{first_text, texts};
+use crate::cell::first_text;
 use crate::change::Change;
 use crate::refusal::Refusal;
-use crate::statement::execute;
+use crate::row::all_from_rows;
+use crate::statement::{execute, query};
 use crate::store::Store;
 use octets::{Octets, Texts};
 use sqlite::{Alter, Connection, Error, Row, Transaction, params};
@@ -69,8 +70,8 @@ fn find_script<S: Alter>(
     requires { conn.old.in_transaction ≡ false }
     ensures { Queries S.Store (Finds owner.now (HasTextRow name.now)) conn.old conn.new result }
 {
-    let _settled = conn.is_autocommit();
-    conn.query_all(
+    query(
+        conn,
         "SELECT text FROM script WHERE owner = ?1 AND name = ?2",
         params![owner, name],
     )
@@ -81,8 +82,8 @@ fn find_names<S: Alter>(conn: &mut Connection<S>, owner: &[u8]) -> Result<Vec<Ro
     requires { conn.old.in_transaction ≡ false }
     ensures { Queries S.Store (Finds owner.now AreNameRows) conn.old conn.new result }
 {
-    let _settled = conn.is_autocommit();
-    conn.query_all(
+    query(
+        conn,
         "SELECT name FROM script WHERE owner = ?1 ORDER BY name",
         params![owner],
     )
@@ -131,7 +132,7 @@ impl<S: Alter> Store<S> {
         ensures { Reads user.now (λ names a. names ≡ keys a.scripts) (state S.Store self.old) (state S.Store self.new) result }
     {
         let rows = self.name_rows(user)?;
-        texts(self.alloc, &rows)
+        all_from_rows(self.alloc, &rows)
     }
 
     /// Keeps the script under the name, in place of one that has it. What comes of a user without an

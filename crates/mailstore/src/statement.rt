@@ -1,8 +1,10 @@
-//! A statement inside a transaction.
+//! One statement: inside a transaction, or a query outside of one.
+ghost use Rattle.std.specs.Prelude.{◌≡◌, false};
 ghost use Rattle.sqlite.specs.Values.{bound};
 ghost use Rattle.mailstore.specs.Connection.{RunsStatement};
+ghost use Rattle.mailstore.specs.Promises.{Answers, Queries};
 
-use sqlite::{Alter, Error, Transaction};
+use sqlite::{Alter, Connection, Error, Row, Transaction};
 use sqlite_value::value::ValueRef;
 
 /// Runs the statement inside the transaction. How many rows it changes is not told.
@@ -15,4 +17,18 @@ pub fn execute<S: Alter>(
 {
     tx.execute(sql, params)?;
     Ok(())
+}
+
+/// All rows of the query's answer. Outside a transaction.
+pub fn query<S: Alter>(
+    conn: &mut Connection<S>,
+    sql: &str,
+    params: &[ValueRef<'_>],
+) -> Result<Vec<Row>, Error>
+    requires { conn.old.in_transaction ≡ false }
+    ensures { Queries S.Store (Answers sql.now (bound params.now)) conn.old conn.new result }
+{
+    // Outside a transaction what is seen is what was committed, which this call tells.
+    let _settled = conn.is_autocommit();
+    conn.query_all(sql, params)
 }

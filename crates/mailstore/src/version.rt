@@ -10,7 +10,7 @@ ghost use Rattle.mailstore.specs.Schema.{no_schema, schema_1};
 ghost use Rattle.sqlite_value.specs.declared.value.Value.TheVariants.{Int};
 ghost use Rattle.sqlite_value.specs.Order.{column};
 
-use crate::statement::execute;
+use crate::statement::{execute, query};
 use sqlite::{Alter, Connection, Error, Row, Transaction, params};
 
 /// Makes the table `meta`, inside a transaction.
@@ -40,8 +40,11 @@ fn find_version<S: Alter>(conn: &mut Connection<S>) -> Result<Vec<Row>, Error>
     requires { conn.old.in_transaction ≡ false }
     ensures { Queries S.Store (Asks (AreVersions (state S.Store conn.old).now.trees)) conn.old conn.new result }
 {
-    let _settled = conn.is_autocommit();
-    conn.query_all("SELECT value FROM meta WHERE item = ?1", params!["version"])
+    query(
+        conn,
+        "SELECT value FROM meta WHERE item = ?1",
+        params!["version"],
+    )
 }
 
 /// Whether the row of the version is there once, and says 2.

@@ -15,5 +15,5 @@ returns-in_err-rows g c =
 
 pub returns : goal.returns
 returns g c =
-    reads_answer c.args.user.now (λ (rows : Vec Row Global). AreMessageRows c.args.folder.now rows.items) (λ messages a. messages ≡ messages_in a.folders c.args.folder.now) (state g.S.Store c.args.self.now) (state g.S.Store c.message_rows.new.self) c.message_rows.result c.in_ok-rows.rows c.in_ok-rows.was c.texts.result c.texts.ensures.named
-    (λ a is. texts_are c.texts.result c.deref.result.now (messages_in a.folders c.args.folder.now) (c.deref.ensures.value ∙ is) c.texts.ensures.ok) c.message_rows.ensures
+    reads_answer c.args.user.now (λ (rows : Vec Row Global). AreMessageRows c.args.folder.now rows.items) (λ messages a. messages ≡ messages_in a.folders c.args.folder.now) (state g.S.Store c.args.self.now) (state g.S.Store c.message_rows.new.self) c.message_rows.result c.in_ok-rows.rows c.in_ok-rows.was c.all_from_rows.result c.all_from_rows.ensures.named
+    (λ a is. texts_are c.all_from_rows.result c.deref.result.now (messages_in a.folders c.args.folder.now) (c.deref.ensures.value ∙ is) c.all_from_rows.ensures.ok) c.message_rows.ensures
