@@ -1,10 +1,10 @@
 -- Messages that leave a folder for a sink by example: a right one, and near misses.
-use Rattle.std.proofs.Common.{◌≡◌, ℕ, List, [], ◌∷◌, ◌++◌, take, true, Some, refl, sym, ◌∙◌, ap, subst, inl, inr, codes}
+use Rattle.std.proofs.Common.{◌≡◌, ℕ, List, [], ◌∷◌, ◌++◌, take, true, Some, refl, sym, ◌∙◌, ap, subst, inr, codes}
 use Rattle.std.specs.FinMap.{get}
 use Rattle.mailstore.specs.Account.{Account, Accounts, with_user, messages_in, takes_mail}
 use Rattle.mailengine.specs.declared.answer.Answer.TheVariants.{MailTaken}
 use Rattle.mailengine.specs.AccountEvents.{TakesFirst, TakesMailIn}
-use Rattle.sievedrun.specs.Draining.{mail_of, mail_in, GrowsBy, Moved, StoppedShort, AllMoved, LostNone}
+use Rattle.sievedrun.specs.Draining.{mail_of, mail_in, GrowsBy, Moved, StoppedShort, LostNone}
 use Rattle.sievedrun.proofs.LeaveLemmas.{leave_one}
 
 abbrev alice : List ℕ

@@ -76,9 +76,6 @@ module _ (user folder : List ℕ) where
 
   -- ---- several, in turn
 
-  pub leave_none : (accounts : Accounts) → Leave user folder 0 accounts accounts
-  leave_none accounts = refl
-
   pub none_left : (accounts later : Accounts) → Leave user folder 0 accounts later → later ≡ accounts
   none_left accounts later is = ap (λ (w : World). w.accounts) is
 

@@ -24,14 +24,7 @@ use Rattle.mailstore.specs.declared.report.Report.{Report}
 use Rattle.sievedrun.specs.declared.fault.Fault.{Fault}
 use Rattle.sievedrun.specs.declared.fault.Fault.TheVariants.{Stream}
 use Rattle.sievedrun.specs.Faults.{status_of, fault_of, IsFailure}
-use Rattle.sievedrun.specs.Promise.{status_after, Brings, Takes, MayFollow, world_of, IsOne, AreTakings, AreOfWord, ShowsAfter, Leaves, LeavesAll, LeavesAfterAll, LeavesAfter, LeavesNew, LeavesSound}
-
--- what was left alone
-pub leaves_same : (Changed : Accounts → Database → Type 0) (Made : Database → Type 0) (old new : Database) → new ≡ old → Leaves Changed Made old new
-leaves_same Changed Made old new same = record {
-  accounts = λ accounts p. inl (subst (λ db. Presents db accounts) (sym same) p);
-  none = λ blank. inl (ap (λ (db : Database). db.schema) same ∙ blank);
-}
+use Rattle.sievedrun.specs.Promise.{status_after, Brings, Takes, MayFollow, world_of, IsOne, AreOfWord, ShowsAfter, Leaves, LeavesAll, LeavesAfter, LeavesNew, LeavesSound}
 
 -- what may be left is told less exactly
 pub leaves_wider : (Changed Wider : Accounts → Database → Type 0) (Made More : Database → Type 0) (old new : Database) → ((accounts : Accounts) → Changed accounts new → Wider accounts new) → (Made new → More new)
@@ -145,9 +138,6 @@ on_ok_anyway (Err e) P p = tt
 abbrev Sound : Option (List ℕ) → ℕ → Accounts → Database → Type 0
 Sound given status = ShowsAfter (AreOfWord given) status
 
-pub sound_same : (given : Option (List ℕ)) (status : ℕ) (old new : Database) → new ≡ old → LeavesSound given status old new
-sound_same given status old new same = leaves_same (Sound given status) (λ db. Presents db no_accounts) old new same
-
 pub sound_all : (given : Option (List ℕ)) (status : ℕ) (old new : Database) → LeavesAll old new → LeavesSound given status old new
 sound_all given status old new leaves = leaves_wider (λ _ _. ⊥) (Sound given status) (λ _. ⊥) (λ db. Presents db no_accounts) old new (λ accounts h. absurd h) (λ h. absurd h) leaves
 
@@ -163,11 +153,6 @@ sound_after given status told old new is leaves =
 pub sound_taken : (given : Option (List ℕ)) (status : ℕ) (user digits : List ℕ) (old new : Database) → LeavesAfter (Takes user digits) status old new → LeavesSound given status old new
 sound_taken given status user digits old new leaves =
     sound_after given status status old new refl (after_later (Takes user digits) (Brings given) status status (λ event h. subst (Brings given) (sym h.2) tt) (λ may. may) old new leaves)
-
-pub sound_moved : (given : Option (List ℕ)) (status : ℕ) (user folder : List ℕ) (old new : Database) → LeavesAfterAll (AreTakings user folder) status old new → LeavesSound given status old new
-sound_moved given status user folder old new leaves =
-    leaves_wider (ShowsAfter (AreTakings user folder) status) (Sound given status) (λ _. ⊥) (λ db. Presents db no_accounts) old new
-    (λ accounts. shows_later (AreTakings user folder) (AreOfWord given) status status (λ events are. inr (user, folder, are)) (λ may. may) accounts new) (λ h. absurd h) leaves
 
 -- a step that may fail to write, or to get memory, doesn't deny what came before it
 pub step_may_follow : {X : Type 0} (r : Result X Fault) → IfErr r IsFailure → MayFollow (status_after r)

@@ -1,8 +1,7 @@
 -- Lemmas on what a run of reads takes from an input and a run of writes gives to an output.
 use Rattle.std.proofs.Common.{◌≡◌, ℕ, ◌+◌, List, [], ◌++◌, Option, Some, None, refl, sym, ap, ◌∙◌, subst, append_assoc, append-nil, take, drop}
 use Rattle.std.proofs.Math.Seq.{take-add}
-use Rattle.std.specs.Io.KnownBytes.{Appends, Consumes, IsAtEnd, Keeps}
-use Rattle.sievedrun.specs.Streams.{ReadsAll}
+use Rattle.std.specs.Io.KnownBytes.{Appends, Consumes, Keeps}
 
 -- before the first read nothing is taken
 pub nothing_read : (a : Option (List ℕ)) → Consumes a a []
@@ -22,12 +21,6 @@ read_none None b c read first kept = tt
 read_none (Some x) None c read first kept = absurd first
 read_none (Some x) (Some y) None read first kept = absurd kept
 read_none (Some x) (Some y) (Some z) read first kept = first ∙ ap (λ l. read ++ l) (sym kept)
-
--- at the end of the input all of it is read
-pub all_read : (a b : Option (List ℕ)) (read : List ℕ) → Consumes a b read → IsAtEnd b → ReadsAll a read
-all_read None b read first end = tt
-all_read (Some x) None read first end = absurd first
-all_read (Some x) (Some y) read first end = sym (first ∙ ap (λ l. read ++ l) end ∙ append-nil read)
 
 -- the filled front of the room, and what one read put behind it
 pub filled_on : (a b c : Option (List ℕ)) (old new : List ℕ) (filled n : ℕ) → take filled new ≡ take filled old → Consumes a b (take filled old) → Consumes b c (take n (drop filled new)) → Consumes a c (take (filled + n) new)

@@ -8,14 +8,14 @@ ghost use Rattle.mailengine.specs.declared.event.Event.TheVariants.{Deliver, Add
 ghost use Rattle.sievedrun.specs.Faults.{IsFailure};
 ghost use Rattle.sievedrun.specs.Promise.{Brings, LeavesAll, LeavesAfter, MayCome, LeavesNew, status_after};
 
-use crate::account_read::{FoldersOf, MessagesOf, read_once};
+use crate::account_read::{MessagesOf, read_once};
 use crate::fault::Fault;
 use crate::stream::{read_all, write_all};
 use crate::values::{decimal, envelope_of, first_line, moment_of, salt_of};
 use keepers::Keeper;
 use mailengine::{Envelope, Report, add_user, deliver};
-use mailstore::{Folder, Store};
-use octets::{Octets, write_decimal};
+use mailstore::Store;
+use octets::Octets;
 use reportlines::of_report;
 use sievedwords::Place;
 use std::alloc::{AllocError, Global};
@@ -173,33 +173,6 @@ fn print_report<W: Write>(alloc: Global, report: &Report, output: &mut W) -> Res
 {
     let text = of_report(alloc, report)?;
     write_all(output, text.as_slice())
-}
-
-/// `folders`: a user's folders, each with the number of its messages.
-pub fn run_folders<W: Write, K: Keeper>(
-    alloc: Global,
-    place: Place<'_>,
-    user: &str,
-    output: &mut W,
-    keeper: &mut K,
-) -> Result<(), Fault>
-    ensures back { K.is_out keeper.old ≡ false → K.is_out keeper.new ≡ false }
-    ensures leaves { IsTrue K.tells → LeavesAll (K.holds keeper.old) (K.holds keeper.new) }
-{
-    let folders = read_once(place, &FoldersOf(user), keeper)?;
-    let text = folder_lines(alloc, folders.as_slice())?;
-    write_all(output, text.as_slice())
-}
-
-fn folder_lines(alloc: Global, folders: &[Folder]) -> Result<Octets, AllocError> {
-    let mut text = Octets::new(alloc);
-    for folder in folders {
-        text.extend_from_slice(folder.name.as_slice())?;
-        text.push(b' ')?;
-        write_decimal(&mut text, folder.count)?;
-        text.push(b'\n')?;
-    }
-    Ok(text)
 }
 
 /// `show`: a message of a user's folder, by its number from 1.

@@ -3,12 +3,12 @@ ghost use Rattle.std.specs.Prelude.{◌≡◌, false, IsTrue};
 ghost use Rattle.sievedrun.specs.Draining.{KeepsMail};
 ghost use Rattle.sievedrun.specs.Promise.{LeavesAll, LeavesSound, status_after};
 
-use crate::commands::{
-    NewUser, Posting, run_adduser, run_deliver, run_folders, run_init, run_show,
-};
+use crate::account_read::{FoldersOf, NoticesOf, QueueOf};
+use crate::commands::{NewUser, Posting, run_adduser, run_deliver, run_init, run_show};
 use crate::drain::{Draining, run_drain};
 use crate::fault::{Fault, refuse};
-use crate::queue::{run_done, run_notices, run_queue, run_queued};
+use crate::listing::run_listing;
+use crate::queue::{run_done, run_queued};
 use crate::stream::write_all;
 use crate::trial::try_run;
 use crate::values::envelope_of;
@@ -147,7 +147,13 @@ fn look<W: Write, K: Keeper>(
     ensures leaves { IsTrue K.tells → LeavesAll (K.holds keeper.old) (K.holds keeper.new) }
 {
     match asked {
-        Asked::Folders { place, user } => run_folders(alloc, place, user, output, keeper),
+        Asked::Folders { place, user } => run_listing(
+            alloc,
+            place,
+            &FoldersOf(user),
+            output,
+            keeper,
+        ),
         Asked::Show {
             place,
             user,
@@ -158,13 +164,19 @@ fn look<W: Write, K: Keeper>(
             place,
             user,
             id: None,
-        } => run_queue(alloc, place, user, output, keeper),
+        } => run_listing(alloc, place, &QueueOf(user), output, keeper),
         Asked::Queue {
             place,
             user,
             id: Some(id),
         } => run_queued(place, user, id, output, keeper),
-        Asked::Notices { place, user } => run_notices(alloc, place, user, output, keeper),
+        Asked::Notices { place, user } => run_listing(
+            alloc,
+            place,
+            &NoticesOf(user),
+            output,
+            keeper,
+        ),
         _ => Err(Fault::BadArgument),
     }
 }

@@ -7,7 +7,7 @@ ghost use Rattle.sievedrun.specs.Framing.{Counts, IsFramed};
 use octets::parse_decimal;
 
 /// A count of more digits than this is none.
-const MOST_DIGITS: usize = 9;
+const MAX_DIGITS: usize = 9;
 
 /// A script and the message that it is tried on, as they stand in the input.
 #[derive(Clone, Copy)]
@@ -40,7 +40,7 @@ fn counted(input: &[u8]) -> Option<(u64, &[u8])>
         (λ r. Counts input.now r.0 r.1.now) }
 {
     let len = digits_len(input);
-    if len > MOST_DIGITS {
+    if len > MAX_DIGITS {
         return None;
     }
     let (digits, behind) = input.split_at(len);

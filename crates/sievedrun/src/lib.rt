@@ -8,6 +8,7 @@ mod drain;
 pub mod drive;
 pub mod fault;
 mod framing;
+mod listing;
 mod queue;
 pub mod session;
 mod stream;

@@ -1,9 +1,9 @@
-//! The words on what leaves the store: a user's queue, and the notices on deliveries.
+//! The words on one message of a user's queue: its octets, and that it went out.
 ghost use Rattle.std.specs.Prelude.{◌≡◌, ◌≢◌, false, IsTrue};
 ghost use Rattle.mailengine.specs.declared.event.Event.TheVariants.{TakeOut};
 ghost use Rattle.sievedrun.specs.Promise.{LeavesAll, LeavesAfter, MayCome, Takes, status_after};
 
-use crate::account_read::{NoticesOf, QueueOf, read_once};
+use crate::account_read::{QueueOf, read_once};
 use crate::commands::taken;
 use crate::fault::Fault;
 use crate::stream::write_all;
@@ -11,26 +11,9 @@ use crate::values::decimal;
 use keepers::Keeper;
 use mailengine::take_out;
 use octets::{Octets, write_decimal};
-use reportlines::{of_notices, of_queue};
 use sievedwords::Place;
 use std::alloc::{AllocError, Global};
 use std::io::Write;
-
-/// `queue`: a user's messages on their way out, a line for each.
-pub fn run_queue<W: Write, K: Keeper>(
-    alloc: Global,
-    place: Place<'_>,
-    user: &str,
-    output: &mut W,
-    keeper: &mut K,
-) -> Result<(), Fault>
-    ensures back { K.is_out keeper.old ≡ false → K.is_out keeper.new ≡ false }
-    ensures leaves { IsTrue K.tells → LeavesAll (K.holds keeper.old) (K.holds keeper.new) }
-{
-    let queue = read_once(place, &QueueOf(user), keeper)?;
-    let text = of_queue(alloc, queue.as_slice())?;
-    write_all(output, text.as_slice())
-}
 
 /// `queue` with a number: the octets of that message.
 pub fn run_queued<W: Write, K: Keeper>(
@@ -91,20 +74,4 @@ fn taken_line(alloc: Global, id: u64) -> Result<Octets, AllocError> {
     write_decimal(&mut line, id)?;
     line.push(b'\n')?;
     Ok(line)
-}
-
-/// `notices`: what went wrong in a user's deliveries, a line for each.
-pub fn run_notices<W: Write, K: Keeper>(
-    alloc: Global,
-    place: Place<'_>,
-    user: &str,
-    output: &mut W,
-    keeper: &mut K,
-) -> Result<(), Fault>
-    ensures back { K.is_out keeper.old ≡ false → K.is_out keeper.new ≡ false }
-    ensures leaves { IsTrue K.tells → LeavesAll (K.holds keeper.old) (K.holds keeper.new) }
-{
-    let notices = read_once(place, &NoticesOf(user), keeper)?;
-    let text = of_notices(alloc, notices.as_slice())?;
-    write_all(output, text.as_slice())
 }

@@ -20,13 +20,13 @@ use std::alloc::Global;
 use std::io::{Read, Write};
 
 /// A session that needs more reads than this is ended.
-const MOST_READS: u32 = 40_000_000;
+const MAX_READS: u32 = 40_000_000;
 
 /// So many octets are read at once at most.
 const PIECE: usize = 4096;
 
 /// Answers of so many octets, or more, aren't held back for those of other commands.
-const MOST_WAITING: usize = 65_536;
+const MAX_WAITING: usize = 65_536;
 
 /// Serves one client of ManageSieve (RFC 5804) over a reader and a writer: greets, and answers each command as soon as it
 /// is whole, over the store at the path, which is taken for that step alone and handed back before the answer is written.
@@ -91,7 +91,7 @@ fn converse<R: Read, W: Write, K: Keeper>(
     ensures none { IsTrue K.tells → (K.holds keeper.old).schema ≡ no_schema → (K.holds keeper.new).schema ≡ no_schema }
 {
     let mut piece = [0u8; PIECE];
-    for _ in 0..MOST_READS {
+    for _ in 0..MAX_READS {
         let Some(len) = read_at(input, &mut piece, 0)? else {
             return Ok(());
         };
@@ -145,7 +145,7 @@ fn answer_first<W: Write, K: Keeper>(
     ensures none { IsTrue K.tells → (K.holds keeper.old).schema ≡ no_schema → (K.holds keeper.new).schema ≡ no_schema }
 {
     if step_over_store(session, path, answers, keeper) {
-        if answers.len() < MOST_WAITING {
+        if answers.len() < MAX_WAITING {
             return Ok(());
         }
         return write_out(alloc, output, answers);

@@ -10,7 +10,7 @@ use std::io;
 use std::io::{ErrorKind, Read, Write};
 
 /// An input that needs more reads than this is given up.
-const MOST_READS: u32 = 40_000_000;
+const MAX_READS: u32 = 40_000_000;
 
 /// So much room is made for a read, in octets, once the last one is full.
 const PIECE: usize = 262_144;
@@ -22,7 +22,7 @@ pub fn read_all<R: Read>(alloc: Global, input: &mut R) -> Result<Vec<u8>, Fault>
 {
     let mut octets = Vec::new(alloc);
     let mut filled = 0;
-    for _ in 0..MOST_READS {
+    for _ in 0..MAX_READS {
         make_room(&mut octets, filled)?;
         match read_at(input, octets.as_mut_slice(), filled)? {
             Some(more) => filled += more,

@@ -5,9 +5,9 @@ use Rattle.octets.specs.Decimal.{Writes}
 use Rattle.sievedrun.proofs.FramingLemmas.{cut, counts_small}
 use Rattle.sievedrun.proofs.framing.counted.Goals as goal
 
-pub returns-then-len-gt-MOST_DIGITS : goal.returns-then-len-gt-MOST_DIGITS
-returns-then-len-gt-MOST_DIGITS c number rest counts =
-    omega (arith, (cut c.args.input.now number rest counts).short, c.digits_len-len.ensures, c.if-len-gt-MOST_DIGITS.true)
+pub returns-then-len-gt-MAX_DIGITS : goal.returns-then-len-gt-MAX_DIGITS
+returns-then-len-gt-MAX_DIGITS c number rest counts =
+    omega (arith, (cut c.args.input.now number rest counts).short, c.digits_len-len.ensures, c.if-len-gt-MAX_DIGITS.true)
 
 pub split_at-requires : goal.split_at-requires
 split_at-requires c = omega (arith, c.digits_len-len.ensures, prefix_len-le-length is_digit c.args.input.now)

@@ -7,8 +7,8 @@ use Rattle.sievedrun.specs.Streams.{AppendsFront}
 use Rattle.sievedrun.proofs.ServingLemmas.{first_stepped, first_written, first_given_up, interrupted_none}
 use Rattle.sievedrun.proofs.session.answer_first.Goals as goal
 
-pub returns-then-len-lt-MOST_WAITING-clause-answers : goal.returns-then-len-lt-MOST_WAITING-clause-answers
-returns-then-len-lt-MOST_WAITING-clause-answers g c tells accounts shown =
+pub returns-then-len-lt-MAX_WAITING-clause-answers : goal.returns-then-len-lt-MAX_WAITING-clause-answers
+returns-then-len-lt-MAX_WAITING-clause-answers g c tells accounts shown =
     first_stepped accounts c.args.session.now.client c.step_over_store.new.session.client (g.W.Write.contents c.args.output.now) c.args.answers.now c.step_over_store.new.answers (g.K.Keeper.holds c.step_over_store.new.keeper)
     c.requires (c.if-step_over_store.ensures.steps tells accounts shown)
 

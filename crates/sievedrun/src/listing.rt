@@ -1,0 +1,66 @@
+//! The words that list what is in a user's account: `folders`, `queue`, `notices`.
+ghost use Rattle.std.specs.Prelude.{◌≡◌, false, IsTrue};
+ghost use Rattle.sievedrun.specs.Promise.{LeavesAll};
+
+use crate::account_read::{AccountRead, FoldersOf, NoticesOf, QueueOf, read_once};
+use crate::fault::Fault;
+use crate::stream::write_all;
+use keepers::Keeper;
+use mailstore::{Folder, Notice, Outgoing};
+use octets::{List, Octets, write_decimal};
+use reportlines::{of_notices, of_queue};
+use sievedwords::Place;
+use std::alloc::{AllocError, Global};
+use std::io::Write;
+
+/// What is listed of a user's account, a line for each thing that is found.
+pub trait Listing: AccountRead {
+    /// The lines. The error: memory.
+    fn lines(alloc: Global, found: &Self::Found) -> Result<Octets, AllocError>;
+}
+
+impl Listing for FoldersOf<'_> {
+    fn lines(alloc: Global, found: &List<Folder>) -> Result<Octets, AllocError> {
+        folder_lines(alloc, found.as_slice())
+    }
+}
+
+impl Listing for QueueOf<'_> {
+    fn lines(alloc: Global, found: &List<Outgoing>) -> Result<Octets, AllocError> {
+        of_queue(alloc, found.as_slice())
+    }
+}
+
+impl Listing for NoticesOf<'_> {
+    fn lines(alloc: Global, found: &List<Notice>) -> Result<Octets, AllocError> {
+        of_notices(alloc, found.as_slice())
+    }
+}
+
+/// Each folder with the number of its messages.
+fn folder_lines(alloc: Global, folders: &[Folder]) -> Result<Octets, AllocError> {
+    let mut text = Octets::new(alloc);
+    for folder in folders {
+        text.extend_from_slice(folder.name.as_slice())?;
+        text.push(b' ')?;
+        write_decimal(&mut text, folder.count)?;
+        text.push(b'\n')?;
+    }
+    Ok(text)
+}
+
+/// Prints what is listed.
+pub fn run_listing<Q: Listing, W: Write, K: Keeper>(
+    alloc: Global,
+    place: Place<'_>,
+    wanted: &Q,
+    output: &mut W,
+    keeper: &mut K,
+) -> Result<(), Fault>
+    ensures back { K.is_out keeper.old ≡ false → K.is_out keeper.new ≡ false }
+    ensures leaves { IsTrue K.tells → LeavesAll (K.holds keeper.old) (K.holds keeper.new) }
+{
+    let found = read_once(place, wanted, keeper)?;
+    let text = Q::lines(alloc, &found)?;
+    write_all(output, text.as_slice())
+}
