@@ -66,7 +66,7 @@ class House:
         return Counter(open(f"{path}/{name}", "rb").read() for name in os.listdir(path))
 
     def check(self, folder, doubles):
-        """Each delivered message is there, and at most so many are in the store and in the Maildir. Answers how many are."""
+        """Each delivered message is there, and at most that many are in the store and in the Maildir. Answers how many are."""
         both = self.stored(folder) + self.kept(folder)
         lost, more = self.delivered - both, both - self.delivered
         assert not lost, f"{folder}: {sum(lost.values())} messages are lost"

@@ -47,7 +47,7 @@ does('put', $client->installScript('rules', $rules));
 does('put another and activate it', $client->installScript('täglich "b"', "keep;\r\n", true));
 refuses('put what is wrong', $client->installScript('wrong', "keep;\r\nfileinto \"lists\";\r\n"), 'line 2: extension not required');
 step('list the active one', $client->listScripts($active) == ['rules', 'täglich "b"'] && $active == 'täglich "b"', $active);
-step('get (it adds the line end behind the literal)', $client->getScript('rules') === "$rules\r\n", $client->getScript('rules'));
+step('get (it adds the line end after the literal)', $client->getScript('rules') === "$rules\r\n", $client->getScript('rules'));
 refuses('delete the active one', $client->removeScript('täglich "b"'), 'Script is active.');
 does('activate', $client->setActive('rules'));
 does('delete', $client->removeScript('täglich "b"'));

@@ -304,7 +304,7 @@ class Stream:
         self.rng, self.user, self.unit, self.rest = rng, user, None, ""
 
     def begin(self):
-        """The next command. Behind the beginning of an exchange comes one line."""
+        """The next command. After the beginning of an exchange comes one line."""
         texts = [("cancel",), ("text", (self.user, PASSWORDS[self.user])), ("text", (self.user, "wrong")), ("noop",)]
         begun, login = self.unit == ("authenticate", None), ("authenticate", (self.user, PASSWORDS[self.user]))
         self.unit = self.rng.choice(texts) if begun else chosen_unit(self.rng, self.user) if self.unit else login

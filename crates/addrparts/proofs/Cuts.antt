@@ -8,8 +8,8 @@ use Rattle.octets.specs.Ascii.{is_blank}
 use Rattle.addrparts.specs.declared.scanner.Kind.{Kind}
 use Rattle.addrparts.specs.declared.scanner.Kind.TheVariants as K
 use Rattle.addrparts.specs.Pieces.{Piece, kind_of, is_atom, is_atom_kind, is_stray, IsEnclosed, IsComment, IsClosed, IsSingle, AreAtoms, IsNoAtom, IsUnclosed, IsShape, Cut, written, noted}
-use Rattle.addrparts.specs.Reading.{front, front_of, closed, len_before, behind, behind_comment, pieces}
-use Rattle.addrparts.proofs.Enclosed.{written-append, noted-append, behind-again, behind-is, comment-again, comment-is}
+use Rattle.addrparts.specs.Reading.{front, front_of, closed, len_before, after_close, after_comment, pieces}
+use Rattle.addrparts.proofs.Enclosed.{written-append, noted-append, after-again, after-is, comment-again, comment-is}
 use Rattle.addrparts.proofs.Fronts.{pieces-next, pieces-nil}
 
 -- the kinds that begin with one octet alone
@@ -107,7 +107,7 @@ quoted-begins text rest e =
       octet = 34;
       others = body ++ rest;
       is = ap (λ s. s ++ rest) e.spelled;
-      front = closed-again K.Quoted (body ++ rest) body rest (behind 34 false (body ++ rest)) refl (ap (behind 34 false) (written-append e.inside (34 ∷ []) rest) ∙ behind-again 34 e.inside rest refl e.plain) ∙ ap (λ s. pair K.Quoted (length s)) (sym e.spelled);
+      front = closed-again K.Quoted (body ++ rest) body rest (after_close 34 false (body ++ rest)) refl (ap (after_close 34 false) (written-append e.inside (34 ∷ []) rest) ∙ after-again 34 e.inside rest refl e.plain) ∙ ap (λ s. pair K.Quoted (length s)) (sym e.spelled);
     }
 
 literal-begins : (text rest : List ℕ) → IsEnclosed 91 93 text → Begins K.Literal text rest
@@ -117,7 +117,7 @@ literal-begins text rest e =
       octet = 91;
       others = body ++ rest;
       is = ap (λ s. s ++ rest) e.spelled;
-      front = closed-again K.Literal (body ++ rest) body rest (behind 93 false (body ++ rest)) refl (ap (behind 93 false) (written-append e.inside (93 ∷ []) rest) ∙ behind-again 93 e.inside rest refl e.plain) ∙ ap (λ s. pair K.Literal (length s)) (sym e.spelled);
+      front = closed-again K.Literal (body ++ rest) body rest (after_close 93 false (body ++ rest)) refl (ap (after_close 93 false) (written-append e.inside (93 ∷ []) rest) ∙ after-again 93 e.inside rest refl e.plain) ∙ ap (λ s. pair K.Literal (length s)) (sym e.spelled);
     }
 
 comment-begins : (text rest : List ℕ) → IsComment text → Begins K.Comment text rest
@@ -127,7 +127,7 @@ comment-begins text rest e =
       octet = 40;
       others = body ++ rest;
       is = ap (λ s. s ++ rest) e.spelled;
-      front = closed-again K.Comment (body ++ rest) body rest (behind_comment 0 false (body ++ rest)) refl (ap (behind_comment 0 false) (noted-append e.notes (41 ∷ []) rest) ∙ comment-again e.notes rest e.plain) ∙ ap (λ s. pair K.Comment (length s)) (sym e.spelled);
+      front = closed-again K.Comment (body ++ rest) body rest (after_comment 0 false (body ++ rest)) refl (ap (after_comment 0 false) (noted-append e.notes (41 ∷ []) rest) ∙ comment-again e.notes rest e.plain) ∙ ap (λ s. pair K.Comment (length s)) (sym e.spelled);
     }
 
 single-begins : (kind : Kind) (text rest : List ℕ) → ((others : List ℕ) → front_of kind others ≡ pair kind 1) → IsSingle kind text → Begins kind text rest
@@ -152,20 +152,20 @@ none-of None never = refl
 none-of (Some rest) never = absurd (never rest refl)
 
 -- no end was found where no front is closed
-quoted-none : (octet : ℕ) (more : List ℕ) → kind_of octet ≡ K.Quoted → ((front back : List ℕ) → octet ∷ more ≡ front ++ back → IsClosed (kind_of octet) front → ⊥) → behind 34 false more ≡ None
-quoted-none octet more kind never = none-of (behind 34 false more) (λ rest found.
-    let e = behind-is 34 more rest found in
+quoted-none : (octet : ℕ) (more : List ℕ) → kind_of octet ≡ K.Quoted → ((front back : List ℕ) → octet ∷ more ≡ front ++ back → IsClosed (kind_of octet) front → ⊥) → after_close 34 false more ≡ None
+quoted-none octet more kind never = none-of (after_close 34 false more) (λ rest found.
+    let e = after-is 34 more rest found in
     never (34 ∷ written e.inside (34 ∷ [])) rest (ap (λ b. b ∷ more) (quoted-octet octet kind) ∙ ap (λ s. 34 ∷ s) (e.is ∙ sym (written-append e.inside (34 ∷ []) rest)))
     (subst (λ k. IsClosed k (34 ∷ written e.inside (34 ∷ []))) (sym kind) (record { inside = e.inside; plain = e.plain; spelled = refl })))
 
-literal-none : (octet : ℕ) (more : List ℕ) → kind_of octet ≡ K.Literal → ((front back : List ℕ) → octet ∷ more ≡ front ++ back → IsClosed (kind_of octet) front → ⊥) → behind 93 false more ≡ None
-literal-none octet more kind never = none-of (behind 93 false more) (λ rest found.
-    let e = behind-is 93 more rest found in
+literal-none : (octet : ℕ) (more : List ℕ) → kind_of octet ≡ K.Literal → ((front back : List ℕ) → octet ∷ more ≡ front ++ back → IsClosed (kind_of octet) front → ⊥) → after_close 93 false more ≡ None
+literal-none octet more kind never = none-of (after_close 93 false more) (λ rest found.
+    let e = after-is 93 more rest found in
     never (91 ∷ written e.inside (93 ∷ [])) rest (ap (λ b. b ∷ more) (literal-octet octet kind) ∙ ap (λ s. 91 ∷ s) (e.is ∙ sym (written-append e.inside (93 ∷ []) rest)))
     (subst (λ k. IsClosed k (91 ∷ written e.inside (93 ∷ []))) (sym kind) (record { inside = e.inside; plain = e.plain; spelled = refl })))
 
-comment-none : (octet : ℕ) (more : List ℕ) → kind_of octet ≡ K.Comment → ((front back : List ℕ) → octet ∷ more ≡ front ++ back → IsClosed (kind_of octet) front → ⊥) → behind_comment 0 false more ≡ None
-comment-none octet more kind never = none-of (behind_comment 0 false more) (λ rest found.
+comment-none : (octet : ℕ) (more : List ℕ) → kind_of octet ≡ K.Comment → ((front back : List ℕ) → octet ∷ more ≡ front ++ back → IsClosed (kind_of octet) front → ⊥) → after_comment 0 false more ≡ None
+comment-none octet more kind never = none-of (after_comment 0 false more) (λ rest found.
     let e = comment-is more rest found in
     never (40 ∷ noted e.notes (41 ∷ [])) rest (ap (λ b. b ∷ more) (comment-octet octet kind) ∙ ap (λ s. 40 ∷ s) (e.is ∙ sym (noted-append e.notes (41 ∷ []) rest)))
     (subst (λ k. IsClosed k (40 ∷ noted e.notes (41 ∷ []))) (sym kind) (record { notes = e.notes; plain = e.plain; spelled = refl })))
@@ -217,35 +217,35 @@ bad-shape octet others opens never =
     let whole : take (1 + length others) (octet ∷ others) ≡ octet ∷ others = take_all (1 + length others) (octet ∷ others) (omega arith) in
     inr (record { octet = octet; more = others; begins = whole; opens = opens; never = λ front back is. never front back (sym whole ∙ is) }, drop_all (1 + length others) (octet ∷ others) (omega arith))
 
-enclosed-behind : (opening' close octet : ℕ) (others front back : List ℕ) → (92 == close) ≡ false → octet ∷ others ≡ front ++ back → IsEnclosed opening' close front → behind close false others ≡ Some back
-enclosed-behind opening' close octet others front back other is e =
+enclosed-after : (opening' close octet : ℕ) (others front back : List ℕ) → (92 == close) ≡ false → octet ∷ others ≡ front ++ back → IsEnclosed opening' close front → after_close close false others ≡ Some back
+enclosed-after opening' close octet others front back other is e =
     let all : octet ∷ others ≡ opening' ∷ written e.inside (close ∷ back) = is ∙ ap (λ s. s ++ back) e.spelled ∙ ap (λ s. opening' ∷ s) (written-append e.inside (close ∷ []) back) in
     let tail : others ≡ written e.inside (close ∷ back) = cc in
-    ap (behind close false) tail ∙ behind-again close e.inside back other e.plain
+    ap (after_close close false) tail ∙ after-again close e.inside back other e.plain
 
-comment-behind : (octet : ℕ) (others front back : List ℕ) → octet ∷ others ≡ front ++ back → IsComment front → behind_comment 0 false others ≡ Some back
-comment-behind octet others front back is e =
+comment-after : (octet : ℕ) (others front back : List ℕ) → octet ∷ others ≡ front ++ back → IsComment front → after_comment 0 false others ≡ Some back
+comment-after octet others front back is e =
     let all : octet ∷ others ≡ 40 ∷ noted e.notes (41 ∷ back) = is ∙ ap (λ s. s ++ back) e.spelled ∙ ap (λ s. 40 ∷ s) (noted-append e.notes (41 ∷ []) back) in
     let tail : others ≡ noted e.notes (41 ∷ back) = cc in
-    ap (behind_comment 0 false) tail ∙ comment-again e.notes back e.plain
+    ap (after_comment 0 false) tail ∙ comment-again e.notes back e.plain
 
-quoted-shape : (octet : ℕ) (others : List ℕ) (found : Option (List ℕ)) → behind 34 false others ≡ found → kind_of octet ≡ K.Quoted → Shaped (closed K.Quoted others (len_before others found)) (octet ∷ others)
+quoted-shape : (octet : ℕ) (others : List ℕ) (found : Option (List ℕ)) → after_close 34 false others ≡ found → kind_of octet ≡ K.Quoted → Shaped (closed K.Quoted others (len_before others found)) (octet ∷ others)
 quoted-shape octet others None none kind = bad-shape octet others (inl kind) (λ front back is e.
-    let found = enclosed-behind 34 34 octet others front back refl is (subst (λ k. IsClosed k front) kind e) in absurd (cc))
+    let found = enclosed-after 34 34 octet others front back refl is (subst (λ k. IsClosed k front) kind e) in absurd (cc))
 quoted-shape octet others (Some rest) found kind =
-    let e = behind-is 34 others rest found in
+    let e = after-is 34 others rest found in
     record { inside = e.inside; plain = e.plain; spelled = cut-off octet others (written e.inside (34 ∷ [])) rest (e.is ∙ sym (written-append e.inside (34 ∷ []) rest)) ∙ ap (λ b. b ∷ written e.inside (34 ∷ [])) (quoted-octet octet kind) }
 
-literal-shape : (octet : ℕ) (others : List ℕ) (found : Option (List ℕ)) → behind 93 false others ≡ found → kind_of octet ≡ K.Literal → Shaped (closed K.Literal others (len_before others found)) (octet ∷ others)
+literal-shape : (octet : ℕ) (others : List ℕ) (found : Option (List ℕ)) → after_close 93 false others ≡ found → kind_of octet ≡ K.Literal → Shaped (closed K.Literal others (len_before others found)) (octet ∷ others)
 literal-shape octet others None none kind = bad-shape octet others (inr (inl kind)) (λ front back is e.
-    let found = enclosed-behind 91 93 octet others front back refl is (subst (λ k. IsClosed k front) kind e) in absurd (cc))
+    let found = enclosed-after 91 93 octet others front back refl is (subst (λ k. IsClosed k front) kind e) in absurd (cc))
 literal-shape octet others (Some rest) found kind =
-    let e = behind-is 93 others rest found in
+    let e = after-is 93 others rest found in
     record { inside = e.inside; plain = e.plain; spelled = cut-off octet others (written e.inside (93 ∷ [])) rest (e.is ∙ sym (written-append e.inside (93 ∷ []) rest)) ∙ ap (λ b. b ∷ written e.inside (93 ∷ [])) (literal-octet octet kind) }
 
-comment-shape : (octet : ℕ) (others : List ℕ) (found : Option (List ℕ)) → behind_comment 0 false others ≡ found → kind_of octet ≡ K.Comment → Shaped (closed K.Comment others (len_before others found)) (octet ∷ others)
+comment-shape : (octet : ℕ) (others : List ℕ) (found : Option (List ℕ)) → after_comment 0 false others ≡ found → kind_of octet ≡ K.Comment → Shaped (closed K.Comment others (len_before others found)) (octet ∷ others)
 comment-shape octet others None none kind = bad-shape octet others (inr (inr kind)) (λ front back is e.
-    let found = comment-behind octet others front back is (subst (λ k. IsClosed k front) kind e) in absurd (cc))
+    let found = comment-after octet others front back is (subst (λ k. IsClosed k front) kind e) in absurd (cc))
 comment-shape octet others (Some rest) found kind =
     let e = comment-is others rest found in
     record { notes = e.notes; plain = e.plain; spelled = cut-off octet others (noted e.notes (41 ∷ [])) rest (e.is ∙ sym (noted-append e.notes (41 ∷ []) rest)) ∙ ap (λ b. b ∷ noted e.notes (41 ∷ [])) (comment-octet octet kind) }
@@ -258,9 +258,9 @@ atom-shape octet others kind =
 
 front-shape : (octet : ℕ) (others : List ℕ) (kind : Kind) → kind_of octet ≡ kind → Shaped (front_of kind others) (octet ∷ others)
 front-shape octet others K.Atom is = atom-shape octet others is
-front-shape octet others K.Quoted is = quoted-shape octet others (behind 34 false others) refl is
-front-shape octet others K.Literal is = literal-shape octet others (behind 93 false others) refl is
-front-shape octet others K.Comment is = comment-shape octet others (behind_comment 0 false others) refl is
+front-shape octet others K.Quoted is = quoted-shape octet others (after_close 34 false others) refl is
+front-shape octet others K.Literal is = literal-shape octet others (after_close 93 false others) refl is
+front-shape octet others K.Comment is = comment-shape octet others (after_comment 0 false others) refl is
 front-shape octet others K.Bad is = inl (record { octet = octet; alone = refl; begins = is })
 front-shape octet others K.Blank is = record { octet = octet; alone = refl; begins = is }
 front-shape octet others K.Less is = record { octet = octet; alone = refl; begins = is }

@@ -3,7 +3,7 @@ use Rattle.std.proofs.Common.{◌≡◌, ℕ, zero, suc, ◌==◌, true, false, 
 use Rattle.std.proofs.lemmas.Bool.{eqb-true}
 use Rattle.octets.proofs.Lists.{fork, some_is}
 use Rattle.addrparts.specs.Pieces.{Inner, Plain, Pair, written, IsInside, Notes, End, Note, Nested, noted, AreNotes}
-use Rattle.addrparts.specs.Reading.{behind, behind_comment}
+use Rattle.addrparts.specs.Reading.{after_close, after_comment}
 use Rattle.addrparts.proofs.Scanning.{at_backslash, at_opening, at_other}
 
 -- what follows may be written apart
@@ -19,10 +19,10 @@ noted-append (Note (Pair octet) more) end rest = ap (λ s. 92 ∷ (octet ∷ s))
 noted-append (Nested inner more) end rest = ap (λ s. 40 ∷ s) (noted-append inner (41 ∷ noted more end) rest ∙ ap (λ s. noted inner (41 ∷ s)) (noted-append more end rest))
 
 -- what is written so is scanned to its end
-pub behind-again : (close : ℕ) (inside : List Inner) (rest : List ℕ) → (92 == close) ≡ false → IsInside close inside → behind close false (written inside (close ∷ rest)) ≡ Some rest
-behind-again close [] rest other plain = let same : (close == close) ≡ true = eq-eqb close close refl in rw same
-behind-again close (Plain octet ∷ more) rest other plain = rw (plain.0, plain.1.0) (behind-again close more rest other plain.1.1)
-behind-again close (Pair octet ∷ more) rest other plain = rw other (behind-again close more rest other plain)
+pub after-again : (close : ℕ) (inside : List Inner) (rest : List ℕ) → (92 == close) ≡ false → IsInside close inside → after_close close false (written inside (close ∷ rest)) ≡ Some rest
+after-again close [] rest other plain = let same : (close == close) ≡ true = eq-eqb close close refl in rw same
+after-again close (Plain octet ∷ more) rest other plain = rw (plain.0, plain.1.0) (after-again close more rest other plain.1.1)
+after-again close (Pair octet ∷ more) rest other plain = rw other (after-again close more rest other plain)
 
 -- octets and pairs up to the closing octet, and what follows
 pub record IsScanned (close : ℕ) (text rest : List ℕ) : Type 0 where
@@ -40,31 +40,31 @@ scanned-end : (close octet : ℕ) (more rest : List ℕ) → (octet == close) �
 scanned-end close octet more rest is left = record { inside = []; plain = tt; is = ap (λ b. b ∷ more) (eqb-true octet close is) ∙ ap (λ s. close ∷ s) (some_is more rest left) }
 
 -- what is scanned to an end is written so
-pub behind-is : (close : ℕ) (text rest : List ℕ) → behind close false text ≡ Some rest → IsScanned close text rest
-behind-is close [] rest found = absurd (cc)
-behind-is close (octet ∷ []) rest found =
+pub after-is : (close : ℕ) (text rest : List ℕ) → after_close close false text ≡ Some rest → IsScanned close text rest
+after-is close [] rest found = absurd (cc)
+after-is close (octet ∷ []) rest found =
     elim (fork (octet == close) _ _ _ found) [
       | inl p ↦ scanned-end close octet [] rest p.0 p.1
       | inr p ↦ elim (fork (octet == 92) _ _ _ p.1) [ inl q ↦ absurd (cc) | inr q ↦ absurd (cc) ]
     ]
-behind-is close (octet ∷ (next ∷ more)) rest found =
+after-is close (octet ∷ (next ∷ more)) rest found =
     elim (fork (octet == close) _ _ _ found) [
       | inl p ↦ scanned-end close octet (next ∷ more) rest p.0 p.1
       | inr p ↦ elim (fork (octet == 92) _ _ _ p.1) [
-        | inl q ↦ scanned-pair close octet next more rest q.0 (behind-is close more rest q.1)
-        | inr q ↦ scanned-plain close octet (next ∷ more) rest p.0 q.0 (behind-is close (next ∷ more) rest q.1)
+        | inl q ↦ scanned-pair close octet next more rest q.0 (after-is close more rest q.1)
+        | inr q ↦ scanned-plain close octet (next ∷ more) rest p.0 q.0 (after-is close (next ∷ more) rest q.1)
       ]
     ]
 
 -- the inside of a comment is passed over
-pub noted-passed : (depth : ℕ) (notes : Notes) (rest : List ℕ) → AreNotes notes → behind_comment depth false (noted notes rest) ≡ behind_comment depth false rest
+pub noted-passed : (depth : ℕ) (notes : Notes) (rest : List ℕ) → AreNotes notes → after_comment depth false (noted notes rest) ≡ after_comment depth false rest
 noted-passed depth End rest plain = refl
 noted-passed depth (Note (Plain octet) more) rest plain = at_other depth octet (noted more rest) plain.0 plain.1.0 plain.1.1.0 ∙ noted-passed depth more rest plain.1.1.1
 noted-passed depth (Note (Pair octet) more) rest plain = at_backslash depth 92 (octet ∷ noted more rest) refl ∙ noted-passed depth more rest plain
 noted-passed depth (Nested inner more) rest plain = at_opening depth 40 (noted inner (41 ∷ noted more rest)) refl refl ∙ noted-passed (suc depth) inner (41 ∷ noted more rest) plain.0 ∙ noted-passed depth more rest plain.1
 
 -- a comment is scanned to its end
-pub comment-again : (notes : Notes) (rest : List ℕ) → AreNotes notes → behind_comment 0 false (noted notes (41 ∷ rest)) ≡ Some rest
+pub comment-again : (notes : Notes) (rest : List ℕ) → AreNotes notes → after_comment 0 false (noted notes (41 ∷ rest)) ≡ Some rest
 comment-again notes rest plain = noted-passed 0 notes (41 ∷ rest) plain
 
 -- the ends of the comments that are open
@@ -103,7 +103,7 @@ unwound-close depth octet more rest is u = record { notes = End; outer = u.notes
 unwound-end : (octet : ℕ) (more rest : List ℕ) → (octet == 41) ≡ true → Some more ≡ Some rest → IsUnwound 0 (octet ∷ more) rest
 unwound-end octet more rest is left = record { notes = End; outer = []; deep = refl; plain = tt; others = tt; is = ap (λ b. b ∷ more) (eqb-true octet 41 is) ∙ ap (λ s. 41 ∷ s) (some_is more rest left) }
 
-unwound : (depth : ℕ) (text rest : List ℕ) → behind_comment depth false text ≡ Some rest → IsUnwound depth text rest
+unwound : (depth : ℕ) (text rest : List ℕ) → after_comment depth false text ≡ Some rest → IsUnwound depth text rest
 unwound depth [] rest found = absurd (cc)
 unwound zero (octet ∷ []) rest found =
     elim (fork (octet == 92) _ _ _ found) [
@@ -149,5 +149,5 @@ noted-flat text rest notes [] flat plain is = record { notes = notes; plain = pl
 noted-flat text rest notes (first ∷ outer) flat plain is = absurd (omega arith)
 
 -- what is scanned to the end of a comment is written so
-pub comment-is : (text rest : List ℕ) → behind_comment 0 false text ≡ Some rest → IsNoted text rest
+pub comment-is : (text rest : List ℕ) → after_comment 0 false text ≡ Some rest → IsNoted text rest
 comment-is text rest found = let u = unwound 0 text rest found in noted-flat text rest u.notes u.outer u.deep u.plain u.is

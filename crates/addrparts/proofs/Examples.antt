@@ -5,12 +5,12 @@ use Rattle.std.proofs.lemmas.Option.{none-some}
 use Rattle.addrparts.specs.declared.scanner.Kind.{Kind}
 use Rattle.addrparts.specs.declared.scanner.Kind.TheVariants as K
 use Rattle.addrparts.specs.declared.address.Addr.{Addr}
-use Rattle.addrparts.specs.Pieces.{Piece, is_atom, Plain, Pair, IsEnclosed, IsQuoted, End, Note, Nested, IsComment}
+use Rattle.addrparts.specs.Pieces.{Piece, is_atom, Plain, Pair, IsEnclosed, IsQuotedWord, End, Note, Nested, IsComment}
 use Rattle.addrparts.specs.Parts.{IsUncut, AreParts, IsWord, IsAtom, Dotted, Gives, AreAddresses}
 use Rattle.addrparts.specs.Outbound.{is_shown, is_fit, BeginsWithWord, IsOutbound, IsBareAddress}
 use Rattle.addrparts.specs.Spelling.{is_dot_atom, spelling, all_of, IsDomain}
-use Rattle.addrparts.specs.Reading.{behind, behind_comment, pieces, addrs, outbound, bare}
-use Rattle.addrparts.proofs.Enclosed.{behind-again, comment-again}
+use Rattle.addrparts.specs.Reading.{after_close, after_comment, pieces, addrs, outbound, bare}
+use Rattle.addrparts.proofs.Enclosed.{after-again, comment-again}
 use Rattle.addrparts.proofs.Quotes.{quoted-value}
 use Rattle.addrparts.proofs.Lists.{addrs-only}
 use Rattle.addrparts.proofs.Outbounds.{outbound-again, bare-found}
@@ -32,14 +32,14 @@ closed_string = record { inside = Pair 34 ∷ []; plain = tt; spelled = refl }
 -- `"\"` is not
 open_string : IsEnclosed 34 34 (34 ∷ 92 ∷ 34 ∷ []) → ⊥
 open_string e =
-    none-some [] (ap (λ text. behind 34 false (drop 1 text)) e.spelled ∙ behind-again 34 e.inside [] refl e.plain)
+    none-some [] (ap (λ text. after_close 34 false (drop 1 text)) e.spelled ∙ after-again 34 e.inside [] refl e.plain)
 
 -- the value of `"\""` is one quotation mark
-string_value : IsQuoted (34 ∷ 92 ∷ 34 ∷ 34 ∷ []) (34 ∷ [])
+string_value : IsQuotedWord (34 ∷ 92 ∷ 34 ∷ 34 ∷ []) (34 ∷ [])
 string_value = record { inside = Pair 34 ∷ []; plain = tt; spelled = refl; is = refl }
 
 -- and not what stands between the marks
-string_kept : IsQuoted (34 ∷ 92 ∷ 34 ∷ 34 ∷ []) (92 ∷ 34 ∷ []) → ⊥
+string_kept : IsQuotedWord (34 ∷ 92 ∷ 34 ∷ 34 ∷ []) (92 ∷ 34 ∷ []) → ⊥
 string_kept q =
     let is : 92 ≡ 34 = ap (λ text. get_or text 0 0) (quoted-value (34 ∷ 92 ∷ 34 ∷ 34 ∷ []) (92 ∷ 34 ∷ []) q).1 in
     omega (arith, is)
@@ -51,7 +51,7 @@ nested_comment = record { notes = Note (Plain 97) (Nested End End); plain = (ref
 -- `(a()` is not
 open_comment : IsComment (40 ∷ 97 ∷ 40 ∷ 41 ∷ []) → ⊥
 open_comment e =
-    none-some [] (ap (λ text. behind_comment 0 false (drop 1 text)) e.spelled ∙ comment-again e.notes [] e.plain)
+    none-some [] (ap (λ text. after_comment 0 false (drop 1 text)) e.spelled ∙ comment-again e.notes [] e.plain)
 
 -- the cut of `a@b`
 cut_spec : pieces (97 ∷ 64 ∷ 98 ∷ []) ≡ piece K.Atom (97 ∷ []) ∷ piece K.At (64 ∷ []) ∷ piece K.Atom (98 ∷ []) ∷ []
@@ -147,7 +147,7 @@ mark_spelled = (refl, refl)
 literal_domain : IsDomain (91 ∷ 49 ∷ 93 ∷ [])
 literal_domain = inr (record { inside = Plain 49 ∷ []; plain = (refl, (refl, tt)); spelled = refl })
 
--- `b.` is none
+-- `b.` isn't one
 dot_domain : IsDomain (98 ∷ 46 ∷ []) → ⊥
 dot_domain (inl plain) = false≢true plain
 dot_domain (inr literal) = let is : 98 ≡ 91 = ap (λ text. get_or text 0 0) literal.spelled in omega (arith, is)

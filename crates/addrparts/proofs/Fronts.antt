@@ -3,7 +3,7 @@ use Rattle.std.proofs.Common.{◌≡◌, ℕ, zero, suc, ◌<◌, ◌≤◌, fal
 use Rattle.std.proofs.lemmas.List.{length-drop, take-append-drop}
 use Rattle.addrparts.specs.declared.scanner.Kind.{Kind}
 use Rattle.addrparts.specs.declared.scanner.Kind.TheVariants as K
-use Rattle.addrparts.specs.Reading.{front, front_of, closed, len_before, behind, behind_comment, pieces, pieces_within, IsNext}
+use Rattle.addrparts.specs.Reading.{front, front_of, closed, len_before, after_close, after_comment, pieces, pieces_within, IsNext}
 
 closed-some : (kind : Kind) (others : List ℕ) (len : Option ℕ) → 0 < (closed kind others len).1
 closed-some kind others None = omega arith
@@ -11,9 +11,9 @@ closed-some kind others (Some len) = omega arith
 
 front-some : (kind : Kind) (others : List ℕ) → 0 < (front_of kind others).1
 front-some K.Atom others = omega arith
-front-some K.Quoted others = closed-some K.Quoted others (len_before others (behind 34 false others))
-front-some K.Literal others = closed-some K.Literal others (len_before others (behind 93 false others))
-front-some K.Comment others = closed-some K.Comment others (len_before others (behind_comment 0 false others))
+front-some K.Quoted others = closed-some K.Quoted others (len_before others (after_close 34 false others))
+front-some K.Literal others = closed-some K.Literal others (len_before others (after_close 93 false others))
+front-some K.Comment others = closed-some K.Comment others (len_before others (after_comment 0 false others))
 front-some _ others = omega arith
 
 -- what follows the first piece is shorter

@@ -47,14 +47,14 @@ is_in P.Front = false
 is_in P.Open = true
 is_in P.Route = true
 is_in P.Inside = true
-is_in P.Behind = false
+is_in P.After = false
 
 in-outside : (place : Place) (mark : Bool) → (mark && not (is_in place)) ≡ (mark && is_outside place)
 in-outside P.Front mark = refl
 in-outside P.Open mark = refl
 in-outside P.Route mark = refl
 in-outside P.Inside mark = refl
-in-outside P.Behind mark = refl
+in-outside P.After mark = refl
 
 -- the drafts and the definition count brackets alike
 in-after-at : (place : Place) (d : Draft) (kind : Kind) (text : List ℕ) → d.place ≡ place → is_in (take_at place d kind text).place ≡ is_open (is_in place) kind
@@ -72,9 +72,9 @@ in-after-at P.Route d kind text is = ap is_in is
 in-after-at P.Inside d K.Greater text is = refl
 in-after-at P.Inside d K.Less text is = ap is_in (read-place d K.Less text ∙ is)
 in-after-at P.Inside d kind text is = ap is_in (read-place d kind text ∙ is)
-in-after-at P.Behind d K.Less text is = refl
-in-after-at P.Behind d K.Greater text is = refl
-in-after-at P.Behind d kind text is = refl
+in-after-at P.After d K.Less text is = refl
+in-after-at P.After d K.Greater text is = refl
+in-after-at P.After d kind text is = refl
 
 in-after : (d : Draft) (kind : Kind) (text : List ℕ) → is_in (taken d kind text).place ≡ is_open (is_in d.place) kind
 in-after d K.Blank text = refl
@@ -90,14 +90,14 @@ uncut-collected (token ∷ more) d inside is uncut =
     ∙ uncut-collected more (taken d token.kind token.text) (is_open inside token.kind) (in-after d token.kind token.text ∙ ap (λ b. is_open b token.kind) is) uncut.1
 
 -- and what ends at a separator
-pub part-collected : (all : List Piece) (mark : Piece) (behind : List Piece) (d : Draft) (inside : Bool) → is_in d.place ≡ inside → IsUncut inside all → is_open_after inside all ≡ false → is_separator mark.kind ≡ true → collected d (all ++ mark ∷ behind) ≡ option_to_list (given (runs d all) mark.kind) ++ collected start behind
-part-collected [] mark behind d inside is uncut closed sep =
+pub part-collected : (all : List Piece) (mark : Piece) (after : List Piece) (d : Draft) (inside : Bool) → is_in d.place ≡ inside → IsUncut inside all → is_open_after inside all ≡ false → is_separator mark.kind ≡ true → collected d (all ++ mark ∷ after) ≡ option_to_list (given (runs d all) mark.kind) ++ collected start after
+part-collected [] mark after d inside is uncut closed sep =
     let test : (is_separator mark.kind && is_outside d.place) ≡ true = sym (in-outside d.place (is_separator mark.kind)) ∙ ap (λ b. is_separator mark.kind && not b) (is ∙ closed) ∙ ap (λ b. b && true) sep in
-    ap (λ b. cond b (option_to_list (given d mark.kind) ++ collected start behind) (collected (taken d mark.kind mark.text) behind)) test
-part-collected (token ∷ more) mark behind d inside is uncut closed sep =
+    ap (λ b. cond b (option_to_list (given d mark.kind) ++ collected start after) (collected (taken d mark.kind mark.text) after)) test
+part-collected (token ∷ more) mark after d inside is uncut closed sep =
     let test : (is_separator token.kind && is_outside d.place) ≡ false = sym (in-outside d.place (is_separator token.kind)) ∙ ap (λ b. is_separator token.kind && not b) is ∙ uncut.0 in
-    ap (λ b. cond b (option_to_list (given d token.kind) ++ collected start (more ++ mark ∷ behind)) (collected (taken d token.kind token.text) (more ++ mark ∷ behind))) test
-    ∙ part-collected more mark behind (taken d token.kind token.text) (is_open inside token.kind) (in-after d token.kind token.text ∙ ap (λ b. is_open b token.kind) is) uncut.1 closed sep
+    ap (λ b. cond b (option_to_list (given d token.kind) ++ collected start (more ++ mark ∷ after)) (collected (taken d token.kind token.text) (more ++ mark ∷ after))) test
+    ∙ part-collected more mark after (taken d token.kind token.text) (is_open inside token.kind) (in-after d token.kind token.text ∙ ap (λ b. is_open b token.kind) is) uncut.1 closed sep
 
 -- what a part gives, by its ending
 abbrev answer_of : Option Kind → Draft → Option Addr
@@ -174,21 +174,21 @@ parts-only (part ∷ []) all found each parts collects =
     ∙ sym (uncut-collected part.tokens start false refl parts.1.0) ∙ ap (collected start) (sym parts.0)
 parts-only (part ∷ (next ∷ more)) all found each parts collects =
     let mark = parts.0 in
-    let behind = parts.1 in
-    let each' : Each is_token (part.tokens ++ mark ∷ behind) = subst (Each is_token) parts.2 each in
-    let answer : collects.0 ≡ given (runs start part.tokens) mark.kind = answer-only part collects.0 (Each-front is_token part.tokens (mark ∷ behind) each') collects.2 ∙ ap (λ e. answer_of e (runs start part.tokens)) parts.6 in
-    let others : collects.1 ≡ collected start behind = parts-only (next ∷ more) behind collects.1 (Each-back is_token part.tokens (mark ∷ behind) each').1 parts.7 collects.3 in
-    collects.4 ∙ ap (λ o. option_to_list collects.0 ++ o) others ∙ ap (λ o. option_to_list o ++ collected start behind) answer
-    ∙ sym (part-collected part.tokens mark behind start false refl parts.3 parts.4 parts.5) ∙ ap (collected start) (sym parts.2)
+    let after = parts.1 in
+    let each' : Each is_token (part.tokens ++ mark ∷ after) = subst (Each is_token) parts.2 each in
+    let answer : collects.0 ≡ given (runs start part.tokens) mark.kind = answer-only part collects.0 (Each-front is_token part.tokens (mark ∷ after) each') collects.2 ∙ ap (λ e. answer_of e (runs start part.tokens)) parts.6 in
+    let others : collects.1 ≡ collected start after = parts-only (next ∷ more) after collects.1 (Each-back is_token part.tokens (mark ∷ after) each').1 parts.7 collects.3 in
+    collects.4 ∙ ap (λ o. option_to_list collects.0 ++ o) others ∙ ap (λ o. option_to_list o ++ collected start after) answer
+    ∙ sym (part-collected part.tokens mark after start false refl parts.3 parts.4 parts.5) ∙ ap (collected start) (sym parts.2)
 
 -- the first part: up to the first separator outside brackets, or all
 data Split (inside : Bool) (all : List Piece) : Type 0 where
   Whole : IsUncut inside all → Split inside all
-  At : (front : List Piece) (mark : Piece) (behind : List Piece) → all ≡ front ++ mark ∷ behind → IsUncut inside front → is_open_after inside front ≡ false → is_separator mark.kind ≡ true → Split inside all
+  At : (front : List Piece) (mark : Piece) (after : List Piece) → all ≡ front ++ mark ∷ after → IsUncut inside front → is_open_after inside front ≡ false → is_separator mark.kind ≡ true → Split inside all
 
 split-more : (inside : Bool) (token : Piece) (more : List Piece) → (is_separator token.kind && not inside) ≡ false → Split (is_open inside token.kind) more → Split inside (token ∷ more)
 split-more inside token more plain (Whole uncut) = Whole (plain, uncut)
-split-more inside token more plain (At front mark behind cut uncut closed sep) = At (token ∷ front) mark behind (ap (λ ts. token ∷ ts) cut) (plain, uncut) closed sep
+split-more inside token more plain (At front mark after cut uncut closed sep) = At (token ∷ front) mark after (ap (λ ts. token ∷ ts) cut) (plain, uncut) closed sep
 
 split-here : (inside : Bool) (token : Piece) (more : List Piece) → (is_separator token.kind && not inside) ≡ true → Split inside (token ∷ more)
 split-here true token more here = absurd (by_kind (is_separator token.kind) here)
@@ -226,26 +226,26 @@ collect-whole all each uncut =
       collects = (outcome (runs start all), [], answer-all part each, refl, uncut-collected all start false refl uncut ∙ sym (append-nil (option_to_list (outcome (runs start all)))));
     }
 
-collect-part : (all front : List Piece) (mark : Piece) (behind : List Piece) → Each is_token front → all ≡ front ++ mark ∷ behind → IsUncut false front → is_open_after false front ≡ false → is_separator mark.kind ≡ true → AreCollected behind → AreCollected all
-collect-part all front mark behind each cut uncut closed sep rest =
+collect-part : (all front : List Piece) (mark : Piece) (after : List Piece) → Each is_token front → all ≡ front ++ mark ∷ after → IsUncut false front → is_open_after false front ≡ false → is_separator mark.kind ≡ true → AreCollected after → AreCollected all
+collect-part all front mark after each cut uncut closed sep rest =
     let part : Part = record { tokens = front; ending = Some mark.kind } in
     record {
       part = part;
       others = rest.part ∷ rest.others;
-      are = (mark, behind, cut, uncut, closed, sep, refl, rest.are);
-      collects = (given (runs start front) mark.kind, collected start behind, answer-all part each, rest.collects, ap (collected start) cut ∙ part-collected front mark behind start false refl uncut closed sep);
+      are = (mark, after, cut, uncut, closed, sep, refl, rest.are);
+      collects = (given (runs start front) mark.kind, collected start after, answer-all part each, rest.collects, ap (collected start) cut ∙ part-collected front mark after start false refl uncut closed sep);
     }
 
-collect-split : (n : ℕ) (all : List Piece) → Each is_token all → length all ≤ suc n → ((behind : List Piece) → Each is_token behind → length behind ≤ n → AreCollected behind) → Split false all → AreCollected all
+collect-split : (n : ℕ) (all : List Piece) → Each is_token all → length all ≤ suc n → ((after : List Piece) → Each is_token after → length after ≤ n → AreCollected after) → Split false all → AreCollected all
 collect-split n all each short rec (Whole uncut) = collect-whole all each uncut
-collect-split n all each short rec (At front mark behind cut uncut closed sep) =
-    let each' : Each is_token (front ++ mark ∷ behind) = subst (Each is_token) cut each in
-    collect-part all front mark behind (Each-front is_token front (mark ∷ behind) each') cut uncut closed sep (rec behind (Each-back is_token front (mark ∷ behind) each').1 (omega (arith, ap length cut, length-append front (mark ∷ behind))))
+collect-split n all each short rec (At front mark after cut uncut closed sep) =
+    let each' : Each is_token (front ++ mark ∷ after) = subst (Each is_token) cut each in
+    collect-part all front mark after (Each-front is_token front (mark ∷ after) each') cut uncut closed sep (rec after (Each-back is_token front (mark ∷ after) each').1 (omega (arith, ap length cut, length-append front (mark ∷ after))))
 
 collect : (n : ℕ) (all : List Piece) → Each is_token all → length all ≤ n → AreCollected all
 collect zero [] each short = collect-whole [] each tt
 collect zero (token ∷ more) each short = absurd (omega arith)
-collect (suc n) all each short = collect-split n all each short (λ behind each' short'. collect n behind each' short') (split all false)
+collect (suc n) all each short = collect-split n all each short (λ after each' short'. collect n after each' short') (split all false)
 
 -- the reading of a value gives its addresses
 pub addrs-are : (value : List ℕ) → AreAddresses value (addrs value)

@@ -162,13 +162,13 @@ route-passed (token ∷ more) route = ap (λ d. runs d more) (route-step token.k
 
 routed-again : (tokens : List Piece) (address : Addr) (greater : Piece) → greater.kind ≡ K.Greater → IsRouted tokens address → outcome (runs (start_at P.Open) (tokens ++ greater ∷ [])) ≡ Some address
 routed-again tokens address greater is r =
-    let behind = r.others ++ greater ∷ [] in
+    let after = r.others ++ greater ∷ [] in
     ap (λ ts. outcome (runs (start_at P.Open) (ts ++ greater ∷ []))) r.cut
     ∙ ap (λ k. outcome (runs (taken (start_at P.Open) k r.at.text) (r.route ++ r.colon ∷ r.others ++ greater ∷ []))) r.begins
     ∙ ap (λ ts. outcome (runs (start_at P.Route) ts)) (append_assoc r.route (r.colon ∷ r.others) (greater ∷ []))
-    ∙ ap outcome (runs-append (start_at P.Route) r.route (r.colon ∷ behind))
-    ∙ ap (λ d. outcome (runs d (r.colon ∷ behind))) (route-passed r.route r.up_to)
-    ∙ ap (λ k. outcome (runs (taken (start_at P.Route) k r.colon.text) behind)) r.first
+    ∙ ap outcome (runs-append (start_at P.Route) r.route (r.colon ∷ after))
+    ∙ ap (λ d. outcome (runs d (r.colon ∷ after))) (route-passed r.route r.up_to)
+    ∙ ap (λ k. outcome (runs (taken (start_at P.Route) k r.colon.text) after)) r.first
     ∙ inside-again r.others address greater is r.spec
 
 brackets-again : (tokens : List Piece) (address : Addr) (greater : Piece) → greater.kind ≡ K.Greater → IsSpec tokens address ⊎ IsRouted tokens address → outcome (runs (start_at P.Open) (tokens ++ greater ∷ [])) ≡ Some address

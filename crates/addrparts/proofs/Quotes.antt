@@ -1,6 +1,6 @@
 -- The value of a quoted string is that of its octets and pairs.
 use Rattle.std.proofs.Common.{◌≡◌, ℕ, ◌==◌, true, false, cond, List, [], ◌∷◌, refl, ap, sym, ◌∙◌}
-use Rattle.addrparts.specs.Pieces.{Inner, Plain, Pair, written, valued, IsInside, IsEnclosed, IsQuoted, unquoted, unquoted_from}
+use Rattle.addrparts.specs.Pieces.{Inner, Plain, Pair, written, valued, IsInside, IsEnclosed, IsQuotedWord, unquoted, unquoted_from}
 
 written-value : (inside : List Inner) → IsInside 34 inside → unquoted_from false (written inside (34 ∷ [])) ≡ valued inside
 written-value [] plain = refl
@@ -12,13 +12,13 @@ written-value (Plain octet ∷ more) plain =
     ∙ ap (λ s. octet ∷ s) (written-value more plain.1.1)
 written-value (Pair octet ∷ more) plain = ap (λ s. octet ∷ s) (written-value more plain)
 
-pub quoted-value : (text value : List ℕ) → IsQuoted text value → IsEnclosed 34 34 text × (value ≡ unquoted text)
+pub quoted-value : (text value : List ℕ) → IsQuotedWord text value → IsEnclosed 34 34 text × (value ≡ unquoted text)
 quoted-value text value q = (
   record { inside = q.inside; plain = q.plain; spelled = q.spelled },
   q.is ∙ sym (ap unquoted q.spelled ∙ written-value q.inside q.plain),
 )
 
-pub value-quoted : (text value : List ℕ) → IsEnclosed 34 34 text × (value ≡ unquoted text) → IsQuoted text value
+pub value-quoted : (text value : List ℕ) → IsEnclosed 34 34 text × (value ≡ unquoted text) → IsQuotedWord text value
 value-quoted text value both =
     let e = both.0 in
     record { inside = e.inside; plain = e.plain; spelled = e.spelled; is = both.1 ∙ ap unquoted e.spelled ∙ written-value e.inside e.plain }

@@ -18,7 +18,7 @@ use Rattle.addrparts.proofs.PartLemmas.{runs, is_inner, front-reads}
 -- no address can come of it any more
 record IsDead (d : Draft) : Type 0 where
   wrong : d.stage ≡ S.Wrong
-  late : (d.place ≡ P.Inside) ⊎ (d.place ≡ P.Behind)
+  late : (d.place ≡ P.Inside) ⊎ (d.place ≡ P.After)
 
 read-wrong : (d : Draft) (kind : Kind) (text : List ℕ) → d.stage ≡ S.Wrong → (read d kind text).stage ≡ S.Wrong
 read-wrong d kind text wrong = ap (λ s. (put (stage_after s kind) d (value_of kind text)).stage) wrong
@@ -27,14 +27,14 @@ dead-inside : (d : Draft) (kind : Kind) (text : List ℕ) → d.stage ≡ S.Wron
 dead-inside d K.Greater text wrong place = record { wrong = wrong; late = inr refl }
 dead-inside d kind text wrong place = record { wrong = read-wrong d kind text wrong; late = inl (read-place d kind text ∙ place) }
 
-dead-behind : (d : Draft) (kind : Kind) (text : List ℕ) → IsDead (take_at P.Behind d kind text)
-dead-behind d K.Less text = record { wrong = refl; late = inl refl }
-dead-behind d kind text = record { wrong = refl; late = inr refl }
+dead-after : (d : Draft) (kind : Kind) (text : List ℕ) → IsDead (take_at P.After d kind text)
+dead-after d K.Less text = record { wrong = refl; late = inl refl }
+dead-after d kind text = record { wrong = refl; late = inr refl }
 
 dead-at : (d : Draft) (kind : Kind) (text : List ℕ) → IsDead d → IsDead (take_at d.place d kind text)
 dead-at d kind text dead = elim dead.late [
   | inl place ↦ subst (λ p. IsDead (take_at p d kind text)) (sym place) (dead-inside d kind text dead.wrong place)
-  | inr place ↦ subst (λ p. IsDead (take_at p d kind text)) (sym place) (dead-behind d kind text)
+  | inr place ↦ subst (λ p. IsDead (take_at p d kind text)) (sym place) (dead-after d kind text)
 ]
 
 dead-step : (d : Draft) (kind : Kind) (text : List ℕ) → IsDead d → IsDead (taken d kind text)
@@ -56,15 +56,15 @@ dead-never : (tokens : List Piece) (d : Draft) (address : Addr) → IsDead d →
 dead-never [] d address dead is = false≢true (sym (ap is_end dead.wrong) ∙ outcome-end d address is)
 dead-never (token ∷ more) d address dead is = dead-never more (taken d token.kind token.text) address (dead-step d token.kind token.text dead) is
 
-behind-dead : (d : Draft) (kind : Kind) (text : List ℕ) → d.place ≡ P.Behind → is_token kind ≡ true → IsDead (taken d kind text)
-behind-dead d K.Blank text place token = absurd (false≢true token)
-behind-dead d K.Comment text place token = absurd (false≢true token)
-behind-dead d kind text place token = subst (λ p. IsDead (take_at p d kind text)) (sym place) (dead-behind d kind text)
+after-dead : (d : Draft) (kind : Kind) (text : List ℕ) → d.place ≡ P.After → is_token kind ≡ true → IsDead (taken d kind text)
+after-dead d K.Blank text place token = absurd (false≢true token)
+after-dead d K.Comment text place token = absurd (false≢true token)
+after-dead d kind text place token = subst (λ p. IsDead (take_at p d kind text)) (sym place) (dead-after d kind text)
 
 -- nothing may follow the brackets
-behind-is : (tokens : List Piece) (d : Draft) (address : Addr) → d.place ≡ P.Behind → Each is_token tokens → outcome (runs d tokens) ≡ Some address → tokens ≡ []
-behind-is [] d address place all is = refl
-behind-is (token ∷ more) d address place all is = absurd (dead-never more (taken d token.kind token.text) address (behind-dead d token.kind token.text place all.0) is)
+after-is : (tokens : List Piece) (d : Draft) (address : Addr) → d.place ≡ P.After → Each is_token tokens → outcome (runs d tokens) ≡ Some address → tokens ≡ []
+after-is [] d address place all is = refl
+after-is (token ∷ more) d address place all is = absurd (dead-never more (taken d token.kind token.text) address (after-dead d token.kind token.text place all.0) is)
 
 -- what stands in brackets, up to the closing one, which is last
 record IsBracketed (d : Draft) (tokens : List Piece) (address : Addr) : Type 0 where
@@ -75,18 +75,18 @@ record IsBracketed (d : Draft) (tokens : List Piece) (address : Addr) : Type 0 w
   ends : is_end (reads d inside).stage ≡ true
   gives : read_address (reads d inside) ≡ address
 
-bracket-end : (d : Draft) (text : List ℕ) (more : List Piece) (address : Addr) → Each is_token more → outcome (runs (record d { place = P.Behind }) more) ≡ Some address → IsBracketed d ((record { kind = K.Greater; text = text }) ∷ more) address
+bracket-end : (d : Draft) (text : List ℕ) (more : List Piece) (address : Addr) → Each is_token more → outcome (runs (record d { place = P.After }) more) ≡ Some address → IsBracketed d ((record { kind = K.Greater; text = text }) ∷ more) address
 bracket-end d text more address all is =
-    let behind = record d { place = P.Behind } in
-    let none = behind-is more behind address refl all is in
-    let here : outcome behind ≡ Some address = ap (λ ts. outcome (runs behind ts)) (sym none) ∙ is in
+    let after = record d { place = P.After } in
+    let none = after-is more after address refl all is in
+    let here : outcome after ≡ Some address = ap (λ ts. outcome (runs after ts)) (sym none) ∙ is in
     record {
       inside = [];
       greater = record { kind = K.Greater; text = text };
       cut = ap (λ ts. (record { kind = K.Greater; text = text }) ∷ ts) none;
       closes = refl;
-      ends = outcome-end behind address here;
-      gives = (outcome-some behind address here).1;
+      ends = outcome-end after address here;
+      gives = (outcome-some after address here).1;
     }
 
 bracket-more : (d : Draft) (token : Piece) (more : List Piece) (address : Addr) → IsBracketed (read d token.kind token.text) more address → IsBracketed d (token ∷ more) address
@@ -128,15 +128,15 @@ record IsRouteClosed (tokens : List Piece) (address : Addr) : Type 0 where
   first : colon.kind ≡ K.Colon
   rest : IsSpecClosed others address
 
-no-outcome : (place : Place) (tokens : List Piece) (address : Addr) → Each is_token tokens → place ≡ P.Behind → outcome (runs (start_at place) tokens) ≡ Some address → ⊥
+no-outcome : (place : Place) (tokens : List Piece) (address : Addr) → Each is_token tokens → place ≡ P.After → outcome (runs (start_at place) tokens) ≡ Some address → ⊥
 no-outcome place tokens address all is found =
-    let none = behind-is tokens (start_at place) address is all found in
+    let none = after-is tokens (start_at place) address is all found in
     false≢true (outcome-end (start_at place) address (ap (λ ts. outcome (runs (start_at place) ts)) (sym none) ∙ found))
 
 route-first : (kind : Kind) (text : List ℕ) (more : List Piece) (address : Addr) → is_token kind ≡ true → Each is_token more → (outcome (runs (start_at P.Route) more) ≡ Some address → IsRouteClosed more address) → outcome (runs (taken (start_at P.Route) kind text) more) ≡ Some address → IsRouteClosed ((record { kind = kind; text = text }) ∷ more) address
 route-first K.Blank text more address token all rec is = absurd (false≢true token)
 route-first K.Comment text more address token all rec is = absurd (false≢true token)
-route-first K.Greater text more address token all rec is = absurd (no-outcome P.Behind more address all refl is)
+route-first K.Greater text more address token all rec is = absurd (no-outcome P.After more address all refl is)
 route-first K.Colon text more address token all rec is = record {
   route = [];
   colon = record { kind = K.Colon; text = text };
@@ -179,7 +179,7 @@ opened-spec token more address b =
 open-first : (kind : Kind) (text : List ℕ) (more : List Piece) (address : Addr) → is_token kind ≡ true → Each is_token more → outcome (runs (taken (start_at P.Open) kind text) more) ≡ Some address → IsOpened ((record { kind = kind; text = text }) ∷ more) address
 open-first K.Blank text more address token all is = absurd (false≢true token)
 open-first K.Comment text more address token all is = absurd (false≢true token)
-open-first K.Greater text more address token all is = absurd (no-outcome P.Behind more address all refl is)
+open-first K.Greater text more address token all is = absurd (no-outcome P.After more address all refl is)
 open-first K.At text more address token all is = opened-route text more address (route-is more address all is)
 open-first kind text more address token all is =
     opened-spec (record { kind = kind; text = text }) more address (inside-is more (read (start_at P.Inside) kind text) address (read-place (start_at P.Inside) kind text) all is)

@@ -17,7 +17,7 @@ use Rattle.addrparts.proofs.Outbounds.{bare-outbound}
 -- each piece has its shape, whatever followed it
 abbrev pub Shaped : List Piece → Type 0
 Shaped [] = Unit {0}
-Shaped (piece ∷ more) = ((behind : List ℕ) × IsShape piece.kind piece.text behind) × Shaped more
+Shaped (piece ∷ more) = ((after : List ℕ) × IsShape piece.kind piece.text after) × Shaped more
 
 cut-shaped : (value : List ℕ) (all : List Piece) → Cut value all → Shaped all
 cut-shaped value [] cut = tt
@@ -57,9 +57,9 @@ atom-passed due [] rest some atoms = absurd (some refl)
 atom-passed due (octet ∷ run) rest some atoms = run-more due octet (run ++ rest) atoms.0 ∙ run-passed run rest atoms.1
 
 -- atoms with dots between are so as text
-atom-text : (kind : Kind) (text value behind : List ℕ) → IsShape kind text behind → IsAtom kind text value → (value ≡ text) × ((text ≡ [] → ⊥) × AreAtoms text)
-atom-text K.Atom text value behind shape is = (is, (shape.0, shape.1.0))
-atom-text _ text value behind shape is = absurd is
+atom-text : (kind : Kind) (text value after : List ℕ) → IsShape kind text after → IsAtom kind text value → (value ≡ text) × ((text ≡ [] → ⊥) × AreAtoms text)
+atom-text K.Atom text value after shape is = (is, (shape.0, shape.1.0))
+atom-text _ text value after shape is = absurd is
 
 dotted-text : (all : List Piece) (value : List ℕ) → Shaped all → Dotted IsAtom all value → is_dot_atom value ≡ true
 dotted-text [] value shaped dotted = absurd dotted
@@ -70,8 +70,8 @@ dotted-text (atom ∷ (dot ∷ more)) value shaped dotted =
     let a = atom-text atom.kind atom.text dotted.0 shaped.0.0 shaped.0.1 dotted.2 in
     ap is_dot_atom (dotted.5 ∙ ap (λ f. f ++ 46 ∷ dotted.1) a.0) ∙ atom-passed true atom.text (46 ∷ dotted.1) a.1.0 a.1.1 ∙ dotted-text more dotted.1 shaped.1.1 dotted.4
 
-literal-text : (kind : Kind) (text behind : List ℕ) → kind ≡ K.Literal → IsShape kind text behind → IsEnclosed 91 93 text
-literal-text kind text behind is shape = subst (λ k. IsShape k text behind) is shape
+literal-text : (kind : Kind) (text after : List ℕ) → kind ≡ K.Literal → IsShape kind text after → IsEnclosed 91 93 text
+literal-text kind text after is shape = subst (λ k. IsShape k text after) is shape
 
 host-domain : (all : List Piece) (value : List ℕ) → Shaped all → Dotted IsAtom all value ⊎ IsLiteral all value → IsDomain value
 host-domain all value shaped (inl atoms) = inl (dotted-text all value shaped atoms)
@@ -89,8 +89,8 @@ outbound-domain text display_name address o =
     elim o.shape [
       | inl bare ↦ spec-domain (tokens o.pieces) address (tokens-shaped o.pieces shaped) bare.spec
       | inr p ↦
-          let behind : Shaped p.others = (shaped-back p.phrase (p.less ∷ p.others) (subst Shaped p.cut shaped)).1 in
-          spec-domain p.inside address (shaped-front p.inside (p.greater ∷ []) (subst Shaped p.rest (tokens-shaped p.others behind))) p.spec
+          let after : Shaped p.others = (shaped-back p.phrase (p.less ∷ p.others) (subst Shaped p.cut shaped)).1 in
+          spec-domain p.inside address (shaped-front p.inside (p.greater ∷ []) (subst Shaped p.rest (tokens-shaped p.others after))) p.spec
     ]
 
 routed-domain : (all : List Piece) (address : Addr) → Shaped all → IsRouted all address → IsDomain address.domain
@@ -165,13 +165,13 @@ joined-first octet more atom (Ends atoms) = record {
 joined-first octet more atom (Goes run others atoms is joined) = record {
   pieces = atom-piece (octet ∷ run) ∷ (dot-piece ∷ joined.pieces);
   dotted = (octet ∷ run, others, refl, refl, joined.dotted, ap (λ s. octet ∷ s) is);
-  cut = λ rest behind ends cut. (
+  cut = λ rest after ends cut. (
     46 ∷ (others ++ rest),
     (
       ap (λ s. octet ∷ (s ++ rest)) is ∙ ap (λ s. octet ∷ s) (append_assoc run (46 ∷ others) rest),
       (
         ((λ none. absurd (cc)), ((atom, atoms), refl)),
-        (others ++ rest, (refl, (record { octet = 46; alone = refl; begins = refl }, joined.cut rest behind ends cut))),
+        (others ++ rest, (refl, (record { octet = 46; alone = refl; begins = refl }, joined.cut rest after ends cut))),
       ),
     ),
   );

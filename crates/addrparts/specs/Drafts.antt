@@ -54,18 +54,18 @@ read draft kind text = put (stage_after draft.stage kind) draft (value_of kind t
 -- a token at its place
 abbrev pub take_at : Place → Draft → Kind → List ℕ → Draft
 take_at P.Front draft K.Less text = start_at P.Open
-take_at P.Front draft K.Greater text = record draft { place = P.Behind; stage = S.Wrong }
+take_at P.Front draft K.Greater text = record draft { place = P.After; stage = S.Wrong }
 take_at P.Front draft kind text = read draft kind text
 take_at P.Open draft K.At text = record draft { place = P.Route }
-take_at P.Open draft K.Greater text = record draft { place = P.Behind }
+take_at P.Open draft K.Greater text = record draft { place = P.After }
 take_at P.Open draft kind text = read (record draft { place = P.Inside }) kind text
 take_at P.Route draft K.Colon text = record draft { place = P.Inside }
-take_at P.Route draft K.Greater text = record draft { place = P.Behind }
+take_at P.Route draft K.Greater text = record draft { place = P.After }
 take_at P.Route draft kind text = draft
-take_at P.Inside draft K.Greater text = record draft { place = P.Behind }
+take_at P.Inside draft K.Greater text = record draft { place = P.After }
 take_at P.Inside draft kind text = read draft kind text
-take_at P.Behind draft K.Less text = record draft { place = P.Inside; stage = S.Wrong }
-take_at P.Behind draft kind text = record draft { place = P.Behind; stage = S.Wrong }
+take_at P.After draft K.Less text = record draft { place = P.Inside; stage = S.Wrong }
+take_at P.After draft kind text = record draft { place = P.After; stage = S.Wrong }
 
 -- the draft after a token that doesn't end the part
 abbrev pub taken : Draft → Kind → List ℕ → Draft
@@ -76,7 +76,7 @@ taken draft kind text = take_at draft.place draft kind text
 -- no angle bracket is open
 abbrev pub is_outside : Place → Bool
 is_outside P.Front = true
-is_outside P.Behind = true
+is_outside P.After = true
 is_outside _ = false
 
 -- an addr-spec may end here

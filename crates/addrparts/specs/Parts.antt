@@ -48,10 +48,10 @@ abbrev pub AreParts : List Piece → List Part → Type 0
 AreParts all [] = ⊥
 AreParts all (part ∷ []) = (all ≡ part.tokens) × (IsUncut false part.tokens × (part.ending ≡ None))
 AreParts all (part ∷ (next ∷ more)) =
-    (mark : Piece) × (behind : List Piece) × (all ≡ part.tokens ++ mark ∷ behind)
+    (mark : Piece) × (after : List Piece) × (all ≡ part.tokens ++ mark ∷ after)
     × (IsUncut false part.tokens) × (is_open_after false part.tokens ≡ false)
     × (is_separator mark.kind ≡ true) × (part.ending ≡ Some mark.kind)
-    × AreParts behind (next ∷ more)
+    × AreParts after (next ∷ more)
 
 -- a word is an atom or a quoted string, and has a value (RFC 5322, 3.2.5)
 abbrev pub IsWord : Kind → List ℕ → List ℕ → Type 0

@@ -46,9 +46,9 @@ pub data Inner : Type 0 where
 
 -- octets and pairs, written in front of a text
 abbrev pub written : List Inner → List ℕ → List ℕ
-written [] behind = behind
-written (Plain octet ∷ more) behind = octet ∷ written more behind
-written (Pair octet ∷ more) behind = 92 ∷ (octet ∷ written more behind)
+written [] after = after
+written (Plain octet ∷ more) after = octet ∷ written more after
+written (Pair octet ∷ more) after = 92 ∷ (octet ∷ written more after)
 
 -- none of them alone is the closing octet or a backslash
 abbrev pub IsInside : ℕ → List Inner → Type 0
@@ -69,7 +69,7 @@ valued (Plain octet ∷ more) = octet ∷ valued more
 valued (Pair octet ∷ more) = octet ∷ valued more
 
 -- a quoted string, and its value (RFC 5322, 3.2.4)
-pub record IsQuoted (text value : List ℕ) : Type 0 where
+pub record IsQuotedWord (text value : List ℕ) : Type 0 where
   pub inside : List Inner
   pub plain : IsInside 34 inside
   pub spelled : text ≡ 34 ∷ written inside (34 ∷ [])
@@ -83,10 +83,10 @@ pub data Notes : Type 0 where
 
 -- the inside of a comment, written in front of a text
 abbrev pub noted : Notes → List ℕ → List ℕ
-noted End behind = behind
-noted (Note (Plain octet) more) behind = octet ∷ noted more behind
-noted (Note (Pair octet) more) behind = 92 ∷ (octet ∷ noted more behind)
-noted (Nested inner more) behind = 40 ∷ noted inner (41 ∷ noted more behind)
+noted End after = after
+noted (Note (Plain octet) more) after = octet ∷ noted more after
+noted (Note (Pair octet) more) after = 92 ∷ (octet ∷ noted more after)
+noted (Nested inner more) after = 40 ∷ noted inner (41 ∷ noted more after)
 
 -- no octet alone is a parenthesis or a backslash
 abbrev pub AreNotes : Notes → Type 0
@@ -135,17 +135,17 @@ pub record IsUnclosed (text : List ℕ) : Type 0 where
 -- the texts of the pieces of each kind, where this text follows: an atom is as long as it can be, and what isn't closed is bad
 -- up to the value's end
 abbrev pub IsShape : Kind → List ℕ → List ℕ → Type 0
-IsShape K.Atom text behind = (text ≢ []) × (AreAtoms text × IsNoAtom behind)
-IsShape K.Quoted text behind = IsClosed K.Quoted text
-IsShape K.Literal text behind = IsClosed K.Literal text
-IsShape K.Comment text behind = IsClosed K.Comment text
-IsShape K.Bad text behind = IsSingle K.Bad text ⊎ (IsUnclosed text × (behind ≡ []))
-IsShape kind text behind = IsSingle kind text
+IsShape K.Atom text after = (text ≢ []) × (AreAtoms text × IsNoAtom after)
+IsShape K.Quoted text after = IsClosed K.Quoted text
+IsShape K.Literal text after = IsClosed K.Literal text
+IsShape K.Comment text after = IsClosed K.Comment text
+IsShape K.Bad text after = IsSingle K.Bad text ⊎ (IsUnclosed text × (after ≡ []))
+IsShape kind text after = IsSingle kind text
 
 -- the value is these pieces, one after the other
 abbrev pub Cut : List ℕ → List Piece → Type 0
 Cut value [] = value ≡ []
-Cut value (piece ∷ more) = (behind : List ℕ) × ((value ≡ piece.text ++ behind) × (IsShape piece.kind piece.text behind × Cut behind more))
+Cut value (piece ∷ more) = (after : List ℕ) × ((value ≡ piece.text ++ after) × (IsShape piece.kind piece.text after × Cut after more))
 
 -- the text without its quotation marks, each quoted pair replaced by its octet; whether a backslash stands before the text
 abbrev pub unquoted_from : Bool → List ℕ → List ℕ

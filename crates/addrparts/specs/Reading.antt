@@ -14,28 +14,28 @@ use Rattle.addrparts.specs.Outbound.{is_fit}
 use Rattle.addrparts.specs.Drafts.{start_at, start, taken, is_outside, outcome, given}
 
 -- what stands after the first closing octet that no backslash escapes; whether a backslash stands before the text
-abbrev pub behind : ℕ → Bool → List ℕ → Option (List ℕ)
-behind close escaped [] = None
-behind close true (octet ∷ more) = behind close false more
-behind close false (octet ∷ more) =
+abbrev pub after_close : ℕ → Bool → List ℕ → Option (List ℕ)
+after_close close escaped [] = None
+after_close close true (octet ∷ more) = after_close close false more
+after_close close false (octet ∷ more) =
     if octet == close then Some more
-    else (if octet == 92 then behind close true more
-    else behind close false more)
+    else (if octet == 92 then after_close close true more
+    else after_close close false more)
 
 -- what stands after the end of a comment, with that many comments open in it
-abbrev pub behind_comment : ℕ → Bool → List ℕ → Option (List ℕ)
-behind_comment depth escaped [] = None
-behind_comment depth true (octet ∷ more) = behind_comment depth false more
-behind_comment zero false (octet ∷ more) =
-    if octet == 92 then behind_comment zero true more
-    else (if octet == 40 then behind_comment 1 false more
+abbrev pub after_comment : ℕ → Bool → List ℕ → Option (List ℕ)
+after_comment depth escaped [] = None
+after_comment depth true (octet ∷ more) = after_comment depth false more
+after_comment zero false (octet ∷ more) =
+    if octet == 92 then after_comment zero true more
+    else (if octet == 40 then after_comment 1 false more
     else (if octet == 41 then Some more
-    else behind_comment zero false more))
-behind_comment (suc depth) false (octet ∷ more) =
-    if octet == 92 then behind_comment (suc depth) true more
-    else (if octet == 40 then behind_comment (suc (suc depth)) false more
-    else (if octet == 41 then behind_comment depth false more
-    else behind_comment (suc depth) false more))
+    else after_comment zero false more))
+after_comment (suc depth) false (octet ∷ more) =
+    if octet == 92 then after_comment (suc depth) true more
+    else (if octet == 40 then after_comment (suc (suc depth)) false more
+    else (if octet == 41 then after_comment depth false more
+    else after_comment (suc depth) false more))
 
 -- how many octets stand before the rest
 abbrev pub len_before : List ℕ → Option (List ℕ) → Option ℕ
@@ -49,9 +49,9 @@ closed kind others None = (K.Bad, 1 + length others)
 -- the kind of the first piece, and its length, where these octets follow its first
 abbrev pub front_of : Kind → List ℕ → Kind × ℕ
 front_of K.Atom others = (K.Atom, 1 + prefix_len is_atom others)
-front_of K.Quoted others = closed K.Quoted others (len_before others (behind 34 false others))
-front_of K.Literal others = closed K.Literal others (len_before others (behind 93 false others))
-front_of K.Comment others = closed K.Comment others (len_before others (behind_comment 0 false others))
+front_of K.Quoted others = closed K.Quoted others (len_before others (after_close 34 false others))
+front_of K.Literal others = closed K.Literal others (len_before others (after_close 93 false others))
+front_of K.Comment others = closed K.Comment others (len_before others (after_comment 0 false others))
 front_of kind others = (kind, 1)
 
 abbrev pub front : ℕ → List ℕ → Kind × ℕ
@@ -117,7 +117,7 @@ with_display display_name found = option_map (λ address. (display_name, address
 -- the display name and the address after what opens them
 abbrev pub outbound_at : List ℕ → Option (ℕ × List Piece) → Option (List ℕ × Addr)
 outbound_at text None = with_display [] (addr_spec_only start (pieces text))
-outbound_at text (Some (at, behind)) = with_display (unquoted (trimmed (take at text))) (addr_spec_only (start_at P.Inside) behind)
+outbound_at text (Some (at, after)) = with_display (unquoted (trimmed (take at text))) (addr_spec_only (start_at P.Inside) after)
 
 -- the display name and the address of a text that is fit
 abbrev pub outbound_fit : List ℕ → Option (List ℕ × Addr)

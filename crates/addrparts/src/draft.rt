@@ -18,25 +18,25 @@ pub enum Place {
     Route,
     /// In brackets, after the route if there is one.
     Inside,
-    /// Behind a closing bracket, where nothing more may stand.
-    Behind,
+    /// After a closing bracket, where nothing more may stand.
+    After,
 }
 
 /// How much of an addr-spec has been read.
 #[derive(Clone, Copy)]
 pub enum Stage {
     Start,
-    /// Behind a word of the local part.
+    /// After a word of the local part.
     Word,
-    /// Behind a dot of the local part.
+    /// After a dot of the local part.
     Dot,
-    /// Behind the `@`.
+    /// After the `@`.
     At,
-    /// Behind an atom of the domain.
+    /// After an atom of the domain.
     Name,
-    /// Behind a dot of the domain.
+    /// After a dot of the domain.
     NameDot,
-    /// Behind a domain literal.
+    /// After a domain literal.
     Literal,
     /// What was read begins no addr-spec.
     Wrong,
@@ -119,7 +119,7 @@ impl<'a> Draft<'a> {
         ensures { result ≡ drafts.is_outside self.now.place }
     {
         match self.place {
-            Place::Front | Place::Behind => true,
+            Place::Front | Place::After => true,
             _ => false,
         }
     }
@@ -171,12 +171,12 @@ impl<'a> Draft<'a> {
         match self.place {
             Place::Front => match kind {
                 Kind::Less => self.open(),
-                Kind::Greater => self.reject(Place::Behind),
+                Kind::Greater => self.reject(Place::After),
                 _ => self.read(alloc, kind, text, from)?,
             },
             Place::Open => match kind {
                 Kind::At => self.place = Place::Route,
-                Kind::Greater => self.place = Place::Behind,
+                Kind::Greater => self.place = Place::After,
                 _ => {
                     self.place = Place::Inside;
                     self.read(alloc, kind, text, from)?;
@@ -184,16 +184,16 @@ impl<'a> Draft<'a> {
             },
             Place::Route => match kind {
                 Kind::Colon => self.place = Place::Inside,
-                Kind::Greater => self.place = Place::Behind,
+                Kind::Greater => self.place = Place::After,
                 _ => {}
             },
             Place::Inside => match kind {
-                Kind::Greater => self.place = Place::Behind,
+                Kind::Greater => self.place = Place::After,
                 _ => self.read(alloc, kind, text, from)?,
             },
-            Place::Behind => match kind {
+            Place::After => match kind {
                 Kind::Less => self.reject(Place::Inside),
-                _ => self.reject(Place::Behind),
+                _ => self.reject(Place::After),
             },
         }
         Ok(())

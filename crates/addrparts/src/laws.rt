@@ -3,7 +3,7 @@ ghost use Rattle.std.specs.Prelude.{◌≡◌, ◌↔◌, ℕ, List, [], Some, t
 ghost use Rattle.addrparts.specs.declared.address.Addr.{Addr};
 ghost use Rattle.addrparts.specs.Outbound.{IsOutbound, IsBareAddress};
 ghost use Rattle.addrparts.specs.Parts.{AreAddresses};
-ghost use Rattle.addrparts.specs.Pieces.{Piece, Cut, IsEnclosed, IsQuoted, unquoted};
+ghost use Rattle.addrparts.specs.Pieces.{Piece, Cut, IsEnclosed, IsQuotedWord, unquoted};
 ghost use Rattle.addrparts.specs.Spelling.{IsDotAtom, is_dot_atom};
 ghost use Rattle.addrparts.specs.Reading.{pieces, addrs, outbound, bare};
 
@@ -20,7 +20,7 @@ pub fn atoms_with_dots()
 
 /// A quoted string has one value, that of its octets and pairs.
 pub fn value_of_a_quoted_string()
-    ensures { (text value : List ℕ) → IsQuoted text value ↔ (IsEnclosed 34 34 text × (value ≡ unquoted text)) }
+    ensures { (text value : List ℕ) → IsQuotedWord text value ↔ (IsEnclosed 34 34 text × (value ≡ unquoted text)) }
 {}
 
 /// A value has one list of addresses.

@@ -83,10 +83,10 @@ fn read_fit(alloc: Global, text: &[u8]) -> Result<Option<(Octets, Addr)>, AllocE
     let mut display_name = Octets::new(alloc);
     let found = match opening(text) {
         None => addr_spec_only(alloc, Place::Front, text)?,
-        Some((at, behind)) => {
+        Some((at, after)) => {
             let (before, _) = text.split_at(at);
             unquote(&mut display_name, trim_blanks(before))?;
-            addr_spec_only(alloc, Place::Inside, behind)?
+            addr_spec_only(alloc, Place::Inside, after)?
         }
     };
     Ok(found.map(|address| (display_name, address)))

@@ -63,8 +63,8 @@ fn goes_on(from: &[u8], len: usize, piece: &[u8]) -> bool
     ensures within { IsTrue result → len + length piece.now ≤ length from.now }
     ensures joined { IsTrue result → take (len + length piece.now) from.now ≡ take len from.now ++ piece.now }
 {
-    let (_, behind) = from.split_at(len);
-    behind.starts_with(piece)
+    let (_, after) = from.split_at(len);
+    after.starts_with(piece)
 }
 
 impl<'a> Pieces<'a> {

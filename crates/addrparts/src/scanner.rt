@@ -89,7 +89,7 @@ pub(crate) fn is_atom(octet: u8) -> bool
 
 /// How many octets it takes to come past the closing octet; a backslash takes the next octet with it.
 fn enclosed_len(inside: &[u8], close: u8) -> Option<usize>
-    ensures { result ≡ reading.len_before inside.now (reading.behind close false inside.now) }
+    ensures { result ≡ reading.len_before inside.now (reading.after_close close false inside.now) }
 {
     let mut escaped = false;
     for (i, octet) in inside.iter().enumerate() {
@@ -106,7 +106,7 @@ fn enclosed_len(inside: &[u8], close: u8) -> Option<usize>
 
 /// How many octets it takes to come past the end of the comment whose inside this is.
 fn comment_len(inside: &[u8]) -> Option<usize>
-    ensures { result ≡ reading.len_before inside.now (reading.behind_comment 0 false inside.now) }
+    ensures { result ≡ reading.len_before inside.now (reading.after_comment 0 false inside.now) }
 {
     let mut depth: usize = 0;
     let mut escaped = false;

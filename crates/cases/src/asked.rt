@@ -101,7 +101,7 @@ fn add_place(out: &mut Octets, word: &str, place: Place<'_>) -> Result<(), Alloc
     add_texts(out, &[word, place.path, lock])
 }
 
-/// Appends texts, each with `|` behind it.
+/// Appends texts, each with `|` after it.
 fn add_texts(out: &mut Octets, texts: &[&str]) -> Result<(), AllocError> {
     for text in texts {
         out.extend_from_slice(text.as_bytes())?;

@@ -27,7 +27,7 @@ pub fn add_answers(
     out.extend_from_slice(wanted.as_slice())
 }
 
-/// What a stream is answered that comes in two pieces, each with so many steps behind it.
+/// What a stream is answered that comes in two pieces, each with that many steps after it.
 fn answers(
     alloc: Global,
     world: &mut World<MemStore>,
@@ -60,8 +60,8 @@ fn add_octets(told: &mut Octets, answer: &Answer) -> Result<(), AllocError> {
     }
 }
 
-/// Appends of a stream that comes in pieces of so many octets: behind each piece whether an item can be taken off, 0 or 1;
-/// how many octets were looked at; and the same behind each step.
+/// Appends of a stream that comes in pieces of that many octets: after each piece whether an item can be taken off, 0 or 1;
+/// how many octets were looked at; and the same after each step.
 pub fn add_counts(
     alloc: Global,
     out: &mut Octets,

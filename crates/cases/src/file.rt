@@ -19,7 +19,7 @@ struct FileRuns<'a> {
     path: String,
 }
 
-/// Tries each case of the file, on a store of this process alone, which is taken away behind them.
+/// Tries each case of the file, on a store of this process alone, which is taken away after them.
 pub fn try_all(rt: &HostRuntime, tally: &mut Tally, file: &str) -> io::Result<()> {
     let path = path_for(rt)?;
     clear(rt, path.as_str())?;

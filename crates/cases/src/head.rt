@@ -24,14 +24,14 @@ pub fn try_all(alloc: Global, tally: &mut Tally, file: &str) -> Result<(), Alloc
     let all = sections(alloc, file)?;
     for section in all.iter() {
         message.try_section(alloc, tally, section)?;
-        message = message.behind(section);
+        message = message.after(section);
     }
     Ok(())
 }
 
 impl<'a> Message<'a> {
-    /// The message in force behind a section.
-    fn behind(self, section: &Section<'a>) -> Message<'a> {
+    /// The message in force after a section.
+    fn after(self, section: &Section<'a>) -> Message<'a> {
         if section.name == "message" || section.name == "mail" {
             return Message {
                 text: section.text,
@@ -68,7 +68,7 @@ impl<'a> Message<'a> {
     }
 }
 
-/// Appends a line `NAME|VALUE` for each field, the body behind `body `, and the size behind `size `.
+/// Appends a line `NAME|VALUE` for each field, the body after `body `, and the size after `size `.
 fn add(alloc: Global, out: &mut Octets, message: &[u8]) -> Result<(), AllocError> {
     let head = Head::read(alloc, message)?;
     for field in head.fields() {

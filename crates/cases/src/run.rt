@@ -144,7 +144,7 @@ pub fn answer<K: Keeper, T: MailSink>(
     given: &[Octets],
 ) -> Result<(), AllocError> {
     let [call, text, input] = given else {
-        return out.extend_from_slice(b"not so many columns");
+        return out.extend_from_slice(b"not that many columns");
     };
     match call.as_slice() {
         b"run" => add_run(

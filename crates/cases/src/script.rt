@@ -37,7 +37,7 @@ pub fn try_all(alloc: Global, tally: &mut Tally, file: &str) -> Result<(), Alloc
 }
 
 impl<'a> Trial<'a> {
-    /// What is in force behind a section.
+    /// What is in force after a section.
     fn with(self, section: &Section<'a>) -> Trial<'a> {
         let mut next = self;
         if section.name == "from" {

@@ -8,7 +8,7 @@ pub struct Section<'a> {
     /// The number of the title's line, counted from 1.
     pub line: usize,
     pub name: &'a str,
-    /// What stands behind the name, to the end of the line.
+    /// What stands after the name, to the end of the line.
     pub note: &'a str,
     /// The lines below the title, without the line end before the next title.
     pub text: &'a str,

@@ -29,7 +29,7 @@ pub fn try_all(alloc: Global, tally: &mut Tally, file: &str) -> Result<(), Alloc
         if section.name == "world" {
             world = World::new(alloc, opened(alloc)?);
         } else if section.name == "wanted" {
-            talk.happen(alloc, &mut world, &mut answer)?;
+            talk.apply(alloc, &mut world, &mut answer)?;
             compare(alloc, tally, section, answer.as_slice())?;
             answer = Octets::new(alloc);
         } else if section.name == "cut" {
@@ -91,7 +91,7 @@ impl<'a> Talk<'a> {
         Ok(true)
     }
 
-    /// Takes an event so many times: `== step 1`, or `== deliver USER x300`. Answers false where the section is no event.
+    /// Takes an event that many times: `== step 1`, or `== deliver USER x300`. Answers false where the section is no event.
     fn add(&mut self, alloc: Global, section: &Section<'a>) -> Result<bool, AllocError> {
         let (note, times) = times_in(section.note);
         for _ in 0..times {
@@ -170,7 +170,7 @@ impl<'a> Talk<'a> {
     }
 
     /// Lets the events happen, and appends what is answered to those that are shown.
-    fn happen(
+    fn apply(
         &mut self,
         alloc: Global,
         world: &mut World<MemStore>,

@@ -130,7 +130,7 @@ impl Table {
             Table::Tokens => token::told(alloc, out, text),
             Table::Faults => fault::told(alloc, out, text),
             Table::Asked => asked::told(alloc, out, text),
-            _ => out.extend_from_slice(b"not so many columns"),
+            _ => out.extend_from_slice(b"not that many columns"),
         }
     }
 
@@ -149,7 +149,7 @@ impl Table {
             Table::Globs => comparison::matched(out, text, other),
             Table::Items => item::told(alloc, out, text, other),
             Table::Streams => stream::answer(alloc, out, text, other),
-            _ => out.extend_from_slice(b"not so many columns"),
+            _ => out.extend_from_slice(b"not that many columns"),
         }
     }
 }
@@ -182,7 +182,7 @@ impl Answers for Rows {
             (Table::Logins, _) => login::answer(alloc, out, given),
             (_, [text]) => table.of_one(alloc, out, text.as_slice()),
             (_, [text, other]) => table.of_two(alloc, out, text.as_slice(), other.as_slice()),
-            _ => out.extend_from_slice(b"not so many columns"),
+            _ => out.extend_from_slice(b"not that many columns"),
         }
     }
 }

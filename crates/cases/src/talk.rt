@@ -30,14 +30,14 @@ pub fn add_sent<K: Keeper>(
     let mut left = sent.as_slice();
     let mut told = Vec::new(alloc);
     let ended = serve_one(alloc, path, &mut left, &mut told, keeper);
-    let answers = behind_greeting(told.as_slice());
+    let answers = after_greeting(told.as_slice());
     match answers.strip_prefix(LOGGED_IN) {
         Some(answer) if ended.is_ok() => out.extend_from_slice(answer),
         _ => out.extend_from_slice(answers),
     }
 }
 
-/// Appends how a session ended, and what the client was told: all of it, or what stands behind the greeting. The number
+/// Appends how a session ended, and what the client was told: all of it, or what stands after the greeting. The number
 /// is how many octets a read gives at most, or of the call from which on the input or the output fails.
 pub fn answer<K: Keeper>(
     alloc: Global,
@@ -76,7 +76,7 @@ pub fn answer<K: Keeper>(
     };
     add_end(alloc, out, ended)?;
     out.extend_from_slice(match call {
-        b"talk" | b"gone" => behind_greeting(told.as_slice()),
+        b"talk" | b"gone" => after_greeting(told.as_slice()),
         _ => told.as_slice(),
     })
 }
@@ -89,15 +89,15 @@ fn add_end(alloc: Global, out: &mut Octets, ended: Result<(), Fault>) -> Result<
     }
 }
 
-/// What stands behind the greeting, or all where it isn't whole.
-fn behind_greeting(told: &[u8]) -> &[u8] {
+/// What stands after the greeting, or all where it isn't whole.
+fn after_greeting(told: &[u8]) -> &[u8] {
     match told.windows(GREETED.len()).position(|four| four == GREETED) {
         Some(at) => told.get(at.saturating_add(GREETED.len())..).unwrap_or(told),
         None => told,
     }
 }
 
-/// An input that gives so many octets at a time at most.
+/// An input that gives that many octets at a time at most.
 #[derive(Drop)]
 struct Cut<'a> {
     left: &'a [u8],

@@ -29,7 +29,7 @@ pub fn decoded(alloc: Global, text: &str) -> Result<Octets, AllocError> {
     Ok(out)
 }
 
-/// Appends what stands behind the first `%{` of a text.
+/// Appends what stands after the first `%{` of a text.
 fn add_repeated(alloc: Global, out: &mut Octets, more: &str) -> Result<(), AllocError> {
     for piece in more.split("%{") {
         match repetition(piece) {
@@ -50,7 +50,7 @@ fn repetition(piece: &str) -> Option<(&str, u64, &str)> {
     Some((part, parse_decimal(count.as_bytes())?, rest))
 }
 
-/// Appends a text so many times.
+/// Appends a text that many times.
 fn add_times(alloc: Global, out: &mut Octets, part: &str, count: u64) -> Result<(), AllocError> {
     for turn in 0..count {
         add_turn(alloc, out, part, turn)?;

@@ -7,7 +7,7 @@ EqualBy image key value = map image key ≡ map image value
 
 -- there are texts to put before and after the key, so that all three have the value's images
 abbrev pub ContainsBy : (ℕ → ℕ) → List ℕ → List ℕ → Type 0
-ContainsBy image key value = (before : List ℕ) × ((behind : List ℕ) × (map image value ≡ map image (before ++ key ++ behind)))
+ContainsBy image key value = (before : List ℕ) × ((after : List ℕ) × (map image value ≡ map image (before ++ key ++ after)))
 
 -- the images of a number of octets from a place on are the same in the key and the value
 abbrev pub SameFrom : (ℕ → ℕ) → List ℕ → List ℕ → ℕ → ℕ → Type 0

@@ -19,7 +19,7 @@ two_words = refl
 with_space : text_of (codes "=?US-ASCII?Q?a_b?=") ≡ codes "a b"
 with_space = refl
 
--- a word that is glued to other octets is none
+-- a word that is glued to other octets isn't one
 glued : text_of (codes "(=?US-ASCII?Q?a?=)") ≡ codes "(=?US-ASCII?Q?a?=)"
 glued = refl
 

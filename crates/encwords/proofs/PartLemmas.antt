@@ -57,8 +57,8 @@ parts_last front charset encoding text back parts other (inl one) = rw (one, oth
 parts_last front charset encoding text back parts other (inr cut) = rw cut.is refl
 
 -- parts that are not those of a word
-pub parts_other : (run front behind charset second encoding third text back : List ℕ) → parts_of run ≡ front ∷ parts_of behind → parts_of behind ≡ charset ∷ parts_of second
+pub parts_other : (run front after charset second encoding third text back : List ℕ) → parts_of run ≡ front ∷ parts_of after → parts_of after ≡ charset ∷ parts_of second
     → parts_of second ≡ encoding ∷ parts_of third → parts_of third ≡ text ∷ parts_of back → (bytes_eq front (codes "=") && bytes_eq back (codes "=")) ≡ false → meaning_in (parts_of run) ≡ None
-parts_other run front behind charset second encoding third text back a b c d other =
+parts_other run front after charset second encoding third text back a b c d other =
     let all : parts_of run ≡ front ∷ charset ∷ encoding ∷ text ∷ parts_of back = a ∙ ap (λ t. front ∷ t) (b ∙ ap (λ t. charset ∷ t) (c ∙ ap (λ t. encoding ∷ t) d)) in
     ap meaning_in all ∙ parts_last front charset encoding text back (parts_of back) other (parts_shape back)

@@ -30,8 +30,8 @@ pieces_only text (piece ∷ more) [] (rest, (cut, are)) were = absurd (cut.prese
 pieces_only text (piece ∷ more) (other ∷ others) (rest, (cut, are)) (left, (took, were)) =
     let size = one_length text (length piece) (length other) cut.length_is took.length_is in
     let same : piece ≡ other = sym (cut_front text piece rest cut) ∙ (ap (λ n. take n text) size ∙ cut_front text other left took) in
-    let behind : rest ≡ left = sym (cut_back text piece rest cut) ∙ (ap (λ n. drop n text) size ∙ cut_back text other left took) in
-    let later = pieces_only rest more others are (subst (ArePieces others) (sym behind) were) in
+    let after : rest ≡ left = sym (cut_back text piece rest cut) ∙ (ap (λ n. drop n text) size ∙ cut_back text other left took) in
+    let later = pieces_only rest more others are (subst (ArePieces others) (sym after) were) in
     ap (λ p. p ∷ more) same ∙ ap (λ t. other ∷ t) later
 
 value_at : (plain : Bool) (text one two : List ℕ) → is_plain text ≡ plain → IsHeaderText text one → IsHeaderText text two → one ≡ two

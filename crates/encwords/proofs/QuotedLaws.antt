@@ -4,7 +4,7 @@ use Rattle.std.proofs.lemmas.Bool.{eqb-true}
 use Rattle.std.specs.Option.{option_and_then}
 use Rattle.octets.proofs.Lists.{some_is}
 use Rattle.encwords.specs.declared.quoted.Mode.TheVariants.{InText, AfterMark}
-use Rattle.encwords.specs.Quoted.{digit_of, Piece, Plain, Space, Escaped, spelling, octet_of, value_of, spellings, AreValues, IsQuoted, with_octet, quoted_from, quoted_of}
+use Rattle.encwords.specs.Quoted.{digit_of, Piece, Plain, Space, Escaped, spelling, octet_of, value_of, spellings, AreValues, IsQEncoded, with_octet, quoted_from, quoted_of}
 
 plain_value : (octet first : ℕ) (mark low : Bool) → cond mark None (cond low None (Some octet)) ≡ Some first → (mark ≡ false) × ((low ≡ false) × (octet ≡ first))
 plain_value octet first true low same = absurd (cc same)
@@ -39,19 +39,19 @@ with_found octet None octets same = absurd (cc same)
 with_found octet (Some rest) octets same = (rest, (refl, sym (some_is (octet ∷ rest) octets same)))
 
 -- one piece more in front
-piece_more : (piece : Piece) (text octets : List ℕ) (first : ℕ) → value_of piece ≡ Some first → IsQuoted text octets → IsQuoted (spelling piece ++ text) (first ∷ octets)
+piece_more : (piece : Piece) (text octets : List ℕ) (first : ℕ) → value_of piece ≡ Some first → IsQEncoded text octets → IsQEncoded (spelling piece ++ text) (first ∷ octets)
 piece_more piece text octets first value is = record {
   pieces = piece ∷ is.pieces;
   spelled = ap (λ t. spelling piece ++ t) is.spelled;
   valued = (first, (octets, (refl, (value, is.valued))));
 }
 
-plain_more : (octet : ℕ) (rest octets : List ℕ) (low : Bool) → (octet == 61) ≡ false → (octet == 95) ≡ low → IsQuoted rest octets → IsQuoted (octet ∷ rest) (cond low 32 octet ∷ octets)
+plain_more : (octet : ℕ) (rest octets : List ℕ) (low : Bool) → (octet == 61) ≡ false → (octet == 95) ≡ low → IsQEncoded rest octets → IsQEncoded (octet ∷ rest) (cond low 32 octet ∷ octets)
 plain_more octet rest octets true other low is = rw (eqb-true octet 95 low) (piece_more Space rest octets 32 refl is)
 plain_more octet rest octets false other high is = piece_more (Plain octet) rest octets octet (rw (other, high) refl) is
 
-escape_more : (high low : ℕ) (rest octets : List ℕ) (h l : Option ℕ) → digit_of high ≡ h → digit_of low ≡ l → ((rests : List ℕ) → quoted_of rest ≡ Some rests → IsQuoted rest rests)
-    → option_and_then (λ a. option_and_then (λ b. with_octet (a * 16 + b) (quoted_from InText rest)) l) h ≡ Some octets → IsQuoted (61 ∷ high ∷ low ∷ rest) octets
+escape_more : (high low : ℕ) (rest octets : List ℕ) (h l : Option ℕ) → digit_of high ≡ h → digit_of low ≡ l → ((rests : List ℕ) → quoted_of rest ≡ Some rests → IsQEncoded rest rests)
+    → option_and_then (λ a. option_and_then (λ b. with_octet (a * 16 + b) (quoted_from InText rest)) l) h ≡ Some octets → IsQEncoded (61 ∷ high ∷ low ∷ rest) octets
 escape_more high low rest octets None l dh dl later same = absurd (cc same)
 escape_more high low rest octets (Some a) None dh dl later same = absurd (cc same)
 escape_more high low rest octets (Some a) (Some b) dh dl later same =
@@ -64,16 +64,16 @@ none_digit None octets same = cc same
 none_digit (Some h) octets same = cc same
 
 first_way : (test : Bool) (octet : ℕ) (rest octets : List ℕ) → (octet == 61) ≡ test
-    → ((rests : List ℕ) → quoted_of rest ≡ Some rests → IsQuoted rest rests)
-    → (quoted_from AfterMark rest ≡ Some octets → IsQuoted (61 ∷ rest) octets)
-    → cond test (quoted_from AfterMark rest) (with_octet (cond (octet == 95) 32 octet) (quoted_from InText rest)) ≡ Some octets → IsQuoted (octet ∷ rest) octets
+    → ((rests : List ℕ) → quoted_of rest ≡ Some rests → IsQEncoded rest rests)
+    → (quoted_from AfterMark rest ≡ Some octets → IsQEncoded (61 ∷ rest) octets)
+    → cond test (quoted_from AfterMark rest) (with_octet (cond (octet == 95) 32 octet) (quoted_from InText rest)) ≡ Some octets → IsQEncoded (octet ∷ rest) octets
 first_way true octet rest octets mark later escaped same = rw (eqb-true octet 61 mark) (escaped same)
 first_way false octet rest octets other later escaped same =
     let found = with_found (cond (octet == 95) 32 octet) (quoted_from InText rest) octets same in
     rw found.1.1 (plain_more octet rest found.0 (octet == 95) other refl (later found.0 found.1.0))
 
 -- what is read so is written so
-pub quoted_is : (text octets : List ℕ) → quoted_of text ≡ Some octets → IsQuoted text octets
+pub quoted_is : (text octets : List ℕ) → quoted_of text ≡ Some octets → IsQEncoded text octets
 quoted_is [] octets same = record { pieces = []; spelled = refl; valued = sym (some_is [] octets same) }
 quoted_is (octet ∷ []) octets same =
     first_way (octet == 61) octet [] octets refl (λ rests is. quoted_is [] rests is) (λ none. absurd (cc none)) same

@@ -140,9 +140,9 @@ spaced_nonblank [] = refl
 spaced_nonblank (piece ∷ more) = refl
 
 -- what a recognised word and what stands before it give
-word_gives : (behind : Bool) (blanks word piece : List ℕ) (runs : List (List ℕ)) (found : Option (List ℕ)) → found ≡ Some piece
-    → cond (behind && is_some found) [] blanks ++ (unwrap_or found word ++ given_from (is_some found) runs) ≡ cond (behind && true) [] blanks ++ (piece ++ given_from true runs)
-word_gives behind blanks word piece runs found is = ap (λ f. cond (behind && is_some f) [] blanks ++ (unwrap_or f word ++ given_from (is_some f) runs)) is
+word_gives : (after_word : Bool) (blanks word piece : List ℕ) (runs : List (List ℕ)) (found : Option (List ℕ)) → found ≡ Some piece
+    → cond (after_word && is_some found) [] blanks ++ (unwrap_or found word ++ given_from (is_some found) runs) ≡ cond (after_word && true) [] blanks ++ (piece ++ given_from true runs)
+word_gives after_word blanks word piece runs found is = ap (λ f. cond (after_word && is_some f) [] blanks ++ (unwrap_or f word ++ given_from (is_some f) runs)) is
 
 word_not_empty : (piece : List ℕ) → word_for piece ≢ []
 word_not_empty piece same = cc same

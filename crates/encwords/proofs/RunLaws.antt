@@ -41,12 +41,12 @@ alone octet false is = inr (and_true _ _ (ap not is) refl, refl)
 
 found_before : (octet : ℕ) (rest : List ℕ) (run : List ℕ) (more : List (List ℕ)) (test : Bool) → cond (is_blank octet) (begins_blank run) (begins_nonblank run) ≡ test → AreRuns (run ∷ more) rest
     → AreRuns (cond test ((octet ∷ run) ∷ more) ((octet ∷ []) ∷ run ∷ more)) (octet ∷ rest)
-found_before octet rest run more true same (behind, (spelled, (present, (kind, are)))) =
-    (behind, (ap (λ t. octet ∷ t) spelled, ((λ none. absurd (cc none)), (longer octet run behind (is_blank octet) refl present kind same, are))))
-found_before octet rest run more false other (behind, (spelled, (present, (kind, are)))) =
-    (rest, (refl, ((λ none. absurd (cc none)), (apart_at octet rest run behind spelled present other, (behind, (spelled, (present, (kind, are)))))))) where
-      apart_at : (octet : ℕ) (rest run behind : List ℕ) → rest ≡ run ++ behind → run ≢ [] → cond (is_blank octet) (begins_blank run) (begins_nonblank run) ≡ false → IsRun (octet ∷ []) rest
-      apart_at octet rest run behind spelled present other = rw spelled (apart octet run behind (is_blank octet) refl present other)
+found_before octet rest run more true same (after, (spelled, (present, (kind, are)))) =
+    (after, (ap (λ t. octet ∷ t) spelled, ((λ none. absurd (cc none)), (longer octet run after (is_blank octet) refl present kind same, are))))
+found_before octet rest run more false other (after, (spelled, (present, (kind, are)))) =
+    (rest, (refl, ((λ none. absurd (cc none)), (apart_at octet rest run after spelled present other, (after, (spelled, (present, (kind, are)))))))) where
+      apart_at : (octet : ℕ) (rest run after : List ℕ) → rest ≡ run ++ after → run ≢ [] → cond (is_blank octet) (begins_blank run) (begins_nonblank run) ≡ false → IsRun (octet ∷ []) rest
+      apart_at octet rest run after spelled present other = rw spelled (apart octet run after (is_blank octet) refl present other)
 
 -- an octet before the runs of what follows
 runs_step : (octet : ℕ) (rest : List ℕ) (runs : List (List ℕ)) → AreRuns runs rest → AreRuns (before_runs octet runs) (octet ∷ rest)

@@ -75,9 +75,9 @@ begins-append [] after present = absurd (present refl)
 begins-append (octet ∷ run) after present = refl
 
 -- what a run of other octets gives, and what follows it
-given_nonblank : (behind : Bool) (run after : List ℕ) → run ≢ [] → list_all is_nonblank run ≡ true → begins_nonblank after ≡ false
-    → given_from behind (runs_of (run ++ after)) ≡ unwrap_or (word_of run) run ++ given_from (is_word run) (runs_of after)
-given_nonblank behind run after present all ends =
+given_nonblank : (after_word : Bool) (run after : List ℕ) → run ≢ [] → list_all is_nonblank run ≡ true → begins_nonblank after ≡ false
+    → given_from after_word (runs_of (run ++ after)) ≡ unwrap_or (word_of run) run ++ given_from (is_word run) (runs_of after)
+given_nonblank after_word run after present all ends =
     let runs = runs_nonblank run after present all ends in
     let nonblank = nonblank_not_blank run all in
     rw (runs, nonblank) refl
@@ -86,19 +86,19 @@ choice_nil : (test : Bool) → cond test [] (let none : List ℕ = [] in none) �
 choice_nil true = refl
 choice_nil false = refl
 
--- the blanks of a front and the other octets behind them give this
-pub given_front : (behind : Bool) (blanks run after : List ℕ) → list_all is_blank blanks ≡ true → list_all is_nonblank run ≡ true → begins_nonblank after ≡ false → (run ≡ [] → after ≡ [])
-    → given_from behind (runs_of (blanks ++ (run ++ after))) ≡ cond (behind && is_word run) [] blanks ++ (unwrap_or (word_of run) run ++ given_from (is_word run) (runs_of after))
-given_front behind [] [] after blank nonblank ends last = let none = last refl in rw (none, choice_nil (behind && is_word [])) refl
-given_front behind [] (octet ∷ run) after blank nonblank ends last =
-    let rest = given_nonblank behind (octet ∷ run) after (λ none. absurd (cc none)) nonblank ends in
-    rest ∙ ap (λ t. t ++ (unwrap_or (word_of (octet ∷ run)) (octet ∷ run) ++ given_from (is_word (octet ∷ run)) (runs_of after))) (sym (choice_nil (behind && is_word (octet ∷ run))))
-given_front behind (blank ∷ blanks) [] after all nonblank ends last =
+-- the blanks of a front and the other octets after_word them give this
+pub given_front : (after_word : Bool) (blanks run after : List ℕ) → list_all is_blank blanks ≡ true → list_all is_nonblank run ≡ true → begins_nonblank after ≡ false → (run ≡ [] → after ≡ [])
+    → given_from after_word (runs_of (blanks ++ (run ++ after))) ≡ cond (after_word && is_word run) [] blanks ++ (unwrap_or (word_of run) run ++ given_from (is_word run) (runs_of after))
+given_front after_word [] [] after blank nonblank ends last = let none = last refl in rw (none, choice_nil (after_word && is_word [])) refl
+given_front after_word [] (octet ∷ run) after blank nonblank ends last =
+    let rest = given_nonblank after_word (octet ∷ run) after (λ none. absurd (cc none)) nonblank ends in
+    rest ∙ ap (λ t. t ++ (unwrap_or (word_of (octet ∷ run)) (octet ∷ run) ++ given_from (is_word (octet ∷ run)) (runs_of after))) (sym (choice_nil (after_word && is_word (octet ∷ run))))
+given_front after_word (blank ∷ blanks) [] after all nonblank ends last =
     let none = last refl in
     let runs = runs_blank (blank ∷ blanks) [] (λ empty. absurd (cc empty)) all refl in
     let first : is_blank blank ≡ true = and_left _ _ all in
     rw (none, runs, first) refl
-given_front behind (blank ∷ blanks) (octet ∷ run) after all nonblank ends last =
+given_front after_word (blank ∷ blanks) (octet ∷ run) after all nonblank ends last =
     let other : is_blank octet ≡ false = not_blank_from octet (and_left _ _ nonblank) in
     let runs = runs_blank (blank ∷ blanks) ((octet ∷ run) ++ after) (λ empty. absurd (cc empty)) all other in
     let more = runs_nonblank (octet ∷ run) after (λ empty. absurd (cc empty)) nonblank ends in
@@ -117,36 +117,36 @@ begins_nonblank-is [] = refl
 begins_nonblank-is (octet ∷ rest) = refl
 
 -- where no octet but a blank begins what follows the blanks, nothing follows
-nothing_left : (behind : List ℕ) → begins is_blank behind ≡ false → take (prefix_len is_nonblank behind) behind ≡ [] → drop (prefix_len is_nonblank behind) behind ≡ []
+nothing_left : (tail : List ℕ) → begins is_blank tail ≡ false → take (prefix_len is_nonblank tail) tail ≡ [] → drop (prefix_len is_nonblank tail) tail ≡ []
 nothing_left [] begins none = refl
 nothing_left (octet ∷ rest) begins none = let nonblank : is_nonblank octet ≡ true = ap not begins in absurd (present (rw (nonblank, one-add) at none)) where
   present : {run : List ℕ} → octet ∷ run ≡ [] → ⊥
   present same = cc same
 
--- the blanks at the front of a text and the other octets behind them give this
-pub given_step : (behind : Bool) (text blanks rest run after : List ℕ) → blanks ≡ take (prefix_len is_blank text) text → rest ≡ drop (prefix_len is_blank text) text
+-- the blanks at the front of a text and the other octets after_word them give this
+pub given_step : (after_word : Bool) (text blanks rest run after : List ℕ) → blanks ≡ take (prefix_len is_blank text) text → rest ≡ drop (prefix_len is_blank text) text
     → run ≡ take (prefix_len is_nonblank rest) rest → after ≡ drop (prefix_len is_nonblank rest) rest
-    → given_from behind (runs_of text) ≡ cond (behind && is_word run) [] blanks ++ (unwrap_or (word_of run) run ++ given_from (is_word run) (runs_of after))
-given_step behind text blanks rest run after b r d a =
+    → given_from after_word (runs_of text) ≡ cond (after_word && is_word run) [] blanks ++ (unwrap_or (word_of run) run ++ given_from (is_word run) (runs_of after))
+given_step after_word text blanks rest run after b r d a =
     let blank : list_all is_blank blanks ≡ true = ap (list_all is_blank) b ∙ list_all-prefix is_blank text in
     let nonblank : list_all is_nonblank run ≡ true = ap (list_all is_nonblank) d ∙ list_all-prefix is_nonblank rest in
     let ends : begins_nonblank after ≡ false = begins_nonblank-is after ∙ (ap (begins is_nonblank) a ∙ stops is_nonblank rest) in
     let left : begins is_blank rest ≡ false = ap (begins is_blank) r ∙ stops is_blank text in
     let last = λ (none : run ≡ []). a ∙ nothing_left rest left (sym d ∙ none) in
-    let behind_blanks : rest ≡ run ++ after = sym (take-append-drop (prefix_len is_nonblank rest) rest) ∙ (ap (λ t. t ++ drop (prefix_len is_nonblank rest) rest) (sym d) ∙ ap (λ t. run ++ t) (sym a)) in
-    let whole : text ≡ blanks ++ (run ++ after) = sym (take-append-drop (prefix_len is_blank text) text) ∙ (ap (λ t. t ++ drop (prefix_len is_blank text) text) (sym b) ∙ ap (λ t. blanks ++ t) (sym r ∙ behind_blanks)) in
-    ap (λ t. given_from behind (runs_of t)) whole ∙ given_front behind blanks run after blank nonblank ends last
+    let past_blanks : rest ≡ run ++ after = sym (take-append-drop (prefix_len is_nonblank rest) rest) ∙ (ap (λ t. t ++ drop (prefix_len is_nonblank rest) rest) (sym d) ∙ ap (λ t. run ++ t) (sym a)) in
+    let whole : text ≡ blanks ++ (run ++ after) = sym (take-append-drop (prefix_len is_blank text) text) ∙ (ap (λ t. t ++ drop (prefix_len is_blank text) text) (sym b) ∙ ap (λ t. blanks ++ t) (sym r ∙ past_blanks)) in
+    ap (λ t. given_from after_word (runs_of t)) whole ∙ given_front after_word blanks run after blank nonblank ends last
 
 -- one front more was read
-pub read_front : (value text with_blanks with_run rest blanks behind run after kept shown : List ℕ) (after_word before now : Bool) (word : Option (List ℕ))
+pub read_front : (value text with_blanks with_run rest blanks tail run after kept shown : List ℕ) (after_word before now : Bool) (word : Option (List ℕ))
     → text ++ given_from after_word (runs_of rest) ≡ value
-    → blanks ≡ take (prefix_len is_blank rest) rest → behind ≡ drop (prefix_len is_blank rest) rest
-    → run ≡ take (prefix_len is_nonblank behind) behind → after ≡ drop (prefix_len is_nonblank behind) behind
+    → blanks ≡ take (prefix_len is_blank rest) rest → tail ≡ drop (prefix_len is_blank rest) rest
+    → run ≡ take (prefix_len is_nonblank tail) tail → after ≡ drop (prefix_len is_nonblank tail) tail
     → word ≡ word_of run → before ≡ is_some word → now ≡ is_some word
     → kept ≡ cond (after_word && before) [] blanks → shown ≡ unwrap_or word run → with_blanks ≡ text ++ kept → with_run ≡ with_blanks ++ shown
     → with_run ++ given_from now (runs_of after) ≡ value
-read_front value text with_blanks with_run rest blanks behind run after kept shown after_word before now word so_far b r d a w f n k s first second =
-    let step = given_step after_word rest blanks behind run after b r d a in
+read_front value text with_blanks with_run rest blanks tail run after kept shown after_word before now word so_far b r d a w f n k s first second =
+    let step = given_step after_word rest blanks tail run after b r d a in
     let more = given_from (is_word run) (runs_of after) in
     let known : is_some word ≡ is_word run = ap is_some w in
     let keeps : kept ≡ cond (after_word && is_word run) [] blanks = k ∙ ap (λ t. cond (after_word && t) [] blanks) (f ∙ known) in
@@ -175,9 +175,9 @@ shorter_drop (octet ∷ rest) present = way (is_blank octet) (prefix_len is_blan
   way : (test : Bool) (n : ℕ) → is_blank octet ≡ test
       → length (drop (prefix_len is_nonblank (drop (cond test (1 + n) 0) (octet ∷ rest))) (drop (cond test (1 + n) 0) (octet ∷ rest))) < length (octet ∷ rest)
   way true n is =
-      let behind = drop n rest in
+      let tail = drop n rest in
       let a = length-drop n rest in
-      let b = length-drop (prefix_len is_nonblank behind) behind in
+      let b = length-drop (prefix_len is_nonblank tail) tail in
       rw one-add (omega (arith, a, b))
   way false n is =
       let nonblank : is_nonblank octet ≡ true = ap not is in
@@ -185,5 +185,5 @@ shorter_drop (octet ∷ rest) present = way (is_blank octet) (prefix_len is_blan
       rw (nonblank, one-add) (omega (arith, a))
 
 -- what follows a front is shorter
-pub shorter : (text behind after : List ℕ) → behind ≡ drop (prefix_len is_blank text) text → after ≡ drop (prefix_len is_nonblank behind) behind → 0 < length text → length after < length text
-shorter text behind after b a present = rw (a, b) (shorter_drop text present)
+pub shorter : (text tail after : List ℕ) → tail ≡ drop (prefix_len is_blank text) text → after ≡ drop (prefix_len is_nonblank tail) tail → 0 < length text → length after < length text
+shorter text tail after b a present = rw (a, b) (shorter_drop text present)

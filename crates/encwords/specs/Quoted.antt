@@ -45,7 +45,7 @@ AreValues (piece ∷ more) octets =
     (first : ℕ) × ((rest : List ℕ) × ((octets ≡ first ∷ rest) × ((value_of piece ≡ Some first) × AreValues more rest)))
 
 -- a text in Q and its octets
-pub record IsQuoted (text octets : List ℕ) : Type 0 where
+pub record IsQEncoded (text octets : List ℕ) : Type 0 where
   pub pieces : List Piece
   pub spelled : text ≡ spellings pieces
   pub valued : AreValues pieces octets
@@ -79,6 +79,6 @@ abbrev pub after_step : Option (Mode × Option ℕ) → List ℕ → Option (Lis
 after_step None rest = None
 after_step (Some step) rest = with_read step.1 (quoted_from step.0 rest)
 
--- the octets of a text in Q: the one list that is in IsQuoted with it
+-- the octets of a text in Q: the one list that is in IsQEncoded with it
 abbrev pub quoted_of : List ℕ → Option (List ℕ)
 quoted_of text = quoted_from InText text

@@ -17,8 +17,8 @@ pub fn decoded(alloc: Global, value: &[u8]) -> Result<Vec<u8>, AllocError>
     let mut rest = value;
     let mut after_word = false;
     while !rest.is_empty() {
-        let (blanks, behind) = blank_run(rest);
-        let (run, after) = nonblank_run(behind);
+        let (blanks, tail) = blank_run(rest);
+        let (run, after) = nonblank_run(tail);
         let word = word_text(alloc, run)?;
         text.extend_from_slice(kept_blanks(after_word, word.is_some(), blanks))?;
         text.extend_from_slice(shown(&word, run))?;

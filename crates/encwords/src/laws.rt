@@ -3,7 +3,7 @@ ghost use Rattle.std.specs.Prelude.{◌≡◌, ◌↔◌, ℕ, List, IsUtf8, Som
 ghost use Rattle.base64.specs.Engines.{standard};
 ghost use Rattle.base64.specs.GeneralPurpose.{IsBytes};
 ghost use Rattle.encwords.specs.Headers.{ArePieces, IsHeaderText};
-ghost use Rattle.encwords.specs.Quoted.{IsQuoted, quoted_of};
+ghost use Rattle.encwords.specs.Quoted.{IsQEncoded, quoted_of};
 ghost use Rattle.encwords.specs.Runs.{AreRuns, runs_of};
 ghost use Rattle.encwords.specs.Words.{IsWord, SaysWord, word_of};
 ghost use Rattle.encwords.specs.Values.{IsTextOf, text_of};
@@ -28,7 +28,7 @@ pub fn text_of_a_value()
 
 /// A text in Q stands for the octets of its pieces, and for nothing where it has no pieces.
 pub fn octets_in_q()
-    ensures { (text octets : List ℕ) → (quoted_of text ≡ Some octets) ↔ IsQuoted text octets }
+    ensures { (text octets : List ℕ) → (quoted_of text ≡ Some octets) ↔ IsQEncoded text octets }
 {}
 
 /// A text has one list of pieces at most, so that what is written is the same at each call.

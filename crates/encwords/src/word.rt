@@ -87,10 +87,10 @@ fn parts(run: &[u8]) -> Option<(&[u8], &[u8], &[u8])>
     ensures { MatchOption result (words.word_of run.now ≡ None)
         (λ p. words.word_of run.now ≡ words.meaning_of p.0.now p.1.now p.2.now) }
 {
-    let (front, behind) = cut(run)?;
-    let (set, behind) = cut(behind)?;
-    let (encoding, behind) = cut(behind)?;
-    let (text, back) = cut(behind)?;
+    let (front, after) = cut(run)?;
+    let (set, after) = cut(after)?;
+    let (encoding, after) = cut(after)?;
+    let (text, back) = cut(after)?;
     if are_equals_signs(front, back) {
         Some((set, encoding, text))
     } else {

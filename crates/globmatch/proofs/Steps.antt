@@ -52,12 +52,12 @@ Star-takes f item x is takes = subst (λ i. Takes f i x) is takes
 module _ (f : ℕ → ℕ) (v : List ℕ) where
   module _ (item : Item) (rest : List Item) (m k : ℕ) where
     first_takes : Takes f item (get_or v k 0) → StandAt f rest m v (k + 1) → (j : ℕ) → j < suc m → Takes f (get_or (item ∷ rest) j Star) (get_or v (k + j) 0)
-    first_takes here behind zero l = subst (λ q. Takes f item (get_or v q 0)) (omega arith) here
-    first_takes here behind (suc j) l = subst (λ q. Takes f (get_or rest j Star) (get_or v q 0)) (omega arith) (behind.takes j (omega arith))
+    first_takes here after zero l = subst (λ q. Takes f item (get_or v q 0)) (omega arith) here
+    first_takes here after (suc j) l = subst (λ q. Takes f (get_or rest j Star) (get_or v q 0)) (omega arith) (after.takes j (omega arith))
 
     -- the first item takes an octet and the others stand after it
     StandAt-cons : Takes f item (get_or v k 0) → StandAt f rest m v (k + 1) → StandAt f (item ∷ rest) (suc m) v k
-    StandAt-cons here behind = record { fits = omega (arith, behind.fits); takes = first_takes here behind }
+    StandAt-cons here after = record { fits = omega (arith, after.fits); takes = first_takes here after }
 
     StandAt-head : StandAt f (item ∷ rest) (suc m) v k → Takes f item (get_or v k 0)
     StandAt-head h = subst (λ q. Takes f item (get_or v q 0)) (omega arith) (h.takes 0 (omega arith))

@@ -1,6 +1,6 @@
 //! A keeper over a file.
 ghost use Rattle.std.specs.Prelude.{◌≡◌, IfErr};
-ghost use Rattle.mailstore.specs.Refusals.{IsPassing};
+ghost use Rattle.mailstore.specs.Refusals.{IsTransient};
 
 use crate::cause::{of_lock, of_sqlite};
 use crate::keeper::{Held, Keeper, store_of};
@@ -40,7 +40,7 @@ impl<'a> FileKeeper<'a> {
     }
 
     fn close(&mut self, store: Store<FileStore<Database>>) -> Result<(), Refusal>
-        ensures named { IfErr result IsPassing }
+        ensures named { IfErr result IsTransient }
         ensures kept { self.new.lock ≡ self.old.lock }
     {
         let said = store.cause();

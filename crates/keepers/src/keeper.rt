@@ -7,7 +7,7 @@ ghost use Rattle.sqlite.specs.State.{HasCleanDisk};
 ghost use Rattle.mailstore.specs.Schema.{no_schema, mail_schema};
 ghost use Rattle.mailstore.specs.Connection.{StaysSame};
 ghost use Rattle.mailstore.specs.Account.{no_accounts};
-ghost use Rattle.mailstore.specs.Refusals.{IsPassing};
+ghost use Rattle.mailstore.specs.Refusals.{IsTransient};
 ghost use Rattle.mailstore.specs.Shows.{Presents};
 ghost use Rattle.keepers.specs.Taken.{IsTaken};
 
@@ -77,13 +77,13 @@ pub trait Keeper {
         ensures held { IfSome store.old (λ given. IsTrue tells → holds self.new ≡ (state Self.S.Store given).now) }
         ensures back { is_out self.new ≡ false }
         ensures emptied { store.new ≡ None }
-        ensures named { IfErr result IsPassing };
+        ensures named { IfErr result IsTransient };
 
     /// Hands a taken store back. Errors are those of `put_back`.
     final fn hand_back(&mut self, store: Store<Self::S>) -> Result<(), Refusal>
         ensures held { IsTrue tells → holds self.new ≡ (state Self.S.Store store).now }
         ensures back { is_out self.new ≡ false }
-        ensures named { IfErr result IsPassing }
+        ensures named { IfErr result IsTransient }
     {
         let mut given = Some(store);
         self.put_back(&mut given)

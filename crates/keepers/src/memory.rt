@@ -28,7 +28,7 @@ impl MemoryKeeper {
         }
     }
 
-    /// The one call of `take` after so many others is Busy.
+    /// The one call of `take` after that many others is Busy.
     pub fn be_busy_after(&mut self, calls: u64) {
         self.busy_after = Some(calls);
     }

@@ -38,7 +38,7 @@ pub trait MailSink {
     ///
     /// # Errors
     ///
-    /// `NoMaildir` where the path is none; else why it can't be looked at. The place that was taken before stays.
+    /// `NoMaildir` where the path isn't one; else why it can't be looked at. The place that was taken before stays.
     fn open(&mut self, path: &str) -> Result<(), SinkError>
         ensures same { IsTrue tells → kept self.new ≡ kept self.old };
 

@@ -45,7 +45,7 @@ unknown_fails = record { says = refl; stays = refl }
 unknown_succeeds : ActsAlone (codes "carol") None (own.LogsIn (codes "secret") true) None → ⊥
 unknown_succeeds is = let never : true ≡ false = is.says in cc
 
--- a row is taken out of no queue: that is an act; refused for memory it is none
+-- a row is taken out of no queue: that is an act; refused for memory it isn't one
 none_there : World
 none_there = record { accounts = empty; sessions = empty }
 

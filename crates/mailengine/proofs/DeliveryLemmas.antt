@@ -14,7 +14,7 @@ use Rattle.mailstore.specs.declared.report.Plan.{Plan}
 use Rattle.mailstore.specs.declared.report.Report.{Report}
 use Rattle.mailstore.specs.Account.{Account, Accounts, in_place, with_user, delivers}
 use Rattle.mailstore.specs.Promises.{HasUser, IsFree, OfUser, WritesAccount}
-use Rattle.mailstore.specs.Refusals.{IsPassing}
+use Rattle.mailstore.specs.Refusals.{IsTransient}
 use Rattle.mailstore.specs.Shows.{Presents}
 use Rattle.sessions.specs.Acts.{HasAccounts}
 use Rattle.sessions.proofs.ActLemmas.{no_glance, glanced, acts_read, acts_made, acts_undone}
@@ -39,10 +39,10 @@ moment_within envelope message moment none = go (nat_lt message_limit (length me
 pub moment_fits : (envelope : Envelope) (message : List ℕ) (moment : ℕ) → limit_refusal envelope message moment ≡ None → moment ≤ 253402300799
 moment_fits envelope message moment none = ltb-false moment_limit moment (moment_within envelope message moment none)
 
--- the refusals of a write that asks for the account, behind the limits
-pub passing_refuses : {X : Type 0} (envelope : Envelope) (message : List ℕ) (moment : ℕ) (q : Result X Refusal) → limit_refusal envelope message moment ≡ None → IfErr q IsPassing → IfErr q (RefusesDelivery envelope message moment)
-passing_refuses envelope message moment (Ok x) none passing = tt
-passing_refuses envelope message moment (Err e) none passing = inr (none, inr passing)
+-- the refusals of a write that asks for the account, after the limits
+pub transient_refuses : {X : Type 0} (envelope : Envelope) (message : List ℕ) (moment : ℕ) (q : Result X Refusal) → limit_refusal envelope message moment ≡ None → IfErr q IsTransient → IfErr q (RefusesDelivery envelope message moment)
+transient_refuses envelope message moment (Ok x) none transient = tt
+transient_refuses envelope message moment (Err e) none transient = inr (none, inr transient)
 
 -- what the plan says of the mail that was read, of the message under the envelope
 pub planned_at : (view : View) (text active : Option (List ℕ)) (mail : MailSpec) (envelope : Envelope) (message : List ℕ) (moment : ℕ) (plan : Plan) → mail ≡ mail_of message envelope → active ≡ text
@@ -66,13 +66,13 @@ module _ (user : List ℕ) (envelope : Envelope) (message : List ℕ) (moment : 
 
   module _ (none : limit_refusal envelope message moment ≡ None) where
     -- the event without visible cause
-    passing_turn : (e : Refusal) (accounts : Accounts) → IsPassing e → TurnsBy Row May (Refused e) accounts accounts
-    passing_turn e accounts passing = inr (e, (passing, none), refl, refl)
+    transient_turn : (e : Refusal) (accounts : Accounts) → IsTransient e → TurnsBy Row May (Refused e) accounts accounts
+    transient_turn e accounts transient = inr (e, (transient, none), refl, refl)
 
     -- nothing was done for want of memory
-    pub delivery_lacks : (a : State) (q : Result Report Refusal) → OnOk q ⊥ → IfErr q IsPassing → ActsDelivery user envelope message moment a a q
-    delivery_lacks a (Ok report) undone passing = absurd undone
-    delivery_lacks a (Err e) undone passing = acts_read a a (TurnsBy Row May (Refused e)) (MayTurnBy Row) (Err e) (no_glance a) (λ clean accounts shown. passing_turn e accounts passing)
+    pub delivery_lacks : (a : State) (q : Result Report Refusal) → OnOk q ⊥ → IfErr q IsTransient → ActsDelivery user envelope message moment a a q
+    delivery_lacks a (Ok report) undone transient = absurd undone
+    delivery_lacks a (Err e) undone transient = acts_read a a (TurnsBy Row May (Refused e)) (MayTurnBy Row) (Err e) (no_glance a) (λ clean accounts shown. transient_turn e accounts transient)
 
     in_row : (accounts later : Accounts) (answer : Answer) → DeliversIn accounts user moment envelope message (get accounts user) answer later → Row accounts answer later
     in_row accounts later answer is = subst (λ o. DeliversUnder o accounts user moment envelope message answer later) (sym none) is
@@ -87,17 +87,17 @@ module _ (user : List ℕ) (envelope : Envelope) (message : List ℕ) (moment : 
     delivery_unread a b e q is look = subst (λ o. ActsDelivery user envelope message moment a b o) (sym is)
         (acts_read a b (TurnsBy Row May (Refused e)) (MayTurnBy Row) (Err e) (glanced a b (Err e) look.reads.keeps) (λ clean accounts shown. turn clean accounts shown look.reads.named))
       where
-        turn : HasCleanDisk b → (accounts : Accounts) → HasAccounts a accounts → (e ≡ NoUser) ⊎ IsPassing e → TurnsBy Row May (Refused e) accounts accounts
+        turn : HasCleanDisk b → (accounts : Accounts) → HasAccounts a accounts → (e ≡ NoUser) ⊎ IsTransient e → TurnsBy Row May (Refused e) accounts accounts
         turn clean accounts shown (inl absent) =
             subst (λ f. TurnsBy Row May (Refused f) accounts accounts) (sym absent) (absent_turn accounts (look.reads.absent clean accounts (shown (look.sure clean absent)) absent))
-        turn clean accounts shown (inr passing) = passing_turn e accounts passing
+        turn clean accounts shown (inr transient) = transient_turn e accounts transient
 
     module _ (a b : State) (r : Result Lookup Refusal) (looked : Lookup) (was : r ≡ Ok looked) (look : LooksUp user (IsLookup envelope.from) a b r) where
       -- no memory for the mail or the plan
-      pub delivery_failed : (q : Result Report Refusal) → OnOk q ⊥ → IfErr q IsPassing → ActsDelivery user envelope message moment a b q
-      delivery_failed (Ok report) undone passing = absurd undone
-      delivery_failed (Err e) undone passing =
-          acts_read a b (TurnsBy Row May (Refused e)) (MayTurnBy Row) (Err e) (glanced a b r look.reads.keeps) (λ clean accounts shown. passing_turn e accounts passing)
+      pub delivery_failed : (q : Result Report Refusal) → OnOk q ⊥ → IfErr q IsTransient → ActsDelivery user envelope message moment a b q
+      delivery_failed (Ok report) undone transient = absurd undone
+      delivery_failed (Err e) undone transient =
+          acts_read a b (TurnsBy Row May (Refused e)) (MayTurnBy Row) (Err e) (glanced a b r look.reads.keeps) (λ clean accounts shown. transient_turn e accounts transient)
 
       module _ (plan : Plan) (planned : (account : Account) → IsViewOf looked.view envelope.from account → Delivers looked.view.address moment (mail_of message envelope) looked.text account plan.report (delivers plan account))
           (c : State) (w : Result (Unit {0}) Refusal) (late : WritesAccount user (delivers plan) b c w) where
@@ -131,7 +131,7 @@ module _ (user : List ℕ) (envelope : Envelope) (message : List ℕ) (moment : 
             acts_made a b c r looked was look.reads.keeps (HasUser user) (λ all. with_user all user (delivers plan)) w late.made late.settled late.same late.crash (TurnsBy Row May (Delivered plan.report)) (MayTurnBy Row) y plan.report is
             (λ clean accounts p. let f = fits clean accounts p in (f.0, inl f.1, (Delivered plan.report, f.1)))
 
-        pub delivery_undone : (e : Refusal) (q : Result Report Refusal) → w ≡ Err e → q ≡ Err e → IsPassing e → ActsDelivery user envelope message moment a c q
-        delivery_undone e q is same passing = subst (λ o. ActsDelivery user envelope message moment a c o) (sym same)
+        pub delivery_undone : (e : Refusal) (q : Result Report Refusal) → w ≡ Err e → q ≡ Err e → IsTransient e → ActsDelivery user envelope message moment a c q
+        delivery_undone e q is same transient = subst (λ o. ActsDelivery user envelope message moment a c o) (sym same)
             (acts_undone a b c r looked was look.reads.keeps (HasUser user) (λ all. with_user all user (delivers plan)) w late.made late.settled late.same late.crash (TurnsBy Row May (Refused e)) (MayTurnBy Row) e (Err e) is
-            (λ told. told passing) (λ accounts. passing_turn e accounts passing) (λ clean accounts p. let f = fits clean accounts p in (f.0, (Delivered plan.report, f.1))))
+            (λ told. told transient) (λ accounts. transient_turn e accounts transient) (λ clean accounts p. let f = fits clean accounts p in (f.0, (Delivered plan.report, f.1))))

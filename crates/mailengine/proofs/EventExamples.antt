@@ -47,7 +47,7 @@ module _ (a : Account) where
 
   -- ---- a delivery
 
-  -- a user without an account is none, and stays so; near miss: the delivery makes the account
+  -- a user without an account has none, and stays so; near miss: the delivery makes the account
   unknown_user : Delivery no_accounts alice envelope message 5 (Refused NoUser) no_accounts
   unknown_user = subst (λ o. DeliversIn no_accounts alice 5 envelope message o (Refused NoUser) no_accounts) (sym (get-empty bytes_cmp alice)) (record { refused = refl; stays = refl })
 
@@ -127,7 +127,7 @@ module _ (a : Account) where
         let no : ◌≡◌ {A = ℕ} 1 2 = ap (λ r. r.id) same in
         cc
 
-    -- a number that isn't queued is none, and nothing changes; near miss: the account goes
+    -- a number that isn't queued is no row's, and nothing changes; near miss: the account goes
     not_queued : Taking one alice 3 (Refused NoRow) one
     unfolding one
     not_queued = subst (λ o. TakesIn one alice 3 o (Refused NoRow) one) (sym has_alice) (subst (λ rows. TakesRow one alice (row_with 3 rows) (Refused NoRow) one) (sym queued) (record { refused = refl; stays = refl }))

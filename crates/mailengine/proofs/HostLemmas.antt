@@ -11,7 +11,7 @@ use Rattle.std.specs.BTreeMap as tree
 use Rattle.std.specs.BTreeMap.{BTreeMap}
 use Rattle.msproto.specs.Replies.{spelled}
 use Rattle.mailstore.specs.Account.{Accounts}
-use Rattle.mailstore.specs.Refusals.{IsPassing}
+use Rattle.mailstore.specs.Refusals.{IsTransient}
 use Rattle.sieveexec.specs.declared.envelope.Envelope.{Envelope}
 use Rattle.mailstore.specs.declared.refusal.Refusal.{Refusal}
 use Rattle.mailstore.specs.declared.refusal.Refusal.TheVariants.{Memory, Store, NotOurs, NoUser, TooLarge, BadEnvelope, BadMoment, UserExists, BadUser, NoRow}
@@ -47,22 +47,22 @@ mapped_cond true v o = refl
 mapped_cond false v o = refl
 
 -- one session more, or another in its place
-pub clients_put : (kept behind : Kept) (n : ℕ) (v : SessionView) (clients : Clients) → tree.Updates nat_cmp kept behind n (Some v) → HasClients kept clients → HasClients behind (insert clients n v.client)
-clients_put kept behind n v clients put has s =
+pub clients_put : (kept after : Kept) (n : ℕ) (v : SessionView) (clients : Clients) → tree.Updates nat_cmp kept after n (Some v) → HasClients kept clients → HasClients after (insert clients n v.client)
+clients_put kept after n v clients put has s =
     ap (option_map (λ session. session.client)) (put.0 s) ∙ mapped_cond (is_eq (nat_cmp n s)) (Some v) (tree.get nat_cmp kept s)
     ∙ ap (λ o. cond (is_eq (nat_cmp n s)) (Some v.client) o) (has s) ∙ ap (λ b. cond b (Some v.client) (get clients s)) (turned_round n s)
     ∙ sym (get-insert nat_cmp_total clients n v.client s)
 
 -- one session less
-pub clients_gone : (kept behind : Kept) (n : ℕ) (clients : Clients) → tree.Updates nat_cmp kept behind n None → HasClients kept clients → HasClients behind (remove clients n)
-clients_gone kept behind n clients gone has s =
+pub clients_gone : (kept after : Kept) (n : ℕ) (clients : Clients) → tree.Updates nat_cmp kept after n None → HasClients kept clients → HasClients after (remove clients n)
+clients_gone kept after n clients gone has s =
     ap (option_map (λ session. session.client)) (gone.0 s) ∙ mapped_cond (is_eq (nat_cmp n s)) None (tree.get nat_cmp kept s)
     ∙ ap (λ o. cond (is_eq (nat_cmp n s)) None o) (has s) ∙ ap (λ b. cond b None (get clients s)) (turned_round n s)
     ∙ sym (get-remove nat_cmp_total clients n s)
 
 -- the same session put back
-pub clients_back : (kept behind : Kept) (n : ℕ) (v : SessionView) (clients : Clients) → Some v ≡ tree.get nat_cmp kept n → tree.Updates nat_cmp kept behind n (Some v) → HasClients kept clients → HasClients behind clients
-clients_back kept behind n v clients one put has s = ap (option_map (λ session. session.client)) (put.0 s) ∙ (go (nat_cmp n s) refl ∙ has s)
+pub clients_back : (kept after : Kept) (n : ℕ) (v : SessionView) (clients : Clients) → Some v ≡ tree.get nat_cmp kept n → tree.Updates nat_cmp kept after n (Some v) → HasClients kept clients → HasClients after clients
+clients_back kept after n v clients one put has s = ap (option_map (λ session. session.client)) (put.0 s) ∙ (go (nat_cmp n s) refl ∙ has s)
   where
     go : (o : Ordering) → nat_cmp n s ≡ o → option_map (λ session. session.client) (cond (is_eq o) (Some v) (tree.get nat_cmp kept s)) ≡ option_map (λ session. session.client) (tree.get nat_cmp kept s)
     go Less at = refl
@@ -70,8 +70,8 @@ clients_back kept behind n v clients one put has s = ap (option_map (λ session.
     go Greater at = refl
 
 -- the same sessions
-pub clients_same : (kept behind : Kept) (clients : Clients) → behind.entries ≡ kept.entries → HasClients kept clients → HasClients behind clients
-clients_same kept behind clients same has s = ap (λ es. option_map (λ session. session.client) (lookup (tree.is_at (nat_cmp s)) es)) same ∙ has s
+pub clients_same : (kept after : Kept) (clients : Clients) → after.entries ≡ kept.entries → HasClients kept clients → HasClients after clients
+clients_same kept after clients same has s = ap (λ es. option_map (λ session. session.client) (lookup (tree.is_at (nat_cmp s)) es)) same ∙ has s
 
 -- the sessions of a map, as the machine has them
 mapped_find : (s : ℕ) (es : List (ℕ × SessionView)) → option_map (λ session. session.client) (lookup (tree.is_at (nat_cmp s)) es) ≡ find nat_cmp s (map (λ e. (e.0, e.1.client)) es)
@@ -95,29 +95,29 @@ nothing : (w : World) → Ignores w Ignored w
 nothing w = record { ignored = refl; stays = refl }
 
 -- a number that isn't open
-pub ignored : (event : Event) (kept behind : Kept) (n : ℕ) → ((w : World) → get w.sessions n ≡ None → Happens w event Ignored w) → None ≡ tree.get nat_cmp kept n → behind.entries ≡ kept.entries
-    → IsSessionEvent event Ignored kept behind
-ignored event kept behind n row none same w has = (w.sessions, inl (row w (none_there kept w.sessions n has none)), clients_same kept behind w.sessions same has)
+pub ignored : (event : Event) (kept after : Kept) (n : ℕ) → ((w : World) → get w.sessions n ≡ None → Happens w event Ignored w) → None ≡ tree.get nat_cmp kept n → after.entries ≡ kept.entries
+    → IsSessionEvent event Ignored kept after
+ignored event kept after n row none same w has = (w.sessions, inl (row w (none_there kept w.sessions n has none)), clients_same kept after w.sessions same has)
 
-pub ignored_give : (kept behind : Kept) (n : ℕ) (piece : List ℕ) → None ≡ tree.get nat_cmp kept n → behind.entries ≡ kept.entries → IsSessionEvent (Give n piece) Ignored kept behind
-ignored_give kept behind n piece none same = ignored (Give n piece) kept behind n (λ w gone. subst (λ o. InSession w o (λ c. Becomes (Out (progress_of c) []) (with_session n (client_given piece c) w)) Ignored w) (sym gone) (nothing w)) none same
+pub ignored_give : (kept after : Kept) (n : ℕ) (piece : List ℕ) → None ≡ tree.get nat_cmp kept n → after.entries ≡ kept.entries → IsSessionEvent (Give n piece) Ignored kept after
+ignored_give kept after n piece none same = ignored (Give n piece) kept after n (λ w gone. subst (λ o. InSession w o (λ c. Becomes (Out (progress_of c) []) (with_session n (client_given piece c) w)) Ignored w) (sym gone) (nothing w)) none same
 
-pub ignored_give_up : (kept behind : Kept) (n : ℕ) → None ≡ tree.get nat_cmp kept n → behind.entries ≡ kept.entries → IsSessionEvent (GiveUp n) Ignored kept behind
-ignored_give_up kept behind n none same =
-    ignored (GiveUp n) kept behind n (λ w gone. subst (λ o. InSession w o (λ c. Becomes (Out (progress_given_up c) (text_given_up c)) (with_session n (client_given_up c) w)) Ignored w) (sym gone) (nothing w)) none same
+pub ignored_give_up : (kept after : Kept) (n : ℕ) → None ≡ tree.get nat_cmp kept n → after.entries ≡ kept.entries → IsSessionEvent (GiveUp n) Ignored kept after
+ignored_give_up kept after n none same =
+    ignored (GiveUp n) kept after n (λ w gone. subst (λ o. InSession w o (λ c. Becomes (Out (progress_given_up c) (text_given_up c)) (with_session n (client_given_up c) w)) Ignored w) (sym gone) (nothing w)) none same
 
-pub ignored_close : (kept behind : Kept) (n : ℕ) → None ≡ tree.get nat_cmp kept n → behind.entries ≡ kept.entries → IsSessionEvent (Close n) Ignored kept behind
-ignored_close kept behind n none same = ignored (Close n) kept behind n (λ w gone. subst (λ o. InSession w o (λ c. Becomes (Out p.Close []) (without_session n w)) Ignored w) (sym gone) (nothing w)) none same
+pub ignored_close : (kept after : Kept) (n : ℕ) → None ≡ tree.get nat_cmp kept n → after.entries ≡ kept.entries → IsSessionEvent (Close n) Ignored kept after
+ignored_close kept after n none same = ignored (Close n) kept after n (λ w gone. subst (λ o. InSession w o (λ c. Becomes (Out p.Close []) (without_session n w)) Ignored w) (sym gone) (nothing w)) none same
 
 -- lack of memory
-pub lacking : (event : Event) (kept behind : Kept) (answer : Answer) → answer ≡ Refused Memory → ((w : World) → HasClients kept w.sessions → MayLack w event) → behind.entries ≡ kept.entries → IsSessionEvent event answer kept behind
-lacking event kept behind answer is may same w has = (w.sessions, inr (record { refusal = Memory; may = may w has; refused = is; stays = refl }), clients_same kept behind w.sessions same has)
+pub lacking : (event : Event) (kept after : Kept) (answer : Answer) → answer ≡ Refused Memory → ((w : World) → HasClients kept w.sessions → MayLack w event) → after.entries ≡ kept.entries → IsSessionEvent event answer kept after
+lacking event kept after answer is may same w has = (w.sessions, inr (record { refusal = Memory; may = may w has; refused = is; stays = refl }), clients_same kept after w.sessions same has)
 
 -- lack of memory, where the session was put back
-pub lacking_back : (event : Event) (kept behind : Kept) (n : ℕ) (v : SessionView) (answer : Answer) → answer ≡ Refused Memory → ((w : World) → HasClients kept w.sessions → MayLack w event) → Some v ≡ tree.get nat_cmp kept n
-    → tree.Updates nat_cmp kept behind n (Some v) → IsSessionEvent event answer kept behind
-lacking_back event kept behind n v answer is may one put w has =
-    (w.sessions, inr (record { refusal = Memory; may = may w has; refused = is; stays = refl }), clients_back kept behind n v w.sessions one put has)
+pub lacking_back : (event : Event) (kept after : Kept) (n : ℕ) (v : SessionView) (answer : Answer) → answer ≡ Refused Memory → ((w : World) → HasClients kept w.sessions → MayLack w event) → Some v ≡ tree.get nat_cmp kept n
+    → tree.Updates nat_cmp kept after n (Some v) → IsSessionEvent event answer kept after
+lacking_back event kept after n v answer is may one put w has =
+    (w.sessions, inr (record { refusal = Memory; may = may w has; refused = is; stays = refl }), clients_back kept after n v w.sessions one put has)
 
 -- ---- open
 
@@ -138,25 +138,25 @@ absent kept clients n has none = go (tree.get nat_cmp kept n) refl none
 pub open_lacks : (kept : Kept) (n : ℕ) → is_some (tree.get nat_cmp kept n) ≡ false → (w : World) → HasClients kept w.sessions → MayLack w (Open n)
 open_lacks kept n none w has = ap is_closed (absent kept w.sessions n has none)
 
-pub opened : (kept behind : Kept) (n : ℕ) (greeting : List ℕ) → is_some (tree.get nat_cmp kept n) ≡ false → greeting ≡ spelled (capabilities None) → tree.Updates nat_cmp kept behind n (Some new_session)
-    → IsSessionEvent (Open n) (Out p.Done greeting) kept behind
-opened kept behind n greeting none told put w has = (
+pub opened : (kept after : Kept) (n : ℕ) (greeting : List ℕ) → is_some (tree.get nat_cmp kept n) ≡ false → greeting ≡ spelled (capabilities None) → tree.Updates nat_cmp kept after n (Some new_session)
+    → IsSessionEvent (Open n) (Out p.Done greeting) kept after
+opened kept after n greeting none told put w has = (
   insert w.sessions n new_client,
   inl (subst (λ o. Opens w n o (Out p.Done greeting) (record { accounts = w.accounts; sessions = insert w.sessions n new_client })) (sym (absent kept w.sessions n has none)) (record { says = ap (λ t. Out p.Done t) told; changed = refl })),
-  clients_put kept behind n new_session w.sessions put has,
+  clients_put kept after n new_session w.sessions put has,
 )
 
 -- ---- an open session
 
 -- what it becomes, and what is answered
-pub becomes : (event : Event) (kept behind : Kept) (n : ℕ) (v u : SessionView) (answer : Answer) → ((w : World) → get w.sessions n ≡ Some v.client → Happens w event answer (record { accounts = w.accounts; sessions = insert w.sessions n u.client }))
-    → Some v ≡ tree.get nat_cmp kept n → tree.Updates nat_cmp kept behind n (Some u) → IsSessionEvent event answer kept behind
-becomes event kept behind n v u answer row one put w has =
-    (insert w.sessions n u.client, inl (row w (one_there kept w.sessions n v has one)), clients_put kept behind n u w.sessions put has)
+pub becomes : (event : Event) (kept after : Kept) (n : ℕ) (v u : SessionView) (answer : Answer) → ((w : World) → get w.sessions n ≡ Some v.client → Happens w event answer (record { accounts = w.accounts; sessions = insert w.sessions n u.client }))
+    → Some v ≡ tree.get nat_cmp kept n → tree.Updates nat_cmp kept after n (Some u) → IsSessionEvent event answer kept after
+becomes event kept after n v u answer row one put w has =
+    (insert w.sessions n u.client, inl (row w (one_there kept w.sessions n v has one)), clients_put kept after n u w.sessions put has)
 
-pub given : (kept behind : Kept) (n : ℕ) (piece : List ℕ) (v u : SessionView) → Some v ≡ tree.get nat_cmp kept n → u.client ≡ client_given piece v.client → tree.Updates nat_cmp kept behind n (Some u)
-    → IsSessionEvent (Give n piece) (Out (progress_of u.client) []) kept behind
-given kept behind n piece v u one gives put = becomes (Give n piece) kept behind n v u (Out (progress_of u.client) []) row one put
+pub given : (kept after : Kept) (n : ℕ) (piece : List ℕ) (v u : SessionView) → Some v ≡ tree.get nat_cmp kept n → u.client ≡ client_given piece v.client → tree.Updates nat_cmp kept after n (Some u)
+    → IsSessionEvent (Give n piece) (Out (progress_of u.client) []) kept after
+given kept after n piece v u one gives put = becomes (Give n piece) kept after n v u (Out (progress_of u.client) []) row one put
   where
     progress : (b : Bool) (c : Client) → c.closed ≡ b → progress_of (client_given piece c) ≡ progress_of c
     progress true c is = ap (λ e. progress_of (cond e c (record c { unread = c.unread ++ piece }))) is
@@ -170,17 +170,17 @@ given kept behind n piece v u one gives put = becomes (Give n piece) kept behind
         } in
         subst (λ o. InSession w o (λ c. Becomes (Out (progress_of c) []) (with_session n (client_given piece c) w)) (Out (progress_of u.client) []) (record { accounts = w.accounts; sessions = insert w.sessions n u.client })) (sym has) made
 
-pub given_told : (kept behind : Kept) (n : ℕ) (piece : List ℕ) (v u : SessionView) (progress : Progress) (text : List ℕ) → progress ≡ progress_of u.client → text ≡ [] → Some v ≡ tree.get nat_cmp kept n → u.client ≡ client_given piece v.client
-    → tree.Updates nat_cmp kept behind n (Some u) → IsSessionEvent (Give n piece) (Out progress text) kept behind
-given_told kept behind n piece v u progress text goes none one gives put =
-    subst (λ a. IsSessionEvent (Give n piece) a kept behind) (sym (ap (λ q. Out q text) goes ∙ ap (λ t. Out (progress_of u.client) t) none)) (given kept behind n piece v u one gives put)
+pub given_told : (kept after : Kept) (n : ℕ) (piece : List ℕ) (v u : SessionView) (progress : Progress) (text : List ℕ) → progress ≡ progress_of u.client → text ≡ [] → Some v ≡ tree.get nat_cmp kept n → u.client ≡ client_given piece v.client
+    → tree.Updates nat_cmp kept after n (Some u) → IsSessionEvent (Give n piece) (Out progress text) kept after
+given_told kept after n piece v u progress text goes none one gives put =
+    subst (λ a. IsSessionEvent (Give n piece) a kept after) (sym (ap (λ q. Out q text) goes ∙ ap (λ t. Out (progress_of u.client) t) none)) (given kept after n piece v u one gives put)
 
 pub give_lacks : (kept : Kept) (n : ℕ) (piece : List ℕ) (v : SessionView) → Some v ≡ tree.get nat_cmp kept n → (w : World) → HasClients kept w.sessions → MayLack w (Give n piece)
 give_lacks kept n piece v one w has = ap (if_open (λ c. true)) (one_there kept w.sessions n v has one)
 
-pub gave_up : (kept behind : Kept) (n : ℕ) (text : List ℕ) (v u : SessionView) (progress : Progress) → Some v ≡ tree.get nat_cmp kept n → u.client ≡ client_given_up v.client → text ≡ text_given_up v.client → progress ≡ progress_given_up v.client
-    → tree.Updates nat_cmp kept behind n (Some u) → IsSessionEvent (GiveUp n) (Out progress text) kept behind
-gave_up kept behind n text v u progress one gives told goes put = becomes (GiveUp n) kept behind n v u (Out progress text) row one put
+pub gave_up : (kept after : Kept) (n : ℕ) (text : List ℕ) (v u : SessionView) (progress : Progress) → Some v ≡ tree.get nat_cmp kept n → u.client ≡ client_given_up v.client → text ≡ text_given_up v.client → progress ≡ progress_given_up v.client
+    → tree.Updates nat_cmp kept after n (Some u) → IsSessionEvent (GiveUp n) (Out progress text) kept after
+gave_up kept after n text v u progress one gives told goes put = becomes (GiveUp n) kept after n v u (Out progress text) row one put
   where
     row : (w : World) → get w.sessions n ≡ Some v.client → Happens w (GiveUp n) (Out progress text) (record { accounts = w.accounts; sessions = insert w.sessions n u.client })
     row w has =
@@ -190,8 +190,8 @@ gave_up kept behind n text v u progress one gives told goes put = becomes (GiveU
         } in
         subst (λ o. InSession w o (λ c. Becomes (Out (progress_given_up c) (text_given_up c)) (with_session n (client_given_up c) w)) (Out progress text) (record { accounts = w.accounts; sessions = insert w.sessions n u.client })) (sym has) made
 
-pub closed_now : (kept behind : Kept) (n : ℕ) (v : SessionView) (text : List ℕ) → text ≡ [] → Some v ≡ tree.get nat_cmp kept n → tree.Updates nat_cmp kept behind n None → IsSessionEvent (Close n) (Out p.Close text) kept behind
-closed_now kept behind n v text none one gone w has = (remove w.sessions n, inl row, clients_gone kept behind n w.sessions gone has)
+pub closed_now : (kept after : Kept) (n : ℕ) (v : SessionView) (text : List ℕ) → text ≡ [] → Some v ≡ tree.get nat_cmp kept n → tree.Updates nat_cmp kept after n None → IsSessionEvent (Close n) (Out p.Close text) kept after
+closed_now kept after n v text none one gone w has = (remove w.sessions n, inl row, clients_gone kept after n w.sessions gone has)
   where
     row : Happens w (Close n) (Out p.Close text) (without_session n w)
     row =
@@ -221,28 +221,28 @@ stepped w n c d progress octets later has is =
     record { goes_on = progress; octets = octets; client = d; accounts = later; step = is; says = refl; changed = refl } in
     subst (λ o. InSession w o (Steps w n) (Out progress octets) (record { accounts = later; sessions = insert w.sessions n d })) (sym has) made
 
-module _ (old new : State) (kept behind : Kept) (n : ℕ) (v u : SessionView) (r : Result Progress Refusal) (before after : List ℕ) (one : Some v ≡ tree.get nat_cmp kept n) (put : tree.Updates nat_cmp kept behind n (Some u))
-    (acts : Acts (StepsTo v.client u.client r before after) (MayStep v.client) old new r) where
+module _ (old new : State) (kept after : Kept) (n : ℕ) (v u : SessionView) (r : Result Progress Refusal) (before written : List ℕ) (one : Some v ≡ tree.get nat_cmp kept n) (put : tree.Updates nat_cmp kept after n (Some u))
+    (acts : Acts (StepsTo v.client u.client r before written) (MayStep v.client) old new r) where
   -- it answered
-  pub step_told : (progress : Progress) → r ≡ Ok progress → before ≡ [] → IsEvent (Step n) (Out progress after) (host old kept) (host new behind)
+  pub step_told : (progress : Progress) → r ≡ Ok progress → before ≡ [] → IsEvent (Step n) (Out progress written) (host old kept) (host new after)
   step_told progress is none clean w had =
       let turned = acts.carries clean w.accounts had.accounts in
-      let made : StepsTo v.client u.client (Ok progress) before after w.accounts turned.0 = subst (λ q. StepsTo v.client u.client q before after w.accounts turned.0) is turned.1 in
-      let text : after ≡ made.0 = made.1 ∙ ap (λ b. b ++ made.0) none in (
+      let made : StepsTo v.client u.client (Ok progress) before written w.accounts turned.0 = subst (λ q. StepsTo v.client u.client q before written w.accounts turned.0) is turned.1 in
+      let text : written ≡ made.0 = made.1 ∙ ap (λ b. b ++ made.0) none in (
         record { accounts = turned.0; sessions = insert w.sessions n u.client },
         inl (subst (λ t. Happens w (Step n) (Out progress t) (record { accounts = turned.0; sessions = insert w.sessions n u.client })) (sym text)
             (stepped w n v.client u.client progress made.0 turned.0 (one_there kept w.sessions n v had.sessions one) made.2)),
-        record { accounts = turned.2; sessions = clients_put kept behind n u w.sessions put had.sessions },
+        record { accounts = turned.2; sessions = clients_put kept after n u w.sessions put had.sessions },
       )
 
   -- it was refused, and the session is as it was
-  pub step_undone : (answer : Answer) (refusal : Refusal) → r ≡ Err refusal → answer ≡ Refused refusal → MayRefuseStep v.client refusal → u ≡ v → IsEvent (Step n) answer (host old kept) (host new behind)
+  pub step_undone : (answer : Answer) (refusal : Refusal) → r ≡ Err refusal → answer ≡ Refused refusal → MayRefuseStep v.client refusal → u ≡ v → IsEvent (Step n) answer (host old kept) (host new after)
   step_undone answer refusal is told may same clean w had =
       let turned = acts.carries clean w.accounts had.accounts in
-      let stays : turned.0 ≡ w.accounts = subst (λ q. StepsTo v.client u.client q before after w.accounts turned.0) is turned.1 in (
+      let stays : turned.0 ≡ w.accounts = subst (λ q. StepsTo v.client u.client q before written w.accounts turned.0) is turned.1 in (
         w,
         inr (record { refusal = refusal; may = step_refused w n v.client refusal (one_there kept w.sessions n v had.sessions one) may; refused = told; stays = refl }),
-        record { accounts = subst (HasAccounts new) stays turned.2; sessions = clients_back kept behind n v w.sessions one (subst (λ x. tree.Updates nat_cmp kept behind n (Some x)) same put) had.sessions },
+        record { accounts = subst (HasAccounts new) stays turned.2; sessions = clients_back kept after n v w.sessions one (subst (λ x. tree.Updates nat_cmp kept after n (Some x)) same put) had.sessions },
       )
 
 -- what a crash leaves of it
@@ -253,13 +253,13 @@ step_crash old new kept n v one crash = survives_weaker old new _ _ (λ clean tr
     (Out step.0 step.1, record { accounts = left.0; sessions = insert w.sessions n step.2 }, inl (stepped w n v.client step.2 step.0 step.1 left.0 (one_there kept w.sessions n v has one) step.3), left.2)) crash
 
 -- an event of sessions alone asks no store
-pub session_event : (event : Event) (answer : Answer) (s : State) (kept behind : Kept) → IsSessionEvent event answer kept behind → IsEvent event answer (host s kept) (host s behind)
-session_event event answer s kept behind is clean w had =
+pub session_event : (event : Event) (answer : Answer) (s : State) (kept after : Kept) → IsSessionEvent event answer kept after → IsEvent event answer (host s kept) (host s after)
+session_event event answer s kept after is clean w had =
     let made = is w had.sessions in
     (record { accounts = w.accounts; sessions = made.0 }, made.1, record { accounts = had.accounts; sessions = made.2 })
 
-pub ignored_step : (kept behind : Kept) (n : ℕ) → None ≡ tree.get nat_cmp kept n → behind.entries ≡ kept.entries → IsSessionEvent (Step n) Ignored kept behind
-ignored_step kept behind n none same = ignored (Step n) kept behind n (λ w gone. subst (λ o. InSession w o (Steps w n) Ignored w) (sym gone) (nothing w)) none same
+pub ignored_step : (kept after : Kept) (n : ℕ) → None ≡ tree.get nat_cmp kept n → after.entries ≡ kept.entries → IsSessionEvent (Step n) Ignored kept after
+ignored_step kept after n none same = ignored (Step n) kept after n (λ w gone. subst (λ o. InSession w o (Steps w n) Ignored w) (sym gone) (nothing w)) none same
 
 -- ---- an event of the accounts
 
@@ -297,11 +297,11 @@ pub addition_may : (name address salt password : List ℕ) (w : World) (refusal 
 addition_may name address salt password w refusal (inl is) = lacking_may w (AddUser name address salt password) refusal is tt
 addition_may name address salt password w refusal (inr (is, new)) = failing_may w (AddUser name address salt password) refusal is new
 
-pub taking_may : (user : List ℕ) (id : ℕ) (w : World) (refusal : Refusal) → IsPassing refusal → MayRefuse w (TakeOut user id) refusal
+pub taking_may : (user : List ℕ) (id : ℕ) (w : World) (refusal : Refusal) → IsTransient refusal → MayRefuse w (TakeOut user id) refusal
 taking_may user id w refusal (inl is) = lacking_may w (TakeOut user id) refusal is tt
 taking_may user id w refusal (inr is) = failing_may w (TakeOut user id) refusal is tt
 
-pub mail_taking_may : (user folder : List ℕ) (w : World) (refusal : Refusal) → IsPassing refusal → MayRefuse w (TakeMail user folder) refusal
+pub mail_taking_may : (user folder : List ℕ) (w : World) (refusal : Refusal) → IsTransient refusal → MayRefuse w (TakeMail user folder) refusal
 mail_taking_may user folder w refusal (inl is) = lacking_may w (TakeMail user folder) refusal is tt
 mail_taking_may user folder w refusal (inr is) = failing_may w (TakeMail user folder) refusal is tt
 
@@ -318,8 +318,8 @@ told_done told (Ok x) made answer same is = is ∙ ap answer_of same
 told_done told (Err e) made answer same is = is ∙ ap answer_of same
 
 -- the same event with the same answer
-pub event_is : (event told_of : Event) (answer told : Answer) (old new : State) (kept behind : Kept) → event ≡ told_of → answer ≡ told → IsEvent told_of told (host old kept) (host new behind) → IsEvent event answer (host old kept) (host new behind)
-event_is event told_of answer told old new kept behind is same made = subst (λ e. IsEvent e answer (host old kept) (host new behind)) (sym is) (subst (λ a. IsEvent told_of a (host old kept) (host new behind)) (sym same) made)
+pub event_is : (event told_of : Event) (answer told : Answer) (old new : State) (kept after : Kept) → event ≡ told_of → answer ≡ told → IsEvent told_of told (host old kept) (host new after) → IsEvent event answer (host old kept) (host new after)
+event_is event told_of answer told old new kept after is same made = subst (λ e. IsEvent e answer (host old kept) (host new after)) (sym is) (subst (λ a. IsEvent told_of a (host old kept) (host new after)) (sym same) made)
 
 pub crash_is : (event told_of : Event) (old new : State) (kept : Kept) → event ≡ told_of → Survives old new (EventCrashLeaves told_of (host old kept)) → Survives old new (EventCrashLeaves event (host old kept))
 crash_is event told_of old new kept is made = subst (λ e. Survives old new (EventCrashLeaves e (host old kept))) (sym is) made

@@ -8,9 +8,9 @@ use Rattle.mailstore.specs.declared.refusal.Refusal.TheVariants.{NoUser}
 use Rattle.mailstore.specs.Account.{Account, Accounts}
 use Rattle.mailstore.specs.AccountTable.{profile_of}
 use Rattle.mailstore.specs.Promises.{IsFree, OfUser, Reads, ReadsProfile}
-use Rattle.mailstore.specs.Refusals.{IsPassing}
+use Rattle.mailstore.specs.Refusals.{IsTransient}
 use Rattle.mailstore.specs.Shows.{Presents}
-use Rattle.mailstore.proofs.KeepLemmas.{keeps_ok, keeps_refused, keeps_then, mid_shows, passing_other, reads_answer}
+use Rattle.mailstore.proofs.KeepLemmas.{keeps_ok, keeps_refused, keeps_then, mid_shows, transient_other, reads_answer}
 use Rattle.mailstore.proofs.ResultLemmas.{on_ok}
 use Rattle.mailstore.proofs.WriteLemmas.{clean_before}
 use Rattle.mailengine.specs.AccountEvents.{text_named, active_text}
@@ -39,8 +39,8 @@ both_of accounts user P Q R both one two =
     let is : two.0 ≡ one.0 = cc in
     (one.0, one.1, both one.0 one.2 (subst Q is two.2))
 
-sure_of_passing : {X : Type 0} (q : Result X Refusal) (P : Type 0) → IfErr q IsPassing → IfErr q (λ e. e ≡ NoUser → P)
-sure_of_passing q P passing = passing_other q P passing
+sure_of_transient : {X : Type 0} (q : Result X Refusal) (P : Type 0) → IfErr q IsTransient → IfErr q (λ e. e ≡ NoUser → P)
+sure_of_transient q P transient = transient_other q P transient
 
 -- ---- the profile
 
@@ -62,11 +62,11 @@ module _ (user : List ℕ) (a b : State) (r : Result (Option Profile) Refusal) (
 -- ---- another answer
 
 -- an answer that is made of what was read, or a refusal without visible cause
-pub looks_answer : {X Y : Type 0} (user : List ℕ) (P : X → Account → Type 0) (Q : Y → Account → Type 0) (a b : State) (r : Result X Refusal) (x : X) → r ≡ Ok x → (q : Result Y Refusal) → IfErr q IsPassing
+pub looks_answer : {X Y : Type 0} (user : List ℕ) (P : X → Account → Type 0) (Q : Y → Account → Type 0) (a b : State) (r : Result X Refusal) (x : X) → r ≡ Ok x → (q : Result Y Refusal) → IfErr q IsTransient
     → ((account : Account) → P x account → IfOk q (λ y. Q y account)) → LooksUp user P a b r → LooksUp user Q a b q
-looks_answer user P Q a b r x was q passing made look = record {
-  reads = reads_answer user P Q a b r x was q passing made look.reads;
-  sure = λ clean. sure_of_passing q (IsTrue a.is_open) passing;
+looks_answer user P Q a b r x was q transient made look = record {
+  reads = reads_answer user P Q a b r x was q transient made look.reads;
+  sure = λ clean. sure_of_transient q (IsTrue a.is_open) transient;
 }
 
 -- ---- a second read
@@ -98,7 +98,7 @@ module _ {X Y Z : Type 0} (user : List ℕ) (P : X → Account → Type 0) (Q : 
       absent = λ clean accounts shows.
           subst (λ o. IfErr o (λ f. f ≡ NoUser → IsFree user accounts)) (sym is) (late.absent clean accounts (mid_shows a b c r x was (Err e) early.reads.keeps late.keeps clean accounts shows));
       keeps = keeps_refused a c (Err e) e q is (keeps_then a b c r x was (Err e) early.reads.keeps late.keeps);
-      named = subst (λ o. IfErr o (λ f. (f ≡ NoUser) ⊎ IsPassing f)) (sym is) late.named;
+      named = subst (λ o. IfErr o (λ f. (f ≡ NoUser) ⊎ IsTransient f)) (sym is) late.named;
     };
     sure = λ clean. subst (λ o. IfErr o (λ f. f ≡ NoUser → IsTrue a.is_open)) (sym is) (λ none. was_open (clean_before b c _ late.keeps.crash clean));
   }

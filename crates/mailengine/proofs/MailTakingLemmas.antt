@@ -7,7 +7,7 @@ use Rattle.mailstore.specs.declared.refusal.Refusal.TheVariants.{NoUser, NoRow}
 use Rattle.mailstore.specs.Account.{Account, Accounts, with_user, messages_in, takes_mail}
 use Rattle.mailstore.specs.CopyTable.{HasFirst}
 use Rattle.mailstore.specs.Promises.{HasUser, IsFree, OfUser, WritesAccount}
-use Rattle.mailstore.specs.Refusals.{IsPassing}
+use Rattle.mailstore.specs.Refusals.{IsTransient}
 use Rattle.mailstore.specs.Shows.{Presents}
 use Rattle.sessions.specs.Acts.{HasAccounts}
 use Rattle.sessions.proofs.ActLemmas.{glanced, read_shows, acts_read, acts_made, acts_undone}
@@ -24,21 +24,21 @@ module _ (user folder : List ℕ) where
   abbrev First : Option NumberedMessage → Account → Type 0
   First first account = HasFirst first (messages_in account.folders folder)
 
-  passing_turn : (e : Refusal) (accounts : Accounts) → IsPassing e → TurnsBy Row IsPassing (Refused e) accounts accounts
-  passing_turn e accounts passing = inr (e, passing, refl, refl)
+  transient_turn : (e : Refusal) (accounts : Accounts) → IsTransient e → TurnsBy Row IsTransient (Refused e) accounts accounts
+  transient_turn e accounts transient = inr (e, transient, refl, refl)
 
-  absent_turn : (accounts : Accounts) → IsFree user accounts → TurnsBy Row IsPassing (Refused NoUser) accounts accounts
+  absent_turn : (accounts : Accounts) → IsFree user accounts → TurnsBy Row IsTransient (Refused NoUser) accounts accounts
   absent_turn accounts free = inl (subst (λ o. TakesMailIn accounts user folder o (Refused NoUser) accounts) (sym free) (record { refused = refl; stays = refl }))
 
   -- the message couldn't be read
   pub mail_unread : (a b : State) (e : Refusal) (q : Result (Unit {0}) Refusal) → q ≡ Err e → LooksUp user First a b (Err e) → ActsMailTaking user folder a b q
   mail_unread a b e q is look = subst (λ o. ActsMailTaking user folder a b o) (sym is)
-      (acts_read a b (TurnsBy Row IsPassing (Refused e)) (MayTurnBy Row) (Err e) (glanced a b (Err e) look.reads.keeps) (λ clean accounts shown. turn clean accounts shown look.reads.named))
+      (acts_read a b (TurnsBy Row IsTransient (Refused e)) (MayTurnBy Row) (Err e) (glanced a b (Err e) look.reads.keeps) (λ clean accounts shown. turn clean accounts shown look.reads.named))
     where
-      turn : HasCleanDisk b → (accounts : Accounts) → HasAccounts a accounts → (e ≡ NoUser) ⊎ IsPassing e → TurnsBy Row IsPassing (Refused e) accounts accounts
+      turn : HasCleanDisk b → (accounts : Accounts) → HasAccounts a accounts → (e ≡ NoUser) ⊎ IsTransient e → TurnsBy Row IsTransient (Refused e) accounts accounts
       turn clean accounts shown (inl absent) =
-          subst (λ f. TurnsBy Row IsPassing (Refused f) accounts accounts) (sym absent) (absent_turn accounts (look.reads.absent clean accounts (shown (look.sure clean absent)) absent))
-      turn clean accounts shown (inr passing) = passing_turn e accounts passing
+          subst (λ f. TurnsBy Row IsTransient (Refused f) accounts accounts) (sym absent) (absent_turn accounts (look.reads.absent clean accounts (shown (look.sure clean absent)) absent))
+      turn clean accounts shown (inr transient) = transient_turn e accounts transient
 
   -- the messages of the folder, where the first was found or none
   none_first : (accounts : Accounts) (messages : List (List ℕ)) → HasFirst None messages → TakesFirst accounts user folder messages (Refused NoRow) accounts
@@ -55,7 +55,7 @@ module _ (user folder : List ℕ) where
 
     -- the folder has no message
     pub mail_none : first ≡ None → ActsMailTaking user folder a b (Err NoRow)
-    mail_none is = acts_read a b (TurnsBy Row IsPassing (Refused NoRow)) (MayTurnBy Row) (Err NoRow) (glanced a b r look.reads.keeps)
+    mail_none is = acts_read a b (TurnsBy Row IsTransient (Refused NoRow)) (MayTurnBy Row) (Err NoRow) (glanced a b r look.reads.keeps)
         (λ clean accounts shown.
         let own = found clean accounts (read_shows a b r first was look.reads.keeps clean accounts shown).0 in
         inl (subst (λ o. TakesMailIn accounts user folder o (Refused NoRow) accounts) (sym own.1) (none_first accounts (messages_in own.0.folders folder) (subst (λ f. HasFirst f (messages_in own.0.folders folder)) is own.2))))
@@ -71,18 +71,18 @@ module _ (user folder : List ℕ) where
 
       pub mail_made : (y : Unit {0}) (q : Result (Unit {0}) Refusal) → w ≡ Ok y → q ≡ Ok y → ActsMailTaking user folder a c q
       mail_made y q done same = subst (λ o. ActsMailTaking user folder a c o) (sym same)
-          (acts_made a b c r first was look.reads.keeps (HasUser user) (λ all. with_user all user (takes_mail folder 1)) w late.made late.settled late.same late.crash (TurnsBy Row IsPassing MailTaken) (MayTurnBy Row) y y done
+          (acts_made a b c r first was look.reads.keeps (HasUser user) (λ all. with_user all user (takes_mail folder 1)) w late.made late.settled late.same late.crash (TurnsBy Row IsTransient MailTaken) (MayTurnBy Row) y y done
           (λ clean accounts p. let f = fits clean accounts p in (f.0, inl f.1, (MailTaken, f.1))))
 
-      pub mail_undone : (e : Refusal) (q : Result (Unit {0}) Refusal) → w ≡ Err e → q ≡ Err e → IsPassing e → ActsMailTaking user folder a c q
-      mail_undone e q refused same passing = subst (λ o. ActsMailTaking user folder a c o) (sym same)
-          (acts_undone a b c r first was look.reads.keeps (HasUser user) (λ all. with_user all user (takes_mail folder 1)) w late.made late.settled late.same late.crash (TurnsBy Row IsPassing (Refused e)) (MayTurnBy Row) e (Err e) refused
-          (λ told. told passing) (λ accounts. passing_turn e accounts passing) (λ clean accounts p. let f = fits clean accounts p in (f.0, (MailTaken, f.1))))
+      pub mail_undone : (e : Refusal) (q : Result (Unit {0}) Refusal) → w ≡ Err e → q ≡ Err e → IsTransient e → ActsMailTaking user folder a c q
+      mail_undone e q refused same transient = subst (λ o. ActsMailTaking user folder a c o) (sym same)
+          (acts_undone a b c r first was look.reads.keeps (HasUser user) (λ all. with_user all user (takes_mail folder 1)) w late.made late.settled late.same late.crash (TurnsBy Row IsTransient (Refused e)) (MayTurnBy Row) e (Err e) refused
+          (λ told. told transient) (λ accounts. transient_turn e accounts transient) (λ clean accounts p. let f = fits clean accounts p in (f.0, (MailTaken, f.1))))
 
       -- whatever the write answers
-      pub mail_written : IfErr w IsPassing → ActsMailTaking user folder a c w
-      mail_written passing = go w refl passing
+      pub mail_written : IfErr w IsTransient → ActsMailTaking user folder a c w
+      mail_written transient = go w refl transient
         where
-          go : (o : Result (Unit {0}) Refusal) → w ≡ o → IfErr o IsPassing → ActsMailTaking user folder a c w
+          go : (o : Result (Unit {0}) Refusal) → w ≡ o → IfErr o IsTransient → ActsMailTaking user folder a c w
           go (Ok y) same named = mail_made y w same same
           go (Err e) same named = mail_undone e w same same named

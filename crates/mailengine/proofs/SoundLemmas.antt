@@ -22,7 +22,7 @@ use Rattle.mailstore.specs.declared.refusal.Refusal.{Refusal}
 use Rattle.mailstore.proofs.AccountLemmas.{bytes_antisymmetric}
 use Rattle.sessions.specs.Limits.{scripts_limit, IsScriptName}
 use Rattle.sessions.specs.Replies.{is_ok}
-use Rattle.sessions.specs.Scripts.{HasRoom, RepliesToPut, RepliesToSet, RepliesToDelete, RepliesToRename, RepliesTo, chosen, carried_out, obeyed}
+use Rattle.sessions.specs.Scripts.{HasRoom, RepliesToPut, RepliesToSet, RepliesToDelete, RepliesToRename, RepliesTo, active_name, carried_out, obeyed}
 use Rattle.deliverplan.specs.Delivered.{Disposition, Acts, Tells, Response, Silent, Quiet, Sent, acts, redirects, responds, DeliversAs}
 use Rattle.mailengine.specs.declared.event.Event.{Event}
 use Rattle.mailengine.specs.declared.answer.Answer.{Answer}
@@ -132,10 +132,10 @@ module _ (a : Account) (own : IsSound a) where
       still None h = tt
       still (Some n) h = still_there a.scripts name text n h
 
-  pub sound_set : (name : List ℕ) → (name ≡ []) ⊎ IsSome (get a.scripts name) → IsSound (activates (chosen name) a)
+  pub sound_set : (name : List ℕ) → (name ≡ []) ⊎ IsSome (get a.scripts name) → IsSound (activates (active_name name) a)
   sound_set name known = record { address = own.address; scripts = own.scripts; few = own.few; active = there name known; filled = own.filled }
     where
-      there : (n : List ℕ) → (n ≡ []) ⊎ IsSome (get a.scripts n) → IfSome (chosen n) (λ m. IsSome (get a.scripts m))
+      there : (n : List ℕ) → (n ≡ []) ⊎ IsSome (get a.scripts n) → IfSome (active_name n) (λ m. IsSome (get a.scripts m))
       there [] h = tt
       there (octet ∷ rest) (inl none) = absurd (let no = none in cc)
       there (octet ∷ rest) (inr h) = h
@@ -197,7 +197,7 @@ module _ (a : Account) (own : IsSound a) (reply : Reply) (ok : is_ok reply.word 
   put_obeyed name text (inl (named, inr (long, is))) = declined_no reply _ ok refl is
   put_obeyed name text (inr (other, is)) = declined_no reply _ ok refl is
 
-  set_obeyed : (name : List ℕ) → RepliesToSet a name reply → IsSound (activates (chosen name) a)
+  set_obeyed : (name : List ℕ) → RepliesToSet a name reply → IsSound (activates (active_name name) a)
   set_obeyed name (inl (known, is)) = sound_set a own name known
   set_obeyed name (inr (unknown, is)) = declined_no reply _ ok refl is
 

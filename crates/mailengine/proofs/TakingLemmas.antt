@@ -6,7 +6,7 @@ use Rattle.mailstore.specs.declared.refusal.Refusal.{Refusal}
 use Rattle.mailstore.specs.declared.refusal.Refusal.TheVariants.{NoUser, NoRow}
 use Rattle.mailstore.specs.Account.{Account, Accounts, with_user, takes_out}
 use Rattle.mailstore.specs.Promises.{HasUser, IsFree, OfUser, WritesUser}
-use Rattle.mailstore.specs.Refusals.{IsPassing}
+use Rattle.mailstore.specs.Refusals.{IsTransient}
 use Rattle.mailstore.specs.Shows.{Presents}
 use Rattle.sessions.specs.Acts.{HasAccounts}
 use Rattle.sessions.proofs.ActLemmas.{glanced, read_shows, acts_read, acts_made, acts_undone}
@@ -32,21 +32,21 @@ module _ (user : List ℕ) (id : ℕ) where
   abbrev Queue : List Outgoing → Account → Type 0
   Queue queue account = queue ≡ account.queue
 
-  passing_turn : (e : Refusal) (accounts : Accounts) → IsPassing e → TurnsBy Row IsPassing (Refused e) accounts accounts
-  passing_turn e accounts passing = inr (e, passing, refl, refl)
+  transient_turn : (e : Refusal) (accounts : Accounts) → IsTransient e → TurnsBy Row IsTransient (Refused e) accounts accounts
+  transient_turn e accounts transient = inr (e, transient, refl, refl)
 
-  absent_turn : (accounts : Accounts) → IsFree user accounts → TurnsBy Row IsPassing (Refused NoUser) accounts accounts
+  absent_turn : (accounts : Accounts) → IsFree user accounts → TurnsBy Row IsTransient (Refused NoUser) accounts accounts
   absent_turn accounts free = inl (subst (λ o. TakesIn accounts user id o (Refused NoUser) accounts) (sym free) (record { refused = refl; stays = refl }))
 
   -- the queue couldn't be read
   pub taking_unread : (a b : State) (e : Refusal) (q : Result Outgoing Refusal) → q ≡ Err e → LooksUp user Queue a b (Err e) → ActsTaking user id a b q
   taking_unread a b e q is look = subst (λ o. ActsTaking user id a b o) (sym is)
-      (acts_read a b (TurnsBy Row IsPassing (Refused e)) (MayTurnBy Row) (Err e) (glanced a b (Err e) look.reads.keeps) (λ clean accounts shown. turn clean accounts shown look.reads.named))
+      (acts_read a b (TurnsBy Row IsTransient (Refused e)) (MayTurnBy Row) (Err e) (glanced a b (Err e) look.reads.keeps) (λ clean accounts shown. turn clean accounts shown look.reads.named))
     where
-      turn : HasCleanDisk b → (accounts : Accounts) → HasAccounts a accounts → (e ≡ NoUser) ⊎ IsPassing e → TurnsBy Row IsPassing (Refused e) accounts accounts
+      turn : HasCleanDisk b → (accounts : Accounts) → HasAccounts a accounts → (e ≡ NoUser) ⊎ IsTransient e → TurnsBy Row IsTransient (Refused e) accounts accounts
       turn clean accounts shown (inl absent) =
-          subst (λ f. TurnsBy Row IsPassing (Refused f) accounts accounts) (sym absent) (absent_turn accounts (look.reads.absent clean accounts (shown (look.sure clean absent)) absent))
-      turn clean accounts shown (inr passing) = passing_turn e accounts passing
+          subst (λ f. TurnsBy Row IsTransient (Refused f) accounts accounts) (sym absent) (absent_turn accounts (look.reads.absent clean accounts (shown (look.sure clean absent)) absent))
+      turn clean accounts shown (inr transient) = transient_turn e accounts transient
 
   module _ (a b : State) (r : Result (List Outgoing) Refusal) (queue : List Outgoing) (was : r ≡ Ok queue) (look : LooksUp user Queue a b r) where
     found : HasCleanDisk b → (accounts : Accounts) → Presents a.now accounts → OfUser accounts user (Queue queue)
@@ -59,15 +59,15 @@ module _ (user : List ℕ) (id : ℕ) where
 
     -- no row has the number
     pub taking_none : row_with id queue ≡ None → ActsTaking user id a b (Err NoRow)
-    taking_none is = acts_read a b (TurnsBy Row IsPassing (Refused NoRow)) (MayTurnBy Row) (Err NoRow) (glanced a b r look.reads.keeps)
+    taking_none is = acts_read a b (TurnsBy Row IsTransient (Refused NoRow)) (MayTurnBy Row) (Err NoRow) (glanced a b r look.reads.keeps)
         (λ clean accounts shown.
         let p = (read_shows a b r queue was look.reads.keeps clean accounts shown).0 in
         inl (by_row None (Refused NoRow) accounts accounts is (found clean accounts p) (record { refused = refl; stays = refl })))
 
     -- no memory for the row
-    pub taking_failed : (q : Result Outgoing Refusal) → OnOk q ⊥ → IfErr q IsPassing → ActsTaking user id a b q
-    taking_failed (Ok row) undone passing = absurd undone
-    taking_failed (Err e) undone passing = acts_read a b (TurnsBy Row IsPassing (Refused e)) (MayTurnBy Row) (Err e) (glanced a b r look.reads.keeps) (λ clean accounts shown. passing_turn e accounts passing)
+    pub taking_failed : (q : Result Outgoing Refusal) → OnOk q ⊥ → IfErr q IsTransient → ActsTaking user id a b q
+    taking_failed (Ok row) undone transient = absurd undone
+    taking_failed (Err e) undone transient = acts_read a b (TurnsBy Row IsTransient (Refused e)) (MayTurnBy Row) (Err e) (glanced a b r look.reads.keeps) (λ clean accounts shown. transient_turn e accounts transient)
 
     module _ (row : Outgoing) (is : row_with id queue ≡ Some row) (c : State) (w : Result (Unit {0}) Refusal) (late : WritesUser user (takes_out id) b c w) where
       fits : HasCleanDisk b → (accounts : Accounts) → Presents a.now accounts → HasUser user accounts × Row accounts (Taken row) (with_user accounts user (takes_out id))
@@ -79,10 +79,10 @@ module _ (user : List ℕ) (id : ℕ) where
 
       pub taking_made : (y : Unit {0}) → w ≡ Ok y → ActsTaking user id a c (Ok row)
       taking_made y done =
-          acts_made a b c r queue was look.reads.keeps (HasUser user) (λ all. with_user all user (takes_out id)) w late.made late.settled (λ clean tables. late.same clean) late.crash (TurnsBy Row IsPassing (Taken row)) (MayTurnBy Row) y row done
+          acts_made a b c r queue was look.reads.keeps (HasUser user) (λ all. with_user all user (takes_out id)) w late.made late.settled (λ clean tables. late.same clean) late.crash (TurnsBy Row IsTransient (Taken row)) (MayTurnBy Row) y row done
           (λ clean accounts p. let f = fits clean accounts p in (f.0, inl f.1, (Taken row, f.1)))
 
-      pub taking_undone : (e : Refusal) (q : Result Outgoing Refusal) → w ≡ Err e → q ≡ Err e → IsPassing e → ActsTaking user id a c q
-      taking_undone e q refused same passing = subst (λ o. ActsTaking user id a c o) (sym same)
-          (acts_undone a b c r queue was look.reads.keeps (HasUser user) (λ all. with_user all user (takes_out id)) w late.made late.settled (λ clean tables. late.same clean) late.crash (TurnsBy Row IsPassing (Refused e)) (MayTurnBy Row) e (Err e) refused
-          (λ told. told passing) (λ accounts. passing_turn e accounts passing) (λ clean accounts p. let f = fits clean accounts p in (f.0, (Taken row, f.1))))
+      pub taking_undone : (e : Refusal) (q : Result Outgoing Refusal) → w ≡ Err e → q ≡ Err e → IsTransient e → ActsTaking user id a c q
+      taking_undone e q refused same transient = subst (λ o. ActsTaking user id a c o) (sym same)
+          (acts_undone a b c r queue was look.reads.keeps (HasUser user) (λ all. with_user all user (takes_out id)) w late.made late.settled (λ clean tables. late.same clean) late.crash (TurnsBy Row IsTransient (Refused e)) (MayTurnBy Row) e (Err e) refused
+          (λ told. told transient) (λ accounts. transient_turn e accounts transient) (λ clean accounts p. let f = fits clean accounts p in (f.0, (Taken row, f.1))))

@@ -9,7 +9,7 @@ use Rattle.mailstore.specs.declared.refusal.Refusal.TheVariants.{Memory, UserExi
 use Rattle.mailstore.specs.Account.{Accounts, new_user}
 use Rattle.mailstore.specs.AccountTable.{profile_of}
 use Rattle.mailstore.specs.Promises.{IsFree, ReadsProfile, Writes}
-use Rattle.mailstore.specs.Refusals.{IsPassing}
+use Rattle.mailstore.specs.Refusals.{IsTransient}
 use Rattle.mailstore.specs.Shows.{Presents}
 use Rattle.sessions.proofs.ActLemmas.{no_glance, glanced, read_shows, acts_read, acts_made, acts_undone}
 use Rattle.mailengine.specs.declared.answer.Answer.{Answer}
@@ -36,20 +36,20 @@ module _ (name address salt password : List ℕ) where
   addition_lacks a (Err e) undone lack = acts_read a a (TurnsBy Row May (Refused e)) (MayTurnBy Row) (Err e) (no_glance a) (λ clean accounts shown. inr (e, inl lack, refl, refl))
 
   module _ (new : IsNewUser name address password) (a b : State) (r : Result (Option Profile) Refusal) (read : ReadsProfile name a b r) where
-    may : (e : Refusal) → IsPassing e → May e
+    may : (e : Refusal) → IsTransient e → May e
     may e (inl memory) = inl memory
     may e (inr store) = inr (store, new)
 
-    passing_turn : (e : Refusal) (accounts : Accounts) → IsPassing e → TurnsBy Row May (Refused e) accounts accounts
-    passing_turn e accounts passing = inr (e, may e passing, refl, refl)
+    transient_turn : (e : Refusal) (accounts : Accounts) → IsTransient e → TurnsBy Row May (Refused e) accounts accounts
+    transient_turn e accounts transient = inr (e, may e transient, refl, refl)
 
     found : (o : Option Profile) → r ≡ Ok o → HasCleanDisk b → (accounts : Accounts) → Presents a.now accounts → o ≡ option_map profile_of (get accounts name)
     found o is clean accounts p = subst (λ q. IfOk q (λ profile. profile ≡ option_map profile_of (get accounts name))) is (read.found clean accounts p)
 
     -- the account couldn't be read
-    pub addition_unread : (q : Result (Unit {0}) Refusal) → OnOk q ⊥ → IfErr q IsPassing → ActsAddition name address salt password a b q
-    addition_unread (Ok done) undone passing = absurd undone
-    addition_unread (Err e) undone passing = acts_read a b (TurnsBy Row May (Refused e)) (MayTurnBy Row) (Err e) (glanced a b r read.keeps) (λ clean accounts shown. passing_turn e accounts passing)
+    pub addition_unread : (q : Result (Unit {0}) Refusal) → OnOk q ⊥ → IfErr q IsTransient → ActsAddition name address salt password a b q
+    addition_unread (Ok done) undone transient = absurd undone
+    addition_unread (Err e) undone transient = acts_read a b (TurnsBy Row May (Refused e)) (MayTurnBy Row) (Err e) (glanced a b r read.keeps) (λ clean accounts shown. transient_turn e accounts transient)
 
     -- the name has an account
     pub addition_taken : (profile : Profile) → r ≡ Ok (Some profile) → ActsAddition name address salt password a b (Err UserExists)
@@ -72,10 +72,10 @@ module _ (name address salt password : List ℕ) where
       pub addition_written : (q : Result (Unit {0}) Refusal) → q ≡ w → ActsAddition name address salt password a c q
       addition_written q same = subst (λ o. ActsAddition name address salt password a c o) (sym same) (go w refl late.named)
         where
-          go : (o : Result (Unit {0}) Refusal) → w ≡ o → IfErr o IsPassing → ActsAddition name address salt password a c o
-          go (Ok y) done passing =
+          go : (o : Result (Unit {0}) Refusal) → w ≡ o → IfErr o IsTransient → ActsAddition name address salt password a c o
+          go (Ok y) done transient =
               acts_made a b c r None is read.keeps (IsFree name) added w late.made late.settled (λ clean tables. late.same clean) late.crash (TurnsBy Row May Added) (MayTurnBy Row) y y done
               (λ clean accounts p. let f = fits clean accounts p in (f.0, inl f.1, (Added, f.1)))
-          go (Err e) refused passing =
+          go (Err e) refused transient =
               acts_undone a b c r None is read.keeps (IsFree name) added w late.made late.settled (λ clean tables. late.same clean) late.crash (TurnsBy Row May (Refused e)) (MayTurnBy Row) e (Err e) refused
-              (λ told. told passing) (λ accounts. passing_turn e accounts passing) (λ clean accounts p. let f = fits clean accounts p in (f.0, (Added, f.1)))
+              (λ told. told transient) (λ accounts. transient_turn e accounts transient) (λ clean accounts p. let f = fits clean accounts p in (f.0, (Added, f.1)))

@@ -9,7 +9,7 @@ use Rattle.sqlite_trees.specs.declared.store.Store.{Ghosts}
 use Rattle.sqlite.specs.Held.{state}
 use Rattle.sqlite.specs.State.{State, HasCleanDisk, Survives}
 use Rattle.mailstore.specs.Account.{Accounts}
-use Rattle.mailstore.specs.Refusals.{IsPassing}
+use Rattle.mailstore.specs.Refusals.{IsTransient}
 use Rattle.mailstore.specs.Shows.{Presents, ShowsIn}
 use Rattle.sieveexec.specs.declared.envelope.Envelope.{Envelope}
 use Rattle.mailstore.specs.declared.queue.Outgoing.{Outgoing}
@@ -59,8 +59,8 @@ pub record Implements (h : Host) (w : World) : Type 0 where
 
 -- the event, of sessions alone, with this answer, of whatever world there was: no account changes
 abbrev pub IsSessionEvent : Event → Answer → BTreeMap ℕ SessionView → BTreeMap ℕ SessionView → Type 0
-IsSessionEvent event answer before behind =
-    (w : World) → HasClients before w.sessions → (clients : Clients) × Next w event answer (record { accounts = w.accounts; sessions = clients }) × HasClients behind clients
+IsSessionEvent event answer before after =
+    (w : World) → HasClients before w.sessions → (clients : Clients) × Next w event answer (record { accounts = w.accounts; sessions = clients }) × HasClients after clients
 
 -- from one store and its sessions to another it is the event with this answer, of whatever world there was
 abbrev pub IsEvent : Event → Answer → Host → Host → Type 0
@@ -131,7 +131,7 @@ MayTurnBy Row accounts later = (answer : Answer) × Row accounts answer later
 
 -- without visible cause a delivery is refused only where no limit stands against it
 abbrev pub MayRefuseDelivery : Envelope → List ℕ → ℕ → Refusal → Type 0
-MayRefuseDelivery envelope message moment refusal = IsPassing refusal × (limit_refusal envelope message moment ≡ None)
+MayRefuseDelivery envelope message moment refusal = IsTransient refusal × (limit_refusal envelope message moment ≡ None)
 
 -- and a new user by the store only where the name, the address and the password are allowed
 abbrev pub MayRefuseAddition : List ℕ → List ℕ → List ℕ → Refusal → Type 0
@@ -156,19 +156,19 @@ ActsAddition name address salt password old new result =
 
 -- what a row that is taken out makes of it
 abbrev pub ActsTaking : List ℕ → ℕ → State → State → Result Outgoing Refusal → Type 0
-ActsTaking user id old new result = Acts (TurnsBy (λ accounts. Taking accounts user id) IsPassing (answer_by Taken result)) (MayTurnBy (λ accounts. Taking accounts user id)) old new result
+ActsTaking user id old new result = Acts (TurnsBy (λ accounts. Taking accounts user id) IsTransient (answer_by Taken result)) (MayTurnBy (λ accounts. Taking accounts user id)) old new result
 
 -- what a message that is taken out of a folder makes of it
 abbrev pub ActsMailTaking : List ℕ → List ℕ → State → State → Result (Unit {0}) Refusal → Type 0
 ActsMailTaking user folder old new result =
-    Acts (TurnsBy (λ accounts. MailTaking accounts user folder) IsPassing (answer_by (λ done. MailTaken) result)) (MayTurnBy (λ accounts. MailTaking accounts user folder)) old new result
+    Acts (TurnsBy (λ accounts. MailTaking accounts user folder) IsTransient (answer_by (λ done. MailTaken) result)) (MayTurnBy (λ accounts. MailTaking accounts user folder)) old new result
 
 -- ---- refusals, by name
 
 -- a delivery is refused by the limit that stands against it; where none does, for want of an account, or without visible cause
 abbrev pub RefusesDelivery : Envelope → List ℕ → ℕ → Refusal → Type 0
 RefusesDelivery envelope message moment refusal =
-    (limit_refusal envelope message moment ≡ Some refusal) ⊎ ((limit_refusal envelope message moment ≡ None) × ((refusal ≡ NoUser) ⊎ IsPassing refusal))
+    (limit_refusal envelope message moment ≡ Some refusal) ⊎ ((limit_refusal envelope message moment ≡ None) × ((refusal ≡ NoUser) ⊎ IsTransient refusal))
 
 -- a new user is refused where the name, the address or the password isn't allowed, where the name has an account, or without visible cause
 abbrev pub RefusesAddition : List ℕ → List ℕ → List ℕ → Refusal → Type 0
@@ -177,4 +177,4 @@ RefusesAddition name address password refusal =
 
 -- a row is refused where the user has no account, where no row has the number, or without visible cause; a message so where the folder has none
 abbrev pub RefusesTaking : Refusal → Type 0
-RefusesTaking refusal = (refusal ≡ NoUser) ⊎ (refusal ≡ NoRow) ⊎ IsPassing refusal
+RefusesTaking refusal = (refusal ≡ NoUser) ⊎ (refusal ≡ NoRow) ⊎ IsTransient refusal

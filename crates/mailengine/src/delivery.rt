@@ -4,7 +4,7 @@ ghost use Rattle.sqlite.specs.Held.{state};
 ghost use Rattle.mailstore.specs.Account.{delivers};
 ghost use Rattle.mailstore.specs.Cells.{contents};
 ghost use Rattle.mailstore.specs.Promises.{WritesAccount};
-ghost use Rattle.mailstore.specs.Refusals.{IsPassing};
+ghost use Rattle.mailstore.specs.Refusals.{IsTransient};
 ghost use Rattle.mailengine.specs.Hosts.{ActsDelivery, IsSpacedDelivery, RefusesDelivery};
 ghost use Rattle.mailengine.specs.Limits as limits;
 ghost use Rattle.mailengine.specs.Lookups.{LooksUp, IsLookup};
@@ -39,7 +39,7 @@ pub(crate) struct Lookup {
 /// In this order: [`Refusal::TooLarge`] for more than 33,554,432 octets, [`Refusal::BadEnvelope`] for an address of
 /// more than 1,024 octets or with CR, LF or NUL, [`Refusal::BadMoment`] past the year 9999: these come without
 /// memory and without the store. Then [`Refusal::NoUser`]. [`Refusal::Memory`] and [`Refusal::Store`] may come
-/// at any place behind the first three. The store then stays as it was.
+/// at any place after the first three. The store then stays as it was.
 pub fn deliver<S: Alter>(
     alloc: Global,
     store: &mut Store<S>,
@@ -87,7 +87,7 @@ fn look_up<S: Alter>(
 /// Writes the delivery. An account that was read a moment ago is there: a store that finds none is refused as `Store`.
 fn commit<S: Alter>(store: &mut Store<S>, user: &[u8], plan: &Plan<'_>) -> Result<(), Refusal>
     ensures writes { WritesAccount user.now (delivers plan.now) (state S.Store store.old) (state S.Store store.new) result }
-    ensures named { IfErr result IsPassing }
+    ensures named { IfErr result IsTransient }
 {
     match store.commit_delivery(user, plan) {
         Err(Refusal::NoUser) => Err(Refusal::Store),

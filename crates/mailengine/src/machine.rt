@@ -81,7 +81,7 @@ pub(crate) fn prepared(
 }
 
 /// Carries out one event, in one transaction at most, and answers it. A refused event changes nothing.
-pub(crate) fn happen<S: Alter>(
+pub(crate) fn apply<S: Alter>(
     alloc: Global,
     store: &mut Store<S>,
     sessions: &mut BTreeMap<u32, Session>,
@@ -107,7 +107,7 @@ pub(crate) fn happen<S: Alter>(
             message,
             moment,
         } => {
-            let report = handed(
+            let report = deliver_borrowed(
                 alloc,
                 store,
                 user.as_slice(),
@@ -146,7 +146,7 @@ pub(crate) fn happen<S: Alter>(
 
 /// A delivery with a borrowed envelope. It is copied once no limit stands against the delivery, so those causes are told
 /// without memory.
-fn handed<S: Alter>(
+fn deliver_borrowed<S: Alter>(
     alloc: Global,
     store: &mut Store<S>,
     user: &[u8],

@@ -6,7 +6,7 @@ ghost use Rattle.mailengine.specs.Sound.{KeepsSound};
 
 use crate::answer::Answer;
 use crate::event::Event;
-use crate::machine::{World, happen, prepared};
+use crate::machine::{World, apply, prepared};
 use sqlite::Alter;
 
 /// What came of a list of events.
@@ -56,7 +56,7 @@ fn run_events<S: Alter>(world: &mut World<S>, events: &[Event]) -> Ran
                 whole: false,
             };
         };
-        let answer = happen(alloc, &mut world.store, &mut world.sessions, event, text);
+        let answer = apply(alloc, &mut world.store, &mut world.sessions, event, text);
         answers.push_reserved(answer);
     }
     Ran {

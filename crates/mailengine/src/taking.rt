@@ -5,7 +5,7 @@ ghost use Rattle.mailengine.specs.AccountEvents as events;
 ghost use Rattle.mailengine.specs.Hosts.{ActsTaking, ActsMailTaking, RefusesTaking};
 ghost use Rattle.mailstore.specs.Account.{takes_mail};
 ghost use Rattle.mailstore.specs.Promises.{WritesAccount};
-ghost use Rattle.mailstore.specs.Refusals.{IsPassing};
+ghost use Rattle.mailstore.specs.Refusals.{IsTransient};
 
 use crate::account::{first_message, queue};
 use mailstore::{Outgoing, Refusal, Store};
@@ -80,7 +80,7 @@ pub fn remove_first<S: Alter>(
     folder: &[u8],
 ) -> Result<(), Refusal>
     ensures writes { WritesAccount user.now (takes_mail folder.now 1) (state S.Store store.old) (state S.Store store.new) result }
-    ensures named { IfErr result IsPassing }
+    ensures named { IfErr result IsTransient }
 {
     match store.take_mail(user, folder) {
         Err(Refusal::NoUser) => Err(Refusal::Store),

@@ -31,7 +31,7 @@ pub const ROUNDS: u32 = 10_000;
 /// In this order: [`Refusal::BadUser`] for a name that isn't 1 to 64 of letters, digits and `. _ - @`, an address that
 /// isn't an addr-spec alone (RFC 5322, 3.4.1), or a password that isn't 1 to 1,024 octets without NUL: the store isn't
 /// asked then. Then [`Refusal::UserExists`]. [`Refusal::Memory`] may come at any place, [`Refusal::Store`] at any
-/// place behind the first. The store then stays as it was.
+/// place after the first. The store then stays as it was.
 pub fn add_user<S: Alter>(
     alloc: Global,
     store: &mut Store<S>,

@@ -12,7 +12,7 @@ size-bare_feed = refl
 size-not_octets : size_of (codes "a\nb\r\n") ≡ 5 → ⊥
 size-not_octets e = cc
 
--- one line feed alone counts twice, one behind a CR once
+-- one line feed alone counts twice, one after a CR once
 size-feed : size_of (codes "\n") ≡ 2
 size-feed = refl
 

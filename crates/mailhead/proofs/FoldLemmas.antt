@@ -71,7 +71,7 @@ header_lines-folded (line ∷ others) more all =
     let later = header_lines-folded others more (and_right _ _ all) in
     rw (kept, later) refl
 
--- the body lies behind lines that begin with a blank
+-- the body lies after lines that begin with a blank
 pub body_lines-folded : (others more : List (List ℕ)) → list_all begins_blank others ≡ true → body_lines (others ++ more) ≡ body_lines more
 body_lines-folded [] more all = refl
 body_lines-folded (line ∷ others) more all =
@@ -112,7 +112,7 @@ header_step text line after cut none =
     let header : header_lines (lines_of text) ≡ cut.first ∷ (cut.others ++ header_lines (lines_of after)) = rw (cut.lines, kept, folded) refl in
     ap logical_lines header ∙ (logical ∙ ap (λ t. t ∷ logical_lines (header_lines (lines_of after))) (sym cut.parts))
 
--- the body lies behind it
+-- the body lies after it
 pub body_step : (text line after : List ℕ) → CutsLogicalLine text line after → after_empty (lines_of text) ≡ None → body_lines (lines_of text) ≡ body_lines (lines_of after)
 body_step text line after cut none =
     let kept = not_empty_first cut.first (cut.others ++ lines_of after) (lines_of text) cut.lines none in

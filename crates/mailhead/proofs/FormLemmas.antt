@@ -37,11 +37,11 @@ prefix_len-stop p (x ∷ xs) ys all stops =
     rw (first, later, one-add) refl
 
 from_colon : (text : List ℕ) (make : List ℕ → FieldText) (field : FieldText) → option_map make (after_colon text) ≡ Some field
-    → (behind : List ℕ) × ((text ≡ 58 ∷ behind) × (make behind ≡ field))
+    → (after : List ℕ) × ((text ≡ 58 ∷ after) × (make after ≡ field))
 from_colon [] make field same = absurd (cc same)
 from_colon (octet ∷ rest) make field found = step (octet == 58) refl found where
   step : (test : Bool) → (octet == 58) ≡ test → option_map make (cond test (Some rest) None) ≡ Some field
-      → (behind : List ℕ) × ((octet ∷ rest ≡ 58 ∷ behind) × (make behind ≡ field))
+      → (after : List ℕ) × ((octet ∷ rest ≡ 58 ∷ after) × (make after ≡ field))
   step true is same = (rest, (ap (λ b. b ∷ rest) (eqb-true octet 58 is), some_is _ _ same))
   step false other same = absurd (cc same)
 
@@ -59,35 +59,35 @@ present p xs some none =
 pub field_is : (line : List ℕ) (field : FieldText) → field_of line ≡ Some field → IsField line field
 field_is line field is =
     let parts = named field (prefix_len is_name line == 0) _ is in
-    let colon = from_colon (after_blanks (after_name line)) (λ behind. record { name = take_while is_name line; raw = without_end behind }) field parts.1 in
+    let colon = from_colon (after_blanks (after_name line)) (λ value. record { name = take_while is_name line; raw = without_end value }) field parts.1 in
     let name : take_while is_name line ≡ field.name = ap (λ f. f.name) colon.1.1 in
     let raw : without_end colon.0 ≡ field.raw = ap (λ f. f.raw) colon.1.1 in
-    let after = after_name line in
+    let past_name = after_name line in
     let whole = take-append-drop (prefix_len is_name line) line in
-    let blank = take-append-drop (prefix_len is_blank after) after in
+    let blank = take-append-drop (prefix_len is_blank past_name) past_name in
     record {
-      blanks = take_while is_blank after;
-      behind = colon.0;
-      spelled = sym whole ∙ (ap (λ t. t ++ after) name ∙ ap (λ t. field.name ++ t) (sym blank ∙ ap (λ t. take_while is_blank after ++ t) colon.1.0));
+      blanks = take_while is_blank past_name;
+      after = colon.0;
+      spelled = sym whole ∙ (ap (λ t. t ++ past_name) name ∙ ap (λ t. field.name ++ t) (sym blank ∙ ap (λ t. take_while is_blank past_name ++ t) colon.1.0));
       present = λ none. present is_name line parts.0 (name ∙ none);
       name_octets = ap (list_all is_name) (sym name) ∙ list_all-prefix is_name line;
-      blank_octets = list_all-prefix is_blank after;
+      blank_octets = list_all-prefix is_blank past_name;
       value = sym raw;
     }
 
-begins-blanks : (blanks behind : List ℕ) → list_all is_blank blanks ≡ true → begins is_name (blanks ++ 58 ∷ behind) ≡ false
-begins-blanks [] behind all = refl
-begins-blanks (octet ∷ blanks) behind all = let blank : is_blank octet ≡ true = and_left _ _ all in not_name octet blank where
+begins-blanks : (blanks after : List ℕ) → list_all is_blank blanks ≡ true → begins is_name (blanks ++ 58 ∷ after) ≡ false
+begins-blanks [] after all = refl
+begins-blanks (octet ∷ blanks) after all = let blank : is_blank octet ≡ true = and_left _ _ all in not_name octet blank where
   not_name : (octet : ℕ) → is_blank octet ≡ true → is_name octet ≡ false
   not_name octet blank = grind arith
 
 -- a field is what field_of gives
 pub is_field : (line : List ℕ) (field : FieldText) → IsField line field → field_of line ≡ Some field
 is_field line field is =
-    let size : prefix_len is_name line ≡ length field.name = ap (prefix_len is_name) is.spelled ∙ prefix_len-stop is_name field.name (is.blanks ++ 58 ∷ is.behind) is.name_octets (begins-blanks is.blanks is.behind is.blank_octets) in
-    let name : take_while is_name line ≡ field.name = ap (take (prefix_len is_name line)) is.spelled ∙ take_at field.name (is.blanks ++ 58 ∷ is.behind) (prefix_len is_name line) (sym size) in
-    let after : after_name line ≡ is.blanks ++ 58 ∷ is.behind = ap (drop (prefix_len is_name line)) is.spelled ∙ drop_at field.name (is.blanks ++ 58 ∷ is.behind) (prefix_len is_name line) (sym size) in
-    let count : prefix_len is_blank (after_name line) ≡ length is.blanks = ap (prefix_len is_blank) after ∙ prefix_len-stop is_blank is.blanks (58 ∷ is.behind) is.blank_octets refl in
-    let colon : after_blanks (after_name line) ≡ 58 ∷ is.behind = ap (drop (prefix_len is_blank (after_name line))) after ∙ drop_at is.blanks (58 ∷ is.behind) (prefix_len is_blank (after_name line)) (sym count) in
+    let size : prefix_len is_name line ≡ length field.name = ap (prefix_len is_name) is.spelled ∙ prefix_len-stop is_name field.name (is.blanks ++ 58 ∷ is.after) is.name_octets (begins-blanks is.blanks is.after is.blank_octets) in
+    let name : take_while is_name line ≡ field.name = ap (take (prefix_len is_name line)) is.spelled ∙ take_at field.name (is.blanks ++ 58 ∷ is.after) (prefix_len is_name line) (sym size) in
+    let after : after_name line ≡ is.blanks ++ 58 ∷ is.after = ap (drop (prefix_len is_name line)) is.spelled ∙ drop_at field.name (is.blanks ++ 58 ∷ is.after) (prefix_len is_name line) (sym size) in
+    let count : prefix_len is_blank (after_name line) ≡ length is.blanks = ap (prefix_len is_blank) after ∙ prefix_len-stop is_blank is.blanks (58 ∷ is.after) is.blank_octets refl in
+    let colon : after_blanks (after_name line) ≡ 58 ∷ is.after = ap (drop (prefix_len is_blank (after_name line))) after ∙ drop_at is.blanks (58 ∷ is.after) (prefix_len is_blank (after_name line)) (sym count) in
     let there : prefix_len is_name line ≢ 0 = λ zero. is.present (nil_from_length field.name (sym size ∙ zero)) in
-    field_there line is.behind there colon ∙ same_texts _ _ _ _ name (sym is.value)
+    field_there line is.after there colon ∙ same_texts _ _ _ _ name (sym is.value)

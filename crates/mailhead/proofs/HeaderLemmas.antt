@@ -13,19 +13,19 @@ none_both false = refl
 pub field_nameless : (line : List ℕ) → prefix_len is_name line ≡ 0 → field_of line ≡ None
 field_nameless line none = rw none refl
 
--- nothing behind the name and the blanks
+-- nothing after the name and the blanks
 pub field_ended : (line : List ℕ) → after_blanks (after_name line) ≡ [] → field_of line ≡ None
 field_ended line end = rw end (none_both (prefix_len is_name line == 0))
 
 -- no colon
-pub field_other : (line : List ℕ) (octet : ℕ) (behind : List ℕ) → after_blanks (after_name line) ≡ octet ∷ behind → octet ≢ 58 → field_of line ≡ None
-field_other line octet behind at other =
+pub field_other : (line : List ℕ) (octet : ℕ) (after : List ℕ) → after_blanks (after_name line) ≡ octet ∷ after → octet ≢ 58 → field_of line ≡ None
+field_other line octet after at other =
     let no = false_from_ne_true (octet == 58) (λ yes. other (eqb-true octet 58 yes)) in
     rw (at, no) (none_both (prefix_len is_name line == 0))
 
 -- a field
-pub field_there : (line : List ℕ) (behind : List ℕ) → prefix_len is_name line ≢ 0 → after_blanks (after_name line) ≡ 58 ∷ behind → field_of line ≡ Some (record { name = take_while is_name line; raw = without_end behind })
-field_there line behind present at =
+pub field_there : (line : List ℕ) (after : List ℕ) → prefix_len is_name line ≢ 0 → after_blanks (after_name line) ≡ 58 ∷ after → field_of line ≡ Some (record { name = take_while is_name line; raw = without_end after })
+field_there line after present at =
     let named = false_from_ne_true (prefix_len is_name line == 0) (λ yes. present (eqb-true (prefix_len is_name line) 0 yes)) in
     rw (at, named) refl
 

@@ -30,7 +30,7 @@ after_return false next more [] other all = rw other refl
 after_return false next more ([] ∷ rest) other all = rw other refl
 after_return false next more ((octet ∷ line) ∷ rest) other all = refl
 
--- CR at the front is an empty line with an LF behind it
+-- CR at the front is an empty line with an LF after it
 pub after_empty-return : (octet : ℕ) (rest : List ℕ) → octet ≡ 13 → after_empty (lines_of (octet ∷ rest)) ≡ rest_after_feed rest
 after_empty-return octet [] is = rw is refl
 after_empty-return octet (next ∷ more) is = rw is (after_return (next == 10) next more (lines_of more) refl (concat-lines_of more))

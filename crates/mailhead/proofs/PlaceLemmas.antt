@@ -21,20 +21,20 @@ end_len-le [] = omega arith
 end_len-le (octet ∷ []) = one_end octet
 end_len-le (octet ∷ (next ∷ more)) = cond_le (is_feed (get_or (octet ∷ (next ∷ more)) (length (octet ∷ (next ∷ more)) - 1) 0)) _ 0 _ (cond_le (get_or (octet ∷ (next ∷ more)) (length (octet ∷ (next ∷ more)) - 2) 0 == 13) 2 1 _ (omega arith) (omega arith)) (omega arith)
 
-at_end : (front behind : List ℕ) (i k : ℕ) → i ≡ length front + k → get_or (front ++ behind) i 0 ≡ get_or behind k 0
-at_end front behind i k is = rw is (get_or-append-add front behind k 0)
+at_end : (front back : List ℕ) (i k : ℕ) → i ≡ length front + k → get_or (front ++ back) i 0 ≡ get_or back k 0
+at_end front back i k is = rw is (get_or-append-add front back k 0)
 
 one_octet : (octet : ℕ) → let with_feed : ℕ = cond (octet == 10) 1 0 in with_feed ≡ cond (octet == 10) (cond (octet == 13) 2 1) 0
 one_octet octet = grind arith
 
 -- a line ends as what follows its colon does
-pub end_len-behind : (front behind : List ℕ) → end_len ((front ++ 58 ∷ []) ++ behind) ≡ end_len behind
-end_len-behind front [] =
+pub end_len-after : (front back : List ℕ) → end_len ((front ++ 58 ∷ []) ++ back) ≡ end_len back
+end_len-after front [] =
     let whole : (front ++ 58 ∷ []) ++ [] ≡ front ++ 58 ∷ [] = append-nil (front ++ 58 ∷ []) in
     let size : length (front ++ 58 ∷ []) ≡ length front + 1 = length-append front (58 ∷ []) in
     let last : get_or (front ++ 58 ∷ []) (length (front ++ 58 ∷ []) - 1) 0 ≡ 58 = at_end front (58 ∷ []) (length (front ++ 58 ∷ []) - 1) 0 (omega (arith, size)) in
     rw (whole, last) refl
-end_len-behind front (octet ∷ []) =
+end_len-after front (octet ∷ []) =
     let before = front ++ 58 ∷ [] in
     let long : length before ≡ length front + 1 = length-append front (58 ∷ []) in
     let size : length (before ++ octet ∷ []) ≡ length before + 1 = length-append before (octet ∷ []) in
@@ -43,12 +43,12 @@ end_len-behind front (octet ∷ []) =
     let other : get_or (before ++ octet ∷ []) (length (before ++ octet ∷ []) - 2) 0 ≡ 58 =
     ap (λ t. get_or t (length (before ++ octet ∷ []) - 2) 0) moved ∙ at_end front (58 ∷ octet ∷ []) _ 0 (omega (arith, size, long)) in
     rw (last, other) (one_octet octet)
-end_len-behind front (octet ∷ (next ∷ more)) =
+end_len-after front (octet ∷ (next ∷ more)) =
     let before = front ++ 58 ∷ [] in
-    let behind = octet ∷ (next ∷ more) in
-    let size : length (before ++ behind) ≡ length before + length behind = length-append before behind in
-    let last : get_or (before ++ behind) (length (before ++ behind) - 1) 0 ≡ get_or behind (length behind - 1) 0 = at_end before behind _ _ (omega (arith, size)) in
-    let other : get_or (before ++ behind) (length (before ++ behind) - 2) 0 ≡ get_or behind (length behind - 2) 0 = at_end before behind _ _ (omega (arith, size)) in
+    let back = octet ∷ (next ∷ more) in
+    let size : length (before ++ back) ≡ length before + length back = length-append before back in
+    let last : get_or (before ++ back) (length (before ++ back) - 1) 0 ≡ get_or back (length back - 1) 0 = at_end before back _ _ (omega (arith, size)) in
+    let other : get_or (before ++ back) (length (before ++ back) - 2) 0 ≡ get_or back (length back - 2) 0 = at_end before back _ _ (omega (arith, size)) in
     rw (last, other) refl
 
 slice_at : (front text back : List ℕ) (i j : ℕ) → i ≡ length front → j ≡ length front + length text → slice_range (front ++ (text ++ back)) i j ≡ text
@@ -64,24 +64,24 @@ pub field_placed : (before line after : List ℕ) (field : FieldText) → IsFiel
 field_placed before line after field is = same_field _ field name raw where
   name : slice_range (before ++ (line ++ after)) (length before) (length before + length field.name) ≡ field.name
   name =
-      let split : line ++ after ≡ field.name ++ ((is.blanks ++ 58 ∷ is.behind) ++ after) = ap (λ t. t ++ after) is.spelled ∙ append_assoc field.name (is.blanks ++ 58 ∷ is.behind) after in
+      let split : line ++ after ≡ field.name ++ ((is.blanks ++ 58 ∷ is.after) ++ after) = ap (λ t. t ++ after) is.spelled ∙ append_assoc field.name (is.blanks ++ 58 ∷ is.after) after in
       ap (λ t. slice_range (before ++ t) (length before) (length before + length field.name)) split
-      ∙ slice_at before field.name ((is.blanks ++ 58 ∷ is.behind) ++ after) _ _ refl refl
+      ∙ slice_at before field.name ((is.blanks ++ 58 ∷ is.after) ++ after) _ _ refl refl
 
   raw : slice_range (before ++ (line ++ after)) (length before + (length line - end_len line) - length field.raw) (length before + (length line - end_len line)) ≡ field.raw
   raw =
       let front = (field.name ++ is.blanks) ++ 58 ∷ [] in
-      let whole : line ≡ front ++ is.behind = is.spelled ∙ (sym (append_assoc field.name is.blanks (58 ∷ is.behind)) ∙ sym (append_assoc (field.name ++ is.blanks) (58 ∷ []) is.behind)) in
-      let ending = drop (length is.behind - end_len is.behind) is.behind in
-      let behind : is.behind ≡ field.raw ++ ending = sym (take-append-drop (length is.behind - end_len is.behind) is.behind) ∙ ap (λ t. t ++ ending) (sym is.value) in
-      let ends : end_len line ≡ end_len is.behind = ap end_len whole ∙ end_len-behind (field.name ++ is.blanks) is.behind in
-      let within = end_len-le is.behind in
-      let long : length field.raw ≡ length is.behind - end_len is.behind = ap length is.value ∙ length-take-le (length is.behind - end_len is.behind) is.behind (omega arith) in
-      let size : length line ≡ length front + length is.behind = ap length whole ∙ length-append front is.behind in
+      let whole : line ≡ front ++ is.after = is.spelled ∙ (sym (append_assoc field.name is.blanks (58 ∷ is.after)) ∙ sym (append_assoc (field.name ++ is.blanks) (58 ∷ []) is.after)) in
+      let ending = drop (length is.after - end_len is.after) is.after in
+      let parts : is.after ≡ field.raw ++ ending = sym (take-append-drop (length is.after - end_len is.after) is.after) ∙ ap (λ t. t ++ ending) (sym is.value) in
+      let ends : end_len line ≡ end_len is.after = ap end_len whole ∙ end_len-after (field.name ++ is.blanks) is.after in
+      let within = end_len-le is.after in
+      let long : length field.raw ≡ length is.after - end_len is.after = ap length is.value ∙ length-take-le (length is.after - end_len is.after) is.after (omega arith) in
+      let size : length line ≡ length front + length is.after = ap length whole ∙ length-append front is.after in
       let start : length (before ++ front) ≡ length before + length front = length-append before front in
       let split : before ++ (line ++ after) ≡ (before ++ front) ++ (field.raw ++ (ending ++ after)) =
       ap (λ t. before ++ (t ++ after)) whole
-      ∙ (ap (λ t. before ++ ((front ++ t) ++ after)) behind
+      ∙ (ap (λ t. before ++ ((front ++ t) ++ after)) parts
       ∙ (ap (λ t. before ++ t) (append_assoc front (field.raw ++ ending) after)
       ∙ (ap (λ t. before ++ (front ++ t)) (append_assoc field.raw ending after)
       ∙ sym (append_assoc before front (field.raw ++ (ending ++ after)))))) in

@@ -17,12 +17,12 @@ pub record FieldText : Type 0 where
 -- a logical line that is a field: a name, blanks, a colon, the raw value, the last line end
 pub record IsField (line : List ℕ) (field : FieldText) : Type 0 where
   pub blanks : List ℕ
-  pub behind : List ℕ
-  pub spelled : line ≡ field.name ++ (blanks ++ 58 ∷ behind)
+  pub after : List ℕ
+  pub spelled : line ≡ field.name ++ (blanks ++ 58 ∷ after)
   pub present : field.name ≢ []
   pub name_octets : list_all is_name field.name ≡ true
   pub blank_octets : list_all is_blank blanks ≡ true
-  pub value : field.raw ≡ without_end behind
+  pub value : field.raw ≡ without_end after
 
 -- what follows a colon, where there is one
 abbrev pub after_colon : List ℕ → Option (List ℕ)
@@ -41,7 +41,7 @@ after_name line = drop (prefix_len is_name line) line
 abbrev pub field_of : List ℕ → Option FieldText
 field_of line =
     cond (prefix_len is_name line == 0) None
-    (option_map (λ behind. record { name = take_while is_name line; raw = without_end behind })
+    (option_map (λ after. record { name = take_while is_name line; raw = without_end after })
     (after_colon (after_blanks (after_name line))))
 
 -- the texts of a field that was read

@@ -16,7 +16,7 @@ fields_of message = filter_map field_of (header_of message)
 abbrev pub body_of : List ℕ → List ℕ
 body_of message = concat (body_lines (lines_of message))
 
--- how many octets, each LF without CR right before it counted twice, behind this octet
+-- how many octets, each LF without CR right before it counted twice, after this octet
 abbrev pub size_after : ℕ → List ℕ → ℕ
 size_after before [] = 0
 size_after before (octet ∷ rest) = cond (is_feed octet && not (before == 13)) 2 1 + size_after octet rest

@@ -2,5 +2,5 @@ pub mod Lines
 pub mod Cuts
 pub mod Fields
 pub mod Heads
-pub mod Reads
+pub mod Messages
 pub mod Sizes

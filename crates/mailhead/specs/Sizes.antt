@@ -2,16 +2,16 @@
 use Rattle.std.specs.Prelude.{ℕ, ◌+◌, ◌==◌, ◌&&◌, not, cond, List, [], ◌∷◌}
 use Rattle.mailhead.specs.Lines.{is_feed}
 
--- 1 for an LF behind an octet other than CR
+-- 1 for an LF after an octet other than CR
 abbrev pub bare_at : ℕ → ℕ → ℕ
 bare_at before octet = cond (is_feed octet && not (before == 13)) 1 0
 
--- how many LFs without CR right before them stand behind this octet
+-- how many LFs without CR right before them stand after this octet
 abbrev pub bare_after : ℕ → List ℕ → ℕ
 bare_after before [] = 0
 bare_after before (octet ∷ rest) = bare_at before octet + bare_after octet rest
 
--- how many stand in a block behind its first octet
+-- how many stand in a block after its first octet
 abbrev pub bare_in : List ℕ → ℕ
 bare_in [] = 0
 bare_in (octet ∷ rest) = bare_after octet rest

@@ -16,7 +16,7 @@ pub struct Field<'a> {
     pub raw: &'a [u8],
 }
 
-/// Reads a logical line as a field, if it is one.
+/// ReadsMessage a logical line as a field, if it is one.
 pub fn read_field(line: &[u8]) -> Option<Field<'_>>
     ensures { option_map fields.text_of result ≡ fields.field_of line.now }
 {
@@ -24,13 +24,13 @@ pub fn read_field(line: &[u8]) -> Option<Field<'_>>
     if name.is_empty() {
         return None;
     }
-    let (colon, behind) = after_blanks(after).split_first()?;
+    let (colon, value) = after_blanks(after).split_first()?;
     if *colon != b':' {
         return None;
     }
     Some(Field {
         name,
-        raw: without_end(behind),
+        raw: without_end(value),
     })
 }
 

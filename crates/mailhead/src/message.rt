@@ -2,7 +2,7 @@
 ghost use Rattle.std.specs.Prelude.{◌≡◌, IfOk, option_copied};
 ghost use Rattle.mailhead.specs.Cuts.{after_empty, rest_after_feed};
 ghost use Rattle.mailhead.specs.Lines.{lines_of};
-ghost use Rattle.mailhead.specs.Reads.{Reads};
+ghost use Rattle.mailhead.specs.Messages.{ReadsMessage};
 ghost use Rattle.mailhead.specs.Fields.{texts_of};
 ghost use Rattle.mailhead.specs.Heads.{fields_of, body_of, size_of};
 
@@ -23,17 +23,17 @@ pub struct Head<'a> {
 
 impl<'a> Model for Head<'a> {
     ghost use Rattle.std.specs.Prelude.{ℕ, List};
-    ghost use Rattle.mailhead.specs.Reads.{Reads};
+    ghost use Rattle.mailhead.specs.Messages.{ReadsMessage};
 
     ghost Value = { List ℕ };
 
     ghost view = { λ head. head.message.now };
 
-    ghost invariant = { λ head. Reads head.message.now head.fields.items head.body.now };
+    ghost invariant = { λ head. ReadsMessage head.message.now head.fields.items head.body.now };
 }
 
 impl<'a> Head<'a> {
-    /// Reads the header of a message, up to its first empty line or its end.
+    /// ReadsMessage the header of a message, up to its first empty line or its end.
     ///
     /// One pass over the header; the body isn't looked at. The memory is that of the fields.
     pub fn read(alloc: Global, message: &'a [u8]) -> Result<Head<'a>, AllocError>
@@ -79,7 +79,7 @@ impl<'a> Head<'a> {
 }
 
 fn read_header(alloc: Global, message: &[u8]) -> Result<(Vec<Field<'_>>, &[u8]), AllocError>
-    ensures { IfOk result (λ head. Reads message.now head.0.items head.1.now) }
+    ensures { IfOk result (λ head. ReadsMessage message.now head.0.items head.1.now) }
 {
     let mut fields = Vec::new(alloc);
     let mut rest = message;

@@ -3,20 +3,20 @@ use Rattle.std.proofs.Common.{◌≡◌, ◌⊎◌, ℕ, List, Option, Some, Non
 use Rattle.std.specs.FinMap.{get}
 use Rattle.sqlite.specs.State.{State, HasCleanDisk, Survives}
 use Rattle.sqlite.proofs.StateLemmas.{survives_then, survives_weaker}
-use Rattle.sqlrows.specs.Rows.{Tables, Holds}
+use Rattle.sqlrows.specs.Rows.{Tables, HoldsTables}
 use Rattle.mailstore.specs.declared.change.Change.{Change}
 use Rattle.mailstore.specs.declared.refusal.Refusal.{Refusal}
 use Rattle.mailstore.specs.declared.refusal.Refusal.TheVariants.{NoUser}
 use Rattle.mailstore.specs.Schema.{mail_schema}
 use Rattle.mailstore.specs.Connection.{StaysSame, IsSettled}
-use Rattle.mailstore.specs.Changes.{made, MayHave}
+use Rattle.mailstore.specs.Changes.{made, CrashLeavesTables}
 use Rattle.mailstore.specs.Account.{Account, Accounts, with_user}
-use Rattle.mailstore.specs.Refusals.{IsPassing}
+use Rattle.mailstore.specs.Refusals.{IsTransient}
 use Rattle.mailstore.specs.Shows.{ShowsAccounts, Presents}
-use Rattle.mailstore.specs.Promises.{HasUser, IsFree, OfUser, Turns, MayShow, HasOurTables, Keeps, Reads, MakesAll, ReadsProfile, WritesAccount, WritesKnown}
+use Rattle.mailstore.specs.Promises.{HasUser, IsFree, OfUser, Turns, CrashLeavesAccounts, HasOurTables, Keeps, Reads, MakesAll, ReadsProfile, WritesAccount, WritesKnown}
 use Rattle.mailstore.proofs.ResultLemmas.{on_ok}
 use Rattle.mailstore.proofs.WriteLemmas.{clean_before}
-use Rattle.mailstore.proofs.KeepLemmas.{passing_named, passing_other, keeps_ok, keeps_refused, keeps_then, keeps_failed, none_if, mid_shows}
+use Rattle.mailstore.proofs.KeepLemmas.{transient_named, transient_other, keeps_ok, keeps_refused, keeps_then, keeps_failed, none_if, mid_shows}
 use Rattle.mailstore.specs.declared.profile.Profile.{Profile}
 use Rattle.mailstore.specs.AccountTable.{profile_of}
 
@@ -49,7 +49,7 @@ module _ {X Y Z : Type 0} (user : List ℕ) (P : X → Account → Type 0) (Q : 
         let none : Result Y Refusal = Err e in
         subst (λ o. IfErr o (λ f. f ≡ NoUser → IsFree user accounts)) (sym is) (late.absent clean accounts (mid_shows a b c r x was none early.keeps late.keeps clean accounts p));
     keeps = let none : Result Y Refusal = Err e in keeps_refused a c none e q is (keeps_then a b c r x was none early.keeps late.keeps);
-    named = subst (λ o. IfErr o (λ f. (f ≡ NoUser) ⊎ IsPassing f)) (sym is) late.named;
+    named = subst (λ o. IfErr o (λ f. (f ≡ NoUser) ⊎ IsTransient f)) (sym is) late.named;
   }
 
 -- ---- a write after a read
@@ -90,13 +90,13 @@ module _ {X Y : Type 0} (user : List ℕ) (Known : Account → Type 0) (change :
     made = λ clean. turned clean q (late.made clean);
     settled = late.settled;
     same = λ clean ours. undone clean ours q (late.same clean);
-    absent = λ clean accounts p. passing_other q (IsFree user accounts) late.named;
+    absent = λ clean accounts p. transient_other q (IsFree user accounts) late.named;
     crash = survives_then a b c _ _ _ (λ clean db none accounts p has. absurd (none (p.0, p.1))) (λ clean db may accounts p has. may accounts (shows_then clean accounts p) (known_then clean accounts p)) early.keeps.crash late.crash;
-    named = passing_named q late.named;
+    named = transient_named q late.named;
   }
 
 module _ {X Y E : Type 0} (a b c : State) (r : Result X E) (x : X) (ok : r ≡ Ok x) (kept : Keeps a b r) (user : List ℕ) (change : Account → Account) (ds : List Change) (carries : CarriesKnown a b user change ds)
-    (late : Survives b c (MayHave ds b)) (q : Result Y Refusal) where
+    (late : Survives b c (CrashLeavesTables ds b)) (q : Result Y Refusal) where
   abbrev changed : Accounts → Accounts
   changed all = with_user all user change
 
@@ -106,14 +106,14 @@ module _ {X Y E : Type 0} (a b c : State) (r : Result X E) (x : X) (ok : r ≡ O
   mid_open : HasCleanDisk c → IsTrue b.is_open
   mid_open clean = on_ok r x ok (IsTrue b.is_open) (kept.live (early clean))
 
-  mid_holds : HasCleanDisk c → (tables : Tables) → Holds mail_schema a.now tables → Holds mail_schema b.now tables
-  mid_holds clean tables h = subst (λ d. Holds mail_schema d tables) (sym ((kept.same (early clean) (tables, h)).now_is (mid_open clean))) h
+  mid_holds : HasCleanDisk c → (tables : Tables) → HoldsTables mail_schema a.now tables → HoldsTables mail_schema b.now tables
+  mid_holds clean tables h = subst (λ d. HoldsTables mail_schema d tables) (sym ((kept.same (early clean) (tables, h)).now_is (mid_open clean))) h
 
   made_then : HasCleanDisk c → (o : Result Y Refusal) → MakesAll ds b c o → OnOk o (Turns (HasUser user) changed a.now c.now)
   made_then clean (Err e) wrote = tt
   made_then clean (Ok y) wrote = λ accounts p has. (made p.0 ds, wrote clean p.0 (mid_holds clean p.0 p.1), carries (early clean) accounts p has)
 
-  crash_then : Survives a c (MayShow (HasUser user) changed a)
+  crash_then : Survives a c (CrashLeavesAccounts (HasUser user) changed a)
   crash_then = survives_then a b c _ _ _ (λ clean db none accounts p has. absurd (none (p.0, p.1)))
       (λ clean db may accounts p has.
       let left = may p.0 (mid_holds clean p.0 p.1) in
@@ -125,26 +125,26 @@ module _ {X Y E : Type 0} (a b c : State) (r : Result X E) (x : X) (ok : r ≡ O
       let mid = kept.same (early clean) ours in
       record { now_is = λ o. h.now_is o ∙ mid.now_is (mid_open clean); committed_is = λ o. h.committed_is o ∙ mid.committed_is (mid_open clean) }
 
-  pub writes_then : MakesAll ds b c q → (HasCleanDisk c → OnOk q (IsSettled c)) → (HasCleanDisk c → OnErr q (StaysSame b c)) → IfErr q IsPassing → WritesAccount user change a c q
+  pub writes_then : MakesAll ds b c q → (HasCleanDisk c → OnOk q (IsSettled c)) → (HasCleanDisk c → OnErr q (StaysSame b c)) → IfErr q IsTransient → WritesAccount user change a c q
   writes_then wrote settled same named = record {
     made = λ clean. made_then clean q wrote;
     settled = settled;
     same = λ clean ours. same_then clean ours q (same clean);
-    absent = λ clean accounts p. passing_other q (IsFree user accounts) named;
+    absent = λ clean accounts p. transient_other q (IsFree user accounts) named;
     crash = crash_then;
-    named = passing_named q named;
+    named = transient_named q named;
   }
 
 -- reads alone, and a refusal
 pub write_refused : {X Y : Type 0} (a b : State) (r : Result X Refusal) (user : List ℕ) (change : Account → Account) (e : Refusal) (q : Result Y Refusal) → q ≡ Err e → Keeps a b r
-    → (HasCleanDisk b → (accounts : Accounts) → Presents a.now accounts → e ≡ NoUser → IsFree user accounts) → (e ≡ NoUser) ⊎ IsPassing e → WritesAccount user change a b q
+    → (HasCleanDisk b → (accounts : Accounts) → Presents a.now accounts → e ≡ NoUser → IsFree user accounts) → (e ≡ NoUser) ⊎ IsTransient e → WritesAccount user change a b q
 write_refused a b r user change e q is kept absent named = record {
   made = λ clean. subst (λ o. OnOk o (Turns (HasUser user) (λ all. with_user all user change) a.now b.now)) (sym is) tt;
   settled = λ clean. subst (λ o. OnOk o (IsSettled b)) (sym is) tt;
   same = λ clean ours. subst (λ o. OnErr o (StaysSame a b)) (sym is) (kept.same clean ours);
   absent = λ clean accounts p. subst (λ o. IfErr o (λ f. f ≡ NoUser → IsFree user accounts)) (sym is) (absent clean accounts p);
-  crash = survives_weaker a b _ (MayShow (HasUser user) (λ all. with_user all user change) a) (λ clean db none accounts p has. absurd (none (p.0, p.1))) kept.crash;
-  named = subst (λ o. IfErr o (λ f. (f ≡ NoUser) ⊎ IsPassing f)) (sym is) named;
+  crash = survives_weaker a b _ (CrashLeavesAccounts (HasUser user) (λ all. with_user all user change) a) (λ clean db none accounts p has. absurd (none (p.0, p.1))) kept.crash;
+  named = subst (λ o. IfErr o (λ f. (f ≡ NoUser) ⊎ IsTransient f)) (sym is) named;
 }
 
 -- ---- the name of the active script
@@ -180,10 +180,10 @@ module _ (user : List ℕ) (a b : State) (r : Result (Option Profile) Refusal) w
     named = inl refl;
   }
 
-  pub active_refused : {X : Type 0} {Part : X → Account → Type 0} → ReadsProfile user a b r → (q : Result X Refusal) → OnOk q ⊥ → IfErr q IsPassing → Reads user Part a b q
-  active_refused {Part = Part} h q none passing = record {
+  pub active_refused : {X : Type 0} {Part : X → Account → Type 0} → ReadsProfile user a b r → (q : Result X Refusal) → OnOk q ⊥ → IfErr q IsTransient → Reads user Part a b q
+  active_refused {Part = Part} h q none transient = record {
     found = λ clean accounts p. none_if q (λ x. OfUser accounts user (Part x)) none;
-    absent = λ clean accounts p. passing_other q (IsFree user accounts) passing;
+    absent = λ clean accounts p. transient_other q (IsFree user accounts) transient;
     keeps = keeps_failed a b r q none h.keeps;
-    named = passing_named q passing;
+    named = transient_named q transient;
   }

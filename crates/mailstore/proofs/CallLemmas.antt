@@ -6,16 +6,16 @@ use Rattle.std.specs.FinMap.{get, insert}
 use Rattle.sqlite.specs.Effect.{Database}
 use Rattle.sqlite.specs.State.{State, Survives}
 use Rattle.sqlite.proofs.StateLemmas.{survives_weaker}
-use Rattle.sqlrows.specs.Rows.{Tables, Holds}
+use Rattle.sqlrows.specs.Rows.{Tables, HoldsTables}
 use Rattle.mailstore.specs.declared.change.Change.{Change}
 use Rattle.mailstore.specs.declared.change.Change.TheVariants.{AddAccount, SetActive, AddScript, RemoveScript, RemoveOutgoing}
 use Rattle.mailstore.specs.declared.refusal.Refusal.{Refusal}
 use Rattle.mailstore.specs.Schema.{mail_schema}
 use Rattle.mailstore.specs.Cells.{contents}
-use Rattle.mailstore.specs.Changes.{made, MayHave, AreOf}
+use Rattle.mailstore.specs.Changes.{made, CrashLeavesTables, AreOf}
 use Rattle.mailstore.specs.Account.{Account, Accounts, with_user, in_place, new_account, keeps_script, activates, deletes_script, renames_script, other_name, takes_out}
 use Rattle.mailstore.specs.Shows.{rows_of, IsShown, IsShownOrAbsent, ShowsAccounts}
-use Rattle.mailstore.specs.Promises.{HasUser, IsFree, OfUser, Turns, MayShow}
+use Rattle.mailstore.specs.Promises.{HasUser, IsFree, OfUser, Turns, CrashLeavesAccounts}
 use Rattle.mailstore.specs.ScriptTable.{IsRenaming}
 use Rattle.mailstore.proofs.ShowLemmas.{shows_after}
 use Rattle.mailstore.proofs.AccountLemmas.{script_put, script_gone, script_moved, none_moved, queue_gone, active_put, account_put}
@@ -25,13 +25,13 @@ abbrev pub Carries : List Change → (Accounts → Type 0) → (Accounts → Acc
 Carries ds Fit change = (tables : Tables) (accounts : Accounts) → ShowsAccounts tables accounts → Fit accounts → ShowsAccounts (made tables ds) (change accounts)
 
 pub applied : {X : Type 0} (r : Result X Refusal) (old new : Database) (ds : List Change) (Fit : Accounts → Type 0) (change : Accounts → Accounts) → Carries ds Fit change
-    → ((tables : Tables) → Holds mail_schema old tables → OnOk r (Holds mail_schema new (made tables ds))) → OnOk r (Turns Fit change old new)
+    → ((tables : Tables) → HoldsTables mail_schema old tables → OnOk r (HoldsTables mail_schema new (made tables ds))) → OnOk r (Turns Fit change old new)
 applied (Err e) old new ds Fit change carries holds = tt
 applied (Ok x) old new ds Fit change carries holds = λ accounts p fit. (made p.0 ds, holds p.0 p.1, carries p.0 accounts p.2 fit)
 
-pub crashed : (old new : State) (ds : List Change) (Fit : Accounts → Type 0) (change : Accounts → Accounts) → Carries ds Fit change → Survives old new (MayHave ds old) → Survives old new (MayShow Fit change old)
+pub crashed : (old new : State) (ds : List Change) (Fit : Accounts → Type 0) (change : Accounts → Accounts) → Carries ds Fit change → Survives old new (CrashLeavesTables ds old) → Survives old new (CrashLeavesAccounts Fit change old)
 crashed old new ds Fit change carries =
-    survives_weaker old new (MayHave ds old) (MayShow Fit change old) (λ clean trees may accounts p fit. let left = may p.0 p.1 in (left.0, (made p.0 ds, left.1, carries p.0 accounts p.2 fit), left.2))
+    survives_weaker old new (CrashLeavesTables ds old) (CrashLeavesAccounts Fit change old) (λ clean trees may accounts p fit. let left = may p.0 p.1 in (left.0, (made p.0 ds, left.1, carries p.0 accounts p.2 fit), left.2))
 
 -- the user's account changed, where its own rows are those of the changed account
 pub carries_user : (user : List ℕ) (ds : List Change) (change : Account → Account) → AreOf user ds → ((own : Tables) (a : Account) → IsShown user own a → IsShown user (made own ds) (change a))
@@ -86,7 +86,7 @@ module _ (user name other : Bor (List ℕ)) (active : Option (Bor (List ℕ))) w
 pub renamed_is : (o : Option (Bor (List ℕ))) (a : Bor (List ℕ)) → o ≡ Some a → (name other : List ℕ) (b : Bool) → b ≡ pointwise nat_eq a.now name → Some (cond b other a.now) ≡ option_map (other_name name other) (contents o)
 renamed_is o a there name other b told = rw there (ap (λ t. Some (cond t other a.now)) (told ∙ texts_ties a.now name))
 
--- a text behind a reference is the text
+-- a text after a reference is the text
 pub contents_is : (o : Option (Bor (List ℕ))) → contents o ≡ option_copied o
 contents_is None = refl
 contents_is (Some b) = refl

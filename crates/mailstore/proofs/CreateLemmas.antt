@@ -22,7 +22,7 @@ use Rattle.sqlite_trees.specs.declared.store.Store.{Ghosts}
 use Rattle.sqlite.proofs.StateLemmas.{survives_then}
 use Rattle.sqlite.proofs.Callers.{IsPlain, command_of, statement_of, runs_as, survives_begin}
 use Rattle.sqlite.proofs.InsideLemmas.{keeps_then}
-use Rattle.sqlrows.specs.Rows.{Entry, IsHeld, Holds, cells_of, stored}
+use Rattle.sqlrows.specs.Rows.{Entry, IsHeld, HoldsTables, cells_of, stored}
 use Rattle.sqlrows.proofs.StepLemmas.{went, same_value}
 use Rattle.std.specs.FinMap.{get-empty}
 use Rattle.sqlrows.specs.Rows.{Tables, added}
@@ -77,21 +77,21 @@ shows_nobody = record { version = refl; users = λ user. subst (IsShownOrAbsent 
     absent user = record { accounts = refl; scripts = refl; messages = refl; copies = refl; queue = refl; replies = refl; notices = refl }
 
 -- an empty database holds no rows
-pub starts_empty : (db : Database) → db.schema ≡ no_schema → Holds no_schema db no_rows
+pub starts_empty : (db : Database) → db.schema ≡ no_schema → HoldsTables no_schema db no_rows
 starts_empty db is = record { is = is; fits = record { rules = λ rule other. tt; indexed = tt }; each = λ t none. absurd none }
 
 -- one table after another
 pub then_makes : {X Y : Type 0} (a b c : State) (s t u : Schema) (r : Result X Error) (x : X) (q : Result Y Error) → r ≡ Ok x → Survives b c (λ _. ⊥) → MakesInside (TurnsSchema s t) a b r → MakesInside (TurnsSchema t u) b c q → MakesInside (TurnsSchema s u) a c q
 then_makes {X} {Y} a b c s t u r x q ok survives one two clean inside = go q (two clean first.1.mode)
   where
-    begun : KeepsCommit a b × OnOk r ((Holds s a.now no_rows → Holds t b.now no_rows) × Shows a b b.now a.committed true)
+    begun : KeepsCommit a b × OnOk r ((HoldsTables s a.now no_rows → HoldsTables t b.now no_rows) × Shows a b b.now a.committed true)
     begun = one (clean_before b c (λ _. ⊥) survives clean) inside
 
-    first : (Holds s a.now no_rows → Holds t b.now no_rows) × Shows a b b.now a.committed true
-    first = subst (λ x. OnOk x ((Holds s a.now no_rows → Holds t b.now no_rows) × Shows a b b.now a.committed true)) ok begun.1
+    first : (HoldsTables s a.now no_rows → HoldsTables t b.now no_rows) × Shows a b b.now a.committed true
+    first = subst (λ x. OnOk x ((HoldsTables s a.now no_rows → HoldsTables t b.now no_rows) × Shows a b b.now a.committed true)) ok begun.1
 
-    go : (p : Result Y Error) → KeepsCommit b c × OnOk p ((Holds t b.now no_rows → Holds u c.now no_rows) × Shows b c c.now b.committed true)
-        → KeepsCommit a c × OnOk p ((Holds s a.now no_rows → Holds u c.now no_rows) × Shows a c c.now a.committed true)
+    go : (p : Result Y Error) → KeepsCommit b c × OnOk p ((HoldsTables t b.now no_rows → HoldsTables u c.now no_rows) × Shows b c c.now b.committed true)
+        → KeepsCommit a c × OnOk p ((HoldsTables s a.now no_rows → HoldsTables u c.now no_rows) × Shows a c c.now a.committed true)
     go (Err e) h = (keeps_then a b c begun.0 h.0, tt)
     go (Ok y) h = (keeps_then a b c begun.0 h.0, (λ k. h.1.0 (first.0 k), record { was_open = first.1.was_open; is_open = h.1.1.is_open; now_is = refl; committed_is = h.1.1.committed_is ∙ first.1.committed_is; mode = h.1.1.mode }))
 
@@ -108,8 +108,8 @@ pub all_ready : {X Y : Type 0} (old two three : State) (r : Result X Error) (x :
     → MakesInside (TurnsSchema no_schema mail_schema) old two r → MakesInside (TurnsRows (added meta_tree version_row)) two three q → HasCleanDisk three → old.now.schema ≡ no_schema → Presents three.now no_accounts
 all_ready old two three r x q y rok qok inside s1 tables version late blank =
     let early = clean_before two three (λ _. ⊥) s1 late in
-    let first = subst (λ o. OnOk o ((Holds no_schema old.now no_rows → Holds mail_schema two.now no_rows) × Shows old two two.now old.committed true)) rok (tables early inside).1 in
-    let second = subst (λ o. OnOk o (((all : Tables) → Holds mail_schema two.now all → Holds mail_schema three.now (added meta_tree version_row all)) × Shows two three three.now two.committed true)) qok (version late first.1.mode).1 in
+    let first = subst (λ o. OnOk o ((HoldsTables no_schema old.now no_rows → HoldsTables mail_schema two.now no_rows) × Shows old two two.now old.committed true)) rok (tables early inside).1 in
+    let second = subst (λ o. OnOk o (((all : Tables) → HoldsTables mail_schema two.now all → HoldsTables mail_schema three.now (added meta_tree version_row all)) × Shows two three three.now two.committed true)) qok (version late first.1.mode).1 in
     (added meta_tree version_row no_rows, second.0 no_rows (first.0 (starts_empty old.now blank)), shows_nobody)
 
 -- and the commit

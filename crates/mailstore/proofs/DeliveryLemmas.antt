@@ -6,7 +6,7 @@ use Rattle.std.proofs.lemmas.List.{map-append, take_more, length-take}
 use Rattle.sqlite_value.specs.declared.value.Value.TheVariants.{Int}
 use Rattle.sqlite_keyed.proofs.ListLemmas.{all-append, all_weaker}
 use Rattle.sqlite_keyed.specs.Lists.{update_where}
-use Rattle.sqlrows.specs.Rows.{Tables, Holds, has_key, added}
+use Rattle.sqlrows.specs.Rows.{Tables, HoldsTables, has_key, added}
 use Rattle.sqlrows.proofs.ListLemmas.{owner_key, equal_itself}
 use Rattle.octets.specs.Ascii.{lowered}
 use Rattle.mailstore.specs.declared.account.Counters.{Counters}
@@ -20,7 +20,7 @@ use Rattle.mailstore.specs.declared.report.Letter.{Letter}
 use Rattle.mailstore.specs.declared.report.Letter.TheVariants.{Redirect, Reply}
 use Rattle.mailstore.specs.declared.report.Remembered.{Remembered}
 use Rattle.mailstore.specs.declared.report.Plan.{Plan}
-use Rattle.mailstore.specs.Changes.{made, owner_of, AreOf, Extends, MakesOwn, MayHave, AreDelivery, in_turn, message_kept, copy_added, copies_added, copied, lettered, letter_added, reply_put, folded_sender, noticed, notice_count, counters_set, counters_raised, delivered}
+use Rattle.mailstore.specs.Changes.{made, owner_of, AreOf, Extends, MakesOwn, CrashLeavesTables, AreDelivery, in_turn, message_kept, copy_added, copies_added, copied, lettered, letter_added, reply_put, folded_sender, noticed, notice_count, counters_set, counters_raised, delivered}
 use Rattle.mailstore.specs.Account.{Account, Accounts, Folders, with_user, in_place, filed, files_copies, sends, sends_all, remembers_if_any, notes_if_any, delivers}
 use Rattle.mailstore.specs.AccountTable.{account_row, account_tree, counter_cells, shown_counters, with_counters, Counts}
 use Rattle.mailstore.specs.ScriptTable.{script_tree, ShowsScripts}
@@ -369,16 +369,16 @@ delivered_once user c plan own =
     ∙ turn_beside (λ n folder. copy_added user folder (pos n) (pos c.copy)) (λ n folder own. refl) plan.copies c.copy kept ∙ message_gained user plan.message.now plan.copies c.copy up
 
 -- after a read that kept the tables, the changes of a delivery store its message once
-pub stores_once : {X E Y : Type 0} (a b d : State) (r : Result X E) (x : X) → r ≡ Ok x → Keeps a b r → (user : List ℕ) (c : Counters) (plan : Plan) (ds : List Change) → AreDelivery user c plan ds → Survives b d (MayHave ds b)
+pub stores_once : {X E Y : Type 0} (a b d : State) (r : Result X E) (x : X) → r ≡ Ok x → Keeps a b r → (user : List ℕ) (c : Counters) (plan : Plan) (ds : List Change) → AreDelivery user c plan ds → Survives b d (CrashLeavesTables ds b)
     → (q : Result Y Refusal) → MakesAll ds b d q → StoresOnce user plan a d q
 stores_once {Y = Y} a b d r x ok kept user c plan ds delivery survives q wrote clean tables h = go q wrote
   where
     early : HasCleanDisk b
     early = clean_before b d _ survives clean
 
-    mid : Holds mail_schema b.now tables
-    mid = subst (λ n. Holds mail_schema n tables) (sym ((kept.same early (tables, h)).now_is (on_ok r x ok (IsTrue b.is_open) (kept.live early)))) h
+    mid : HoldsTables mail_schema b.now tables
+    mid = subst (λ n. HoldsTables mail_schema n tables) (sym ((kept.same early (tables, h)).now_is (on_ok r x ok (IsTrue b.is_open) (kept.live early)))) h
 
-    go : (o : Result Y Refusal) → MakesAll ds b d o → OnOk o ((after : Tables) × Holds mail_schema d.now after × GainsOnce user plan.message.now plan.copies (tables message_tree) (after message_tree))
+    go : (o : Result Y Refusal) → MakesAll ds b d o → OnOk o ((after : Tables) × HoldsTables mail_schema d.now after × GainsOnce user plan.message.now plan.copies (tables message_tree) (after message_tree))
     go (Err e) made_all = tt
     go (Ok y) made_all = (made tables ds, made_all clean tables mid, (pos c.copy, ap (λ (t : Tables). t message_tree) (delivery.makes tables) ∙ delivered_once user c plan tables))

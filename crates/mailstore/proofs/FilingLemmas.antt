@@ -19,7 +19,7 @@ use Rattle.sqlite_typed.proofs.TestLemmas.{last_key}
 use Rattle.sqlite.specs.declared.error.Error.{Error}
 use Rattle.sqlite.specs.State.{State, Shown}
 use Rattle.sqlrows.specs.Forms.{over}
-use Rattle.sqlrows.specs.Rows.{Tables, Holds, has_key}
+use Rattle.sqlrows.specs.Rows.{Tables, HoldsTables, has_key}
 use Rattle.sqlrows.proofs.AnswerLemmas.{cells_in_order}
 use Rattle.sqlrows.proofs.ReadLemmas.{answered}
 use Rattle.sqlrows.proofs.ListLemmas.{owner_key}
@@ -31,14 +31,14 @@ use Rattle.mailstore.specs.Account.{Account, Accounts}
 use Rattle.mailstore.specs.Cells.{first_three}
 use Rattle.mailstore.specs.CopyTable.{copy, Copy, copy_row, copy_tree, filing_of, filing_cells, select_filings}
 use Rattle.mailstore.specs.Shows.{rows_of, IsShown, IsShownOrAbsent, Presents, AreFilingRows, AreFilings}
-use Rattle.mailstore.specs.Refusals.{IsPassing}
+use Rattle.mailstore.specs.Refusals.{IsTransient}
 use Rattle.mailstore.specs.Promises.{HasUser, IsFree, OfUser, FindsAmong, Reads, ReadsOwn}
 use Rattle.mailstore.proofs.SchemaFacts.{copy_listed}
 use Rattle.mailstore.proofs.TextFacts.{by_one, filings_shown, select_filings_is, select_filings_plain}
 use Rattle.mailstore.proofs.ResultLemmas.{on_ok}
 use Rattle.mailstore.proofs.WriteLemmas.{clean_before}
 use Rattle.mailstore.proofs.OneLemmas.{map_one}
-use Rattle.mailstore.proofs.KeepLemmas.{keeps_ok, keeps_refused, keeps_failed, keeps_then, mid_holds, none_ok, none_if, passing_other, passing_named}
+use Rattle.mailstore.proofs.KeepLemmas.{keeps_ok, keeps_refused, keeps_failed, keeps_then, mid_holds, none_ok, none_if, transient_other, transient_named}
 
 -- ---- the query
 
@@ -52,7 +52,7 @@ filings_rise : (x y : Copy) → x.n < y.n → output_cmp by_copy (filing_output 
 unfolding filing_output
 filings_rise x y low = last_key (value_cmp-Int (pos x.n) (pos y.n) ∙ Less-from_lt (pos x.n) (pos y.n) (omega (arith, ints)))
 
-module _ (old new : State) (rows : List Row) (tables : Tables) (h : Holds mail_schema old.now tables) (owner : List ℕ) where
+module _ (old new : State) (rows : List Row) (tables : Tables) (h : HoldsTables mail_schema old.now tables) (owner : List ℕ) where
   pub filings_read : Shown select_filings (owner_key owner) old new rows → AreFilingRows owner rows (rows_of owner tables)
   unfolding filing_output
   filings_read shown a s =
@@ -76,7 +76,7 @@ own_refused user P Q a b e q is r = record {
   there = λ clean accounts p. subst (λ o. OnOk o (HasUser user accounts)) (sym is) tt;
   absent = λ clean accounts p. subst (λ o. IfErr o (λ f. f ≡ NoUser → IsFree user accounts)) (sym is) (r.absent clean accounts p);
   keeps = keeps_refused a b (Err e) e q is r.keeps;
-  named = subst (λ o. IfErr o (λ f. (f ≡ NoUser) ⊎ IsPassing f)) (sym is) r.named;
+  named = subst (λ o. IfErr o (λ f. (f ≡ NoUser) ⊎ IsTransient f)) (sym is) r.named;
 }
 
 -- a query, after the account was asked for
@@ -93,24 +93,24 @@ module _ {X : Type 0} (user : List ℕ) (P : X → Account → Type 0) (Part : L
     named = tt;
   }
 
-  pub query_own_refused : (q : Result (Vec Row Global) Error) → FindsAmong user (λ (found : Vec Row Global). Part found.items) b c q → (end : Result (Vec Row Global) Refusal) → OnOk end ⊥ → IfErr end IsPassing → ReadsOwn user (λ (found : Vec Row Global). Part found.items) a c end
-  query_own_refused q late end none passing = record {
+  pub query_own_refused : (q : Result (Vec Row Global) Error) → FindsAmong user (λ (found : Vec Row Global). Part found.items) b c q → (end : Result (Vec Row Global) Refusal) → OnOk end ⊥ → IfErr end IsTransient → ReadsOwn user (λ (found : Vec Row Global). Part found.items) a c end
+  query_own_refused q late end none transient = record {
     found = λ clean tables h. none_if end (λ found. Part found.items (rows_of user tables)) none;
     there = λ clean accounts p. none_ok end (HasUser user accounts) none;
-    absent = λ clean accounts p. passing_other end (IsFree user accounts) passing;
+    absent = λ clean accounts p. transient_other end (IsFree user accounts) transient;
     keeps = keeps_failed a c q end none (keeps_then a b c r x was q early.keeps late.keeps);
-    named = passing_named end passing;
+    named = transient_named end transient;
   }
 
 -- with an answer that is made of what was read
-pub own_answer : {X Y : Type 0} (user : List ℕ) (P : X → Tables → Type 0) (Q : Y → Tables → Type 0) (a b : State) (r : Result X Refusal) (x : X) → r ≡ Ok x → (q : Result Y Refusal) → IfErr q IsPassing
+pub own_answer : {X Y : Type 0} (user : List ℕ) (P : X → Tables → Type 0) (Q : Y → Tables → Type 0) (a b : State) (r : Result X Refusal) (x : X) → r ≡ Ok x → (q : Result Y Refusal) → IfErr q IsTransient
     → ((own : Tables) → P x own → IfOk q (λ y. Q y own)) → ReadsOwn user P a b r → ReadsOwn user Q a b q
 own_answer user P Q a b r x was q named made h = record {
   found = λ clean tables held. made (rows_of user tables) (subst (λ o. IfOk o (λ z. P z (rows_of user tables))) was (h.found clean tables held));
   there = λ clean accounts p. there q (on_ok r x was _ (h.there clean accounts p));
-  absent = λ clean accounts p. passing_other q (IsFree user accounts) named;
+  absent = λ clean accounts p. transient_other q (IsFree user accounts) named;
   keeps = keeps_ok a b r x q was h.keeps;
-  named = passing_named q named;
+  named = transient_named q named;
 }
   where
     there : {Y : Type 0} {T : Type 0} (o : Result Y Refusal) → T → OnOk o T
@@ -124,7 +124,7 @@ own_again user P Q a b e q is r = record {
   there = λ clean accounts p. subst (λ o. OnOk o (HasUser user accounts)) (sym is) tt;
   absent = λ clean accounts p. subst (λ o. IfErr o (λ f. f ≡ NoUser → IsFree user accounts)) (sym is) (r.absent clean accounts p);
   keeps = keeps_refused a b (Err e) e q is r.keeps;
-  named = subst (λ o. IfErr o (λ f. (f ≡ NoUser) ⊎ IsPassing f)) (sym is) r.named;
+  named = subst (λ o. IfErr o (λ f. (f ≡ NoUser) ⊎ IsTransient f)) (sym is) r.named;
 }
 
 -- the same account, read through its rows

@@ -8,7 +8,7 @@ use Rattle.sqlite_rules.proofs.ListLemmas.{all_has, has_found}
 use Rattle.sqlite_keyed.proofs.ListLemmas.{filter-map, filter_same, filter-filter, IsPermutation-filter}
 use Rattle.sqlite.specs.State.{State, Shown}
 use Rattle.sqlite.proofs.Callers.{one_permutation}
-use Rattle.sqlrows.specs.Rows.{Tables, Holds, has_key}
+use Rattle.sqlrows.specs.Rows.{Tables, HoldsTables, has_key}
 use Rattle.sqlrows.proofs.AnswerLemmas.{cells_by_key, first_shown}
 use Rattle.sqlrows.proofs.ReadLemmas.{answered}
 use Rattle.sqlrows.proofs.ListLemmas.{owner_key}
@@ -32,7 +32,7 @@ use Rattle.mailstore.proofs.TakingLemmas.{find_filed}
 
 -- ---- the octets of one message
 
-module _ (old new : State) (rows : List Row) (tables : Tables) (h : Holds mail_schema old.now tables) (owner : List ℕ) (id : ℤ) where
+module _ (old new : State) (rows : List Row) (tables : Tables) (h : HoldsTables mail_schema old.now tables) (owner : List ℕ) (id : ℤ) where
   pub octets_read : Shown select_message (message_key owner id) old new rows → AreOctetRows owner id rows (rows_of owner tables)
   octets_read shown =
       let key = message_key owner id in

@@ -11,7 +11,7 @@ use Rattle.sqlite.specs.Held.{Held, state}
 use Rattle.sqlite.specs.State.{State, HasCleanDisk, Survives, Shown}
 use Rattle.sqlite.proofs.Callers.{IsPlain}
 use Rattle.sqlite.proofs.StateLemmas.{survives_then}
-use Rattle.sqlrows.specs.Rows.{Tables, Holds}
+use Rattle.sqlrows.specs.Rows.{Tables, HoldsTables}
 use Rattle.mailstore.specs.Cells.{first_three}
 use Rattle.mailstore.specs.declared.account.Counters.{Counters}
 use Rattle.mailstore.specs.declared.change.Change.{Change}
@@ -20,12 +20,12 @@ use Rattle.mailstore.specs.declared.refusal.Refusal.{Refusal}
 use Rattle.mailstore.specs.declared.refusal.Refusal.TheVariants.{NoUser}
 use Rattle.mailstore.specs.Schema.{mail_schema}
 use Rattle.mailstore.specs.Connection.{StaysSame, IsSettled}
-use Rattle.mailstore.specs.Changes.{MayHave}
+use Rattle.mailstore.specs.Changes.{CrashLeavesTables}
 use Rattle.mailstore.specs.Account.{Account, Accounts}
-use Rattle.mailstore.specs.Refusals.{IsPassing}
+use Rattle.mailstore.specs.Refusals.{IsTransient}
 use Rattle.mailstore.specs.AccountTable.{account_tree, counter_cells, shown_account, shown_counters, profile_row, profile_of, IsRead, Counts}
 use Rattle.mailstore.specs.Shows.{rows_of, IsShownOrAbsent, ShowsAccounts, Presents}
-use Rattle.mailstore.specs.Promises.{HasOurTables, IsFree, OfUser, MakesAll, Keeps, Queries, Answers, FindsOwn, FindsAmong, Finds, Reads, ReadsRows, Requires, ReadsCounters, ReadsProfile, Writes, Turns, MayShow}
+use Rattle.mailstore.specs.Promises.{HasOurTables, IsFree, OfUser, MakesAll, Keeps, Queries, Answers, FindsOwn, FindsAmong, Finds, Reads, ReadsRows, Requires, ReadsCounters, ReadsProfile, Writes, Turns, CrashLeavesAccounts}
 use Rattle.mailstore.proofs.ResultLemmas.{on_ok, on_any, on_err_any}
 use Rattle.mailstore.proofs.WriteLemmas.{clean_before}
 use Rattle.mailstore.proofs.QueryLemmas.{query_same, query_quiet, stays_shut, if_shown}
@@ -52,7 +52,7 @@ module _ {S : Type 0} (g : Ghosts S) (sql : List ℕ) (params : Row) (plain : Is
   abbrev shown : List Row → Type 0
   shown = Shown sql params (state g old) (state g new)
 
-  pub finds_own : (user : List ℕ) (tree : ℕ) (show : Row → Row) → ((rows : List Row) (tables : Tables) → Holds mail_schema (state g old).now tables → shown rows → rows ≡ map show (rows_of user tables tree))
+  pub finds_own : (user : List ℕ) (tree : ℕ) (show : Row → Row) → ((rows : List Row) (tables : Tables) → HoldsTables mail_schema (state g old).now tables → shown rows → rows ≡ map show (rows_of user tables tree))
       → Queries g (FindsOwn user tree show) old new r
   finds_own user tree show shows = record {
     ended = asked.ended;
@@ -68,7 +68,7 @@ module _ {S : Type 0} (g : Ghosts S) (sql : List ℕ) (params : Row) (plain : Is
     finds = record { found = λ clean accounts p. if_shown r shown (λ rows. IfSome (get accounts user) (Part rows)) (λ rows. shows rows accounts p) (asked.finds.ok clean); keeps = keeps };
   }
 
-  pub finds_among : (user : List ℕ) (Part : List Row → Tables → Type 0) → ((rows : List Row) (tables : Tables) → Holds mail_schema (state g old).now tables → shown rows → Part rows (rows_of user tables))
+  pub finds_among : (user : List ℕ) (Part : List Row → Tables → Type 0) → ((rows : List Row) (tables : Tables) → HoldsTables mail_schema (state g old).now tables → shown rows → Part rows (rows_of user tables))
       → Queries g (FindsAmong user (λ (rows : Vec Row Global). Part rows.items)) old new r
   finds_among user Part shows = record {
     ended = asked.ended;
@@ -106,8 +106,8 @@ module _ {X Y E F : Type 0} (a b c : State) (r : Result X E) (x : X) (was : r �
   mid_now : HasCleanDisk c → HasOurTables a.now → b.now ≡ a.now
   mid_now clean h = (early.same (clean_mid clean) h).now_is (mid_open clean)
 
-  pub mid_holds : HasCleanDisk c → (tables : Tables) → Holds mail_schema a.now tables → Holds mail_schema b.now tables
-  mid_holds clean tables h = subst (λ d. Holds mail_schema d tables) (sym (mid_now clean (tables, h))) h
+  pub mid_holds : HasCleanDisk c → (tables : Tables) → HoldsTables mail_schema a.now tables → HoldsTables mail_schema b.now tables
+  mid_holds clean tables h = subst (λ d. HoldsTables mail_schema d tables) (sym (mid_now clean (tables, h))) h
 
   mid_tables : HasCleanDisk c → HasOurTables a.now → HasOurTables b.now
   mid_tables clean h = subst HasOurTables (sym (mid_now clean h)) h
@@ -135,17 +135,17 @@ reads_refused user P Q a b e q is r = record {
   found = λ clean accounts p. subst (λ o. IfOk o (λ y. OfUser accounts user (Q y))) (sym is) tt;
   absent = λ clean accounts p. subst (λ o. IfErr o (λ f. f ≡ NoUser → IsFree user accounts)) (sym is) (r.absent clean accounts p);
   keeps = keeps_refused a b (Err e) e q is r.keeps;
-  named = subst (λ o. IfErr o (λ f. (f ≡ NoUser) ⊎ IsPassing f)) (sym is) r.named;
+  named = subst (λ o. IfErr o (λ f. (f ≡ NoUser) ⊎ IsTransient f)) (sym is) r.named;
 }
 
-pub passing_other : {Y : Type 0} (q : Result Y Refusal) (P : Type 0) → IfErr q IsPassing → IfErr q (λ e. e ≡ NoUser → P)
-passing_other (Ok y) P h = tt
-passing_other (Err e) P (inl memory) = λ none. absurd (let other = sym memory ∙ none in cc)
-passing_other (Err e) P (inr store) = λ none. absurd (let other = sym store ∙ none in cc)
+pub transient_other : {Y : Type 0} (q : Result Y Refusal) (P : Type 0) → IfErr q IsTransient → IfErr q (λ e. e ≡ NoUser → P)
+transient_other (Ok y) P h = tt
+transient_other (Err e) P (inl memory) = λ none. absurd (let other = sym memory ∙ none in cc)
+transient_other (Err e) P (inr store) = λ none. absurd (let other = sym store ∙ none in cc)
 
-pub passing_named : {Y : Type 0} (q : Result Y Refusal) → IfErr q IsPassing → IfErr q (λ e. (e ≡ NoUser) ⊎ IsPassing e)
-passing_named (Ok y) h = tt
-passing_named (Err e) h = inr h
+pub transient_named : {Y : Type 0} (q : Result Y Refusal) → IfErr q IsTransient → IfErr q (λ e. (e ≡ NoUser) ⊎ IsTransient e)
+transient_named (Ok y) h = tt
+transient_named (Err e) h = inr h
 
 of_answer : {Y E : Type 0} (q : Result Y E) (accounts : Accounts) (user : List ℕ) (P : Account → Type 0) (Q : Y → Account → Type 0) → ((a : Account) → P a → IfOk q (λ y. Q y a)) → OfUser accounts user P
     → IfOk q (λ y. OfUser accounts user (Q y))
@@ -153,13 +153,13 @@ of_answer (Err e) accounts user P Q f h = tt
 of_answer (Ok y) accounts user P Q f h = (h.0, h.1, f h.0 h.2)
 
 -- with an answer that is made of what was read
-pub reads_answer : {X Y : Type 0} (user : List ℕ) (P : X → Account → Type 0) (Q : Y → Account → Type 0) (a b : State) (r : Result X Refusal) (x : X) → r ≡ Ok x → (q : Result Y Refusal) → IfErr q IsPassing
+pub reads_answer : {X Y : Type 0} (user : List ℕ) (P : X → Account → Type 0) (Q : Y → Account → Type 0) (a b : State) (r : Result X Refusal) (x : X) → r ≡ Ok x → (q : Result Y Refusal) → IfErr q IsTransient
     → ((account : Account) → P x account → IfOk q (λ y. Q y account)) → Reads user P a b r → Reads user Q a b q
 reads_answer user P Q a b r x was q named made h = record {
   found = λ clean accounts p. of_answer q accounts user (P x) Q made (subst (λ o. IfOk o (λ z. OfUser accounts user (P z))) was (h.found clean accounts p));
-  absent = λ clean accounts p. passing_other q (IsFree user accounts) named;
+  absent = λ clean accounts p. transient_other q (IsFree user accounts) named;
   keeps = keeps_ok a b r x q was h.keeps;
-  named = passing_named q named;
+  named = transient_named q named;
 }
 
 -- what holds of the account, if there is one, holds of the one that is there
@@ -179,19 +179,19 @@ module _ {X : Type 0} (user : List ℕ) (P : X → Account → Type 0) (Part : L
     named = tt;
   }
 
-  pub query_refused : (q : Result (Vec Row Global) Error) → Finds user Part b c q → (end : Result (Vec Row Global) Refusal) → OnOk end ⊥ → IfErr end IsPassing → ReadsRows user Part a c end
-  query_refused q late end none passing = record {
+  pub query_refused : (q : Result (Vec Row Global) Error) → Finds user Part b c q → (end : Result (Vec Row Global) Refusal) → OnOk end ⊥ → IfErr end IsTransient → ReadsRows user Part a c end
+  query_refused q late end none transient = record {
     found = λ clean accounts p. none_if end (λ found. OfUser accounts user (Part found.items)) none;
-    absent = λ clean accounts p. passing_other end (IsFree user accounts) passing;
+    absent = λ clean accounts p. transient_other end (IsFree user accounts) transient;
     keeps = keeps_failed a c q end none (keeps_then a b c r x was q early.keeps late.keeps);
-    named = passing_named end passing;
+    named = transient_named end transient;
   }
 
 -- ---- the counter of copies, and the test for an account
 
 -- what was read of the row of the account
 pub counter_read : (user : List ℕ) (a b : State) (r : Result (Vec Row Global) Error) (rows : Vec Row Global) → r ≡ Ok rows → FindsOwn user account_tree shown_counters a b r → (q : Result Counters Refusal)
-    → IfOk q (λ c. option_map first_three (slice_get rows.items 0) ≡ Some (counter_cells c)) → IfErr q (λ e. e ≡ NoUser → rows.items ≡ []) → IfErr q (λ e. (e ≡ NoUser) ⊎ IsPassing e) → ReadsCounters user a b q
+    → IfOk q (λ c. option_map first_three (slice_get rows.items 0) ≡ Some (counter_cells c)) → IfErr q (λ e. e ≡ NoUser → rows.items ≡ []) → IfErr q (λ e. (e ≡ NoUser) ⊎ IsTransient e) → ReadsCounters user a b q
 counter_read user a b r rows was h q told none named = record {
   found = λ clean tables held. counters_are q rows.items (rows_of user tables account_tree) (found clean tables held) told;
   absent = λ clean tables held. none_counted q rows.items (rows_of user tables account_tree) (found clean tables held) none;
@@ -199,15 +199,15 @@ counter_read user a b r rows was h q told none named = record {
   named = named;
 }
   where
-    found : HasCleanDisk b → (tables : Tables) → Holds mail_schema a.now tables → rows.items ≡ map shown_counters (rows_of user tables account_tree)
+    found : HasCleanDisk b → (tables : Tables) → HoldsTables mail_schema a.now tables → rows.items ≡ map shown_counters (rows_of user tables account_tree)
     found clean tables held = subst (λ o. IfOk o (λ all. all.items ≡ map shown_counters (rows_of user tables account_tree))) was (h.found clean tables held)
 
-pub counter_refused : (user : List ℕ) (a b : State) (r : Result (Vec Row Global) Error) → FindsOwn user account_tree shown_counters a b r → (q : Result Counters Refusal) → OnOk q ⊥ → IfErr q IsPassing → ReadsCounters user a b q
-counter_refused user a b r h q none passing = record {
+pub counter_refused : (user : List ℕ) (a b : State) (r : Result (Vec Row Global) Error) → FindsOwn user account_tree shown_counters a b r → (q : Result Counters Refusal) → OnOk q ⊥ → IfErr q IsTransient → ReadsCounters user a b q
+counter_refused user a b r h q none transient = record {
   found = λ clean tables held. none_if q (Counts (rows_of user tables account_tree)) none;
-  absent = λ clean tables held. passing_other q (rows_of user tables account_tree ≡ []) passing;
+  absent = λ clean tables held. transient_other q (rows_of user tables account_tree ≡ []) transient;
   keeps = keeps_failed a b r q none h.keeps;
-  named = passing_named q passing;
+  named = transient_named q transient;
 }
 
 account_there : (accounts : Accounts) (user : List ℕ) (tables : Tables) (c : Counters) → ShowsAccounts tables accounts → Counts (rows_of user tables account_tree) c → OfUser accounts user (λ _. Unit {0})
@@ -237,7 +237,7 @@ account_refused user a b e q is h = record {
   found = λ clean accounts p. subst (λ o. IfOk o (λ done. OfUser accounts user (λ account. Unit {0}))) (sym is) tt;
   absent = λ clean accounts p. subst (λ o. IfErr o (λ f. f ≡ NoUser → IsFree user accounts)) (sym is) (λ none. account_absent accounts user p.0 p.2 (h.absent clean p.0 p.1 none));
   keeps = keeps_refused a b (Err e) e q is h.keeps;
-  named = subst (λ o. IfErr o (λ f. (f ≡ NoUser) ⊎ IsPassing f)) (sym is) h.named;
+  named = subst (λ o. IfErr o (λ f. (f ≡ NoUser) ⊎ IsTransient f)) (sym is) h.named;
 }
 
 -- ---- what the store keeps of an account
@@ -258,7 +258,7 @@ profile_is (Some p) None told = absurd told
 profile_is (Some p) (Some a) told = ap Some (profile_one p a told)
 
 pub profile_read : (user : List ℕ) (a b : State) (r : Result (Vec Row Global) Error) (rows : Vec Row Global) → r ≡ Ok rows → FindsOwn user account_tree shown_account a b r → (q : Result (Option Profile) Refusal)
-    → IfOk q (λ profile. IsRead profile (slice_get rows.items 0)) → IfErr q IsPassing → ReadsProfile user a b q
+    → IfOk q (λ profile. IsRead profile (slice_get rows.items 0)) → IfErr q IsTransient → ReadsProfile user a b q
 profile_read user a b r rows was h q told named = record {
   found = λ clean accounts p.
       let own = subst (λ o. IfOk o (λ all. all.items ≡ map shown_account (rows_of user p.0 account_tree))) was (h.found clean p.0 p.1) in
@@ -272,18 +272,18 @@ profile_read user a b r rows was h q told named = record {
     go accounts (Err e) is h = tt
     go accounts (Ok profile) is h = profile_is profile (get accounts user) (subst (IsRead profile) is h)
 
-pub profile_refused : (user : List ℕ) (a b : State) (r : Result (Vec Row Global) Error) → FindsOwn user account_tree shown_account a b r → (q : Result (Option Profile) Refusal) → OnOk q ⊥ → IfErr q IsPassing → ReadsProfile user a b q
-profile_refused user a b r h q none passing = record {
+pub profile_refused : (user : List ℕ) (a b : State) (r : Result (Vec Row Global) Error) → FindsOwn user account_tree shown_account a b r → (q : Result (Option Profile) Refusal) → OnOk q ⊥ → IfErr q IsTransient → ReadsProfile user a b q
+profile_refused user a b r h q none transient = record {
   found = λ clean accounts p. none_if q (λ profile. profile ≡ option_map profile_of (get accounts user)) none;
   keeps = keeps_failed a b r q none h.keeps;
-  named = passing;
+  named = transient;
 }
 
 -- ---- writes
 
 -- the changes make of the tables what the write makes of the accounts
 pub writes : {X : Type 0} (r : Result X Refusal) (a b : State) (changes : List Change) (Fit : Accounts → Type 0) (change : Accounts → Accounts) → Carries changes Fit change → MakesAll changes a b r
-    → (HasCleanDisk b → OnOk r (IsSettled b)) → (HasCleanDisk b → OnErr r (StaysSame a b)) → Survives a b (MayHave changes a) → IfErr r IsPassing → Writes Fit change a b r
+    → (HasCleanDisk b → OnOk r (IsSettled b)) → (HasCleanDisk b → OnErr r (StaysSame a b)) → Survives a b (CrashLeavesTables changes a) → IfErr r IsTransient → Writes Fit change a b r
 writes r a b changes Fit change carries made settled same crash named = record {
   made = λ clean. applied r a.now b.now changes Fit change carries (made clean);
   settled = settled;
@@ -313,19 +313,19 @@ keeps_all s q none = record {
 }
 
 -- a refusal for memory, or of a number that does not fit
-pub writes_failed : {X : Type 0} (s : State) (Fit : Accounts → Type 0) (change : Accounts → Accounts) (q : Result X Refusal) → OnOk q ⊥ → IfErr q IsPassing → Writes Fit change s s q
+pub writes_failed : {X : Type 0} (s : State) (Fit : Accounts → Type 0) (change : Accounts → Accounts) (q : Result X Refusal) → OnOk q ⊥ → IfErr q IsTransient → Writes Fit change s s q
 writes_failed s Fit change q none named = record {
   made = λ clean. none_ok q (Turns Fit change s.now s.now) none;
   settled = λ clean. none_ok q (IsSettled s) none;
   same = λ clean. on_err_any q (StaysSame s s) (record { now_is = λ is_open. refl; committed_is = λ is_open. refl });
-  crash = survives_same s (MayShow Fit change s);
+  crash = survives_same s (CrashLeavesAccounts Fit change s);
   named = named;
 }
 
-pub reads_failed : {X : Type 0} (user : List ℕ) (Part : X → Account → Type 0) (s : State) (q : Result X Refusal) → OnOk q ⊥ → IfErr q IsPassing → Reads user Part s s q
+pub reads_failed : {X : Type 0} (user : List ℕ) (Part : X → Account → Type 0) (s : State) (q : Result X Refusal) → OnOk q ⊥ → IfErr q IsTransient → Reads user Part s s q
 reads_failed user Part s q none named = record {
   found = λ clean accounts p. none_if q (λ x. OfUser accounts user (Part x)) none;
-  absent = λ clean accounts p. passing_other q (IsFree user accounts) named;
+  absent = λ clean accounts p. transient_other q (IsFree user accounts) named;
   keeps = keeps_all s q none;
-  named = passing_named q named;
+  named = transient_named q named;
 }

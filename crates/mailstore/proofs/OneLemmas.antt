@@ -8,7 +8,7 @@ use Rattle.sqlite_value.specs.Order.{Row, bytes, column}
 use Rattle.sqlite_schema.specs.declared.schema.Table.{Table}
 use Rattle.sqlite_rules.specs.Lists.{Has}
 use Rattle.sqlite.specs.Effect.{Database}
-use Rattle.sqlrows.specs.Rows.{Entry, cells_of, stored, IsHeld, Tables, Holds, has_key}
+use Rattle.sqlrows.specs.Rows.{Entry, cells_of, stored, IsHeld, Tables, HoldsTables, has_key}
 use Rattle.mailstore.specs.declared.queue.Kind.{Kind}
 use Rattle.mailstore.specs.declared.queue.Kind.TheVariants.{Redirect, Reply}
 use Rattle.mailstore.specs.declared.queue.Outgoing.{Outgoing}
@@ -66,7 +66,7 @@ record AreAlike (a b : Tables) : Type 0 where
   replies : a reply_tree ≡ b reply_tree
   notices : a notice_tree ≡ b notice_tree
 
-tables_one : (db : Database) (a b : Tables) → Holds mail_schema db a → Holds mail_schema db b → AreAlike a b
+tables_one : (db : Database) (a b : Tables) → HoldsTables mail_schema db a → HoldsTables mail_schema db b → AreAlike a b
 tables_one db a b h k = record {
   accounts = both account account_listed;
   scripts = both script script_listed;

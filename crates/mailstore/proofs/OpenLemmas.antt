@@ -20,7 +20,7 @@ use Rattle.sqlite.specs.State.{State, HasCleanDisk, Shown, FailsToQuery}
 use Rattle.sqlite_keyed.proofs.ListLemmas.{map-map}
 use Rattle.sqlite.proofs.Callers.{IsPlain, one_permutation}
 use Rattle.sqlrows.specs.Forms.{over}
-use Rattle.sqlrows.specs.Rows.{Entry, id_of, cells_of, stored, IsHeld, Holds, has_key_from}
+use Rattle.sqlrows.specs.Rows.{Entry, id_of, cells_of, stored, IsHeld, HoldsTables, has_key_from}
 use Rattle.sqlrows.proofs.ReadLemmas.{shown_same, fails_same, answered, quiet}
 use Rattle.mailstore.specs.Schema.{mail_schema}
 use Rattle.mailstore.specs.Connection.{StaysSame, SeesCommit}
@@ -135,9 +135,9 @@ says_version old new r rows was h q said = record {
 pub shows_again : (db new : Database) (accounts : Accounts) → db.schema ≡ mail_schema → new ≡ db → ShowsIn db.trees accounts → Presents new accounts
 shows_again db new accounts ours is p =
     let held = p.1.1 in
-    let again : Holds mail_schema db p.1.0 =
+    let again : HoldsTables mail_schema db p.1.0 =
     record { is = ours; fits = subst (Fits mail_schema) (sym p.2) held.fits; each = λ t listed. subst (λ (trees : Trees). IsHeld (trees t.tree) (p.1.0 t.tree)) (sym p.2) (held.each t listed) } in
-    (p.1.0, subst (λ d. Holds mail_schema d p.1.0) (sym is) again, p.1.2)
+    (p.1.0, subst (λ d. HoldsTables mail_schema d p.1.0) (sym is) again, p.1.2)
 
 itself : equal Binary (Text (codes "version")) (Text (codes "version")) ≡ true
 itself = at_texts false Eq (codes "version") (codes "version") ∙ bytes_eq_refl (codes "version")

@@ -20,7 +20,7 @@ use Rattle.sqlite_keyed.proofs.SortLemmas.{sorted_unique}
 use Rattle.sqlite_typed.proofs.TestLemmas.{last_key, same_bytes, bytes_eq_refl}
 use Rattle.sqlite.specs.State.{State, Shown}
 use Rattle.sqlrows.specs.Forms.{over, over_two}
-use Rattle.sqlrows.specs.Rows.{Tables, Holds, has_key}
+use Rattle.sqlrows.specs.Rows.{Tables, HoldsTables, has_key}
 use Rattle.sqlrows.proofs.AnswerLemmas.{cells_in_order, cells_joined}
 use Rattle.sqlrows.proofs.ReadLemmas.{answered, answered_from}
 use Rattle.sqlrows.proofs.ListLemmas.{owner_key, pair_key, pair_owned}
@@ -115,7 +115,7 @@ turned true false false = refl
 turned false b true = refl
 turned false b false = refl
 
-module _ (old new : State) (rows : List Row) (tables : Tables) (h : Holds mail_schema old.now tables) where
+module _ (old new : State) (rows : List Row) (tables : Tables) (h : HoldsTables mail_schema old.now tables) where
   pub folder_found : (owner folder : List ℕ) (copies : List Copy) (messages : List Message) → IsPermutation (map (copy_row owner) copies) (rows_of owner tables copy_tree) → IsAscending (λ c d. c.n < d.n) copies
       → IsPermutation (map (message_row owner) messages) (rows_of owner tables message_tree) → IsAscending (λ x y. x.id < y.id) messages → AllByRecursion (λ c. Has messages (message_of c)) copies
       → Shown select_folder (pair_key owner folder) old new rows → rows ≡ map (λ c. Blob c.message ∷ []) (filter (is_in folder) copies)
@@ -162,7 +162,7 @@ noticed_rise : (x y : ℕ × Notice) → x.0 < y.0 → output_cmp by_notice (not
 unfolding noticed_output
 noticed_rise x y low = last_key (value_cmp-Int (pos x.0) (pos y.0) ∙ Less-from_lt (pos x.0) (pos y.0) (omega (arith, ints)))
 
-module _ (old new : State) (rows : List Row) (tables : Tables) (h : Holds mail_schema old.now tables) where
+module _ (old new : State) (rows : List Row) (tables : Tables) (h : HoldsTables mail_schema old.now tables) where
   pub queue_found : (owner : List ℕ) (queue : List Outgoing) → IsPermutation (map (queue_row owner) queue) (rows_of owner tables outgoing_tree) → IsAscending (λ x y. x.id < y.id) queue
       → Shown select_queue (owner_key owner) old new rows → rows ≡ map outgoing_cells queue
   unfolding queued_output
@@ -225,7 +225,7 @@ names_rise : {X : Type 0} (a b : List ℕ × X) → bytes_cmp a.0 b.0 ≡ Less �
 unfolding name_output
 names_rise a b low = last_key (value_cmp-Blob a.0 b.0 ∙ low)
 
-module _ (old new : State) (rows : List Row) (tables : Tables) (h : Holds mail_schema old.now tables) where
+module _ (old new : State) (rows : List Row) (tables : Tables) (h : HoldsTables mail_schema old.now tables) where
   pub names_found : (owner : List ℕ) (scripts : List (List ℕ × List ℕ)) → rows_of owner tables script_tree ≡ map (script_row owner) scripts → AreApart scripts → Shown select_names (owner_key owner) old new rows
       → rows ≡ map (λ n. Blob n ∷ []) (keys (from_entries {R = bytes_cmp} scripts))
   unfolding name_output

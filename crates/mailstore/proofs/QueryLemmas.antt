@@ -10,7 +10,7 @@ use Rattle.sqlite.specs.declared.error.Error.{Error}
 use Rattle.sqlite.specs.State.{State, HasCleanDisk, Survives, CommitsShowing, Shown, ShowsRows, FailsToQuery, FailsToShow, IsNotRun, IsUnchanged, IsRolledBack}
 use Rattle.sqlite.proofs.Callers.{IsPlain, never_commits}
 use Rattle.sqlite.proofs.StateLemmas.{survives_weaker}
-use Rattle.sqlrows.specs.Rows.{Tables, Holds, has_key}
+use Rattle.sqlrows.specs.Rows.{Tables, HoldsTables, has_key}
 use Rattle.sqlrows.proofs.AnswerLemmas.{cells_by_key}
 use Rattle.sqlrows.proofs.ReadLemmas.{shown_same, fails_same, answered}
 use Rattle.sqlrows.proofs.ListLemmas.{owner_key, pair_key}
@@ -65,7 +65,7 @@ pub stays_shut : (sql : List ℕ) (params : Row) (old new : State) (r : Result (
 stays_shut sql params old new (Ok rows) ok err clean = let shown = open_shown sql params old new rows.items (ok clean) in (λ is_open. shown.0, shown.1)
 stays_shut sql params old new (Err e) ok err clean = (open_failed sql params old new e (err clean), tt)
 
-module _ (old new : State) (rows : List Row) (tables : Tables) (h : Holds mail_schema old.now tables) where
+module _ (old new : State) (rows : List Row) (tables : Tables) (h : HoldsTables mail_schema old.now tables) where
   pub account_found : (name : List ℕ) → Shown select_account (owner_key name) old new rows → rows ≡ map shown_account (rows_of name tables account_tree)
   account_found name shown =
       cells_by_key mail_schema account (inr (inl refl)) account_index (inr (inl refl)) refl (owner_key name) (0 ∷ []) (account_agrees name) old.now.trees h.fits (tables account_tree) (h.each account (inr (inl refl)))

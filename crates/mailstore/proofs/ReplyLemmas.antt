@@ -21,7 +21,7 @@ use Rattle.sqlite_keyed.proofs.SortLemmas.{sorted_unique}
 use Rattle.sqlite_typed.proofs.TestLemmas.{at_blobs, last_key, last_term, same_bytes, bytes_eq_refl}
 use Rattle.sqlite.specs.State.{State, Shown}
 use Rattle.sqlrows.specs.Forms.{over}
-use Rattle.sqlrows.specs.Rows.{Tables, Holds, has_key}
+use Rattle.sqlrows.specs.Rows.{Tables, HoldsTables, has_key}
 use Rattle.sqlrows.proofs.AnswerLemmas.{cells_in_order, cells_by_key}
 use Rattle.sqlrows.proofs.ReadLemmas.{answered}
 use Rattle.sqlrows.proofs.ListLemmas.{owner_key, pair_key, equal_itself}
@@ -126,7 +126,7 @@ replies_rise : (x y : Reply) → bytes_cmp x.0.0 y.0.0 ≡ Less → output_cmp b
 unfolding reply_output
 replies_rise x y low = last_key (value_cmp-Blob x.0.0 y.0.0 ∙ low)
 
-module _ (old new : State) (rows : List Row) (tables : Tables) (h : Holds mail_schema old.now tables) where
+module _ (old new : State) (rows : List Row) (tables : Tables) (h : HoldsTables mail_schema old.now tables) where
   replies_found : (owner sender : List ℕ) (es : List Reply) → rows_of owner tables reply_tree ≡ map (reply_row owner) es → AreApart es → Shown select_replies (pair_key owner sender) old new rows
       → rows ≡ map kept_cells (map kept_reply (replies_to sender (from_entries es)))
   unfolding reply_output

@@ -17,7 +17,7 @@ all_from : {X : Type 0} (ys xs : List X) (n : ℕ) → length xs ≡ n + length 
 all_from [] xs n e h = nothing_left (drop n xs) (length-drop n xs ∙ omega (arith, e))
 all_from (y ∷ ys) xs n e h = drop-cons xs n y (omega (arith, e)) ∙ ap₂ (λ a b. a ∷ b) (sym h.0) (all_from ys xs (suc n) (omega (arith, e)) h.1)
 
--- a list of so many items is these items
+-- a list of that many items is these items
 pub items_are : {X : Type 0} (ys xs : List X) → length xs ≡ length ys → StandAt 0 ys xs → xs ≡ ys
 items_are ys xs e h = all_from ys xs 0 (omega (arith, e)) h
 

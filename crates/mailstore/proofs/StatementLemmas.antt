@@ -14,7 +14,7 @@ use Rattle.sqlite_catalog.specs.Listing.{automatic}
 use Rattle.sqlite.specs.State.{State, Executes}
 use Rattle.sqlite.specs.Values.{bound_value, or_null as bound_or_null}
 use Rattle.sqlrows.specs.Forms.{needed}
-use Rattle.sqlrows.specs.Rows.{Tables, Holds, has_key, added, removed, set_in}
+use Rattle.sqlrows.specs.Rows.{Tables, HoldsTables, has_key, added, removed, set_in}
 use Rattle.sqlrows.proofs.CellLemmas.{cast_int}
 use Rattle.sqlrows.proofs.ListLemmas.{owner_key, pair_key}
 use Rattle.sqlrows.proofs.StepLemmas.{on_insert, on_update, on_delete, insert_holds, update_holds, delete_holds}
@@ -138,7 +138,7 @@ inserts_version old new count ran tables h =
     (rw (cast_int (pos 2))) on.1
 
 -- the INTEGER columns of an account's row are stored as they are
-module _ (old : State) (tables : Tables) (h : Holds mail_schema old.now tables) (cells : Row) (there : Has (tables account_tree) cells) where
+module _ (old : State) (tables : Tables) (h : HoldsTables mail_schema old.now tables) (cells : Row) (there : Has (tables account_tree) cells) where
   whole : (place : ℕ) (name : List ℕ) → slice_get account.columns place ≡ Some (needed name Integer) → cast Integer (column cells place) ≡ column cells place
   whole place name at = cast_integer (column cells place)
       (column_is_of mail_schema account.name account_tree account.primary account.references account.columns (inr (inl refl)) old.now.trees h.fits (tables account_tree) (h.each account (inr (inl refl))) cells there place (needed name Integer) at refl)

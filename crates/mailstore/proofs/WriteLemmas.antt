@@ -12,11 +12,11 @@ use Rattle.sqlite.specs.State.{State, HasCleanDisk, Executes, KeepsCommit, Survi
 use Rattle.sqlite.proofs.InsideLemmas.{inside_keeps, keeps_then}
 use Rattle.sqlite.proofs.StateLemmas.{survives_then}
 use Rattle.sqlite.proofs.Callers.{survives_begin}
-use Rattle.sqlrows.specs.Rows.{Tables, Holds}
+use Rattle.sqlrows.specs.Rows.{Tables, HoldsTables}
 use Rattle.mailstore.specs.declared.change.Change.{Change}
 use Rattle.mailstore.specs.Schema.{mail_schema}
 use Rattle.mailstore.specs.Connection.{RunsInside, RunsText, RunsStatement, Makes, TurnsRows}
-use Rattle.mailstore.specs.Changes.{made_one, made, MayHave}
+use Rattle.mailstore.specs.Changes.{made_one, made, CrashLeavesTables}
 
 -- what is made inside a transaction, where the disk is honest
 abbrev pub MakesInside : {X : Type 0} → (Database → Database → Type 0) → State → State → Result X Error → Type 0
@@ -42,7 +42,7 @@ statement_makes g Turned sql params old new r turns ran = record {
 pub record HasMade (old now : State) (changes : List Change) : Type 0 where
   pub inside : IsTrue now.in_transaction
   pub kept : KeepsCommit old now
-  pub holds : (tables : Tables) → Holds mail_schema old.now tables → Holds mail_schema now.now (made tables changes)
+  pub holds : (tables : Tables) → HoldsTables mail_schema old.now tables → HoldsTables mail_schema now.now (made tables changes)
 
 pub made_push : (changes : List Change) (change : Change) (tables : Tables) → made tables (changes ++ change ∷ []) ≡ made_one change (made tables changes)
 made_push [] change tables = refl
@@ -56,23 +56,23 @@ pub one_more : {X : Type 0} (old mid new : State) (changes : List Change) (at : 
 one_more old mid new changes at d r x ok within was survives makes clean =
     let before = was (clean_before mid new _ survives clean) in
     let done = makes clean before.inside in
-    let went = subst (λ o. OnOk o (((tables : Tables) → Holds mail_schema mid.now tables → Holds mail_schema new.now (made_one (get_or changes at d) tables)) × Shows mid new new.now mid.committed true)) ok done.1 in
+    let went = subst (λ o. OnOk o (((tables : Tables) → HoldsTables mail_schema mid.now tables → HoldsTables mail_schema new.now (made_one (get_or changes at d) tables)) × Shows mid new new.now mid.committed true)) ok done.1 in
     record {
       inside = went.1.mode;
       kept = keeps_then old mid new before.kept done.0;
-      holds = λ tables h. subst (Holds mail_schema new.now) (sym (ap (made tables) (take_more changes at d within) ∙ made_push (take at changes) (get_or changes at d) tables)) (went.0 (made tables (take at changes)) (before.holds tables h));
+      holds = λ tables h. subst (HoldsTables mail_schema new.now) (sym (ap (made tables) (take_more changes at d within) ∙ made_push (take at changes) (get_or changes at d) tables)) (went.0 (made tables (take at changes)) (before.holds tables h));
     }
 
 pub if_committed : {X : Type 0} (r : Result X Error) (old mid new : State) (changes : List Change) (P Q : Type 0) (R : Trees → Type 0) → (HasCleanDisk mid → HasMade old mid changes) → Survives mid new R
-    → (HasCleanDisk new → OnOk r (IsTrue mid.in_transaction × Shows mid new mid.now mid.now false × P × Q)) → HasCleanDisk new → (tables : Tables) → Holds mail_schema old.now tables
-    → OnOk r (Holds mail_schema new.now (made tables changes))
+    → (HasCleanDisk new → OnOk r (IsTrue mid.in_transaction × Shows mid new mid.now mid.now false × P × Q)) → HasCleanDisk new → (tables : Tables) → HoldsTables mail_schema old.now tables
+    → OnOk r (HoldsTables mail_schema new.now (made tables changes))
 if_committed (Err e) old mid new changes P Q R was survives done clean tables h = tt
 if_committed (Ok x) old mid new changes P Q R was survives done clean tables h =
-    subst (λ d. Holds mail_schema d (made tables changes)) (sym (done clean).1.now_is) ((was (clean_before mid new R survives clean)).holds tables h)
+    subst (λ d. HoldsTables mail_schema d (made tables changes)) (sym (done clean).1.now_is) ((was (clean_before mid new R survives clean)).holds tables h)
 
 -- what a crash leaves of the transaction and its commit
 pub commits_all : {S : Type 0} (g : Ghosts S) (old : Held S) (last end : State) (changes : List Change) → Survives (state g (record old { in_transaction = true })) last (λ _. ⊥)
-    → Survives last end (λ db. db ≡ last.now.trees) → (HasCleanDisk last → HasMade (state g (record old { in_transaction = true })) last changes) → Survives (state g old) end (MayHave changes (state g old))
+    → Survives last end (λ db. db ≡ last.now.trees) → (HasCleanDisk last → HasMade (state g (record old { in_transaction = true })) last changes) → Survives (state g old) end (CrashLeavesTables changes (state g old))
 commits_all g old last end changes inside commit was =
     survives_then (state g old) last end _ _ _ (λ _ db none. absurd none)
     (λ clean db is tables h. (last.now, (was (clean_before last end _ commit clean)).holds tables h, is)) (survives_begin g old last _ inside) commit

@@ -5,7 +5,7 @@ use Rattle.sqlite_value.specs.declared.value.Value.{Value}
 use Rattle.sqlite_value.specs.declared.value.Value.TheVariants.{Null, Blob}
 use Rattle.sqlite_value.specs.Order.{Row, column}
 
--- the octets behind the reference, if there is one
+-- the octets after the reference, if there is one
 abbrev pub contents : Option (Bor (List ℕ)) → Option (List ℕ)
 contents None = None
 contents (Some b) = Some b.now

@@ -5,7 +5,7 @@ use Rattle.sqlite_value.specs.declared.value.Value.TheVariants.{Blob}
 use Rattle.sqlite_trees.specs.Tree.{Trees}
 use Rattle.sqlite.specs.Effect.{Database}
 use Rattle.sqlite.specs.State.{State}
-use Rattle.sqlrows.specs.Rows.{Tables, Holds, added, removed, set_in}
+use Rattle.sqlrows.specs.Rows.{Tables, HoldsTables, added, removed, set_in}
 use Rattle.mailstore.specs.declared.change.Change.{Change}
 use Rattle.mailstore.specs.declared.filing.Filing.{Filing}
 use Rattle.mailstore.specs.declared.change.Change.TheVariants.{AddAccount, SetActive, SetCounters, AddScript, RemoveScript, AddMessage, RemoveMessage, AddCopy, RemoveCopy, AddOutgoing, RemoveOutgoing, AddReply, RemoveReply, AddNotice}
@@ -94,8 +94,8 @@ abbrev pub made : Tables → List Change → Tables
 made = fold (λ tables change. made_one change tables)
 
 -- what a crash may leave of a transaction of these changes
-abbrev pub MayHave : List Change → State → Trees → Type 0
-MayHave changes s trees = (tables : Tables) → Holds mail_schema s.now tables → (after : Database) × Holds mail_schema after (made tables changes) × (trees ≡ after.trees)
+abbrev pub CrashLeavesTables : List Change → State → Trees → Type 0
+CrashLeavesTables changes s trees = (tables : Tables) → HoldsTables mail_schema s.now tables → (after : Database) × HoldsTables mail_schema after (made tables changes) × (trees ≡ after.trees)
 
 -- whose row it is
 abbrev pub owner_of : Change → List ℕ

@@ -11,7 +11,7 @@ use Rattle.sqlite.specs.declared.transaction.Transaction.{Transaction}
 use Rattle.sqlite.specs.Effect.{Database}
 use Rattle.sqlite.specs.Held.{state}
 use Rattle.sqlite.specs.State.{State, HasCleanDisk, ExecutesInside, KeepsCommit, Shows, Survives}
-use Rattle.sqlrows.specs.Rows.{Tables, Holds}
+use Rattle.sqlrows.specs.Rows.{Tables, HoldsTables}
 use Rattle.mailstore.specs.Schema.{mail_schema}
 
 -- no table has a row
@@ -35,11 +35,11 @@ Makes Turned old new result = KeepsCommit old new × OnOk result (Turned old.now
 
 -- the tables that held these then hold what the function makes of them
 abbrev pub TurnsRows : (Tables → Tables) → Database → Database → Type 0
-TurnsRows change old new = (tables : Tables) → Holds mail_schema old tables → Holds mail_schema new (change tables)
+TurnsRows change old new = (tables : Tables) → HoldsTables mail_schema old tables → HoldsTables mail_schema new (change tables)
 
 -- where the empty schema was the first one, it is then the next
 abbrev pub TurnsSchema : Schema → Schema → Database → Database → Type 0
-TurnsSchema schema next old new = Holds schema old no_rows → Holds next new no_rows
+TurnsSchema schema next old new = HoldsTables schema old no_rows → HoldsTables next new no_rows
 
 -- a statement inside a transaction
 abbrev pub RunsStatement : {S X : Type 0} → Ghosts S → List ℕ → Row → Transaction S → Transaction S → Result X Error → Type 0

@@ -103,7 +103,7 @@ pub record AreKept (copies : List Copy) (messages : List Message) : Type 0 where
   pub used : AllByRecursion (HasCopy copies) messages
   pub first : AllByRecursion (λ c. c.id ≤ c.n) copies
 
--- the rows are those of the user's copies and of their messages: a folder is the list of its copies in the order of their numbers, and one without copies is none
+-- the rows are those of the user's copies and of their messages: a folder is the list of its copies in the order of their numbers, and one without copies isn't there
 pub record ShowsCopies (user : List ℕ) (rows message_rows : List Row) (folders : Folders) (next : ℕ) : Type 0 where
   pub entries : List Copy
   pub messages : List Message

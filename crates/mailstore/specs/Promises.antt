@@ -9,7 +9,7 @@ use Rattle.sqlite.specs.declared.error.Error.{Error}
 use Rattle.sqlite.specs.Effect.{Database}
 use Rattle.sqlite.specs.Held.{Held, state}
 use Rattle.sqlite.specs.State.{State, HasCleanDisk, CommitsShowing, FailsToQuery, Shown, Survives}
-use Rattle.sqlrows.specs.Rows.{Tables, Holds}
+use Rattle.sqlrows.specs.Rows.{Tables, HoldsTables}
 use Rattle.mailstore.specs.declared.change.Change.{Change}
 use Rattle.mailstore.specs.declared.account.Counters.{Counters}
 use Rattle.mailstore.specs.declared.profile.Profile.{Profile}
@@ -20,7 +20,7 @@ use Rattle.mailstore.specs.Schema.{mail_schema}
 use Rattle.mailstore.specs.Connection.{SeesCommit, IsSettled, StaysSame}
 use Rattle.mailstore.specs.Changes.{made}
 use Rattle.mailstore.specs.Account.{Account, Accounts, renames_script, with_user}
-use Rattle.mailstore.specs.Refusals.{IsPassing}
+use Rattle.mailstore.specs.Refusals.{IsTransient}
 use Rattle.mailstore.specs.AccountTable.{account_tree, Counts, profile_of}
 use Rattle.mailstore.specs.ScriptTable.{IsRenaming}
 use Rattle.mailstore.specs.MessageTable.{message_tree, GainsOnce}
@@ -28,7 +28,7 @@ use Rattle.mailstore.specs.Shows.{rows_of, Presents}
 
 -- a database of our tables
 abbrev pub HasOurTables : Database → Type 0
-HasOurTables db = (tables : Tables) × Holds mail_schema db tables
+HasOurTables db = (tables : Tables) × HoldsTables mail_schema db tables
 
 -- the user has an account
 abbrev pub HasUser : List ℕ → Accounts → Type 0
@@ -66,7 +66,7 @@ pub record Answers (sql : List ℕ) (params : Row) (old new : State) (result : R
 
 -- a query for the user's rows in one table: it shows this of each
 pub record FindsOwn {E : Type 0} (user : List ℕ) (tree : ℕ) (show : Row → Row) (old new : State) (result : Result (Vec Row Global) E) : Type 0 where
-  pub found : HasCleanDisk new → (tables : Tables) → Holds mail_schema old.now tables → IfOk result (λ rows. rows.items ≡ map show (rows_of user tables tree))
+  pub found : HasCleanDisk new → (tables : Tables) → HoldsTables mail_schema old.now tables → IfOk result (λ rows. rows.items ≡ map show (rows_of user tables tree))
   pub keeps : Keeps old new result
 
 -- a query for rows of one user: this holds of them and of the user's account, if there is one
@@ -79,7 +79,7 @@ pub record Reads {X : Type 0} (user : List ℕ) (Part : X → Account → Type 0
   pub found : HasCleanDisk new → (accounts : Accounts) → Presents old.now accounts → IfOk result (λ x. OfUser accounts user (Part x))
   pub absent : HasCleanDisk new → (accounts : Accounts) → Presents old.now accounts → IfErr result (λ e. e ≡ NoUser → IsFree user accounts)
   pub keeps : Keeps old new result
-  pub named : IfErr result (λ e. (e ≡ NoUser) ⊎ IsPassing e)
+  pub named : IfErr result (λ e. (e ≡ NoUser) ⊎ IsTransient e)
 
 -- the same of rows
 abbrev pub ReadsRows : List ℕ → (List Row → Account → Type 0) → State → State → Result (Vec Row Global) Refusal → Type 0
@@ -91,29 +91,29 @@ Requires user = Reads user (λ done account. Unit {0})
 
 -- the read of the counters in the row of the user's account
 pub record ReadsCounters (user : List ℕ) (old new : State) (result : Result Counters Refusal) : Type 0 where
-  pub found : HasCleanDisk new → (tables : Tables) → Holds mail_schema old.now tables → IfOk result (Counts (rows_of user tables account_tree))
-  pub absent : HasCleanDisk new → (tables : Tables) → Holds mail_schema old.now tables → IfErr result (λ e. e ≡ NoUser → rows_of user tables account_tree ≡ [])
+  pub found : HasCleanDisk new → (tables : Tables) → HoldsTables mail_schema old.now tables → IfOk result (Counts (rows_of user tables account_tree))
+  pub absent : HasCleanDisk new → (tables : Tables) → HoldsTables mail_schema old.now tables → IfErr result (λ e. e ≡ NoUser → rows_of user tables account_tree ≡ [])
   pub keeps : Keeps old new result
-  pub named : IfErr result (λ e. (e ≡ NoUser) ⊎ IsPassing e)
+  pub named : IfErr result (λ e. (e ≡ NoUser) ⊎ IsTransient e)
 
 -- a query for one user: this holds of what it finds and of all rows that the user has
 pub record FindsAmong {X E : Type 0} (user : List ℕ) (Part : X → Tables → Type 0) (old new : State) (result : Result X E) : Type 0 where
-  pub found : HasCleanDisk new → (tables : Tables) → Holds mail_schema old.now tables → IfOk result (λ x. Part x (rows_of user tables))
+  pub found : HasCleanDisk new → (tables : Tables) → HoldsTables mail_schema old.now tables → IfOk result (λ x. Part x (rows_of user tables))
   pub keeps : Keeps old new result
 
 -- a read of one user's rows: this holds of the answer and of all that the user has, and the user has an account; NoUser is answered only where there is no account
 pub record ReadsOwn {X : Type 0} (user : List ℕ) (Part : X → Tables → Type 0) (old new : State) (result : Result X Refusal) : Type 0 where
-  pub found : HasCleanDisk new → (tables : Tables) → Holds mail_schema old.now tables → IfOk result (λ x. Part x (rows_of user tables))
+  pub found : HasCleanDisk new → (tables : Tables) → HoldsTables mail_schema old.now tables → IfOk result (λ x. Part x (rows_of user tables))
   pub there : HasCleanDisk new → (accounts : Accounts) → Presents old.now accounts → OnOk result (HasUser user accounts)
   pub absent : HasCleanDisk new → (accounts : Accounts) → Presents old.now accounts → IfErr result (λ e. e ≡ NoUser → IsFree user accounts)
   pub keeps : Keeps old new result
-  pub named : IfErr result (λ e. (e ≡ NoUser) ⊎ IsPassing e)
+  pub named : IfErr result (λ e. (e ≡ NoUser) ⊎ IsTransient e)
 
 -- the read of what the store keeps of an account; it answers none without an account
 pub record ReadsProfile (user : List ℕ) (old new : State) (result : Result (Option Profile) Refusal) : Type 0 where
   pub found : HasCleanDisk new → (accounts : Accounts) → Presents old.now accounts → IfOk result (λ profile. profile ≡ option_map profile_of (get accounts user))
   pub keeps : Keeps old new result
-  pub named : IfErr result IsPassing
+  pub named : IfErr result IsTransient
 
 -- a query of a database of our schema, whatever its rows are: this holds of the answer; all stays as it was, and after Ok the last commit is seen
 pub record Asks {X E : Type 0} (P : X → Type 0) (old new : State) (result : Result X E) : Type 0 where
@@ -127,28 +127,28 @@ pub record Asks {X E : Type 0} (P : X → Type 0) (old new : State) (result : Re
 -- after Ok the table of messages has the plan's message once more
 abbrev pub StoresOnce : {X E : Type 0} → List ℕ → Plan → State → State → Result X E → Type 0
 StoresOnce user plan old new result =
-    HasCleanDisk new → (tables : Tables) → Holds mail_schema old.now tables
-    → OnOk result ((after : Tables) × Holds mail_schema new.now after × GainsOnce user plan.message.now plan.copies (tables message_tree) (after message_tree))
+    HasCleanDisk new → (tables : Tables) → HoldsTables mail_schema old.now tables
+    → OnOk result ((after : Tables) × HoldsTables mail_schema new.now after × GainsOnce user plan.message.now plan.copies (tables message_tree) (after message_tree))
 
 -- after Ok all row changes are made
 abbrev pub MakesAll : {X E : Type 0} → List Change → State → State → Result X E → Type 0
-MakesAll changes old new result = HasCleanDisk new → (tables : Tables) → Holds mail_schema old.now tables → OnOk result (Holds mail_schema new.now (made tables changes))
+MakesAll changes old new result = HasCleanDisk new → (tables : Tables) → HoldsTables mail_schema old.now tables → OnOk result (HoldsTables mail_schema new.now (made tables changes))
 
 -- where the old tables show accounts that fit, the new ones show them with the change
 abbrev pub Turns : (Accounts → Type 0) → (Accounts → Accounts) → Database → Database → Type 0
 Turns Fit change old new = (accounts : Accounts) → Presents old accounts → Fit accounts → Presents new (change accounts)
 
 -- what a crash may leave of a write shows the accounts with the change
-abbrev pub MayShow : (Accounts → Type 0) → (Accounts → Accounts) → State → Trees → Type 0
-MayShow Fit change s trees = (accounts : Accounts) → Presents s.now accounts → Fit accounts → (after : Database) × Presents after (change accounts) × (trees ≡ after.trees)
+abbrev pub CrashLeavesAccounts : (Accounts → Type 0) → (Accounts → Accounts) → State → Trees → Type 0
+CrashLeavesAccounts Fit change s trees = (accounts : Accounts) → Presents s.now accounts → Fit accounts → (after : Database) × Presents after (change accounts) × (trees ≡ after.trees)
 
 -- a write in one transaction: after Ok the change is made of accounts that fit, and the connection is settled; after a refusal all is as before; a crash leaves what it left before, or the accounts with the change
 pub record Writes {X : Type 0} (Fit : Accounts → Type 0) (change : Accounts → Accounts) (old new : State) (result : Result X Refusal) : Type 0 where
   pub made : HasCleanDisk new → OnOk result (Turns Fit change old.now new.now)
   pub settled : HasCleanDisk new → OnOk result (IsSettled new)
   pub same : HasCleanDisk new → OnErr result (StaysSame old new)
-  pub crash : Survives old new (MayShow Fit change old)
-  pub named : IfErr result IsPassing
+  pub crash : Survives old new (CrashLeavesAccounts Fit change old)
+  pub named : IfErr result IsTransient
 
 -- a write that changes one user's account, and no other
 abbrev pub WritesUser : {X : Type 0} → List ℕ → (Account → Account) → State → State → Result X Refusal → Type 0
@@ -168,5 +168,5 @@ pub record WritesAccount {X : Type 0} (user : List ℕ) (change : Account → Ac
   pub settled : HasCleanDisk new → OnOk result (IsSettled new)
   pub same : HasCleanDisk new → HasOurTables old.now → OnErr result (StaysSame old new)
   pub absent : HasCleanDisk new → (accounts : Accounts) → Presents old.now accounts → IfErr result (λ e. e ≡ NoUser → IsFree user accounts)
-  pub crash : Survives old new (MayShow (HasUser user) (λ all. with_user all user change) old)
-  pub named : IfErr result (λ e. (e ≡ NoUser) ⊎ IsPassing e)
+  pub crash : Survives old new (CrashLeavesAccounts (HasUser user) (λ all. with_user all user change) old)
+  pub named : IfErr result (λ e. (e ≡ NoUser) ⊎ IsTransient e)

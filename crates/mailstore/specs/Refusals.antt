@@ -8,8 +8,8 @@ use Rattle.mailstore.specs.declared.refusal.Refusal.{Refusal}
 use Rattle.mailstore.specs.declared.refusal.Refusal.TheVariants.{Memory, Store}
 
 -- lack of memory, or a failure of the store: these may come without visible cause
-abbrev pub IsPassing : Refusal → Type 0
-IsPassing e = (e ≡ Memory) ⊎ (e ≡ Store)
+abbrev pub IsTransient : Refusal → Type 0
+IsTransient e = (e ≡ Memory) ⊎ (e ≡ Store)
 
 -- what SQLite says of a failure, where it says something
 abbrev pub code_in : Error → Option ErrorCode

@@ -7,7 +7,7 @@ use Rattle.sqlite_value.specs.Order.{Row, column}
 use Rattle.sqlite_trees.specs.Tree.{Trees}
 use Rattle.sqlite.specs.Effect.{Database}
 use Rattle.sqlite.specs.State.{State, HasCleanDisk}
-use Rattle.sqlrows.specs.Rows.{Tables, Holds, has_key}
+use Rattle.sqlrows.specs.Rows.{Tables, HoldsTables, has_key}
 use Rattle.mailstore.specs.Schema.{no_schema, mail_schema}
 use Rattle.mailstore.specs.Account.{Account, Accounts, no_accounts}
 use Rattle.mailstore.specs.MetaTable.{meta_tree, version_row, version_rows, stored_value_column}
@@ -57,7 +57,7 @@ pub record ShowsAccounts (tables : Tables) (accounts : Accounts) : Type 0 where
 
 -- a database of our schema, whose tables show the accounts
 abbrev pub Presents : Database → Accounts → Type 0
-Presents db accounts = (tables : Tables) × Holds mail_schema db tables × ShowsAccounts tables accounts
+Presents db accounts = (tables : Tables) × HoldsTables mail_schema db tables × ShowsAccounts tables accounts
 
 -- a database that shows no accounts, not even none at all
 abbrev pub PresentsNothing : Database → Type 0

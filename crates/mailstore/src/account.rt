@@ -8,7 +8,7 @@ ghost use Rattle.mailstore.specs.Cells.{contents, first_three, or_null};
 ghost use Rattle.mailstore.specs.Changes.{account_added, active_set, counters_set};
 ghost use Rattle.mailstore.specs.Schema.{schema_1, schema_2};
 ghost use Rattle.mailstore.specs.Account.{activates, new_user};
-ghost use Rattle.mailstore.specs.Refusals.{IsPassing};
+ghost use Rattle.mailstore.specs.Refusals.{IsTransient};
 ghost use Rattle.sqlite_value.specs.declared.value.Value.TheVariants.{Int, Blob};
 ghost use Rattle.sqlite_value.specs.Order.{column};
 
@@ -132,7 +132,7 @@ fn counters_in(row: &Row) -> Result<Counters, Error>
 fn first_counters(rows: &[Row]) -> Result<Counters, Refusal>
     ensures ok { IfOk result (λ c. option_map first_three (slice_get rows.now 0) ≡ Some (counter_cells c)) }
     ensures absent { IfErr result (λ e. e ≡ Refusal.NoUser → rows.now ≡ []) }
-    ensures named { IfErr result (λ e. (e ≡ Refusal.NoUser) ⊎ IsPassing e) }
+    ensures named { IfErr result (λ e. (e ≡ Refusal.NoUser) ⊎ IsTransient e) }
 {
     match rows.first() {
         Some(row) => Ok(counters_in(row)?),
@@ -160,7 +160,7 @@ fn profile_in(row: &Row) -> Result<Profile, Error>
 /// The account in the first row, if there is a row.
 fn first_profile(rows: &[Row]) -> Result<Option<Profile>, Refusal>
     ensures ok { IfOk result (λ profile. IsRead profile (slice_get rows.now 0)) }
-    ensures named { IfErr result IsPassing }
+    ensures named { IfErr result IsTransient }
 {
     match rows.first() {
         Some(row) => {

@@ -1,7 +1,7 @@
 //! The texts and numbers in the cells of rows.
 ghost use Rattle.std.specs.Prelude.{◌≡◌, pos, ◌<◌, ◌^◌, option_map, slice_get, IfOk, IfErr};
 ghost use Rattle.mailstore.specs.Cells.{or_null};
-ghost use Rattle.mailstore.specs.Refusals.{IsPassing};
+ghost use Rattle.mailstore.specs.Refusals.{IsTransient};
 ghost use Rattle.sqlite_value.specs.declared.value.Value.TheVariants.{Blob};
 ghost use Rattle.sqlite_value.specs.Order.{column};
 
@@ -32,7 +32,7 @@ pub fn optional_text_at(row: &Row, at: usize) -> Result<Option<Octets>, Error>
 /// The text in the first row, if there is a row.
 pub fn first_text(rows: &[Row]) -> Result<Option<Octets>, Refusal>
     ensures ok { IfOk result (λ text. option_map (λ t. Blob t) text ≡ option_map (λ r. column r 0) (slice_get rows.now 0)) }
-    ensures named { IfErr result IsPassing }
+    ensures named { IfErr result IsTransient }
 {
     match rows.first() {
         Some(row) => {
@@ -59,7 +59,7 @@ impl FromRow for Octets {
 pub fn number(n: u64) -> Result<i64, Refusal>
     ensures same { IfOk result (λ i. i ≡ pos n) }
     ensures fits { IfOk result (λ _. n < 2 ^ 63) }
-    ensures named { IfErr result IsPassing }
+    ensures named { IfErr result IsTransient }
 {
     match i64::try_from(n) {
         Ok(i) => Ok(i),

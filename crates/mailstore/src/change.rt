@@ -4,8 +4,8 @@ ghost use Rattle.sqlite.specs.Held.{state};
 ghost use Rattle.mailstore.specs.Promises.{MakesAll};
 ghost use Rattle.sqlite.specs.State.{Survives, HasCleanDisk};
 ghost use Rattle.mailstore.specs.Connection.{ChangesRows, IsSettled, StaysSame};
-ghost use Rattle.mailstore.specs.Changes.{MayHave, made_one};
-ghost use Rattle.mailstore.specs.Refusals.{IsPassing};
+ghost use Rattle.mailstore.specs.Changes.{CrashLeavesTables, made_one};
+ghost use Rattle.mailstore.specs.Refusals.{IsTransient};
 
 use crate::account::{add_account, set_active, set_counters};
 use crate::folder::{add_copy, remove_copy};
@@ -164,7 +164,7 @@ pub fn make_all<S: Alter>(conn: &mut Connection<S>, changes: &[Change<'_>]) -> R
     ensures made { MakesAll changes.now (state S.Store conn.old) (state S.Store conn.new) result }
     ensures settled { HasCleanDisk (state S.Store conn.new) → OnOk result (IsSettled (state S.Store conn.new)) }
     ensures same { HasCleanDisk (state S.Store conn.new) → OnErr result (StaysSame (state S.Store conn.old) (state S.Store conn.new)) }
-    ensures crash { Survives (state S.Store conn.old) (state S.Store conn.new) (MayHave changes.now (state S.Store conn.old)) }
+    ensures crash { Survives (state S.Store conn.old) (state S.Store conn.new) (CrashLeavesTables changes.now (state S.Store conn.old)) }
 {
     let _settled = conn.is_autocommit();
     let mut tx = conn.transaction();
@@ -180,8 +180,8 @@ impl<S: Alter> Store<S> {
         ensures made { MakesAll changes.now (state S.Store self.old) (state S.Store self.new) result }
         ensures settled { HasCleanDisk (state S.Store self.new) → OnOk result (IsSettled (state S.Store self.new)) }
         ensures same { HasCleanDisk (state S.Store self.new) → OnErr result (StaysSame (state S.Store self.old) (state S.Store self.new)) }
-        ensures crash { Survives (state S.Store self.old) (state S.Store self.new) (MayHave changes.now (state S.Store self.old)) }
-        ensures named { IfErr result IsPassing }
+        ensures crash { Survives (state S.Store self.old) (state S.Store self.new) (CrashLeavesTables changes.now (state S.Store self.old)) }
+        ensures named { IfErr result IsTransient }
     {
         if let Err(error) = make_all(&mut self.conn, changes) {
             self.cause = code_of(&error);

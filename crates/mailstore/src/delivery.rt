@@ -4,7 +4,7 @@ ghost use Rattle.sqlite.specs.Held.{state};
 ghost use Rattle.mailstore.specs.Promises.{WritesAccount, StoresOnce};
 ghost use Rattle.mailstore.specs.Changes.{AreDelivery, Extends, MakesOwn, message_kept, copies_added, lettered, letter_added, reply_put, noticed, counters_raised, notice_count, folded_sender};
 ghost use Rattle.mailstore.specs.Account.{delivers};
-ghost use Rattle.mailstore.specs.Refusals.{IsPassing};
+ghost use Rattle.mailstore.specs.Refusals.{IsTransient};
 
 use crate::account::Counters;
 use crate::cell::number;
@@ -20,7 +20,7 @@ use std::alloc::Global;
 /// The number that comes `i` after the first one, as the database keeps it; past 2^63 - 1 it is refused.
 fn number_after(first: u64, i: usize) -> Result<i64, Refusal>
     ensures same { IfOk result (λ n. n ≡ pos (first + i)) }
-    ensures named { IfErr result IsPassing }
+    ensures named { IfErr result IsTransient }
 {
     let Some(n) = first.checked_add(i as u64) else {
         return Err(Refusal::Store);
@@ -36,7 +36,7 @@ fn push_counters<'a>(
     counters: Counters,
 ) -> Result<(), Refusal>
     ensures raised { OnOk result (Extends user.now (counters_raised user.now counters plan.now) changes.old.items changes.new.items) }
-    ensures named { IfErr result IsPassing }
+    ensures named { IfErr result IsTransient }
 {
     changes.push(Change::SetCounters {
         name: user,
@@ -66,7 +66,7 @@ fn push_message<'a>(
     next: u64,
 ) -> Result<(), Refusal>
     ensures kept { OnOk result (Extends user.now (message_kept user.now message.now next folders.now) changes.old.items changes.new.items) }
-    ensures named { IfErr result IsPassing }
+    ensures named { IfErr result IsTransient }
 {
     if folders.is_empty() {
         return Ok(());
@@ -87,7 +87,7 @@ fn push_copies<'a>(
     next: u64,
 ) -> Result<(), Refusal>
     ensures copied { OnOk result (Extends user.now (copies_added user.now next next folders.now) changes.old.items changes.new.items) }
-    ensures named { IfErr result IsPassing }
+    ensures named { IfErr result IsTransient }
 {
     for (i, folder) in folders.iter().enumerate() {
         changes.push(Change::AddCopy {
@@ -140,7 +140,7 @@ fn push_letters<'a>(
     next: u64,
 ) -> Result<(), Refusal>
     ensures lettered { OnOk result (Extends user.now (lettered user.now sender.now message.now next letters.now) changes.old.items changes.new.items) }
-    ensures named { IfErr result IsPassing }
+    ensures named { IfErr result IsTransient }
 {
     for (i, letter) in letters.iter().enumerate() {
         let id = number_after(next, i)?;
@@ -157,7 +157,7 @@ fn push_reply<'a>(
     reply: Option<&'a Remembered>,
 ) -> Result<(), Refusal>
     ensures put { OnOk result (Extends user.now (reply_put user.now sender.now (option_copied reply.entry)) changes.old.items changes.new.items) }
-    ensures named { IfErr result IsPassing }
+    ensures named { IfErr result IsTransient }
 {
     let Some(reply) = reply else {
         return Ok(());
@@ -186,7 +186,7 @@ fn push_notice<'a>(
     notice: Option<&'a Octets>,
 ) -> Result<(), Refusal>
     ensures noticed { OnOk result (Extends user.now (noticed user.now next moment (option_copied notice.entry)) changes.old.items changes.new.items) }
-    ensures named { IfErr result IsPassing }
+    ensures named { IfErr result IsTransient }
 {
     let Some(text) = notice else {
         return Ok(());
@@ -203,7 +203,7 @@ fn push_notice<'a>(
 /// The sender of the reply in lower case, if there is one.
 fn fold_sender(alloc: Global, reply: Option<&Remembered>) -> Result<Octets, Refusal>
     ensures ok { IfOk result (λ sender. sender ≡ folded_sender (option_copied reply.entry)) }
-    ensures named { IfErr result IsPassing }
+    ensures named { IfErr result IsTransient }
 {
     match reply {
         Some(reply) => Ok(octets::lowered(alloc, reply.sender.as_slice())?),
@@ -220,7 +220,7 @@ fn delivery_changes<'a>(
     plan: &'a Plan<'_>,
 ) -> Result<Vec<Change<'a>>, Refusal>
     ensures delivery { IfOk result (λ changes. sender.now ≡ folded_sender plan.now.remember → AreDelivery user.now counters plan.now changes.items) }
-    ensures named { IfErr result IsPassing }
+    ensures named { IfErr result IsTransient }
 {
     let mut changes = Vec::new(alloc);
     push_counters(&mut changes, user, plan, counters)?;

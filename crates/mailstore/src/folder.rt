@@ -8,7 +8,7 @@ ghost use Rattle.mailstore.specs.Connection.{ChangesRows, MakesTables};
 ghost use Rattle.mailstore.specs.Changes.{copy_added, copy_removed};
 ghost use Rattle.mailstore.specs.Schema.{mail_schema, schema_7};
 ghost use Rattle.mailstore.specs.Account.{messages_in};
-ghost use Rattle.mailstore.specs.Refusals.{IsPassing};
+ghost use Rattle.mailstore.specs.Refusals.{IsTransient};
 ghost use Rattle.sqlite_value.specs.declared.value.Value.TheVariants.{Blob};
 ghost use Rattle.sqlite_value.specs.Order.{column};
 
@@ -104,7 +104,7 @@ fn find_folders<S: Alter>(conn: &mut Connection<S>, owner: &[u8]) -> Result<Vec<
 /// After a refusal the folders may lack their last one.
 fn count(folders: &mut Vec<Folder>, name: Octets) -> Result<(), Refusal>
     ensures counted { OnOk result (folders.new.items ≡ counted folders.old.items name) }
-    ensures named { IfErr result IsPassing }
+    ensures named { IfErr result IsTransient }
 {
     let Some(last) = folders.pop() else {
         folders.push(Folder { name, count: 1 })?;
@@ -125,7 +125,7 @@ fn count(folders: &mut Vec<Folder>, name: Octets) -> Result<(), Refusal>
 /// The folders whose names are in the rows, in order, each with how often it stands there.
 fn tally(alloc: Global, rows: &[Row]) -> Result<List<Folder>, Refusal>
     ensures ok { IfOk result (λ all. (names : List (List ℕ)) → map (λ r. column r 0) rows.now ≡ map (λ n. Blob n) names → all ≡ tallied names) }
-    ensures named { IfErr result IsPassing }
+    ensures named { IfErr result IsTransient }
 {
     let mut all = Vec::new(alloc);
     for row in rows {

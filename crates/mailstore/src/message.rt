@@ -1,7 +1,7 @@
 //! The table of the messages that folders have: each is kept once.
 ghost use Rattle.std.specs.Prelude.{◌≡◌, false, IfErr};
 ghost use Rattle.mailstore.specs.Promises.{FindsAmong, Queries};
-ghost use Rattle.mailstore.specs.Refusals.{IsPassing};
+ghost use Rattle.mailstore.specs.Refusals.{IsTransient};
 ghost use Rattle.mailstore.specs.Shows.{AreOctetRows, HasOctets};
 ghost use Rattle.sqlite.specs.Held.{state};
 ghost use Rattle.mailstore.specs.Changes.{message_added, message_removed};
@@ -77,7 +77,7 @@ impl<S: Alter> Store<S> {
     /// The octets of the user's message with the number, which is there: else it is refused as `Store`.
     pub(crate) fn message(&mut self, user: &[u8], id: u64) -> Result<Octets, Refusal>
         ensures finds { FindsAmong user.now (HasOctets user.now id) (state S.Store self.old) (state S.Store self.new) result }
-        ensures named { IfErr result IsPassing }
+        ensures named { IfErr result IsTransient }
     {
         let id = number(id)?;
         let rows = find_message(&mut self.conn, user, &id)?;

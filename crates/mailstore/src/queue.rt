@@ -9,7 +9,7 @@ ghost use Rattle.mailstore.specs.Connection.{ChangesRows, MakesTables};
 ghost use Rattle.mailstore.specs.Schema.{schema_3, schema_4};
 ghost use Rattle.mailstore.specs.Promises.{Finds, Reads, ReadsRows, WritesUser, Queries};
 ghost use Rattle.mailstore.specs.QueueTable.{AreQueueRows, kind_number};
-ghost use Rattle.mailstore.specs.Refusals.{IsPassing};
+ghost use Rattle.mailstore.specs.Refusals.{IsTransient};
 
 use crate::cell::{number, text_at};
 use crate::change::Change;
@@ -128,7 +128,7 @@ fn find_queue<S: Alter>(conn: &mut Connection<S>, owner: &[u8]) -> Result<Vec<Ro
 /// The kind whose number is in the cell; another number is refused.
 fn kind_at(row: &Row, at: usize) -> Result<Kind, Refusal>
     ensures ok { IfOk result (λ kind. column row.now at ≡ Int (pos (kind_number kind))) }
-    ensures named { IfErr result IsPassing }
+    ensures named { IfErr result IsTransient }
 {
     let number: i64 = row.get(at)?;
     if number == 1 {

@@ -62,9 +62,9 @@ impl<T: Drop> From<AllocFailed<T>> for Refusal {
 }
 
 impl From<Error> for Refusal {
-    ghost use Rattle.mailstore.specs.Refusals.{IsPassing, IsMemoryBy, code_in};
+    ghost use Rattle.mailstore.specs.Refusals.{IsTransient, IsMemoryBy, code_in};
 
-    ghost from_gives = { λ error e. IsPassing e × IsMemoryBy (code_in error) e };
+    ghost from_gives = { λ error e. IsTransient e × IsMemoryBy (code_in error) e };
 
     fn from(error: Error) -> Refusal {
         match error {

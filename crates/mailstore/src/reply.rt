@@ -3,7 +3,7 @@ ghost use Rattle.std.specs.Prelude.{◌≡◌, false, pos, option_map, slice_get
 ghost use Rattle.sqlite_value.specs.declared.value.Value.TheVariants.{Int};
 ghost use Rattle.sqlite_value.specs.Order.{column};
 ghost use Rattle.mailstore.specs.Promises.{Finds, Reads, ReadsRows, Queries};
-ghost use Rattle.mailstore.specs.Refusals.{IsPassing};
+ghost use Rattle.mailstore.specs.Refusals.{IsTransient};
 ghost use Rattle.mailstore.specs.ReplyTable.{AreReplies, AreReplyRows, HasMomentRow, IsLastReply};
 ghost use Rattle.sqlite.specs.Held.{state};
 ghost use Rattle.mailstore.specs.Changes.{reply_added, reply_removed};
@@ -107,7 +107,7 @@ fn find_replies<S: Alter>(
 /// The moment in the first row, if there is a row.
 fn first_moment(rows: &[Row]) -> Result<Option<u64>, Refusal>
     ensures ok { IfOk result (λ moment. option_map (λ m. Int (pos m)) moment ≡ option_map (λ r. column r 0) (slice_get rows.now 0)) }
-    ensures named { IfErr result IsPassing }
+    ensures named { IfErr result IsTransient }
 {
     match rows.first() {
         Some(row) => {

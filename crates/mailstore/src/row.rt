@@ -1,7 +1,7 @@
 //! Values that the rows of a query show.
 ghost use Rattle.std.specs.Prelude.{◌≡◌, map, IfOk, IfErr};
 ghost use Rattle.sqlite_value.specs.Order.{Row};
-ghost use Rattle.mailstore.specs.Refusals.{IsPassing};
+ghost use Rattle.mailstore.specs.Refusals.{IsTransient};
 
 use crate::refusal::Refusal;
 use octets::List;
@@ -19,13 +19,13 @@ pub trait FromRow: Drop {
     /// The value that the row shows. Lack of memory, or a cell of another type, is the only refusal.
     fn from_row(row: &Row) -> Result<Self, Refusal>
         ensures shown { IfOk result (λ value. shows value ≡ cells_of row.now) }
-        ensures named { IfErr result IsPassing };
+        ensures named { IfErr result IsTransient };
 }
 
 /// The values that the rows show, in their order.
 pub fn all_from_rows<T: FromRow>(alloc: Global, rows: &[Row]) -> Result<List<T>, Refusal>
     ensures ok { IfOk result (λ all. map T.shows all ≡ map T.cells_of rows.now) }
-    ensures named { IfErr result IsPassing }
+    ensures named { IfErr result IsTransient }
 {
     let mut all = Vec::new(alloc);
     for row in rows {

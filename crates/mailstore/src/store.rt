@@ -6,7 +6,7 @@ ghost use Rattle.sqlite.specs.State.{HasCleanDisk};
 ghost use Rattle.mailstore.specs.Schema.{no_schema};
 ghost use Rattle.mailstore.specs.Connection.{IsSettled, StaysSame, Leaves, Outlives, has_our_name};
 ghost use Rattle.mailstore.specs.Account.{no_accounts};
-ghost use Rattle.mailstore.specs.Refusals.{IsPassing, IsMemoryBy, code_in};
+ghost use Rattle.mailstore.specs.Refusals.{IsTransient, IsMemoryBy, code_in};
 ghost use Rattle.mailstore.specs.Shows.{Presents, PresentsNothing, IsOurs, ShowsIn, StillShows};
 
 use crate::refusal::Refusal;
@@ -66,7 +66,7 @@ impl<S: Alter> Store<S> {
         ensures empty { OnOk result (conn.schema ≡ no_schema) }
         ensures taken { conn.in_transaction ≡ false → IsTrue (has_our_name conn.schema) → IfErr result (λ e. e.0 ≡ Refusal.NotOurs) × OnOk result ⊥ }
         ensures not_ours { IfErr result (λ e. e.0 ≡ Refusal.NotOurs → IsTrue (has_our_name conn.schema)) }
-        ensures named { IfErr result (λ e. (e.0 ≡ Refusal.NotOurs) ⊎ IsPassing e.0) }
+        ensures named { IfErr result (λ e. (e.0 ≡ Refusal.NotOurs) ⊎ IsTransient e.0) }
         ensures memory { IfErr result (λ e. IsMemoryBy e.2 e.0) }
         ensures same_if_refused { IfErr result (λ e. HasCleanDisk (state S.Store e.1) → StaysSame (state S.Store conn) (state S.Store e.1)) }
         ensures crash_if_refused { IfErr result (λ e. Outlives (λ trees. ShowsIn trees no_accounts) (state S.Store conn) (state S.Store e.1)) }
@@ -106,7 +106,7 @@ impl<S: Alter> Store<S> {
         ensures crash { IfOk result (λ store. Leaves (state S.Store conn) (state S.Store store)) }
         ensures not_ours { IfErr result (λ e. HasCleanDisk (state S.Store e.1) → e.0 ≡ Refusal.NotOurs → ¬ IsOurs (state S.Store conn).now) }
         ensures not_shown { IfErr result (λ e. HasCleanDisk (state S.Store e.1) → e.0 ≡ Refusal.NotOurs → PresentsNothing (state S.Store conn).now) }
-        ensures named { IfErr result (λ e. (e.0 ≡ Refusal.NotOurs) ⊎ IsPassing e.0) }
+        ensures named { IfErr result (λ e. (e.0 ≡ Refusal.NotOurs) ⊎ IsTransient e.0) }
         ensures memory { IfErr result (λ e. IsMemoryBy e.2 e.0) }
         ensures same_if_refused { IfErr result (λ e. HasCleanDisk (state S.Store e.1) → StaysSame (state S.Store conn) (state S.Store e.1)) }
         ensures crash_if_refused { IfErr result (λ e. Leaves (state S.Store conn) (state S.Store e.1)) }

@@ -6,7 +6,7 @@ ghost use Rattle.mailstore.specs.Account.{messages_in, takes_mail};
 ghost use Rattle.mailstore.specs.Changes.{AreTaking, is_other_copy};
 ghost use Rattle.mailstore.specs.CopyTable.{is_filed, HasFirst};
 ghost use Rattle.mailstore.specs.Promises.{Reads, ReadsOwn, WritesAccount};
-ghost use Rattle.mailstore.specs.Refusals.{IsPassing};
+ghost use Rattle.mailstore.specs.Refusals.{IsTransient};
 ghost use Rattle.mailstore.specs.Shows.{IsFirstOf};
 
 use crate::cell::number;
@@ -49,7 +49,7 @@ fn taking_changes<'a>(
     filings: &[Filing],
 ) -> Result<Vec<Change<'a>>, Refusal>
     ensures taking { IfOk result (λ changes. AreTaking user.now folder.now filings.now changes.items) }
-    ensures named { IfErr result IsPassing }
+    ensures named { IfErr result IsTransient }
 {
     let mut changes = Vec::new(alloc);
     let Some(first) = first_in(filings, folder) else {

@@ -9,7 +9,7 @@ use Rattle.msproto.specs.declared.items.Reach.TheVariants.{Need, Command, Bad, T
 use Rattle.msproto.specs.declared.replies.Code.TheVariants as code
 use Rattle.msproto.specs.declared.replies.Line.TheVariants as line
 use Rattle.msproto.specs.declared.replies.Status.TheVariants as status
-use Rattle.msproto.specs.Arguments.{inside, IsQuoted, AreDigits, IsNumeral, IsLiteral, Figure, IsArgument, IsAnswer}
+use Rattle.msproto.specs.Arguments.{inside, IsQuotedArgument, AreDigits, IsNumeral, IsLiteral, Figure, IsArgument, IsAnswer}
 use Rattle.msproto.specs.Commands.{IsSpelling, IsCommand, IsViable}
 use Rattle.msproto.specs.Items.{EndsAtFeed, IsBadLine, IsInLiteral, Counts, IsLong, EndsInLargeHead, Reaches}
 use Rattle.msproto.specs.Machine.{LineEnd, Quoted, Dead, rows, start}
@@ -23,22 +23,22 @@ use Rattle.msproto.proofs.Heads.{head_large}
 use Rattle.msproto.proofs.Scans.{reaches}
 use Rattle.msproto.proofs.Unique.{one_reach}
 
--- with CRLF behind it
+-- with CRLF after it
 abbrev crlf : List ℕ → List ℕ
 crlf text = text ++ 13 ∷ 10 ∷ []
 
 -- ---- strings and numbers
 
 -- `"a\""` is the text `a"`
-quoted : IsQuoted (codes "a\"") (codes "\"a\\\"\"")
+quoted : IsQuotedArgument (codes "a\"") (codes "\"a\\\"\"")
 quoted = record { written = refl; allowed = (refl, (refl, tt)); short = omega arith }
 
 -- no quoted string has an LF in it
-not_quoted : (text : List ℕ) → IsQuoted (10 ∷ []) text → ⊥
+not_quoted : (text : List ℕ) → IsQuotedArgument (10 ∷ []) text → ⊥
 not_quoted text q = let never : false ≡ true = q.allowed.0 in cc
 
 -- nor one of 1,025 octets
-not_short : (text : List ℕ) → IsQuoted (replicate 1025 97) text → length (inside (replicate 1025 97)) ≡ 1025 → ⊥
+not_short : (text : List ℕ) → IsQuotedArgument (replicate 1025 97) text → length (inside (replicate 1025 97)) ≡ 1025 → ⊥
 not_short text q e = omega (arith, q.short, e)
 
 -- 10 is written `10`, and not `010` or `1a`
@@ -129,7 +129,7 @@ bad_line = record {
 
 -- ---- inside literals, and outside
 
--- an octet is inside behind `NOOP {1+}` CRLF, and outside before the LF
+-- an octet is inside after `NOOP {1+}` CRLF, and outside before the LF
 in_literal : IsInLiteral false (crlf (codes "NOOP {1+}"))
 unfolding rows
 in_literal = literal_free false (crlf (codes "NOOP {1+}")) refl
@@ -237,7 +237,7 @@ letters_front = refl
 
 -- ---- scans
 
--- while a challenge is pending a scan behind `"` waits for the string's octets, and it took one octet, not none
+-- while a challenge is pending a scan after `"` waits for the string's octets, and it took one octet, not none
 scanned_mark : StandsFor true (record { known = Open (Quoted 1024 LineEnd) 1 1; looked = 1 }) (codes "\"")
 scanned_mark = refl
 

@@ -16,7 +16,7 @@ use Rattle.msproto.specs.declared.verb.Params as code_params
 use Rattle.msproto.specs.declared.verb.Verb.{Verb}
 use Rattle.msproto.specs.Machine.{Params, State, Word, Quoted, Body, Dead, word_of, begins, step}
 use Rattle.msproto.specs.Scanning.{Scanned, Open, turned, found, literal_rest}
-use Rattle.msproto.specs.Shown.{shown, params_shown, scan_shown, is_plain, is_inner, spelling, letters_read, skimmed, behind}
+use Rattle.msproto.specs.Shown.{shown, params_shown, scan_shown, is_plain, is_inner, spelling, letters_read, skimmed, state_after}
 use Rattle.msproto.proofs.Names.{begins-append}
 use Rattle.msproto.proofs.Verbs.{word_more}
 use Rattle.msproto.proofs.Turning.{is_open, passed, body_is}
@@ -162,7 +162,7 @@ name_passed v front (y ∷ l) (x ∷ piece) n k is h low =
 -- ---- any state
 
 abbrev Skims : code.State → ℕ → ℕ → ℕ → List ℕ → Type 0
-Skims st n k c t = fold turned (Open (shown st) n k) (take c t) ≡ Open (behind st c) (n + c) (k + c)
+Skims st n k c t = fold turned (Open (shown st) n k) (take c t) ≡ Open (state_after st c) (n + c) (k + c)
 
 -- a front of a front
 fronts : (c m : ℕ) (t : List ℕ) → c ≤ length (take m t) → take c t ≡ take c (take m t)
@@ -215,13 +215,13 @@ skims (code_state.Quoted left params) n k m t low = skims_quoted left params n k
 skims code_state.Dead n k m t low = skims_dead n k m t low
 skims st n k m t low = nothing_taken (shown st) n k
 
-pub skim_takes : (st next : code.State) (o u m c : ℕ) (r : Reach) (sc : Scanned) (t : List ℕ) → scan_shown st o u r ≡ sc → found sc ≡ Need → o ≤ 8192 → m ≡ min (8192 - o) (length t) → c ≡ skimmed st (take m t) → shown next ≡ behind st c → scan_shown next (o + c) (u + c) r ≡ fold turned sc (take c t)
+pub skim_takes : (st next : code.State) (o u m c : ℕ) (r : Reach) (sc : Scanned) (t : List ℕ) → scan_shown st o u r ≡ sc → found sc ≡ Need → o ≤ 8192 → m ≡ min (8192 - o) (length t) → c ≡ skimmed st (take m t) → shown next ≡ state_after st c → scan_shown next (o + c) (u + c) r ≡ fold turned sc (take c t)
 skim_takes st next o u m c r sc t is need low cut count to =
     let at = is_open st o u r sc is need in
     let same : c ≡ skimmed st (take (8192 - o) t) = count ∙ ap (λ (v : List ℕ). skimmed st v) (ap (λ (n : ℕ). take n t) cut ∙ take_min (8192 - o) t) in
     ap (scan_shown next (o + c) (u + c)) at.0
     ∙ ap (λ (s : State). Open s (o + c) (u + c)) to
-    ∙ ap (λ (d : ℕ). Open (behind st d) (o + d) (u + d)) same
+    ∙ ap (λ (d : ℕ). Open (state_after st d) (o + d) (u + d)) same
     ∙ sym (skims st o u (8192 - o) t (omega (arith, low)))
     ∙ ap (λ (d : ℕ). fold turned (Open (shown st) o u) (take d t)) (sym same)
     ∙ ap (λ (sc : Scanned). fold turned sc (take c t)) (sym at.1)

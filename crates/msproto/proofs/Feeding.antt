@@ -12,7 +12,7 @@ use Rattle.msproto.specs.Scanning.{Scanned, Open, Found, fresh, turned, found, r
 use Rattle.msproto.proofs.Scans.{reaches}
 use Rattle.msproto.proofs.Turning.{found_stays}
 
--- a scan's two parts, behind a text
+-- a scan's two parts, after a text
 pub fed_known : (scan : ScanView) (t : List ℕ) → (fold fed scan t).known ≡ fold turned scan.known t
 fed_known scan [] = refl
 fed_known scan (x ∷ t) = fed_known (fed scan x) t
@@ -48,12 +48,12 @@ stands_count pending scan text stands =
 
 -- ---- one step of a scan
 
--- what a scan takes, by what is known of it behind the octets and by their count
+-- what a scan takes, by what is known of it after the octets and by their count
 pub takes : (scan shown new : ScanView) (t : List ℕ) (count : ℕ) → shown ≡ scan → new.known ≡ fold turned scan.known t → new.looked ≡ shown.looked + count → length t ≡ count → new ≡ fold fed scan t
 takes scan shown new t count is known looked len =
     fed_is scan new t known (looked ∙ ap (λ (s : ScanView). s.looked + count) is ∙ ap (λ (n : ℕ). scan.looked + n) (sym len))
 
--- where nothing came first behind a text, nothing did in front of a part of it
+-- where nothing came first after a text, nothing did in front of a part of it
 need_back : (known : Scanned) (t : List ℕ) → found (fold turned known t) ≡ Need → found known ≡ Need
 need_back (Open line outside used) t e = refl
 need_back (Found reach) t e = sym (ap found (found_stays reach t)) ∙ e
@@ -69,7 +69,7 @@ needs_before scan new t n k by need le =
 
 -- ---- a piece in several steps
 
--- a step behind those so far
+-- a step after those so far
 pub fed_on : (scan mid new : ScanView) (t : List ℕ) (n m : ℕ) → mid ≡ fold fed scan (take n t) → new ≡ fold fed mid (take m (drop n t)) → new ≡ fold fed scan (take (n + m) t)
 fed_on scan mid new t n m one two =
     two ∙ ap (λ (s : ScanView). fold fed s (take m (drop n t))) one ∙ sym (fold-append fed scan (take n t) (take m (drop n t))) ∙ ap (fold fed scan) (sym (take-add n m t))
@@ -99,7 +99,7 @@ reached_some (Command count) some = refl
 reached_some (Bad count) some = refl
 reached_some TooBig some = refl
 
--- the octets up to which nothing came first, where that is all of them or something did behind them
+-- the octets up to which nothing came first, where that is all of them or something did after them
 pub fed_up_to : (scan : ScanView) (t : List ℕ) (n : ℕ) → n ≤ length t → NoneBefore scan t n → (reached (fold fed scan (take n t)) ≡ Need → n ≡ length t) → fold fed scan (take n t) ≡ fed_until scan t
 fed_up_to scan [] zero le before all = refl
 fed_up_to scan [] (suc n) le before all = absurd (omega (arith, le))
@@ -111,7 +111,7 @@ fed_up_to scan (x ∷ t) (suc n) le before all =
     fed_up_to (fed scan x) t n (omega (arith, le)) (λ k lt. before (suc k) (omega (arith, lt))) (λ need. omega (arith, all need))
     ∙ sym (ap (λ (b : Bool). cond b scan (fed_until (fed scan x) t)) none)
 
--- behind two pieces
+-- after two pieces
 pub fed_until-append : (scan : ScanView) (t u : List ℕ) → fed_until scan (t ++ u) ≡ fed_until (fed_until scan t) u
 fed_until-append scan [] u = refl
 fed_until-append scan (x ∷ t) u = go (is_reached (reached scan)) refl (fed_until-append (fed scan x) t u)

@@ -18,38 +18,38 @@ use Rattle.msproto.proofs.Outside.{literal_free, not_free, free_literal, after-p
 -- ---- what stands before a state
 
 -- a brace outside literals
-pub record BehindBrace (pending : Bool) (text : List ℕ) : Type 0 where
+pub record AfterBrace (pending : Bool) (text : List ℕ) : Type 0 where
   pub front : List ℕ
   pub outside : in_literal (run (start pending) front) ≡ false
   pub written : text ≡ front ++ 123 ∷ []
 
 -- such a brace, a number, and this
-pub record BehindNumber (pending : Bool) (number : ℕ) (tail text : List ℕ) : Type 0 where
+pub record AfterNumber (pending : Bool) (number : ℕ) (tail text : List ℕ) : Type 0 where
   pub front : List ℕ
   pub digits : List ℕ
   pub outside : in_literal (run (start pending) front) ≡ false
   pub numeral : IsNumeral number digits
   pub written : text ≡ front ++ 123 ∷ (digits ++ tail)
 
-abbrev pub IsBehind : Bool → List ℕ → State → Type 0
-IsBehind pending text (Word letters) = Unit {0}
-IsBehind pending text (Between params) = Unit {0}
-IsBehind pending text (Opening params) = Unit {0}
-IsBehind pending text (Quoted left params) = Unit {0}
-IsBehind pending text (Escaped left params) = Unit {0}
-IsBehind pending text (Brace params) = BehindBrace pending text
-IsBehind pending text (Count number params) = BehindNumber pending number [] text
-IsBehind pending text (Plus number params) = BehindNumber pending number (43 ∷ []) text
-IsBehind pending text (Closed number params) = BehindNumber pending number (43 ∷ 125 ∷ []) text
-IsBehind pending text (Return number params) = BehindNumber pending number (43 ∷ 125 ∷ 13 ∷ []) text
-IsBehind pending text (Body left params) = Unit {0}
-IsBehind pending text Number = Unit {0}
-IsBehind pending text (Digits number) = Unit {0}
-IsBehind pending text LineFeed = Unit {0}
-IsBehind pending text Whole = Unit {0}
-IsBehind pending text Dead = Unit {0}
+abbrev pub LeadsTo : Bool → List ℕ → State → Type 0
+LeadsTo pending text (Word letters) = Unit {0}
+LeadsTo pending text (Between params) = Unit {0}
+LeadsTo pending text (Opening params) = Unit {0}
+LeadsTo pending text (Quoted left params) = Unit {0}
+LeadsTo pending text (Escaped left params) = Unit {0}
+LeadsTo pending text (Brace params) = AfterBrace pending text
+LeadsTo pending text (Count number params) = AfterNumber pending number [] text
+LeadsTo pending text (Plus number params) = AfterNumber pending number (43 ∷ []) text
+LeadsTo pending text (Closed number params) = AfterNumber pending number (43 ∷ 125 ∷ []) text
+LeadsTo pending text (Return number params) = AfterNumber pending number (43 ∷ 125 ∷ 13 ∷ []) text
+LeadsTo pending text (Body left params) = Unit {0}
+LeadsTo pending text Number = Unit {0}
+LeadsTo pending text (Digits number) = Unit {0}
+LeadsTo pending text LineFeed = Unit {0}
+LeadsTo pending text Whole = Unit {0}
+LeadsTo pending text Dead = Unit {0}
 
-either : (pending : Bool) (t : List ℕ) (b : Bool) (s u : State) → (b ≡ true → IsBehind pending t s) → (b ≡ false → IsBehind pending t u) → IsBehind pending t (cond b s u)
+either : (pending : Bool) (t : List ℕ) (b : Bool) (s u : State) → (b ≡ true → LeadsTo pending t s) → (b ≡ false → LeadsTo pending t u) → LeadsTo pending t (cond b s u)
 either pending t true s u f g = f refl
 either pending t false s u f g = g refl
 
@@ -70,10 +70,10 @@ numeral_more n (d ∷ ds) x h some e =
 
 -- ---- the brace
 
-brace_stays : (pending : Bool) (b : List ℕ) (x : ℕ) → in_literal (run (start pending) b) ≡ false → (x == 123) ≡ true → BehindBrace pending (b ++ x ∷ [])
+brace_stays : (pending : Bool) (b : List ℕ) (x : ℕ) → in_literal (run (start pending) b) ≡ false → (x == 123) ≡ true → AfterBrace pending (b ++ x ∷ [])
 brace_stays pending b x out e = record { front = b; outside = out; written = ap (λ (z : ℕ). b ++ z ∷ []) (eqb-true x 123 e) }
 
-first_stays : (pending : Bool) (b : List ℕ) (x : ℕ) → BehindBrace pending b → is_ascii_digit x ≡ true → BehindNumber pending (with_digit 0 x) [] (b ++ x ∷ [])
+first_stays : (pending : Bool) (b : List ℕ) (x : ℕ) → AfterBrace pending b → is_ascii_digit x ≡ true → AfterNumber pending (with_digit 0 x) [] (b ++ x ∷ [])
 first_stays pending b x h e = record {
   front = h.front;
   digits = x ∷ [];
@@ -82,7 +82,7 @@ first_stays pending b x h e = record {
   written = ap (λ (u : List ℕ). u ++ x ∷ []) h.written ∙ append_assoc h.front (123 ∷ []) (x ∷ []);
 }
 
-digit_stays : (pending : Bool) (n : ℕ) (b : List ℕ) (x : ℕ) → BehindNumber pending n [] b → (n == 0) ≡ false → is_ascii_digit x ≡ true → BehindNumber pending (with_digit n x) [] (b ++ x ∷ [])
+digit_stays : (pending : Bool) (n : ℕ) (b : List ℕ) (x : ℕ) → AfterNumber pending n [] b → (n == 0) ≡ false → is_ascii_digit x ≡ true → AfterNumber pending (with_digit n x) [] (b ++ x ∷ [])
 digit_stays pending n b x h some e = record {
   front = h.front;
   digits = h.digits ++ x ∷ [];
@@ -91,7 +91,7 @@ digit_stays pending n b x h some e = record {
   written = ap (λ (u : List ℕ). u ++ x ∷ []) (h.written ∙ ap (λ (u : List ℕ). h.front ++ 123 ∷ u) (append-nil h.digits)) ∙ append_assoc h.front (123 ∷ h.digits) (x ∷ []) ∙ ap (λ (u : List ℕ). h.front ++ 123 ∷ u) (sym (append-nil (h.digits ++ x ∷ [])));
 }
 
-mark_stays : (pending : Bool) (n : ℕ) (tail b : List ℕ) (x y : ℕ) → BehindNumber pending n tail b → (x == y) ≡ true → BehindNumber pending n (tail ++ y ∷ []) (b ++ x ∷ [])
+mark_stays : (pending : Bool) (n : ℕ) (tail b : List ℕ) (x y : ℕ) → AfterNumber pending n tail b → (x == y) ≡ true → AfterNumber pending n (tail ++ y ∷ []) (b ++ x ∷ [])
 mark_stays pending n tail b x y h e = record {
   front = h.front;
   digits = h.digits;
@@ -102,75 +102,75 @@ mark_stays pending n tail b x y h e = record {
 
 -- ---- each step
 
-behind_leave : (pending : Bool) (t : List ℕ) (params : Params) (x : ℕ) → IsBehind pending t (leave params x)
-behind_leave pending t params x = either pending t (x == 32) (after_space params) _ (λ e. space params) (λ e. either pending t (x == 13) (after_return params) Dead (λ d. return params) (λ d. tt))
+after_leave : (pending : Bool) (t : List ℕ) (params : Params) (x : ℕ) → LeadsTo pending t (leave params x)
+after_leave pending t params x = either pending t (x == 32) (after_space params) _ (λ e. space params) (λ e. either pending t (x == 13) (after_return params) Dead (λ d. return params) (λ d. tt))
   where
-    space : (params : Params) → IsBehind pending t (after_space params)
+    space : (params : Params) → LeadsTo pending t (after_space params)
     space LineEnd = tt
     space MaybeText = tt
     space (ThenText more) = tt
     space ThenNumber = tt
 
-    return : (params : Params) → IsBehind pending t (after_return params)
+    return : (params : Params) → LeadsTo pending t (after_return params)
     return LineEnd = tt
     return MaybeText = tt
     return (ThenText more) = tt
     return ThenNumber = tt
 
-behind_named : (pending : Bool) (t : List ℕ) (o : Option Params) (x : ℕ) → IsBehind pending t (leave_named o x)
-behind_named pending t None x = tt
-behind_named pending t (Some params) x = behind_leave pending t params x
+after_named : (pending : Bool) (t : List ℕ) (o : Option Params) (x : ℕ) → LeadsTo pending t (leave_named o x)
+after_named pending t None x = tt
+after_named pending t (Some params) x = after_leave pending t params x
 
-behind_left : (pending : Bool) (t : List ℕ) (number : ℕ) (params : Params) → IsBehind pending t (literal_left number params)
-behind_left pending t number params = either pending t (number == 0) (Between params) (Body (number - 1) params) (λ e. tt) (λ e. tt)
+after_left : (pending : Bool) (t : List ℕ) (number : ℕ) (params : Params) → LeadsTo pending t (literal_left number params)
+after_left pending t number params = either pending t (number == 0) (Between params) (Body (number - 1) params) (λ e. tt) (λ e. tt)
 
-behind_longer : (pending : Bool) (t : List ℕ) (to : ℕ → State) (number x : ℕ) → ((number == 0) ≡ false → IsBehind pending t (to (with_digit number x))) → IsBehind pending t (longer to number x)
-behind_longer pending t to number x f =
+after_longer : (pending : Bool) (t : List ℕ) (to : ℕ → State) (number x : ℕ) → ((number == 0) ≡ false → LeadsTo pending t (to (with_digit number x))) → LeadsTo pending t (longer to number x)
+after_longer pending t to number x f =
     either pending t (number == 0) Dead _ (λ e. tt)
     (λ e. either pending t (nat_lt (with_digit number x) (2 ^ 32)) (to (with_digit number x)) Dead (λ lt. f e) (λ lt. tt))
 
-behind_step : (pending : Bool) (b : List ℕ) (s : State) (x : ℕ) → run (start pending) b ≡ s → IsBehind pending b s → IsBehind pending (b ++ x ∷ []) (step s x)
-behind_step pending b (Word p) x at h = either pending _ (begins_row rows (p ++ to_ascii_uppercase x ∷ [])) (Word (p ++ to_ascii_uppercase x ∷ [])) _ (λ e. tt) (λ e. behind_named pending _ (params_in rows p) x)
-behind_step pending b (Between params) x at h = behind_leave pending _ params x
-behind_step pending b (Opening params) x at h =
+after_step : (pending : Bool) (b : List ℕ) (s : State) (x : ℕ) → run (start pending) b ≡ s → LeadsTo pending b s → LeadsTo pending (b ++ x ∷ []) (step s x)
+after_step pending b (Word p) x at h = either pending _ (begins_row rows (p ++ to_ascii_uppercase x ∷ [])) (Word (p ++ to_ascii_uppercase x ∷ [])) _ (λ e. tt) (λ e. after_named pending _ (params_in rows p) x)
+after_step pending b (Between params) x at h = after_leave pending _ params x
+after_step pending b (Opening params) x at h =
     either pending _ (x == 34) (Quoted 1024 params) _ (λ e. tt)
     (λ e. either pending _ (x == 123) (Brace params) Dead (λ d. brace_stays pending b x (ap in_literal at) d) (λ d. tt))
-behind_step pending b (Quoted left params) x at h =
+after_step pending b (Quoted left params) x at h =
     either pending _ (x == 34) (Between params) _ (λ e. tt)
     (λ e. either pending _ (x == 92) (cond (nat_lt 1 left) (Escaped (left - 2) params) Dead) _
     (λ d. either pending _ (nat_lt 1 left) (Escaped (left - 2) params) Dead (λ c. tt) (λ c. tt))
     (λ d. either pending _ (is_quotable x && nat_lt 0 left) (Quoted (left - 1) params) Dead (λ c. tt) (λ c. tt)))
-behind_step pending b (Escaped left params) x at h = either pending _ (x == 34 || x == 92) (Quoted left params) Dead (λ e. tt) (λ e. tt)
-behind_step pending b (Brace params) x at h = either pending _ (is_ascii_digit x) (Count (with_digit 0 x) params) Dead (λ e. first_stays pending b x h e) (λ e. tt)
-behind_step pending b (Count number params) x at h =
+after_step pending b (Escaped left params) x at h = either pending _ (x == 34 || x == 92) (Quoted left params) Dead (λ e. tt) (λ e. tt)
+after_step pending b (Brace params) x at h = either pending _ (is_ascii_digit x) (Count (with_digit 0 x) params) Dead (λ e. first_stays pending b x h e) (λ e. tt)
+after_step pending b (Count number params) x at h =
     either pending _ (x == 43) (Plus number params) _ (λ e. mark_stays pending number [] b x 43 h e)
     (λ e. either pending _ (is_ascii_digit x) (longer (λ n. Count n params) number x) Dead
-    (λ d. behind_longer pending _ (λ n. Count n params) number x (λ some. digit_stays pending number b x h some d)) (λ d. tt))
-behind_step pending b (Plus number params) x at h = either pending _ (x == 125) (Closed number params) Dead (λ e. mark_stays pending number (43 ∷ []) b x 125 h e) (λ e. tt)
-behind_step pending b (Closed number params) x at h = either pending _ (x == 13) (Return number params) Dead (λ e. mark_stays pending number (43 ∷ 125 ∷ []) b x 13 h e) (λ e. tt)
-behind_step pending b (Return number params) x at h = either pending _ (x == 10) (literal_left number params) Dead (λ e. behind_left pending _ number params) (λ e. tt)
-behind_step pending b (Body left params) x at h = behind_left pending _ left params
-behind_step pending b Number x at h = either pending _ (is_ascii_digit x) (Digits (with_digit 0 x)) Dead (λ e. tt) (λ e. tt)
-behind_step pending b (Digits number) x at h =
+    (λ d. after_longer pending _ (λ n. Count n params) number x (λ some. digit_stays pending number b x h some d)) (λ d. tt))
+after_step pending b (Plus number params) x at h = either pending _ (x == 125) (Closed number params) Dead (λ e. mark_stays pending number (43 ∷ []) b x 125 h e) (λ e. tt)
+after_step pending b (Closed number params) x at h = either pending _ (x == 13) (Return number params) Dead (λ e. mark_stays pending number (43 ∷ 125 ∷ []) b x 13 h e) (λ e. tt)
+after_step pending b (Return number params) x at h = either pending _ (x == 10) (literal_left number params) Dead (λ e. after_left pending _ number params) (λ e. tt)
+after_step pending b (Body left params) x at h = after_left pending _ left params
+after_step pending b Number x at h = either pending _ (is_ascii_digit x) (Digits (with_digit 0 x)) Dead (λ e. tt) (λ e. tt)
+after_step pending b (Digits number) x at h =
     either pending _ (x == 13) LineFeed _ (λ e. tt)
-    (λ e. either pending _ (is_ascii_digit x) (longer (λ n. Digits n) number x) Dead (λ d. behind_longer pending _ (λ n. Digits n) number x (λ some. tt)) (λ d. tt))
-behind_step pending b LineFeed x at h = either pending _ (x == 10) Whole Dead (λ e. tt) (λ e. tt)
-behind_step pending b Whole x at h = tt
-behind_step pending b Dead x at h = tt
+    (λ e. either pending _ (is_ascii_digit x) (longer (λ n. Digits n) number x) Dead (λ d. after_longer pending _ (λ n. Digits n) number x (λ some. tt)) (λ d. tt))
+after_step pending b LineFeed x at h = either pending _ (x == 10) Whole Dead (λ e. tt) (λ e. tt)
+after_step pending b Whole x at h = tt
+after_step pending b Dead x at h = tt
 
-behind_from : (pending : Bool) (b t : List ℕ) → IsBehind pending b (run (start pending) b) → IsBehind pending (b ++ t) (run (start pending) (b ++ t))
-behind_from pending b [] h = subst (λ (u : List ℕ). IsBehind pending u (run (start pending) u)) (sym (append-nil b)) h
-behind_from pending b (x ∷ t) h =
-    let once : IsBehind pending (b ++ x ∷ []) (run (start pending) (b ++ x ∷ [])) =
-    subst (λ (s : State). IsBehind pending (b ++ x ∷ []) s) (sym (after-push pending b x)) (behind_step pending b (run (start pending) b) x refl h) in
-    subst (λ (u : List ℕ). IsBehind pending u (run (start pending) u)) (append_assoc b (x ∷ []) t) (behind_from pending (b ++ x ∷ []) t once)
+after_from : (pending : Bool) (b t : List ℕ) → LeadsTo pending b (run (start pending) b) → LeadsTo pending (b ++ t) (run (start pending) (b ++ t))
+after_from pending b [] h = subst (λ (u : List ℕ). LeadsTo pending u (run (start pending) u)) (sym (append-nil b)) h
+after_from pending b (x ∷ t) h =
+    let once : LeadsTo pending (b ++ x ∷ []) (run (start pending) (b ++ x ∷ [])) =
+    subst (λ (s : State). LeadsTo pending (b ++ x ∷ []) s) (sym (after-push pending b x)) (after_step pending b (run (start pending) b) x refl h) in
+    subst (λ (u : List ℕ). LeadsTo pending u (run (start pending) u)) (append_assoc b (x ∷ []) t) (after_from pending (b ++ x ∷ []) t once)
 
-behind_start : (pending : Bool) → IsBehind pending [] (start pending)
-behind_start false = tt
-behind_start true = tt
+after_start : (pending : Bool) → LeadsTo pending [] (start pending)
+after_start false = tt
+after_start true = tt
 
-pub behind : (pending : Bool) (b : List ℕ) → IsBehind pending b (run (start pending) b)
-behind pending b = behind_from pending [] b (behind_start pending)
+pub leads_to : (pending : Bool) (b : List ℕ) → LeadsTo pending b (run (start pending) b)
+leads_to pending b = after_from pending [] b (after_start pending)
 
 -- ---- a large head
 
@@ -189,11 +189,11 @@ large_body n params x e lt = rw e (left_body n params lt)
 return_fits : (pending : Bool) (b : List ℕ) (n : ℕ) (params : Params) → run (start pending) b ≡ Return n params → n < 2 ^ 32
 return_fits pending b n params at = subst IsProper at (proper_run (start pending) b (proper_start pending))
 
--- where the machine stands behind a large head, the text ends in one
+-- where the machine stands after a large head, the text ends in one
 pub large_head : (pending : Bool) (b : List ℕ) (x : ℕ) → is_large (run (start pending) b) ≡ true → x ≡ 10 → EndsInLargeHead pending (b ++ x ∷ [])
 large_head pending b x large feed =
     let found = large_is (run (start pending) b) large in
-    let h : BehindNumber pending found.0 (43 ∷ 125 ∷ 13 ∷ []) b = subst (λ (s : State). IsBehind pending b s) found.2 (behind pending b) in
+    let h : AfterNumber pending found.0 (43 ∷ 125 ∷ 13 ∷ []) b = subst (λ (s : State). LeadsTo pending b s) found.2 (leads_to pending b) in
     let inside : in_literal (run (start pending) (b ++ x ∷ [])) ≡ true =
     ap in_literal (after-push pending b x ∙ ap (λ (s : State). step s x) found.2) ∙ large_body found.0 found.1 x feed (omega (arith, found.3)) in
     record {
@@ -264,7 +264,7 @@ brace_opens (Word p) ds n out numeral lt inside =
     absurd (false≢true (sym (ap in_literal (ap (λ (u : State). run u (ds ++ 43 ∷ 125 ∷ 13 ∷ 10 ∷ [])) dead ∙ run_dead (ds ++ 43 ∷ 125 ∷ 13 ∷ 10 ∷ []))) ∙ inside))
 brace_opens _ ds n out numeral lt inside = absurd (false≢true (sym (ap in_literal (run_dead (ds ++ 43 ∷ 125 ∷ 13 ∷ 10 ∷ []))) ∙ inside))
 
--- where a text ends in a large head, the machine stands behind one
+-- where a text ends in a large head, the machine stands after one
 pub head_large : (pending : Bool) (b : List ℕ) (x : ℕ) → EndsInLargeHead pending (b ++ x ∷ []) → (is_large (run (start pending) b) ≡ true) × (x ≡ 10)
 head_large pending b x h =
     let all : b ++ x ∷ [] ≡ (h.front ++ 123 ∷ (h.digits ++ 43 ∷ 125 ∷ 13 ∷ [])) ++ 10 ∷ [] =

@@ -1,4 +1,4 @@
--- What follows a state behind an octet follows the state before it, behind that octet.
+-- What follows a state after an octet follows the state before it, after that octet.
 use Rattle.std.proofs.Common.{◌≡◌, ℕ, suc, ◌-◌, ◌<◌, ◌^◌, inl, inr, Bool, true, false, ◌||◌, ◌&&◌, ◌==◌, cond, leb, List, [], ◌∷◌, ◌++◌, Option, Some, None, refl, sym, ap, ◌∙◌, arith, append_assoc}
 use Rattle.std.specs.Prelude.{map, fold, nat_lt}
 use Rattle.std.specs.Char.{to_ascii_uppercase, is_ascii_digit}

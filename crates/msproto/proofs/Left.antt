@@ -6,7 +6,7 @@ use Rattle.octets.specs.Decimal.{with_digit}
 use Rattle.msproto.specs.Arguments.{inside, AreQuotable, AreDigits, IsNumeral, IsString}
 use Rattle.msproto.specs.Machine.{Params, LineEnd, MaybeText, ThenText, ThenNumber, rows, begins_row, params_in, State, Word, Between, Opening, Quoted, Escaped, Brace, Count, Plus, Closed, Return, Body, Number, Digits, LineFeed, Whole, Dead}
 
--- behind a name or an argument
+-- after a name or an argument
 abbrev pub IsAfter : Params → List ℕ → Type 0
 IsAfter LineEnd text = text ≡ 13 ∷ 10 ∷ []
 IsAfter MaybeText text = (text ≡ 13 ∷ 10 ∷ []) ⊎ ((value : List ℕ) × (first : List ℕ) × (rest : List ℕ) × IsString value first × (rest ≡ 13 ∷ 10 ∷ []) × (text ≡ 32 ∷ (first ++ rest)))
@@ -40,7 +40,7 @@ pub record InQuotes (left : ℕ) (params : Params) (text : List ℕ) : Type 0 wh
   pub after : IsAfter params rest
   pub written : text ≡ inside value ++ 34 ∷ rest
 
--- behind a backslash
+-- after a backslash
 pub record InEscape (left : ℕ) (params : Params) (text : List ℕ) : Type 0 where
   pub octet : ℕ
   pub rest : List ℕ
@@ -48,7 +48,7 @@ pub record InEscape (left : ℕ) (params : Params) (text : List ℕ) : Type 0 wh
   pub within : InQuotes left params rest
   pub written : text ≡ octet ∷ rest
 
--- behind a literal's brace
+-- after a literal's brace
 pub record AtCount (params : Params) (text : List ℕ) : Type 0 where
   pub digits : List ℕ
   pub value : List ℕ
@@ -70,7 +70,7 @@ pub record InCount (number : ℕ) (params : Params) (text : List ℕ) : Type 0 w
   pub after : IsAfter params rest
   pub written : text ≡ digits ++ 43 ∷ 125 ∷ 13 ∷ 10 ∷ (value ++ rest)
 
--- before so many octets of a literal, with this in front of them
+-- before that many octets of a literal, with this in front of them
 pub record InLiteral (front : List ℕ) (left : ℕ) (params : Params) (text : List ℕ) : Type 0 where
   pub value : List ℕ
   pub rest : List ℕ

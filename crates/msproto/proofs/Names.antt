@@ -1,4 +1,4 @@
--- The names of the commands, and what stands behind them.
+-- The names of the commands, and what stands after them.
 use Rattle.std.proofs.Common.{◌≡◌, ℕ, ◌⊎◌, inl, inr, Bool, true, false, not, ◌&&◌, ◌==◌, cond, List, [], ◌∷◌, ◌++◌, Option, Some, None, refl, sym, ap, ◌∙◌, subst, append_assoc}
 use Rattle.std.specs.Prelude.{map, codes}
 use Rattle.std.specs.Char.{to_ascii_uppercase}

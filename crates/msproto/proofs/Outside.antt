@@ -59,7 +59,7 @@ free_literal pending text free =
 
 -- ---- counts
 
--- what stands outside literals, behind a state
+-- what stands outside literals, after a state
 unfoldable pub outside_from : State → List ℕ → ℕ
 outside_from s [] = 0
 outside_from s (x ∷ t) = weight s + outside_from (step s x) t

@@ -58,7 +58,7 @@ text_back v first rest t s e = ap text_in e ∙ string_back v first rest s
 
 -- ---- arguments
 
--- what stands behind a command's name gives the command
+-- what stands after a command's name gives the command
 abbrev IsRead : Form → Command → List ℕ → Type 0
 IsRead (Named word arguments) command rest = AreArguments arguments rest → verb_command (verb_in verbs word) rest ≡ Some command
 IsRead (Alone value) command rest = Unit {0}

@@ -1,4 +1,4 @@
--- What is known behind a text is right for it.
+-- What is known after a text is right for it.
 use Rattle.std.proofs.Common.{◌≡◌, ◌≢◌, ℕ, ◌+◌, ◌≤◌, inl, inr, Bool, true, false, ◌||◌, ◌&&◌, ◌==◌, cond, List, [], ◌∷◌, ◌++◌, length, take, refl, sym, ap, ◌∙◌, subst, arith, append_assoc}
 use Rattle.std.specs.Prelude.{nat_lt, fold}
 use Rattle.std.proofs.lemmas.Bool.{cases_Bool, cases_lt, eqb-true, eq-eqb, ltb-true, ltb-false, lt-ltb, or_cases, or_parts, and_parts, and_from, false≢true, both_ways}
@@ -129,9 +129,9 @@ pub record Stands (pending : Bool) (state : State) (outside used : ℕ) (text : 
   pub none : NoItem pending (length text + 1) text
   pub open_line : state ≡ Dead → IsOpenLine pending text
 
-abbrev pub Holds : Bool → Scanned → List ℕ → Type 0
-Holds pending (Open state outside used) text = Stands pending state outside used text
-Holds pending (Found reach) text = Reaches pending reach text × (reach ≡ Need → ⊥)
+abbrev pub Represents : Bool → Scanned → List ℕ → Type 0
+Represents pending (Open state outside used) text = Stands pending state outside used text
+Represents pending (Found reach) text = Reaches pending reach text × (reach ≡ Need → ⊥)
 
 -- ---- nothing more is looked at
 
@@ -255,11 +255,11 @@ module _ (pending : Bool) (s : State) (n k : ℕ) (b : List ℕ) (x : ℕ) (h : 
       no_item (inr (inl l)) = no_line line l
       no_item (inr (inr t)) = not_big big t
 
-pick : (pending : Bool) (t : List ℕ) (b : Bool) (u v : Scanned) → (b ≡ true → Holds pending u t) → (b ≡ false → Holds pending v t) → Holds pending (cond b u v) t
+pick : (pending : Bool) (t : List ℕ) (b : Bool) (u v : Scanned) → (b ≡ true → Represents pending u t) → (b ≡ false → Represents pending v t) → Represents pending (cond b u v) t
 pick pending t true u v f g = f refl
 pick pending t false u v f g = g refl
 
-pub turned_holds : (pending : Bool) (sc : Scanned) (b : List ℕ) (x : ℕ) → Holds pending sc b → Holds pending (turned sc x) (b ++ x ∷ [])
+pub turned_holds : (pending : Bool) (sc : Scanned) (b : List ℕ) (x : ℕ) → Represents pending sc b → Represents pending (turned sc x) (b ++ x ∷ [])
 turned_holds pending (Open s n k) b x h =
     pick pending (b ++ x ∷ []) (nat_lt 8192 (n + weight s) || (is_large s && x == 10)) (Found TooBig) _
     (λ e. ((length b + 1, omega (arith, length_push b x), before pending s n k b x h, rw (whole_text b x) (too_big pending s n k b x h e)), (λ i. cc)))
@@ -290,7 +290,7 @@ no_item_empty pending (inr (inr (inl g))) = no_nil g.front g.written
     no_nil (w ∷ f) e = cc
 no_item_empty pending (inr (inr (inr g))) = omega (arith, g.1, g.2)
 
-pub fresh_holds : (pending : Bool) → Holds pending (fresh pending) []
+pub fresh_holds : (pending : Bool) → Represents pending (fresh pending) []
 fresh_holds pending = record {
   state_is = refl;
   outside_is = sym (outside_from_nothing (start pending));
@@ -306,15 +306,15 @@ fresh_holds pending = record {
 
 -- ---- all texts
 
-holds_from : (pending : Bool) (sc : Scanned) (b t : List ℕ) → Holds pending sc b → Holds pending (fold turned sc t) (b ++ t)
+holds_from : (pending : Bool) (sc : Scanned) (b t : List ℕ) → Represents pending sc b → Represents pending (fold turned sc t) (b ++ t)
 holds_from pending sc b [] h = rw (append-nil b) h
 holds_from pending sc b (x ∷ t) h =
-    subst (λ (u : List ℕ). Holds pending (fold turned (turned sc x) t) u) (append_assoc b (x ∷ []) t) (holds_from pending (turned sc x) (b ++ x ∷ []) t (turned_holds pending sc b x h))
+    subst (λ (u : List ℕ). Represents pending (fold turned (turned sc x) t) u) (append_assoc b (x ∷ []) t) (holds_from pending (turned sc x) (b ++ x ∷ []) t (turned_holds pending sc b x h))
 
-pub scanned_holds : (pending : Bool) (text : List ℕ) → Holds pending (scanned pending text) text
+pub scanned_holds : (pending : Bool) (text : List ℕ) → Represents pending (scanned pending text) text
 scanned_holds pending text = holds_from pending (fresh pending) [] text (fresh_holds pending)
 
-found_reaches : (pending : Bool) (sc : Scanned) (text : List ℕ) → Holds pending sc text → Reaches pending (found sc) text
+found_reaches : (pending : Bool) (sc : Scanned) (text : List ℕ) → Represents pending sc text → Reaches pending (found sc) text
 found_reaches pending (Open s n k) text h = h.none
 found_reaches pending (Found r) text h = h.0
 

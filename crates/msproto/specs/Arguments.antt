@@ -24,7 +24,7 @@ AreQuotable [] = Unit {0}
 AreQuotable (octet ∷ rest) = (is_quotable octet ≡ true) × AreQuotable rest
 
 -- the text between quotation marks, which have at most 1,024 octets between them
-pub record IsQuoted (value text : List ℕ) : Type 0 where
+pub record IsQuotedArgument (value text : List ℕ) : Type 0 where
   pub written : text ≡ 34 ∷ (inside value ++ 34 ∷ [])
   pub allowed : AreQuotable value
   pub short : length (inside value) ≤ 1024
@@ -53,11 +53,11 @@ pub record IsLiteral (value text : List ℕ) : Type 0 where
 
 -- a string, quoted or as a literal
 abbrev pub IsString : List ℕ → List ℕ → Type 0
-IsString value text = IsQuoted value text ⊎ IsLiteral value text
+IsString value text = IsQuotedArgument value text ⊎ IsLiteral value text
 
 -- ---- command lines
 
--- what stands behind a command's name
+-- what stands after a command's name
 pub data Argument : Type 0 where
   Text : List ℕ → Argument
   Figure : ℕ → Argument

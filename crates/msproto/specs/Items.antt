@@ -27,11 +27,11 @@ pub record IsBadLine (pending : Bool) (text : List ℕ) : Type 0 where
 
 -- ---- too big
 
--- the octet behind the text stands inside a literal: any octet may stand there. In names, numbers and quoted strings some may not, NUL for one
+-- the octet after the text stands inside a literal: any octet may stand there. In names, numbers and quoted strings some may not, NUL for one
 abbrev pub IsInLiteral : Bool → List ℕ → Type 0
 IsInLiteral pending text = (octet : ℕ) → IsViable pending (text ++ octet ∷ [])
 
--- so many octets of the rest, which stands behind the front, are outside literals
+-- that many octets of the rest, which stands after the front, are outside literals
 abbrev pub Counts : Bool → List ℕ → List ℕ → ℕ → Type 0
 Counts pending front [] number = number ≡ 0
 Counts pending front (octet ∷ rest) number =
@@ -64,7 +64,7 @@ IsTooBig pending text = EndsInLargeHead pending text ⊎ IsLong pending text
 abbrev pub IsItem : Bool → List ℕ → Type 0
 IsItem pending text = IsCommand pending text ⊎ (IsBadLine pending text ⊎ IsTooBig pending text)
 
--- no front of the stream shorter than so many octets is one of the three
+-- no front of the stream shorter than that many octets is one of the three
 abbrev pub NoItem : Bool → ℕ → List ℕ → Type 0
 NoItem pending count stream = (k : ℕ) → k < count → IsItem pending (take k stream) → ⊥
 

@@ -54,7 +54,7 @@ word_of verb.RenameScript = codes "RENAMESCRIPT"
 word_of verb.SetActive = codes "SETACTIVE"
 word_of verb.Unauthenticate = codes "UNAUTHENTICATE"
 
--- what may stand behind each
+-- what may stand after each
 abbrev pub params_of : Verb → Params
 params_of verb.Authenticate = ThenText MaybeText
 params_of verb.Capability = LineEnd
@@ -75,7 +75,7 @@ abbrev pub verbs : List Verb
 verbs = verb.Authenticate ∷ verb.Capability ∷ verb.CheckScript ∷ verb.DeleteScript ∷ verb.GetScript ∷ verb.HaveSpace ∷ verb.ListScripts
     ∷ verb.Logout ∷ verb.Noop ∷ verb.PutScript ∷ verb.RenameScript ∷ verb.SetActive ∷ verb.Unauthenticate ∷ []
 
--- names, and what may stand behind each
+-- names, and what may stand after each
 abbrev pub rows_of : List Verb → List (List ℕ × Params)
 rows_of [] = []
 rows_of (verb ∷ more) = (word_of verb, params_of verb) ∷ rows_of more
@@ -101,7 +101,7 @@ same_word [] (other ∷ word) = false
 same_word (letter ∷ letters) [] = false
 same_word (letter ∷ letters) (other ∷ word) = letter == other && same_word letters word
 
--- what may stand behind the name
+-- what may stand after the name
 abbrev pub params_in : List (List ℕ × Params) → List ℕ → Option Params
 params_in [] word = None
 params_in (row ∷ more) word = cond (same_word row.0 word) (Some row.1) (params_in more word)
@@ -116,50 +116,50 @@ verb_in (verb ∷ more) word = cond (same_word (word_of verb) word) (Some verb) 
 pub data State : Type 0 where
   -- in a name, these letters of it read, in upper case
   Word : List ℕ → State
-  -- behind a name or an argument
+  -- after a name or an argument
   Between : Params → State
   -- where a string begins
   Opening : Params → State
-  -- between quotation marks, where so many octets more may come
+  -- between quotation marks, where that many octets more may come
   Quoted : ℕ → Params → State
-  -- behind a backslash
+  -- after a backslash
   Escaped : ℕ → Params → State
-  -- behind the brace of a literal
+  -- after the brace of a literal
   Brace : Params → State
-  -- in its number, behind the plus, behind the closing brace, behind the CR
+  -- in its number, after the plus, after the closing brace, after the CR
   Count : ℕ → Params → State
   Plus : ℕ → Params → State
   Closed : ℕ → Params → State
   Return : ℕ → Params → State
-  -- inside a literal, of which one octet and so many more are to come
+  -- inside a literal, of which one octet and that many more are to come
   Body : ℕ → Params → State
   -- where a number begins, and in a number
   Number : State
   Digits : ℕ → State
-  -- behind the line's CR, behind its LF, and where no command goes on
+  -- after the line's CR, after its LF, and where no command goes on
   LineFeed : State
   Whole : State
   Dead : State
 
--- behind a space
+-- after a space
 abbrev pub after_space : Params → State
 after_space LineEnd = Dead
 after_space MaybeText = Opening LineEnd
 after_space (ThenText more) = Opening more
 after_space ThenNumber = Number
 
--- behind a CR that ends a line
+-- after a CR that ends a line
 abbrev pub after_return : Params → State
 after_return LineEnd = LineFeed
 after_return MaybeText = LineFeed
 after_return (ThenText more) = Dead
 after_return ThenNumber = Dead
 
--- behind a name or an argument and one octet
+-- after a name or an argument and one octet
 abbrev pub leave : Params → ℕ → State
 leave params octet = cond (octet == 32) (after_space params) (cond (octet == 13) (after_return params) Dead)
 
--- behind a name, if it is one
+-- after a name, if it is one
 abbrev pub leave_named : Option Params → ℕ → State
 leave_named None octet = Dead
 leave_named (Some params) octet = leave params octet
@@ -169,11 +169,11 @@ abbrev pub longer : (ℕ → State) → ℕ → ℕ → State
 longer to number octet =
     cond (number == 0) Dead (cond (nat_lt (with_digit number octet) (2 ^ 32)) (to (with_digit number octet)) Dead)
 
--- where so many octets of a literal are to come
+-- where that many octets of a literal are to come
 abbrev pub literal_left : ℕ → Params → State
 literal_left left params = cond (left == 0) (Between params) (Body (left - 1) params)
 
--- the state behind one octet more
+-- the state after one octet more
 abbrev pub step : State → ℕ → State
 step (Word letters) octet =
     cond (begins_row rows (letters ++ to_ascii_uppercase octet ∷ [])) (Word (letters ++ to_ascii_uppercase octet ∷ []))
@@ -200,7 +200,7 @@ step LineFeed octet = cond (octet == 10) Whole Dead
 step Whole octet = Dead
 step Dead octet = Dead
 
--- the state behind a text
+-- the state after a text
 abbrev pub run : State → List ℕ → State
 run state [] = state
 run state (octet ∷ rest) = run (step state octet) rest

@@ -16,7 +16,7 @@ abbrev pub all_quotable : List ℕ → Bool
 all_quotable [] = true
 all_quotable (octet ∷ rest) = is_quotable octet && all_quotable rest
 
--- the text fits between quotation marks, which have so many octets between them already
+-- the text fits between quotation marks, which have that many octets between them already
 abbrev pub fits_quotes : ℕ → List ℕ → Bool
 fits_quotes count text = all_quotable text && nat_le (count + length (inside text)) 1024
 
@@ -38,7 +38,7 @@ abbrev pub after_space : Option (List ℕ) → List ℕ
 after_space None = []
 after_space (Some text) = 32 ∷ string_spelled text
 
--- a mark behind the active script's name
+-- a mark after the active script's name
 abbrev pub active_spelled : Bool → List ℕ
 active_spelled false = []
 active_spelled true = codes " ACTIVE"
@@ -81,7 +81,7 @@ spelled reply = lines_spelled reply.lines ++ last_spelled reply.word reply.code 
 
 -- ---- what an error leaves
 
--- the new text is the old one with more behind it
+-- the new text is the old one with more after it
 pub record Extends (old new : List ℕ) : Type 0 where
   pub more : List ℕ
   pub written : new ≡ old ++ more

@@ -4,12 +4,12 @@ use Rattle.msproto.specs.Machine.{State, start, step, weight, is_large, is_whole
 use Rattle.msproto.specs.declared.items.Reach.{Reach}
 use Rattle.msproto.specs.declared.items.Reach.TheVariants.{Need, Command, Bad, TooBig}
 
--- what is known of the octets so far: the state behind them, how many of them stand outside literals and how many there are; or what came first
+-- what is known of the octets so far: the state after them, how many of them stand outside literals and how many there are; or what came first
 pub data Scanned : Type 0 where
   Open : State → ℕ → ℕ → Scanned
   Found : Reach → Scanned
 
--- the same behind one octet more
+-- the same after one octet more
 abbrev pub turned : Scanned → ℕ → Scanned
 turned (Open state outside used) octet =
     cond (nat_lt 8192 (outside + weight state) || (is_large state && octet == 10)) (Found TooBig)
@@ -22,7 +22,7 @@ turned (Found reach) octet = Found reach
 abbrev pub fresh : Bool → Scanned
 fresh pending = Open (start pending) 0 0
 
--- behind a text
+-- after a text
 abbrev pub scanned : Bool → List ℕ → Scanned
 scanned pending text = fold turned (fresh pending) text
 
@@ -51,7 +51,7 @@ pub record ScanView : Type 0 where
 abbrev pub new_scan : Bool → ScanView
 new_scan pending = record { known = fresh pending; looked = 0 }
 
--- behind one octet more
+-- after one octet more
 abbrev pub fed : ScanView → ℕ → ScanView
 fed scan octet = record { known = turned scan.known octet; looked = scan.looked + 1 }
 
@@ -64,7 +64,7 @@ abbrev pub is_reached : Reach → Bool
 is_reached Need = false
 is_reached _ = true
 
--- behind the octets of a piece, which are taken as long as nothing came first
+-- after the octets of a piece, which are taken as long as nothing came first
 abbrev pub fed_until : ScanView → List ℕ → ScanView
 fed_until scan [] = scan
 fed_until scan (octet ∷ rest) = cond (is_reached (reached scan)) scan (fed_until (fed scan octet) rest)

@@ -87,11 +87,11 @@ skimmed (state.Quoted left params) octets = prefix_len is_plain (take left octet
 skimmed state.Dead octets = prefix_len is_inner octets
 skimmed _ octets = zero
 
--- the state behind so many of these
-abbrev pub behind : State → ℕ → machine.State
-behind (state.Word verb count) more = machine.Word (take (letters_read verb count + more) (machine.word_of verb))
-behind (state.Quoted left params) more = machine.Quoted (left - more) (params_shown params)
-behind state more = shown state
+-- the state after that many of these
+abbrev pub state_after : State → ℕ → machine.State
+state_after (state.Word verb count) more = machine.Word (take (letters_read verb count + more) (machine.word_of verb))
+state_after (state.Quoted left params) more = machine.Quoted (left - more) (params_shown params)
+state_after state more = shown state
 
 -- ---- a scan
 

@@ -13,7 +13,7 @@ use Rattle.msproto.specs.declared.items.Reach.TheVariants as reach
 use Rattle.msproto.specs.Machine.{verbs, verb_in}
 use Rattle.msproto.specs.Scanning.{reach_of}
 
--- what was read, and what stands behind it
+-- what was read, and what stands after it
 abbrev pub Read : Type 0
 Read = Option (List ℕ × List ℕ)
 
@@ -24,24 +24,24 @@ abbrev pub with_octet : ℕ → Read → Read
 with_octet octet None = None
 with_octet octet (Some read) = Some (octet ∷ read.0, read.1)
 
--- a quoted string behind its first mark, or behind a backslash in it
+-- a quoted string after its first mark, or after a backslash in it
 abbrev pub quoted_in : Bool → List ℕ → Read
 quoted_in escape [] = None
 quoted_in true (octet ∷ rest) = with_octet octet (quoted_in false rest)
 quoted_in false (octet ∷ rest) =
     cond (octet == 34) (Some ([], rest)) (cond (octet == 92) (quoted_in true rest) (with_octet octet (quoted_in false rest)))
 
--- a number behind some of its digits
+-- a number after some of its digits
 abbrev pub number_in : ℕ → List ℕ → ℕ × List ℕ
 number_in number [] = (number, [])
 number_in number (octet ∷ rest) =
     cond (is_ascii_digit octet && nat_lt (with_digit number octet) (2 ^ 32)) (number_in (with_digit number octet) rest) (number, octet ∷ rest)
 
--- so many octets
+-- that many octets
 abbrev pub octets_in : ℕ → List ℕ → Read
 octets_in count text = cond (nat_le count (length text)) (Some (take count text, drop count text)) None
 
--- a literal behind its brace; four octets stand between its number and its text
+-- a literal after its brace; four octets stand between its number and its text
 abbrev pub literal_in : ℕ × List ℕ → Read
 literal_in number = octets_in number.0 (drop 4 number.1)
 
@@ -50,7 +50,7 @@ abbrev pub string_in : List ℕ → Read
 string_in [] = None
 string_in (mark ∷ rest) = cond (mark == 34) (quoted_in false rest) (literal_in (number_in 0 rest))
 
--- a string behind a space
+-- a string after a space
 abbrev pub text_in : List ℕ → Read
 text_in [] = None
 text_in (octet ∷ rest) = cond (octet == 32) (string_in rest) None
@@ -81,7 +81,7 @@ abbrev pub authenticate_of : Read → Option Command
 authenticate_of None = None
 authenticate_of (Some read) = Some (Authenticate read.0 (read_text (text_in read.1)))
 
--- a number behind a space
+-- a number after a space
 abbrev pub size_in : List ℕ → ℕ
 size_in [] = 0
 size_in (octet ∷ digits) = (number_in 0 digits).0
@@ -90,7 +90,7 @@ abbrev pub have_space_of : Read → Option Command
 have_space_of None = None
 have_space_of (Some read) = Some (HaveSpace read.0 (size_in read.1))
 
--- the command of a verb and what stands behind it
+-- the command of a verb and what stands after it
 abbrev pub command_of : Verb → List ℕ → Option Command
 command_of verb.Authenticate rest = authenticate_of (text_in rest)
 command_of verb.Capability rest = Some Capability

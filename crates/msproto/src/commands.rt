@@ -21,7 +21,7 @@ pub enum Command {
     },
     /// Leaves the login (section 2.14).
     Unauthenticate,
-    /// Asks whether a script of so many octets would be taken (section 2.5).
+    /// Asks whether a script of that many octets would be taken (section 2.5).
     HaveSpace {
         /// The script's name.
         name: Octets,

@@ -128,7 +128,7 @@ pub fn reach_is()
     ensures { (pending : Bool) (stream : List ℕ) → Reaches pending (reach_of pending stream) stream }
 {}
 
-/// The octet behind a text stands inside a literal exactly where the machine has octets of one to come.
+/// The octet after a text stands inside a literal exactly where the machine has octets of one to come.
 pub fn literal_octets()
     ensures { (pending : Bool) (text : List ℕ) →
         IsInLiteral pending text ↔ (in_literal (run (start pending) text) ≡ true) }

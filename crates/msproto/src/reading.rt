@@ -31,7 +31,7 @@ pub(crate) fn command(
     }
 }
 
-// The command of a verb and what stands behind it.
+// The command of a verb and what stands after it.
 fn of_verb(alloc: Global, verb: Verb, rest: &[u8]) -> Result<Option<Command>, AllocError>
     ensures { IfOk result (λ command. command ≡ v.command_of verb rest.now) }
 {
@@ -51,7 +51,7 @@ fn of_verb(alloc: Global, verb: Verb, rest: &[u8]) -> Result<Option<Command>, Al
     with_text(alloc, verb, first, more)
 }
 
-// The command of a verb, its first text, and what stands behind that.
+// The command of a verb, its first text, and what stands after that.
 fn with_text(
     alloc: Global,
     verb: Verb,
@@ -96,7 +96,7 @@ fn with_text(
     }))
 }
 
-// A number behind a space.
+// A number after a space.
 fn size(rest: &[u8]) -> u32
     ensures { result ≡ v.size_in rest.now }
 {
@@ -123,7 +123,7 @@ fn name_length(text: &[u8]) -> usize
     count
 }
 
-// A string behind a space, and what stands behind it.
+// A string after a space, and what stands after it.
 fn text(alloc: Global, rest: &[u8]) -> Result<Option<(Octets, &[u8])>, AllocError>
     ensures { IfOk result (λ read. shown read ≡ v.text_in rest.now) }
 {
@@ -133,21 +133,21 @@ fn text(alloc: Global, rest: &[u8]) -> Result<Option<(Octets, &[u8])>, AllocErro
     }
 }
 
-// A string, and what stands behind it.
+// A string, and what stands after it.
 fn string(alloc: Global, text: &[u8]) -> Result<Option<(Octets, &[u8])>, AllocError>
     ensures { IfOk result (λ read. shown read ≡ v.string_in text.now) }
 {
     match text.split_first() {
         Some((b'"', rest)) => quoted(alloc, rest),
         Some((_, rest)) => {
-            let (count, behind) = number(rest);
-            literal(alloc, count as usize, behind)
+            let (count, after) = number(rest);
+            literal(alloc, count as usize, after)
         }
         None => Ok(None),
     }
 }
 
-// A quoted string behind its first mark, and what stands behind its last.
+// A quoted string after its first mark, and what stands after its last.
 fn quoted(alloc: Global, text: &[u8]) -> Result<Option<(Octets, &[u8])>, AllocError>
     ensures { IfOk result (λ read. shown read ≡ v.quoted_in false text.now) }
 {
@@ -170,7 +170,7 @@ fn quoted(alloc: Global, text: &[u8]) -> Result<Option<(Octets, &[u8])>, AllocEr
     Ok(None)
 }
 
-// So many octets behind the four that end a literal's head, and what stands behind them.
+// That many octets after the four that end a literal's head, and what stands after them.
 fn literal(alloc: Global, count: usize, text: &[u8]) -> Result<Option<(Octets, &[u8])>, AllocError>
     ensures { IfOk result (λ read. shown read ≡ v.literal_in (count, text.now)) }
 {
@@ -182,7 +182,7 @@ fn literal(alloc: Global, count: usize, text: &[u8]) -> Result<Option<(Octets, &
     Ok(Some((Octets::from_slice(alloc, value)?, rest)))
 }
 
-// The number in front, below 2^32, and what stands behind it.
+// The number in front, below 2^32, and what stands after it.
 fn number(text: &[u8]) -> (u32, &[u8])
     ensures { (result.0, result.1.now) ≡ v.number_in 0 text.now }
 {

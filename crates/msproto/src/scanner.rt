@@ -167,7 +167,7 @@ impl Scan {
         count
     }
 
-    // Takes so many octets of a literal, whatever they are.
+    // Takes that many octets of a literal, whatever they are.
     fn skip_literal(&mut self, count: usize)
         requires { count ≤ literal_rest self.old.known }
         ensures { (piece : List ℕ) → length piece ≡ count → self.new ≡ fold fed self.old piece }

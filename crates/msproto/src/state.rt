@@ -1,4 +1,4 @@
-//! Where a line stands behind each of its octets: a state, and no search.
+//! Where a line stands after each of its octets: a state, and no search.
 ghost use Rattle.std.specs.Prelude.{◌≡◌, ◌≤◌, ℕ, length, take};
 ghost use Rattle.std.specs.List.{prefix_len};
 ghost use Rattle.msproto.specs.Machine as m;
@@ -14,28 +14,28 @@ const MAX_QUOTED: u32 = 1024;
 pub enum State {
     /// In a name: a verb that begins with the letters so far, and how many they are.
     Word(Verb, usize),
-    /// Behind a name or an argument.
+    /// After a name or an argument.
     Between(Params),
     /// Where a string begins.
     Opening(Params),
-    /// Between quotation marks, where so many octets more may stand.
+    /// Between quotation marks, where that many octets more may stand.
     Quoted(u32, Params),
-    /// Behind a backslash.
+    /// After a backslash.
     Escaped(u32, Params),
-    /// Behind a literal's brace, in its number, behind its plus, its closing brace and its CR.
+    /// After a literal's brace, in its number, after its plus, its closing brace and its CR.
     Brace(Params),
     Count(u32, Params),
     Plus(u32, Params),
     Closed(u32, Params),
     Return(u32, Params),
-    /// Inside a literal, of which one octet and so many more are to come.
+    /// Inside a literal, of which one octet and that many more are to come.
     Body(u32, Params),
     /// Where a number begins, and in it.
     Number,
     Digits(u32),
-    /// Behind the line's CR.
+    /// After the line's CR.
     LineFeed,
-    /// Behind a whole command.
+    /// After a whole command.
     Whole,
     /// Where no command goes on.
     Dead,
@@ -53,7 +53,7 @@ impl State {
         }
     }
 
-    /// The state behind one octet more.
+    /// The state after one octet more.
     pub(crate) fn step(self, octet: u8) -> State
         ensures { s.shown result ≡ m.step (s.shown self) octet }
     {
@@ -76,11 +76,11 @@ impl State {
         }
     }
 
-    /// The state behind the octets in front that leave the line in the same name, between the same quotation marks or
+    /// The state after the octets in front that leave the line in the same name, between the same quotation marks or
     /// on the same bad line, and how many they are.
     pub(crate) fn feed_run(self, octets: &[u8]) -> (State, usize)
         ensures count { result.1 ≡ s.skimmed self octets.now }
-        ensures state { s.shown result.0 ≡ s.behind self result.1 }
+        ensures state { s.shown result.0 ≡ s.state_after self result.1 }
         ensures within { result.1 ≤ length octets.now }
     {
         match self {
@@ -109,7 +109,7 @@ fn spelling_length(letters: &[u8], octets: &[u8]) -> usize
     let mut wanted = letters;
     let mut rest = octets;
     let mut count = 0;
-    while let Some((letter, behind)) = wanted.split_first() {
+    while let Some((letter, after)) = wanted.split_first() {
         let Some((octet, more)) = rest.split_first() else {
             break;
         };
@@ -117,7 +117,7 @@ fn spelling_length(letters: &[u8], octets: &[u8]) -> usize
             break;
         }
         count += 1;
-        wanted = behind;
+        wanted = after;
         rest = more;
     }
     count
@@ -201,7 +201,7 @@ fn in_quotes(left: u32, params: Params, octet: u8) -> State
 {
     match octet {
         b'"' => State::Between(params),
-        // The octet behind it counts too.
+        // The octet after it counts too.
         b'\\' if left > 1 => State::Escaped(left - 2, params),
         b'\\' | b'\0' | b'\n' | b'\r' => State::Dead,
         _ if left > 0 => State::Quoted(left - 1, params),
@@ -260,7 +260,7 @@ fn in_number(number: u32, octet: u8) -> State
     }
 }
 
-// Where so many octets of a literal are to come.
+// Where that many octets of a literal are to come.
 fn literal(left: u32, params: Params) -> State
     ensures { s.shown result ≡ m.literal_left left (s.params_shown params) }
 {

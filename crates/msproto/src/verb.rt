@@ -1,4 +1,4 @@
-//! The names of the commands, and what may stand behind each.
+//! The names of the commands, and what may stand after each.
 ghost use Rattle.std.specs.Prelude.{◌≡◌, ◌∷◌, ◌++◌, [], map, true, false, MatchOption};
 ghost use Rattle.std.specs.Char.{to_ascii_uppercase};
 ghost use Rattle.msproto.specs.Machine.{word_of, params_of, verbs, verb_in, rows, rows_of, begins, begins_row, same_word};
@@ -79,7 +79,7 @@ impl Verb {
         }
     }
 
-    /// What may stand behind the name.
+    /// What may stand after the name.
     pub(crate) fn params(self) -> Params
         ensures { params_shown result ≡ params_of self }
     {

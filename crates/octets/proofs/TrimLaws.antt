@@ -92,9 +92,9 @@ alone [] octet last e = cc
 alone (first ∷ rest) octet last e = let more : [] ≡ rest ++ last ∷ [] = cc in absurd (empty rest last more)
 
 -- what ends a text with an octet before it ends the text
-behind_first : (octet : ℕ) (text : List ℕ) (next : ℕ) (kept : List ℕ) → text ≡ next ∷ kept → ((rest : List ℕ) (last : ℕ) → text ≡ rest ++ last ∷ [] → is_blank last ≡ false) → (rest : List ℕ) (last : ℕ) → octet ∷ text ≡ rest ++ last ∷ [] → is_blank last ≡ false
-behind_first octet text next kept some ends [] last e = let none : text ≡ [] = cc in absurd (cc (sym some ∙ none))
-behind_first octet text next kept some ends (first ∷ rest) last e = let more : text ≡ rest ++ last ∷ [] = cc in ends rest last more
+after_first : (octet : ℕ) (text : List ℕ) (next : ℕ) (kept : List ℕ) → text ≡ next ∷ kept → ((rest : List ℕ) (last : ℕ) → text ≡ rest ++ last ∷ [] → is_blank last ≡ false) → (rest : List ℕ) (last : ℕ) → octet ∷ text ≡ rest ++ last ∷ [] → is_blank last ≡ false
+after_first octet text next kept some ends [] last e = let none : text ≡ [] = cc in absurd (cc (sym some ∙ none))
+after_first octet text next kept some ends (first ∷ rest) last e = let more : text ≡ rest ++ last ∷ [] = cc in ends rest last more
 
 -- what is left at the end
 record BackCut (text : List ℕ) : Type 0 where
@@ -132,7 +132,7 @@ back_more octet text (next ∷ kept) some cut =
       back = cut.back;
       spelled = ap (λ t. octet ∷ t) cut.spelled ∙ ap (λ t. t ++ cut.back) (sym stays);
       blank = cut.blank;
-      ends = λ rest last e. behind_first octet (trim_back text) next kept some cut.ends rest last (sym stays ∙ e);
+      ends = λ rest last e. after_first octet (trim_back text) next kept some cut.ends rest last (sym stays ∙ e);
     }
 
 back_cut : (text : List ℕ) → BackCut text

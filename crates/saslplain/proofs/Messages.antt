@@ -56,9 +56,9 @@ cut_at a b h =
     let place = place_at a b h in
     let more : (length a == length (a ++ 0 ∷ b)) ≡ false = ne_eqb _ _ (λ e. absurd (omega (arith, e, length-append a (0 ∷ b)))) in
     let next : length a + 1 ≡ length (a ++ 0 ∷ []) = sym (length-append a (0 ∷ [])) in
-    let behind : drop (length a + 1) (a ++ 0 ∷ b) ≡ b =
+    let after : drop (length a + 1) (a ++ 0 ∷ b) ≡ b =
     ap (λ (n : ℕ). drop n (a ++ 0 ∷ b)) next ∙ ap (drop (length (a ++ 0 ∷ []))) (sym (append_assoc a (0 ∷ []) b)) ∙ drop_at (a ++ 0 ∷ []) b (length (a ++ 0 ∷ [])) refl in
-    rw (place, more, take_at a (0 ∷ b) (length a) refl, behind) refl
+    rw (place, more, take_at a (0 ∷ b) (length a) refl, after) refl
 
 -- equal present pairs have equal parts
 some_pair : (p q : List ℕ × List ℕ) → Some p ≡ Some q → (p.0 ≡ q.0) × (p.1 ≡ q.1)

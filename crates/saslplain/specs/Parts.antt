@@ -16,11 +16,11 @@ abbrev pub nul_place : List ℕ → ℕ
 nul_place [] = zero
 nul_place (octet ∷ rest) = cond (octet == 0) zero (suc (nul_place rest))
 
--- what stands before the first NUL and what behind it
+-- what stands before the first NUL and what after it
 abbrev pub cut_in : List ℕ → Pair
 cut_in text = cond (nul_place text == length text) None (Some (take (nul_place text) text, drop (nul_place text + 1) text))
 
--- user and password behind the authzid
+-- user and password after the authzid
 abbrev pub checked : List ℕ → Pair → Pair
 checked authzid None = None
 checked authzid (Some parts) =

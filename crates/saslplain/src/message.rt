@@ -19,7 +19,7 @@ pub struct Login {
 
 /// The login that a text says in base64 (RFC 4616, section 2; RFC 4648, section 4), if it says one.
 ///
-/// The message behind the base64 is `[authzid] NUL authcid NUL passwd`: the user is the authcid, and an authzid that
+/// The message after the base64 is `[authzid] NUL authcid NUL passwd`: the user is the authcid, and an authzid that
 /// isn't empty has to be the same. The base64 is strict: padded, and with spare bits of zero. Time and memory are
 /// linear in the text; lack of memory is the only error.
 pub fn plain(alloc: Global, text: &[u8]) -> Result<Option<Login>, AllocError>
@@ -55,7 +55,7 @@ fn read_login(alloc: Global, message: &[u8]) -> Result<Option<Login>, AllocError
     }))
 }
 
-// What stands before the first NUL, and what behind it.
+// What stands before the first NUL, and what after it.
 fn cut(text: &[u8]) -> Option<(&[u8], &[u8])>
     ensures { cut_shown result ≡ cut_in text.now }
 {

@@ -17,7 +17,7 @@ pub struct Record {
     pub digest: Octets,
 }
 
-/// The digest of a password under a salt after so many rounds. Takes no memory; time is linear in the rounds, each of
+/// The digest of a password under a salt after that many rounds. Takes no memory; time is linear in the rounds, each of
 /// which hashes 32 octets, the salt and the password (SHA-256 of FIPS 180-4).
 pub fn digest(salt: &[u8], rounds: u32, password: &[u8]) -> [u8; 32]
     ensures { result ≡ digest_of salt.now password.now rounds }

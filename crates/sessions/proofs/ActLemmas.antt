@@ -1,4 +1,4 @@
--- Calls over a store: reads alone, and reads with one write behind them.
+-- Calls over a store: reads alone, and reads with one write after them.
 use Rattle.std.proofs.Common.{◌≡◌, Ok, Err, Result, OnOk, OnErr, IsTrue, refl, sym, ◌∙◌, subst, inl, inr, arith}
 use Rattle.sqlite_trees.specs.Tree.{Trees}
 use Rattle.sqlite.specs.State.{State, HasCleanDisk, Survives}
@@ -6,7 +6,7 @@ use Rattle.sqlite.proofs.StateLemmas.{survives_then, survives_weaker}
 use Rattle.mailstore.specs.declared.refusal.Refusal.{Refusal}
 use Rattle.mailstore.specs.Account.{Accounts}
 use Rattle.mailstore.specs.Connection.{StaysSame, IsSettled}
-use Rattle.mailstore.specs.Promises.{HasOurTables, Keeps, Turns, MayShow}
+use Rattle.mailstore.specs.Promises.{HasOurTables, Keeps, Turns, CrashLeavesAccounts}
 use Rattle.mailstore.specs.Shows.{Presents}
 use Rattle.mailstore.proofs.ResultLemmas.{on_ok, on_err_any}
 use Rattle.mailstore.proofs.WriteLemmas.{clean_before}
@@ -59,7 +59,7 @@ acts_read a b Turn MayTurn q k turn = record {
 
 module _ {X Y E : Type 0} (a b c : State) (r : Result X E) (x : X) (is : r ≡ Ok x) (k : Keeps a b r) (Fit : Accounts → Type 0) (change : Accounts → Accounts)
     (w : Result Y Refusal) (made_is : HasCleanDisk c → OnOk w (Turns Fit change b.now c.now)) (settled_is : HasCleanDisk c → OnOk w (IsSettled c)) (same_is : HasCleanDisk c → HasOurTables b.now → OnErr w (StaysSame b c))
-    (crash_is : Survives b c (MayShow Fit change b)) (Turn MayTurn : Accounts → Accounts → Type 0) where
+    (crash_is : Survives b c (CrashLeavesAccounts Fit change b)) (Turn MayTurn : Accounts → Accounts → Type 0) where
   -- what the tables show between the two
   mid_shows : HasCleanDisk c → (accounts : Accounts) → HasAccounts a accounts → Presents a.now accounts × IsTrue b.is_open × Presents b.now accounts
   mid_shows clean = read_shows a b r x is k (clean_before b c _ crash_is clean)
@@ -92,7 +92,7 @@ module _ {X Y E : Type 0} (a b c : State) (r : Result X E) (x : X) (is : r ≡ O
   -- the write was refused, without a visible cause
   pub acts_undone : {Z : Type 0} (e : Refusal) (q : Result Z Refusal) → w ≡ Err e → (IsAnswered q → ⊥) → ((accounts : Accounts) → Turn accounts accounts)
       → (HasCleanDisk b → (accounts : Accounts) → Presents a.now accounts → Fit accounts × MayTurn accounts (change accounts)) → Acts Turn MayTurn a c q
-  acts_undone e q was passing turn steps = record {
+  acts_undone e q was transient turn steps = record {
     carries = λ clean accounts shown.
         let m = mid_shows clean accounts shown in
         let undone = undone_is clean (m.2.0, m.2.1) in
@@ -105,7 +105,7 @@ module _ {X Y E : Type 0} (a b c : State) (r : Result X E) (x : X) (is : r ≡ O
         on_err_any q _ (record { now_is = λ o. two.now_is o ∙ one.now_is mid; committed_is = λ o. two.committed_is o ∙ one.committed_is mid });
     shut = λ clean is_open. was_open clean;
     crash = crash_turned steps;
-    durable = λ clean tables answered. absurd (passing answered);
+    durable = λ clean tables answered. absurd (transient answered);
   }
     where
       refused : (w : Result Y Refusal) → w ≡ Err e → (P : Type 0) → OnErr w P → P

@@ -11,7 +11,7 @@ use Rattle.msproto.specs.declared.replies.Reply.{Reply}
 use Rattle.msproto.specs.Replies.{spelled}
 use Rattle.mailstore.specs.declared.refusal.Refusal.{Refusal}
 use Rattle.mailstore.specs.Account.{Accounts}
-use Rattle.mailstore.specs.Refusals.{IsPassing}
+use Rattle.mailstore.specs.Refusals.{IsTransient}
 use Rattle.sessions.specs.declared.progress.Progress.{Progress}
 use Rattle.sessions.specs.declared.progress.Progress.TheVariants.{Done}
 use Rattle.sessions.specs.declared.turn.Sequel.TheVariants.{Stay}
@@ -89,28 +89,28 @@ module _ (c : Client) (command : Command) (asked : Asked c command) where
     may_step : (accounts later : Accounts) → MayObey user command accounts later → MayStep c accounts later
     may_step accounts later o = (Done, spelled o.0, past asked.used c, obeyed_step o.0 accounts later o.1)
 
-    pub scripts_refused : (a b : State) (e f : Refusal) (before behind : List ℕ) → IsPassing f → Acts (ObeyedTo user command (refused e) before behind) (MayObey user command) a b (refused e)
-        → Acts {X = Progress} (StepsTo c c (Err f) before behind) (MayStep c) a b (Err f)
-    scripts_refused a b e f before behind passing acts =
-        acts_other {Y = Progress} a b (ObeyedTo user command (refused e) before behind) (StepsTo c c (Err f) before behind) (MayObey user command) (MayStep c) (refused e) (Err f) (λ accounts later same. same) may_step (λ P h. h)
-        (λ told. absurd (told passing)) acts
+    pub scripts_refused : (a b : State) (e f : Refusal) (before after : List ℕ) → IsTransient f → Acts (ObeyedTo user command (refused e) before after) (MayObey user command) a b (refused e)
+        → Acts {X = Progress} (StepsTo c c (Err f) before after) (MayStep c) a b (Err f)
+    scripts_refused a b e f before after transient acts =
+        acts_other {Y = Progress} a b (ObeyedTo user command (refused e) before after) (StepsTo c c (Err f) before after) (MayObey user command) (MayStep c) (refused e) (Err f) (λ accounts later same. same) may_step (λ P h. h)
+        (λ told. absurd (told transient)) acts
 
-    pub scripts_answered : (a b : State) (d : Client) (before behind : List ℕ) → d ≡ followed Stay (without_first false (reach_in c) c) → Acts (ObeyedTo user command done before behind) (MayObey user command) a b done
-        → Acts {X = Progress} (StepsTo c d (Ok Done) before behind) (MayStep c) a b (Ok Done)
-    scripts_answered a b d before behind session acts =
-        acts_other {Y = Progress} a b (ObeyedTo user command done before behind) (StepsTo c d (Ok Done) before behind) (MayObey user command) (MayStep c) done (Ok Done)
+    pub scripts_answered : (a b : State) (d : Client) (before after : List ℕ) → d ≡ followed Stay (without_first false (reach_in c) c) → Acts (ObeyedTo user command done before after) (MayObey user command) a b done
+        → Acts {X = Progress} (StepsTo c d (Ok Done) before after) (MayStep c) a b (Ok Done)
+    scripts_answered a b d before after session acts =
+        acts_other {Y = Progress} a b (ObeyedTo user command done before after) (StepsTo c d (Ok Done) before after) (MayObey user command) (MayStep c) done (Ok Done)
         (λ accounts later o. (spelled o.0, o.1, subst (λ (k : Client). IsStep accounts c Done (spelled o.0) k later) (sym left) (obeyed_step o.0 accounts later o.2))) may_step (λ P h. tt) (λ told. tt) acts
       where
         left : d ≡ past asked.used c
         left = session ∙ ap (λ (r : Reach). without_first false r c) first_reach
 
   -- a login, or a failed one
-  pub login_answered : (a b : State) (d : Client) (who : Option (List ℕ)) (turn : Turn) (progress : Progress) (before behind : List ℕ) → is_login command ≡ true → Glances a b
+  pub login_answered : (a b : State) (d : Client) (who : Option (List ℕ)) (turn : Turn) (progress : Progress) (before after : List ℕ) → is_login command ≡ true → Glances a b
       → (HasCleanDisk b → (accounts : Accounts) → HasAccounts a accounts → admitted_in accounts (login_text c.user command) ≡ who) → IsTurn (FitsLogin c.user c.failures command who) command turn
-      → behind ≡ before ++ spelled turn.reply → d ≡ followed turn.sequel (without_first false (reach_in c) c) → progress ≡ progress_of d
-      → Acts {X = Progress} (StepsTo c d (Ok progress) before behind) (MayStep c) a b (Ok progress)
-  login_answered a b d who turn progress before behind login glances found is told session goes =
-      acts_read a b (StepsTo c d (Ok progress) before behind) (MayStep c) (Ok progress) glances (λ clean accounts shown. (spelled turn.reply, told, step accounts (found clean accounts shown)))
+      → after ≡ before ++ spelled turn.reply → d ≡ followed turn.sequel (without_first false (reach_in c) c) → progress ≡ progress_of d
+      → Acts {X = Progress} (StepsTo c d (Ok progress) before after) (MayStep c) a b (Ok progress)
+  login_answered a b d who turn progress before after login glances found is told session goes =
+      acts_read a b (StepsTo c d (Ok progress) before after) (MayStep c) (Ok progress) glances (λ clean accounts shown. (spelled turn.reply, told, step accounts (found clean accounts shown)))
     where
       left : d ≡ followed turn.sequel (past asked.used c)
       left = session ∙ ap (λ (r : Reach). followed turn.sequel (without_first false r c)) first_reach
@@ -124,19 +124,19 @@ module _ (c : Client) (command : Command) (asked : Asked c command) where
 
 -- ---- steps that ask no store
 
-pub over_acts : (c d : Client) (progress : Progress) (before behind : List ℕ) (a : State) → StepsOver c d progress before behind → Acts {X = Progress} (StepsTo c d (Ok progress) before behind) (MayStep c) a a (Ok progress)
-over_acts c d progress before behind a over =
-    acts_read a a (StepsTo c d (Ok progress) before behind) (MayStep c) (Ok progress) (no_glance a) (λ clean accounts shown. (over.octets, over.written, over.step accounts))
+pub over_acts : (c d : Client) (progress : Progress) (before after : List ℕ) (a : State) → StepsOver c d progress before after → Acts {X = Progress} (StepsTo c d (Ok progress) before after) (MayStep c) a a (Ok progress)
+over_acts c d progress before after a over =
+    acts_read a a (StepsTo c d (Ok progress) before after) (MayStep c) (Ok progress) (no_glance a) (λ clean accounts shown. (over.octets, over.written, over.step accounts))
 
 -- a step that is refused before anything is written
-pub refused_acts : (c d : Client) (q : Result Progress Refusal) (before behind : List ℕ) (a b : State) → OnOk q ⊥ → Glances a b → Acts (StepsTo c d q before behind) (MayStep c) a b q
-refused_acts c d (Ok progress) before behind a b none glances = absurd none
-refused_acts c d (Err e) before behind a b none glances = acts_read a b (StepsTo c d (Err e) before behind) (MayStep c) (Err e) glances (λ clean accounts shown. refl)
+pub refused_acts : (c d : Client) (q : Result Progress Refusal) (before after : List ℕ) (a b : State) → OnOk q ⊥ → Glances a b → Acts (StepsTo c d q before after) (MayStep c) a b q
+refused_acts c d (Ok progress) before after a b none glances = absurd none
+refused_acts c d (Err e) before after a b none glances = acts_read a b (StepsTo c d (Err e) before after) (MayStep c) (Err e) glances (λ clean accounts shown. refl)
 
 -- a command that comes first asks for memory
 pub command_lacks : (c : Client) → has_command c ≡ true → may_lack c ≡ true
 command_lacks c h = ap (λ (b : Bool). not b && asks_memory (item_in c)) (live_first c h) ∙ ap asks_memory (command_first c h).2
 
-pub asked_by : (c d : Client) (command : Command) (before behind : List ℕ) → AsksFor c d command before behind → d ≡ c → Asked d command
-asked_by c d command before behind asks same =
+pub asked_by : (c d : Client) (command : Command) (before after : List ℕ) → AsksFor c d command before after → d ≡ c → Asked d command
+asked_by c d command before after asks same =
     subst (λ (k : Client). Asked k command) (sym same) (record { live = asks.live; used = asks.used; first = asks.first; late = asks.late; asks = asks.asks })

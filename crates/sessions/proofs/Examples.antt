@@ -25,7 +25,7 @@ use Rattle.sessions.specs.Steps.{IsStep, progress_of, may_fail, may_lack}
 use Rattle.sessions.specs.Table.{is_early, RepliesIn, client_in}
 use Rattle.sessions.specs.Turns.{login_text, followed}
 
--- with CRLF behind it
+-- with CRLF after it
 abbrev end : List ℕ → List ℕ
 end text = text ++ 13 ∷ 10 ∷ []
 
@@ -53,7 +53,7 @@ not_whole = refl
 not_closed : is_ready (shut (after (end (codes "NOOP")))) ≡ false
 not_closed = refl
 
--- what stands behind the first item stays
+-- what stands after the first item stays
 one_off : without_first false (reach_in (after (end (codes "NOOP") ++ codes "NO"))) (after (end (codes "NOOP") ++ codes "NO")) ≡ after (codes "NO")
 unfolding rows
 one_off = refl

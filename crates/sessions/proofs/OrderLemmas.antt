@@ -14,7 +14,7 @@ use Rattle.mailstore.specs.Account.{Account, Accounts, with_user}
 use Rattle.mailstore.specs.AccountTable.{profile_of}
 use Rattle.mailstore.specs.Cells.{contents}
 use Rattle.mailstore.specs.Promises.{HasUser, IsFree, OfUser, Reads, ReadsProfile, WritesUser, WritesAccount}
-use Rattle.mailstore.specs.Refusals.{IsPassing}
+use Rattle.mailstore.specs.Refusals.{IsTransient}
 use Rattle.mailstore.specs.Shows.{Presents}
 use Rattle.mailstore.proofs.KeepLemmas.{keeps_ok, keeps_refused, keeps_then, mid_shows}
 use Rattle.mailstore.proofs.WriteLemmas.{clean_before}
@@ -56,7 +56,7 @@ module _ (user : List ℕ) (a b c : State) (r : Result (Option Profile) Refusal)
     found = λ clean accounts shows. subst (λ x. IfOk x (λ y. OfUser accounts user (Q y))) (sym is) tt;
     absent = λ clean accounts shows. subst (λ x. IfErr x (λ f. f ≡ NoUser → IsFree user accounts)) (sym is) (late.absent clean accounts (mid_shows a b c r o was (Err e) early.keeps late.keeps clean accounts shows));
     keeps = keeps_refused a c (Err e) e q is (keeps_then a b c r o was (Err e) early.keeps late.keeps);
-    named = subst (λ x. IfErr x (λ f. (f ≡ NoUser) ⊎ IsPassing f)) (sym is) late.named;
+    named = subst (λ x. IfErr x (λ f. (f ≡ NoUser) ⊎ IsTransient f)) (sym is) late.named;
   }
 
 -- ---- decisions
@@ -81,9 +81,9 @@ done = Ok tt
 abbrev pub refused : Refusal → Result (Unit {0}) Refusal
 refused e = Err e
 
-pub refused_obeys : {X : Type 0} (user : List ℕ) (command : Command) (q : Result X Refusal) (before behind : List ℕ) (accounts : Accounts) → OnOk q ⊥ → ObeyedTo user command q before behind accounts accounts
-refused_obeys user command (Ok x) before behind accounts none = absurd none
-refused_obeys user command (Err e) before behind accounts none = refl
+pub refused_obeys : {X : Type 0} (user : List ℕ) (command : Command) (q : Result X Refusal) (before after : List ℕ) (accounts : Accounts) → OnOk q ⊥ → ObeyedTo user command q before after accounts accounts
+refused_obeys user command (Ok x) before after accounts none = absurd none
+refused_obeys user command (Err e) before after accounts none = refl
 
 quiet : (user : List ℕ) (command : Command) (d : Decision) (accounts : Accounts) → OfUser accounts user (Decides command d) → d.change ≡ None → ObeysUser user command d.reply accounts accounts
 quiet user command d accounts own none = record {
@@ -103,16 +103,16 @@ loud user command d change accounts own some =
 
 -- ---- writes that never find the account absent
 
-passing_named : {X : Type 0} (w : Result X Refusal) → IfErr w IsPassing → IfErr w (λ e. (e ≡ NoUser) ⊎ IsPassing e)
-passing_named (Ok x) h = tt
-passing_named (Err e) h = inr h
+transient_named : {X : Type 0} (w : Result X Refusal) → IfErr w IsTransient → IfErr w (λ e. (e ≡ NoUser) ⊎ IsTransient e)
+transient_named (Ok x) h = tt
+transient_named (Err e) h = inr h
 
-no_user_passes : IsPassing NoUser → ⊥
+no_user_passes : IsTransient NoUser → ⊥
 no_user_passes h = elim h [ inl is ↦ (let e = is in cc) | inr is ↦ (let e = is in cc) ]
 
-never_absent : {X : Type 0} (user : List ℕ) (accounts : Accounts) (w : Result X Refusal) → IfErr w IsPassing → IfErr w (λ e. e ≡ NoUser → IsFree user accounts)
+never_absent : {X : Type 0} (user : List ℕ) (accounts : Accounts) (w : Result X Refusal) → IfErr w IsTransient → IfErr w (λ e. e ≡ NoUser → IsFree user accounts)
 never_absent user accounts (Ok x) h = tt
-never_absent user accounts (Err e) h = λ is. absurd (no_user_passes (subst IsPassing is h))
+never_absent user accounts (Err e) h = λ is. absurd (no_user_passes (subst IsTransient is h))
 
 -- such a write is one that asks whether there is an account
 pub written : {X : Type 0} (user : List ℕ) (change : Account → Account) (b c : State) (w : Result X Refusal) → WritesUser user change b c w → WritesAccount user change b c w
@@ -122,7 +122,7 @@ written user change b c w late = record {
   same = λ clean tables. late.same clean;
   absent = λ clean accounts p. never_absent user accounts w late.named;
   crash = late.crash;
-  named = passing_named w late.named;
+  named = transient_named w late.named;
 }
 
 module _ (user : List ℕ) (command : Command) (a b : State) (r : Result Decision Refusal) (d : Decision) (was : r ≡ Ok d) (reads : Reads user (Decides command) a b r) where
@@ -130,9 +130,9 @@ module _ (user : List ℕ) (command : Command) (a b : State) (r : Result Decisio
   own clean accounts p = subst (λ q. IfOk q (λ x. OfUser accounts user (Decides command x))) was (reads.found clean accounts p)
 
   -- nothing is to be written
-  pub obeys_quietly : (before behind : List ℕ) → d.change ≡ None → behind ≡ before ++ spelled d.reply → Acts (ObeyedTo user command done before behind) (MayObey user command) a b done
-  obeys_quietly before behind none told =
-      acts_read a b (ObeyedTo user command done before behind) (MayObey user command) done (glanced a b r reads.keeps)
+  pub obeys_quietly : (before after : List ℕ) → d.change ≡ None → after ≡ before ++ spelled d.reply → Acts (ObeyedTo user command done before after) (MayObey user command) a b done
+  obeys_quietly before after none told =
+      acts_read a b (ObeyedTo user command done before after) (MayObey user command) done (glanced a b r reads.keeps)
       (λ clean accounts shown. let p = (read_shows a b r d was reads.keeps clean accounts shown).0 in (d.reply, told, quiet user command d accounts (own clean accounts p) none))
 
   module _ (c : State) (change : Change) (some : d.change ≡ Some change) (w : Result (Unit {0}) Refusal) (late : WritesAccount user (change_made change) b c w) where
@@ -141,12 +141,12 @@ module _ (user : List ℕ) (command : Command) (a b : State) (r : Result Decisio
         let o = own clean accounts p in
         (subst IsSome (sym o.1) refl, loud user command d change accounts o some)
 
-    pub obeys_made : (before behind : List ℕ) → behind ≡ before ++ spelled d.reply → (y : Unit {0}) → w ≡ Ok y → Acts (ObeyedTo user command done before behind) (MayObey user command) a c done
-    obeys_made before behind told y is =
-        acts_made a b c r d was reads.keeps (HasUser user) (λ all. with_user all user (change_made change)) w late.made late.settled late.same late.crash (ObeyedTo user command done before behind) (MayObey user command) y tt is
+    pub obeys_made : (before after : List ℕ) → after ≡ before ++ spelled d.reply → (y : Unit {0}) → w ≡ Ok y → Acts (ObeyedTo user command done before after) (MayObey user command) a c done
+    obeys_made before after told y is =
+        acts_made a b c r d was reads.keeps (HasUser user) (λ all. with_user all user (change_made change)) w late.made late.settled late.same late.crash (ObeyedTo user command done before after) (MayObey user command) y tt is
         (λ clean accounts p. let f = fits clean accounts p in (f.0, (d.reply, told, f.1), (d.reply, f.1)))
 
-    pub obeys_undone : (before behind : List ℕ) (e f : Refusal) → w ≡ Err e → IsPassing f → Acts (ObeyedTo user command (refused f) before behind) (MayObey user command) a c (refused f)
-    obeys_undone before behind e f is passing =
-        acts_undone a b c r d was reads.keeps (HasUser user) (λ all. with_user all user (change_made change)) w late.made late.settled late.same late.crash (ObeyedTo user command (refused f) before behind) (MayObey user command) e (refused f) is
-        (λ told. told passing) (λ accounts. refl) (λ clean accounts p. let f = fits clean accounts p in (f.0, (d.reply, f.1)))
+    pub obeys_undone : (before after : List ℕ) (e f : Refusal) → w ≡ Err e → IsTransient f → Acts (ObeyedTo user command (refused f) before after) (MayObey user command) a c (refused f)
+    obeys_undone before after e f is transient =
+        acts_undone a b c r d was reads.keeps (HasUser user) (λ all. with_user all user (change_made change)) w late.made late.settled late.same late.crash (ObeyedTo user command (refused f) before after) (MayObey user command) e (refused f) is
+        (λ told. told transient) (λ accounts. refl) (λ clean accounts p. let f = fits clean accounts p in (f.0, (d.reply, f.1)))

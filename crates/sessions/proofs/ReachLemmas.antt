@@ -10,7 +10,7 @@ use Rattle.sessions.specs.GivenUp.{text_by, client_by, text_given_up, client_giv
 use Rattle.sessions.specs.declared.progress.Progress.TheVariants as p
 use Rattle.sessions.specs.Replies.{try_later}
 
--- an item of so many octets was reached
+-- an item of that many octets was reached
 abbrev pub IsItem : ℕ → Reach → Type 0
 IsItem used (Command count) = count ≡ used
 IsItem used (Bad count) = count ≡ used

@@ -22,7 +22,7 @@ unread_reaches pending r unread octets is same =
 
 -- ---- a piece comes
 
--- the octets that a scan took, where a piece stands behind them
+-- the octets that a scan took, where a piece stands after them
 front_on : (unread piece : List ℕ) (n : ℕ) → n ≤ length piece → take (length unread + n) (unread ++ piece) ≡ unread ++ take n piece
 front_on unread piece n le =
     let parts : unread ++ piece ≡ (unread ++ take n piece) ++ drop n piece = ap (λ (p : List ℕ). unread ++ p) (sym (take-append-drop n piece)) ∙ sym (append_assoc unread (take n piece) (drop n piece)) in
@@ -61,7 +61,7 @@ piece_scanned pending scan new unread piece after scanned given more n i until l
     front : take scan.looked unread ++ take n piece ≡ take (scan.looked + n) after
     front = stood scan unread piece n i.seen (λ some. i.waits (before some)) le ∙ ap (take (scan.looked + n)) (sym joins)
 
-    -- where nothing comes first behind the piece, nothing did in front of it
+    -- where nothing comes first after the piece, nothing did in front of it
     all : reached new ≡ Need → scan.looked ≡ length unread
     all need = i.waits (needs_before scan new piece n 0 by need (omega arith))
 

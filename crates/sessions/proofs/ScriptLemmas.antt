@@ -10,7 +10,7 @@ use Rattle.std.specs.Cmp.Lexicographic.{pointwise, texts_ties, bytes_decides}
 use Rattle.msproto.specs.declared.commands.Command.{Command}
 use Rattle.mailstore.specs.Account.{Account, bytes_cmp}
 use Rattle.sessions.specs.Limits.{scripts_limit}
-use Rattle.sessions.specs.Scripts.{HasScript, HasRoom, IsChoice, is_active, chosen}
+use Rattle.sessions.specs.Scripts.{HasScript, HasRoom, CanActivate, is_active, active_name}
 use Rattle.sessions.specs.Decisions.{AreNames, IsDecision}
 use Rattle.sessions.specs.declared.decision.Decision.{Decision}
 
@@ -61,9 +61,9 @@ room_few a names name are absent = go (nat_lt (length names) scripts_limit) refl
     go false is = full is
 
 -- an absent name that isn't empty can't be made active
-pub no_choice : (a : Account) (name : List ℕ) → (length name == 0) ≡ false → (HasScript a name → ⊥) → IsChoice a name → ⊥
-no_choice a name some absent (inl empty) = false≢true (sym some ∙ ap (λ (text : List ℕ). length text == 0) empty)
-no_choice a name some absent (inr there) = absent there
+pub cannot_activate : (a : Account) (name : List ℕ) → (length name == 0) ≡ false → (HasScript a name → ⊥) → CanActivate a name → ⊥
+cannot_activate a name some absent (inl empty) = false≢true (sym some ∙ ap (λ (text : List ℕ). length text == 0) empty)
+cannot_activate a name some absent (inr there) = absent there
 
 -- ---- the active script
 
@@ -76,6 +76,6 @@ active_not active name is same =
     let self : is_active (Some name) name ≡ true = (bytes_decides name name).1 refl in
     false≢true (sym is ∙ ap (λ (o : Option (List ℕ)). is_active o name) same ∙ self)
 
-pub chosen_some : (name : List ℕ) → (length name == 0) ≡ false → chosen name ≡ Some name
-chosen_some [] some = absurd (false≢true (sym some))
-chosen_some (octet ∷ rest) some = refl
+pub active_name_some : (name : List ℕ) → (length name == 0) ≡ false → active_name name ≡ Some name
+active_name_some [] some = absurd (false≢true (sym some))
+active_name_some (octet ∷ rest) some = refl

@@ -6,7 +6,7 @@ use Rattle.mailstore.specs.declared.refusal.Refusal.{Refusal}
 use Rattle.mailstore.specs.Account.{Accounts}
 use Rattle.mailstore.specs.Connection.{StaysSame, IsSettled, Leaves}
 use Rattle.mailstore.specs.Promises.{HasOurTables}
-use Rattle.mailstore.specs.Refusals.{IsPassing}
+use Rattle.mailstore.specs.Refusals.{IsTransient}
 use Rattle.mailstore.specs.Shows.{Presents, ShowsIn}
 
 -- the tables show the accounts; of a connection that a fault of the disk has shut nothing is said
@@ -24,7 +24,7 @@ CrashLeaves MayTurn s trees = (accounts : Accounts) → Presents s.now accounts 
 -- the call answered, and by no refusal that may come without visible cause
 abbrev pub IsAnswered : {X : Type 0} → Result X Refusal → Type 0
 IsAnswered (Ok x) = Unit {0}
-IsAnswered (Err refusal) = IsPassing refusal → ⊥
+IsAnswered (Err refusal) = IsTransient refusal → ⊥
 
 -- nothing changed: what the connection sees stays, and a crash leaves what it left before
 pub record Stays (old new : State) : Type 0 where
@@ -49,4 +49,4 @@ pub record Glances (old new : State) : Type 0 where
 pub record ReadsAccounts {X : Type 0} (Part : X → Accounts → Type 0) (old new : State) (result : Result X Refusal) : Type 0 where
   pub found : HasCleanDisk new → (accounts : Accounts) → HasAccounts old accounts → IfOk result (λ x. Part x accounts)
   pub glances : Glances old new
-  pub named : IfErr result IsPassing
+  pub named : IfErr result IsTransient

@@ -51,7 +51,7 @@ is_item _ = false
 abbrev pub client_given : List ℕ → Client → Client
 client_given piece c = cond c.closed c (record c { unread = c.unread ++ piece })
 
--- an item of so many octets is taken off; a challenge that was pending is over
+-- an item of that many octets is taken off; a challenge that was pending is over
 abbrev pub past : ℕ → Client → Client
 past used c = record c { unread = drop used c.unread; pending = false }
 

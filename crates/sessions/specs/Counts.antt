@@ -18,7 +18,7 @@ pub record SessionView : Type 0 where
 abbrev pub new_session : SessionView
 new_session = record { client = new_client; given = 0; scanned = 0 }
 
--- the count of the octets given, behind a piece; a closed session counts none
+-- the count of the octets given, after a piece; a closed session counts none
 abbrev pub given_more : List ℕ → SessionView → ℕ
 given_more piece s = cond s.client.closed s.given (min (s.given + length piece) greatest)
 

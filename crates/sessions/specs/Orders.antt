@@ -9,7 +9,7 @@ use Rattle.msproto.specs.Replies as octets_of
 use Rattle.mailstore.specs.declared.refusal.Refusal.{Refusal}
 use Rattle.mailstore.specs.declared.refusal.Refusal.TheVariants.{Memory, Store}
 use Rattle.mailstore.specs.Account.{Account, Accounts, with_user}
-use Rattle.mailstore.specs.Refusals.{IsPassing}
+use Rattle.mailstore.specs.Refusals.{IsTransient}
 use Rattle.sessions.specs.declared.progress.Progress.{Progress}
 use Rattle.sessions.specs.Acts.{Acts}
 use Rattle.sessions.specs.Clients.{Client, item_in}
@@ -29,8 +29,8 @@ pub record ObeysUser (user : List ℕ) (command : Command) (reply : Reply) (acco
 
 -- what the call wrote between two outputs is such a reply; after a refusal no account changed
 abbrev pub ObeyedTo : {X : Type 0} → List ℕ → Command → Result X Refusal → List ℕ → List ℕ → Accounts → Accounts → Type 0
-ObeyedTo user command (Ok x) before behind accounts later = (reply : Reply) × (behind ≡ before ++ octets_of.spelled reply) × ObeysUser user command reply accounts later
-ObeyedTo user command (Err refusal) before behind accounts later = later ≡ accounts
+ObeyedTo user command (Ok x) before after accounts later = (reply : Reply) × (after ≡ before ++ octets_of.spelled reply) × ObeysUser user command reply accounts later
+ObeyedTo user command (Err refusal) before after accounts later = later ≡ accounts
 
 -- what the accounts may turn into by the command
 abbrev pub MayObey : List ℕ → Command → Accounts → Accounts → Type 0
@@ -38,14 +38,14 @@ MayObey user command accounts later = (reply : Reply) × ObeysUser user command 
 
 -- what the command makes of the store, with what was written between two outputs
 abbrev pub ActsCommand : List ℕ → Command → List ℕ → List ℕ → State → State → Result (Unit {0}) Refusal → Type 0
-ActsCommand user command before behind old new result = Acts (ObeyedTo user command result before behind) (MayObey user command) old new result
+ActsCommand user command before after old new result = Acts (ObeyedTo user command result before after) (MayObey user command) old new result
 
 -- ---- a step
 
 -- what the call wrote between two outputs answers a step that leaves the session and the accounts so; after a refusal nothing changed
 abbrev pub StepsTo : Client → Client → Result Progress Refusal → List ℕ → List ℕ → Accounts → Accounts → Type 0
-StepsTo c d (Ok progress) before behind accounts later = (octets : List ℕ) × (behind ≡ before ++ octets) × IsStep accounts c progress octets d later
-StepsTo c d (Err refusal) before behind accounts later = later ≡ accounts
+StepsTo c d (Ok progress) before after accounts later = (octets : List ℕ) × (after ≡ before ++ octets) × IsStep accounts c progress octets d later
+StepsTo c d (Err refusal) before after accounts later = later ≡ accounts
 
 -- what the accounts may turn into by a step of the session
 abbrev pub MayStep : Client → Accounts → Accounts → Type 0
@@ -53,15 +53,15 @@ MayStep c accounts later = (progress : Progress) × (octets : List ℕ) × (d : 
 
 -- what a step from one session to another makes of the store, with what was written between two outputs
 abbrev pub ActsStep : Client → Client → List ℕ → List ℕ → State → State → Result Progress Refusal → Type 0
-ActsStep c d before behind old new result = Acts (StepsTo c d result before behind) (MayStep c) old new result
+ActsStep c d before after old new result = Acts (StepsTo c d result before after) (MayStep c) old new result
 
 -- a step of a command that is answered over the store: its item is taken off, and the scan of it counts; after a refusal the session and the output are as before
-pub record StepsAsked (from to : SessionView) (before behind : List ℕ) (old new : State) (result : Result Progress Refusal) : Type 0 where
-  pub acts : ActsStep from.client to.client before behind old new result
+pub record StepsAsked (from to : SessionView) (before after : List ℕ) (old new : State) (result : Result Progress Refusal) : Type 0 where
+  pub acts : ActsStep from.client to.client before after old new result
   pub counts : OnOk result (to.given ≡ from.given)
   pub scans : OnOk result (to.scanned ≡ scanned_past from)
-  pub err : OnErr result ((to ≡ from) × (behind ≡ before))
-  pub named : IfErr result IsPassing
+  pub err : OnErr result ((to ≡ from) × (after ≡ before))
+  pub named : IfErr result IsTransient
 
 -- which refusals a step may give
 abbrev pub MayRefuse : Client → Refusal → Type 0

@@ -46,7 +46,7 @@ too_big = farewell (codes "Too big.")
 abbrev pub try_later : Reply
 try_later = declined (Some code.TryLater) (codes "Try later.")
 
--- the text behind a reference, if there is one
+-- the text after a reference, if there is one
 abbrev pub value_of : Option (Bor (List ℕ)) → Option (List ℕ)
 value_of None = None
 value_of (Some text) = Some text.now

@@ -34,8 +34,8 @@ abbrev pub HasRoom : Account → List ℕ → Type 0
 HasRoom a name = HasScript a name ⊎ (len a.scripts < scripts_limit)
 
 -- a name that can be made active: a script's, or the empty one for none
-abbrev pub IsChoice : Account → List ℕ → Type 0
-IsChoice a name = (name ≡ []) ⊎ HasScript a name
+abbrev pub CanActivate : Account → List ℕ → Type 0
+CanActivate a name = (name ≡ []) ⊎ HasScript a name
 
 -- some tree is the text's
 abbrev pub IsValid : List ℕ → Type 0
@@ -108,7 +108,7 @@ list_reply a = listed (script_lines a.active (keys a.scripts))
 
 -- `SETACTIVE` (RFC 5804, 2.8): the empty name makes none active
 abbrev pub RepliesToSet : Account → List ℕ → Reply → Type 0
-RepliesToSet a name reply = Where (IsChoice a name) (reply ≡ done) (reply ≡ absent)
+RepliesToSet a name reply = Where (CanActivate a name) (reply ≡ done) (reply ≡ absent)
 
 -- `GETSCRIPT` (RFC 5804, 2.9), by the text of that name
 abbrev pub get_reply : Option (List ℕ) → Reply
@@ -145,14 +145,14 @@ RepliesTo a _ reply = ⊥
 -- ---- what changes
 
 -- the script that a name makes active
-abbrev pub chosen : List ℕ → Option (List ℕ)
-chosen [] = None
-chosen (octet ∷ rest) = Some (octet ∷ rest)
+abbrev pub active_name : List ℕ → Option (List ℕ)
+active_name [] = None
+active_name (octet ∷ rest) = Some (octet ∷ rest)
 
 -- the account after a command that was carried out
 abbrev pub carried_out : Command → Account → Account
 carried_out (PutScript name script) a = keeps_script name script a
-carried_out (SetActive name) a = activates (chosen name) a
+carried_out (SetActive name) a = activates (active_name name) a
 carried_out (DeleteScript name) a = deletes_script name a
 carried_out (RenameScript old new) a = renames_script old new a
 carried_out _ a = a

@@ -12,7 +12,7 @@ use Rattle.sessions.specs.Logins.{admitted, is_plain, is_star, login_reply, logi
 use Rattle.sessions.specs.Replies.{declined}
 use Rattle.sessions.specs.Table.{RepliesTaken, taken_client}
 
--- the session behind it
+-- the session after it
 abbrev pub followed : Sequel → Client → Client
 followed Stay c = c
 followed Close c = shut c
@@ -49,7 +49,7 @@ abbrev pub admitted_in : Accounts → Option (List ℕ) → Option (List ℕ)
 admitted_in accounts None = None
 admitted_in accounts (Some text) = admitted accounts text
 
--- this user is logged in or nobody, so many logins failed, and the command's text logs this one in, or none
+-- this user is logged in or nobody, that many logins failed, and the command's text logs this one in, or none
 pub record FitsLogin (user : Option (List ℕ)) (failures : ℕ) (command : Command) (who : Option (List ℕ)) (accounts : Accounts) (c : Client) : Type 0 where
   pub user_is : c.user ≡ user
   pub failed : c.failures ≡ failures

@@ -3,7 +3,7 @@ ghost use Rattle.std.specs.Prelude.{◌≡◌, ◌⊎◌, true, take, Some, OnEr
 ghost use Rattle.sqlite.specs.Held.{state};
 ghost use Rattle.mailstore.specs.declared.refusal.Refusal.TheVariants.{NoUser};
 ghost use Rattle.mailstore.specs.Promises.{Reads, WritesAccount};
-ghost use Rattle.mailstore.specs.Refusals.{IsPassing};
+ghost use Rattle.mailstore.specs.Refusals.{IsTransient};
 ghost use Rattle.saslplain.specs.Parts.{login_shown};
 ghost use Rattle.sessions.specs.Acts.{ReadsAccounts};
 ghost use Rattle.sessions.specs.Decisions.{AreScripts, Decides, change_made};
@@ -33,7 +33,7 @@ pub(crate) struct KeptScripts {
 
 /// Answers a command about the user's scripts: the account is read, the answer joins the output, and what the answer says is
 /// written as the last act. After a refusal the output and the store are as they were.
-pub(crate) fn obey<S: Alter>(
+pub(crate) fn execute<S: Alter>(
     alloc: Global,
     store: &mut Store<S>,
     user: &[u8],
@@ -43,7 +43,7 @@ pub(crate) fn obey<S: Alter>(
     requires { is_about_scripts command.now ≡ true }
     ensures acts { ActsCommand user.now command.now out.old out.new (state S.Store store.old) (state S.Store store.new) result }
     ensures err { OnErr result (out.new ≡ out.old) }
-    ensures named { IfErr result (λ e. (e ≡ NoUser) ⊎ IsPassing e) }
+    ensures named { IfErr result (λ e. (e ≡ NoUser) ⊎ IsTransient e) }
 {
     let Decision { reply, change } = decision_on(alloc, store, user, command)?;
     let before = out.len();
@@ -102,7 +102,7 @@ fn record_of(profile: Profile) -> Record
 
 /// A refusal as a step has it: of a user who is logged in and has no account no answer is right.
 pub(crate) fn in_a_step(refusal: Refusal) -> Refusal
-    ensures { IsPassing result }
+    ensures { IsTransient result }
 {
     match refusal {
         Refusal::Memory => Refusal::Memory,
@@ -174,7 +174,7 @@ fn slice_of(text: &Option<Octets>) -> Option<&[u8]>
     }
 }
 
-// Takes off all but so many octets. Takes no memory.
+// Takes off all but that many octets. Takes no memory.
 fn shorten(alloc: Global, out: &mut Octets, count: usize)
     ensures { out.new ≡ take count out.old }
 {

@@ -264,10 +264,10 @@ fn has_room(names: &[Octets], name: &[u8]) -> bool
 fn has_script(names: &[Octets], name: &[u8]) -> bool
     ensures { (a : Account) → AreNames names.now a → MatchBool result (s.HasScript a name.now) (s.HasScript a name.now → ⊥) }
 {
-    is_among(names, name)
+    has_name(names, name)
 }
 
-fn is_among(names: &[Octets], name: &[u8]) -> bool
+fn has_name(names: &[Octets], name: &[u8]) -> bool
     ensures { result ≡ list_any (pointwise nat_eq name.now) names.now }
 {
     names.iter().any(|there| name == there.as_slice())

@@ -11,7 +11,7 @@ ghost use Rattle.sessions.specs.Orders.{ActsStep, StepsAsked, MayRefuse, Asked};
 ghost use Rattle.sessions.specs.Steps.{progress_of, StepsOver, StepsFree, IfAsks, IfMade, has_command, may_lack};
 ghost use Rattle.sessions.specs.Turns.{followed, is_login as is_login_of};
 
-use crate::account::{admitted, in_a_step, obey};
+use crate::account::{admitted, execute, in_a_step};
 use crate::free::{early, free, is_free, needs_login};
 use crate::login::{MAX_FAILURES, exchange, is_login, login_text};
 use crate::progress::{Progress, Stepped};
@@ -130,7 +130,7 @@ impl Session {
         }
     }
 
-    /// How the session would go on behind giving up: it waits where no item is whole. Takes no memory.
+    /// How the session would go on after giving up: it waits where no item is whole. Takes no memory.
     pub fn progress_given_up(&self) -> Progress
         ensures { result ≡ progress_given_up self.now.client }
     {
@@ -307,7 +307,7 @@ impl Session {
         let Some(user) = &self.user else {
             unreachable!();
         };
-        if let Err(refusal) = obey(self.alloc, store, user.as_slice(), command, out) {
+        if let Err(refusal) = execute(self.alloc, store, user.as_slice(), command, out) {
             return Err(in_a_step(refusal));
         }
         self.follow(Sequel::Stay);

@@ -11,7 +11,7 @@ pub struct Turn {
     pub sequel: Sequel,
 }
 
-/// What becomes of a session behind a command.
+/// What becomes of a session after a command.
 #[derive(Drop)]
 pub enum Sequel {
     /// Nothing.

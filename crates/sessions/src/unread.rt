@@ -53,7 +53,7 @@ impl Unread {
         self.octets.extend_from_slice(piece)
     }
 
-    /// So many octets are taken off. Takes no memory, and constant time.
+    /// That many octets are taken off. Takes no memory, and constant time.
     pub(crate) fn drop_front(&mut self, count: usize)
         requires { count ≤ length self.old }
         ensures { self.new ≡ drop count self.old }

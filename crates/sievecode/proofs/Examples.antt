@@ -8,7 +8,7 @@ use Rattle.sievesyntax.specs.Tree.{no, choose, branch, no_branches, Commands, co
 use Rattle.sievesyntax.specs.Tree as T
 use Rattle.sievesyntax.specs.Meaning.{Outcome, Done, Failed}
 use Rattle.sievecode.specs.Instructions.{set, jump, jump_unless, act, stop}
-use Rattle.sievecode.specs.Jumps.{jumps, Stands, LeadsForward, IsForward}
+use Rattle.sievecode.specs.Jumps.{jumps, IsCodeOf, LeadsForward, IsForward}
 use Rattle.sievecode.specs.Size.{size}
 
 -- if false { stop; } discard;
@@ -16,7 +16,7 @@ abbrev tree : Commands
 tree = command (choose (branch no (command T.stop no_commands) no_branches)) (command (T.act Discard) no_commands)
 
 -- its code stands for it
-stands : Stands (set false ∷ jump_unless 3 ∷ stop ∷ act Discard ∷ []) tree
+stands : IsCodeOf (set false ∷ jump_unless 3 ∷ stop ∷ act Discard ∷ []) tree
 stands truth = refl
 
 -- a run is still going where a turn is left over, and one that is at the end needs none
@@ -32,7 +32,7 @@ filed_by (Some (Done deeds)) = deeds.filed
 filed_by (Some (Failed failure)) = []
 
 -- one place too far, and the message is kept
-too_far : Stands (set false ∷ jump_unless 4 ∷ stop ∷ act Discard ∷ []) tree → ⊥
+too_far : IsCodeOf (set false ∷ jump_unless 4 ∷ stop ∷ act Discard ∷ []) tree → ⊥
 unfolding filed_by
 too_far stands = let kept : inbox ∷ [] ≡ [] = ap filed_by (stands (λ check. true)) in cc
 

@@ -9,7 +9,7 @@ use Rattle.sievesyntax.specs.RunState.{RunState, at_first, Flow, Going, Stopped,
 use Rattle.sievesyntax.specs.Tree.{TestTree, yes, no, looks, not_of, all_of, any_of, Tests, no_tests, test, CommandTree, require, choose, stop, act, Branches, no_branches, branch, Commands, no_commands, command}
 use Rattle.sievecode.specs.Instructions.{Instruction, set, look, flip, jump, jump_if, jump_unless}
 use Rattle.sievecode.specs.Instructions as I
-use Rattle.sievecode.specs.Jumps.{Run, after_action, turn, at_place, jumps_from, LeadsForward, IsForward, Stands, outcome_of}
+use Rattle.sievecode.specs.Jumps.{Run, after_action, turn, at_place, jumps_from, LeadsForward, IsForward, IsCodeOf, outcome_of}
 use Rattle.sievecode.specs.Layout.{test_code, all_code, any_code, command_code, branches_code, commands_code, forward, turned}
 use Rattle.sievecode.proofs.Runs.{run, past, ends_length, all_ends, any_ends, branches_ends, commands_ends, whole_runs}
 
@@ -98,17 +98,17 @@ something_at back k instr rest e =
 abbrev Goes : (Check → Bool) → List Instruction → ℕ → Run → Type 0
 Goes truth back n next = (place : ℕ) (flag : Bool) (so_far : RunState) → length back ≤ place + n → next place flag so_far ≡ Some (run truth zero (drop place back) flag so_far)
 
-module _ (truth : Check → Bool) (back : List Instruction) (n : ℕ) (next : Run) (place : ℕ) (rest : List Instruction) (enough : length back ≤ place + suc n) (left : length back ≡ place + suc (length rest)) (behind : drop (suc place) back ≡ rest) where
+module _ (truth : Check → Bool) (back : List Instruction) (n : ℕ) (next : Run) (place : ℕ) (rest : List Instruction) (enough : length back ≤ place + suc n) (left : length back ≡ place + suc (length rest)) (after : drop (suc place) back ≡ rest) where
   goes_next : Goes truth back n next → (flag : Bool) (so_far : RunState) → next (place + 1) flag so_far ≡ Some (run truth zero rest flag so_far)
   goes_next goes flag so_far =
-      goes (place + 1) flag so_far (omega arith) ∙ ap (λ k. Some (run truth zero (drop k back) flag so_far)) (add-one place) ∙ ap (λ code. Some (run truth zero code flag so_far)) behind
+      goes (place + 1) flag so_far (omega arith) ∙ ap (λ k. Some (run truth zero (drop k back) flag so_far)) (add-one place) ∙ ap (λ code. Some (run truth zero code flag so_far)) after
 
   goes_on : Goes truth back n next → (until : ℕ) (flag : Bool) (so_far : RunState) → until ≤ length rest → next (length back - until) flag so_far ≡ Some (run truth (length rest - until) rest flag so_far)
   goes_on goes until flag so_far le =
       let there : length back - until ≡ suc place + (length rest - until) = omega arith in
       goes (length back - until) flag so_far (omega arith)
       ∙ ap (λ k. Some (run truth zero (drop k back) flag so_far)) there
-      ∙ ap (λ code. Some (run truth zero code flag so_far)) (sym (drop-drop (length rest - until) (suc place) back) ∙ ap (drop (length rest - until)) behind)
+      ∙ ap (λ code. Some (run truth zero code flag so_far)) (sym (drop-drop (length rest - until) (suc place) back) ∙ ap (drop (length rest - until)) after)
       ∙ ap Some (sym (past truth (length rest - until) rest flag so_far))
 
   -- one turn
@@ -145,8 +145,8 @@ follows truth back within (suc n) place flag so_far (instr ∷ rest) e enough =
     (λ p f s enough. follows truth back within n p f s (drop p back) refl enough) instr here.0 flag so_far
 
 -- turned round, the code of commands stands for them
-pub turned_stands : (commands : Commands) (code : List Instruction) → code ≡ turned (commands_code commands []) → Stands code commands
-turned_stands commands code e truth =
+pub turned_is_code : (commands : Commands) (code : List Instruction) → code ≡ turned (commands_code commands []) → IsCodeOf code commands
+turned_is_code commands code e truth =
     let back = commands_code commands [] in
     let long : length code ≡ length back = ap length e ∙ length-map back (forward (length back)) in
     ap outcome_of (ap (λ l. jumps_from truth l (length code) 0 false at_first) e

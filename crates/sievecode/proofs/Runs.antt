@@ -9,7 +9,7 @@ use Rattle.sievecode.specs.Instructions.{Instruction, set, look, flip, jump, jum
 use Rattle.sievecode.specs.Instructions as I
 use Rattle.sievecode.specs.Layout.{test_code, all_code, any_code, command_code, branches_code, commands_code}
 
--- what code does after it has passed over so many instructions
+-- what code does after it has passed over that many instructions
 abbrev pub run : (Check → Bool) → ℕ → List Instruction → Bool → RunState → Flow
 run truth k [] flag so_far = Going so_far
 run truth (suc k) (instr ∷ code) flag so_far = run truth k code flag so_far

@@ -47,10 +47,10 @@ abbrev pub jumps : (Check → Bool) → List Instruction → ℕ → Option Outc
 jumps truth code n = outcome_of (jumps_from truth code n 0 false at_first)
 
 -- the code does what the tree does, in no more turns than the code is long, whichever tests hold
-abbrev pub Stands : List Instruction → Commands → Type 0
-Stands code tree = (truth : Check → Bool) → jumps truth code (length code) ≡ Some (outcome truth tree)
+abbrev pub IsCodeOf : List Instruction → Commands → Type 0
+IsCodeOf code tree = (truth : Check → Bool) → jumps truth code (length code) ≡ Some (outcome truth tree)
 
--- a jump from this place leads behind it, and at most to the end of code of this length
+-- a jump from this place leads past it, and at most to the end of code of this length
 abbrev pub LeadsForward : ℕ → ℕ → Instruction → Type 0
 LeadsForward place len (jump target) = (place < target) × (target ≤ len)
 LeadsForward place len (jump_if target) = (place < target) × (target ≤ len)

@@ -2,7 +2,7 @@
 ghost use Rattle.std.specs.Prelude.{◌≡◌, ◌≤◌, ◌*◌, length, map, IfOk};
 ghost use Rattle.sievesyntax.specs.View.{script_tree};
 ghost use Rattle.sievecode.specs.Instructions.{instr_view, seen};
-ghost use Rattle.sievecode.specs.Jumps.{Stands};
+ghost use Rattle.sievecode.specs.Jumps.{IsCodeOf};
 ghost use Rattle.sievecode.specs.Layout.{turned as turned_of};
 ghost use Rattle.sievecode.specs.Size.{size};
 
@@ -13,7 +13,7 @@ use std::alloc::{AllocError, Global};
 use std::marker::Model;
 
 /// Flat code. It borrows the tests and the actions of the script that it was compiled from. Each jump leads to a
-/// place behind its own, or to the end of the code: so a run takes no more turns than the code has instructions.
+/// place after its own, or to the end of the code: so a run takes no more turns than the code has instructions.
 #[derive(Drop)]
 pub struct Code<'a> {
     instrs: Vec<Instr<'a>>,
@@ -52,7 +52,7 @@ impl<'a> Code<'a> {
 ///
 /// [`AllocError`] where memory was refused.
 pub fn compile<'a>(alloc: Global, script: &'a Script) -> Result<Code<'a>, AllocError>
-    ensures stands { IfOk result (λ code. Stands code (script_tree script.now)) }
+    ensures is_code { IfOk result (λ code. IsCodeOf code (script_tree script.now)) }
     ensures short { IfOk result (λ code. length code ≤ 2 * size (script_tree script.now)) }
 {
     let mut rows = Vec::new(alloc);

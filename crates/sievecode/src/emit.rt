@@ -91,7 +91,7 @@ fn emit_command<'a>(rows: &mut Vec<Instr<'a>>, command: &'a Command) -> Result<(
     }
 }
 
-/// The code of branches in front: the first block whose test holds is run, and then the jump behind the last.
+/// The code of branches in front: the first block whose test holds is run, and then the jump after the last.
 #[cycle(commands)]
 fn emit_branches<'a>(rows: &mut Vec<Instr<'a>>, branches: &'a [Branch]) -> Result<(), AllocError>
     ensures { OnOk result (seen rows.new.items ≡ command_code (choose (branches_view branches.now)) (seen rows.old.items)) }

@@ -72,7 +72,7 @@ where
     Ok(listener)
 }
 
-/// Serves each client that connects, up to so many. A client that is gone before it is accepted is none.
+/// Serves each client that connects, up to that many. A client that is gone before it is accepted isn't counted.
 fn serve_all<K: Keeper>(
     alloc: Global,
     path: &str,

@@ -53,7 +53,7 @@ module _ (user folder : List ℕ) (Grew : List (List ℕ) → Type 0) where
 
   -- what a later step refuses, so that another try may help, leaves what moved
   pub drained_before : (most count : ℕ) (fault : Fault) (accounts later : Accounts) → status_of fault ≡ 75 → Drained user folder Grew most (Ok count) accounts later → BrokeOff user folder Grew fault accounts later
-  drained_before most count fault accounts later passing h = (count, record { left = h.1.moved.left; kept = inl h.1.moved.kept }, inr passing)
+  drained_before most count fault accounts later transient h = (count, record { left = h.1.moved.left; kept = inl h.1.moved.kept }, inr transient)
 
 -- a store was taken for the word, drained, and handed back
 pub drained_turned : (asked : Draining) (user folder : List ℕ) → user ≡ asked.user.now → folder ≡ asked.folder.now → (tells : Bool) (had has : List (List ℕ)) (most : ℕ) (q r : Result ℕ Fault) → q ≡ r → (held new : Database)
@@ -106,9 +106,9 @@ module _ (asked : Draining) (tells : Bool) (had opened has : List (List ℕ)) (s
 
   -- what comes after it fails, so that another try may help
   pub word_failed : (count : ℕ) (fault : Fault) → q ≡ Ok count → status_of fault ≡ 75 → Did (Err fault) held new
-  word_failed count fault is passing =
+  word_failed count fault is transient =
       turned_wider (Drained asked.user.now asked.folder.now Gained most (Ok count)) (WordDrained asked Gained (Err fault)) held new
-      (λ accounts later h. drained_before asked.user.now asked.folder.now Gained most count fault accounts later passing h) (as_drained (Ok count) is)
+      (λ accounts later h. drained_before asked.user.now asked.folder.now Gained most count fault accounts later transient h) (as_drained (Ok count) is)
 
   pub word_written : (count : ℕ) (r : Result (Unit {0}) Fault) → q ≡ Ok count → IsMost (option_copied asked.most) most → IfErr r (λ fault. fault ≡ Stream) → Did r held new
   word_written count (Ok done) is digits failed =
@@ -149,7 +149,7 @@ module _ (asked : Draining) (tells : Bool) (had has : List (List ℕ)) (old new 
       by (Ok done) accounts later h shown = inr (shows_moved given 0 h.1 accounts later (inl refl) h.3.1.moved.left shown)
       by (Err fault) accounts later h shown = elim h.2 [
         | inl none ↦ inl (subst (Presents new) (none_left asked.user.now asked.folder.now accounts later (subst (λ n. Leave asked.user.now asked.folder.now n accounts later) none h.1.left)) shown)
-        | inr passing ↦ inr (shows_moved given (status_of fault) h.0 accounts later (inr passing) h.1.left shown)
+        | inr transient ↦ inr (shows_moved given (status_of fault) h.0 accounts later (inr transient) h.1.left shown)
       ]
 
   abbrev SomeMoved : Accounts → Accounts → Type 0

@@ -17,7 +17,7 @@ digits_run (digit ∷ more) rest each = rw (All-head (λ x. is_digit x ≡ true)
 pub record IsCut (input : List ℕ) (number : ℕ) (rest : List ℕ) : Type 0 where
   pub short : prefix_len is_digit input ≤ 9
   pub written : Writes (take (prefix_len is_digit input) input) number
-  pub behind : drop (prefix_len is_digit input) input ≡ 10 ∷ rest
+  pub after : drop (prefix_len is_digit input) input ≡ 10 ∷ rest
 
 pub cut : (input : List ℕ) (number : ℕ) (rest : List ℕ) → Counts input number rest → IsCut input number rest
 cut input number rest counts =
@@ -25,7 +25,7 @@ cut input number rest counts =
     record {
       short = omega (arith, run, counts.short);
       written = subst (λ text. Writes text number) (sym (ap (λ n. take n input) run ∙ ap (take (length counts.digits)) counts.spelled ∙ take-append_seam counts.digits (10 ∷ rest))) counts.written;
-      behind = ap (λ n. drop n input) run ∙ ap (drop (length counts.digits)) counts.spelled ∙ drop-append_seam counts.digits (10 ∷ rest);
+      after = ap (λ n. drop n input) run ∙ ap (drop (length counts.digits)) counts.spelled ∙ drop-append_seam counts.digits (10 ∷ rest);
     }
 
 -- two counts of one input are one
@@ -33,7 +33,7 @@ pub counts_only : (input : List ℕ) (m n : ℕ) (xs ys : List ℕ) → Counts i
 counts_only input m n xs ys first second =
     let a = cut input m xs first in
     let b = cut input n ys second in
-    (sym a.written.value ∙ b.written.value, ap (drop 1) (sym a.behind ∙ b.behind))
+    (sym a.written.value ∙ b.written.value, ap (drop 1) (sym a.after ∙ b.after))
 
 -- each further digit is less than one place more
 places : (digits : List ℕ) (number bound : ℕ) → AllPass is_digit digits → number < bound → fold with_digit number digits < bound * 10 ^ length digits

@@ -12,8 +12,8 @@ use Rattle.mailstore.specs.declared.taking.NumberedMessage.{NumberedMessage}
 use Rattle.mailstore.specs.Account.{Account, Accounts, with_user, messages_in, takes_mail}
 use Rattle.mailstore.specs.AccountTable.{profile_of}
 use Rattle.mailstore.specs.CopyTable.{HasFirst}
-use Rattle.mailstore.specs.Promises.{HasOurTables, HasUser, IsFree, OfUser, Keeps, MayShow, Reads, ReadsProfile, WritesAccount}
-use Rattle.mailstore.specs.Refusals.{IsPassing}
+use Rattle.mailstore.specs.Promises.{HasOurTables, HasUser, IsFree, OfUser, Keeps, CrashLeavesAccounts, Reads, ReadsProfile, WritesAccount}
+use Rattle.mailstore.specs.Refusals.{IsTransient}
 use Rattle.mailstore.proofs.WriteLemmas.{clean_before}
 use Rattle.sessions.specs.Acts.{HasAccounts, CrashLeaves}
 use Rattle.sessions.proofs.ActLemmas.{glanced, accounts_stay, read_shows}
@@ -86,7 +86,7 @@ module _ (user folder : List ℕ) (tells : Bool) (had has : List (List ℕ)) whe
 
       module _ (c : State) (q : Result (Unit {0}) Refusal) (writes : WritesAccount user (takes_mail folder 1) b c q) (acts : ActsMailTaking user folder a c q) (kept : IsTrue tells → has ≡ had ++ message.message ∷ []) where
         before : HasCleanDisk c → HasCleanDisk b
-        before = clean_before b c (MayShow (HasUser user) (λ all. with_user all user (takes_mail folder 1)) b) writes.crash
+        before = clean_before b c (CrashLeavesAccounts (HasUser user) (λ all. with_user all user (takes_mail folder 1)) b) writes.crash
 
         one_kept : (mail : List (List ℕ)) (more : List (List ℕ)) → mail ≡ message.message ∷ more → Grew (take 1 mail)
         one_kept mail more mail_is told = kept told ∙ ap (λ l. had ++ take 1 l) (sym mail_is)
@@ -116,12 +116,12 @@ module _ (user folder : List ℕ) (tells : Bool) (had has : List (List ℕ)) whe
           carries = λ clean accounts shown.
               let mail = is_first (before clean) accounts shown in
               let h = acts.carries clean accounts shown in
-              (h.0, by accounts h.0 mail.0 mail.1 (subst (λ o. TurnsBy (λ all. MailTaking all user folder) IsPassing (answer_by (λ done. MailTaken) o) accounts h.0) ok h.1), h.2);
+              (h.0, by accounts h.0 mail.0 mail.1 (subst (λ o. TurnsBy (λ all. MailTaking all user folder) IsTransient (answer_by (λ done. MailTaken) o) accounts h.0) ok h.1), h.2);
           shut = acts.shut;
           crash = crashes;
         }
           where
-            by : (accounts later : Accounts) (more : List (List ℕ)) → mail_in accounts user folder ≡ message.message ∷ more → TurnsBy (λ all. MailTaking all user folder) IsPassing MailTaken accounts later
+            by : (accounts later : Accounts) (more : List (List ℕ)) → mail_in accounts user folder ≡ message.message ∷ more → TurnsBy (λ all. MailTaking all user folder) IsTransient MailTaken accounts later
                 → Moved user folder Grew 1 accounts later
             by accounts later more mail (inl row) = record { left = leave_one user folder accounts later row; kept = one_kept (mail_in accounts user folder) more mail }
             by accounts later more mail (inr refused) = absurd (let no = refused.2 in cc)
@@ -132,12 +132,12 @@ module _ (user folder : List ℕ) (tells : Bool) (had has : List (List ℕ)) whe
           carries = λ clean accounts shown.
               let mail = is_first (before clean) accounts shown in
               let h = acts.carries clean accounts shown in
-              (h.0, by accounts h.0 mail.0 mail.1 (subst (λ o. TurnsBy (λ all. MailTaking all user folder) IsPassing (answer_by (λ done. MailTaken) o) accounts h.0) refused h.1), h.2);
+              (h.0, by accounts h.0 mail.0 mail.1 (subst (λ o. TurnsBy (λ all. MailTaking all user folder) IsTransient (answer_by (λ done. MailTaken) o) accounts h.0) refused h.1), h.2);
           shut = acts.shut;
           crash = crashes;
         }
           where
-            by : (accounts later : Accounts) (more : List (List ℕ)) → mail_in accounts user folder ≡ message.message ∷ more → TurnsBy (λ all. MailTaking all user folder) IsPassing (Refused e) accounts later
+            by : (accounts later : Accounts) (more : List (List ℕ)) → mail_in accounts user folder ≡ message.message ∷ more → TurnsBy (λ all. MailTaking all user folder) IsTransient (Refused e) accounts later
                 → StoppedShort user folder Grew 0 accounts later
             by accounts later more mail (inl row) = absurd (let no = has_first user folder accounts later (Refused e) message.message more mail row in cc)
             by accounts later more mail (inr stays) = record { left = ap world_of stays.3; kept = inr (one_kept (mail_in accounts user folder) more mail) }
@@ -173,7 +173,7 @@ module _ (user folder : List ℕ) (tells : Bool) (had mid has : List (List ℕ))
     ];
   }
 
-  -- what a crash leaves behind the second
+  -- what a crash leaves after the second
   lost_then : (count : ℕ) (accounts between later : Accounts) → Moved user folder Before count accounts between → LostNone user folder After between later → LostNone user folder Whole accounts later
   lost_then count accounts between later one two =
       let first = take count (mail_in accounts user folder) in
@@ -186,7 +186,7 @@ module _ (user folder : List ℕ) (tells : Bool) (had mid has : List (List ℕ))
             (subst Whole (sym (append_assoc first rest two.others)) (grown_then tells had mid has first (rest ++ two.others) one.kept two.kept));
       }
 
-  -- what a crash leaves behind the first, once more is kept
+  -- what a crash leaves after the first, once more is kept
   lost_before : (accounts later : Accounts) (more : List (List ℕ)) → LostNone user folder Before accounts later → After more → LostNone user folder Whole accounts later
   lost_before accounts later more one after =
       let first = take one.count (mail_in accounts user folder) in
@@ -294,10 +294,10 @@ most_moved user folder Grew most count a b is moves =
 -- ---- a user whose account was looked for first
 
 -- a refusal that may pass says nothing of the user
-passing_user : (fault : Fault) → status_of fault ≡ 75 → (q : Result ℕ Fault) → q ≡ Err fault → q ≡ Err NoUser → ⊥
-passing_user fault passing q was is =
+transient_user : (fault : Fault) → status_of fault ≡ 75 → (q : Result ℕ Fault) → q ≡ Err fault → q ≡ Err NoUser → ⊥
+transient_user fault transient q was is =
     let same : fault ≡ NoUser = cc in
-    differ 67 75 refl refl (sym (ap status_of same) ∙ passing)
+    differ 67 75 refl refl (sym (ap status_of same) ∙ transient)
   where
     differ : (x y : ℕ) → x ≡ 67 → y ≡ 75 → x ≡ y → ⊥
     differ x y one two e = absurd (omega arith)
@@ -327,11 +327,11 @@ module _ (user folder : List ℕ) (tells : Bool) (had has : List (List ℕ)) (mo
 
   -- the account can't be read now
   pub not_looked : (fault : Fault) → status_of fault ≡ 75 → Grown [] → MovesMail user folder Grown (Ended (Err fault)) a b
-  not_looked fault passing same = read_alone user folder tells had has a b r (Ended (Err fault)) reads.keeps
-      (λ clean accounts shown. ((0, record { left = refl; kept = inl same }, inl refl), λ is. absurd (passing_user fault passing (Err fault) refl is)))
+  not_looked fault transient same = read_alone user folder tells had has a b r (Ended (Err fault)) reads.keeps
+      (λ clean accounts shown. ((0, record { left = refl; kept = inl same }, inl refl), λ is. absurd (transient_user fault transient (Err fault) refl is)))
 
   -- the account is there, and messages were moved
-  module _ (c : State) (p : Profile) (was : r ≡ Ok (Some p)) (q : Result ℕ Fault) (passing : IfErr q (λ fault. status_of fault ≡ 75)) where
+  module _ (c : State) (p : Profile) (was : r ≡ Ok (Some p)) (q : Result ℕ Fault) (transient : IfErr q (λ fault. status_of fault ≡ 75)) where
     abbrev Looked : Accounts → Accounts → Type 0
     Looked accounts between = Moved user folder (GrowsBy tells had had) 0 accounts between × HasUser user accounts
 
@@ -350,8 +350,8 @@ module _ (user folder : List ℕ) (tells : Bool) (had has : List (List ℕ)) (mo
     ended : (q : Result ℕ Fault) → IfErr q (λ fault. status_of fault ≡ 75) → (accounts between later : Accounts) → Looked accounts between → AnyMoved user folder Grown most q between later → Ended q accounts later
     ended (Ok count) passes accounts between later look h = ((look.1, alike (λ all. AllMoved user folder Grown most count all later) accounts between look h), λ is. absurd (let no = is in cc))
     ended (Err fault) passes accounts between later look h =
-        ((h.0, alike (λ all. StoppedShort user folder Grown h.0 all later) accounts between look h.1, inr passes), λ is. absurd (passing_user fault passes (Err fault) refl is))
+        ((h.0, alike (λ all. StoppedShort user folder Grown h.0 all later) accounts between look h.1, inr passes), λ is. absurd (transient_user fault passes (Err fault) refl is))
 
     pub drained_then : MovesMail user folder Grown (AnyMoved user folder Grown most q) b c → MovesMail user folder Grown (Ended q) a c
     drained_then moves =
-        moves_then user folder tells had had has a b c Looked (AnyMoved user folder Grown most q) (Ended q) 0 (λ accounts between h. h.0) (grew_any q) (ended q passing) looked moves
+        moves_then user folder tells had had has a b c Looked (AnyMoved user folder Grown most q) (Ended q) 0 (λ accounts between h. h.0) (grew_any q) (ended q transient) looked moves

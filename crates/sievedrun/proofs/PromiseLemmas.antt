@@ -8,7 +8,7 @@ use Rattle.mailstore.specs.Schema.{no_schema, mail_schema}
 use Rattle.mailstore.specs.Shows.{Presents}
 use Rattle.mailstore.specs.Connection.{StaysSame}
 use Rattle.mailstore.specs.Promises.{HasOurTables, Keeps}
-use Rattle.mailstore.specs.Refusals.{IsPassing}
+use Rattle.mailstore.specs.Refusals.{IsTransient}
 use Rattle.mailstore.specs.declared.refusal.Refusal.{Refusal}
 use Rattle.mailengine.specs.declared.event.Event.{Event}
 use Rattle.mailengine.specs.declared.event.Event.TheVariants.{Deliver, AddUser, TakeOut}
@@ -62,7 +62,7 @@ added_next name address salt password accounts later (inl row) = inl (later, row
 added_next name address salt password accounts later (inr refused) = absurd (let no = refused.2 in cc)
 
 -- and a row that was taken out
-pub taken_next : (user : List ℕ) (id : ℕ) (row : Outgoing) (accounts later : Accounts) → TurnsBy (λ all. Taking all user id) IsPassing (Taken row) accounts later → Next (world_of accounts) (TakeOut user id) (Taken row) (world_of later)
+pub taken_next : (user : List ℕ) (id : ℕ) (row : Outgoing) (accounts later : Accounts) → TurnsBy (λ all. Taking all user id) IsTransient (Taken row) accounts later → Next (world_of accounts) (TakeOut user id) (Taken row) (world_of later)
 taken_next user id row accounts later (inl turned) = inl (later, turned, refl)
 taken_next user id row accounts later (inr refused) = absurd (let no = refused.2 in cc)
 
@@ -121,8 +121,8 @@ after_later OfThese Others status later of may old new leaves =
     (λ accounts. shows_later (IsOne OfThese) (IsOne Others) status later (λ events one. (one.0, one.1, of one.0 one.2)) may accounts new) (λ h. h) leaves
 
 -- a store that couldn't be closed, or memory that is lacking, doesn't deny an event
-pub passing_may_follow : (refusal : Refusal) → IsPassing refusal → MayFollow (status_of (fault_of refusal))
-passing_may_follow refusal passing = inr (elim passing [ inl e ↦ ap (λ r. status_of (fault_of r)) e | inr e ↦ ap (λ r. status_of (fault_of r)) e ])
+pub transient_may_follow : (refusal : Refusal) → IsTransient refusal → MayFollow (status_of (fault_of refusal))
+transient_may_follow refusal transient = inr (elim transient [ inl e ↦ ap (λ r. status_of (fault_of r)) e | inr e ↦ ap (λ r. status_of (fault_of r)) e ])
 
 -- nor does a failure to write
 pub failure_may_follow : (fault : Fault) → IsFailure fault → MayFollow (status_of fault)

@@ -23,17 +23,17 @@ use Rattle.sievedrun.proofs.StreamLemmas.{nothing_read, nothing_written, read_on
 
 -- ---- a step over a store that saw what was held, and was handed back, open and over a disk that keeps what is written
 
-module _ (held new : Database) (taken given : State) (seen : taken.now ≡ held) (clean : HasCleanDisk given) (live : IsTrue given.is_open) (back : new ≡ given.now) (c d : Client) (before behind : List ℕ) where
-  pub step_made : (progress : Progress) (r : Result Progress Refusal) → r ≡ Ok progress → Carries (StepsTo c d r before behind) taken given → (accounts : Accounts) → Presents held accounts → StepsOn accounts c before behind d new true
+module _ (held new : Database) (taken given : State) (seen : taken.now ≡ held) (clean : HasCleanDisk given) (live : IsTrue given.is_open) (back : new ≡ given.now) (c d : Client) (before after : List ℕ) where
+  pub step_made : (progress : Progress) (r : Result Progress Refusal) → r ≡ Ok progress → Carries (StepsTo c d r before after) taken given → (accounts : Accounts) → Presents held accounts → StepsOn accounts c before after d new true
   step_made progress r is carries accounts shown =
       let carried = carries clean accounts (λ _. subst (λ db. Presents db accounts) (sym seen) shown) in
-      let turn = subst (λ x. StepsTo c d x before behind accounts carried.0) is carried.1 in
+      let turn = subst (λ x. StepsTo c d x before after accounts carried.0) is carried.1 in
       (progress, turn.0, carried.0, turn.1, turn.2, subst (λ db. Presents db carried.0) (sym back) (carried.2 live))
 
-  pub step_refused : (refusal : Refusal) (r : Result Progress Refusal) → r ≡ Err refusal → Carries (StepsTo c d r before behind) taken given → d ≡ c → behind ≡ before → (accounts : Accounts) → Presents held accounts → StepsOn accounts c before behind d new false
+  pub step_refused : (refusal : Refusal) (r : Result Progress Refusal) → r ≡ Err refusal → Carries (StepsTo c d r before after) taken given → d ≡ c → after ≡ before → (accounts : Accounts) → Presents held accounts → StepsOn accounts c before after d new false
   step_refused refusal r is carries same silent accounts shown =
       let carried = carries clean accounts (λ _. subst (λ db. Presents db accounts) (sym seen) shown) in
-      let turn : carried.0 ≡ accounts = subst (λ x. StepsTo c d x before behind accounts carried.0) is carried.1 in
+      let turn : carried.0 ≡ accounts = subst (λ x. StepsTo c d x before after accounts carried.0) is carried.1 in
       (same, silent, subst (λ db. Presents db accounts) (sym back) (subst (λ a. Presents given.now a) turn (carried.2 live)))
 
 -- ---- rounds
@@ -53,7 +53,7 @@ passes_one accounts c r new round shown = record { later = r.accounts; leads = (
 
 -- ---- what is written, and what waits
 
--- a front of a text behind all of another
+-- a front of a text after all of another
 pub front_on : (a b c : Option (List ℕ)) (first text : List ℕ) → Appends a b first → AppendsFront b c text → AppendsFront a c (first ++ text)
 front_on a b c first text before more = (length first + more.0, subst (Appends a c) (sym (take-append-add first text more.0)) (written_on a b c first (take more.0 text) before more.1))
 
@@ -68,7 +68,7 @@ tells_on a b c one two three text more first second = record {
   whole = append_assoc first.written second.written three ∙ ap (λ l. first.written ++ l) second.whole ∙ sym (append_assoc first.written two more) ∙ ap (λ l. l ++ more) first.whole ∙ append_assoc one text more;
 }
 
--- a write that failed behind what was told: a front of it all is written
+-- a write that failed after what was told: a front of it all is written
 pub tells_front : (a b c : Option (List ℕ)) (one two text more : List ℕ) → Tells a one b two text → AppendsFront b c (two ++ more) → AppendsFront a c (one ++ (text ++ more))
 tells_front a b c one two text more first front =
     subst (AppendsFront a c) (sym (append_assoc first.written two more) ∙ ap (λ l. l ++ more) first.whole ∙ append_assoc one text more) (front_on a b c first.written (two ++ more) first.appends front)
@@ -158,18 +158,18 @@ first_written accounts c d out out2 waits waits2 waits3 new a (Err fault) whole 
   written = subst (λ l. AppendsFront out out2 (waits ++ l)) (append-nil (said_in a.rounds)) (tells_front out out out2 waits waits2 (said_in a.rounds) [] a.told (subst (AppendsFront out out2) (sym (append-nil waits2)) broken));
 }
 
--- it is given up, behind what waited, or that can't be written
+-- it is given up, after what waited, or that can't be written
 pub first_given_up : (accounts : Accounts) (c d : Client) (out out2 out3 : Option (List ℕ)) (waits waits2 text : List ℕ) (new : Database) → is_ready c ≡ true → Presents new accounts → text ≡ text_given_up c → d ≡ client_given_up c
     → Appends out out2 waits → waits2 ≡ [] → (r : Result (Unit {0}) Fault) → OnOk r (Appends out2 out3 text) → OnErr r (AppendsFront out2 out3 text) → AnswersFirst accounts c out waits out3 waits2 d new r
-first_given_up accounts c d out out2 out3 waits waits2 text new ready shown told drops before empty (Ok done) behind broken =
+first_given_up accounts c d out out2 out3 waits waits2 text new ready shown told drops before empty (Ok done) after broken =
     let r : Round = record { came = []; said = text; accounts = accounts; client = d } in
     record {
       rounds = r ∷ [];
       passes = passes_one accounts c r new (inr (inr (record { ready = ready; none = refl; told = told; drops = drops; same = refl }))) shown;
       none = refl;
-      told = record { written = waits ++ text; appends = written_on out out2 out3 waits text before behind; whole = ap (λ l. (waits ++ text) ++ l) empty ∙ append-nil (waits ++ text) ∙ ap (λ l. waits ++ l) (sym (append-nil text)) };
+      told = record { written = waits ++ text; appends = written_on out out2 out3 waits text before after; whole = ap (λ l. (waits ++ text) ++ l) empty ∙ append-nil (waits ++ text) ∙ ap (λ l. waits ++ l) (sym (append-nil text)) };
     }
-first_given_up accounts c d out out2 out3 waits waits2 text new ready shown told drops before empty (Err fault) behind broken =
+first_given_up accounts c d out out2 out3 waits waits2 text new ready shown told drops before empty (Err fault) after broken =
     let r : Round = record { came = []; said = text; accounts = accounts; client = d } in
     record {
       rounds = r ∷ [];

@@ -22,7 +22,7 @@ read_none (Some x) None c read first kept = absurd first
 read_none (Some x) (Some y) None read first kept = absurd kept
 read_none (Some x) (Some y) (Some z) read first kept = first ∙ ap (λ l. read ++ l) (sym kept)
 
--- the filled front of the room, and what one read put behind it
+-- the filled front of the room, and what one read put after it
 pub filled_on : (a b c : Option (List ℕ)) (old new : List ℕ) (filled n : ℕ) → take filled new ≡ take filled old → Consumes a b (take filled old) → Consumes b c (take n (drop filled new)) → Consumes a c (take (filled + n) new)
 filled_on a b c old new filled n front before more =
     subst (Consumes a c) (sym (take-add filled n new ∙ ap (λ l. l ++ take n (drop filled new)) front)) (read_on a b c _ _ before more)
@@ -46,7 +46,7 @@ written_none (Some x) None c written first kept = absurd first
 written_none (Some x) (Some y) None written first kept = absurd kept
 written_none (Some x) (Some y) (Some z) written first kept = kept ∙ first
 
--- the written front of the text, and what one write gave behind it
+-- the written front of the text, and what one write gave after it
 pub text_on : (a b c : Option (List ℕ)) (text rest : List ℕ) (at n : ℕ) → rest ≡ drop at text → Appends a b (take at text) → Appends b c (take n rest) → Appends a c (take (at + n) text)
 text_on a b c text rest at n split before more =
     subst (Appends a c) (sym (take-add at n text ∙ ap (λ l. take at text ++ take n l) (sym split))) (written_on a b c _ _ before more)

@@ -9,6 +9,6 @@ pub record Counts (input : List ℕ) (number : ℕ) (rest : List ℕ) : Type 0 w
   pub short : length digits ≤ 9
   pub spelled : input ≡ digits ++ 10 ∷ rest
 
--- a line with how many octets the script has, so many octets of script, and the message to the end
+-- a line with how many octets the script has, that many octets of script, and the message to the end
 abbrev pub IsFramed : List ℕ → List ℕ → List ℕ → Type 0
 IsFramed input script message = Counts input (length script) (script ++ message)

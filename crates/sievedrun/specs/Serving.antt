@@ -15,11 +15,11 @@ use Rattle.sessions.specs.Steps.{IsStep}
 use Rattle.sievedrun.specs.declared.fault.Fault.{Fault}
 use Rattle.sievedrun.specs.Streams.{AppendsFront}
 
--- a piece of the client's octets has at most so many
+-- a piece of the client's octets has at most that many
 abbrev pub largest_piece : ℕ
 largest_piece = 4096
 
--- one round: what came of the client, what was said to it, and the accounts and the client behind it
+-- one round: what came of the client, what was said to it, and the accounts and the client after it
 pub record Round : Type 0 where
   pub came : List ℕ
   pub said : List ℕ
@@ -64,7 +64,7 @@ came_in rounds = flat_map (λ r. r.came) rounds
 abbrev pub said_in : List Round → List ℕ
 said_in rounds = flat_map (λ r. r.said) rounds
 
--- what is written, and behind it what waits to be written, grew by a text
+-- what is written, and after it what waits to be written, grew by a text
 pub record Tells (old : Option (List ℕ)) (waited : List ℕ) (new : Option (List ℕ)) (waits : List ℕ) (text : List ℕ) : Type 0 where
   pub written : List ℕ
   pub appends : Appends old new written
@@ -106,7 +106,7 @@ abbrev pub AnswersAll : Accounts → Client → Option (List ℕ) → Option (Li
 AnswersAll accounts c out_old out_new d new (Ok done) = Answered accounts c out_old [] out_new [] d new × (is_ready d ≡ false)
 AnswersAll accounts c out_old out_new d new (Err fault) = Interrupted accounts c out_old [] out_new new
 
--- a step was made of the session, whose answer waits behind what waited; or nothing changed
+-- a step was made of the session, whose answer waits after what waited; or nothing changed
 abbrev pub StepsOn : Accounts → Client → List ℕ → List ℕ → Client → Database → Bool → Type 0
 StepsOn accounts c waited waits d new true = (progress : Progress) × (octets : List ℕ) × (later : Accounts) × (waits ≡ waited ++ octets) × IsStep accounts c progress octets d later × Presents new later
 StepsOn accounts c waited waits d new false = (d ≡ c) × (waits ≡ waited) × Presents new accounts

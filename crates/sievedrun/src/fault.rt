@@ -25,7 +25,7 @@ pub enum Fault {
     /// A read or a write failed, the input has more pieces than are read, or the clock can't be read.
     #[error("input or output failed")]
     Stream,
-    /// The database is none that `init` made.
+    /// The database isn't one that `init` made.
     #[error("not a sieved database")]
     NotOurs,
     /// No account has the name.

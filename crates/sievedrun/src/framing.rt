@@ -6,7 +6,7 @@ ghost use Rattle.sievedrun.specs.Framing.{Counts, IsFramed};
 
 use octets::parse_decimal;
 
-/// A count of more digits than this is none.
+/// A count of more digits than this isn't one.
 const MAX_DIGITS: usize = 9;
 
 /// A script and the message that it is tried on, as they stand in the input.
@@ -19,7 +19,7 @@ pub struct Framed<'a> {
 }
 
 /// The script and the message of an input: a line of one to nine digits with how many octets the script has,
-/// so many octets of script, and the message to the end. `None` where the input is no such thing. Takes no memory.
+/// that many octets of script, and the message to the end. `None` where the input is no such thing. Takes no memory.
 pub fn split(input: &[u8]) -> Option<Framed<'_>>
     ensures found { IfSome result (λ f. IsFramed input.now f.script.now f.message.now) }
     ensures only { IfSome result (λ f. (script message : List ℕ) → IsFramed input.now script message →
@@ -43,8 +43,8 @@ fn counted(input: &[u8]) -> Option<(u64, &[u8])>
     if len > MAX_DIGITS {
         return None;
     }
-    let (digits, behind) = input.split_at(len);
-    let (mark, rest) = behind.split_first()?;
+    let (digits, after) = input.split_at(len);
+    let (mark, rest) = after.split_first()?;
     if *mark != b'\n' {
         return None;
     }

@@ -22,10 +22,10 @@ use std::io::{Read, Write};
 /// A session that needs more reads than this is ended.
 const MAX_READS: u32 = 40_000_000;
 
-/// So many octets are read at once at most.
+/// At most this many octets are read at once.
 const PIECE: usize = 4096;
 
-/// Answers of so many octets, or more, aren't held back for those of other commands.
+/// Answers of that many octets, or more, aren't held back for those of other commands.
 const MAX_WAITING: usize = 65_536;
 
 /// Serves one client of ManageSieve (RFC 5804) over a reader and a writer: greets, and answers each command as soon as it
@@ -127,7 +127,7 @@ fn answer_all<W: Write, K: Keeper>(
     Err(Fault::Stream)
 }
 
-/// Answers what comes first. Where it can't be answered now it is given up, and that is written at once, behind the
+/// Answers what comes first. Where it can't be answered now it is given up, and that is written at once, after the
 /// answers that wait.
 fn answer_first<W: Write, K: Keeper>(
     alloc: Global,

@@ -35,7 +35,7 @@ pub fn read_all<R: Read>(alloc: Global, input: &mut R) -> Result<Vec<u8>, Fault>
     Err(Fault::Stream)
 }
 
-/// Room behind the filled octets, which stay.
+/// Room after the filled octets, which stay.
 fn make_room(octets: &mut Vec<u8>, filled: usize) -> Result<(), AllocError>
     requires { filled ≤ vec_len octets.old }
     ensures room { OnOk result (filled < vec_len octets.new) }

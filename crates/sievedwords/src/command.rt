@@ -31,7 +31,7 @@ fn try_word<'a>(alloc: Global) -> Result<Command<'a>, AllocError> {
         .about("Says what a script does with a message, and stores nothing")
         .after_help(
             "Reads a line with the script's length in decimal, the script, and the message.
-Prints `file NAME`, `send ADDRESS`, `vacation wanted`, or `discard`; or `line N: ..` of a script that isn't valid.
+Prints `file NAME`, `send ADDRESS`, `vacation wanted`, or `discard`; `failed: TEXT` of a run that fails; or `line N: ..` of a script that isn't valid.
 Status 0: said. 64: wrong words. 65: not valid, or no such input. 75: memory, input or output failed.",
         )
         .arg(option(alloc, "from", "A", "The envelope's sender [default: none]"))?

@@ -45,7 +45,7 @@ module _ (truth : Check → Bool) (code : List Instruction) (whole : Option Flow
       (sym (turned (jumps_from truth code m))
       ∙ sym (ap (λ o. at_place o (λ instr. turn truth (jumps_from truth code m) instr place flag state) state) here) ∙ e)
 
-  -- behind the last place
+  -- after the last place
   pub at_end : (flag : Bool) (state : RunState) → Gives truth code whole place flag state → length code ≤ place → Some (Going state) ≡ whole
   at_end flag state (zero, enough, e) end = sym (ap (λ o. at_place o (λ instr. None) state) (slice_get_past code place end)) ∙ e
   at_end flag state (suc m, enough, e) end =
@@ -61,9 +61,9 @@ machine_turn mail cached instrs code whole place instr made made' flag flag' sta
     λ next. ap (λ m. turn (truth_at m) next (instr_view instr) place flag state) (sym same) ∙ turned next in
     (subst (MovesOn place) is on, subst (λ t. Leaves (truth_at mail) code whole t flag' state') is (one_turn (truth_at mail) code whole place (instr_view instr) made flag flag' state state' gives at turned' on))
 
--- a place behind all instructions
-pub behind_all : (instrs : List Instr) (code : List Instruction) (place : ℕ) → map instr_view instrs ≡ code → length instrs ≤ place → length code ≤ place
-behind_all instrs code place seen past = let long = length-map instrs instr_view in omega (arith, ap length seen)
+-- a place after all instructions
+pub after_all : (instrs : List Instr) (code : List Instruction) (place : ℕ) → map instr_view instrs ≡ code → length instrs ≤ place → length code ≤ place
+after_all instrs code place seen past = let long = length-map instrs instr_view in omega (arith, ap length seen)
 
 -- the outcome of a run that is over
 pub over : (result : Result Outcome AllocError) (end : OutcomeSpec) (whole : Option Flow) → Some end ≡ outcome_of whole → IfOk result (λ done. outcome_view done ≡ end) → IfOk result (λ done. Some (outcome_view done) ≡ outcome_of whole)

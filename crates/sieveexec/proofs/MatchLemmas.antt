@@ -15,7 +15,7 @@ use Rattle.sieveexec.proofs.Decisions.{decides_as, any_decides}
 
 -- the images of a key stand first in those of a text
 abbrev BeginsBy : (ℕ → ℕ) → List ℕ → List ℕ → Type 0
-BeginsBy image key value = (behind : List ℕ) × (map image value ≡ map image (key ++ behind))
+BeginsBy image key value = (after : List ℕ) × (map image value ≡ map image (key ++ after))
 
 first_same : (a b : ℕ) (x y : List ℕ) → a ∷ x ≡ b ∷ y → a ≡ b
 first_same a b x y same = cc
@@ -34,31 +34,31 @@ never same = absurd (let no : ⊥ = cc in no)
 
 begins_decides : (image : ℕ → ℕ) (key value : List ℕ) → Decides (begins_with image key value) (BeginsBy image key value)
 begins_decides image [] value = (λ h. (value, refl), λ begins. refl)
-begins_decides image (one ∷ key) [] = (λ h. never h, λ (behind, same). nothing (image one) (map image (key ++ behind)) same)
+begins_decides image (one ∷ key) [] = (λ h. never h, λ (after, same). nothing (image one) (map image (key ++ after)) same)
 begins_decides image (one ∷ key) (other ∷ value) =
     decides_as _
-    (λ (first, (behind, same)). (behind, both_same _ _ _ _ (sym first) same))
-    (λ (behind, same). (sym (first_same _ _ _ _ same), (behind, rest_same _ _ _ _ same)))
+    (λ (first, (after, same)). (after, both_same _ _ _ _ (sym first) same))
+    (λ (after, same). (sym (first_same _ _ _ _ same), (after, rest_same _ _ _ _ same)))
     (Decides-and _ _ (Decides-eqb (image one) (image other)) (begins_decides image key value))
 
 -- the images of a key stand first in a text or in what follows its first octet
 contained_later : (image : ℕ → ℕ) (key : List ℕ) (octet : ℕ) (rest : List ℕ) → BeginsBy image key (octet ∷ rest) ⊎ ContainsBy image key rest → ContainsBy image key (octet ∷ rest)
-contained_later image key octet rest (inl (behind, same)) = ([], (behind, same))
-contained_later image key octet rest (inr (before, (behind, same))) = (octet ∷ before, (behind, ap (λ l. image octet ∷ l) same))
+contained_later image key octet rest (inl (after, same)) = ([], (after, same))
+contained_later image key octet rest (inr (before, (after, same))) = (octet ∷ before, (after, ap (λ l. image octet ∷ l) same))
 
-contained_first : (image : ℕ → ℕ) (key : List ℕ) (octet : ℕ) (rest before behind : List ℕ) → map image (octet ∷ rest) ≡ map image (before ++ key ++ behind) → BeginsBy image key (octet ∷ rest) ⊎ ContainsBy image key rest
-contained_first image key octet rest [] behind same = inl (behind, same)
-contained_first image key octet rest (first ∷ before) behind same = inr (before, (behind, rest_same _ _ _ _ same))
+contained_first : (image : ℕ → ℕ) (key : List ℕ) (octet : ℕ) (rest before after : List ℕ) → map image (octet ∷ rest) ≡ map image (before ++ key ++ after) → BeginsBy image key (octet ∷ rest) ⊎ ContainsBy image key rest
+contained_first image key octet rest [] after same = inl (after, same)
+contained_first image key octet rest (first ∷ before) after same = inr (before, (after, rest_same _ _ _ _ same))
 
-contained_nowhere : (image : ℕ → ℕ) (key before behind : List ℕ) → [] ≡ map image (before ++ key ++ behind) → BeginsBy image key []
-contained_nowhere image key [] behind same = (behind, same)
-contained_nowhere image key (first ∷ before) behind same = nothing _ _ same
+contained_nowhere : (image : ℕ → ℕ) (key before after : List ℕ) → [] ≡ map image (before ++ key ++ after) → BeginsBy image key []
+contained_nowhere image key [] after same = (after, same)
+contained_nowhere image key (first ∷ before) after same = nothing _ _ same
 
 contained_decides : (image : ℕ → ℕ) (key value : List ℕ) → Decides (is_contained image key value) (ContainsBy image key value)
 contained_decides image key [] =
-    decides_as _ (λ (behind, same). ([], (behind, same))) (λ (before, (behind, same)). contained_nowhere image key before behind same) (begins_decides image key [])
+    decides_as _ (λ (after, same). ([], (after, same))) (λ (before, (after, same)). contained_nowhere image key before after same) (begins_decides image key [])
 contained_decides image key (octet ∷ rest) =
-    decides_as _ (contained_later image key octet rest) (λ (before, (behind, same)). contained_first image key octet rest before behind same)
+    decides_as _ (contained_later image key octet rest) (λ (before, (after, same)). contained_first image key octet rest before after same)
     (Decides-or _ _ (begins_decides image key (octet ∷ rest)) (contained_decides image key rest))
 
 -- some end of a text is what a test decides

@@ -21,7 +21,7 @@ lowered_name : (name : List ℕ) → list_all is_name (lowered name) ≡ list_al
 lowered_name [] = refl
 lowered_name (octet ∷ rest) = ap (λ b. b && list_all is_name (lowered rest)) (lower_name octet) ∙ ap (λ b. is_name octet && b) (lowered_name rest)
 
--- empty, or with an octet that is none of a name
+-- empty, or with an octet that may not stand in a name
 abbrev IsInvalid : List ℕ → Type 0
 IsInvalid name = (list_all is_name name ≡ false) ⊎ (name ≡ [])
 

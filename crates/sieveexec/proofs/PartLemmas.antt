@@ -32,19 +32,19 @@ bare_domain [] bare = refl
 bare_domain (octet ∷ rest) bare =
     cond-false (has_at rest) _ _ (or_parts _ _ bare).1 ∙ cond-false (is_at octet) rest [] (or_parts _ _ bare).0
 
-has_at_behind : (local domain : List ℕ) → has_at (local ++ 64 ∷ domain) ≡ true
-has_at_behind [] domain = refl
-has_at_behind (octet ∷ more) domain = ap (λ later. is_at octet || later) (has_at_behind more domain) ∙ or-true (is_at octet)
+has_at_after : (local domain : List ℕ) → has_at (local ++ 64 ∷ domain) ≡ true
+has_at_after [] domain = refl
+has_at_after (octet ∷ more) domain = ap (λ later. is_at octet || later) (has_at_after more domain) ∙ or-true (is_at octet)
 
--- what is put before and behind the last `@` is cut there again
+-- what is put before and after the last `@` is cut there again
 cut_local : (local domain : List ℕ) → has_at domain ≡ false → local_of (local ++ 64 ∷ domain) ≡ local
 cut_local [] domain last = cond-true (not (has_at domain)) [] _ (ap not last)
 cut_local (octet ∷ more) domain last =
-    goes_further (is_at octet) _ _ (has_at_behind more domain) ∙ ap (λ l. octet ∷ l) (cut_local more domain last)
+    goes_further (is_at octet) _ _ (has_at_after more domain) ∙ ap (λ l. octet ∷ l) (cut_local more domain last)
 
 cut_domain : (local domain : List ℕ) → has_at domain ≡ false → domain_of (local ++ 64 ∷ domain) ≡ domain
 cut_domain [] domain last = cond-false (has_at domain) _ _ last
-cut_domain (octet ∷ more) domain last = cond-true _ _ _ (has_at_behind more domain) ∙ cut_domain more domain last
+cut_domain (octet ∷ more) domain last = cond-true _ _ _ (has_at_after more domain) ∙ cut_domain more domain last
 
 -- a text is cut in one way
 pub cuts_only : (text local domain : List ℕ) → Cuts text local domain → (local ≡ local_of text) × (domain ≡ domain_of text)

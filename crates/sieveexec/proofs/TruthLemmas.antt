@@ -16,7 +16,7 @@ use Rattle.addrparts.proofs.Lists.{addrs-are, addrs-only}
 use Rattle.sieveexec.specs.Mails.{MailSpec, values_of, texts_of, has_addresses, addresses_of}
 use Rattle.sieveexec.specs.Matches.{MatchesSome}
 use Rattle.sieveexec.specs.Parts.{part_of, IsPart, part_in}
-use Rattle.sieveexec.specs.Holding.{IsBeyond, IsNamed, SomeAddress, Holds}
+use Rattle.sieveexec.specs.Holding.{IsBeyond, IsNamed, SomeAddress, TestHolds}
 use Rattle.sieveexec.specs.Truth.{is_beyond, is_some_there, envelope_matches, truth_at}
 use Rattle.sieveexec.proofs.Decisions.{decides_as, any_decides, all_decides}
 use Rattle.sieveexec.proofs.MatchLemmas.{matches_some_decides}
@@ -37,7 +37,7 @@ Part test address = MatchesSome test.comparator test.matching test.keys (part_in
 matching_decides : (test : EnvelopeTest) (address : List ℕ) → Decides (envelope_matches test address) (Part test address)
 matching_decides test address = matches_some_decides test.comparator test.matching test.keys (part_in test.part address)
 
-named : (mail : MailSpec) (test : EnvelopeTest) → ((test.parts.from ≡ true) × Part test mail.from) ⊎ ((test.parts.to ≡ true) × Part test mail.to) → Holds mail (Envelope test)
+named : (mail : MailSpec) (test : EnvelopeTest) → ((test.parts.from ≡ true) × Part test mail.from) ⊎ ((test.parts.to ≡ true) × Part test mail.to) → TestHolds mail (Envelope test)
 named mail test (inl (asked, matches)) = (mail.from, part_in test.part mail.from, inl (asked, refl), part_is test.part mail.from, matches)
 named mail test (inr (asked, matches)) = (mail.to, part_in test.part mail.to, inr (asked, refl), part_is test.part mail.to, matches)
 
@@ -75,7 +75,7 @@ is_asked : (asked : Bool) → Decides asked (asked ≡ true)
 is_asked asked = (λ h. h, λ h. h)
 
 -- a test is true exactly where it holds
-pub truth_decides : (mail : MailSpec) (check : Check) → Decides (truth_at mail check) (Holds mail check)
+pub truth_decides : (mail : MailSpec) (check : Check) → Decides (truth_at mail check) (TestHolds mail check)
 truth_decides mail (Size size) = beyond_decides size.bound mail.size size.limit
 truth_decides mail (Exists names) = all_decides (λ name. is_some_there (values_of mail name)) (λ name. values_of mail name ≢ []) (λ name. there_decides (values_of mail name)) names
 truth_decides mail (Header header) =

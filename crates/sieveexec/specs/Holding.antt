@@ -28,13 +28,13 @@ pub record SomeAddress (mail : MailSpec) (name : List ℕ) (P : Addr → Type 0)
   pub there : Any (λ value. (found : List Addr) × AreAddresses value found × Any P found) (values_of mail name)
 
 -- a test that looks at the message or its envelope holds (RFC 5228, 5.1, 5.4, 5.5, 5.7, 5.9)
-abbrev pub Holds : MailSpec → Check → Type 0
-Holds mail (Size size) = IsBeyond size.bound mail.size size.limit
-Holds mail (Exists names) = All (λ name. values_of mail name ≢ []) names
-Holds mail (Header header) =
+abbrev pub TestHolds : MailSpec → Check → Type 0
+TestHolds mail (Size size) = IsBeyond size.bound mail.size size.limit
+TestHolds mail (Exists names) = All (λ name. values_of mail name ≢ []) names
+TestHolds mail (Header header) =
     Any (λ name. Any (MatchesSome header.comparator header.matching header.keys) (texts_of mail name)) header.fields
-Holds mail (Address address) =
+TestHolds mail (Address address) =
     Any (λ name. SomeAddress mail name (λ one. MatchesSome address.comparator address.matching address.keys (part_of address.part one))) address.fields
-Holds mail (Envelope envelope) =
+TestHolds mail (Envelope envelope) =
     (one : List ℕ) × (part : List ℕ) × IsNamed envelope.parts mail one × IsPart envelope.part one part
     × MatchesSome envelope.comparator envelope.matching envelope.keys part

@@ -41,7 +41,7 @@ abbrev pub local_of : List ℕ → List ℕ
 local_of [] = []
 local_of (octet ∷ rest) = cond (is_at octet && not (has_at rest)) [] (octet ∷ local_of rest)
 
--- what stands behind the last `@`
+-- what stands after the last `@`
 abbrev pub domain_of : List ℕ → List ℕ
 domain_of [] = []
 domain_of (octet ∷ rest) = cond (has_at rest) (domain_of rest) (cond (is_at octet) rest [])

@@ -40,7 +40,7 @@ after_turn (Next place) next flag state = next place flag state
 after_turn Stopped next flag state = Some (F.Stopped state)
 after_turn (turn.Failed failure) next flag state = Some (F.Failed (failure_view failure))
 
--- a turn that doesn't end the run leads behind this place
+-- a turn that doesn't end the run leads past this place
 abbrev pub MovesOn : ℕ → Turn → Type 0
 MovesOn place (Next next) = place < next
 MovesOn place Stopped = Unit {0}

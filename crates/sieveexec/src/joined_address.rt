@@ -52,7 +52,7 @@ impl JoinedAddress {
     }
 }
 
-/// Writes out addresses behind those that are there.
+/// Writes out addresses after those that are there.
 pub(crate) fn push_joined(
     alloc: Global,
     joined: &mut List<JoinedAddress>,

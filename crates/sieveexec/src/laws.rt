@@ -6,12 +6,12 @@ ghost use Rattle.sievesyntax.specs.declared.tree.checks.Check.{Check};
 ghost use Rattle.sieveexec.specs.declared.envelope.Envelope.{Envelope};
 ghost use Rattle.sieveexec.specs.Mails.{MailSpec, mail_of, values_of};
 ghost use Rattle.sieveexec.specs.Parts.{Cuts, local_of, domain_of};
-ghost use Rattle.sieveexec.specs.Holding.{Holds};
+ghost use Rattle.sieveexec.specs.Holding.{TestHolds};
 ghost use Rattle.sieveexec.specs.Truth.{truth_at};
 
 /// A test that looks at the message or its envelope is true exactly where it holds.
 pub fn truth_of_a_check()
-    ensures { (mail : MailSpec) (check : Check) → IsTrue (truth_at mail check) ↔ Holds mail check }
+    ensures { (mail : MailSpec) (check : Check) → IsTrue (truth_at mail check) ↔ TestHolds mail check }
 {}
 
 /// An address of the envelope is cut in one way.

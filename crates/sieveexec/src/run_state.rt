@@ -105,7 +105,7 @@ impl RunState {
     fn send_to(&mut self, alloc: Global, target: &Addr) -> Result<Option<Failure>, AllocError>
         ensures { IfOk result (λ failed. flow_of failed (run_state_of self.new) ≡ sent_to target.now (run_state_of self.old)) }
     {
-        if !is_among(self.sent.as_slice(), target) {
+        if !has_address(self.sent.as_slice(), target) {
             if self.sent.as_slice().len() >= MAX_TARGETS {
                 return Ok(Some(Failure::TooManyRedirects));
             }
@@ -127,7 +127,7 @@ impl RunState {
 }
 
 /// Whether an address is among these.
-fn is_among(addresses: &[Addr], target: &Addr) -> bool
+fn has_address(addresses: &[Addr], target: &Addr) -> bool
     ensures { result ≡ list_any (λ there. same_target_of there target.now) addresses.now }
 {
     addresses.iter().any(|there| is_same(there, target))

@@ -121,7 +121,7 @@ lines_again (l ∷ more) final rest h f =
     let e : ((l.content ++ line_end l.bare) ++ flat_map line_spelling more) ++ (46 ∷ (final ++ rest)) ≡ l.content ++ (line_end l.bare ++ (flat_map line_spelling more ++ (46 ∷ (final ++ rest)))) = simp append_assoc in
     ap (body_from Start) e ∙ start_again l.content l.bare (flat_map line_spelling more ++ (46 ∷ (final ++ rest))) h.0.inside h.0.goes_on ∙ ap (onto (line_value l)) (lines_again more final rest h.1 f)
 
--- a `#` comment behind `text:` is read up to the line's end
+-- a `#` comment after `text:` is read up to the line's end
 comment_again : (body : List ℕ) (bare : Bool) (rest : List ℕ) → IsInLine body → body_from Comment (body ++ (line_end bare ++ rest)) ≡ body_from Start rest
 comment_again [] true rest h = onto_nil (body_from Start rest)
 comment_again [] false rest h = onto_nil (onto [] (body_from Start rest)) ∙ onto_nil (body_from Start rest)
@@ -160,7 +160,7 @@ onto_some front value rest (Some r) h =
     let parts : (front ++ r.0 ≡ value) × (r.1 ≡ rest) = some_pair (front ++ r.0, r.1) (value, rest) h in
     (r.0, (ap (λ x. Some (r.0, x)) parts.1, sym parts.0))
 
--- behind a CR
+-- after a CR
 returned : (s value rest : List ℕ) → body_from Return s ≡ Some (value, rest) → (after : List ℕ) × ((more : List ℕ) × ((s ≡ 10 ∷ after) × (body_from Start after ≡ Some (more, rest)) × (value ≡ 13 ∷ (10 ∷ more))))
 returned [] value rest h = absurd (cc)
 returned (b ∷ s) value rest h = elim (tests (b == 10)) [
@@ -279,7 +279,7 @@ last_alone b value rest e h =
 stuffed_dot : (c : ℕ) (t : List ℕ) → (c == 46) ≡ true → unstuffed (46 ∷ (c ∷ t)) ≡ 46 ∷ t
 stuffed_dot c t e = rw (e) (ap (λ x. x ∷ t) (eqb-true c 46 e))
 
--- behind a dot at the start of a line
+-- after a dot at the start of a line
 dot_is : (b : ℕ) (s value rest : List ℕ) → b ≡ 46 → body_from Dot s ≡ Some (value, rest) → IsStuffed (b ∷ s) value rest ⊎ IsLast (b ∷ s) value rest
 dot_is b [] value rest e h = inr (last_alone b value rest e h)
 dot_is b (c ∷ s) value rest e h = elim (tests (c == 13)) [

@@ -3,7 +3,7 @@ use Rattle.std.proofs.Common.{◌≡◌, ℕ, [], ◌∷◌, ◌++◌, get_or, r
 use Rattle.std.specs.Prelude.{codes}
 use Rattle.sievelex.specs.declared.token.Content.TheVariants.{Identifier, Number, Text}
 use Rattle.sievelex.specs.declared.front.Front.{Front}
-use Rattle.sievelex.specs.Shape.{IsQuoted}
+use Rattle.sievelex.specs.Shape.{IsQuotedString}
 use Rattle.sievelex.specs.Shape.Piece.{Plain, Escaped, BareLineEnd}
 use Rattle.sievelex.specs.Text.{IsText}
 use Rattle.sievelex.specs.Front.{IsFront}
@@ -60,7 +60,7 @@ number_refused : (g : Front) → IsFront (codes "8589934592G;") g → ⊥
 number_refused = number_none (codes "8589934592G;") (codes "8589934592") (codes "G;") 10 1 1073741824 refl refl refl refl refl (lit≤ tt) refl (lit≤ tt)
 
 -- `"a\"` LF `"` stands for `a"` CRLF; `"a\"` alone is no string
-quoted : IsQuoted (34 ∷ (97 ∷ (92 ∷ (34 ∷ (10 ∷ (34 ∷ [])))))) (97 ∷ (34 ∷ (13 ∷ (10 ∷ []))))
+quoted : IsQuotedString (34 ∷ (97 ∷ (92 ∷ (34 ∷ (10 ∷ (34 ∷ [])))))) (97 ∷ (34 ∷ (13 ∷ (10 ∷ []))))
 quoted = record { pieces = Plain 97 ∷ (Escaped 34 ∷ (BareLineEnd ∷ [])); each = ((refl, refl, refl, refl), ((refl, refl, refl), (tt, tt))); spelled = refl; valued = refl }
 
 unquoted : (g : Front) → IsFront (34 ∷ (97 ∷ (92 ∷ (34 ∷ [])))) g → ⊥

@@ -70,7 +70,7 @@ opened_text : (octets : List ℕ) (v : Content) (n : ℕ) (rest : List ℕ) → 
 opened_text [] v n rest s = let o : IsOpened v (take n []) = shape_opened v _ rest s in let e : [] ≡ o.first ∷ o.more = sym (take_none n) ∙ o.spelled in absurd (cc)
 opened_text (b ∷ more) v n rest s = (b, (more, (refl, (front_opened b more v n rest s).1)))
 
--- behind a gap before a token the token is what follows the white space
+-- after a gap before a token the token is what follows the white space
 pub gap_only : (octets : List ℕ) (u : ℕ) (v : Content) (n : ℕ) (rest : List ℕ) → IsGap (take u octets) → IsShape v (take n (drop u octets)) rest → space_from Between octets ≡ Some (drop u octets)
 gap_only octets u v n rest g s =
     let o : (b : ℕ) × ((more : List ℕ) × ((drop u octets ≡ b ∷ more) × Opens b v)) = opened_text (drop u octets) v n rest s in
@@ -79,7 +79,7 @@ gap_only octets u v n rest g s =
     ap (space_from Between) o.1.1.0 ∙ token_ends o.0 o.1.0 v o.1.1.1 ∙ ap (λ x. Some x) (sym o.1.1.0) in
     ap (space_from Between) whole ∙ spaces_again g.pieces (drop u octets) g.each ∙ ends
 
--- behind the white space behind the last token nothing is left
+-- after the white space after the last token nothing is left
 pub tail_all : (octets : List ℕ) → IsTail octets → space_from Between octets ≡ Some []
 tail_all octets g = ap (space_from Between) g.spelled ∙ spaces_again g.pieces g.last g.each ∙ last_again g.last g.comment
 
@@ -106,7 +106,7 @@ tail_is octets rest h none =
       spelled = s.spelled ∙ ap (λ x. flat_map space_of s.pieces ++ (s.last ++ x)) none ∙ ap (λ x. flat_map space_of s.pieces ++ x) (append-nil s.last);
     }
 
--- and no token stands behind it
+-- and no token stands after it
 pub empty_none : (octets : List ℕ) (v : Content) (n : ℕ) (rest : List ℕ) → length octets ≡ 0 → IsShape v (take n octets) rest → ⊥
 empty_none octets v n rest e s =
     let o : (b : ℕ) × ((more : List ℕ) × ((octets ≡ b ∷ more) × Opens b v)) = opened_text octets v n rest s in

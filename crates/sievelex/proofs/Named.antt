@@ -6,7 +6,7 @@ use Rattle.sievelex.specs.declared.token.Content.{Content}
 use Rattle.sievelex.specs.declared.token.Content.TheVariants.{Identifier, Tag, Text}
 use Rattle.sievelex.specs.declared.class.Class.TheVariants.{Letter}
 use Rattle.sievelex.specs.Class.{is_name_start, is_name_octet, class_of}
-use Rattle.sievelex.specs.Shape.{IsShape, IsName, IsQuoted, spelling_of}
+use Rattle.sievelex.specs.Shape.{IsShape, IsName, IsQuotedString, spelling_of}
 use Rattle.sievelex.specs.Lines.{IsMultiline}
 use Rattle.sievelex.proofs.Worded.{word_is, word_opens, multi_word}
 use Rattle.sievelex.proofs.Prefixes.{at_most, all_prefix, prefix_all, one_more}
@@ -48,7 +48,7 @@ only_named b v h o =
     ]
 
 -- no quoted string begins with a letter
-unquoted : (b : ℕ) (more value : List ℕ) (m : ℕ) → is_name_start b ≡ true → IsQuoted (take m (b ∷ more)) value → ⊥
+unquoted : (b : ℕ) (more value : List ℕ) (m : ℕ) → is_name_start b ≡ true → IsQuotedString (take m (b ∷ more)) value → ⊥
 unquoted b more value zero h q = let e : [] ≡ 34 ∷ (flat_map spelling_of q.pieces ++ 34 ∷ []) = q.spelled in cc
 unquoted b more value (suc m) h q =
     let e : b ∷ take m more ≡ 34 ∷ (flat_map spelling_of q.pieces ++ 34 ∷ []) = q.spelled in
@@ -98,7 +98,7 @@ only_tagged v o = elim o [
   | Marked m c ve ↦ absurd (cc)
 ]
 
--- a tag at the front has a name behind its colon
+-- a tag at the front has a name after its colon
 tag_name : (more : List ℕ) (v : Content) (m : ℕ) (rest : List ℕ) → IsShape v (take (suc m) (58 ∷ more)) rest → (v ≡ Tag (take m more)) × IsName (take m more)
 tag_name more v m rest s =
     let tag : (name : List ℕ) × (v ≡ Tag name) = only_tagged v (front_opened 58 more v (suc m) rest s).1 in
@@ -127,7 +127,7 @@ no_name more zero h n = n
 no_name [] (suc m) h n = n
 no_name (b ∷ more) (suc m) h n = cc (n.0)
 
--- a colon without a name behind it is no token
+-- a colon without a name after it is no token
 pub tag_none : (more : List ℕ) → is_name_start (get_or more 0 0) ≡ false → (v : Content) (m : ℕ) (rest : List ℕ) → IsShape v (take m (58 ∷ more)) rest → ⊥
 tag_none more h v zero rest s = let p : 0 < 0 = (front_opened 58 more v zero _ s).0 in omega arith
 tag_none more h v (suc m) rest s = no_name more m h (tag_name more v m rest s).1

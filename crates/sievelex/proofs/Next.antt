@@ -37,7 +37,7 @@ ahead_is text ahead octets at w inside ae we oe =
       skipped = ap (space_from Between) (sym ae) ∙ we.1 ∙ ap (λ x. Some x) (sym oe);
     }
 
--- the line behind the gap
+-- the line after the gap
 pub line_is : (text ahead gap : List ℕ) (at w line feeds : ℕ) → ahead ≡ drop at text → gap ≡ take w ahead → line ≡ 1 + line_ends (take at text) → feeds ≡ line_ends gap → line + feeds ≡ 1 + line_ends (take (at + w) text)
 line_is text ahead gap at w line feeds ae ge le fe =
     let gaps : line_ends gap ≡ line_ends (take w (drop at text)) = ap line_ends (ge ∙ ap (take w) ae) in
@@ -54,7 +54,7 @@ next_inside text at t h = elim (cases_lt t.start (length text)) [
   | inr ge ↦ absurd (empty_none (drop t.start text) t.content _ _ (omega (arith, length-drop t.start text)) h.token.shape)
 ]
 
--- behind the white space
+-- after the white space
 pub next_start : (text : List ℕ) (at : ℕ) (t : Token) → IsNext text at t → space_from Between (drop at text) ≡ Some (drop t.start text)
 next_start text at t h =
     let ahead : at ≤ t.start = h.ahead in
@@ -112,14 +112,14 @@ next_only text octets at start line f a le only t h =
 pub next_empty : (text octets : List ℕ) (at start : ℕ) → IsAhead text at start octets → length octets ≡ 0 → IsTail (drop at text)
 next_empty text octets at start a e = tail_is (drop at text) octets a.skipped (nil_from_length octets e)
 
--- behind white space up to the end of the text no token comes
+-- after white space up to the end of the text no token comes
 pub tail_no_next : (text : List ℕ) (at : ℕ) (t : Token) → IsTail (drop at text) → IsNext text at t → ⊥
 tail_no_next text at t g h =
     let inside : t.start < length text = next_inside text at t h in
     let e : drop t.start text ≡ [] = some_is _ _ (sym (next_start text at t h) ∙ tail_all (drop at text) g) in
     omega (arith, ap length e, length-drop t.start text)
 
--- where no token stands behind the white space there are none
+-- where no token stands after the white space there are none
 pub next_none : (text octets : List ℕ) (at start : ℕ) → IsAhead text at start octets → (length octets ≡ 0 → ⊥) → ((g : Front) → IsFront octets g → ⊥) → (ts : List Token) → SpellsFrom text at ts → ⊥
 next_none text octets at start a some without [] g = some (ap length (some_is octets [] (sym a.skipped ∙ tail_all (drop at text) g)))
 next_none text octets at start a some without (t ∷ ts) h =
@@ -140,8 +140,8 @@ next_placed text at t h =
     (further.0, record { forward = h.forward; inside = further.1; line = h.line })
 
 -- the line on which a token ends
-pub line_behind : (text rest spelled : List ℕ) (feeds : ℕ) (t : Token) → IsPlaced text t → rest ≡ drop t.start text → spelled ≡ take (t.end - t.start) rest → feeds ≡ line_ends spelled → t.line + feeds ≡ 1 + line_ends (take t.end text)
-line_behind text rest spelled feeds t h re se fe =
+pub line_after : (text rest spelled : List ℕ) (feeds : ℕ) (t : Token) → IsPlaced text t → rest ≡ drop t.start text → spelled ≡ take (t.end - t.start) rest → feeds ≡ line_ends spelled → t.line + feeds ≡ 1 + line_ends (take t.end text)
+line_after text rest spelled feeds t h re se fe =
     let lines : line_ends spelled ≡ line_ends (take (t.end - t.start) (drop t.start text)) = ap line_ends (se ∙ ap (take (t.end - t.start)) re) in
     let before : t.line ≡ 1 + line_ends (take t.start text) = h.line in
     let forward : t.start ≤ t.end = h.forward in

@@ -12,7 +12,7 @@ use Rattle.sievelex.specs.declared.token.Mark.{Mark}
 use Rattle.sievelex.specs.declared.class.Class.TheVariants.{Letter, Digit, Colon, Quote}
 use Rattle.sievelex.specs.declared.class.Class.TheVariants as Class
 use Rattle.sievelex.specs.Class.{is_name_start, class_of}
-use Rattle.sievelex.specs.Shape.{IsShape, IsQuoted, spelling_of}
+use Rattle.sievelex.specs.Shape.{IsShape, IsQuotedString, spelling_of}
 use Rattle.sievelex.proofs.Prefixes.{both}
 
 -- no digit begins a name
@@ -71,7 +71,7 @@ quote_no_word (b ∷ word) tail s h e =
     cc
 
 -- where a quotation mark stands first a string is a quoted one
-pub quoted_shape : (value s rest : List ℕ) → IsShape (Text value) (34 ∷ s) rest → IsQuoted (34 ∷ s) value
+pub quoted_shape : (value s rest : List ℕ) → IsShape (Text value) (34 ∷ s) rest → IsQuotedString (34 ∷ s) value
 quoted_shape value s rest (inl q) = q
 quoted_shape value s rest (inr m) =
     absurd (quote_no_word m.word _ s m.named m.spelled)

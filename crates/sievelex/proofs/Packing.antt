@@ -11,7 +11,7 @@ use Rattle.sievelex.specs.Contents.{contents, HoldsContents}
 record SaysOctets (kind : PackedKind) (content : List ℕ → Content) : Type 0 where
   reads : (ks : List PackedKind) (ns os : List ℕ) → unpacked (kind ∷ ks) ns os ≡ content (take (slice_index ns 0) os) ∷ unpacked ks (drop 1 ns) (drop (slice_index ns 0) os)
 
--- these lists stand behind those
+-- these lists stand after those
 record AddsOctets (before after : Packed) (kind : PackedKind) (said : List ℕ) : Type 0 where
   kinds : after.kinds.items ≡ before.kinds.items ++ kind ∷ []
   numbers : after.numbers.items ≡ before.numbers.items ++ length said ∷ []
@@ -23,7 +23,7 @@ holds_contents packed tokens h =
     sym (ap (λ x. unpacked x (packed.numbers.items ++ []) (packed.octets.items ++ [])) (append-nil packed.kinds.items)
     ∙ ap (λ x. unpacked packed.kinds.items x (packed.octets.items ++ [])) (append-nil packed.numbers.items)
     ∙ ap (λ x. unpacked packed.kinds.items packed.numbers.items x) (append-nil packed.octets.items))
-    ∙ h.behind [] [] [] ∙ append-nil tokens
+    ∙ h.after [] [] [] ∙ append-nil tokens
 
 -- as many tokens as kinds
 pub length_unpacked : (kinds : List PackedKind) (numbers octets : List ℕ) → length (unpacked kinds numbers octets) ≡ length kinds

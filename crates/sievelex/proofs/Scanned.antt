@@ -27,7 +27,7 @@ front_more text at t so_far f here one = record {
   only = λ us s. (let r : (ts : List Token) × ((us ≡ so_far ++ ts) × SpellsFrom text at ts) = f.only us s in rest_only text at t so_far us here one r.0 r.1.0 r.1.1);
 }
 
--- behind the last token
+-- after the last token
 pub front_ends : (text : List ℕ) (at : ℕ) (so_far : List Token) → IsFront text so_far at → IsTail (drop at text) → SpellsFrom text 0 so_far
 front_ends text at so_far f g = let P : List Token → Type 0 = λ x. SpellsFrom text 0 x in subst P (append-nil so_far) (f.joins [] g)
 

@@ -57,7 +57,7 @@ several_best octets value n named within h =
     let parts : body ≡ o.blanks ++ (o.comment ++ (line_end o.bare ++ (flat_map line_spelling l.lines ++ (46 ∷ (l.final ++ rest))))) = o.spelled ∙ ap (λ x. o.blanks ++ (o.comment ++ (line_end o.bare ++ x))) l.spelled in
     let apart : spelled ++ rest ≡ o.blanks ++ (o.comment ++ (line_end o.bare ++ (flat_map line_spelling l.lines ++ (46 ∷ (l.final ++ rest))))) = simp append_assoc in
     let front : take n body ≡ spelled = append_cancel_right _ _ rest (take-append-drop n body ∙ parts ∙ sym apart) in
-    let behind : drop (5 + n) octets ≡ rest = sym (drop-drop n 5 octets) in
+    let after : drop (5 + n) octets ≡ rest = sym (drop-drop n 5 octets) in
     let F : List ℕ → Type 0 = λ x. IsFinal l.final x in
     record {
       within = omega (arith, length-drop 5 octets);
@@ -72,7 +72,7 @@ several_best octets value n named within h =
         blank = o.blank;
         commented = o.commented;
         each = l.each;
-        ends = subst F (sym behind) l.ends;
+        ends = subst F (sym after) l.ends;
         spelled = take_sum 5 n octets ∙ ap (λ x. take 5 octets ++ x) front;
         valued = l.valued;
       });
@@ -117,7 +117,7 @@ first_of_rest (b ∷ rest) h = ap (λ x. x ∷ []) (some_is b 58 h)
 pub word_five : (octets : List ℕ) → lowered (take 5 octets) ≡ codes "text:" → 5 ≤ length octets
 word_five octets h = word_inside octets (word_is octets h)
 
--- the name and the colon behind it are the word
+-- the name and the colon after it are the word
 pub word_found : (octets name rest : List ℕ) (n : ℕ) → name ≡ take n octets → rest ≡ drop n octets → length name ≡ n → OpensText (Identifier name) rest → lowered (take 5 octets) ≡ codes "text:"
 word_found octets name rest n ne re le t =
     let four : n ≡ 4 = sym le ∙ sym (length-map name to_ascii_lowercase) ∙ ap length t.0 in

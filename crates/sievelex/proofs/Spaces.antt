@@ -19,7 +19,7 @@ pub tests : (t : Bool) → (t ≡ true) ⊎ (t ≡ false)
 tests true = inl refl
 tests false = inr refl
 
--- the places behind an octet
+-- the places after an octet
 at_place : (p q : Place) (s : List ℕ) → p ≡ q → space_from p s ≡ space_from q s
 at_place p q s e = ap (λ x. space_from x s) e
 
@@ -53,7 +53,7 @@ between_slash b n e = rw (n, e) refl
 between_on : (b : ℕ) → (b == 35) ≡ false → (b == 47) ≡ false → place_after Between b ≡ Between
 between_on b n e = rw (n, e) refl
 
--- inside a comment in brackets, behind a star or not
+-- inside a comment in brackets, after a star or not
 abbrev inner : Bool → Place
 inner true = Star
 inner false = Inner
@@ -79,7 +79,7 @@ closed_again true (b ∷ body) rest h = elim (tests (b == 47)) [
   ]
 ]
 
--- a comment behind `#` is read up to the line's end
+-- a comment after `#` is read up to the line's end
 line_again : (body rest : List ℕ) → IsInLine body → space_from Comment (body ++ (10 ∷ rest)) ≡ space_from Between rest
 line_again [] rest h = refl
 line_again (b ∷ body) rest h =
@@ -113,7 +113,7 @@ spaces_again (Bracketed body ∷ more) rest h =
     let e : ((body ++ 42 ∷ (47 ∷ [])) ++ flat_map space_of more) ++ rest ≡ body ++ (42 ∷ (47 ∷ (flat_map space_of more ++ rest))) = simp append_assoc in
     ap (space_from Inner) e ∙ closed_again false body (flat_map space_of more ++ rest) h.0 ∙ spaces_again more rest h.1
 
--- behind the last piece nothing is left but an open comment
+-- after the last piece nothing is left but an open comment
 pub last_again : (last : List ℕ) → IsLastComment last → space_from Between last ≡ Some []
 last_again [] h = refl
 last_again (b ∷ body) h = let P : ℕ → Type 0 = λ x. space_from Between (x ∷ body) ≡ Some [] in subst P (sym h.0) (line_ends_text body h.1)

@@ -11,7 +11,7 @@ use Rattle.sievelex.specs.declared.token.Content.TheVariants.{Text}
 use Rattle.sievelex.specs.declared.front.Front.{Front}
 use Rattle.sievelex.specs.Inside.{onto, string_from}
 use Rattle.sievelex.specs.Front.{IsFront}
-use Rattle.sievelex.specs.Shape.{Piece, IsPiece, ArePieces, spelling_of, value_of, IsQuoted, IsShape}
+use Rattle.sievelex.specs.Shape.{Piece, IsPiece, ArePieces, spelling_of, value_of, IsQuotedString, IsShape}
 use Rattle.sievelex.specs.Shape.Piece.{Plain, Escaped, LineEnd, BareLineEnd}
 use Rattle.sievelex.proofs.Prefixes.{one_more, front_of}
 use Rattle.sievelex.proofs.Opening.{Opens, front_opened, shape_at, quoted_shape}
@@ -119,7 +119,7 @@ record IsStringAt (more : List ℕ) (v : Content) (m : ℕ) : Type 0 where
 string_at : (more : List ℕ) (v : Content) (m : ℕ) (rest : List ℕ) → IsShape v (take (suc m) (34 ∷ more)) rest → IsStringAt more v m
 string_at more v m rest s =
     let text : (value : List ℕ) × (v ≡ Text value) = only_quoted v (front_opened 34 more v (suc m) rest s).1 in
-    let shape : IsQuoted (34 ∷ take m more) text.0 = quoted_shape text.0 (take m more) rest (shape_at _ _ _ _ text.1 s) in
+    let shape : IsQuotedString (34 ∷ take m more) text.0 = quoted_shape text.0 (take m more) rest (shape_at _ _ _ _ text.1 s) in
     let spelled : 34 ∷ take m more ≡ 34 ∷ (flat_map spelling_of shape.pieces ++ 34 ∷ []) = shape.spelled in
     let front : take m more ≡ flat_map spelling_of shape.pieces ++ 34 ∷ [] = cc in
     let whole : more ≡ flat_map spelling_of shape.pieces ++ (34 ∷ drop m more) = front_of more _ m front ∙ append_assoc (flat_map spelling_of shape.pieces) (34 ∷ []) (drop m more) in

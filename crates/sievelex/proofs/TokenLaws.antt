@@ -14,7 +14,7 @@ use Rattle.sievelex.specs.declared.token.Token.{Token}
 use Rattle.sievelex.specs.declared.quoted.Mode.TheVariants.{Inside}
 use Rattle.sievelex.specs.Class.{is_name_start}
 use Rattle.sievelex.specs.Inside.{string_from}
-use Rattle.sievelex.specs.Shape.{IsName, IsNumber, IsQuoted, IsShape, factor_of, spelling_of}
+use Rattle.sievelex.specs.Shape.{IsName, IsNumber, IsQuotedString, IsShape, factor_of, spelling_of}
 use Rattle.sievelex.specs.Spelling.{IsToken, IsNext, SpellsFrom, Spells}
 use Rattle.sievelex.specs.Text.{line_ends}
 use Rattle.sievelex.proofs.Named.{name_bound}
@@ -120,17 +120,17 @@ number_only s m n one two =
     one.valued ∙ ((λ i. number_of (digits i) * factor i) ∙ sym two.valued)
 
 -- a quoted string has one value
-quoted_value : (s value : List ℕ) → IsQuoted s value → string_from Inside (drop 1 s) ≡ Some (value, [])
+quoted_value : (s value : List ℕ) → IsQuotedString s value → string_from Inside (drop 1 s) ≡ Some (value, [])
 quoted_value s value q = ap (λ t. string_from Inside (drop 1 t)) q.spelled ∙ (string_again q.pieces [] q.each ∙ ap (λ x. Some (x, [])) (sym q.valued))
 
-quoted_only : (s a b : List ℕ) → IsQuoted s a → IsQuoted s b → a ≡ b
+quoted_only : (s a b : List ℕ) → IsQuotedString s a → IsQuotedString s b → a ≡ b
 quoted_only s a b one two = (some_pair (a, []) (b, []) (sym (quoted_value s a one) ∙ quoted_value s b two)).0
 
 -- a string that begins as a quoted one is one
-quoted_too : (s rest a b : List ℕ) → IsQuoted s a → IsShape (Text b) s rest → IsQuoted s b
+quoted_too : (s rest a b : List ℕ) → IsQuotedString s a → IsShape (Text b) s rest → IsQuotedString s b
 quoted_too s rest a b q shape =
     let P : List ℕ → Type 0 = λ t. IsShape (Text b) t rest in
-    let Q : List ℕ → Type 0 = λ t. IsQuoted t b in
+    let Q : List ℕ → Type 0 = λ t. IsQuotedString t b in
     subst Q (sym q.spelled) (quoted_shape b (flat_map spelling_of q.pieces ++ 34 ∷ []) rest (subst P q.spelled shape))
 
 module _ (octets : List ℕ) (n : ℕ) where

@@ -34,10 +34,10 @@ line_or (Some token) = token.line
 abbrev pub line_at : ℕ → List Token → ℕ
 line_at index tokens = line_or (slice_get tokens index)
 
--- these tokens are packed so, whatever is packed behind them
+-- these tokens are packed so, whatever is packed after them
 pub record HoldsContents (packed : Packed) (tokens : List Content) : Type 0 where
-  pub behind : (kinds : List PackedKind) (numbers octets : List ℕ) → unpacked (packed.kinds.items ++ kinds) (packed.numbers.items ++ numbers) (packed.octets.items ++ octets) ≡ tokens ++ unpacked kinds numbers octets
+  pub after : (kinds : List PackedKind) (numbers octets : List ℕ) → unpacked (packed.kinds.items ++ kinds) (packed.numbers.items ++ numbers) (packed.octets.items ++ octets) ≡ tokens ++ unpacked kinds numbers octets
 
--- a token is packed behind those that are packed already
+-- a token is packed after those that are packed already
 abbrev pub Appends : Content → Packed → Packed → Type 0
 Appends content before after = (tokens : List Content) → HoldsContents before tokens → HoldsContents after (tokens ++ content ∷ [])

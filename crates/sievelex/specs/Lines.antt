@@ -39,7 +39,7 @@ line_spelling l = l.content ++ line_end l.bare
 abbrev pub line_value : Line → List ℕ
 line_value l = unstuffed l.content ++ 13 ∷ (10 ∷ [])
 
--- what stands behind the last dot: a line end, or nothing at the end of the text
+-- what stands after the last dot: a line end, or nothing at the end of the text
 abbrev pub IsFinal : List ℕ → List ℕ → Type 0
 IsFinal final rest = ((bare : Bool) × (final ≡ line_end bare)) ⊎ ((final ≡ []) × (rest ≡ []))
 

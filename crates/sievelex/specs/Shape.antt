@@ -14,7 +14,7 @@ abbrev pub IsName : List ℕ → Type 0
 IsName [] = ⊥
 IsName (b ∷ more) = IsTrue (is_name_start b) × IsTrue (list_all is_name_octet more)
 
--- what the letter behind a number multiplies it by, if one stands there: K, M or G, of either case
+-- what the letter after a number multiplies it by, if one stands there: K, M or G, of either case
 abbrev pub factor_of : List ℕ → Option ℕ
 factor_of [] = Some 1
 factor_of (b ∷ []) =
@@ -34,7 +34,7 @@ pub record IsNumber (s : List ℕ) (n : ℕ) : Type 0 where
   pub scaled : factor_of letter ≡ Some factor
   pub valued : n ≡ number_of digits * factor
 
--- a piece of a quoted string: an octet, one behind a backslash, CRLF, or a bare LF, which is read as CRLF
+-- a piece of a quoted string: an octet, one after a backslash, CRLF, or a bare LF, which is read as CRLF
 pub data Piece : Type 0 where
   Plain : ℕ → Piece
   Escaped : ℕ → Piece
@@ -67,7 +67,7 @@ value_of LineEnd = 13 ∷ (10 ∷ [])
 value_of BareLineEnd = 13 ∷ (10 ∷ [])
 
 -- a quoted string and what it stands for (RFC 5228, 2.4.2)
-pub record IsQuoted (s value : List ℕ) : Type 0 where
+pub record IsQuotedString (s value : List ℕ) : Type 0 where
   pub pieces : List Piece
   pub each : ArePieces pieces
   pub spelled : s ≡ 34 ∷ (flat_map spelling_of pieces ++ 34 ∷ [])
@@ -78,5 +78,5 @@ abbrev pub IsShape : Content → List ℕ → List ℕ → Type 0
 IsShape (Identifier name) s rest = (s ≡ name) × IsName name
 IsShape (Tag name) s rest = (s ≡ 58 ∷ name) × IsName name
 IsShape (Number n) s rest = IsNumber s n
-IsShape (Text value) s rest = IsQuoted s value ⊎ IsMultiline s value rest
+IsShape (Text value) s rest = IsQuotedString s value ⊎ IsMultiline s value rest
 IsShape (Mark mark) s rest = (b : ℕ) × ((class_of b ≡ Class.Mark mark) × (s ≡ b ∷ []))

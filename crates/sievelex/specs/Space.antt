@@ -47,7 +47,7 @@ abbrev pub IsLastComment : List ℕ → Type 0
 IsLastComment [] = Unit {0}
 IsLastComment (b ∷ body) = (b ≡ 35) × IsInLine body
 
--- the white space behind the last token, up to the end of the text
+-- the white space after the last token, up to the end of the text
 pub record IsTail (s : List ℕ) : Type 0 where
   pub pieces : List Space
   pub last : List ℕ

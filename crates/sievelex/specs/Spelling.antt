@@ -13,7 +13,7 @@ abbrev pub IsInRange : Content → Type 0
 IsInRange (Number n) = n < 2 ^ 63
 IsInRange _ = Unit {0}
 
--- the identifier `text`, of any case, with a colon right behind it, which begins a text of several lines
+-- the identifier `text`, of any case, with a colon right after it, which begins a text of several lines
 abbrev pub OpensText : Content → List ℕ → Type 0
 OpensText (Identifier name) rest = (lowered name ≡ codes "text") × (slice_get rest 0 ≡ Some 58)
 OpensText _ rest = ⊥
@@ -26,7 +26,7 @@ pub record IsToken (octets : List ℕ) (content : Content) (n : ℕ) : Type 0 wh
   pub in_range : IsInRange content
   pub bare : OpensText content (drop n octets) → ⊥
 
--- behind white space that begins at a place of the text, this token comes next
+-- after white space that begins at a place of the text, this token comes next
 pub record IsNext (text : List ℕ) (from : ℕ) (t : Token) : Type 0 where
   pub ahead : from ≤ t.start
   pub gap : IsGap (take (t.start - from) (drop from text))

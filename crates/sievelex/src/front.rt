@@ -87,14 +87,14 @@ fn read_multiline(alloc: Global, octets: &[u8], line: u64) -> Result<Front, Scri
     })
 }
 
-/// The name `text`, of any case, with a colon right behind it: it begins a string of several lines.
+/// The name `text`, of any case, with a colon right after it: it begins a string of several lines.
 fn opens_text(name: &[u8], rest: &[u8]) -> bool
     ensures { IsTrue result ↔ OpensText (Content.Identifier name.now) rest.now }
 {
     rest.first() == Some(&b':') && name.eq_ignore_ascii_case(b"text")
 }
 
-/// The tag behind whose colon this text stands.
+/// The tag after whose colon this text stands.
 fn read_tag(alloc: Global, octets: &[u8], line: u64) -> Result<Front, ScriptError>
     ensures found { Finds (IsFront (58 ∷ octets.now)) result }
     ensures lines { IfFaultLine result (λ n. n ≡ line) }
@@ -132,7 +132,7 @@ fn read_number(octets: &[u8], line: u64) -> Result<Front, ScriptError>
     }
 }
 
-/// The quoted string behind whose opening quotation mark this text stands.
+/// The quoted string after whose opening quotation mark this text stands.
 fn read_string(alloc: Global, octets: &[u8], line: u64) -> Result<Front, ScriptError>
     ensures found { Finds (IsFront (34 ∷ octets.now)) result }
     ensures lines { IfFaultLine result (λ n. n ≡ line) }

@@ -11,30 +11,30 @@ use std::alloc::{AllocError, Global};
 /// Where in a string of several lines an octet stands.
 #[derive(Clone, Copy)]
 pub(crate) enum Stage {
-    /// Behind `text:` and blanks.
+    /// After `text:` and blanks.
     Opening,
-    /// In the comment behind them.
+    /// In the comment after them.
     Comment,
-    /// Behind the CR of the first line.
+    /// After the CR of the first line.
     OpeningReturn,
     /// At the start of a line.
     Start,
-    /// Behind the dot at the start of a line.
+    /// After the dot at the start of a line.
     Dot,
-    /// Behind that dot and a CR.
+    /// After that dot and a CR.
     DotReturn,
     /// In a line.
     Inside,
-    /// Behind the CR of a line.
+    /// After the CR of a line.
     Return,
-    /// Behind the last line.
+    /// After the last line.
     Done,
-    /// Behind an octet that may not stand there.
+    /// After an octet that may not stand there.
     Broken,
 }
 
 impl Stage {
-    /// Where the octet behind this one stands.
+    /// Where the octet after this one stands.
     fn after(self, octet: u8) -> Stage
         ensures { result ≡ stage_after self octet }
     {
@@ -74,7 +74,7 @@ impl Stage {
     }
 }
 
-/// Where the octet behind this one stands, which stands behind `text:` and blanks.
+/// Where the octet after this one stands, which stands after `text:` and blanks.
 fn after_opening(octet: u8) -> Stage
     ensures { result ≡ stage_after Opening octet }
 {
@@ -117,7 +117,7 @@ fn emit(value: &mut Octets, stage: Stage, octet: u8) -> Result<(), AllocError>
     }
 }
 
-/// What the string behind whose `text:` these octets stand stands for, each line with CRLF, and how many octets
+/// What the string after whose `text:` these octets stand stands for, each line with CRLF, and how many octets
 /// there are up to its end.
 pub(crate) fn read_body(
     alloc: Global,

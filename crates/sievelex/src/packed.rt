@@ -65,7 +65,7 @@ impl Packed {
 pub enum ContentRef<'a> {
     /// A name, as it was written.
     Identifier(&'a [u8]),
-    /// A name behind a colon, as it was written.
+    /// A name after a colon, as it was written.
     Tag(&'a [u8]),
     /// The value of a number.
     Number(u64),

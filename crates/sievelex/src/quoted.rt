@@ -11,15 +11,15 @@ use std::alloc::Global;
 /// Where in a quoted string an octet stands.
 #[derive(Clone, Copy)]
 pub(crate) enum Mode {
-    /// Behind whole pieces.
+    /// After whole pieces.
     Inside,
-    /// Behind a backslash.
+    /// After a backslash.
     Escape,
-    /// Behind a CR.
+    /// After a CR.
     Return,
 }
 
-/// What the string behind whose opening quotation mark this text stands stands for, each line end as CRLF,
+/// What the string after whose opening quotation mark this text stands stands for, each line end as CRLF,
 /// and how many octets there are up to its closing quotation mark and with it.
 pub(crate) fn read_quoted(
     alloc: Global,

@@ -15,7 +15,7 @@ use std::alloc::Global;
 /// The tokens of a script, in order (RFC 5228, 8.1), each with its place and line.
 ///
 /// Unless memory runs out, a fault is answered exactly where the text is no list of tokens; it names the line of
-/// the octet at which the token or the comment begins that is none. After a look at the whole text for UTF-8,
+/// the octet at which what is no token or comment begins. After a look at the whole text for UTF-8,
 /// NUL and lone CRs one pass goes from the front to the end, in time linear in the text's length. Of the text the
 /// names and the values of strings are copied, each once.
 pub fn tokens(alloc: Global, text: &[u8]) -> Result<Vec<Token>, ScriptError>

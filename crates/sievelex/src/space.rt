@@ -8,22 +8,22 @@ use crate::class::is_white;
 /// Where in white space an octet stands.
 #[derive(Clone, Copy)]
 pub(crate) enum Place {
-    /// Behind whole pieces.
+    /// After whole pieces.
     Between,
-    /// Behind a `#`.
+    /// After a `#`.
     Comment,
-    /// Behind the `/` of a `/*`.
+    /// After the `/` of a `/*`.
     Opening,
-    /// Behind a `/*`.
+    /// After a `/*`.
     Inner,
-    /// Behind a `/*` and directly behind a `*`.
+    /// After a `/*` and directly after a `*`.
     Star,
 }
 
 impl Place {
     ghost use Rattle.sievelex.specs.Skip.{place_after};
 
-    /// Where the octet behind this one stands.
+    /// Where the octet after this one stands.
     fn after(self, octet: u8) -> Place
         ensures { result ≡ place_after self octet }
     {

@@ -5,7 +5,7 @@ use octets::Octets;
 pub enum Content {
     /// A name as it was written: a letter or `_`, then letters, digits and `_`.
     Identifier(Octets),
-    /// The name behind a `:`, as it was written and without the colon.
+    /// The name after a `:`, as it was written and without the colon.
     Tag(Octets),
     /// The value of a number, its multiplier `K`, `M` or `G` counted: at most 2^63 - 1.
     Number(u64),

@@ -46,34 +46,34 @@ module _ (granted : Capabilities) (room : ℕ) where
   pub stop_none : (from : List Lexeme) → IsStop from → (tree : CommandTree) (to : List Lexeme) → TakesCommand granted room tree from to → ⊥
   stop_none from stops tree to takes = subst IsStop takes.0.1.1.0 stops
 
-statement_longer : (tree : CommandTree) (name : Keyword) (behind to : List Lexeme) → IsStatement tree name behind to → length to < length behind
-statement_longer tree name behind to is = omega (arith, arguments_longer is.0 behind (mark K.Semicolon ∷ to) is.1.0.spelled)
+statement_longer : (tree : CommandTree) (name : Keyword) (after to : List Lexeme) → IsStatement tree name after to → length to < length after
+statement_longer tree name after to is = omega (arith, arguments_longer is.0 after (mark K.Semicolon ∷ to) is.1.0.spelled)
 
 mutual
-  command_longer : (tree : CommandTree) (name : Keyword) (behind to : List Lexeme) → IsCommand tree name behind to → length to < length behind
-  command_longer (require names) name behind to is = statement_longer (require names) name behind to is
-  command_longer (choose branches) name behind to is = choice_longer branches name behind to is
-  command_longer stop name behind to is = statement_longer stop name behind to is
-  command_longer (act action) name behind to is = statement_longer (act action) name behind to is
+  command_longer : (tree : CommandTree) (name : Keyword) (after to : List Lexeme) → IsCommand tree name after to → length to < length after
+  command_longer (require names) name after to is = statement_longer (require names) name after to is
+  command_longer (choose branches) name after to is = choice_longer branches name after to is
+  command_longer stop name after to is = statement_longer stop name after to is
+  command_longer (act action) name after to is = statement_longer (act action) name after to is
 
-  choice_longer : (branches : Branches) (name : Keyword) (behind to : List Lexeme) → IsChoice branches name behind to → length to < length behind
-  choice_longer no_branches name behind to is = absurd is
-  choice_longer (branch condition block more) name behind to is =
+  choice_longer : (branches : Branches) (name : Keyword) (after to : List Lexeme) → IsChoice branches name after to → length to < length after
+  choice_longer no_branches name after to is = absurd is
+  choice_longer (branch condition block more) name after to is =
       let next = is.1.0 in
       let tested = is.1.1.0 in
       let braced = tested.1.1 in
-      omega (arith, reads_test_longer condition behind tested.0 tested.1.0, ap length braced.1.0, all_longer block braced.0 (mark K.CloseBrace ∷ next) braced.1.1, branches_longer more next to is.1.1.1)
+      omega (arith, reads_test_longer condition after tested.0 tested.1.0, ap length braced.1.0, all_longer block braced.0 (mark K.CloseBrace ∷ next) braced.1.1, branches_longer more next to is.1.1.1)
 
   branches_longer : (branches : Branches) (from to : List Lexeme) → AreBranches branches from to → length to ≤ length from
   branches_longer no_branches from to are = omega (arith, ap length are.0)
   branches_longer (branch condition block more) from to are =
       elim are [
         | inl one ↦
-            let behind = one.0 in
+            let after = one.0 in
             let next = one.1.1.0 in
             let tested = one.1.1.1.0 in
             let braced = tested.1.1 in
-            omega (arith, ap length one.1.0, reads_test_longer condition behind tested.0 tested.1.0, ap length braced.1.0, all_longer block braced.0 (mark K.CloseBrace ∷ next) braced.1.1, branches_longer more next to one.1.1.1.1)
+            omega (arith, ap length one.1.0, reads_test_longer condition after tested.0 tested.1.0, ap length braced.1.0, all_longer block braced.0 (mark K.CloseBrace ∷ next) braced.1.1, branches_longer more next to one.1.1.1.1)
         | inr last ↦
             let braced = last.1.1.0 in
             omega (arith, ap length last.1.0, ap length braced.1.0, all_longer block braced.0 (mark K.CloseBrace ∷ to) braced.1.1)
@@ -175,7 +175,7 @@ module _ (granted : Capabilities) (room : ℕ) where
       let low_more : branches_depth more + 1 ≤ room = omega (arith, low) in
       elim are [
         | inl one ↦
-            let behind = one.0 in
+            let after = one.0 in
             let next = one.1.1.0 in
             let tested = one.1.1.1.0 in
             let rest = branches_parted more next to one.1.1.1.1 may.1.1 low_more in record {
@@ -183,7 +183,7 @@ module _ (granted : Capabilities) (room : ℕ) where
               last = rest.last;
               middle = rest.middle;
               parts = ap (λ l. (condition, block) ∷ l) rest.parts;
-              elsifs = ((next, ((behind, (one.1.0, (tested.0, ((tested.1.0, may.0), (tested.1.1, (may.1.0, low_block)))))), rest.elsifs.0)), rest.elsifs.1);
+              elsifs = ((next, ((after, (one.1.0, (tested.0, ((tested.1.0, may.0), (tested.1.1, (may.1.0, low_block)))))), rest.elsifs.0)), rest.elsifs.1);
               ends = rest.ends;
             }
         | inr last ↦
@@ -216,16 +216,16 @@ module _ (granted : Capabilities) (room : ℕ) where
       (inl (at.0, (at.1.0, (chain.0, ((at.1.1.0, (at.1.1.1.0.0, block.0)), rest.0)))), ((at.1.1.1.0.1, (block.1.0, rest.1.0)), omega (arith, low, lower)))
 
 -- the parts of an `if`
-pub record IsIf (granted : Capabilities) (room : ℕ) (tree : CommandTree) (behind to : List Lexeme) : Type 0 where
+pub record IsIf (granted : Capabilities) (room : ℕ) (tree : CommandTree) (after to : List Lexeme) : Type 0 where
   pub one : TestTree × Commands
   pub more : Branches
   pub tree_is : tree ≡ choose (branch one.0 one.1 more)
   pub next : List Lexeme
-  pub first : TakesBranch granted room one behind next
+  pub first : TakesBranch granted room one after next
   pub others : AreParted granted room (list_of_branches more) next to
 
-module _ (granted : Capabilities) (room : ℕ) (behind : List Lexeme) where
-  if_parts : (tree : CommandTree) (to : List Lexeme) → TakesAfter granted room W.If tree behind to → IsIf granted room tree behind to
+module _ (granted : Capabilities) (room : ℕ) (after : List Lexeme) where
+  if_parts : (tree : CommandTree) (to : List Lexeme) → TakesAfter granted room W.If tree after to → IsIf granted room tree after to
   if_parts (require names) to takes = absurd takes.0.1.1
   if_parts (choose no_branches) to takes = absurd takes.0
   if_parts (choose (branch condition block more)) to takes =
@@ -245,28 +245,28 @@ module _ (granted : Capabilities) (room : ℕ) (behind : List Lexeme) where
   if_parts (act action) to takes = absurd takes.0.1.1
 
   -- no test and block
-  pub if_no_first : ((one : TestTree × Commands) (to : List Lexeme) → TakesBranch granted room one behind to → ⊥) → (tree : CommandTree) (to : List Lexeme) → TakesAfter granted room W.If tree behind to → ⊥
+  pub if_no_first : ((one : TestTree × Commands) (to : List Lexeme) → TakesBranch granted room one after to → ⊥) → (tree : CommandTree) (to : List Lexeme) → TakesAfter granted room W.If tree after to → ⊥
   if_no_first none tree to takes = let p = if_parts tree to takes in none p.one p.next p.first
 
-  module _ (one : TestTree × Commands) (next : List Lexeme) (found : TakesBranch granted room one behind next × ((other : TestTree × Commands) (to : List Lexeme) → TakesBranch granted room other behind to → (other ≡ one) × (to ≡ next))) where
-    others_at : (tree : CommandTree) (to : List Lexeme) (p : IsIf granted room tree behind to) → TakesElsifs granted room p.others.each next p.others.middle
+  module _ (one : TestTree × Commands) (next : List Lexeme) (found : TakesBranch granted room one after next × ((other : TestTree × Commands) (to : List Lexeme) → TakesBranch granted room other after to → (other ≡ one) × (to ≡ next))) where
+    others_at : (tree : CommandTree) (to : List Lexeme) (p : IsIf granted room tree after to) → TakesElsifs granted room p.others.each next p.others.middle
     others_at tree to p = subst (λ l. TakesElsifs granted room p.others.each l p.others.middle) (found.1 p.one p.next p.first).1 p.others.elsifs
 
     -- no good `elsif`
-    pub if_no_elsifs : ((each : List (TestTree × Commands)) (to : List Lexeme) → TakesElsifs granted room each next to → ⊥) → (tree : CommandTree) (to : List Lexeme) → TakesAfter granted room W.If tree behind to → ⊥
+    pub if_no_elsifs : ((each : List (TestTree × Commands)) (to : List Lexeme) → TakesElsifs granted room each next to → ⊥) → (tree : CommandTree) (to : List Lexeme) → TakesAfter granted room W.If tree after to → ⊥
     if_no_elsifs none tree to takes = let p = if_parts tree to takes in none p.others.each p.others.middle (others_at tree to p)
 
     module _ (all : List (TestTree × Commands)) (mid : List Lexeme) (only : (each : List (TestTree × Commands)) (to : List Lexeme) → TakesElsifs granted room each next to → (all ≡ one ∷ each) × (to ≡ mid)) where
-      last_at : (tree : CommandTree) (to : List Lexeme) (p : IsIf granted room tree behind to) → TakesElse granted room p.others.last mid to
+      last_at : (tree : CommandTree) (to : List Lexeme) (p : IsIf granted room tree after to) → TakesElse granted room p.others.last mid to
       last_at tree to p = subst (λ l. TakesElse granted room p.others.last l to) (only p.others.each p.others.middle (others_at tree to p)).1 p.others.ends
 
       -- no good `else`
-      pub if_no_else : ((last : List (TestTree × Commands)) (to : List Lexeme) → TakesElse granted room last mid to → ⊥) → (tree : CommandTree) (to : List Lexeme) → TakesAfter granted room W.If tree behind to → ⊥
+      pub if_no_else : ((last : List (TestTree × Commands)) (to : List Lexeme) → TakesElse granted room last mid to → ⊥) → (tree : CommandTree) (to : List Lexeme) → TakesAfter granted room W.If tree after to → ⊥
       if_no_else none tree to takes = let p = if_parts tree to takes in none p.others.last to (last_at tree to p)
 
       module _ (whole : List (TestTree × Commands)) (to : List Lexeme) (alone : (last : List (TestTree × Commands)) (end : List Lexeme) → TakesElse granted room last mid end → (whole ≡ all ++ last) × (end ≡ to)) where
         -- the one `if`
-        pub if_only : (tree : CommandTree) (end : List Lexeme) → TakesAfter granted room W.If tree behind end → (tree ≡ choose (branches_of whole)) × (end ≡ to)
+        pub if_only : (tree : CommandTree) (end : List Lexeme) → TakesAfter granted room W.If tree after end → (tree ≡ choose (branches_of whole)) × (end ≡ to)
         if_only tree end takes =
             let p = if_parts tree end takes in
             let first = found.1 p.one p.next p.first in
@@ -278,7 +278,7 @@ module _ (granted : Capabilities) (room : ℕ) (behind : List Lexeme) where
             (p.tree_is ∙ ap (λ o. choose (branch o.0 o.1 p.more)) first.0 ∙ sym again, last.1)
 
         -- what was read is one
-        pub if_takes : (each last : List (TestTree × Commands)) → all ≡ one ∷ each → TakesElsifs granted room each next mid → whole ≡ all ++ last → TakesElse granted room last mid to → TakesAfter granted room W.If (choose (branches_of whole)) behind to
+        pub if_takes : (each last : List (TestTree × Commands)) → all ≡ one ∷ each → TakesElsifs granted room each next mid → whole ≡ all ++ last → TakesElse granted room last mid to → TakesAfter granted room W.If (choose (branches_of whole)) after to
         if_takes each last all_is elsifs whole_is ends =
             let first = found.0 in
             let block = first.1.1 in
@@ -286,21 +286,21 @@ module _ (granted : Capabilities) (room : ℕ) (behind : List Lexeme) where
             let rest = branches_joined granted room each last next mid to (omega (arith, low)) elsifs.0 ends in
             let lower : branches_depth (branches_of (each ++ last)) + 1 ≤ room = rest.1.1 in
             let same : branch one.0 one.1 (branches_of (each ++ last)) ≡ branches_of whole = ap branches_of (sym (whole_is ∙ ap (λ l. l ++ last) all_is)) in
-            let takes : TakesAfter granted room W.If (choose (branch one.0 one.1 (branches_of (each ++ last)))) behind to = ((refl, (next, ((first.0, (first.1.0.0, block.0)), rest.0))), ((first.1.0.1, (block.1.0, rest.1.0)), omega (arith, low, lower))) in
-            subst (λ bs. TakesAfter granted room W.If (choose bs) behind to) same takes
+            let takes : TakesAfter granted room W.If (choose (branch one.0 one.1 (branches_of (each ++ last)))) after to = ((refl, (next, ((first.0, (first.1.0.0, block.0)), rest.0))), ((first.1.0.1, (block.1.0, rest.1.0)), omega (arith, low, lower))) in
+            subst (λ bs. TakesAfter granted room W.If (choose bs) after to) same takes
 
-module _ (granted : Capabilities) (room : ℕ) (behind : List Lexeme) where
+module _ (granted : Capabilities) (room : ℕ) (after : List Lexeme) where
   -- no test
-  pub branch_no_test : ((condition : TestTree) (to : List Lexeme) → TakesTest granted max_lists max_nots condition behind to → ⊥) → (one : TestTree × Commands) (to : List Lexeme) → TakesBranch granted room one behind to → ⊥
+  pub branch_no_test : ((condition : TestTree) (to : List Lexeme) → TakesTest granted max_lists max_nots condition after to → ⊥) → (one : TestTree × Commands) (to : List Lexeme) → TakesBranch granted room one after to → ⊥
   branch_no_test none one to takes = none one.0 takes.0 takes.1.0
 
-  module _ (condition : TestTree) (start : List Lexeme) (only : (other : TestTree) (to : List Lexeme) → TakesTest granted max_lists max_nots other behind to → (other ≡ condition) × (to ≡ start)) where
+  module _ (condition : TestTree) (start : List Lexeme) (only : (other : TestTree) (to : List Lexeme) → TakesTest granted max_lists max_nots other after to → (other ≡ condition) × (to ≡ start)) where
     -- no block
-    pub branch_no_block : ((block : Commands) (to : List Lexeme) → TakesBlock granted room block start to → ⊥) → (one : TestTree × Commands) (to : List Lexeme) → TakesBranch granted room one behind to → ⊥
+    pub branch_no_block : ((block : Commands) (to : List Lexeme) → TakesBlock granted room block start to → ⊥) → (one : TestTree × Commands) (to : List Lexeme) → TakesBranch granted room one after to → ⊥
     branch_no_block none one to takes = none one.1 to (subst (λ l. TakesBlock granted room one.1 l to) (only one.0 takes.0 takes.1.0).1 takes.1.1)
 
     -- the one branch
-    pub branch_found : TakesTest granted max_lists max_nots condition behind start → (block : Commands) (to : List Lexeme) → TakesBlock granted room block start to × ((other : Commands) (end : List Lexeme) → TakesBlock granted room other start end → (other ≡ block) × (end ≡ to)) → TakesBranch granted room (condition, block) behind to × ((other : TestTree × Commands) (end : List Lexeme) → TakesBranch granted room other behind end → (other ≡ (condition, block)) × (end ≡ to))
+    pub branch_found : TakesTest granted max_lists max_nots condition after start → (block : Commands) (to : List Lexeme) → TakesBlock granted room block start to × ((other : Commands) (end : List Lexeme) → TakesBlock granted room other start end → (other ≡ block) × (end ≡ to)) → TakesBranch granted room (condition, block) after to × ((other : TestTree × Commands) (end : List Lexeme) → TakesBranch granted room other after end → (other ≡ (condition, block)) × (end ≡ to))
     branch_found tested block to found = (
       (start, (tested, found.0)),
       λ other end takes.
@@ -319,8 +319,8 @@ module _ (granted : Capabilities) (room : ℕ) (whole : List Lexeme) (each : Lis
   elsifs_end past others to takes = chain_ends (TakesElsif granted room) IsPastElsif whole each rest so (past_no_elsif past) others to takes.0 takes.1
 
   module _ (mid : List Lexeme) (opens : rest ≡ keyword W.Elsif ∷ mid) where
-    behind_elsif : (one : TestTree × Commands) (to : List Lexeme) → TakesElsif granted room one rest to → TakesBranch granted room one mid to
-    behind_elsif one to takes =
+    after_elsif : (one : TestTree × Commands) (to : List Lexeme) → TakesElsif granted room one rest to → TakesBranch granted room one mid to
+    after_elsif one to takes =
         let same : keyword W.Elsif ∷ takes.0 ≡ keyword W.Elsif ∷ mid = sym takes.1.0 ∙ opens in
         let there : takes.0 ≡ mid = cc in
         subst (λ l. TakesBranch granted room one l to) there takes.1.1
@@ -328,12 +328,12 @@ module _ (granted : Capabilities) (room : ℕ) (whole : List Lexeme) (each : Lis
     -- a bad `elsif`
     pub elsifs_fail : ((one : TestTree × Commands) (to : List Lexeme) → TakesBranch granted room one mid to → ⊥) → (others : List (TestTree × Commands)) (to : List Lexeme) → TakesElsifs granted room others whole to → ⊥
     elsifs_fail none others to takes =
-        chain_fails (TakesElsif granted room) IsPastElsif whole each rest so (λ past. subst IsPastElsif opens past) (λ one end at. none one end (behind_elsif one end at)) others to takes.0 takes.1
+        chain_fails (TakesElsif granted room) IsPastElsif whole each rest so (λ past. subst IsPastElsif opens past) (λ one end at. none one end (after_elsif one end at)) others to takes.0 takes.1
 
     -- one `elsif` more
     pub elsifs_more : (one : TestTree × Commands) (next : List Lexeme) → TakesBranch granted room one mid next × ((other : TestTree × Commands) (to : List Lexeme) → TakesBranch granted room other mid to → (other ≡ one) × (to ≡ next)) → IsSoFar (TakesElsif granted room) IsPastElsif whole (each ++ one ∷ []) next
     elsifs_more one next found =
-        chain_more (TakesElsif granted room) IsPastElsif whole each rest one next so (mid, (opens, found.0)) (λ other to at. found.1 other to (behind_elsif other to at)) (λ past. subst IsPastElsif opens past)
+        chain_more (TakesElsif granted room) IsPastElsif whole each rest one next so (mid, (opens, found.0)) (λ other to at. found.1 other to (after_elsif other to at)) (λ past. subst IsPastElsif opens past)
 
     -- which is shorter than what was there
     pub elsif_shorter : (one : TestTree × Commands) (next : List Lexeme) → TakesBranch granted room one mid next → length next < length rest

@@ -30,7 +30,7 @@ use Rattle.sievesyntax.proofs.TagLemmas.{none_there, first_there}
 use Rattle.sievesyntax.specs.Tags.{group_of, IsPlain, IsSplit}
 use Rattle.sievesyntax.specs.Table.{SaysSize, SaysAddress, SaysEnvelope, NamesParts, is_part, IsPlainTest, IsPlainCommand}
 use Rattle.sievesyntax.specs.Tests.{IsTest, ReadsTest}
-use Rattle.sievesyntax.specs.Grammar.{Reads}
+use Rattle.sievesyntax.specs.Grammar.{ReadsScript}
 use Rattle.sievesyntax.specs.Tree.{TestTree, yes, looks, not_of, all_of, any_of, no_tests, test, list_depth, not_depth, CommandTree, choose, stop, act, no_branches, branch, Commands, no_commands, command, depth}
 use Rattle.sievesyntax.specs.Valid.{IsMailbox, IsValid, is_capability}
 use Rattle.sievesyntax.specs.Means.{Means}
@@ -83,7 +83,7 @@ no_size size says = let e : None ≡ Some size.bound = says.bound in absurd (cc 
 no_keep : (tree : CommandTree) → IsPlainCommand W.Keep (A.Text (codes "a") ∷ []) tree → ⊥
 no_keep tree is = let e : A.Text (codes "a") ∷ [] ≡ [] = is.none in absurd (cc e)
 
--- `FROM` is a part of the envelope, `auth` is none
+-- `FROM` is a part of the envelope, `auth` isn't one
 parts : NamesParts (codes "FROM" ∷ []) (record { from = true; to = false })
 parts = record { each = refl; from = refl; to = refl }
 
@@ -114,7 +114,7 @@ not_nothing : (inner : TestTree) (to : List Lexeme) → IsTest (not_of inner) W.
 not_nothing inner to is = let e : mark K.Semicolon ∷ [] ≡ keyword is.1.0 ∷ is.1.1.0 = is.1.1.1.0 in absurd (cc e)
 
 -- `keep;` is a `keep` and no `stop`
-keep : Reads (command (act D.Keep) no_commands) (keyword W.Keep ∷ (mark K.Semicolon ∷ []))
+keep : ReadsScript (command (act D.Keep) no_commands) (keyword W.Keep ∷ (mark K.Semicolon ∷ []))
 keep = ([], ((W.Keep, (mark K.Semicolon ∷ [], (refl, ([], (record { spelled = refl; all = tt }, record { none = refl; tree_is = refl }))))), refl))
 
 -- a name of one octet is a mailbox, the empty one isn't

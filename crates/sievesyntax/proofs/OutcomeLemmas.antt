@@ -15,7 +15,7 @@ use Rattle.sievesyntax.specs.declared.tree.checks.Check.{Check}
 use Rattle.sievesyntax.specs.declared.tree.vacation.VacArgs.{VacArgs}
 use Rattle.sievesyntax.specs.RunState.{RunState, at_first, max_targets, TwoVacations, TooManyRedirects, Flow, Going, Stopped, Failed, and_then, inbox, mailbox_named, with_mailbox, filed_into, same_target, sent_to, replied_by, performed}
 use Rattle.sievesyntax.specs.Meaning.{ended, outcome}
-use Rattle.sievesyntax.specs.Trace.{actions_run, in_turn, KeepsImplicitly, OnDone, NamesEachOnce, FilesIntoInboxAlone}
+use Rattle.sievesyntax.specs.Trace.{actions_run, in_turn, KeepsImplicitly, OnDone, NamesWithoutRepeats, FilesIntoInboxAlone}
 use Rattle.sievesyntax.specs.Tree.{Commands}
 use Rattle.sievesyntax.proofs.TraceLemmas.{outcome_in_turn}
 
@@ -103,7 +103,7 @@ orderly (FileInto name) state may so = files (mailbox_named name) state so
 orderly (Redirect target) state may so = sends target state so
 orderly (Vacation args) state may so = replies args state so
 
-in_the_end : (state : RunState) → IsOrderly state → OnDone NamesEachOnce (ended (Going state))
+in_the_end : (state : RunState) → IsOrderly state → OnDone NamesWithoutRepeats (ended (Going state))
 in_the_end state so = record { mailboxes = step state.cancelled; addresses = so.addresses; few = so.few }
   where
     step : (cancelled : Bool) → IsDistinct (pointwise nat_eq) (cond cancelled state.filed (with_mailbox state.filed inbox))
@@ -111,14 +111,14 @@ in_the_end state so = record { mailboxes = step state.cancelled; addresses = so.
     step false = mailbox_once state.filed inbox so.mailboxes
 
 -- each mailbox and each address once
-pub named_once : (truth : Check → Bool) (commands : Commands) → OnDone NamesEachOnce (outcome truth commands)
+pub named_once : (truth : Check → Bool) (commands : Commands) → OnDone NamesWithoutRepeats (outcome truth commands)
 unfolding IsDistinct
 named_once truth commands =
-    subst (OnDone NamesEachOnce) (sym (outcome_in_turn truth commands))
+    subst (OnDone NamesWithoutRepeats) (sym (outcome_in_turn truth commands))
     (step (in_turn (actions_run truth commands) at_first)
     (kept_in_turn IsOrderly (λ action. Unit {0}) orderly (actions_run truth commands) (λ k other within. tt) at_first (record { mailboxes = tt; addresses = tt; few = omega arith })))
   where
-    step : (flow : Flow) → OnState IsOrderly flow → OnDone NamesEachOnce (ended flow)
+    step : (flow : Flow) → OnState IsOrderly flow → OnDone NamesWithoutRepeats (ended flow)
     step (Going state) so = in_the_end state so
     step (Stopped state) so = in_the_end state so
     step (Failed failure) so = tt

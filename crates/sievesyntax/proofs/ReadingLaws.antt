@@ -13,7 +13,7 @@ use Rattle.sievesyntax.specs.declared.table.tag_group.TagGroup.{TagGroup}
 use Rattle.sievesyntax.specs.Arguments.{IsOther, AreStrings, IsArgument, IsEnd, AreArguments}
 use Rattle.sievesyntax.specs.Chains.{Chain}
 use Rattle.sievesyntax.specs.Lexemes.{Lexeme, keyword, text, mark}
-use Rattle.sievesyntax.specs.Grammar.{Braced, IsPastBranches, Tested, IsStatement, IsCommand, IsChoice, AreBranches, AreCommands, Reads}
+use Rattle.sievesyntax.specs.Grammar.{Braced, IsPastBranches, Tested, IsStatement, IsCommand, IsChoice, AreBranches, AreCommands, ReadsScript}
 use Rattle.sievesyntax.specs.Steps.{IsStop}
 use Rattle.sievesyntax.specs.Table.{IsText, IsList, IsRedirect, IsRow, IsPlainTest, IsPlainCommand}
 use Rattle.sievesyntax.specs.Tags.{IsAllowed, IsPlain as IsPositional, IsSplit, IsCall}
@@ -123,33 +123,33 @@ plain_command_same W.Redirect args t u a b = row_same _ _ args (redirect_same ar
 plain_command_same W.Vacation args t u a b = row_same _ _ args (call_same _ _ vacation_same args) t u a b
 plain_command_same _ args t u a b = absurd a
 
--- what stands behind a name or a mark that is known
-headed_at : (P : Keyword → List Lexeme → Type 0) (from : List Lexeme) (name : Keyword) (behind : List Lexeme) → from ≡ keyword name ∷ behind → Headed P from → P name behind
-headed_at P from name behind opens headed =
-    let same : keyword headed.0 ∷ headed.1.0 ≡ keyword name ∷ behind = sym headed.1.1.0 ∙ opens in
+-- what stands after a name or a mark that is known
+headed_at : (P : Keyword → List Lexeme → Type 0) (from : List Lexeme) (name : Keyword) (after : List Lexeme) → from ≡ keyword name ∷ after → Headed P from → P name after
+headed_at P from name after opens headed =
+    let same : keyword headed.0 ∷ headed.1.0 ≡ keyword name ∷ after = sym headed.1.1.0 ∙ opens in
     let named : headed.0 ≡ name = cc in
-    let there : headed.1.0 ≡ behind = cc in
+    let there : headed.1.0 ≡ after = cc in
     subst (P name) there (subst (λ w. P w headed.1.0) named headed.1.1.1)
 
-marked_at : (kind : Mark) (P : List Lexeme → Type 0) (from behind : List Lexeme) → from ≡ mark kind ∷ behind → Marked kind P from → P behind
-marked_at kind P from behind opens marked =
-    let same : mark kind ∷ marked.0 ≡ mark kind ∷ behind = sym marked.1.0 ∙ opens in
-    let there : marked.0 ≡ behind = cc in
+marked_at : (kind : Mark) (P : List Lexeme → Type 0) (from after : List Lexeme) → from ≡ mark kind ∷ after → Marked kind P from → P after
+marked_at kind P from after opens marked =
+    let same : mark kind ∷ marked.0 ≡ mark kind ∷ after = sym marked.1.0 ∙ opens in
+    let there : marked.0 ≡ after = cc in
     subst P there marked.1.1
 
 -- tests without tests in them
-plain_same : (t u : TestTree) (name : Keyword) (behind to end : List Lexeme) → IsPlain t name behind to → IsPlain u name behind end → (t ≡ u) × (to ≡ end)
-plain_same t u name behind to end a b =
-    let same = arguments_same a.0 b.0 behind to end a.1.0 b.1.0 in
+plain_same : (t u : TestTree) (name : Keyword) (after to end : List Lexeme) → IsPlain t name after to → IsPlain u name after end → (t ≡ u) × (to ≡ end)
+plain_same t u name after to end a b =
+    let same = arguments_same a.0 b.0 after to end a.1.0 b.1.0 in
     (plain_test_same name b.0 t u (subst (λ args. IsPlainTest name args t) same.0 a.1.1) b.1.1, same.1)
 
-leaf_same : (t u : TestTree) (name : Keyword) (behind to end : List Lexeme) → IsPlain t name behind to → IsTest u name behind end → (t ≡ u) × (to ≡ end)
-leaf_same t u name behind to end a b =
+leaf_same : (t u : TestTree) (name : Keyword) (after to end : List Lexeme) → IsPlain t name after to → IsTest u name after end → (t ≡ u) × (to ≡ end)
+leaf_same t u name after to end a b =
     let other : (w : Keyword) → name ≡ w → IsPlainTest w a.0 t = λ w e. subst (λ v. IsPlainTest v a.0 t) e a.1.1 in
-    plain_same t u name behind to end a (is_plain name (other W.Not) (other W.AllOf) (other W.AnyOf) behind u end b)
+    plain_same t u name after to end a (is_plain name (other W.Not) (other W.AllOf) (other W.AnyOf) after u end b)
 
-module _ (name : Keyword) (behind end : List Lexeme) where
-  not_inside : (u : TestTree) → name ≡ W.Not → IsTest u name behind end → (inner : TestTree) × ((u ≡ not_of inner) × ReadsTest inner behind end)
+module _ (name : Keyword) (after end : List Lexeme) where
+  not_inside : (u : TestTree) → name ≡ W.Not → IsTest u name after end → (inner : TestTree) × ((u ≡ not_of inner) × ReadsTest inner after end)
   not_inside yes e b = absurd (subst (λ w. IsPlainTest w b.0 yes) e b.1.1)
   not_inside no e b = absurd (subst (λ w. IsPlainTest w b.0 no) e b.1.1)
   not_inside (looks check) e b = absurd (subst (λ w. IsPlainTest w b.0 (looks check)) e b.1.1)
@@ -157,7 +157,7 @@ module _ (name : Keyword) (behind end : List Lexeme) where
   not_inside (all_of inner) e b = let bad : W.Not ≡ W.AllOf = sym e ∙ b.0 in absurd cc
   not_inside (any_of inner) e b = let bad : W.Not ≡ W.AnyOf = sym e ∙ b.0 in absurd cc
 
-  all_inside : (u : TestTree) → name ≡ W.AllOf → IsTest u name behind end → (inner : Tests) × ((u ≡ all_of inner) × Marked K.OpenParen (λ inside. AreTests inner inside end) behind)
+  all_inside : (u : TestTree) → name ≡ W.AllOf → IsTest u name after end → (inner : Tests) × ((u ≡ all_of inner) × Marked K.OpenParen (λ inside. AreTests inner inside end) after)
   all_inside yes e b = absurd (subst (λ w. IsPlainTest w b.0 yes) e b.1.1)
   all_inside no e b = absurd (subst (λ w. IsPlainTest w b.0 no) e b.1.1)
   all_inside (looks check) e b = absurd (subst (λ w. IsPlainTest w b.0 (looks check)) e b.1.1)
@@ -165,7 +165,7 @@ module _ (name : Keyword) (behind end : List Lexeme) where
   all_inside (all_of inner) e b = (inner, (refl, b.1))
   all_inside (any_of inner) e b = let bad : W.AllOf ≡ W.AnyOf = sym e ∙ b.0 in absurd cc
 
-  any_inside : (u : TestTree) → name ≡ W.AnyOf → IsTest u name behind end → (inner : Tests) × ((u ≡ any_of inner) × Marked K.OpenParen (λ inside. AreTests inner inside end) behind)
+  any_inside : (u : TestTree) → name ≡ W.AnyOf → IsTest u name after end → (inner : Tests) × ((u ≡ any_of inner) × Marked K.OpenParen (λ inside. AreTests inner inside end) after)
   any_inside yes e b = absurd (subst (λ w. IsPlainTest w b.0 yes) e b.1.1)
   any_inside no e b = absurd (subst (λ w. IsPlainTest w b.0 no) e b.1.1)
   any_inside (looks check) e b = absurd (subst (λ w. IsPlainTest w b.0 (looks check)) e b.1.1)
@@ -173,28 +173,28 @@ module _ (name : Keyword) (behind end : List Lexeme) where
   any_inside (all_of inner) e b = let bad : W.AnyOf ≡ W.AllOf = sym e ∙ b.0 in absurd cc
   any_inside (any_of inner) e b = (inner, (refl, b.1))
 
--- one test at most stands behind a name, and one list of tests at a place
+-- one test at most stands after a name, and one list of tests at a place
 mutual
-  test_same : (t u : TestTree) (name : Keyword) (behind to end : List Lexeme) → IsTest t name behind to → IsTest u name behind end → (t ≡ u) × (to ≡ end)
-  test_same yes u name behind to end a b = leaf_same yes u name behind to end a b
-  test_same no u name behind to end a b = leaf_same no u name behind to end a b
-  test_same (looks check) u name behind to end a b = leaf_same (looks check) u name behind to end a b
-  test_same (not_of inner) u name behind to end a b =
-      let other = not_inside name behind end u a.0 b in
+  test_same : (t u : TestTree) (name : Keyword) (after to end : List Lexeme) → IsTest t name after to → IsTest u name after end → (t ≡ u) × (to ≡ end)
+  test_same yes u name after to end a b = leaf_same yes u name after to end a b
+  test_same no u name after to end a b = leaf_same no u name after to end a b
+  test_same (looks check) u name after to end a b = leaf_same (looks check) u name after to end a b
+  test_same (not_of inner) u name after to end a b =
+      let other = not_inside name after end u a.0 b in
       let here = a.1 in
-      let there = headed_at (λ n l. IsTest other.0 n l end) behind here.0 here.1.0 here.1.1.0 other.1.1 in
+      let there = headed_at (λ n l. IsTest other.0 n l end) after here.0 here.1.0 here.1.1.0 other.1.1 in
       let same = test_same inner other.0 here.0 here.1.0 to end here.1.1.1 there in
       (ap not_of same.0 ∙ sym other.1.0, same.1)
-  test_same (all_of inner) u name behind to end a b =
-      let other = all_inside name behind end u a.0 b in
+  test_same (all_of inner) u name after to end a b =
+      let other = all_inside name after end u a.0 b in
       let here = a.1 in
-      let there = marked_at K.OpenParen (λ l. AreTests other.0 l end) behind here.0 here.1.0 other.1.1 in
+      let there = marked_at K.OpenParen (λ l. AreTests other.0 l end) after here.0 here.1.0 other.1.1 in
       let same = tests_same inner other.0 here.0 to end here.1.1 there in
       (ap all_of same.0 ∙ sym other.1.0, same.1)
-  test_same (any_of inner) u name behind to end a b =
-      let other = any_inside name behind end u a.0 b in
+  test_same (any_of inner) u name after to end a b =
+      let other = any_inside name after end u a.0 b in
       let here = a.1 in
-      let there = marked_at K.OpenParen (λ l. AreTests other.0 l end) behind here.0 here.1.0 other.1.1 in
+      let there = marked_at K.OpenParen (λ l. AreTests other.0 l end) after here.0 here.1.0 other.1.1 in
       let same = tests_same inner other.0 here.0 to end here.1.1 there in
       (ap any_of same.0 ∙ sym other.1.0, same.1)
 
@@ -213,7 +213,7 @@ mutual
   more_same no_tests (test other others) from to end a b = let e = b.1.0 in absurd cc
   more_same (test first more) no_tests from to end a b = let e = a.1.0 in absurd cc
   more_same (test first more) (test other others) from to end a b =
-      let rest = marked_at K.Comma (λ start. (middle : List Lexeme) × (Headed (λ name behind. IsTest other name behind middle) start × AreMoreTests others middle end)) from a.0 a.1.0 b in
+      let rest = marked_at K.Comma (λ start. (middle : List Lexeme) × (Headed (λ name after. IsTest other name after middle) start × AreMoreTests others middle end)) from a.0 a.1.0 b in
       let here = a.1.1.1.0 in
       let there = headed_at (λ n l. IsTest other n l rest.0) a.0 here.0 here.1.0 here.1.1.0 rest.1.0 in
       let same = test_same first other here.0 here.1.0 a.1.1.0 rest.0 here.1.1.1 there in
@@ -235,36 +235,36 @@ module _ (P Q : List Lexeme → List Lexeme → Type 0) (A : Type 0)
       let same = reads_test_same t u from a.0 b.0 a.1.0 b.1.0 in
       (same.0, braced_same b.0 to end (subst (λ l. Braced P l to) same.1 a.1.1) b.1.1)
 
-statement_same : (a b : CommandTree) (name : Keyword) (behind to end : List Lexeme) → IsStatement a name behind to → IsStatement b name behind end → (a ≡ b) × (to ≡ end)
-statement_same a b name behind to end p q =
-    let same = arguments_same p.0 q.0 behind (mark K.Semicolon ∷ to) (mark K.Semicolon ∷ end) p.1.0 q.1.0 in
+statement_same : (a b : CommandTree) (name : Keyword) (after to end : List Lexeme) → IsStatement a name after to → IsStatement b name after end → (a ≡ b) × (to ≡ end)
+statement_same a b name after to end p q =
+    let same = arguments_same p.0 q.0 after (mark K.Semicolon ∷ to) (mark K.Semicolon ∷ end) p.1.0 q.1.0 in
     let ends : mark K.Semicolon ∷ to ≡ mark K.Semicolon ∷ end = same.1 in
     (plain_command_same name q.0 a b (subst (λ args. IsPlainCommand name args a) same.0 p.1.1) q.1.1, cc)
 
-statement_no_if : (a : CommandTree) (name : Keyword) (behind to : List Lexeme) → IsStatement a name behind to → name ≡ W.If → ⊥
-statement_no_if a name behind to p e = subst (λ w. IsPlainCommand w p.0 a) e p.1.1
+statement_no_if : (a : CommandTree) (name : Keyword) (after to : List Lexeme) → IsStatement a name after to → name ≡ W.If → ⊥
+statement_no_if a name after to p e = subst (λ w. IsPlainCommand w p.0 a) e p.1.1
 
 -- a command other than an `if`
-is_statement : (b : CommandTree) (name : Keyword) (behind end : List Lexeme) → (name ≡ W.If → ⊥) → IsCommand b name behind end → IsStatement b name behind end
-is_statement (require names) name behind end other q = q
-is_statement (choose no_branches) name behind end other q = absurd q
-is_statement (choose (branch condition block more)) name behind end other q = absurd (other q.0)
-is_statement stop name behind end other q = q
-is_statement (act action) name behind end other q = q
+is_statement : (b : CommandTree) (name : Keyword) (after end : List Lexeme) → (name ≡ W.If → ⊥) → IsCommand b name after end → IsStatement b name after end
+is_statement (require names) name after end other q = q
+is_statement (choose no_branches) name after end other q = absurd q
+is_statement (choose (branch condition block more)) name after end other q = absurd (other q.0)
+is_statement stop name after end other q = q
+is_statement (act action) name after end other q = q
 
-plain_only : (a b : CommandTree) (name : Keyword) (behind to end : List Lexeme) → IsStatement a name behind to → IsCommand b name behind end → (a ≡ b) × (to ≡ end)
-plain_only a b name behind to end p q = statement_same a b name behind to end p (is_statement b name behind end (statement_no_if a name behind to p) q)
+plain_only : (a b : CommandTree) (name : Keyword) (after to end : List Lexeme) → IsStatement a name after to → IsCommand b name after end → (a ≡ b) × (to ≡ end)
+plain_only a b name after to end p q = statement_same a b name after to end p (is_statement b name after end (statement_no_if a name after to p) q)
 
 -- an `if`
-choice_inside : (b : CommandTree) (name : Keyword) (behind end : List Lexeme) → name ≡ W.If → IsCommand b name behind end → (branches : Branches) × ((b ≡ choose branches) × IsChoice branches name behind end)
-choice_inside (require names) name behind end e q = absurd (statement_no_if (require names) name behind end q e)
-choice_inside (choose branches) name behind end e q = (branches, (refl, q))
-choice_inside stop name behind end e q = absurd (statement_no_if stop name behind end q e)
-choice_inside (act action) name behind end e q = absurd (statement_no_if (act action) name behind end q e)
+choice_inside : (b : CommandTree) (name : Keyword) (after end : List Lexeme) → name ≡ W.If → IsCommand b name after end → (branches : Branches) × ((b ≡ choose branches) × IsChoice branches name after end)
+choice_inside (require names) name after end e q = absurd (statement_no_if (require names) name after end q e)
+choice_inside (choose branches) name after end e q = (branches, (refl, q))
+choice_inside stop name after end e q = absurd (statement_no_if stop name after end q e)
+choice_inside (act action) name after end e q = absurd (statement_no_if (act action) name after end q e)
 
-if_first : (branches : Branches) (name : Keyword) (behind to : List Lexeme) → IsChoice branches name behind to → name ≡ W.If
-if_first no_branches name behind to p = absurd p
-if_first (branch condition block more) name behind to p = p.0
+if_first : (branches : Branches) (name : Keyword) (after to : List Lexeme) → IsChoice branches name after to → name ≡ W.If
+if_first no_branches name after to p = absurd p
+if_first (branch condition block more) name after to p = p.0
 
 branch_parts : (c d : TestTree) (x y : Commands) (m n : Branches) → c ≡ d → x ≡ y → m ≡ n → branch c x m ≡ branch d y n
 branch_parts c d x y m n a b e = λ i. branch (a i) (b i) (e i)
@@ -273,23 +273,23 @@ branch_parts c d x y m n a b e = λ i. branch (a i) (b i) (e i)
 closed : {x y : Commands} {m n : List Lexeme} → (x ≡ y) × (mark K.CloseBrace ∷ m ≡ mark K.CloseBrace ∷ n) → (x ≡ y) × (m ≡ n)
 closed same = let e = same.1 in (same.0, cc)
 
--- one command at most stands behind a name, one list of branches and one of commands at a place
+-- one command at most stands after a name, one list of branches and one of commands at a place
 mutual
-  command_same : (a b : CommandTree) (name : Keyword) (behind to end : List Lexeme) → IsCommand a name behind to → IsCommand b name behind end → (a ≡ b) × (to ≡ end)
-  command_same (require names) b name behind to end p q = plain_only (require names) b name behind to end p q
-  command_same (choose branches) b name behind to end p q =
-      let other = choice_inside b name behind end (if_first branches name behind to p) q in
-      let same = choice_same branches other.0 name behind to end p other.1.1 in
+  command_same : (a b : CommandTree) (name : Keyword) (after to end : List Lexeme) → IsCommand a name after to → IsCommand b name after end → (a ≡ b) × (to ≡ end)
+  command_same (require names) b name after to end p q = plain_only (require names) b name after to end p q
+  command_same (choose branches) b name after to end p q =
+      let other = choice_inside b name after end (if_first branches name after to p) q in
+      let same = choice_same branches other.0 name after to end p other.1.1 in
       (ap choose same.0 ∙ sym other.1.0, same.1)
-  command_same stop b name behind to end p q = plain_only stop b name behind to end p q
-  command_same (act action) b name behind to end p q = plain_only (act action) b name behind to end p q
+  command_same stop b name after to end p q = plain_only stop b name after to end p q
+  command_same (act action) b name after to end p q = plain_only (act action) b name after to end p q
 
-  choice_same : (a b : Branches) (name : Keyword) (behind to end : List Lexeme) → IsChoice a name behind to → IsChoice b name behind end → (a ≡ b) × (to ≡ end)
-  choice_same no_branches b name behind to end p q = absurd p
-  choice_same (branch condition block more) no_branches name behind to end p q = absurd q
-  choice_same (branch condition block more) (branch other blocked others) name behind to end p q =
+  choice_same : (a b : Branches) (name : Keyword) (after to end : List Lexeme) → IsChoice a name after to → IsChoice b name after end → (a ≡ b) × (to ≡ end)
+  choice_same no_branches b name after to end p q = absurd p
+  choice_same (branch condition block more) no_branches name after to end p q = absurd q
+  choice_same (branch condition block more) (branch other blocked others) name after to end p q =
       let first = tested_same (AreCommands block) (AreCommands blocked) (block ≡ blocked) (λ l m n x y. closed (commands_same block blocked l (mark K.CloseBrace ∷ m) (mark K.CloseBrace ∷ n) x tt y tt))
-      condition other behind p.1.0 q.1.0 p.1.1.0 q.1.1.0 in
+      condition other after p.1.0 q.1.0 p.1.1.0 q.1.1.0 in
       let later = branches_same more others q.1.0 to end (subst (λ l. AreBranches more l to) first.1.1 p.1.1.1) q.1.1.1 in
       (branch_parts condition other block blocked more others first.0 first.1.0 later.0, later.1)
 
@@ -301,18 +301,18 @@ mutual
   branches_same (branch condition block more) no_branches from to end (inr p) q = absurd (subst IsPastBranches (sym q.0 ∙ p.1.0) q.1)
   branches_same (branch condition block more) (branch other blocked others) from to end (inl p) (inl q) =
       let e : keyword W.Elsif ∷ p.0 ≡ keyword W.Elsif ∷ q.0 = sym p.1.0 ∙ q.1.0 in
-      let behind : p.0 ≡ q.0 = cc in
+      let after : p.0 ≡ q.0 = cc in
       let first = tested_same (AreCommands block) (AreCommands blocked) (block ≡ blocked) (λ l m n x y. closed (commands_same block blocked l (mark K.CloseBrace ∷ m) (mark K.CloseBrace ∷ n) x tt y tt))
-      condition other q.0 p.1.1.0 q.1.1.0 (subst (λ l. Tested condition (AreCommands block) l p.1.1.0) behind p.1.1.1.0) q.1.1.1.0 in
+      condition other q.0 p.1.1.0 q.1.1.0 (subst (λ l. Tested condition (AreCommands block) l p.1.1.0) after p.1.1.1.0) q.1.1.1.0 in
       let later = branches_same more others q.1.1.0 to end (subst (λ l. AreBranches more l to) first.1.1 p.1.1.1.1) q.1.1.1.1 in
       (branch_parts condition other block blocked more others first.0 first.1.0 later.0, later.1)
   branches_same (branch condition block more) (branch other blocked others) from to end (inl p) (inr q) = let e : keyword W.Elsif ∷ p.0 ≡ keyword W.Else ∷ q.0 = sym p.1.0 ∙ q.1.0 in absurd cc
   branches_same (branch condition block more) (branch other blocked others) from to end (inr p) (inl q) = let e : keyword W.Else ∷ p.0 ≡ keyword W.Elsif ∷ q.0 = sym p.1.0 ∙ q.1.0 in absurd cc
   branches_same (branch condition block more) (branch other blocked others) from to end (inr p) (inr q) =
       let e : keyword W.Else ∷ p.0 ≡ keyword W.Else ∷ q.0 = sym p.1.0 ∙ q.1.0 in
-      let behind : p.0 ≡ q.0 = cc in
+      let after : p.0 ≡ q.0 = cc in
       let first = braced_same (AreCommands block) (AreCommands blocked) (block ≡ blocked) (λ l m n x y. closed (commands_same block blocked l (mark K.CloseBrace ∷ m) (mark K.CloseBrace ∷ n) x tt y tt))
-      q.0 to end (subst (λ l. Braced (AreCommands block) l to) behind p.1.1.0) q.1.1.0 in
+      q.0 to end (subst (λ l. Braced (AreCommands block) l to) after p.1.1.0) q.1.1.0 in
       (branch_parts condition other block blocked more others (p.1.1.1.0 ∙ sym q.1.1.1.0) first.0 (p.1.1.1.1 ∙ sym q.1.1.1.1), first.1)
 
   commands_same : (a b : Commands) (from to end : List Lexeme) → AreCommands a from to → IsStop to → AreCommands b from end → IsStop end → (a ≡ b) × (to ≡ end)
@@ -327,5 +327,5 @@ mutual
       (ap (λ c. command c more) same.0 ∙ ap (command other) later.0, later.1)
 
 -- lexemes are read as one tree
-pub reads_same : (a b : Commands) (lexemes : List Lexeme) → Reads a lexemes → Reads b lexemes → a ≡ b
+pub reads_same : (a b : Commands) (lexemes : List Lexeme) → ReadsScript a lexemes → ReadsScript b lexemes → a ≡ b
 reads_same a b lexemes p q = (commands_same a b lexemes [] [] p tt q tt).0

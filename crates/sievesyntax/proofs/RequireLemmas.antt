@@ -20,19 +20,19 @@ use Rattle.sievesyntax.specs.Table.{IsList, IsPlainCommand}
 use Rattle.sievesyntax.specs.Tree.{CommandTree, require, choose, stop, act, no_branches, branch, Commands, no_commands, command, depth}
 use Rattle.sievesyntax.specs.View.{commands_of}
 use Rattle.sievesyntax.specs.Valid.{max_blocks, IsCapability, is_named, MayStand, MayAllStand, required, after_requires, granted_by, IsValid}
-use Rattle.sievesyntax.specs.Grammar.{IsStatement, IsCommand, AreCommands, ReadsCommand, Reads}
+use Rattle.sievesyntax.specs.Grammar.{IsStatement, IsCommand, AreCommands, ReadsCommand, ReadsScript}
 use Rattle.sievesyntax.specs.Steps.{TakesAll, TakesRequire, TakesRequires, IsPastRequires, all_names, granted_too}
 
 -- the arguments of a `require`
-module _ (behind : List Lexeme) (args : List Argument) (next : List Lexeme) (only : (other : List Argument) (to : List Lexeme) → AreArguments other behind to → (other ≡ args) × (to ≡ next)) where
+module _ (after : List Lexeme) (args : List Argument) (next : List Lexeme) (only : (other : List Argument) (to : List Lexeme) → AreArguments other after to → (other ≡ args) × (to ≡ next)) where
   -- no names
-  pub names_none : ((names : List (List ℕ)) → IsList args names → ⊥) → (names : List (List ℕ)) (to : List Lexeme) → IsStatement (require names) W.Require behind to → ⊥
+  pub names_none : ((names : List (List ℕ)) → IsList args names → ⊥) → (names : List (List ℕ)) (to : List Lexeme) → IsStatement (require names) W.Require after to → ⊥
   names_none none names to is = let same = only is.0 (mark K.Semicolon ∷ to) is.1.0 in none is.1.1.value (subst (λ a. IsList a is.1.1.value) same.0 is.1.1.is)
 
   -- the one list of names
-  pub names_found : AreArguments args behind next → (names : List (List ℕ)) → IsList args names → ((other : List (List ℕ)) → IsList args other → other ≡ names) → (to : List Lexeme) → next ≡ mark K.Semicolon ∷ to → IsStatement (require names) W.Require behind to × ((other : List (List ℕ)) (end : List Lexeme) → IsStatement (require other) W.Require behind end → (other ≡ names) × (end ≡ to))
+  pub names_found : AreArguments args after next → (names : List (List ℕ)) → IsList args names → ((other : List (List ℕ)) → IsList args other → other ≡ names) → (to : List Lexeme) → next ≡ mark K.Semicolon ∷ to → IsStatement (require names) W.Require after to × ((other : List (List ℕ)) (end : List Lexeme) → IsStatement (require other) W.Require after end → (other ≡ names) × (end ≡ to))
   names_found are names is alone to semicolon = (
-    (args, (subst (AreArguments args behind) semicolon are, record { value = names; is = is; tree_is = refl })),
+    (args, (subst (AreArguments args after) semicolon are, record { value = names; is = is; tree_is = refl })),
     λ other end statement.
         let same = only statement.0 (mark K.Semicolon ∷ end) statement.1.0 in
         let ends : mark K.Semicolon ∷ end ≡ mark K.Semicolon ∷ to = same.1 ∙ semicolon in
@@ -67,28 +67,28 @@ require_keyword W.Envelope args names is = absurd is
 require_keyword W.Other args names is = absurd is
 
 -- any other word is past the requires
-past_keyword : (name : Keyword) (behind : List Lexeme) → (name ≡ W.Require → ⊥) → IsPastRequires (keyword name ∷ behind)
-past_keyword W.Require behind other = other refl
-past_keyword W.If behind other = tt
-past_keyword W.Elsif behind other = tt
-past_keyword W.Else behind other = tt
-past_keyword W.Stop behind other = tt
-past_keyword W.Keep behind other = tt
-past_keyword W.Discard behind other = tt
-past_keyword W.FileInto behind other = tt
-past_keyword W.Redirect behind other = tt
-past_keyword W.Vacation behind other = tt
-past_keyword W.True behind other = tt
-past_keyword W.False behind other = tt
-past_keyword W.Not behind other = tt
-past_keyword W.AllOf behind other = tt
-past_keyword W.AnyOf behind other = tt
-past_keyword W.Size behind other = tt
-past_keyword W.Exists behind other = tt
-past_keyword W.Header behind other = tt
-past_keyword W.Address behind other = tt
-past_keyword W.Envelope behind other = tt
-past_keyword W.Other behind other = tt
+past_keyword : (name : Keyword) (after : List Lexeme) → (name ≡ W.Require → ⊥) → IsPastRequires (keyword name ∷ after)
+past_keyword W.Require after other = other refl
+past_keyword W.If after other = tt
+past_keyword W.Elsif after other = tt
+past_keyword W.Else after other = tt
+past_keyword W.Stop after other = tt
+past_keyword W.Keep after other = tt
+past_keyword W.Discard after other = tt
+past_keyword W.FileInto after other = tt
+past_keyword W.Redirect after other = tt
+past_keyword W.Vacation after other = tt
+past_keyword W.True after other = tt
+past_keyword W.False after other = tt
+past_keyword W.Not after other = tt
+past_keyword W.AllOf after other = tt
+past_keyword W.AnyOf after other = tt
+past_keyword W.Size after other = tt
+past_keyword W.Exists after other = tt
+past_keyword W.Header after other = tt
+past_keyword W.Address after other = tt
+past_keyword W.Envelope after other = tt
+past_keyword W.Other after other = tt
 
 -- no `require` stands past the requires
 past_none : (rest : List Lexeme) → IsPastRequires rest → (names : List (List ℕ)) (to : List Lexeme) → TakesRequire names rest to → ⊥
@@ -98,12 +98,12 @@ past_none rest past names to takes =
     subst IsPastRequires (reads.1.1.0 ∙ ap (λ w. keyword w ∷ reads.1.0) is_keyword) past
 
 -- what stands after the word of a `require`
-behind_require : (rest mid : List Lexeme) → rest ≡ keyword W.Require ∷ mid → (names : List (List ℕ)) (to : List Lexeme) → ReadsCommand (require names) rest to → IsStatement (require names) W.Require mid to
-behind_require rest mid opens names to reads =
+after_require : (rest mid : List Lexeme) → rest ≡ keyword W.Require ∷ mid → (names : List (List ℕ)) (to : List Lexeme) → ReadsCommand (require names) rest to → IsStatement (require names) W.Require mid to
+after_require rest mid opens names to reads =
     let same : keyword reads.0 ∷ reads.1.0 ≡ keyword W.Require ∷ mid = sym reads.1.1.0 ∙ opens in
     let name : reads.0 ≡ W.Require = cc in
-    let behind : reads.1.0 ≡ mid = cc in
-    subst (λ b. IsStatement (require names) W.Require b to) behind (subst (λ w. IsStatement (require names) w reads.1.0 to) name reads.1.1.1)
+    let after : reads.1.0 ≡ mid = cc in
+    subst (λ b. IsStatement (require names) W.Require b to) after (subst (λ w. IsStatement (require names) w reads.1.0 to) name reads.1.1.1)
 
 all_names-push : (each : List (List (List ℕ))) (names : List (List ℕ)) → all_names (each ++ names ∷ []) ≡ all_names each ++ names
 all_names-push [] names = append-nil names
@@ -130,18 +130,18 @@ module _ (whole : List Lexeme) (each : List (List (List ℕ))) (rest : List Lexe
     -- no names
     pub requires_no_names : ((names : List (List ℕ)) (to : List Lexeme) → IsStatement (require names) W.Require mid to → ⊥) → (others : List (List (List ℕ))) (to : List Lexeme) → TakesRequires others whole to → ⊥
     requires_no_names none others to takes =
-        chain_fails TakesRequire IsPastRequires whole each rest so goes_on (λ names end at. none names end (behind_require rest mid opens names end at.0)) others to takes.0 takes.1
+        chain_fails TakesRequire IsPastRequires whole each rest so goes_on (λ names end at. none names end (after_require rest mid opens names end at.0)) others to takes.0 takes.1
 
     module _ (names : List (List ℕ)) (next : List Lexeme) (found : IsStatement (require names) W.Require mid next × ((other : List (List ℕ)) (end : List Lexeme) → IsStatement (require other) W.Require mid end → (other ≡ names) × (end ≡ next))) where
       -- names of which one is not known
       pub requires_unknown : (All IsCapability names → ⊥) → (others : List (List (List ℕ))) (to : List Lexeme) → TakesRequires others whole to → ⊥
       requires_unknown unknown others to takes =
-          chain_fails TakesRequire IsPastRequires whole each rest so goes_on (λ other end at. unknown (subst (All IsCapability) (found.1 other end (behind_require rest mid opens other end at.0)).0 at.1)) others to takes.0 takes.1
+          chain_fails TakesRequire IsPastRequires whole each rest so goes_on (λ other end at. unknown (subst (All IsCapability) (found.1 other end (after_require rest mid opens other end at.0)).0 at.1)) others to takes.0 takes.1
 
       -- one `require` more
       pub requires_more : All IsCapability names → IsSoFar TakesRequire IsPastRequires whole (each ++ names ∷ []) next
       requires_more known =
-          chain_more TakesRequire IsPastRequires whole each rest names next so ((W.Require, (mid, (opens, found.0))), known) (λ other end at. found.1 other end (behind_require rest mid opens other end at.0)) goes_on
+          chain_more TakesRequire IsPastRequires whole each rest names next so ((W.Require, (mid, (opens, found.0))), known) (λ other end at. found.1 other end (after_require rest mid opens other end at.0)) goes_on
 
       -- which is shorter than what was there
       pub requires_shorter : length next < length rest
@@ -174,12 +174,12 @@ with_requires_of (command (choose _) more) = refl
 with_requires_of (command stop more) = refl
 with_requires_of (command (act _) more) = refl
 
-behind_depth : (cs : Commands) → depth (after_requires cs) ≤ depth cs
-behind_depth no_commands = omega arith
-behind_depth (command (require names) more) = omega (arith, behind_depth more)
-behind_depth (command (choose _) more) = omega arith
-behind_depth (command stop more) = omega arith
-behind_depth (command (act _) more) = omega arith
+after_depth : (cs : Commands) → depth (after_requires cs) ≤ depth cs
+after_depth no_commands = omega arith
+after_depth (command (require names) more) = omega (arith, after_depth more)
+after_depth (command (choose _) more) = omega arith
+after_depth (command stop more) = omega arith
+after_depth (command (act _) more) = omega arith
 
 with_depth : (each : List (List (List ℕ))) (cs : Commands) → depth (with_requires each cs) ≤ depth cs
 with_depth [] cs = omega arith
@@ -206,27 +206,27 @@ module _ (granted : Capabilities) where
   required_with [] (command (act _) more) may = refl
   required_with (names ∷ more) cs may = ap (λ l. names ++ l) (required_with more cs may)
 
-  behind_with : (each : List (List (List ℕ))) (cs : Commands) → MayAllStand granted cs → after_requires (with_requires each cs) ≡ cs
-  behind_with [] no_commands may = refl
-  behind_with [] (command (require names) more) may = absurd may.0
-  behind_with [] (command (choose _) more) may = refl
-  behind_with [] (command stop more) may = refl
-  behind_with [] (command (act _) more) may = refl
-  behind_with (names ∷ more) cs may = behind_with more cs may
+  after_with : (each : List (List (List ℕ))) (cs : Commands) → MayAllStand granted cs → after_requires (with_requires each cs) ≡ cs
+  after_with [] no_commands may = refl
+  after_with [] (command (require names) more) may = absurd may.0
+  after_with [] (command (choose _) more) may = refl
+  after_with [] (command stop more) may = refl
+  after_with [] (command (act _) more) may = refl
+  after_with (names ∷ more) cs may = after_with more cs may
 
   -- what begins with another command is past the requires
   past_command : (first : CommandTree) (from to : List Lexeme) → MayStand granted first → ReadsCommand first from to → IsPastRequires from
   past_command first from to may reads = subst IsPastRequires (sym reads.1.1.0) (other first reads.0 reads.1.0 may reads.1.1.1)
     where
-      other : (tree : CommandTree) (name : Keyword) (behind : List Lexeme) → MayStand granted tree → IsCommand tree name behind to → IsPastRequires (keyword name ∷ behind)
-      other (require names) name behind none is = absurd none
-      other (choose no_branches) name behind may' is = absurd is
-      other (choose (branch test block more)) name behind may' is = subst (λ w. IsPastRequires (keyword w ∷ behind)) (sym is.0) tt
-      other stop name behind may' is = past_keyword name behind (λ same. let e = (subst (λ w. IsStatement stop w behind to) same is).1.1.tree_is in cc)
-      other (act action) name behind may' is = past_keyword name behind (λ same. let e = (subst (λ w. IsStatement (act action) w behind to) same is).1.1.tree_is in cc)
+      other : (tree : CommandTree) (name : Keyword) (after : List Lexeme) → MayStand granted tree → IsCommand tree name after to → IsPastRequires (keyword name ∷ after)
+      other (require names) name after none is = absurd none
+      other (choose no_branches) name after may' is = absurd is
+      other (choose (branch test block more)) name after may' is = subst (λ w. IsPastRequires (keyword w ∷ after)) (sym is.0) tt
+      other stop name after may' is = past_keyword name after (λ same. let e = (subst (λ w. IsStatement stop w after to) same is).1.1.tree_is in cc)
+      other (act action) name after may' is = past_keyword name after (λ same. let e = (subst (λ w. IsStatement (act action) w after to) same is).1.1.tree_is in cc)
 
   -- a script is requires and then commands
-  pub parted : (cs : Commands) (from : List Lexeme) → Reads cs from → All IsCapability (required cs) → MayAllStand granted (after_requires cs) → (mid : List Lexeme) × (TakesRequires (requires_of cs) from mid × AreCommands (after_requires cs) mid [])
+  pub parted : (cs : Commands) (from : List Lexeme) → ReadsScript cs from → All IsCapability (required cs) → MayAllStand granted (after_requires cs) → (mid : List Lexeme) × (TakesRequires (requires_of cs) from mid × AreCommands (after_requires cs) mid [])
   parted no_commands from same known may = ([], ((same, tt), refl))
   parted (command (require names) more) from reads known may =
       let rest = parted more reads.0 reads.1.1 (all_right IsCapability names (required more) known) may in
@@ -236,7 +236,7 @@ module _ (granted : Capabilities) where
   parted (command (act action) more) from reads known may = (from, ((refl, past_command (act action) from reads.0 may.0 reads.1.0), reads))
 
   -- and the other way round
-  joined : (each : List (List (List ℕ))) (cs : Commands) (from mid : List Lexeme) → Chain TakesRequire each from mid → AreCommands cs mid [] → Reads (with_requires each cs) from
+  joined : (each : List (List (List ℕ))) (cs : Commands) (from mid : List Lexeme) → Chain TakesRequire each from mid → AreCommands cs mid [] → ReadsScript (with_requires each cs) from
   joined [] cs from mid same are = subst (λ l. AreCommands cs l []) (sym same) are
   joined (names ∷ more) cs from mid chain are = (chain.0, (chain.1.0.0, joined more cs chain.0 mid chain.1.1 are))
 
@@ -245,32 +245,32 @@ all_known [] from mid same = λ k d below. absurd (omega (arith, below))
 all_known (names ∷ more) from mid chain = All-append IsCapability names (all_names more) chain.1.0.1 (all_known more chain.0 mid chain.1.1)
 
 -- a script without requires that may stand is no script
-pub script_no_requires : (from : List Lexeme) → ((each : List (List (List ℕ))) (to : List Lexeme) → TakesRequires each from to → ⊥) → (tree : Commands) → Reads tree from → IsValid tree → ⊥
+pub script_no_requires : (from : List Lexeme) → ((each : List (List (List ℕ))) (to : List Lexeme) → TakesRequires each from to → ⊥) → (tree : Commands) → ReadsScript tree from → IsValid tree → ⊥
 script_no_requires from none tree reads valid = let p = parted (granted_by (required tree)) tree from reads valid.known valid.stand in none (requires_of tree) p.0 p.1.0
 
 module _ (from mid : List Lexeme) (granted : Capabilities) (start : List CommandTree) (only : (each : List (List (List ℕ))) (to : List Lexeme) → TakesRequires each from to → (start ≡ map require each) × ((granted ≡ granted_by (all_names each)) × (to ≡ mid))) where
   -- the commands after the requires of a script
-  script_commands : (tree : Commands) → Reads tree from → IsValid tree → (start ≡ map require (requires_of tree)) × TakesAll granted max_blocks (list_of (after_requires tree)) mid []
+  script_commands : (tree : Commands) → ReadsScript tree from → IsValid tree → (start ≡ map require (requires_of tree)) × TakesAll granted max_blocks (list_of (after_requires tree)) mid []
   script_commands tree reads valid =
       let p = parted (granted_by (required tree)) tree from reads valid.known valid.stand in
       let o = only (requires_of tree) p.0 p.1.0 in
       let same : granted_by (required tree) ≡ granted = ap granted_by (required_of tree) ∙ sym o.1.0 in
       let stand : MayAllStand granted (after_requires tree) = subst (λ g. MayAllStand g (after_requires tree)) same valid.stand in
-      let low : depth (after_requires tree) ≤ max_blocks = omega (arith, valid.shallow, behind_depth tree) in
+      let low : depth (after_requires tree) ≤ max_blocks = omega (arith, valid.shallow, after_depth tree) in
       let are : AreCommands (after_requires tree) mid [] = subst (λ l. AreCommands (after_requires tree) l []) o.1.1 p.1.1 in
       (o.0, (is_chain granted max_blocks (after_requires tree) mid [] are stand low, tt))
 
   -- no commands that may stand
-  pub script_no_commands : ((more : List CommandTree) (to : List Lexeme) → TakesAll granted max_blocks more mid to → ⊥) → (tree : Commands) → Reads tree from → IsValid tree → ⊥
+  pub script_no_commands : ((more : List CommandTree) (to : List Lexeme) → TakesAll granted max_blocks more mid to → ⊥) → (tree : Commands) → ReadsScript tree from → IsValid tree → ⊥
   script_no_commands none tree reads valid = none (list_of (after_requires tree)) [] (script_commands tree reads valid).1
 
   module _ (trees : List CommandTree) (end : List Lexeme) (alone : (more : List CommandTree) (to : List Lexeme) → TakesAll granted max_blocks more mid to → (trees ≡ start ++ more) × (to ≡ end)) where
     -- something stands after the commands
-    pub script_no_end : (end ≡ [] → ⊥) → (tree : Commands) → Reads tree from → IsValid tree → ⊥
+    pub script_no_end : (end ≡ [] → ⊥) → (tree : Commands) → ReadsScript tree from → IsValid tree → ⊥
     script_no_end none tree reads valid = none (sym (alone (list_of (after_requires tree)) [] (script_commands tree reads valid).1).1)
 
     -- the one script
-    pub script_only : (tree : Commands) → Reads tree from → IsValid tree → tree ≡ commands_of trees
+    pub script_only : (tree : Commands) → ReadsScript tree from → IsValid tree → tree ≡ commands_of trees
     script_only tree reads valid =
         let found = script_commands tree reads valid in
         let all = alone (list_of (after_requires tree)) [] found.1 in
@@ -279,7 +279,7 @@ module _ (from mid : List Lexeme) (granted : Capabilities) (start : List Command
         ∙ sym (commands_of-requires (requires_of tree) (list_of (after_requires tree))) ∙ ap commands_of (sym parts)
 
 -- requires and commands make a script
-pub script_found : (from mid : List Lexeme) (granted : Capabilities) (each : List (List (List ℕ))) (more trees : List CommandTree) → granted ≡ granted_by (all_names each) → TakesRequires each from mid → TakesAll granted max_blocks more mid [] → trees ≡ map require each ++ more → Reads (commands_of trees) from × IsValid (commands_of trees)
+pub script_found : (from mid : List Lexeme) (granted : Capabilities) (each : List (List (List ℕ))) (more trees : List CommandTree) → granted ≡ granted_by (all_names each) → TakesRequires each from mid → TakesAll granted max_blocks more mid [] → trees ≡ map require each ++ more → ReadsScript (commands_of trees) from × IsValid (commands_of trees)
 script_found from mid granted each more trees grants requires all parts =
     let are = chain_is granted max_blocks more mid [] all.0 in
     let whole : commands_of trees ≡ with_requires each (commands_of more) = ap commands_of parts ∙ commands_of-requires each more in
@@ -287,10 +287,10 @@ script_found from mid granted each more trees grants requires all parts =
     let low : depth (commands_of more) ≤ max_blocks = are.1.1 in
     let names : required (with_requires each (commands_of more)) ≡ all_names each = required_with granted each (commands_of more) stand in
     let same : granted ≡ granted_by (required (with_requires each (commands_of more))) = grants ∙ ap granted_by (sym names) in
-    let behind : commands_of more ≡ after_requires (with_requires each (commands_of more)) = sym (behind_with granted each (commands_of more) stand) in
+    let after : commands_of more ≡ after_requires (with_requires each (commands_of more)) = sym (after_with granted each (commands_of more) stand) in
     let valid : IsValid (with_requires each (commands_of more)) = record {
       known = subst (All IsCapability) (sym names) (all_known each from mid requires.0);
-      stand = subst (λ cs. MayAllStand (granted_by (required (with_requires each (commands_of more)))) cs) behind (subst (λ g. MayAllStand g (commands_of more)) same stand);
+      stand = subst (λ cs. MayAllStand (granted_by (required (with_requires each (commands_of more)))) cs) after (subst (λ g. MayAllStand g (commands_of more)) same stand);
       shallow = omega (arith, with_depth each (commands_of more));
     } in
-    (subst (λ cs. Reads cs from) (sym whole) (joined granted each (commands_of more) from mid requires.0 are.0), subst IsValid (sym whole) valid)
+    (subst (λ cs. ReadsScript cs from) (sym whole) (joined granted each (commands_of more) from mid requires.0 are.0), subst IsValid (sym whole) valid)

@@ -29,7 +29,7 @@ use Rattle.sievesyntax.specs.Chains.{Chain}
 use Rattle.sievesyntax.specs.Lexemes.{Lexeme, keyword, tag, number, text, mark, lexemes_of}
 use Rattle.sievesyntax.specs.Arguments.{IsArgument}
 use Rattle.sievesyntax.specs.Tree.{CommandTree, require, choose, stop, act, no_branches, branch, Commands, no_commands, command}
-use Rattle.sievesyntax.specs.Grammar.{IsStatement, IsCommand, Reads}
+use Rattle.sievesyntax.specs.Grammar.{IsStatement, IsCommand, ReadsScript}
 use Rattle.sievesyntax.specs.Means.{Means}
 
 -- what no octet of a text is stands at no place of it
@@ -118,13 +118,13 @@ no_command (choose (branch condition block more)) name to e h = let if_is : name
 no_command stop name to e h = no_statement stop name to h
 no_command (act action) name to e h = no_statement (act action) name to h
 
-keyword_alone : (tree : Commands) → Reads tree (keyword W.Keep ∷ []) → ⊥
+keyword_alone : (tree : Commands) → ReadsScript tree (keyword W.Keep ∷ []) → ⊥
 keyword_alone no_commands e = let z : keyword W.Keep ∷ [] ≡ [] = e in cc
 keyword_alone (command first more) h =
     let e : keyword W.Keep ∷ [] ≡ keyword h.1.0.0 ∷ h.1.0.1.0 = h.1.0.1.1.0 in
-    let behind : h.1.0.1.0 ≡ [] = cc in
+    let after : h.1.0.1.0 ≡ [] = cc in
     let P : List Lexeme → Type 0 = λ l. IsCommand first h.1.0.0 l h.0 in
-    no_command first h.1.0.0 h.0 (cc) (subst P behind h.1.0.1.1.1)
+    no_command first h.1.0.0 h.0 (cc) (subst P after h.1.0.1.1.1)
 
 -- `keep` alone means nothing: it is one token, and no command is a word alone
 bare_found : IsFound (codes "keep") (record { content = C.Identifier (codes "keep"); len = 4 })
@@ -138,13 +138,13 @@ bare_tokens [] h = let e : Some (codes "keep") ≡ Some [] = tail_all (codes "ke
 bare_tokens (t ∷ ts) h =
     let same : keep_token ≡ t = some_is keep_token t (next_only (codes "keep") (codes "keep") 0 0 1 (record { content = C.Identifier (codes "keep"); len = 4 }) bare_ahead refl bare_found.1 t h.0) in
     let P : Token → Type 0 = λ x. SpellsFrom (codes "keep") x.end ts in
-    λ i. sym same i ∷ behind ts (subst P (sym same) h.1) i
+    λ i. sym same i ∷ after ts (subst P (sym same) h.1) i
   where
-    behind : (us : List Token) → SpellsFrom (codes "keep") 4 us → us ≡ []
-    behind [] g = refl
-    behind (u ∷ us) g = let further = next_further (codes "keep") 4 u g.0 in absurd (omega (arith, further.0, further.1))
+    after : (us : List Token) → SpellsFrom (codes "keep") 4 us → us ≡ []
+    after [] g = refl
+    after (u ∷ us) g = let further = next_further (codes "keep") 4 u g.0 in absurd (omega (arith, further.0, further.1))
 
 keeps_nothing : (tree : Commands) → Means (codes "keep") tree → ⊥
 keeps_nothing tree m =
-    let P : List Token → Type 0 = λ ts. Reads tree (lexemes_of (contents_of ts)) in
+    let P : List Token → Type 0 = λ ts. ReadsScript tree (lexemes_of (contents_of ts)) in
     keyword_alone tree (subst P (bare_tokens m.tokens m.spelled.spelled) m.read)

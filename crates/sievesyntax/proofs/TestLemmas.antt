@@ -70,16 +70,16 @@ leaf_nots (not_of inner) leaf = absurd leaf
 leaf_nots (all_of inner) leaf = absurd leaf
 leaf_nots (any_of inner) leaf = absurd leaf
 
-plain_is : (t : TestTree) (name : Keyword) (behind to : List Lexeme) → IsLeaf t → IsPlain t name behind to → IsTest t name behind to
-plain_is yes name behind to leaf is = is
-plain_is no name behind to leaf is = is
-plain_is (looks check) name behind to leaf is = is
-plain_is (not_of inner) name behind to leaf is = absurd leaf
-plain_is (all_of inner) name behind to leaf is = absurd leaf
-plain_is (any_of inner) name behind to leaf is = absurd leaf
+plain_is : (t : TestTree) (name : Keyword) (after to : List Lexeme) → IsLeaf t → IsPlain t name after to → IsTest t name after to
+plain_is yes name after to leaf is = is
+plain_is no name after to leaf is = is
+plain_is (looks check) name after to leaf is = is
+plain_is (not_of inner) name after to leaf is = absurd leaf
+plain_is (all_of inner) name after to leaf is = absurd leaf
+plain_is (any_of inner) name after to leaf is = absurd leaf
 
-module _ (name : Keyword) (no_not : name ≡ W.Not → ⊥) (no_allof : name ≡ W.AllOf → ⊥) (no_anyof : name ≡ W.AnyOf → ⊥) (behind : List Lexeme) where
-  pub is_plain : (t : TestTree) (to : List Lexeme) → IsTest t name behind to → IsPlain t name behind to
+module _ (name : Keyword) (no_not : name ≡ W.Not → ⊥) (no_allof : name ≡ W.AllOf → ⊥) (no_anyof : name ≡ W.AnyOf → ⊥) (after : List Lexeme) where
+  pub is_plain : (t : TestTree) (to : List Lexeme) → IsTest t name after to → IsPlain t name after to
   is_plain yes to is = is
   is_plain no to is = is
   is_plain (looks check) to is = is
@@ -89,33 +89,33 @@ module _ (name : Keyword) (no_not : name ≡ W.Not → ⊥) (no_allof : name ≡
 
   module _ (granted : Capabilities) (lists nots : ℕ) where
     -- no arguments
-    pub plain_no_args : ((args : List Argument) (to : List Lexeme) → AreArguments args behind to → ⊥) → (t : TestTree) (to : List Lexeme) → AsksAfter granted lists nots name t behind to → ⊥
+    pub plain_no_args : ((args : List Argument) (to : List Lexeme) → AreArguments args after to → ⊥) → (t : TestTree) (to : List Lexeme) → AsksAfter granted lists nots name t after to → ⊥
     plain_no_args none t to asks = let is = is_plain t to asks.0 in none is.0 to is.1.0
 
-    module _ (args : List Argument) (next : List Lexeme) (only : (other : List Argument) (to : List Lexeme) → AreArguments other behind to → (other ≡ args) × (to ≡ next)) where
+    module _ (args : List Argument) (next : List Lexeme) (only : (other : List Argument) (to : List Lexeme) → AreArguments other after to → (other ≡ args) × (to ≡ next)) where
       -- no test with these arguments
-      pub plain_no_row : ((t : TestTree) → IsPlainTest name args t → MayTest granted t → ⊥) → (t : TestTree) (to : List Lexeme) → AsksAfter granted lists nots name t behind to → ⊥
+      pub plain_no_row : ((t : TestTree) → IsPlainTest name args t → MayTest granted t → ⊥) → (t : TestTree) (to : List Lexeme) → AsksAfter granted lists nots name t after to → ⊥
       plain_no_row none t to asks =
           let is = is_plain t to asks.0 in
           let same = only is.0 to is.1.0 in
           none t (subst (λ a. IsPlainTest name a t) same.0 is.1.1) asks.1.0
 
       -- the one test
-      pub plain_found : AreArguments args behind next → (t : TestTree) → IsPlainTest name args t × MayTest granted t → ((other : TestTree) → IsPlainTest name args other → other ≡ t) → AsksAfter granted lists nots name t behind next × ((other : TestTree) (end : List Lexeme) → AsksAfter granted lists nots name other behind end → (other ≡ t) × (end ≡ next))
+      pub plain_found : AreArguments args after next → (t : TestTree) → IsPlainTest name args t × MayTest granted t → ((other : TestTree) → IsPlainTest name args other → other ≡ t) → AsksAfter granted lists nots name t after next × ((other : TestTree) (end : List Lexeme) → AsksAfter granted lists nots name other after end → (other ≡ t) × (end ≡ next))
       plain_found are t row alone =
           let leaf = plain_leaf name args t row.0 in
           let no_lists = leaf_lists t leaf in
           let no_nots = leaf_nots t leaf in (
-            (plain_is t name behind next leaf (args, (are, row.0)), (row.1, (omega (arith, no_lists), omega (arith, no_nots)))),
+            (plain_is t name after next leaf (args, (are, row.0)), (row.1, (omega (arith, no_lists), omega (arith, no_nots)))),
             λ other end asks.
                 let is = is_plain other end asks.0 in
                 let same = only is.0 end is.1.0 in
                 (alone other (subst (λ a. IsPlainTest name a other) same.0 is.1.1), same.1),
           )
 
-module _ (granted : Capabilities) (lists nots : ℕ) (behind : List Lexeme) where
+module _ (granted : Capabilities) (lists nots : ℕ) (after : List Lexeme) where
   -- the test of a `not`
-  not_parts : (t : TestTree) (to : List Lexeme) → AsksAfter granted lists nots W.Not t behind to → (inner : TestTree) × ((t ≡ not_of inner) × (ReadsTest inner behind to × (MayTest granted inner × ((list_depth inner ≤ lists) × (not_depth inner + 1 ≤ nots)))))
+  not_parts : (t : TestTree) (to : List Lexeme) → AsksAfter granted lists nots W.Not t after to → (inner : TestTree) × ((t ≡ not_of inner) × (ReadsTest inner after to × (MayTest granted inner × ((list_depth inner ≤ lists) × (not_depth inner + 1 ≤ nots)))))
   not_parts yes to asks = absurd asks.0.1.1
   not_parts no to asks = absurd asks.0.1.1
   not_parts (looks check) to asks = absurd asks.0.1.1
@@ -124,19 +124,19 @@ module _ (granted : Capabilities) (lists nots : ℕ) (behind : List Lexeme) wher
   not_parts (any_of inner) to asks = let e : W.Not ≡ W.AnyOf = asks.0.0 in cc
 
   -- no `not` may stand there
-  pub not_deep : nots ≡ 0 → (t : TestTree) (to : List Lexeme) → AsksAfter granted lists nots W.Not t behind to → ⊥
+  pub not_deep : nots ≡ 0 → (t : TestTree) (to : List Lexeme) → AsksAfter granted lists nots W.Not t after to → ⊥
   not_deep none t to asks = let low = (not_parts t to asks).1.1.1.1.1 in absurd (omega (arith, low, none))
 
   module _ (fewer : ℕ) (more : nots ≡ fewer + 1) where
-    not_takes : (t : TestTree) (to : List Lexeme) → AsksAfter granted lists nots W.Not t behind to → (inner : TestTree) × ((t ≡ not_of inner) × TakesTest granted lists fewer inner behind to)
+    not_takes : (t : TestTree) (to : List Lexeme) → AsksAfter granted lists nots W.Not t after to → (inner : TestTree) × ((t ≡ not_of inner) × TakesTest granted lists fewer inner after to)
     not_takes t to asks = let p = not_parts t to asks in let low : not_depth p.0 + 1 ≤ nots = p.1.1.1.1.1 in (p.0, (p.1.0, (p.1.1.0, (p.1.1.1.0, (p.1.1.1.1.0, omega (arith, low, more))))))
 
     -- no test after it
-    pub not_none : ((t : TestTree) (to : List Lexeme) → TakesTest granted lists fewer t behind to → ⊥) → (t : TestTree) (to : List Lexeme) → AsksAfter granted lists nots W.Not t behind to → ⊥
+    pub not_none : ((t : TestTree) (to : List Lexeme) → TakesTest granted lists fewer t after to → ⊥) → (t : TestTree) (to : List Lexeme) → AsksAfter granted lists nots W.Not t after to → ⊥
     not_none none t to asks = let p = not_takes t to asks in none p.0 to p.1.1
 
     -- the one `not`
-    pub not_found : (inner : TestTree) (to : List Lexeme) → TakesTest granted lists fewer inner behind to × ((other : TestTree) (end : List Lexeme) → TakesTest granted lists fewer other behind end → (other ≡ inner) × (end ≡ to)) → AsksAfter granted lists nots W.Not (not_of inner) behind to × ((other : TestTree) (end : List Lexeme) → AsksAfter granted lists nots W.Not other behind end → (other ≡ not_of inner) × (end ≡ to))
+    pub not_found : (inner : TestTree) (to : List Lexeme) → TakesTest granted lists fewer inner after to × ((other : TestTree) (end : List Lexeme) → TakesTest granted lists fewer other after end → (other ≡ inner) × (end ≡ to)) → AsksAfter granted lists nots W.Not (not_of inner) after to × ((other : TestTree) (end : List Lexeme) → AsksAfter granted lists nots W.Not other after end → (other ≡ not_of inner) × (end ≡ to))
     not_found inner to found =
         let low : not_depth inner ≤ fewer = found.0.1.1.1 in (
           ((refl, found.0.0), (found.0.1.0, (found.0.1.1.0, omega (arith, low, more)))),
@@ -147,7 +147,7 @@ module _ (granted : Capabilities) (lists nots : ℕ) (behind : List Lexeme) wher
         )
 
   -- the tests of an `allof`
-  all_parts : (t : TestTree) (to : List Lexeme) → AsksAfter granted lists nots W.AllOf t behind to → (inner : Tests) × ((t ≡ all_of inner) × TakesTests granted lists nots inner behind to)
+  all_parts : (t : TestTree) (to : List Lexeme) → AsksAfter granted lists nots W.AllOf t after to → (inner : Tests) × ((t ≡ all_of inner) × TakesTests granted lists nots inner after to)
   all_parts yes to asks = absurd asks.0.1.1
   all_parts no to asks = absurd asks.0.1.1
   all_parts (looks check) to asks = absurd asks.0.1.1
@@ -155,10 +155,10 @@ module _ (granted : Capabilities) (lists nots : ℕ) (behind : List Lexeme) wher
   all_parts (all_of inner) to asks = let low : suc (lists_depth inner) ≤ lists = asks.1.1.0 in (inner, (refl, (asks.0.1, (asks.1.0, (omega (arith, low), asks.1.1.1)))))
   all_parts (any_of inner) to asks = let e : W.AllOf ≡ W.AnyOf = asks.0.0 in cc
 
-  pub all_none : ((inner : Tests) (to : List Lexeme) → TakesTests granted lists nots inner behind to → ⊥) → (t : TestTree) (to : List Lexeme) → AsksAfter granted lists nots W.AllOf t behind to → ⊥
+  pub all_none : ((inner : Tests) (to : List Lexeme) → TakesTests granted lists nots inner after to → ⊥) → (t : TestTree) (to : List Lexeme) → AsksAfter granted lists nots W.AllOf t after to → ⊥
   all_none none t to asks = let p = all_parts t to asks in none p.0 to p.1.1
 
-  pub all_found : (inner : Tests) (to : List Lexeme) → TakesTests granted lists nots inner behind to × ((other : Tests) (end : List Lexeme) → TakesTests granted lists nots other behind end → (other ≡ inner) × (end ≡ to)) → AsksAfter granted lists nots W.AllOf (all_of inner) behind to × ((other : TestTree) (end : List Lexeme) → AsksAfter granted lists nots W.AllOf other behind end → (other ≡ all_of inner) × (end ≡ to))
+  pub all_found : (inner : Tests) (to : List Lexeme) → TakesTests granted lists nots inner after to × ((other : Tests) (end : List Lexeme) → TakesTests granted lists nots other after end → (other ≡ inner) × (end ≡ to)) → AsksAfter granted lists nots W.AllOf (all_of inner) after to × ((other : TestTree) (end : List Lexeme) → AsksAfter granted lists nots W.AllOf other after end → (other ≡ all_of inner) × (end ≡ to))
   all_found inner to found =
       let low : lists_depth inner + 1 ≤ lists = found.0.1.1.0 in (
         ((refl, found.0.0), (found.0.1.0, (omega (arith, low), found.0.1.1.1))),
@@ -169,7 +169,7 @@ module _ (granted : Capabilities) (lists nots : ℕ) (behind : List Lexeme) wher
       )
 
   -- the tests of an `anyof`
-  any_parts : (t : TestTree) (to : List Lexeme) → AsksAfter granted lists nots W.AnyOf t behind to → (inner : Tests) × ((t ≡ any_of inner) × TakesTests granted lists nots inner behind to)
+  any_parts : (t : TestTree) (to : List Lexeme) → AsksAfter granted lists nots W.AnyOf t after to → (inner : Tests) × ((t ≡ any_of inner) × TakesTests granted lists nots inner after to)
   any_parts yes to asks = absurd asks.0.1.1
   any_parts no to asks = absurd asks.0.1.1
   any_parts (looks check) to asks = absurd asks.0.1.1
@@ -177,10 +177,10 @@ module _ (granted : Capabilities) (lists nots : ℕ) (behind : List Lexeme) wher
   any_parts (all_of inner) to asks = let e : W.AnyOf ≡ W.AllOf = asks.0.0 in cc
   any_parts (any_of inner) to asks = let low : suc (lists_depth inner) ≤ lists = asks.1.1.0 in (inner, (refl, (asks.0.1, (asks.1.0, (omega (arith, low), asks.1.1.1)))))
 
-  pub any_none : ((inner : Tests) (to : List Lexeme) → TakesTests granted lists nots inner behind to → ⊥) → (t : TestTree) (to : List Lexeme) → AsksAfter granted lists nots W.AnyOf t behind to → ⊥
+  pub any_none : ((inner : Tests) (to : List Lexeme) → TakesTests granted lists nots inner after to → ⊥) → (t : TestTree) (to : List Lexeme) → AsksAfter granted lists nots W.AnyOf t after to → ⊥
   any_none none t to asks = let p = any_parts t to asks in none p.0 to p.1.1
 
-  pub any_found : (inner : Tests) (to : List Lexeme) → TakesTests granted lists nots inner behind to × ((other : Tests) (end : List Lexeme) → TakesTests granted lists nots other behind end → (other ≡ inner) × (end ≡ to)) → AsksAfter granted lists nots W.AnyOf (any_of inner) behind to × ((other : TestTree) (end : List Lexeme) → AsksAfter granted lists nots W.AnyOf other behind end → (other ≡ any_of inner) × (end ≡ to))
+  pub any_found : (inner : Tests) (to : List Lexeme) → TakesTests granted lists nots inner after to × ((other : Tests) (end : List Lexeme) → TakesTests granted lists nots other after end → (other ≡ inner) × (end ≡ to)) → AsksAfter granted lists nots W.AnyOf (any_of inner) after to × ((other : TestTree) (end : List Lexeme) → AsksAfter granted lists nots W.AnyOf other after end → (other ≡ any_of inner) × (end ≡ to))
   any_found inner to found =
       let low : lists_depth inner + 1 ≤ lists = found.0.1.1.0 in (
         ((refl, found.0.0), (found.0.1.0, (omega (arith, low), found.0.1.1.1))),
@@ -191,33 +191,33 @@ module _ (granted : Capabilities) (lists nots : ℕ) (behind : List Lexeme) wher
       )
 
 -- a test after its name, and at the front
-module _ (granted : Capabilities) (lists nots : ℕ) (from behind : List Lexeme) (name : Keyword) (opens : from ≡ keyword name ∷ behind) where
-  asks_behind : (t : TestTree) (to : List Lexeme) → TakesTest granted lists nots t from to → AsksAfter granted lists nots name t behind to
-  asks_behind t to takes =
-      let same : keyword takes.0.0 ∷ takes.0.1.0 ≡ keyword name ∷ behind = sym takes.0.1.1.0 ∙ opens in
+module _ (granted : Capabilities) (lists nots : ℕ) (from after : List Lexeme) (name : Keyword) (opens : from ≡ keyword name ∷ after) where
+  asks_after : (t : TestTree) (to : List Lexeme) → TakesTest granted lists nots t from to → AsksAfter granted lists nots name t after to
+  asks_after t to takes =
+      let same : keyword takes.0.0 ∷ takes.0.1.0 ≡ keyword name ∷ after = sym takes.0.1.1.0 ∙ opens in
       let named : takes.0.0 ≡ name = cc in
-      let there : takes.0.1.0 ≡ behind = cc in
+      let there : takes.0.1.0 ≡ after = cc in
       (subst (λ b. IsTest t name b to) there (subst (λ w. IsTest t w takes.0.1.0 to) named takes.0.1.1.1), takes.1)
 
-  pub test_none : ((t : TestTree) (to : List Lexeme) → AsksAfter granted lists nots name t behind to → ⊥) → (t : TestTree) (to : List Lexeme) → TakesTest granted lists nots t from to → ⊥
-  test_none none t to takes = none t to (asks_behind t to takes)
+  pub test_none : ((t : TestTree) (to : List Lexeme) → AsksAfter granted lists nots name t after to → ⊥) → (t : TestTree) (to : List Lexeme) → TakesTest granted lists nots t from to → ⊥
+  test_none none t to takes = none t to (asks_after t to takes)
 
-  pub test_found : (t : TestTree) (to : List Lexeme) → AsksAfter granted lists nots name t behind to × ((other : TestTree) (end : List Lexeme) → AsksAfter granted lists nots name other behind end → (other ≡ t) × (end ≡ to)) → TakesTest granted lists nots t from to × ((other : TestTree) (end : List Lexeme) → TakesTest granted lists nots other from end → (other ≡ t) × (end ≡ to))
-  test_found t to found = (((name, (behind, (opens, found.0.0))), found.0.1), λ other end takes. found.1 other end (asks_behind other end takes))
+  pub test_found : (t : TestTree) (to : List Lexeme) → AsksAfter granted lists nots name t after to × ((other : TestTree) (end : List Lexeme) → AsksAfter granted lists nots name other after end → (other ≡ t) × (end ≡ to)) → TakesTest granted lists nots t from to × ((other : TestTree) (end : List Lexeme) → TakesTest granted lists nots other from end → (other ≡ t) × (end ≡ to))
+  test_found t to found = (((name, (after, (opens, found.0.0))), found.0.1), λ other end takes. found.1 other end (asks_after other end takes))
 
 -- an `allof` or an `anyof` at the front
-module _ (granted : Capabilities) (lists nots : ℕ) (from behind : List Lexeme) where
-  pub allof_none : from ≡ keyword W.AllOf ∷ behind → ((inner : Tests) (to : List Lexeme) → TakesTests granted lists nots inner behind to → ⊥) → (t : TestTree) (to : List Lexeme) → TakesTest granted lists nots t from to → ⊥
-  allof_none opens none = test_none granted lists nots from behind W.AllOf opens (all_none granted lists nots behind none)
+module _ (granted : Capabilities) (lists nots : ℕ) (from after : List Lexeme) where
+  pub allof_none : from ≡ keyword W.AllOf ∷ after → ((inner : Tests) (to : List Lexeme) → TakesTests granted lists nots inner after to → ⊥) → (t : TestTree) (to : List Lexeme) → TakesTest granted lists nots t from to → ⊥
+  allof_none opens none = test_none granted lists nots from after W.AllOf opens (all_none granted lists nots after none)
 
-  pub allof_found : from ≡ keyword W.AllOf ∷ behind → (inner : Tests) (to : List Lexeme) → TakesTests granted lists nots inner behind to × ((other : Tests) (end : List Lexeme) → TakesTests granted lists nots other behind end → (other ≡ inner) × (end ≡ to)) → TakesTest granted lists nots (all_of inner) from to × ((other : TestTree) (end : List Lexeme) → TakesTest granted lists nots other from end → (other ≡ all_of inner) × (end ≡ to))
-  allof_found opens inner to found = test_found granted lists nots from behind W.AllOf opens (all_of inner) to (all_found granted lists nots behind inner to found)
+  pub allof_found : from ≡ keyword W.AllOf ∷ after → (inner : Tests) (to : List Lexeme) → TakesTests granted lists nots inner after to × ((other : Tests) (end : List Lexeme) → TakesTests granted lists nots other after end → (other ≡ inner) × (end ≡ to)) → TakesTest granted lists nots (all_of inner) from to × ((other : TestTree) (end : List Lexeme) → TakesTest granted lists nots other from end → (other ≡ all_of inner) × (end ≡ to))
+  allof_found opens inner to found = test_found granted lists nots from after W.AllOf opens (all_of inner) to (all_found granted lists nots after inner to found)
 
-  pub anyof_none : from ≡ keyword W.AnyOf ∷ behind → ((inner : Tests) (to : List Lexeme) → TakesTests granted lists nots inner behind to → ⊥) → (t : TestTree) (to : List Lexeme) → TakesTest granted lists nots t from to → ⊥
-  anyof_none opens none = test_none granted lists nots from behind W.AnyOf opens (any_none granted lists nots behind none)
+  pub anyof_none : from ≡ keyword W.AnyOf ∷ after → ((inner : Tests) (to : List Lexeme) → TakesTests granted lists nots inner after to → ⊥) → (t : TestTree) (to : List Lexeme) → TakesTest granted lists nots t from to → ⊥
+  anyof_none opens none = test_none granted lists nots from after W.AnyOf opens (any_none granted lists nots after none)
 
-  pub anyof_found : from ≡ keyword W.AnyOf ∷ behind → (inner : Tests) (to : List Lexeme) → TakesTests granted lists nots inner behind to × ((other : Tests) (end : List Lexeme) → TakesTests granted lists nots other behind end → (other ≡ inner) × (end ≡ to)) → TakesTest granted lists nots (any_of inner) from to × ((other : TestTree) (end : List Lexeme) → TakesTest granted lists nots other from end → (other ≡ any_of inner) × (end ≡ to))
-  anyof_found opens inner to found = test_found granted lists nots from behind W.AnyOf opens (any_of inner) to (any_found granted lists nots behind inner to found)
+  pub anyof_found : from ≡ keyword W.AnyOf ∷ after → (inner : Tests) (to : List Lexeme) → TakesTests granted lists nots inner after to × ((other : Tests) (end : List Lexeme) → TakesTests granted lists nots other after end → (other ≡ inner) × (end ≡ to)) → TakesTest granted lists nots (any_of inner) from to × ((other : TestTree) (end : List Lexeme) → TakesTest granted lists nots other from end → (other ≡ any_of inner) × (end ≡ to))
+  anyof_found opens inner to found = test_found granted lists nots from after W.AnyOf opens (any_of inner) to (any_found granted lists nots after inner to found)
 
 -- tests as a list
 abbrev pub list_of_tests : Tests → List TestTree
@@ -321,8 +321,8 @@ module _ (granted : Capabilities) (lists nots : ℕ) (whole : List Lexeme) (so_f
       (found.0, cc)
 
   module _ (next : List Lexeme) (comma : rest ≡ mark K.Comma ∷ next) where
-    behind_comma : (t : TestTree) (to : List Lexeme) → TakesNextTest granted lists nots t rest to → TakesTest granted lists nots t next to
-    behind_comma t to at =
+    after_comma : (t : TestTree) (to : List Lexeme) → TakesNextTest granted lists nots t rest to → TakesTest granted lists nots t next to
+    after_comma t to at =
         let same : mark K.Comma ∷ at.0 ≡ mark K.Comma ∷ next = sym at.1.0 ∙ comma in
         let there : at.0 ≡ next = cc in
         subst (λ l. TakesTest granted lists nots t l to) there at.1.1
@@ -330,29 +330,29 @@ module _ (granted : Capabilities) (lists nots : ℕ) (whole : List Lexeme) (so_f
     -- a comma and no test
     pub next_lacks : ((t : TestTree) (to : List Lexeme) → TakesTest granted lists nots t next to → ⊥) → (more : List TestTree) (to : List Lexeme) → Chain (TakesNextTest granted lists nots) more whole (mark K.CloseParen ∷ to) → ⊥
     next_lacks none more to chain =
-        chain_fails (TakesNextTest granted lists nots) (IsMarked K.CloseParen) whole so_far rest so (λ m. let e : mark K.Comma ∷ next ≡ mark K.CloseParen ∷ m.0 = sym comma ∙ m.1 in cc) (λ y end at. none y end (behind_comma y end at)) more (mark K.CloseParen ∷ to) chain (to, refl)
+        chain_fails (TakesNextTest granted lists nots) (IsMarked K.CloseParen) whole so_far rest so (λ m. let e : mark K.Comma ∷ next ≡ mark K.CloseParen ∷ m.0 = sym comma ∙ m.1 in cc) (λ y end at. none y end (after_comma y end at)) more (mark K.CloseParen ∷ to) chain (to, refl)
 
     -- a comma and a test
     pub next_grows : (t : TestTree) (after : List Lexeme) → TakesTest granted lists nots t next after × ((other : TestTree) (to : List Lexeme) → TakesTest granted lists nots other next to → (other ≡ t) × (to ≡ after)) → IsSoFar (TakesNextTest granted lists nots) (IsMarked K.CloseParen) whole (so_far ++ t ∷ []) after
     next_grows t after found =
-        chain_more (TakesNextTest granted lists nots) (IsMarked K.CloseParen) whole so_far rest t after so (next, (comma, found.0)) (λ y to at. found.1 y to (behind_comma y to at)) (λ m. let e : mark K.Comma ∷ next ≡ mark K.CloseParen ∷ m.0 = sym comma ∙ m.1 in cc)
+        chain_more (TakesNextTest granted lists nots) (IsMarked K.CloseParen) whole so_far rest t after so (next, (comma, found.0)) (λ y to at. found.1 y to (after_comma y to at)) (λ m. let e : mark K.Comma ∷ next ≡ mark K.CloseParen ∷ m.0 = sym comma ∙ m.1 in cc)
 
 -- arguments are not negative in length
 pub arguments_longer : (args : List Argument) (from to : List Lexeme) → Chain IsArgument args from to → length to ≤ length from
 arguments_longer [] from to same = omega (arith, ap length same)
 arguments_longer (a ∷ as') from to chain = omega (arith, argument_longer a from chain.0 chain.1.0, arguments_longer as' chain.0 to chain.1.1)
 
-plain_longer : (t : TestTree) (name : Keyword) (behind to : List Lexeme) → IsPlain t name behind to → length to ≤ length behind
-plain_longer t name behind to is = omega (arith, arguments_longer is.0 behind to is.1.0.spelled)
+plain_longer : (t : TestTree) (name : Keyword) (after to : List Lexeme) → IsPlain t name after to → length to ≤ length after
+plain_longer t name after to is = omega (arith, arguments_longer is.0 after to is.1.0.spelled)
 
 mutual
-  test_longer : (t : TestTree) (name : Keyword) (behind to : List Lexeme) → IsTest t name behind to → length to ≤ length behind
-  test_longer yes name behind to is = plain_longer yes name behind to is
-  test_longer no name behind to is = plain_longer no name behind to is
-  test_longer (looks check) name behind to is = plain_longer (looks check) name behind to is
-  test_longer (not_of inner) name behind to is = let h = is.1 in omega (arith, ap length h.1.1.0, test_longer inner h.0 h.1.0 to h.1.1.1)
-  test_longer (all_of inner) name behind to is = let m = is.1 in omega (arith, ap length m.1.0, tests_longer inner m.0 to m.1.1)
-  test_longer (any_of inner) name behind to is = let m = is.1 in omega (arith, ap length m.1.0, tests_longer inner m.0 to m.1.1)
+  test_longer : (t : TestTree) (name : Keyword) (after to : List Lexeme) → IsTest t name after to → length to ≤ length after
+  test_longer yes name after to is = plain_longer yes name after to is
+  test_longer no name after to is = plain_longer no name after to is
+  test_longer (looks check) name after to is = plain_longer (looks check) name after to is
+  test_longer (not_of inner) name after to is = let h = is.1 in omega (arith, ap length h.1.1.0, test_longer inner h.0 h.1.0 to h.1.1.1)
+  test_longer (all_of inner) name after to is = let m = is.1 in omega (arith, ap length m.1.0, tests_longer inner m.0 to m.1.1)
+  test_longer (any_of inner) name after to is = let m = is.1 in omega (arith, ap length m.1.0, tests_longer inner m.0 to m.1.1)
 
   tests_longer : (ts : Tests) (from to : List Lexeme) → AreTests ts from to → length to ≤ length from
   tests_longer no_tests from to are = absurd are

@@ -26,39 +26,39 @@ Tested condition block from to = (start : List Lexeme) × (ReadsTest condition f
 
 -- command = identifier arguments ";", after its identifier
 abbrev pub IsStatement : CommandTree → Keyword → List Lexeme → List Lexeme → Type 0
-IsStatement tree name behind to = (args : List Argument) × (AreArguments args behind (mark K.Semicolon ∷ to) × IsPlainCommand name args tree)
+IsStatement tree name after to = (args : List Argument) × (AreArguments args after (mark K.Semicolon ∷ to) × IsPlainCommand name args tree)
 
 -- command = identifier arguments (";" / block), after its identifier; block = "{" commands "}"
 abbrev mutual
   pub IsCommand : CommandTree → Keyword → List Lexeme → List Lexeme → Type 0
-  IsCommand (require names) name behind to = IsStatement (require names) name behind to
-  IsCommand (choose branches) name behind to = IsChoice branches name behind to
-  IsCommand stop name behind to = IsStatement stop name behind to
-  IsCommand (act action) name behind to = IsStatement (act action) name behind to
+  IsCommand (require names) name after to = IsStatement (require names) name after to
+  IsCommand (choose branches) name after to = IsChoice branches name after to
+  IsCommand stop name after to = IsStatement stop name after to
+  IsCommand (act action) name after to = IsStatement (act action) name after to
 
   -- `if` with a test and a block, and the branches after it (RFC 5228, 3.1)
   pub IsChoice : Branches → Keyword → List Lexeme → List Lexeme → Type 0
-  IsChoice no_branches name behind to = ⊥
-  IsChoice (branch condition block more) name behind to =
-      (name ≡ W.If) × ((next : List Lexeme) × (Tested condition (AreCommands block) behind next × AreBranches more next to))
+  IsChoice no_branches name after to = ⊥
+  IsChoice (branch condition block more) name after to =
+      (name ≡ W.If) × ((next : List Lexeme) × (Tested condition (AreCommands block) after next × AreBranches more next to))
 
   -- each `elsif` with a test and a block, and at the end an `else` with a block, whose branch has the test
   -- `true`: all that stand there
   pub AreBranches : Branches → List Lexeme → List Lexeme → Type 0
   AreBranches no_branches from to = (from ≡ to) × IsPastBranches to
   AreBranches (branch condition block more) from to =
-      ((behind : List Lexeme) × ((from ≡ keyword W.Elsif ∷ behind) × ((next : List Lexeme) × (Tested condition (AreCommands block) behind next × AreBranches more next to))))
-      ⊎ ((behind : List Lexeme) × ((from ≡ keyword W.Else ∷ behind) × (Braced (AreCommands block) behind to × ((condition ≡ yes) × (more ≡ no_branches)))))
+      ((after : List Lexeme) × ((from ≡ keyword W.Elsif ∷ after) × ((next : List Lexeme) × (Tested condition (AreCommands block) after next × AreBranches more next to))))
+      ⊎ ((after : List Lexeme) × ((from ≡ keyword W.Else ∷ after) × (Braced (AreCommands block) after to × ((condition ≡ yes) × (more ≡ no_branches)))))
 
   -- commands = *command
   pub AreCommands : Commands → List Lexeme → List Lexeme → Type 0
   AreCommands no_commands from to = from ≡ to
-  AreCommands (command first more) from to = (middle : List Lexeme) × (Headed (λ name behind. IsCommand first name behind middle) from × AreCommands more middle to)
+  AreCommands (command first more) from to = (middle : List Lexeme) × (Headed (λ name after. IsCommand first name after middle) from × AreCommands more middle to)
 
 -- a command at the front
 abbrev pub ReadsCommand : CommandTree → List Lexeme → List Lexeme → Type 0
-ReadsCommand tree from to = Headed (λ name behind. IsCommand tree name behind to) from
+ReadsCommand tree from to = Headed (λ name after. IsCommand tree name after to) from
 
 -- the commands of a whole script
-abbrev pub Reads : Commands → List Lexeme → Type 0
-Reads commands from = AreCommands commands from []
+abbrev pub ReadsScript : Commands → List Lexeme → Type 0
+ReadsScript commands from = AreCommands commands from []

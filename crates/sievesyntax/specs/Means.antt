@@ -5,12 +5,12 @@ use Rattle.sievelex.specs.Spelling.{Spells}
 use Rattle.sievelex.specs.Contents.{contents_of}
 use Rattle.sievesyntax.specs.Lexemes.{lexemes_of}
 use Rattle.sievesyntax.specs.Tree.{Commands}
-use Rattle.sievesyntax.specs.Grammar.{Reads}
+use Rattle.sievesyntax.specs.Grammar.{ReadsScript}
 use Rattle.sievesyntax.specs.Valid.{IsValid}
 
 -- some tokens spell the text, read as this tree, and the tree is valid
 pub record Means (text : List ℕ) (tree : Commands) : Type 0 where
   pub tokens : List Token
   pub spelled : Spells text tokens
-  pub read : Reads tree (lexemes_of (contents_of tokens))
+  pub read : ReadsScript tree (lexemes_of (contents_of tokens))
   pub valid : IsValid tree

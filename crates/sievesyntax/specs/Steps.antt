@@ -18,7 +18,7 @@ TakesTest granted lists nots condition from to = ReadsTest condition from to × 
 
 -- the same after its identifier
 abbrev pub AsksAfter : Capabilities → ℕ → ℕ → Keyword → TestTree → List Lexeme → List Lexeme → Type 0
-AsksAfter granted lists nots name condition behind to = IsTest condition name behind to × MayAsk granted lists nots condition
+AsksAfter granted lists nots name condition after to = IsTest condition name after to × MayAsk granted lists nots condition
 
 -- the same of a comma and a test
 abbrev pub TakesNextTest : Capabilities → ℕ → ℕ → TestTree → List Lexeme → List Lexeme → Type 0
@@ -40,7 +40,7 @@ TakesCommand granted room tree from to = ReadsCommand tree from to × (MayStand 
 
 -- the same after its identifier
 abbrev pub TakesAfter : Capabilities → ℕ → Keyword → CommandTree → List Lexeme → List Lexeme → Type 0
-TakesAfter granted room name tree behind to = IsCommand tree name behind to × (MayStand granted tree × (depth_of tree ≤ room))
+TakesAfter granted room name tree after to = IsCommand tree name after to × (MayStand granted tree × (depth_of tree ≤ room))
 
 -- a block at the front that may stand there
 abbrev pub TakesBlock : Capabilities → ℕ → Commands → List Lexeme → List Lexeme → Type 0
@@ -52,7 +52,7 @@ TakesBranch granted room one from to = (start : List Lexeme) × (TakesTest grant
 
 -- an `elsif` at the front that may stand there
 abbrev pub TakesElsif : Capabilities → ℕ → TestTree × Commands → List Lexeme → List Lexeme → Type 0
-TakesElsif granted room one from to = (behind : List Lexeme) × ((from ≡ keyword W.Elsif ∷ behind) × TakesBranch granted room one behind to)
+TakesElsif granted room one from to = (after : List Lexeme) × ((from ≡ keyword W.Elsif ∷ after) × TakesBranch granted room one after to)
 
 -- no `elsif` stands first
 abbrev pub IsPastElsif : List Lexeme → Type 0
@@ -70,7 +70,7 @@ TakesElsifs granted room each from to = Chain (TakesElsif granted room) each fro
 -- an `else` at the front that may stand there, or none
 abbrev pub TakesElse : Capabilities → ℕ → List (TestTree × Commands) → List Lexeme → List Lexeme → Type 0
 TakesElse granted room [] from to = (from ≡ to) × IsPastBranches from
-TakesElse granted room (one ∷ []) from to = (behind : List Lexeme) × ((from ≡ keyword W.Else ∷ behind) × ((one.0 ≡ yes) × TakesBlock granted room one.1 behind to))
+TakesElse granted room (one ∷ []) from to = (after : List Lexeme) × ((from ≡ keyword W.Else ∷ after) × ((one.0 ≡ yes) × TakesBlock granted room one.1 after to))
 TakesElse granted room (_ ∷ (_ ∷ _)) from to = ⊥
 
 -- commands end here: at the close of a block or at the end

@@ -12,15 +12,15 @@ use Rattle.sievesyntax.specs.Tree.{TestTree, yes, no, looks, not_of, all_of, any
 
 -- an identifier stands at the front, and this is so of it and of what is after it
 abbrev pub Headed : (Keyword → List Lexeme → Type 0) → List Lexeme → Type 0
-Headed P from = (name : Keyword) × ((behind : List Lexeme) × ((from ≡ keyword name ∷ behind) × P name behind))
+Headed P from = (name : Keyword) × ((after : List Lexeme) × ((from ≡ keyword name ∷ after) × P name after))
 
 -- a mark stands at the front, and this is so of what is after it
 abbrev pub Marked : Mark → (List Lexeme → Type 0) → List Lexeme → Type 0
-Marked kind P from = (behind : List Lexeme) × ((from ≡ mark kind ∷ behind) × P behind)
+Marked kind P from = (after : List Lexeme) × ((from ≡ mark kind ∷ after) × P after)
 
 -- test = identifier arguments, after its identifier, for the tests that have no test in them
 abbrev pub IsPlain : TestTree → Keyword → List Lexeme → List Lexeme → Type 0
-IsPlain condition name behind to = (args : List Argument) × (AreArguments args behind to × IsPlainTest name args condition)
+IsPlain condition name after to = (args : List Argument) × (AreArguments args after to × IsPlainTest name args condition)
 
 -- test = identifier arguments [test / test-list], after its identifier; test-list = "(" test *("," test) ")".
 -- That rule alone would take a test or a test list after the arguments of any test, and none after `not`. Which test
@@ -28,24 +28,24 @@ IsPlain condition name behind to = (args : List Argument) × (AreArguments args 
 -- a test list and no arguments, and every other test has arguments alone; so the rule is taken test by test
 abbrev mutual
   pub IsTest : TestTree → Keyword → List Lexeme → List Lexeme → Type 0
-  IsTest yes name behind to = IsPlain yes name behind to
-  IsTest no name behind to = IsPlain no name behind to
-  IsTest (looks check) name behind to = IsPlain (looks check) name behind to
-  IsTest (not_of inner) name behind to = (name ≡ W.Not) × Headed (λ other after. IsTest inner other after to) behind
-  IsTest (all_of inner) name behind to = (name ≡ W.AllOf) × Marked K.OpenParen (λ inside. AreTests inner inside to) behind
-  IsTest (any_of inner) name behind to = (name ≡ W.AnyOf) × Marked K.OpenParen (λ inside. AreTests inner inside to) behind
+  IsTest yes name after to = IsPlain yes name after to
+  IsTest no name after to = IsPlain no name after to
+  IsTest (looks check) name after to = IsPlain (looks check) name after to
+  IsTest (not_of inner) name after to = (name ≡ W.Not) × Headed (λ other rest. IsTest inner other rest to) after
+  IsTest (all_of inner) name after to = (name ≡ W.AllOf) × Marked K.OpenParen (λ inside. AreTests inner inside to) after
+  IsTest (any_of inner) name after to = (name ≡ W.AnyOf) × Marked K.OpenParen (λ inside. AreTests inner inside to) after
 
   -- the tests of a list, after the open parenthesis
   pub AreTests : Tests → List Lexeme → List Lexeme → Type 0
   AreTests no_tests from to = ⊥
-  AreTests (test first more) from to = (middle : List Lexeme) × (Headed (λ name behind. IsTest first name behind middle) from × AreMoreTests more middle to)
+  AreTests (test first more) from to = (middle : List Lexeme) × (Headed (λ name after. IsTest first name after middle) from × AreMoreTests more middle to)
 
   -- the tests of a list after the first one, and the close parenthesis
   pub AreMoreTests : Tests → List Lexeme → List Lexeme → Type 0
   AreMoreTests no_tests from to = from ≡ mark K.CloseParen ∷ to
   AreMoreTests (test first more) from to =
-      Marked K.Comma (λ start. (middle : List Lexeme) × (Headed (λ name behind. IsTest first name behind middle) start × AreMoreTests more middle to)) from
+      Marked K.Comma (λ start. (middle : List Lexeme) × (Headed (λ name after. IsTest first name after middle) start × AreMoreTests more middle to)) from
 
 -- a test at the front
 abbrev pub ReadsTest : TestTree → List Lexeme → List Lexeme → Type 0
-ReadsTest condition from to = Headed (λ name behind. IsTest condition name behind to) from
+ReadsTest condition from to = Headed (λ name after. IsTest condition name after to) from

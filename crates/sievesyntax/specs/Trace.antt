@@ -55,7 +55,7 @@ OnDone P (Done actions) = P actions
 OnDone P (Failed failure) = Unit {0}
 
 -- each mailbox and each address stands once, and there are no more addresses than there may be
-pub record NamesEachOnce (actions : Actions) : Type 0 where
+pub record NamesWithoutRepeats (actions : Actions) : Type 0 where
   pub mailboxes : IsDistinct (pointwise nat_eq) actions.filed
   pub addresses : IsDistinct same_target actions.sent
   pub few : length actions.sent ≤ max_targets

@@ -5,7 +5,7 @@ ghost use Rattle.sievesyntax.specs.Meaning.{ended, outcome};
 ghost use Rattle.sievesyntax.specs.Means.{Means};
 ghost use Rattle.sievesyntax.specs.Reasons.{is_entity, IsEntity};
 ghost use Rattle.sievesyntax.specs.RunState.{at_first};
-ghost use Rattle.sievesyntax.specs.Trace.{actions_run, in_turn, KeepsImplicitly, OnDone, NamesEachOnce, FilesIntoInboxAlone};
+ghost use Rattle.sievesyntax.specs.Trace.{actions_run, in_turn, KeepsImplicitly, OnDone, NamesWithoutRepeats, FilesIntoInboxAlone};
 ghost use Rattle.sievesyntax.specs.Tree.{Commands};
 
 /// A text means one tree at most (RFC 5228, 8.2).
@@ -20,8 +20,8 @@ pub fn outcome_of_the_actions()
 
 /// Where a script doesn't fail, each mailbox and each address stands once, and no more than 16 addresses
 /// (RFC 5228, 2.10.3).
-pub fn each_once()
-    ensures { (truth : Check → Bool) (tree : Commands) → OnDone NamesEachOnce (outcome truth tree) }
+pub fn without_repeats()
+    ensures { (truth : Check → Bool) (tree : Commands) → OnDone NamesWithoutRepeats (outcome truth tree) }
 {}
 
 /// A run without `keep`, `fileinto`, `redirect` and `discard` files the message into INBOX and does no more with it

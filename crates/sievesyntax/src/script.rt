@@ -8,7 +8,7 @@ ghost use Rattle.sievelex.specs.Text.{line_ends};
 ghost use Rattle.sievesyntax.specs.Lexemes.{lexemes_of};
 ghost use Rattle.sievesyntax.specs.Tree.{Commands};
 ghost use Rattle.sievesyntax.specs.Valid.{IsValid};
-ghost use Rattle.sievesyntax.specs.Grammar.{Reads};
+ghost use Rattle.sievesyntax.specs.Grammar.{ReadsScript};
 ghost use Rattle.sievesyntax.specs.Parsing.{OnFault};
 
 use crate::error::ReadError;
@@ -61,11 +61,11 @@ pub fn check(alloc: Global, text: &[u8]) -> Result<Script, ScriptError>
     }
 }
 
-/// The script of these tokens, or why they are none, and how many of them were read.
+/// The script of these tokens, or why they aren't one, and how many of them were read.
 fn check_tokens(alloc: Global, tokens: &Packed) -> Result<Script, (ReadError, usize)>
-    ensures found { IfOk result (λ script. Reads (script_tree script) (lexemes_of (contents tokens.now)) × IsValid (script_tree script)) }
-    ensures only { IfOk result (λ script. (tree : Commands) → Reads tree (lexemes_of (contents tokens.now)) → IsValid tree → tree ≡ script_tree script) }
-    ensures fault { IfErr result (λ e. OnFault e.0 ((tree : Commands) → Reads tree (lexemes_of (contents tokens.now)) → IsValid tree → ⊥)) }
+    ensures found { IfOk result (λ script. ReadsScript (script_tree script) (lexemes_of (contents tokens.now)) × IsValid (script_tree script)) }
+    ensures only { IfOk result (λ script. (tree : Commands) → ReadsScript tree (lexemes_of (contents tokens.now)) → IsValid tree → tree ≡ script_tree script) }
+    ensures fault { IfErr result (λ e. OnFault e.0 ((tree : Commands) → ReadsScript tree (lexemes_of (contents tokens.now)) → IsValid tree → ⊥)) }
 {
     let mut reader = Reader::new(tokens);
     match read_script(alloc, &mut reader) {

@@ -37,7 +37,7 @@ use Rattle.sqlite.specs.Listing.{understood}
 use Rattle.sqlite.specs.State.{State, mode_of, Executes}
 use Rattle.sqlite.proofs.Callers.{IsPlain, command_of, statement_of, runs_as, one_step}
 use Rattle.sqlrows.specs.Forms.{keyed, over}
-use Rattle.sqlrows.specs.Rows.{Entry, id_of, cells_of, stored, IsHeld, Tables, Holds, has_key, added, removed, set_in}
+use Rattle.sqlrows.specs.Rows.{Entry, id_of, cells_of, stored, IsHeld, Tables, HoldsTables, has_key, added, removed, set_in}
 use Rattle.sqlrows.proofs.CellLemmas.{cast_null, cast_int, changed, held_insert, held_delete, held_update}
 use Rattle.sqlrows.proofs.AnswerLemmas.{has_map, found_by_key}
 
@@ -71,11 +71,11 @@ module _ (schema : Schema) (no_works : (depth tree : ℕ) (olds news : List Row)
     | inr other ↦ rw (ne_eqb t.tree tree other) (subst (λ rows. IsHeld rows (tables t.tree)) (sym (all_has _ schema.tables t others listed other)) (each t listed))
   ]
 
-  after : (tables : Tables) (old now : Database) (edit : Edit) (next : Trees) (cells : List Row) → Holds schema old tables → Applies schema Enforced old.trees edit next
-      → now ≡ record { schema = schema; trees = next } → IsHeld (edited old.trees edit) cells → Holds schema now (with_tree tables edit.table.tree cells)
+  after : (tables : Tables) (old now : Database) (edit : Edit) (next : Trees) (cells : List Row) → HoldsTables schema old tables → Applies schema Enforced old.trees edit next
+      → now ≡ record { schema = schema; trees = next } → IsHeld (edited old.trees edit) cells → HoldsTables schema now (with_tree tables edit.table.tree cells)
   after tables old now edit next cells h applies is held =
       let here = subst (λ rows. IsHeld rows cells) (sym applies.rows) held in
-      subst (λ (d : Database). Holds schema d (with_tree tables edit.table.tree cells)) (sym is)
+      subst (λ (d : Database). HoldsTables schema d (with_tree tables edit.table.tree cells)) (sym is)
       (record { is = refl; fits = applies.fits; each = held_beside tables edit.table.tree cells old.trees next h.each here applies.tables })
 
   abbrev with_trees : Trees → Database
@@ -84,7 +84,7 @@ module _ (schema : Schema) (no_works : (depth tree : ℕ) (olds news : List Row)
   abbrev pub On : Table → Row → State → State → Command → Tally → Type 0
   On it params old new command tally = OnRows (record { limit = old.step_limit; keys = Enforced; schema = schema; table = it; params = params }) (mode_of old) None command old.now.trees (Ok (tally, new.now))
 
-  module _ (name : List ℕ) (tree : ℕ) (primary : List ℕ) (references : List Reference) (columns : List Column) (params : Row) (old new : State) (tables : Tables) (h : Holds schema old.now tables)
+  module _ (name : List ℕ) (tree : ℕ) (primary : List ℕ) (references : List Reference) (columns : List Column) (params : Row) (old new : State) (tables : Tables) (h : HoldsTables schema old.now tables)
       (listed : Has schema.tables (keyed name tree primary references columns)) where
     abbrev it : Table
     it = keyed name tree primary references columns
@@ -97,7 +97,7 @@ module _ (schema : Schema) (no_works : (depth tree : ℕ) (olds news : List Row)
     inserted rows cells fits = rw (cast_null, fits)
 
     pub insert_holds : (at : ℕ) (terms : List Term) (width : ℕ) (cells : Row) (tally : Tally) → value_rows params width (suc (length terms) / width) (lit Null ∷ terms) ≡ (Null ∷ cells) ∷ []
-        → cast_all columns cells ≡ cells → On it params old new (Insert at (Values (lit Null ∷ terms) width)) tally → Holds schema new.now (added tree cells tables)
+        → cast_all columns cells ≡ cells → On it params old new (Insert at (Values (lit Null ∷ terms) width)) tally → HoldsTables schema new.now (added tree cells tables)
     insert_holds at terms width cells tally values fits on =
         let db = old.now.trees in
         let done = went on in
@@ -122,7 +122,7 @@ module _ (schema : Schema) (no_works : (depth tree : ℕ) (olds news : List Row)
       asked : (project : List Term) (rows : List Row) → IsAnswer (over tree terms project []).body (overlay old.now.trees []) params rows → rows ≡ map (λ e. eval_all project (params ∷ stored e ∷ [])) found
       asked project rows a = found_by_key schema it listed index indexed guarding key places agrees old.now.trees h.fits (tables tree) (h.each it listed) terms params meets project [] rows a
 
-      pub delete_holds : (at : ℕ) (tally : Tally) → On it params old new (Delete at (over tree terms (col 1 0 ∷ []) [])) tally → Holds schema new.now (removed tree key tables)
+      pub delete_holds : (at : ℕ) (tally : Tally) → On it params old new (Delete at (over tree terms (col 1 0 ∷ []) [])) tally → HoldsTables schema new.now (removed tree key tables)
       delete_holds at tally on =
           let db = old.now.trees in
           let done = went on in
@@ -147,7 +147,7 @@ module _ (schema : Schema) (no_works : (depth tree : ℕ) (olds news : List Row)
             ∙ map_same_on _ (λ e. stored (changed f e)) found (λ e there. ap (λ s. cast_row it (drop 1 s)) (sets (id_of e) (cells_of e)) ∙ rw (cast_int, fits (cells_of e) (found_cells e there)))
             ∙ sym (map-map stored (changed f) found)
 
-        pub update_holds : (at : ℕ) (tally : Tally) → On it params old new (Update at (over tree terms project [])) tally → Holds schema new.now (set_in tree key f tables)
+        pub update_holds : (at : ℕ) (tally : Tally) → On it params old new (Update at (over tree terms project [])) tally → HoldsTables schema new.now (set_in tree key f tables)
         update_holds at tally on =
             let db = old.now.trees in
             let done = went on in
@@ -165,7 +165,7 @@ module _ (schema : Schema) (no_works : (depth tree : ℕ) (olds news : List Row)
             (held_update (db tree) (tables tree) (has_key key) f (ids_of given.0) e.news (h.each it listed) ids news)
 
 -- From what ran to the statement's meaning at its table. A statement on rows is that with its command and its table.
-module _ (schema : Schema) (sql : List ℕ) (params : Row) (old new : State) (tables : Tables) (h : Holds schema old.now tables) (plain : IsPlain (understood schema sql)) (count : ℕ)
+module _ (schema : Schema) (sql : List ℕ) (params : Row) (old new : State) (tables : Tables) (h : HoldsTables schema old.now tables) (plain : IsPlain (understood schema sql)) (count : ℕ)
     (ran : Executes sql params old new (Ok count)) (at : ℕ) (table : Table) (there : slice_get schema.tables at ≡ Some table) where
   abbrev text : List ℕ
   text = statement_of sql (understood schema sql)

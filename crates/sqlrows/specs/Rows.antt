@@ -38,7 +38,7 @@ abbrev pub Tables : Type 0
 Tables = ℕ → List Row
 
 -- a database of the schema has these rows in its tables
-pub record Holds (schema : Schema) (db : Database) (tables : Tables) : Type 0 where
+pub record HoldsTables (schema : Schema) (db : Database) (tables : Tables) : Type 0 where
   pub is : db.schema ≡ schema
   pub fits : Fits schema db.trees
   pub each : (t : Table) → Has schema.tables t → IsHeld (db.trees t.tree) (tables t.tree)

@@ -24,12 +24,12 @@ parts_apart (x ∷ local) (y ∷ front) domain rest at even =
     ap (λ b. nat_eq (to_ascii_lowercase x) (to_ascii_lowercase y) && b) (parts_apart local front domain rest at (omega arith))
     ∙ and_assoc (nat_eq (to_ascii_lowercase x) (to_ascii_lowercase y)) (same_text local front) ((at == 64) && same_text domain rest)
 
--- the same, where the text is cut behind as many octets as the local part has
-pub address_is : (address : Addr) (local text front rest behind : List ℕ) (at : ℕ) → local ≡ address.local → length local ≤ length text
-    → front ≡ take (length local) text → rest ≡ drop (length local) text → rest ≡ at ∷ behind
-    → same_text (all_of address) text ≡ (same_text local front && ((at == 64) && same_text address.domain behind))
-address_is address local text front rest behind at is within first second cut =
+-- the same, where the text is cut after as many octets as the local part has
+pub address_is : (address : Addr) (local text front rest after : List ℕ) (at : ℕ) → local ≡ address.local → length local ≤ length text
+    → front ≡ take (length local) text → rest ≡ drop (length local) text → rest ≡ at ∷ after
+    → same_text (all_of address) text ≡ (same_text local front && ((at == 64) && same_text address.domain after))
+address_is address local text front rest after at is within first second cut =
     let n = length local in
     let even : length front ≡ n = ap length first ∙ length-take-le n text within in
-    let whole : text ≡ front ++ at ∷ behind = sym (take-append-drop n text) ∙ (ap (λ t. t ++ drop n text) (sym first) ∙ ap (λ t. front ++ t) (sym second ∙ cut)) in
-    ap (λ t. same_text (t ++ 64 ∷ address.domain) text) (sym is) ∙ (ap (same_text (local ++ 64 ∷ address.domain)) whole ∙ parts_apart local front address.domain behind at even)
+    let whole : text ≡ front ++ at ∷ after = sym (take-append-drop n text) ∙ (ap (λ t. t ++ drop n text) (sym first) ∙ ap (λ t. front ++ t) (sym second ∙ cut)) in
+    ap (λ t. same_text (t ++ 64 ∷ address.domain) text) (sym is) ∙ (ap (same_text (local ++ 64 ∷ address.domain)) whole ∙ parts_apart local front address.domain after at even)

@@ -3,7 +3,7 @@ use Rattle.std.proofs.Common.{◌≡◌, ℕ, List, ◌++◌, ap, ◌∙◌, app
 
 -- a text, and then the rest
 pub glue : (old first middle rest new : List ℕ) → middle ≡ old ++ first → new ≡ middle ++ rest → new ≡ old ++ (first ++ rest)
-glue old first middle rest new here behind = behind ∙ (ap (λ text. text ++ rest) here ∙ append_assoc old first rest)
+glue old first middle rest new here after = after ∙ (ap (λ text. text ++ rest) here ∙ append_assoc old first rest)
 
 pub glue3 : (old a x b y c z : List ℕ) → x ≡ old ++ a → y ≡ x ++ b → z ≡ y ++ c → z ≡ old ++ (a ++ (b ++ c))
 glue3 old a x b y c z one two three = glue old a x (b ++ c) z one (glue x b y c z two three)

@@ -19,8 +19,8 @@ return_out rest blank = rw (goes_on-lines_of rest, blank) refl
 feed_kept : (rest : List ℕ) → begins_blank rest ≡ false → unfold_of (10 ∷ rest) ≡ 10 ∷ unfold_of rest
 feed_kept rest other = rw (goes_on-lines_of rest, other) refl
 
-at_end : (front behind : List ℕ) (i k : ℕ) → i ≡ length front + k → get_or (front ++ behind) i 0 ≡ get_or behind k 0
-at_end front behind i k is = rw is (get_or-append-add front behind k 0)
+at_end : (front after : List ℕ) (i k : ℕ) → i ≡ length front + k → get_or (front ++ after) i 0 ≡ get_or after k 0
+at_end front after i k is = rw is (get_or-append-add front after k 0)
 
 -- a line of two octets or more ends as it does with an octet before it
 same_end : (octet : ℕ) (line : List ℕ) → 1 < length line → end_len (octet ∷ line) ≡ end_len line
@@ -52,7 +52,7 @@ front_kept octet line others same = joined_with (goes_on others) octet line (joi
 pair_end : (octet next : ℕ) → is_feed next ≡ false → end_len (octet ∷ (next ∷ [])) ≡ end_len (next ∷ [])
 pair_end octet next other = rw other refl
 
--- behind another octet than LF, before what else the text has
+-- after another octet than LF, before what else the text has
 other_kept : (octet next : ℕ) (lines : List (List ℕ)) → is_feed next ≡ false → joined (at_front octet (at_front next lines)) ≡ octet ∷ joined (at_front next lines)
 other_kept octet next [] other = front_kept octet (next ∷ []) [] (λ goes. pair_end octet next other)
 other_kept octet next ([] ∷ more) other = front_kept octet (next ∷ []) more (λ goes. pair_end octet next other)
@@ -99,32 +99,32 @@ kept octet rest false is here apart = rw is (other_front octet rest apart)
 blank_kept : (octet : ℕ) (rest : List ℕ) → is_blank octet ≡ true → unfold_of (octet ∷ rest) ≡ octet ∷ unfold_of rest
 blank_kept octet rest blank = kept octet rest false (blank_is octet blank).0 refl (rw (blank_is octet blank).1 refl)
 
-behind_feed : (first octet : ℕ) (more behind : List ℕ) → is_feed first ≡ true → begins_blank more ≡ true → more ≡ octet ∷ behind → unfold_of (first ∷ more) ≡ octet ∷ unfold_of behind
-behind_feed first octet more behind feed blank same =
+after_feed : (first octet : ℕ) (more after : List ℕ) → is_feed first ≡ true → begins_blank more ≡ true → more ≡ octet ∷ after → unfold_of (first ∷ more) ≡ octet ∷ unfold_of after
+after_feed first octet more after feed blank same =
     let octet_blank : is_blank octet ≡ true = sym (ap begins_blank same) ∙ blank in
-    rw (feed_is first feed).0 (feed_out more blank ∙ (ap unfold_of same ∙ blank_kept octet behind octet_blank))
+    rw (feed_is first feed).0 (feed_out more blank ∙ (ap unfold_of same ∙ blank_kept octet after octet_blank))
 
-behind_return : (first octet : ℕ) (more behind : List ℕ) → (first == 13) ≡ true → begins_feed_fold more ≡ true → drop 2 (first ∷ more) ≡ octet ∷ behind → unfold_of (first ∷ more) ≡ octet ∷ unfold_of behind
-behind_return first octet [] behind return fold same = absurd cc
-behind_return first octet (second ∷ third) behind return fold same =
+after_return : (first octet : ℕ) (more after : List ℕ) → (first == 13) ≡ true → begins_feed_fold more ≡ true → drop 2 (first ∷ more) ≡ octet ∷ after → unfold_of (first ∷ more) ≡ octet ∷ unfold_of after
+after_return first octet [] after return fold same = absurd cc
+after_return first octet (second ∷ third) after return fold same =
     let both = and_both (is_feed second) (begins_blank third) fold in
     let octet_blank : is_blank octet ≡ true = sym (ap begins_blank same) ∙ both.1 in
-    rw (return_is first return, (feed_is second both.0).0) (return_out third both.1 ∙ (ap unfold_of same ∙ blank_kept octet behind octet_blank))
+    rw (return_is first return, (feed_is second both.0).0) (return_out third both.1 ∙ (ap unfold_of same ∙ blank_kept octet after octet_blank))
 
-cut : (first octet : ℕ) (more behind : List ℕ) (feed return : Bool) → (is_feed first && begins_blank more) ≡ feed → ((first == 13) && begins_feed_fold more) ≡ return
-    → drop (cond feed 1 (cond return 2 0)) (first ∷ more) ≡ octet ∷ behind → unfold_of (first ∷ more) ≡ octet ∷ unfold_of behind
-cut first octet more behind true return here there same =
+cut : (first octet : ℕ) (more after : List ℕ) (feed return : Bool) → (is_feed first && begins_blank more) ≡ feed → ((first == 13) && begins_feed_fold more) ≡ return
+    → drop (cond feed 1 (cond return 2 0)) (first ∷ more) ≡ octet ∷ after → unfold_of (first ∷ more) ≡ octet ∷ unfold_of after
+cut first octet more after true return here there same =
     let both = and_both (is_feed first) (begins_blank more) here in
-    behind_feed first octet more behind both.0 both.1 same
-cut first octet more behind false true here there same =
+    after_feed first octet more after both.0 both.1 same
+cut first octet more after false true here there same =
     let both = and_both (first == 13) (begins_feed_fold more) there in
-    behind_return first octet more behind both.0 both.1 same
-cut first octet more behind false false here there same =
+    after_return first octet more after both.0 both.1 same
+cut first octet more after false false here there same =
     let first_is : first ≡ octet = cc in
-    let more_is : more ≡ behind = cc in
+    let more_is : more ≡ after = cc in
     rw (sym first_is, sym more_is) (kept first more (is_feed first) refl here there)
 
--- what stands first behind a line end that a blank follows, is the value's first octet
-pub first_unfolded : (raw behind : List ℕ) (octet : ℕ) → drop (fold_len raw) raw ≡ octet ∷ behind → unfold_of raw ≡ octet ∷ unfold_of behind
-first_unfolded [] behind octet same = absurd cc
-first_unfolded (first ∷ more) behind octet same = cut first octet more behind _ _ refl refl same
+-- what stands first after a line end that a blank follows, is the value's first octet
+pub first_unfolded : (raw after : List ℕ) (octet : ℕ) → drop (fold_len raw) raw ≡ octet ∷ after → unfold_of raw ≡ octet ∷ unfold_of after
+first_unfolded [] after octet same = absurd cc
+first_unfolded (first ∷ more) after octet same = cut first octet more after _ _ refl refl same

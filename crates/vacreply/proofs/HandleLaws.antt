@@ -10,30 +10,30 @@ tail_is : (x y : ℕ) (u v : List ℕ) → x ∷ u ≡ y ∷ v → u ≡ v
 tail_is x y u v same = cc
 
 -- of two fronts of one length before equal texts each is the other
-append_both : (one two behind after : List ℕ) → length one ≡ length two → one ++ behind ≡ two ++ after → (one ≡ two) × (behind ≡ after)
-append_both [] [] behind after even same = (refl, same)
-append_both [] (y ∷ two) behind after even same = absurd (omega arith)
-append_both (x ∷ one) [] behind after even same = absurd (omega arith)
-append_both (x ∷ one) (y ∷ two) behind after even same =
-    let rest = append_both one two behind after (omega arith) (tail_is x y _ _ same) in
+append_both : (one two tail after : List ℕ) → length one ≡ length two → one ++ tail ≡ two ++ after → (one ≡ two) × (tail ≡ after)
+append_both [] [] tail after even same = (refl, same)
+append_both [] (y ∷ two) tail after even same = absurd (omega arith)
+append_both (x ∷ one) [] tail after even same = absurd (omega arith)
+append_both (x ∷ one) (y ∷ two) tail after even same =
+    let rest = append_both one two tail after (omega arith) (tail_is x y _ _ same) in
     let first : x ≡ y = head_is x y _ _ same in
     let others : one ≡ two = rest.0 in
     (cc, rest.1)
 
 -- of two parts before equal texts each is the other
-part_both : (one two : Option (List ℕ)) (behind after : List ℕ) → IsShort one → IsShort two
-    → part_of one ++ behind ≡ part_of two ++ after → (one ≡ two) × (behind ≡ after)
-part_both None None behind after short few same = (refl, tail_is 0 0 _ _ same)
-part_both None (Some text) behind after short few same = absurd (omega (arith, head_is 0 1 _ _ same))
-part_both (Some text) None behind after short few same = absurd (omega (arith, head_is 1 0 _ _ same))
-part_both (Some text) (Some other) behind after short few same =
+part_both : (one two : Option (List ℕ)) (tail after : List ℕ) → IsShort one → IsShort two
+    → part_of one ++ tail ≡ part_of two ++ after → (one ≡ two) × (tail ≡ after)
+part_both None None tail after short few same = (refl, tail_is 0 0 _ _ same)
+part_both None (Some text) tail after short few same = absurd (omega (arith, head_is 0 1 _ _ same))
+part_both (Some text) None tail after short few same = absurd (omega (arith, head_is 1 0 _ _ same))
+part_both (Some text) (Some other) tail after short few same =
     let a = tail_is 1 1 _ _ same in
     let b = tail_is _ _ _ _ a in
     let c = tail_is _ _ _ _ b in
     let d = tail_is _ _ _ _ c in
     let e = tail_is _ _ _ _ d in
     let even : length text ≡ length other = omega (arith, head_is _ _ _ _ a, head_is _ _ _ _ b, head_is _ _ _ _ c, head_is _ _ _ _ d) in
-    let both = append_both text other behind after even e in
+    let both = append_both text other tail after even e in
     (ap Some both.0, both.1)
 
 mark_tells : (one two : Bool) → ◌≡◌ {A = ℕ} (cond one 1 0) (cond two 1 0) → one ≡ two

@@ -1,4 +1,4 @@
--- A value without the blanks at its ends is a word exactly where the word stands behind its first blanks and blanks alone follow.
+-- A value without the blanks at its ends is a word exactly where the word stands after its first blanks and blanks alone follow.
 use Rattle.std.proofs.Common.{◌≡◌, ℕ, suc, ◌+◌, ◌<◌, Bool, true, false, cond, nat_eq, ◌&&◌, not, List, [], ◌∷◌, length, take, drop, refl, ap, sym, ◌∙◌, arith, drop-cons}
 use Rattle.std.specs.Prelude.{Option, Some, None}
 use Rattle.std.proofs.lemmas.Bool.Decides.{nat_tests}
@@ -115,12 +115,12 @@ word_at stop (letter ∷ word) (octet ∷ rest) apart small =
     word_step stop letter octet word rest (stop octet) _ both.0 refl refl (apart.letters letter octet both.0) (word_at stop word rest apart both.1)
 
 -- the word that a value is, without the blanks at its ends
-pub word_is : (word value behind : List ℕ) → list_all is_small word ≡ true → Some behind ≡ after_word word (trim_front value)
-    → is_empty (trim_front behind) ≡ same_text word (trimmed value)
-word_is word value behind small found =
+pub word_is : (word value after : List ℕ) → list_all is_small word ≡ true → Some after ≡ after_word word (trim_front value)
+    → is_empty (trim_front after) ≡ same_text word (trimmed value)
+word_is word value after small found =
     let at = word_at (λ octet. false) word (trim_front value) never_apart small in
     let whole = rw (cut_never (trim_front value)) at at in
-    sym (whole ∙ (ap (ends_by (λ octet. false)) (sym found) ∙ ap (λ t. is_empty (trim_front t)) (cut_never behind)))
+    sym (whole ∙ (ap (ends_by (λ octet. false)) (sym found) ∙ ap (λ t. is_empty (trim_front t)) (cut_never after)))
 
 pub word_isnt : (word value : List ℕ) → list_all is_small word ≡ true → None ≡ after_word word (trim_front value) → false ≡ same_text word (trimmed value)
 word_isnt word value small found =
@@ -143,11 +143,11 @@ parameter_is word value small =
     let front = ap trim_front (cut_first is_semicolon value) ∙ front_cut is_semicolon value semicolon_apart in
     ap (λ t. same_text word (trim_back t)) front ∙ word_at is_semicolon word (trim_front value) semicolon_apart small
 
-pub parameter_word : (word value behind : List ℕ) → list_all is_small word ≡ true → Some behind ≡ after_word word (trim_front value)
-    → ends_parameter (trim_front behind) ≡ same_text word (trimmed (before_first is_semicolon value))
-parameter_word word value behind small found =
+pub parameter_word : (word value after : List ℕ) → list_all is_small word ≡ true → Some after ≡ after_word word (trim_front value)
+    → ends_parameter (trim_front after) ≡ same_text word (trimmed (before_first is_semicolon value))
+parameter_word word value after small found =
     sym (parameter_is word value small ∙ (ap (ends_by is_semicolon) (sym found)
-    ∙ (ap is_empty (front_cut is_semicolon behind semicolon_apart) ∙ parameter_cut (trim_front behind))))
+    ∙ (ap is_empty (front_cut is_semicolon after semicolon_apart) ∙ parameter_cut (trim_front after))))
 
 pub parameter_other : (word value : List ℕ) → list_all is_small word ≡ true → None ≡ after_word word (trim_front value)
     → false ≡ same_text word (trimmed (before_first is_semicolon value))

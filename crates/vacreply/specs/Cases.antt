@@ -45,13 +45,13 @@ abbrev pub some_value : List (List ℕ) → (List ℕ → Bool) → MailSpec →
 some_value names passes mail = list_any (has_value names passes) mail.fields
 
 -- one of these addresses, each with nothing quoted; case ignored
-abbrev pub is_among : List Addr → List ℕ → Bool
-is_among addresses text = list_any (λ one. same_text (all_of one) text) addresses
+abbrev pub has_address : List Addr → List ℕ → Bool
+has_address addresses text = list_any (λ one. same_text (all_of one) text) addresses
 
 -- the user's addresses: the account's, the envelope's recipient as it was written, and those of `:addresses`; case ignored
 abbrev pub is_users : VacArgs → MailSpec → Addr → List ℕ → Bool
 is_users args mail own text =
-    same_text (all_of own) text || (same_text mail.to text || is_among args.addresses text)
+    same_text (all_of own) text || (same_text mail.to text || has_address args.addresses text)
 
 -- `;`
 abbrev pub is_semicolon : ℕ → Bool
@@ -84,7 +84,7 @@ recipients_in field = cond (is_one_of recipient_fields field.name) (map all_of (
 abbrev pub recipients_of : MailSpec → List (List ℕ)
 recipients_of mail = flat_map recipients_in mail.fields
 
--- for so many seconds a sender gets no second response: 1 to 365 days, without `:days` 7 (RFC 5230, 4.1)
+-- for that many seconds a sender gets no second response: 1 to 365 days, without `:days` 7 (RFC 5230, 4.1)
 abbrev pub period_of : VacArgs → ℕ
 period_of args = max 1 (min 365 (unwrap_or args.days 7)) * 86400
 

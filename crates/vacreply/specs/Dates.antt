@@ -27,7 +27,7 @@ day_text number year month day =
     get_or day_names ((number + 4) % 7) [] ++ (codes ", " ++ (decimal day ++ (32 ∷ (get_or month_names (month - 1) [] ++ (32 ∷
     (two_digits (year / 100) ++ two_digits (year % 100)))))))
 
--- `22:13:20`, so many seconds into a day
+-- `22:13:20`, that many seconds into a day
 abbrev pub time_text : ℕ → List ℕ
 time_text seconds = two_digits (seconds / 3600) ++ (58 ∷ (two_digits (seconds / 60 % 60) ++ (58 ∷ two_digits (seconds % 60))))
 

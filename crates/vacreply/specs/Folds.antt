@@ -13,7 +13,7 @@ abbrev pub fold_len : List ℕ → ℕ
 fold_len [] = 0
 fold_len (octet ∷ rest) = cond (is_feed octet && begins_blank rest) 1 (cond (octet == 13 && begins_feed_fold rest) 2 0)
 
--- what stands behind a word that comes first, case ignored
+-- what stands after a word that comes first, case ignored
 abbrev pub after_word : List ℕ → List ℕ → Option (List ℕ)
 after_word [] text = Some text
 after_word (letter ∷ word) [] = None

@@ -95,7 +95,7 @@ has_version reason = is_some (first_raw (codes "mime-version") (fields_of reason
 abbrev pub version : VacArgs → List ℕ
 version args = cond (args.mime && has_version args.reason) [] (line (codes "MIME-Version: 1.0") [])
 
--- the header of a reason that is plain text, with the empty line behind it; with `:mime` the reason has its own
+-- the header of a reason that is plain text, with the empty line after it; with `:mime` the reason has its own
 abbrev pub content_header : Bool → List ℕ
 content_header true = []
 content_header false =
@@ -105,7 +105,7 @@ content_header false =
 abbrev pub ended : List ℕ → List ℕ
 ended reason = cond (ends_with nat_eq reason line_end) reason (reason ++ line_end)
 
--- what stands behind the date
+-- what stands after the date
 abbrev pub body_text : VacArgs → MailSpec → List ℕ
 body_text args mail =
     line (codes "Auto-Submitted: auto-replied") [] ++ (in_reply_to mail ++ (version args ++ (content_header args.mime ++ ended args.reason)))

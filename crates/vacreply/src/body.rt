@@ -1,4 +1,4 @@
-//! What stands behind the date.
+//! What stands after the date.
 ghost use Rattle.std.specs.Prelude.{◌≡◌, ◌++◌, IfOk, OnOk, Some};
 ghost use Rattle.std.specs.List.{list_all};
 ghost use Rattle.vacreply.specs.Layout as layout;
@@ -18,7 +18,7 @@ const MAX_ID_LEN: usize = 250;
 const PLAIN_HEADER: &[u8] =
     b"Content-Type: text/plain; charset=utf-8\r\nContent-Transfer-Encoding: 8bit\r\n\r\n";
 
-/// Appends the lines behind the date, and the reason.
+/// Appends the lines after the date, and the reason.
 pub(crate) fn write_body(
     alloc: Global,
     out: &mut Octets,
@@ -91,7 +91,7 @@ fn has_version(alloc: Global, reason: &[u8]) -> Result<bool, AllocError>
     Ok(first_raw(b"mime-version", head.fields()).is_some())
 }
 
-/// Appends the header of a reason that is plain text, with the empty line behind it.
+/// Appends the header of a reason that is plain text, with the empty line after it.
 fn write_content_header(out: &mut Octets, mime: bool) -> Result<(), AllocError>
     ensures { OnOk result (out.new ≡ out.old ++ layout.content_header mime) }
 {

@@ -91,7 +91,7 @@ fn month_name(month: u8) -> &'static [u8]
     }
 }
 
-/// Appends the time of day, so many seconds into it.
+/// Appends the time of day, that many seconds into it.
 fn write_time(out: &mut Octets, seconds: u64) -> Result<(), AllocError>
     requires { seconds < 86_400 }
     ensures { OnOk result (out.new ≡ out.old ++ time_text seconds) }

@@ -36,7 +36,7 @@ pub fn reply_bytes(
     Ok(reply)
 }
 
-/// Appends what stands before a value, the value and what stands behind it.
+/// Appends what stands before a value, the value and what stands after it.
 pub(crate) fn push_parts(
     out: &mut Octets,
     front: &[u8],

@@ -32,12 +32,14 @@ pub(crate) fn is_robot(address: &[u8]) -> bool
 pub(crate) fn is_users(args: &VacArgs, mail: &Mail<'_>, own: &Addr, text: &[u8]) -> bool
     ensures { result ≡ cases.is_users args.now mail.now own.now text.now }
 {
-    is_address(own, text) || is_same(mail.to(), text) || is_among(args.addresses.as_slice(), text)
+    is_address(own, text)
+        || is_same(mail.to(), text)
+        || has_address(args.addresses.as_slice(), text)
 }
 
 /// Whether a text is one of these addresses, case ignored.
-fn is_among(addresses: &[Addr], text: &[u8]) -> bool
-    ensures { result ≡ cases.is_among addresses.now text.now }
+fn has_address(addresses: &[Addr], text: &[u8]) -> bool
+    ensures { result ≡ cases.has_address addresses.now text.now }
 {
     addresses.iter().any(|one| is_address(one, text))
 }
@@ -51,11 +53,11 @@ fn is_address(address: &Addr, text: &[u8]) -> bool
         return false;
     }
     let (front, rest) = text.split_at(local.len());
-    let Some((at, behind)) = rest.split_first() else {
+    let Some((at, after)) = rest.split_first() else {
         return false;
     };
     if !is_same(local, front) || *at != b'@' {
         return false;
     }
-    is_same(address.domain.as_slice(), behind)
+    is_same(address.domain.as_slice(), after)
 }

@@ -13,10 +13,10 @@ pub(crate) fn is_word(raw: &[u8], word: &[u8]) -> bool
     requires { list_all is_small word.now ≡ true }
     ensures { result ≡ same_text word.now (trimmed (unfold_of raw.now)) }
 {
-    let Some(behind) = after_word(skip_blanks(raw), word) else {
+    let Some(after) = after_word(skip_blanks(raw), word) else {
         return false;
     };
-    is_blank_value(behind)
+    is_blank_value(after)
 }
 
 /// Whether what stands before the value's first `;`, without the blanks at its ends, is a word of small letters; case ignored.
@@ -24,10 +24,10 @@ pub(crate) fn is_word_before_parameters(raw: &[u8], word: &[u8]) -> bool
     requires { list_all is_small word.now ≡ true }
     ensures { result ≡ same_text word.now (trimmed (before_first is_semicolon (unfold_of raw.now))) }
 {
-    let Some(behind) = after_word(skip_blanks(raw), word) else {
+    let Some(after) = after_word(skip_blanks(raw), word) else {
         return false;
     };
-    ends_parameter(behind)
+    ends_parameter(after)
 }
 
 /// Whether the value has blanks alone.
@@ -50,19 +50,19 @@ fn ends_parameter(raw: &[u8]) -> bool
     }
 }
 
-/// What stands behind a word with which the value begins, case ignored.
+/// What stands after a word with which the value begins, case ignored.
 fn after_word<'a>(raw: &'a [u8], word: &[u8]) -> Option<&'a [u8]>
     ensures { option_map (λ rest. unfold_of rest.now) result ≡ after_word word.now (unfold_of raw.now) }
 {
     let mut rest = raw;
     for letter in word {
-        let Some((octet, behind)) = next_octet(rest) else {
+        let Some((octet, after)) = next_octet(rest) else {
             return None;
         };
         if !letter.eq_ignore_ascii_case(&octet) {
             return None;
         }
-        rest = behind;
+        rest = after;
     }
     Some(rest)
 }
@@ -72,11 +72,11 @@ fn skip_blanks(raw: &[u8]) -> &[u8]
     ensures { unfold_of result.now ≡ trim_front (unfold_of raw.now) }
 {
     let mut rest = raw;
-    while let Some((octet, behind)) = next_octet(rest) {
+    while let Some((octet, after)) = next_octet(rest) {
         if !is_blank(octet) {
             break;
         }
-        rest = behind;
+        rest = after;
     }
     rest
 }
@@ -87,8 +87,8 @@ fn next_octet(raw: &[u8]) -> Option<(u8, &[u8])>
     ensures shorter { IfSome result (λ pair. length pair.1.now < length raw.now) }
 {
     let (_, rest) = raw.split_at(fold_len(raw));
-    let (octet, behind) = rest.split_first()?;
-    Some((*octet, behind))
+    let (octet, after) = rest.split_first()?;
+    Some((*octet, after))
 }
 
 /// How many octets the line end has that stands first and that a blank follows.

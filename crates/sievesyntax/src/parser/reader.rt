@@ -51,7 +51,7 @@ impl<'a> Reader<'a> {
         Some((lexeme_of(first), Reader { rest }))
     }
 
-    /// Reads this mark.
+    /// ReadsScript this mark.
     pub(crate) fn read_mark(&mut self, wanted: Mark) -> Result<(), ReadError>
         ensures found { OnOk result (self.old ≡ mark wanted ∷ self.new) }
         ensures fault { IfFault result ((to : Lexemes) → self.old ≡ mark wanted ∷ to → ⊥) }
@@ -66,7 +66,7 @@ impl<'a> Reader<'a> {
         }
     }
 
-    /// Reads an identifier.
+    /// ReadsScript an identifier.
     pub(crate) fn read_keyword(&mut self) -> Result<Keyword, ReadError>
         ensures found { IfOk result (λ name. self.old ≡ keyword name ∷ self.new) }
         ensures fault { IfFault result ((name : Keyword) (to : Lexemes) → self.old ≡ keyword name ∷ to → ⊥) }

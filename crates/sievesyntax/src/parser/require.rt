@@ -6,7 +6,7 @@ ghost use Rattle.sievesyntax.specs.Parsing.{IfFault, Parses, StandsNowhere};
 ghost use Rattle.sievesyntax.specs.Tree.{CommandTree, Commands, require};
 ghost use Rattle.sievesyntax.specs.View.{command_view, commands_view};
 ghost use Rattle.sievesyntax.specs.Valid.{granted_by, IsValid};
-ghost use Rattle.sievesyntax.specs.Grammar.{IsStatement, Reads};
+ghost use Rattle.sievesyntax.specs.Grammar.{IsStatement, ReadsScript};
 ghost use Rattle.sievesyntax.specs.Steps.{TakesRequires, ReadsRequires, ReadsRequiresAlone, IsPastRequires, all_names};
 
 use crate::error::ReadError;
@@ -27,9 +27,9 @@ const MAX_BLOCKS: usize = 32;
 
 /// The commands of a whole script.
 pub(crate) fn read_script(alloc: Global, reader: &mut Reader<'_>) -> Result<Vec<Command>, ReadError>
-    ensures found { IfOk result (λ all. Reads (commands_view all.items) reader.old × IsValid (commands_view all.items)) }
-    ensures only { IfOk result (λ all. (tree : Commands) → Reads tree reader.old → IsValid tree → tree ≡ commands_view all.items) }
-    ensures fault { IfFault result ((tree : Commands) → Reads tree reader.old → IsValid tree → ⊥) }
+    ensures found { IfOk result (λ all. ReadsScript (commands_view all.items) reader.old × IsValid (commands_view all.items)) }
+    ensures only { IfOk result (λ all. (tree : Commands) → ReadsScript tree reader.old → IsValid tree → tree ≡ commands_view all.items) }
+    ensures fault { IfFault result ((tree : Commands) → ReadsScript tree reader.old → IsValid tree → ⊥) }
 {
     let (opening, granted) = read_requires(alloc, reader)?;
     let commands = read_commands(alloc, reader, granted, MAX_BLOCKS, opening)?;

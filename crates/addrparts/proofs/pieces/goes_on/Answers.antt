@@ -8,8 +8,8 @@ pub returns-clause-joined : goal.returns-clause-joined
 returns-clause-joined c = λ yes'.
     let from = c.args.from.now in
     let piece = c.args.piece.now in
-    let behind = c.split_at.result.1.now in
-    let stands = (starts_is Decides-eqb behind piece c.starts_with.result c.starts_with.ensures.value).0 yes' in
+    let after = c.split_at.result.1.now in
+    let stands = (starts_is Decides-eqb after piece c.starts_with.result c.starts_with.ensures.value).0 yes' in
     take-add c.args.len (length piece) from
     ∙ ap (λ text. take c.args.len from ++ take (length piece) text) (sym c.split_at.ensures.back ∙ stands)
-    ∙ ap (λ text. take c.args.len from ++ text) (take-append_seam piece (drop (length piece) behind))
+    ∙ ap (λ text. take c.args.len from ++ text) (take-append_seam piece (drop (length piece) after))

@@ -16,9 +16,9 @@ moved x h known pos next kept same k l = subst (λ q. x k ≡ h (q + k)) (sym (k
 compared : (x h : ℕ → ℕ) (critical known start stop pos : ℕ) → ((start ≡ known) × (critical < known)) ⊎ (start ≡ critical)
     → ((k : ℕ) → k < known → x k ≡ h (pos + k)) → ((k : ℕ) → start ≤ k → k < stop → x k ≡ h (pos + k))
     → (k : ℕ) → critical ≤ k → k < stop → x k ≡ h (pos + k)
-compared x h critical known start stop pos starts front behind k low high = ⊎_elim
+compared x h critical known start stop pos starts front after k low high = ⊎_elim
     (λ inside. front k (omega (arith, starts)))
-    (λ outside. behind k outside high)
+    (λ outside. after k outside high)
     (cases_lt k start)
 
 pub loop-pos-preserved-then-right-m : goal.loop-pos-preserved-then-right-m

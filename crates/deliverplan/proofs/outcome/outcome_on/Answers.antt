@@ -6,5 +6,5 @@ use Rattle.deliverplan.proofs.outcome.outcome_on.Goals as goal
 
 pub returns-clause-done : goal.returns-clause-done
 returns-clause-done c tree means =
-    some_is _ _ (c.in_ok-run.ensures ∙ c.in_ok-code.ensures.stands (truth_at c.args.mail.now))
+    some_is _ _ (c.in_ok-run.ensures ∙ c.in_ok-code.ensures.is_code (truth_at c.args.mail.now))
     ∙ ap (outcome_at c.args.mail.now) (sym (c.in_ok-checked.ensures.only tree means))

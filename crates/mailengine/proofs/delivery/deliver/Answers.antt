@@ -1,10 +1,10 @@
 use Rattle.std.proofs.Common.{◌≡◌, None, Ok, Err, OnOk, IfErr, sym, ◌∙◌, subst, rules}
 use Rattle.sqlite.specs.Held.{state}
-use Rattle.mailstore.specs.Refusals.{IsPassing}
+use Rattle.mailstore.specs.Refusals.{IsTransient}
 use Rattle.mailengine.specs.Hosts.{ActsDelivery}
 use Rattle.mailengine.specs.Limits.{limit_refusal}
 use Rattle.mailengine.specs.Lookups.{LooksUp, IsLookup}
-use Rattle.mailengine.proofs.DeliveryLemmas.{moment_fits, passing_refuses, planned_at, delivery_limited, delivery_unread, delivery_failed, delivery_made, delivery_undone}
+use Rattle.mailengine.proofs.DeliveryLemmas.{moment_fits, transient_refuses, planned_at, delivery_limited, delivery_unread, delivery_failed, delivery_made, delivery_undone}
 use Rattle.mailengine.proofs.RunLemmas.{delivery_spaced}
 use Rattle.mailengine.proofs.delivery.deliver.Goals as goal
 
@@ -27,10 +27,10 @@ returns-in_err-view-clause-spaced g c = delivery_spaced c.args.user.now c.args.e
 pub returns-in_err-mail-clause-acts : goal.returns-in_err-mail-clause-acts
 returns-in_err-mail-clause-acts g c =
     let undone : OnOk c.from_residual-in_err-mail.result ⊥ = search rules in
-    let passing : IfErr c.from_residual-in_err-mail.result IsPassing = search rules in
+    let transient : IfErr c.from_residual-in_err-mail.result IsTransient = search rules in
     let none : limit_refusal c.args.envelope c.args.message.now c.args.moment ≡ None = sym c.limit_refusal.ensures ∙ c.in_default.is in
     delivery_failed c.args.user.now c.args.envelope c.args.message.now c.args.moment none (state g.S.Store c.args.store.now) (state g.S.Store c.look_up.new.store) c.look_up.result c.in_ok-view.field-0 c.in_ok-view.was
-    (subst (λ sender. LooksUp c.args.user.now (IsLookup sender) (state g.S.Store c.args.store.now) (state g.S.Store c.look_up.new.store) c.look_up.result) c.as_slice.ensures c.look_up.ensures) c.from_residual-in_err-mail.result undone passing
+    (subst (λ sender. LooksUp c.args.user.now (IsLookup sender) (state g.S.Store c.args.store.now) (state g.S.Store c.look_up.new.store) c.look_up.result) c.as_slice.ensures c.look_up.ensures) c.from_residual-in_err-mail.result undone transient
 
 pub returns-in_err-mail-clause-spaced : goal.returns-in_err-mail-clause-spaced
 returns-in_err-mail-clause-spaced g c = delivery_spaced c.args.user.now c.args.envelope c.args.message.now c.args.moment (state g.S.Store c.args.store.now) (state g.S.Store c.look_up.new.store) c.from_residual-in_err-mail.result (returns-in_err-mail-clause-acts g c)
@@ -41,10 +41,10 @@ plan-requires g c = moment_fits c.args.envelope c.args.message.now c.args.moment
 pub returns-in_err-plan-clause-acts : goal.returns-in_err-plan-clause-acts
 returns-in_err-plan-clause-acts g c =
     let undone : OnOk c.from_residual-in_err-plan.result ⊥ = search rules in
-    let passing : IfErr c.from_residual-in_err-plan.result IsPassing = search rules in
+    let transient : IfErr c.from_residual-in_err-plan.result IsTransient = search rules in
     let none : limit_refusal c.args.envelope c.args.message.now c.args.moment ≡ None = sym c.limit_refusal.ensures ∙ c.in_default.is in
     delivery_failed c.args.user.now c.args.envelope c.args.message.now c.args.moment none (state g.S.Store c.args.store.now) (state g.S.Store c.look_up.new.store) c.look_up.result c.in_ok-view.field-0 c.in_ok-view.was
-    (subst (λ sender. LooksUp c.args.user.now (IsLookup sender) (state g.S.Store c.args.store.now) (state g.S.Store c.look_up.new.store) c.look_up.result) c.as_slice.ensures c.look_up.ensures) c.from_residual-in_err-plan.result undone passing
+    (subst (λ sender. LooksUp c.args.user.now (IsLookup sender) (state g.S.Store c.args.store.now) (state g.S.Store c.look_up.new.store) c.look_up.result) c.as_slice.ensures c.look_up.ensures) c.from_residual-in_err-plan.result undone transient
 
 pub returns-in_err-plan-clause-spaced : goal.returns-in_err-plan-clause-spaced
 returns-in_err-plan-clause-spaced g c = delivery_spaced c.args.user.now c.args.envelope c.args.message.now c.args.moment (state g.S.Store c.args.store.now) (state g.S.Store c.look_up.new.store) c.from_residual-in_err-plan.result (returns-in_err-plan-clause-acts g c)
@@ -64,8 +64,8 @@ returns-in_err-commit-clause-spaced g c = delivery_spaced c.args.user.now c.args
 pub returns-in_err-commit-clause-named : goal.returns-in_err-commit-clause-named
 returns-in_err-commit-clause-named g c =
     let is : c.from_residual-in_err-commit.result ≡ Err c.in_err-commit.field-0.0 = search (rules, c.from_residual-in_err-commit.ensures) in
-    let passing : IfErr c.from_residual-in_err-commit.result IsPassing = subst (λ q. IfErr q IsPassing) (sym is) c.in_err-commit.ensures.named in
-    passing_refuses c.args.envelope c.args.message.now c.args.moment c.from_residual-in_err-commit.result (sym c.limit_refusal.ensures ∙ c.in_default.is) passing
+    let transient : IfErr c.from_residual-in_err-commit.result IsTransient = subst (λ q. IfErr q IsTransient) (sym is) c.in_err-commit.ensures.named in
+    transient_refuses c.args.envelope c.args.message.now c.args.moment c.from_residual-in_err-commit.result (sym c.limit_refusal.ensures ∙ c.in_default.is) transient
 
 pub returns-clause-acts : goal.returns-clause-acts
 returns-clause-acts g c =

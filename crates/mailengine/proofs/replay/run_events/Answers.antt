@@ -15,15 +15,15 @@ loop-event-init g c = record {
 
 pub loop-event-preserved : goal.loop-event-preserved
 loop-event-preserved g c =
-    let all : c.push_reserved.new.self.items ≡ c.loop-event.answers.items ++ c.happen-answer.result ∷ [] = c.push_reserved.ensures.items ∙ ap (λ l. l ++ c.happen-answer.result ∷ []) c.reserve.ensures.items in
-    let was = clean_before (state g.S.Store c.loop-event.world.store) (state g.S.Store c.happen-answer.new.store) _ c.happen-answer.ensures.crash in
-    let next = host (state g.S.Store c.happen-answer.new.store) c.happen-answer.new.sessions in
+    let all : c.push_reserved.new.self.items ≡ c.loop-event.answers.items ++ c.apply-answer.result ∷ [] = c.push_reserved.ensures.items ∙ ap (λ l. l ++ c.apply-answer.result ∷ []) c.reserve.ensures.items in
+    let was = clean_before (state g.S.Store c.loop-event.world.store) (state g.S.Store c.apply-answer.new.store) _ c.apply-answer.ensures.crash in
+    let next = host (state g.S.Store c.apply-answer.new.store) c.apply-answer.new.sessions in
     record {
-      answered = ap length all ∙ length_push c.loop-event.answers.items c.happen-answer.result ∙ ap (λ n. n + 1) c.loop-event.invariant.answered;
+      answered = ap length all ∙ length_push c.loop-event.answers.items c.apply-answer.result ∙ ap (λ n. n + 1) c.loop-event.invariant.answered;
       ran = run_goes (host_of g.S.Store c.args.world.now) (host_of g.S.Store c.loop-event.world) next c.args.events.now c.loop-event.event-index c.event-item.result
-          c.loop-event-test.true c.event-item.is c.loop-event.answers.items c.push_reserved.new.self.items c.happen-answer.result c.loop-event.invariant.ran all was c.happen-answer.ensures.event;
+          c.loop-event-test.true c.event-item.is c.loop-event.answers.items c.push_reserved.new.self.items c.apply-answer.result c.loop-event.invariant.ran all was c.apply-answer.ensures.event;
       crash = crash_goes (host_of g.S.Store c.args.world.now) (host_of g.S.Store c.loop-event.world) next c.args.events.now c.loop-event.event-index
-          c.event-item.result c.loop-event-test.true c.event-item.is c.loop-event.answers.items c.loop-event.invariant.ran was c.happen-answer.ensures.shut c.loop-event.invariant.crash c.happen-answer.ensures.crash;
+          c.event-item.result c.loop-event-test.true c.event-item.is c.loop-event.answers.items c.loop-event.invariant.ran was c.apply-answer.ensures.shut c.loop-event.invariant.crash c.apply-answer.ensures.crash;
     }
 
 pub returns-clause-runs : goal.returns-clause-runs

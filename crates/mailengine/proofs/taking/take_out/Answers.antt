@@ -1,7 +1,7 @@
 use Rattle.std.proofs.Common.{◌≡◌, Some, Err, OnOk, IfErr, sym, ap, ◌∙◌, rules}
 use Rattle.sqlite.specs.Held.{state}
 use Rattle.std.specs.Option.{option_copied}
-use Rattle.mailstore.specs.Refusals.{IsPassing}
+use Rattle.mailstore.specs.Refusals.{IsTransient}
 use Rattle.mailengine.specs.AccountEvents.{row_with}
 use Rattle.mailengine.proofs.TakingLemmas.{taking_unread, taking_none, taking_failed, taking_made, taking_undone}
 use Rattle.mailengine.proofs.taking.take_out.Goals as goal
@@ -19,8 +19,8 @@ returns-in_default-clause-acts g c =
 pub returns-in_err-row-clause-acts : goal.returns-in_err-row-clause-acts
 returns-in_err-row-clause-acts g c =
     let undone : OnOk c.from_residual-in_err-row.result ⊥ = search rules in
-    let passing : IfErr c.from_residual-in_err-row.result IsPassing = search rules in
-    taking_failed c.args.user.now c.args.id (state g.S.Store c.args.store.now) (state g.S.Store c.queue.new.store) c.queue.result c.in_ok-queue.queue c.in_ok-queue.was c.queue.ensures c.from_residual-in_err-row.result undone passing
+    let transient : IfErr c.from_residual-in_err-row.result IsTransient = search rules in
+    taking_failed c.args.user.now c.args.id (state g.S.Store c.args.store.now) (state g.S.Store c.queue.new.store) c.queue.result c.in_ok-queue.queue c.in_ok-queue.was c.queue.ensures c.from_residual-in_err-row.result undone transient
 
 pub returns-in_err-take_out-clause-acts : goal.returns-in_err-take_out-clause-acts
 returns-in_err-take_out-clause-acts g c =

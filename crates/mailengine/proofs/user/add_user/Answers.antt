@@ -3,7 +3,7 @@ use Rattle.sqlite.specs.Held.{state}
 use Rattle.mailstore.specs.declared.refusal.Refusal.TheVariants.{Memory}
 use Rattle.mailstore.specs.Account.{new_user}
 use Rattle.mailstore.specs.Promises.{IsFree, Writes}
-use Rattle.mailstore.specs.Refusals.{IsPassing}
+use Rattle.mailstore.specs.Refusals.{IsTransient}
 use Rattle.mailengine.specs.Limits.{IsNewUser}
 use Rattle.mailengine.proofs.UserLemmas.{addition_bad, addition_lacks, addition_unread, addition_taken, addition_written}
 use Rattle.mailengine.proofs.user.add_user.Goals as goal
@@ -23,8 +23,8 @@ pub returns-in_err-account-clause-acts : goal.returns-in_err-account-clause-acts
 returns-in_err-account-clause-acts g c =
     let new : IsNewUser c.args.name.now c.args.address.now c.args.password.now = search (rules, c.in_ok-is_new_user.ensures) in
     let undone : OnOk c.from_residual-in_err-account.result ⊥ = search rules in
-    let passing : IfErr c.from_residual-in_err-account.result IsPassing = search rules in
-    addition_unread c.args.name.now c.args.address.now c.args.salt c.args.password.now new (state g.S.Store c.args.store.now) (state g.S.Store c.account.new.self) c.account.result c.account.ensures c.from_residual-in_err-account.result undone passing
+    let transient : IfErr c.from_residual-in_err-account.result IsTransient = search rules in
+    addition_unread c.args.name.now c.args.address.now c.args.salt c.args.password.now new (state g.S.Store c.args.store.now) (state g.S.Store c.account.new.self) c.account.result c.account.ensures c.from_residual-in_err-account.result undone transient
 
 pub returns-in-Some-clause-acts : goal.returns-in-Some-clause-acts
 returns-in-Some-clause-acts g c =

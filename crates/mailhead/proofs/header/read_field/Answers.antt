@@ -6,7 +6,7 @@ use Rattle.mailhead.specs.Fields.{is_name, after_name, after_blanks}
 use Rattle.mailhead.proofs.HeaderLemmas.{field_nameless, field_ended, field_other, field_there, same_texts}
 use Rattle.mailhead.proofs.header.read_field.Goals as goal
 
--- what is left behind the name and the blanks
+-- what is left after the name and the blanks
 left : (line after text : List ℕ) (n : ℕ) → n ≡ prefix_len is_name line → after ≡ drop n line → text ≡ after_blanks after → after_blanks (after_name line) ≡ text
 left line after text n named cut read = sym (read ∙ ap after_blanks (cut ∙ ap (λ k. drop k line) named))
 
@@ -19,24 +19,24 @@ pub returns-in_err-colon : goal.returns-in_err-colon
 returns-in_err-colon c =
     let text = c.after_blanks.result.now in
     let none = nil_from_length text c.in_err-colon.ensures.cases in
-    let behind = left c.args.line.now _ text _ c.name_len.ensures.value c.split_at.ensures.back c.after_blanks.ensures in
-    rw c.from_residual.ensures (sym (field_ended c.args.line.now (behind ∙ none)))
+    let after = left c.args.line.now _ text _ c.name_len.ensures.value c.split_at.ensures.back c.after_blanks.ensures in
+    rw c.from_residual.ensures (sym (field_ended c.args.line.now (after ∙ none)))
 
 pub returns-then-colon-ne58 : goal.returns-then-colon-ne58
 returns-then-colon-ne58 c =
     let text = c.after_blanks.result.now in
     let first = c.in_ok-colon.ensures.cases.0 in
-    let behind = left c.args.line.now _ text _ c.name_len.ensures.value c.split_at.ensures.back c.after_blanks.ensures in
-    sym (field_other c.args.line.now c.in_ok-colon.colon.now c.in_ok-colon.behind.now (behind ∙ first) c.if-colon-ne58.true)
+    let after = left c.args.line.now _ text _ c.name_len.ensures.value c.split_at.ensures.back c.after_blanks.ensures in
+    sym (field_other c.args.line.now c.in_ok-colon.colon.now c.in_ok-colon.value.now (after ∙ first) c.if-colon-ne58.true)
 
 pub returns : goal.returns
 returns c =
     let text = c.after_blanks.result.now in
     let first = c.in_ok-colon.ensures.cases.0 in
-    let behind = left c.args.line.now _ text _ c.name_len.ensures.value c.split_at.ensures.back c.after_blanks.ensures in
+    let after = left c.args.line.now _ text _ c.name_len.ensures.value c.split_at.ensures.back c.after_blanks.ensures in
     let there : prefix_len is_name c.args.line.now ≢ 0 = λ zero.
     let size : length c.split_at.result.0.now ≡ 0 = omega (arith, zero, c.split_at.ensures.front_len, c.name_len.ensures.value) in
     false≢true (sym c.if-is_empty.false ∙ (c.is_empty.ensures ∙ eq-eqb (length c.split_at.result.0.now) 0 size)) in
-    let colon : after_blanks (after_name c.args.line.now) ≡ 58 ∷ c.in_ok-colon.behind.now = behind ∙ (first ∙ ap (λ b. b ∷ c.in_ok-colon.behind.now) c.if-colon-ne58.false) in
+    let colon : after_blanks (after_name c.args.line.now) ≡ 58 ∷ c.in_ok-colon.value.now = after ∙ (first ∙ ap (λ b. b ∷ c.in_ok-colon.value.now) c.if-colon-ne58.false) in
     let name = c.split_at.ensures.front ∙ ap (λ n. take n c.args.line.now) c.name_len.ensures.value in
-    same_texts _ _ _ _ name c.without_end.ensures ∙ sym (field_there c.args.line.now c.in_ok-colon.behind.now there colon)
+    same_texts _ _ _ _ name c.without_end.ensures ∙ sym (field_there c.args.line.now c.in_ok-colon.value.now there colon)

@@ -3,9 +3,9 @@ use Rattle.std.proofs.lemmas.List.{take_all}
 use Rattle.sqlite.specs.Held.{state}
 use Rattle.sqlite.specs.State.{HasCleanDisk, Survives}
 use Rattle.sqlite.proofs.StateLemmas.{survives_then}
-use Rattle.sqlrows.specs.Rows.{Tables, Holds}
+use Rattle.sqlrows.specs.Rows.{Tables, HoldsTables}
 use Rattle.mailstore.specs.Schema.{mail_schema}
-use Rattle.mailstore.specs.Changes.{made, MayHave}
+use Rattle.mailstore.specs.Changes.{made, CrashLeavesTables}
 use Rattle.mailstore.proofs.WriteLemmas.{HasMade, one_more, if_committed, commits_all}
 use Rattle.mailstore.proofs.change.make_all.Goals as goal
 
@@ -30,7 +30,7 @@ returns-clause-made g c =
     let was = subst (λ cs. HasCleanDisk last → HasMade (state g.S.Store old) last cs) whole (rw begun at c.loop-change.invariant.made) in
     let done = if_committed c.commit.result (state g.S.Store old) last (state g.S.Store c.commit.new.self.0) c.args.changes.now _ _ _ was c.commit.ensures.survives c.commit.ensures.ok in
     let same : c.commit.new.self.0 ≡ c.conn-2-1.given.0 = search rules in
-    subst (λ h. HasCleanDisk (state g.S.Store h) → (tables : Tables) → Holds mail_schema (state g.S.Store c.args.conn.now).now tables → OnOk c.commit.result (Holds mail_schema (state g.S.Store h).now (made tables c.args.changes.now))) same done
+    subst (λ h. HasCleanDisk (state g.S.Store h) → (tables : Tables) → HoldsTables mail_schema (state g.S.Store c.args.conn.now).now tables → OnOk c.commit.result (HoldsTables mail_schema (state g.S.Store h).now (made tables c.args.changes.now))) same done
 
 pub returns-clause-crash : goal.returns-clause-crash
 returns-clause-crash g c =
@@ -41,4 +41,4 @@ returns-clause-crash g c =
     let was = subst (λ cs. HasCleanDisk last → HasMade (state g.S.Store old) last cs) whole (rw begun at c.loop-change.invariant.made) in
     let all = commits_all g.S.Store c.args.conn.now last (state g.S.Store c.commit.new.self.0) c.args.changes.now (rw begun at c.loop-change.invariant.survives) c.commit.ensures.survives was in
     let same : c.commit.new.self.0 ≡ c.conn-2-1.given.0 = search rules in
-    subst (λ h. Survives (state g.S.Store c.args.conn.now) (state g.S.Store h) (MayHave c.args.changes.now (state g.S.Store c.args.conn.now))) same all
+    subst (λ h. Survives (state g.S.Store c.args.conn.now) (state g.S.Store h) (CrashLeavesTables c.args.changes.now (state g.S.Store c.args.conn.now))) same all

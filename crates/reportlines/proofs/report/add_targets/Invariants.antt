@@ -1,4 +1,4 @@
--- The text so far and the lines that are left are all the lines behind the text at first.
+-- The text so far and the lines that are left are all the lines after the text at first.
 use Rattle.std.proofs.Common.{◌≡◌, ◌++◌, drop, map}
 use Rattle.std.specs.List.{flat_map}
 use Rattle.addrparts.specs.Spelling.{spelling}

@@ -2,7 +2,7 @@ use Rattle.std.proofs.Common.{◌≡◌, [], map, ap, ◌∙◌}
 use Rattle.sievesyntax.specs.View.{script_tree}
 use Rattle.sievecode.specs.Instructions.{seen, instr_view}
 use Rattle.sievecode.specs.Layout.{commands_code, turned}
-use Rattle.sievecode.proofs.Forward.{turned_forward, turned_stands}
+use Rattle.sievecode.proofs.Forward.{turned_forward, turned_is_code}
 use Rattle.sievecode.proofs.Sizes.{turned_short}
 use Rattle.sievecode.proofs.code.compile.Goals as goal
 
@@ -19,6 +19,6 @@ invariant_of-result c = turned_forward (script_tree c.args.script.now) _ (writte
 
 pub returns : goal.returns
 returns c = record {
-  stands = turned_stands (script_tree c.args.script.now) _ (written c.before);
+  is_code = turned_is_code (script_tree c.args.script.now) _ (written c.before);
   short = turned_short (script_tree c.args.script.now) _ (written c.before);
 }

@@ -5,7 +5,7 @@ use Rattle.mailengine.specs.declared.event.Event.TheVariants.{AddUser}
 use Rattle.mailengine.specs.declared.answer.Answer.TheVariants.{Added}
 use Rattle.sievedrun.specs.Faults.{fault_of}
 use Rattle.sievedrun.specs.Promise.{MayFollow, IsOne, ShowsAfter, status_after}
-use Rattle.sievedrun.proofs.PromiseLemmas.{event_refused, event_made, added_next, passing_may_follow}
+use Rattle.sievedrun.proofs.PromiseLemmas.{event_refused, event_made, added_next, transient_may_follow}
 use Rattle.sievedrun.proofs.commands.add.Goals as goal
 
 pub returns-in_err-added-clause-leaves : goal.returns-in_err-added-clause-leaves
@@ -22,7 +22,7 @@ returns-in_err-closed-clause-leaves g c tells =
     let refusal = c.in_err-closed.field-0.0 in
     let is : c.from_residual-in_err-closed.result ≡ Err (fault_of refusal) = search rules in
     let may : MayFollow (status_after c.from_residual-in_err-closed.result) =
-    subst (λ r. MayFollow (status_after r)) (sym is) (passing_may_follow refusal c.in_err-closed.ensures.named) in
+    subst (λ r. MayFollow (status_after r)) (sym is) (transient_may_follow refusal c.in_err-closed.ensures.named) in
     event_made (g.K.Keeper.holds c.args.keeper.now) (g.K.Keeper.holds c.hand_back-closed.new.self) (state g.K.S.Store c.in_ok-store.store) (state g.K.S.Store c.add_user-added.new.store) got.0 got.1 sure.0 sure.1 (c.hand_back-closed.ensures.held tells)
     (λ event. event ≡ AddUser c.args.name.now c.args.address.now c.args.salt c.args.password.now) (status_after c.from_residual-in_err-closed.result) (AddUser c.args.name.now c.args.address.now c.args.salt c.args.password.now) Added _ c.in_ok-added.ensures.acts.carries
     (added_next c.args.name.now c.args.address.now c.args.salt c.args.password.now) refl may

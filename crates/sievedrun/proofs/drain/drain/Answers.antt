@@ -1,7 +1,7 @@
 -- The account was looked for, and then messages were moved.
 use Rattle.std.proofs.Common.{◌≡◌, Ok, Err, inl, inr, ◌∙◌, ap, subst, sym, rules}
 use Rattle.sqlite.specs.Held.{state}
-use Rattle.mailstore.specs.Refusals.{IsPassing}
+use Rattle.mailstore.specs.Refusals.{IsTransient}
 use Rattle.sievedrun.specs.Draining.{Drains}
 use Rattle.sievedrun.specs.Faults.{fault_of, status_of}
 use Rattle.sievedrun.proofs.LeaveLemmas.{grown_none}
@@ -13,10 +13,10 @@ returns-in_err-_account g c =
     let refusal = c.in_err-_account.field-0.0 in
     let kept = g.T.MailSink.kept c.args.sink.now in
     let is : c.from_residual.result ≡ Err (fault_of refusal) = search rules in
-    let passing : IsPassing refusal = c.in_err-_account.ensures.named in
+    let transient : IsTransient refusal = c.in_err-_account.ensures.named in
     subst (λ r. Drains c.args.user.now c.args.folder.now g.T.MailSink.tells kept kept c.args.most r (state g.S.Store c.args.store.now) (state g.S.Store c.account.new.self)) (sym is)
     (not_looked c.args.user.now c.args.folder.now g.T.MailSink.tells (g.T.MailSink.kept c.args.sink.now) (g.T.MailSink.kept c.args.sink.now) c.args.most (state g.S.Store c.args.store.now) (state g.S.Store c.account.new.self) c.account.result
-    c.account.ensures (fault_of refusal) (elim passing [ inl e ↦ ap (λ r. status_of (fault_of r)) e | inr e ↦ ap (λ r. status_of (fault_of r)) e ]) (grown_none g.T.MailSink.tells (g.T.MailSink.kept c.args.sink.now)))
+    c.account.ensures (fault_of refusal) (elim transient [ inl e ↦ ap (λ r. status_of (fault_of r)) e | inr e ↦ ap (λ r. status_of (fault_of r)) e ]) (grown_none g.T.MailSink.tells (g.T.MailSink.kept c.args.sink.now)))
 
 pub returns-in_default : goal.returns-in_default
 returns-in_default g c =

@@ -14,15 +14,15 @@ split_at-requires c = omega (arith, c.digits_len-len.ensures, prefix_len-le-leng
 
 pub returns-in_err-mark : goal.returns-in_err-mark
 returns-in_err-mark c = rw c.from_residual.ensures (λ number rest counts.
-    let behind : c.split_at.result.1.now ≡ 10 ∷ rest =
-    c.split_at.ensures.back ∙ ap (λ n. drop n c.args.input.now) c.digits_len-len.ensures ∙ (cut c.args.input.now number rest counts).behind in
-    omega (arith, c.in_err-mark.ensures.cases, ap length behind))
+    let after : c.split_at.result.1.now ≡ 10 ∷ rest =
+    c.split_at.ensures.back ∙ ap (λ n. drop n c.args.input.now) c.digits_len-len.ensures ∙ (cut c.args.input.now number rest counts).after in
+    omega (arith, c.in_err-mark.ensures.cases, ap length after))
 
 pub returns-then-mark-ne10 : goal.returns-then-mark-ne10
 returns-then-mark-ne10 c number rest counts =
-    let behind : c.split_at.result.1.now ≡ 10 ∷ rest =
-    c.split_at.ensures.back ∙ ap (λ n. drop n c.args.input.now) c.digits_len-len.ensures ∙ (cut c.args.input.now number rest counts).behind in
-    c.if-mark-ne10.true (ap (λ l. get_or l 0 0) (sym c.in_ok-mark.ensures.cases.0 ∙ behind))
+    let after : c.split_at.result.1.now ≡ 10 ∷ rest =
+    c.split_at.ensures.back ∙ ap (λ n. drop n c.args.input.now) c.digits_len-len.ensures ∙ (cut c.args.input.now number rest counts).after in
+    c.if-mark-ne10.true (ap (λ l. get_or l 0 0) (sym c.in_ok-mark.ensures.cases.0 ∙ after))
 
 pub returns-in_err-number : goal.returns-in_err-number
 returns-in_err-number c = rw c.from_residual-in_err-number.ensures (λ number rest counts.

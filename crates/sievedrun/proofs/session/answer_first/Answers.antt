@@ -1,4 +1,4 @@
--- What comes first was answered by a step, or given up behind what waited.
+-- What comes first was answered by a step, or given up after what waited.
 use Rattle.std.proofs.Common.{◌≡◌, Err, ap, ◌∙◌, sym, subst, rules}
 use Rattle.std.specs.Io.KnownBytes.{Appends}
 use Rattle.sessions.specs.GivenUp.{text_given_up, client_given_up}

@@ -1,4 +1,4 @@
--- The addresses so far stand behind those that were there.
+-- The addresses so far stand after those that were there.
 use Rattle.std.proofs.Common.{◌≡◌, ◌++◌, take}
 use Rattle.sieveexec.proofs.joined_address.push_joined.Given as goal
 

@@ -1,7 +1,7 @@
 use Rattle.std.proofs.Common.{◌<◌, false, length, ap, ◌∙◌, arith}
 use Rattle.sievecode.specs.Jumps.{jumps_from, outcome_of}
 use Rattle.sieveexec.specs.Truth.{truth_at}
-use Rattle.sieveexec.proofs.MachineLemmas.{machine_turn, at_end, behind_all, over}
+use Rattle.sieveexec.proofs.MachineLemmas.{machine_turn, at_end, after_all, over}
 use Rattle.sieveexec.proofs.machine.run.Goals as goal
 
 pub loop-place-init : goal.loop-place-init
@@ -14,7 +14,7 @@ pub loop-place-smaller : goal.loop-place-smaller
 loop-place-smaller c =
     let turn = machine_turn _ _ _ _ _ _ _ _ _ _ _ _ _ c.loop-place.invariant.cached c.instrs-instrs.ensures.instrs c.instrs-instrs.ensures.forward c.loop-place-test.true c.index-instrs-place.is c.in_ok-next.ensures.turn c.in_ok-next.ensures.forward c.in-Next.is c.loop-place.invariant.gives in
     let within = c.loop-place-test.true in
-    let behind : c.loop-place.place < c.in-Next.next = turn.0 in
+    let after : c.loop-place.place < c.in-Next.next = turn.0 in
     omega arith
 
 pub loop-place-preserved : goal.loop-place-preserved
@@ -37,5 +37,5 @@ returns-in-Failed c =
 
 pub returns : goal.returns
 returns c =
-    let past = behind_all c.instrs-instrs.result.now _ _ c.instrs-instrs.ensures.instrs c.loop-place-test.false in
+    let past = after_all c.instrs-instrs.result.now _ _ c.instrs-instrs.ensures.instrs c.loop-place-test.false in
     over _ _ _ (ap outcome_of (at_end _ _ _ _ _ _ c.loop-place.invariant.gives past)) c.finish-2.ensures

@@ -6,7 +6,7 @@ use Rattle.vacreply.proofs.sender.is_address.Goals.{then-not-is_same-via-then-no
 
 pub returns-then-not-is_same : goal.returns-then-not-is_same
 returns-then-not-is_same c =
-    let whole = address_is c.args.address.now c.as_slice-local.result.now c.args.text.now c.split_at.result.0.now c.split_at.result.1.now c.in-Some.behind.now c.in-Some.at.now
+    let whole = address_is c.args.address.now c.as_slice-local.result.now c.args.text.now c.split_at.result.0.now c.split_at.result.1.now c.in-Some.after.now c.in-Some.at.now
     c.as_slice-local.ensures (omega arith) c.split_at.ensures.front c.split_at.ensures.back c.in-Some.ensures.cases.0 in
     elim c.then-not-is_same.branch [
       | then-not-is_same-via-then-not-is_same w ↦ grind (arith, nat_tests, whole)
@@ -15,6 +15,6 @@ returns-then-not-is_same c =
 
 pub returns : goal.returns
 returns c =
-    let whole = address_is c.args.address.now c.as_slice-local.result.now c.args.text.now c.split_at.result.0.now c.split_at.result.1.now c.in-Some.behind.now c.in-Some.at.now
+    let whole = address_is c.args.address.now c.as_slice-local.result.now c.args.text.now c.split_at.result.0.now c.split_at.result.1.now c.in-Some.after.now c.in-Some.at.now
     c.as_slice-local.ensures (omega arith) c.split_at.ensures.front c.split_at.ensures.back c.in-Some.ensures.cases.0 in
     grind (arith, nat_tests, whole)

@@ -10,4 +10,4 @@ returns-in_default c =
 
 pub returns : goal.returns
 returns c =
-    c.is_blank_value.ensures ∙ word_is c.args.word.now (unfold_of c.args.raw.now) (unfold_of c.in-Some.behind.now) c.requires (c.in-Some.ensures ∙ ap (after_word c.args.word.now) c.skip_blanks.ensures)
+    c.is_blank_value.ensures ∙ word_is c.args.word.now (unfold_of c.args.raw.now) (unfold_of c.in-Some.after.now) c.requires (c.in-Some.ensures ∙ ap (after_word c.args.word.now) c.skip_blanks.ensures)

@@ -17,21 +17,21 @@ loop-end-preserved c =
     let is : List Item = items (drop c.args.from c.args.pattern.now) in
     let item : Item = c.read_item-item.result.0 in
     let count : ℕ = c.loop-end.count in
-    let behind : List Item = items (drop c.read_item-item.result.1 c.args.pattern.now) in
-    let left : drop count is ≡ item ∷ behind = sym old.rest ∙ read.item in
-    let here : get_or is count Star ≡ item = item_at Star is count item behind left in
+    let after : List Item = items (drop c.read_item-item.result.1 c.args.pattern.now) in
+    let left : drop count is ≡ item ∷ after = sym old.rest ∙ read.item in
+    let here : get_or is count Star ≡ item = item_at Star is count item after left in
     let low = old.low in
     let few = old.few in
     let later = read.later in
-    let one_more : segment_len (item ∷ behind) ≡ segment_len behind + 1 = elim c.match-item.branch [
-      | in-One w ↦ ap (λ (i : Item). segment_len (i ∷ behind)) w.in-One.is ∙ segment_len-one behind
-      | in-Exact w ↦ ap (λ (i : Item). segment_len (i ∷ behind)) w.in-Exact.is ∙ segment_len-exact w.in-Exact.field-0 behind
+    let one_more : segment_len (item ∷ after) ≡ segment_len after + 1 = elim c.match-item.branch [
+      | in-One w ↦ ap (λ (i : Item). segment_len (i ∷ after)) w.in-One.is ∙ segment_len-one after
+      | in-Exact w ↦ ap (λ (i : Item). segment_len (i ∷ after)) w.in-Exact.is ∙ segment_len-exact w.in-Exact.field-0 after
     ] in
     record {
       low = omega arith;
       high = read.within;
       few = omega arith;
-      rest = sym (left_after Star is count item behind left);
+      rest = sym (left_after Star is count item after left);
       counted = omega (arith, old.counted, ap segment_len read.item, one_more);
       literal = λ yes j l. elim c.match-item.branch [
         | in-One w ↦ absurd (false≢true (sym w.literal-is ∙ yes))

@@ -1,6 +1,6 @@
 use Rattle.std.proofs.Common.{◌≡◌, OnOk, IfErr, rules}
 use Rattle.sqlite.specs.Held.{state}
-use Rattle.mailstore.specs.Refusals.{IsPassing}
+use Rattle.mailstore.specs.Refusals.{IsTransient}
 use Rattle.mailstore.proofs.KeepLemmas.{profile_read, profile_refused}
 use Rattle.mailstore.proofs.store.Store.account.Goals as goal
 
@@ -9,8 +9,8 @@ returns-in_err-rows g c =
     let old = state g.S.Store c.args.self.now in
     let same : c.self.inside.conn ≡ c.args.self.now = search rules in
     let none : OnOk c.from_residual.result ⊥ = search rules in
-    let passing : IfErr c.from_residual.result IsPassing = search rules in
-    profile_refused c.args.user.now old (state g.S.Store c.find_account.new.conn) c.find_account.result (rw same at c.find_account.ensures.finds) c.from_residual.result none passing
+    let transient : IfErr c.from_residual.result IsTransient = search rules in
+    profile_refused c.args.user.now old (state g.S.Store c.find_account.new.conn) c.find_account.result (rw same at c.find_account.ensures.finds) c.from_residual.result none transient
 
 pub returns : goal.returns
 returns g c =

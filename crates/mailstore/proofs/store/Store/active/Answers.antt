@@ -1,14 +1,14 @@
 use Rattle.std.proofs.Common.{◌≡◌, Ok, Some, None, OnOk, IfErr, rules}
 use Rattle.sqlite.specs.Held.{state}
-use Rattle.mailstore.specs.Refusals.{IsPassing}
+use Rattle.mailstore.specs.Refusals.{IsTransient}
 use Rattle.mailstore.proofs.AfterLemmas.{active_read, active_absent, active_refused}
 use Rattle.mailstore.proofs.store.Store.active.Goals as goal
 
 pub returns-in_err-profile : goal.returns-in_err-profile
 returns-in_err-profile g c =
     let none : OnOk c.from_residual.result ⊥ = search rules in
-    let passing : IfErr c.from_residual.result IsPassing = search rules in
-    active_refused c.args.user.now (state g.S.Store c.args.self.now) (state g.S.Store c.account.new.self) c.account.result c.account.ensures c.from_residual.result none passing
+    let transient : IfErr c.from_residual.result IsTransient = search rules in
+    active_refused c.args.user.now (state g.S.Store c.args.self.now) (state g.S.Store c.account.new.self) c.account.result c.account.ensures c.from_residual.result none transient
 
 pub returns-in_default : goal.returns-in_default
 returns-in_default g c =

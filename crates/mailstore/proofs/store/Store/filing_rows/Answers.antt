@@ -1,6 +1,6 @@
 use Rattle.std.proofs.Common.{◌≡◌, Err, OnOk, IfErr, rules}
 use Rattle.sqlite.specs.Held.{state}
-use Rattle.mailstore.specs.Refusals.{IsPassing}
+use Rattle.mailstore.specs.Refusals.{IsTransient}
 use Rattle.mailstore.specs.Shows.{AreFilingRows}
 use Rattle.mailstore.proofs.FilingLemmas.{own_refused, query_own, query_own_refused}
 use Rattle.mailstore.proofs.store.Store.filing_rows.Goals as goal
@@ -14,9 +14,9 @@ pub returns-in_err-find_filings : goal.returns-in_err-find_filings
 returns-in_err-find_filings g c =
     let here : c.self.inside.conn ≡ c.require_account.new.self = search rules in
     let none : OnOk c.from_residual-in_err-find_filings.result ⊥ = search rules in
-    let passing : IfErr c.from_residual-in_err-find_filings.result IsPassing = search rules in
+    let transient : IfErr c.from_residual-in_err-find_filings.result IsTransient = search rules in
     query_own_refused c.args.user.now _ (AreFilingRows c.args.user.now) (state g.S.Store c.args.self.now) (state g.S.Store c.require_account.new.self) (state g.S.Store c.find_filings.new.conn) c.require_account.result c.in_ok-require_account.field-0 c.in_ok-require_account.was
-    c.require_account.ensures c.find_filings.result (rw here at c.find_filings.ensures.finds) c.from_residual-in_err-find_filings.result none passing
+    c.require_account.ensures c.find_filings.result (rw here at c.find_filings.ensures.finds) c.from_residual-in_err-find_filings.result none transient
 
 pub returns : goal.returns
 returns g c =

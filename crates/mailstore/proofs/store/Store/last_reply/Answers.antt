@@ -5,7 +5,7 @@ use Rattle.octets.specs.Ascii.{lowered}
 use Rattle.sqlite.specs.Held.{state}
 use Rattle.sqlite_value.specs.declared.value.Value.TheVariants.{Int}
 use Rattle.sqlite_value.specs.Order.{Row}
-use Rattle.mailstore.specs.Refusals.{IsPassing}
+use Rattle.mailstore.specs.Refusals.{IsTransient}
 use Rattle.mailstore.specs.ReplyTable.{HasMomentRow}
 use Rattle.mailstore.proofs.KeepLemmas.{reads_answer, reads_failed, reads_refused}
 use Rattle.mailstore.proofs.ReplyLemmas.{moment_is}
@@ -14,8 +14,8 @@ use Rattle.mailstore.proofs.store.Store.last_reply.Goals as goal
 pub returns-in_err-sender : goal.returns-in_err-sender
 returns-in_err-sender g c =
     let none : OnOk c.from_residual.result ⊥ = search rules in
-    let passing : IfErr c.from_residual.result IsPassing = search rules in
-    reads_failed c.args.user.now _ (state g.S.Store c.args.self.now) c.from_residual.result none passing
+    let transient : IfErr c.from_residual.result IsTransient = search rules in
+    reads_failed c.args.user.now _ (state g.S.Store c.args.self.now) c.from_residual.result none transient
 
 pub returns-in_err-rows : goal.returns-in_err-rows
 returns-in_err-rows g c =

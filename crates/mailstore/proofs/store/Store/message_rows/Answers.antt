@@ -1,6 +1,6 @@
 use Rattle.std.proofs.Common.{◌≡◌, Err, OnOk, IfErr, rules}
 use Rattle.sqlite.specs.Held.{state}
-use Rattle.mailstore.specs.Refusals.{IsPassing}
+use Rattle.mailstore.specs.Refusals.{IsTransient}
 use Rattle.mailstore.specs.CopyTable.{AreMessageRows}
 use Rattle.mailstore.proofs.KeepLemmas.{reads_refused, query_read, query_refused}
 use Rattle.mailstore.proofs.store.Store.message_rows.Goals as goal
@@ -14,9 +14,9 @@ pub returns-in_err-find_messages : goal.returns-in_err-find_messages
 returns-in_err-find_messages g c =
     let here : c.self.inside.conn ≡ c.require_account.new.self = search rules in
     let none : OnOk c.from_residual-in_err-find_messages.result ⊥ = search rules in
-    let passing : IfErr c.from_residual-in_err-find_messages.result IsPassing = search rules in
+    let transient : IfErr c.from_residual-in_err-find_messages.result IsTransient = search rules in
     query_refused c.args.user.now _ (AreMessageRows c.args.folder.now) (state g.S.Store c.args.self.now) (state g.S.Store c.require_account.new.self) (state g.S.Store c.find_messages.new.conn) c.require_account.result c.in_ok-require_account.field-0 c.in_ok-require_account.was
-    c.require_account.ensures c.find_messages.result (rw here at c.find_messages.ensures.finds) c.from_residual-in_err-find_messages.result none passing
+    c.require_account.ensures c.find_messages.result (rw here at c.find_messages.ensures.finds) c.from_residual-in_err-find_messages.result none transient
 
 pub returns : goal.returns
 returns g c =

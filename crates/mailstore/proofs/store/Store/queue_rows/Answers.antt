@@ -1,6 +1,6 @@
 use Rattle.std.proofs.Common.{◌≡◌, Err, OnOk, IfErr, rules}
 use Rattle.sqlite.specs.Held.{state}
-use Rattle.mailstore.specs.Refusals.{IsPassing}
+use Rattle.mailstore.specs.Refusals.{IsTransient}
 use Rattle.mailstore.specs.QueueTable.{AreQueueRows}
 use Rattle.mailstore.proofs.KeepLemmas.{reads_refused, query_read, query_refused}
 use Rattle.mailstore.proofs.store.Store.queue_rows.Goals as goal
@@ -14,9 +14,9 @@ pub returns-in_err-find_queue : goal.returns-in_err-find_queue
 returns-in_err-find_queue g c =
     let here : c.self.inside.conn ≡ c.require_account.new.self = search rules in
     let none : OnOk c.from_residual-in_err-find_queue.result ⊥ = search rules in
-    let passing : IfErr c.from_residual-in_err-find_queue.result IsPassing = search rules in
+    let transient : IfErr c.from_residual-in_err-find_queue.result IsTransient = search rules in
     query_refused c.args.user.now _ AreQueueRows (state g.S.Store c.args.self.now) (state g.S.Store c.require_account.new.self) (state g.S.Store c.find_queue.new.conn) c.require_account.result c.in_ok-require_account.field-0 c.in_ok-require_account.was
-    c.require_account.ensures c.find_queue.result (rw here at c.find_queue.ensures.finds) c.from_residual-in_err-find_queue.result none passing
+    c.require_account.ensures c.find_queue.result (rw here at c.find_queue.ensures.finds) c.from_residual-in_err-find_queue.result none transient
 
 pub returns : goal.returns
 returns g c =

@@ -3,7 +3,7 @@ use Rattle.std.specs.declared.alloc.Global.{Global}
 use Rattle.octets.specs.Ascii.{lowered}
 use Rattle.sqlite.specs.Held.{state}
 use Rattle.sqlite_value.specs.Order.{Row}
-use Rattle.mailstore.specs.Refusals.{IsPassing}
+use Rattle.mailstore.specs.Refusals.{IsTransient}
 use Rattle.mailstore.specs.ReplyTable.{AreReplyRows, kept_cells, kept_reply, replies_to}
 use Rattle.mailstore.proofs.KeepLemmas.{reads_answer, reads_failed, reads_refused}
 use Rattle.mailstore.proofs.ReplyLemmas.{replies_are}
@@ -12,8 +12,8 @@ use Rattle.mailstore.proofs.store.Store.replies.Goals as goal
 pub returns-in_err-sender : goal.returns-in_err-sender
 returns-in_err-sender g c =
     let none : OnOk c.from_residual.result ⊥ = search rules in
-    let passing : IfErr c.from_residual.result IsPassing = search rules in
-    reads_failed c.args.user.now _ (state g.S.Store c.args.self.now) c.from_residual.result none passing
+    let transient : IfErr c.from_residual.result IsTransient = search rules in
+    reads_failed c.args.user.now _ (state g.S.Store c.args.self.now) c.from_residual.result none transient
 
 pub returns-in_err-rows : goal.returns-in_err-rows
 returns-in_err-rows g c =

@@ -3,7 +3,7 @@ use Rattle.sqlite.specs.Held.{state}
 use Rattle.mailstore.specs.declared.change.Change.TheVariants.{RemoveOutgoing}
 use Rattle.mailstore.specs.Account.{with_user, takes_out}
 use Rattle.mailstore.specs.Promises.{HasUser}
-use Rattle.mailstore.specs.Refusals.{IsPassing}
+use Rattle.mailstore.specs.Refusals.{IsTransient}
 use Rattle.mailstore.proofs.CallLemmas.{carries_taking}
 use Rattle.mailstore.proofs.KeepLemmas.{writes, writes_failed}
 use Rattle.mailstore.proofs.store.Store.take_out.Goals as goal
@@ -11,8 +11,8 @@ use Rattle.mailstore.proofs.store.Store.take_out.Goals as goal
 pub returns-in_err-id : goal.returns-in_err-id
 returns-in_err-id g c =
     let none : OnOk c.from_residual.result ⊥ = search rules in
-    let passing : IfErr c.from_residual.result IsPassing = search rules in
-    writes_failed (state g.S.Store c.args.self.now) (HasUser c.args.user.now) (λ all. with_user all c.args.user.now (takes_out c.args.id)) c.from_residual.result none passing
+    let transient : IfErr c.from_residual.result IsTransient = search rules in
+    writes_failed (state g.S.Store c.args.self.now) (HasUser c.args.user.now) (λ all. with_user all c.args.user.now (takes_out c.args.id)) c.from_residual.result none transient
 
 pub returns : goal.returns
 returns g c =

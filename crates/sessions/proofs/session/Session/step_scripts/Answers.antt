@@ -11,8 +11,8 @@ returns-in-Err g c =
     let is : c.args.self.now.client.user ≡ Some c.as_slice.result.now = ap (λ (v : SessionView). v.client.user) (sym c.self.view_is) ∙ c.in-Some.is ∙ ap Some (sym c.as_slice.ensures) in
     record {
       acts =
-          scripts_refused c.args.self.now.client c.args.command.now c.requires.asked c.as_slice.result.now is about (state g.S.Store c.args.store.now) (state g.S.Store c.obey.new.store) c.in-Err.refusal c.in_a_step.result
-          c.args.out.now c.obey.new.out c.in_a_step.ensures c.in-Err.ensures.acts;
+          scripts_refused c.args.self.now.client c.args.command.now c.requires.asked c.as_slice.result.now is about (state g.S.Store c.args.store.now) (state g.S.Store c.execute.new.store) c.in-Err.refusal c.in_a_step.result
+          c.args.out.now c.execute.new.out c.in_a_step.ensures c.in-Err.ensures.acts;
       counts = search rules;
       scans = search rules;
       err = search rules;
@@ -25,8 +25,8 @@ returns g c =
     let is : c.args.self.now.client.user ≡ Some c.as_slice.result.now = ap (λ (v : SessionView). v.client.user) (sym c.self.view_is) ∙ c.in-Some.is ∙ ap Some (sym c.as_slice.ensures) in
     record {
       acts =
-          scripts_answered c.args.self.now.client c.args.command.now c.requires.asked c.as_slice.result.now is about (state g.S.Store c.args.store.now) (state g.S.Store c.obey.new.store) c.follow.new.self.client
-          c.args.out.now c.obey.new.out c.follow.ensures.session c.in_default-obey.ensures.acts;
+          scripts_answered c.args.self.now.client c.args.command.now c.requires.asked c.as_slice.result.now is about (state g.S.Store c.args.store.now) (state g.S.Store c.execute.new.store) c.follow.new.self.client
+          c.args.out.now c.execute.new.out c.follow.ensures.session c.in_default-execute.ensures.acts;
       counts = search rules;
       scans = search rules;
       err = search rules;

@@ -5,6 +5,6 @@ use Rattle.mailhead.specs.Heads.{fields_of, body_of}
 use Rattle.mailhead.specs.declared.header.Field.{Field}
 
 -- the fields of a message and its body
-pub record Reads (message : List ℕ) (fields : List Field) (body : List ℕ) : Type 0 where
+pub record ReadsMessage (message : List ℕ) (fields : List Field) (body : List ℕ) : Type 0 where
   pub fields_read : texts_of fields ≡ fields_of message
   pub body_read : body ≡ body_of message

@@ -3,7 +3,7 @@ use Rattle.sqlite.specs.Held.{state}
 use Rattle.sessions.specs.Orders.{ObeyedTo, MayObey}
 use Rattle.sessions.proofs.ActLemmas.{glanced, acts_read}
 use Rattle.sessions.proofs.OrderLemmas.{refused_obeys, obeys_quietly, obeys_made, obeys_undone}
-use Rattle.sessions.proofs.account.obey.Goals as goal
+use Rattle.sessions.proofs.account.execute.Goals as goal
 
 pub returns-in_err-reply-clause-acts : goal.returns-in_err-reply-clause-acts
 returns-in_err-reply-clause-acts g c =
