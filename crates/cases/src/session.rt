@@ -15,8 +15,8 @@ use std::format;
 
 /// Tries each case of the file. The accounts stay to its end.
 pub fn try_all(alloc: Global, tally: &mut Tally, file: &str) -> Result<(), AllocError> {
-    let mut world = World::new(alloc, opened(alloc)?);
     let all = sections(alloc, file)?;
+    let mut world = World::new(alloc, opened(alloc)?);
     let mut talk = Talk {
         events: Vec::new(alloc),
         shown: Vec::new(alloc),
@@ -26,22 +26,7 @@ pub fn try_all(alloc: Global, tally: &mut Tally, file: &str) -> Result<(), Alloc
     };
     let mut answer = Octets::new(alloc);
     for section in all.iter() {
-        if section.name == "world" {
-            world = World::new(alloc, opened(alloc)?);
-        } else if section.name == "wanted" {
-            talk.apply(alloc, &mut world, &mut answer)?;
-            compare(alloc, tally, section, answer.as_slice())?;
-            answer = Octets::new(alloc);
-        } else if section.name == "cut" {
-            let stream = octets_in(alloc, section)?;
-            add_answers(alloc, &mut world, &mut answer, stream.as_slice())?;
-        } else if section.name == "scan" {
-            let stream = octets_in(alloc, section)?;
-            let most = usize::try_from(number(section.note)).unwrap_or(0);
-            add_counts(alloc, &mut answer, stream.as_slice(), most)?;
-        } else if !talk.take(alloc, section)? {
-            ask(alloc, tally, &mut world.store, &mut answer, section)?;
-        }
+        talk.try_section(alloc, tally, &mut world, &mut answer, section)?;
     }
     Ok(())
 }
@@ -80,6 +65,33 @@ struct Talk<'a> {
 }
 
 impl<'a> Talk<'a> {
+    /// Tries a section: the answer that is wanted by now, another world, an event, or what is asked of the store.
+    fn try_section(
+        &mut self,
+        alloc: Global,
+        tally: &mut Tally,
+        world: &mut World<MemStore>,
+        answer: &mut Octets,
+        section: &Section<'a>,
+    ) -> Result<(), AllocError> {
+        match section.name {
+            "world" => *world = World::new(alloc, opened(alloc)?),
+            "wanted" => {
+                self.apply(alloc, world, answer)?;
+                compare(alloc, tally, section, answer.as_slice())?;
+                *answer = Octets::new(alloc);
+            }
+            "cut" => add_answers(alloc, world, answer, octets_in(alloc, section)?.as_slice())?,
+            "scan" => add_scan(alloc, answer, section)?,
+            _ => {
+                if !self.take(alloc, section)? {
+                    ask(alloc, tally, &mut world.store, answer, section)?;
+                }
+            }
+        }
+        Ok(())
+    }
+
     /// Takes a section that is an event or says something of those that follow, and says whether it was one.
     fn take(&mut self, alloc: Global, section: &Section<'a>) -> Result<bool, AllocError> {
         match section.name {
@@ -209,6 +221,13 @@ pub fn login(alloc: Global, user: &[u8]) -> Result<Octets, AllocError> {
     line.extend_from_slice(text.as_bytes())?;
     line.extend_from_slice(b"\"\r\n")?;
     Ok(line)
+}
+
+/// Appends how a section's octets are scanned that come in pieces of as many as its note says.
+fn add_scan(alloc: Global, out: &mut Octets, section: &Section<'_>) -> Result<(), AllocError> {
+    let stream = octets_in(alloc, section)?;
+    let most = usize::try_from(number(section.note)).unwrap_or(0);
+    add_counts(alloc, out, stream.as_slice(), most)
 }
 
 /// The octets of a section, each line end as CRLF.
