@@ -56,9 +56,9 @@ pub fn deliver<S: Alter>(
     if let Some(refusal) = limit_refusal(&envelope, message, moment) {
         return Err(refusal);
     }
-    let Lookup { view, text } = look_up(alloc, store, user, envelope.from.as_slice())?;
+    let found = look_up(alloc, store, user, envelope.from.as_slice())?;
     let mail = Mail::read(alloc, message, envelope)?;
-    let plan = plan(alloc, &view, slice_of(&text), &mail, moment)?;
+    let plan = plan(alloc, &found.view, slice_of(&found.text), &mail, moment)?;
     commit(store, user, &plan)?;
     Ok(report_of(plan))
 }

@@ -1,5 +1,5 @@
 -- Steps on commands that ask no store.
-use Rattle.std.proofs.Common.{◌≡◌, ℕ, Bool, true, false, not, ◌&&◌, List, ◌++◌, take, Option, Some, None, is_some, is_none, refl, sym, ap, ◌∙◌, subst}
+use Rattle.std.proofs.Common.{◌≡◌, ℕ, Bool, true, false, not, List, ◌++◌, take, Option, Some, None, refl, sym, ap, ◌∙◌, subst, inl, inr}
 use Rattle.std.proofs.lemmas.Bool.{false≢true, and_parts, not-true}
 use Rattle.msproto.specs.declared.commands.Command.{Command}
 use Rattle.msproto.specs.declared.commands.Command.TheVariants.{Capability, Noop, Logout, Authenticate, Unauthenticate, HaveSpace, PutScript, CheckScript, ListScripts, SetActive, GetScript, DeleteScript, RenameScript, Response}
@@ -19,8 +19,8 @@ use Rattle.sessions.specs.Clients.{Client, reach_in, item_in, is_command, past, 
 use Rattle.sessions.specs.Laws.{ComesFirst}
 use Rattle.sessions.specs.Steps.{IsStep, StepsOver, progress_of, has_command, is_free}
 use Rattle.sessions.specs.Table.{is_early, is_about_scripts, early_reply}
-use Rattle.sessions.specs.Turns.{followed}
-use Rattle.sessions.proofs.LawLemmas.{early, still_open}
+use Rattle.sessions.specs.Turns.{followed, IsFreeTurn}
+use Rattle.sessions.proofs.LawLemmas.{early, still_open, turn_step}
 
 -- ---- the command that comes first
 
@@ -78,23 +78,7 @@ early_turn accounts c command used turn first e is =
     subst (λ (t : Turn). IsStep accounts c (progress_of (followed t.sequel (past used c))) (spelled t.reply) (followed t.sequel (past used c)) accounts) (sym is)
     (subst (λ (p : Progress). IsStep accounts c p (spelled early_reply) (past used c) accounts) (still_open (past used c) first.0) (early accounts c command used first e))
 
--- ---- tests
-
-pub both : (a b : Bool) → a ≡ true → b ≡ true → (a && b) ≡ true
-both a b p q = subst (λ (x : Bool). (x && b) ≡ true) (sym p) q
-
-pub nobody_by : (o : Option (List ℕ)) (b : Bool) → is_some o ≡ not b → is_none o ≡ b
-nobody_by None true e = refl
-nobody_by None false e = absurd (false≢true e)
-nobody_by (Some user) true e = absurd (false≢true (sym e))
-nobody_by (Some user) false e = refl
-
-pub not_first : (a b : Bool) → a ≡ false → (a && b) ≡ false
-not_first a b p = subst (λ (x : Bool). (x && b) ≡ false) (sym p) refl
-
-pub not_second : (a b : Bool) → b ≡ false → (a && b) ≡ false
-not_second true b q = q
-not_second false b q = refl
+-- ---- commands that ask no store
 
 pub free_other : (command : Command) → is_free command ≡ true → is_about_scripts command ≡ false
 free_other Capability h = refl
@@ -111,3 +95,9 @@ free_other (GetScript name) h = absurd (false≢true h)
 free_other (DeleteScript name) h = absurd (false≢true h)
 free_other (RenameScript old new) h = absurd (false≢true h)
 free_other (Response text) h = absurd (false≢true h)
+
+pub free_turn_step : (accounts : Accounts) (c : Client) (command : Command) (used : ℕ) (turn : Turn) → ComesFirst c command used → IsFreeTurn c.user command (Some turn)
+    → IsStep accounts c (progress_of (followed turn.sequel (past used c))) (spelled turn.reply) (followed turn.sequel (past used c)) accounts
+free_turn_step accounts c command used turn first (inl lacks) = early_turn accounts c command used turn first lacks.0 lacks.1
+free_turn_step accounts c command used turn first (inr (late, free, row)) =
+    turn_step accounts c command used turn first late (free_other command free) (row.replies accounts (past used c) refl) (row.session accounts (past used c) refl)

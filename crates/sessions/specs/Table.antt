@@ -34,9 +34,13 @@ is_about_scripts _ = false
 abbrev pub early_reply : Reply
 early_reply = declined None (codes "Log in first.")
 
+-- such a command where this user is logged in, or nobody: it lacks the login
+abbrev pub lacks_login : Option (List ℕ) → Command → Bool
+lacks_login user command = needs_login command && is_none user
+
 -- such a command before anybody is logged in
 abbrev pub is_early : Client → Command → Bool
-is_early c command = needs_login command && is_none c.user
+is_early c command = lacks_login c.user command
 
 -- the account of the user who is logged in
 abbrev pub account_of : Accounts → Option (List ℕ) → Option Account

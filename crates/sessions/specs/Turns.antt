@@ -1,5 +1,5 @@
 -- What a command that isn't about scripts comes to, decided from what the session and the login have.
-use Rattle.std.specs.Prelude.{◌≡◌, ℕ, Bool, true, false, cond, ◌&&◌, is_none, List, Option, Some, None}
+use Rattle.std.specs.Prelude.{◌≡◌, ◌⊎◌, ℕ, Bool, true, false, cond, ◌&&◌, is_none, List, Option, Some, None}
 use Rattle.msproto.specs.declared.commands.Command.{Command}
 use Rattle.msproto.specs.declared.commands.Command.TheVariants.{Authenticate, Response}
 use Rattle.saslplain.specs.declared.password.Record.{Record}
@@ -10,7 +10,8 @@ use Rattle.sessions.specs.declared.turn.Sequel.TheVariants.{Stay, Close, Challen
 use Rattle.sessions.specs.Clients.{Client, shut, challenged, left}
 use Rattle.sessions.specs.Logins.{admitted, is_plain, is_star, login_reply, login_client}
 use Rattle.sessions.specs.Replies.{declined}
-use Rattle.sessions.specs.Table.{RepliesTaken, taken_client}
+use Rattle.sessions.specs.Steps.{is_free}
+use Rattle.sessions.specs.Table.{RepliesTaken, taken_client, lacks_login, early_reply}
 
 -- the session after it
 abbrev pub followed : Sequel → Client → Client
@@ -29,6 +30,13 @@ pub record IsTurn (Fits : Accounts → Client → Type 0) (command : Command) (t
 -- this user is logged in, or nobody
 abbrev pub HasUser : Option (List ℕ) → Accounts → Client → Type 0
 HasUser user accounts c = c.user ≡ user
+
+-- what a command comes to without the store, where this user is logged in, or nobody: one that lacks a login is told so, one that asks no store has its row's answer; none where the store is asked
+abbrev pub IsFreeTurn : Option (List ℕ) → Command → Option Turn → Type 0
+IsFreeTurn user command None = (lacks_login user command ≡ false) × (is_free command ≡ false)
+IsFreeTurn user command (Some turn) =
+    ((lacks_login user command ≡ true) × (turn ≡ record { reply = early_reply; sequel = Stay }))
+    ⊎ ((lacks_login user command ≡ false) × (is_free command ≡ true) × IsTurn (HasUser user) command turn)
 
 -- ---- logins
 

@@ -12,7 +12,7 @@ ghost use Rattle.sessions.specs.Steps.{progress_of, StepsOver, StepsFree, IfAsks
 ghost use Rattle.sessions.specs.Turns.{followed, is_login as is_login_of};
 
 use crate::account::{admitted, execute, in_a_step};
-use crate::free::{early, free, is_free, needs_login};
+use crate::free::free_turn;
 use crate::login::{MAX_FAILURES, exchange, is_login, login_text};
 use crate::progress::{Progress, Stepped};
 use crate::replies::capabilities;
@@ -225,14 +225,9 @@ impl Session {
         let Item::Command(command, _) = self.item()? else {
             unreachable!();
         };
-        if self.user.is_none() && needs_login(&command) {
-            let turn = early(self.alloc)?;
-            return Ok(Stepped::Made(self.take_turn(turn, out)?));
-        }
-        if !is_free(&command) {
+        let Some(turn) = free_turn(self.alloc, &self.user, &command)? else {
             return Ok(Stepped::Asks(command));
-        }
-        let turn = free(self.alloc, &self.user, &command)?;
+        };
         Ok(Stepped::Made(self.take_turn(turn, out)?))
     }
 

@@ -14,22 +14,22 @@ returns-in-Some-clause-acts g c = delivery_limited c.args.user.now c.args.envelo
 pub returns-in-Some-clause-spaced : goal.returns-in-Some-clause-spaced
 returns-in-Some-clause-spaced g c = delivery_spaced c.args.user.now c.args.envelope c.args.message.now c.args.moment (state g.S.Store c.args.store.now) (state g.S.Store c.args.store.now) (Err c.in-Some.refusal) (returns-in-Some-clause-acts g c)
 
-pub returns-in_err-view-clause-acts : goal.returns-in_err-view-clause-acts
-returns-in_err-view-clause-acts g c =
-    let is : c.from_residual.result ≡ Err c.in_err-view.field-0.0 = search rules in
+pub returns-in_err-found-clause-acts : goal.returns-in_err-found-clause-acts
+returns-in_err-found-clause-acts g c =
+    let is : c.from_residual.result ≡ Err c.in_err-found.field-0.0 = search rules in
     let none : limit_refusal c.args.envelope c.args.message.now c.args.moment ≡ None = sym c.limit_refusal.ensures ∙ c.in_default.is in
-    delivery_unread c.args.user.now c.args.envelope c.args.message.now c.args.moment none (state g.S.Store c.args.store.now) (state g.S.Store c.look_up.new.store) c.in_err-view.field-0.0 c.from_residual.result is
-    (subst (λ sender. LooksUp c.args.user.now (IsLookup sender) (state g.S.Store c.args.store.now) (state g.S.Store c.look_up.new.store) (Err c.in_err-view.field-0.0)) c.as_slice.ensures c.in_err-view.ensures)
+    delivery_unread c.args.user.now c.args.envelope c.args.message.now c.args.moment none (state g.S.Store c.args.store.now) (state g.S.Store c.look_up.new.store) c.in_err-found.field-0.0 c.from_residual.result is
+    (subst (λ sender. LooksUp c.args.user.now (IsLookup sender) (state g.S.Store c.args.store.now) (state g.S.Store c.look_up.new.store) (Err c.in_err-found.field-0.0)) c.as_slice.ensures c.in_err-found.ensures)
 
-pub returns-in_err-view-clause-spaced : goal.returns-in_err-view-clause-spaced
-returns-in_err-view-clause-spaced g c = delivery_spaced c.args.user.now c.args.envelope c.args.message.now c.args.moment (state g.S.Store c.args.store.now) (state g.S.Store c.look_up.new.store) c.from_residual.result (returns-in_err-view-clause-acts g c)
+pub returns-in_err-found-clause-spaced : goal.returns-in_err-found-clause-spaced
+returns-in_err-found-clause-spaced g c = delivery_spaced c.args.user.now c.args.envelope c.args.message.now c.args.moment (state g.S.Store c.args.store.now) (state g.S.Store c.look_up.new.store) c.from_residual.result (returns-in_err-found-clause-acts g c)
 
 pub returns-in_err-mail-clause-acts : goal.returns-in_err-mail-clause-acts
 returns-in_err-mail-clause-acts g c =
     let undone : OnOk c.from_residual-in_err-mail.result ⊥ = search rules in
     let transient : IfErr c.from_residual-in_err-mail.result IsTransient = search rules in
     let none : limit_refusal c.args.envelope c.args.message.now c.args.moment ≡ None = sym c.limit_refusal.ensures ∙ c.in_default.is in
-    delivery_failed c.args.user.now c.args.envelope c.args.message.now c.args.moment none (state g.S.Store c.args.store.now) (state g.S.Store c.look_up.new.store) c.look_up.result c.in_ok-view.field-0 c.in_ok-view.was
+    delivery_failed c.args.user.now c.args.envelope c.args.message.now c.args.moment none (state g.S.Store c.args.store.now) (state g.S.Store c.look_up.new.store) c.look_up.result c.in_ok-found.found c.in_ok-found.was
     (subst (λ sender. LooksUp c.args.user.now (IsLookup sender) (state g.S.Store c.args.store.now) (state g.S.Store c.look_up.new.store) c.look_up.result) c.as_slice.ensures c.look_up.ensures) c.from_residual-in_err-mail.result undone transient
 
 pub returns-in_err-mail-clause-spaced : goal.returns-in_err-mail-clause-spaced
@@ -43,7 +43,7 @@ returns-in_err-plan-clause-acts g c =
     let undone : OnOk c.from_residual-in_err-plan.result ⊥ = search rules in
     let transient : IfErr c.from_residual-in_err-plan.result IsTransient = search rules in
     let none : limit_refusal c.args.envelope c.args.message.now c.args.moment ≡ None = sym c.limit_refusal.ensures ∙ c.in_default.is in
-    delivery_failed c.args.user.now c.args.envelope c.args.message.now c.args.moment none (state g.S.Store c.args.store.now) (state g.S.Store c.look_up.new.store) c.look_up.result c.in_ok-view.field-0 c.in_ok-view.was
+    delivery_failed c.args.user.now c.args.envelope c.args.message.now c.args.moment none (state g.S.Store c.args.store.now) (state g.S.Store c.look_up.new.store) c.look_up.result c.in_ok-found.found c.in_ok-found.was
     (subst (λ sender. LooksUp c.args.user.now (IsLookup sender) (state g.S.Store c.args.store.now) (state g.S.Store c.look_up.new.store) c.look_up.result) c.as_slice.ensures c.look_up.ensures) c.from_residual-in_err-plan.result undone transient
 
 pub returns-in_err-plan-clause-spaced : goal.returns-in_err-plan-clause-spaced
@@ -53,9 +53,9 @@ pub returns-in_err-commit-clause-acts : goal.returns-in_err-commit-clause-acts
 returns-in_err-commit-clause-acts g c =
     let is : c.from_residual-in_err-commit.result ≡ Err c.in_err-commit.field-0.0 = search (rules, c.from_residual-in_err-commit.ensures) in
     let none : limit_refusal c.args.envelope c.args.message.now c.args.moment ≡ None = sym c.limit_refusal.ensures ∙ c.in_default.is in
-    delivery_undone c.args.user.now c.args.envelope c.args.message.now c.args.moment none (state g.S.Store c.args.store.now) (state g.S.Store c.look_up.new.store) c.look_up.result c.in_ok-view.field-0 c.in_ok-view.was
+    delivery_undone c.args.user.now c.args.envelope c.args.message.now c.args.moment none (state g.S.Store c.args.store.now) (state g.S.Store c.look_up.new.store) c.look_up.result c.in_ok-found.found c.in_ok-found.was
     (subst (λ sender. LooksUp c.args.user.now (IsLookup sender) (state g.S.Store c.args.store.now) (state g.S.Store c.look_up.new.store) c.look_up.result) c.as_slice.ensures c.look_up.ensures) c.in_ok-plan.plan
-    (planned_at c.in_ok-view.field-0.view c.in_ok-view.field-0.text _ c.in_ok-mail.mail c.args.envelope c.args.message.now c.args.moment c.in_ok-plan.plan c.in_ok-mail.ensures c.slice_of.ensures c.in_ok-plan.ensures)
+    (planned_at c.in_ok-found.found.view c.in_ok-found.found.text _ c.in_ok-mail.mail c.args.envelope c.args.message.now c.args.moment c.in_ok-plan.plan c.in_ok-mail.ensures c.slice_of.ensures c.in_ok-plan.ensures)
     (state g.S.Store c.commit.new.store) c.commit.result c.commit.ensures.writes c.in_err-commit.field-0.0 c.from_residual-in_err-commit.result c.in_err-commit.was is c.in_err-commit.ensures.named
 
 pub returns-in_err-commit-clause-spaced : goal.returns-in_err-commit-clause-spaced
@@ -71,9 +71,9 @@ pub returns-clause-acts : goal.returns-clause-acts
 returns-clause-acts g c =
     let none : limit_refusal c.args.envelope c.args.message.now c.args.moment ≡ None = sym c.limit_refusal.ensures ∙ c.in_default.is in
     subst (λ r. ActsDelivery c.args.user.now c.args.envelope c.args.message.now c.args.moment (state g.S.Store c.args.store.now) (state g.S.Store c.commit.new.store) (Ok r)) (sym c.report_of.ensures)
-    (delivery_made c.args.user.now c.args.envelope c.args.message.now c.args.moment none (state g.S.Store c.args.store.now) (state g.S.Store c.look_up.new.store) c.look_up.result c.in_ok-view.field-0 c.in_ok-view.was
+    (delivery_made c.args.user.now c.args.envelope c.args.message.now c.args.moment none (state g.S.Store c.args.store.now) (state g.S.Store c.look_up.new.store) c.look_up.result c.in_ok-found.found c.in_ok-found.was
     (subst (λ sender. LooksUp c.args.user.now (IsLookup sender) (state g.S.Store c.args.store.now) (state g.S.Store c.look_up.new.store) c.look_up.result) c.as_slice.ensures c.look_up.ensures) c.in_ok-plan.plan
-    (planned_at c.in_ok-view.field-0.view c.in_ok-view.field-0.text _ c.in_ok-mail.mail c.args.envelope c.args.message.now c.args.moment c.in_ok-plan.plan c.in_ok-mail.ensures c.slice_of.ensures c.in_ok-plan.ensures)
+    (planned_at c.in_ok-found.found.view c.in_ok-found.found.text _ c.in_ok-mail.mail c.args.envelope c.args.message.now c.args.moment c.in_ok-plan.plan c.in_ok-mail.ensures c.slice_of.ensures c.in_ok-plan.ensures)
     (state g.S.Store c.commit.new.store) c.commit.result c.commit.ensures.writes c.in_ok-commit.field-0 c.in_ok-commit.was)
 
 pub returns-clause-spaced : goal.returns-clause-spaced
