@@ -19,7 +19,7 @@ use Rattle.vacreply.specs.declared.reason.Reason.{Reason}
 use Rattle.vacreply.specs.declared.reason.Decision.{Decision}
 use Rattle.vacreply.specs.declared.reason.Decision.TheVariants as D
 use Rattle.mailstore.specs.Account.{Account, files_copies, queues, remembers, notes}
-use Rattle.mailstore.specs.declared.queue.Kind.TheVariants as kind
+use Rattle.mailtables.specs.declared.queue.Kind.TheVariants as kind
 use Rattle.mailstore.specs.declared.report.Report.{Report}
 use Rattle.mailstore.specs.declared.report.VacationReport.{VacationReport}
 use Rattle.mailstore.specs.declared.report.VacationReport.TheVariants as V

@@ -3,7 +3,8 @@ use Rattle.std.proofs.Common.{◌≡◌, Bool, true, false, Result, Ok, Err, IfO
 use Rattle.sqlite.specs.Effect.{Database}
 use Rattle.mailstore.specs.Account.{no_accounts}
 use Rattle.mailstore.specs.Schema.{no_schema, mail_schema}
-use Rattle.mailstore.specs.Shows.{Presents, IsOurs}
+use Rattle.mailstore.specs.Shows.{Presents}
+use Rattle.mailstore.specs.Ours.{IsOurs}
 use Rattle.keepers.specs.Taken.{IsTaken}
 
 pub is_taken : (fresh : Bool) (held seen : Database) → (fresh ≡ false → seen ≡ held) → (fresh ≡ false → held.schema ≡ mail_schema) → (IsTrue fresh → Presents seen no_accounts) → (IsTrue fresh → held.schema ≡ no_schema) → IsTaken fresh held seen

@@ -7,7 +7,7 @@ use Rattle.saslplain.specs.Password.{digest_of}
 use Rattle.sievesyntax.specs.RunState.{inbox}
 use Rattle.sieveexec.specs.declared.envelope.Envelope.{Envelope}
 use Rattle.mailstore.specs.Account.{bytes_cmp, Account, Accounts, no_accounts, files_copies, new_user, with_user, takes_out}
-use Rattle.mailstore.specs.declared.queue.Kind.TheVariants.{Redirect}
+use Rattle.mailtables.specs.declared.queue.Kind.TheVariants.{Redirect}
 use Rattle.mailstore.specs.declared.queue.Outgoing.{Outgoing}
 use Rattle.mailstore.specs.declared.refusal.Refusal.TheVariants.{NoUser, BadMoment, UserExists, BadUser, NoRow}
 use Rattle.deliverplan.specs.Delivered.{Acts, kept, Silent, report_of}

@@ -11,7 +11,7 @@ use Rattle.octets.specs.Ascii.{lowered}
 use Rattle.sqlite_typed.proofs.TestLemmas.{same_bytes, bytes_eq_refl}
 use Rattle.deliverplan.specs.Views.{moment_under, last_reply}
 use Rattle.mailstore.specs.Account.{bytes_cmp, reply_cmp, Account}
-use Rattle.mailstore.specs.ReplyTable.{replies_to, kept_reply}
+use Rattle.mailstore.specs.ReplyRows.{replies_to, kept_reply}
 use Rattle.mailstore.proofs.AccountLemmas.{reply_antisymmetric}
 use Rattle.mailstore.proofs.MapLemmas.{tied_is}
 

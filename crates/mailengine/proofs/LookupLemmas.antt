@@ -6,13 +6,13 @@ use Rattle.mailstore.specs.declared.profile.Profile.{Profile}
 use Rattle.mailstore.specs.declared.refusal.Refusal.{Refusal}
 use Rattle.mailstore.specs.declared.refusal.Refusal.TheVariants.{NoUser}
 use Rattle.mailstore.specs.Account.{Account, Accounts}
-use Rattle.mailstore.specs.AccountTable.{profile_of}
+use Rattle.mailstore.specs.AccountRows.{profile_of}
 use Rattle.mailstore.specs.Promises.{IsFree, OfUser, Reads, ReadsProfile}
 use Rattle.mailstore.specs.Refusals.{IsTransient}
 use Rattle.mailstore.specs.Shows.{Presents}
 use Rattle.mailstore.proofs.KeepLemmas.{keeps_ok, keeps_refused, keeps_then, mid_shows, transient_other, reads_answer}
-use Rattle.mailstore.proofs.ResultLemmas.{on_ok}
-use Rattle.mailstore.proofs.WriteLemmas.{clean_before}
+use Rattle.mailtables.proofs.ResultLemmas.{on_ok}
+use Rattle.mailtables.proofs.WriteLemmas.{clean_before}
 use Rattle.mailengine.specs.AccountEvents.{text_named, active_text}
 use Rattle.mailengine.specs.Lookups.{LooksUp}
 

@@ -5,7 +5,7 @@ use Rattle.mailstore.specs.declared.taking.NumberedMessage.{NumberedMessage}
 use Rattle.mailstore.specs.declared.refusal.Refusal.{Refusal}
 use Rattle.mailstore.specs.declared.refusal.Refusal.TheVariants.{NoUser, NoRow}
 use Rattle.mailstore.specs.Account.{Account, Accounts, with_user, messages_in, takes_mail}
-use Rattle.mailstore.specs.CopyTable.{HasFirst}
+use Rattle.mailstore.specs.CopyRows.{HasFirst}
 use Rattle.mailstore.specs.Promises.{HasUser, IsFree, OfUser, WritesAccount}
 use Rattle.mailstore.specs.Refusals.{IsTransient}
 use Rattle.mailstore.specs.Shows.{Presents}

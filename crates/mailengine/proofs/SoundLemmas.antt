@@ -15,7 +15,7 @@ use Rattle.msproto.specs.declared.commands.Command.TheVariants.{Capability, Noop
 use Rattle.msproto.specs.declared.commands.Command.TheVariants as verb
 use Rattle.msproto.specs.declared.replies.Reply.{Reply}
 use Rattle.mailstore.specs.Account.{bytes_cmp, Account, Accounts, Folders, keeps_script, activates, deletes_script, renames_script, moved, other_name, messages_in, holding, filed, filed_in, files_copies, queues}
-use Rattle.mailstore.specs.declared.queue.Kind.TheVariants as kind
+use Rattle.mailtables.specs.declared.queue.Kind.TheVariants as kind
 use Rattle.mailstore.specs.declared.queue.Outgoing.{Outgoing}
 use Rattle.mailstore.specs.declared.report.Report.{Report}
 use Rattle.mailstore.specs.declared.refusal.Refusal.{Refusal}

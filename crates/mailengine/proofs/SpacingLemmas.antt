@@ -26,7 +26,7 @@ use Rattle.vacreply.specs.declared.reason.Reason.TheVariants as R
 use Rattle.vacreply.specs.declared.reason.Decision.{Decision}
 use Rattle.vacreply.specs.declared.reason.Decision.TheVariants as D
 use Rattle.mailstore.specs.Account.{bytes_cmp, reply_cmp, Account, Accounts, files_copies, remembers, queues, messages_in}
-use Rattle.mailstore.specs.declared.queue.Kind.TheVariants as kind
+use Rattle.mailtables.specs.declared.queue.Kind.TheVariants as kind
 use Rattle.mailstore.specs.declared.report.Report.{Report}
 use Rattle.mailstore.specs.declared.report.VacationReport.{VacationReport}
 use Rattle.mailstore.specs.declared.report.VacationReport.TheVariants as V

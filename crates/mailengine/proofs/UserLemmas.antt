@@ -7,7 +7,7 @@ use Rattle.mailstore.specs.declared.profile.Profile.{Profile}
 use Rattle.mailstore.specs.declared.refusal.Refusal.{Refusal}
 use Rattle.mailstore.specs.declared.refusal.Refusal.TheVariants.{Memory, UserExists, BadUser}
 use Rattle.mailstore.specs.Account.{Accounts, new_user}
-use Rattle.mailstore.specs.AccountTable.{profile_of}
+use Rattle.mailstore.specs.AccountRows.{profile_of}
 use Rattle.mailstore.specs.Promises.{IsFree, ReadsProfile, Writes}
 use Rattle.mailstore.specs.Refusals.{IsTransient}
 use Rattle.mailstore.specs.Shows.{Presents}

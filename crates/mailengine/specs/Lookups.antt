@@ -5,7 +5,7 @@ use Rattle.deliverplan.specs.Views.{IsViewOf}
 use Rattle.mailstore.specs.declared.refusal.Refusal.{Refusal}
 use Rattle.mailstore.specs.declared.refusal.Refusal.TheVariants.{NoUser}
 use Rattle.mailstore.specs.Account.{Account}
-use Rattle.mailstore.specs.AccountTable.{profile_of}
+use Rattle.mailstore.specs.AccountRows.{profile_of}
 use Rattle.mailstore.specs.Promises.{Reads}
 use Rattle.mailengine.specs.declared.account.ActiveScript.{ActiveScript}
 use Rattle.mailengine.specs.declared.delivery.Lookup.{Lookup}

@@ -1,8 +1,8 @@
 //! What the engine reads of one user's account.
 ghost use Rattle.std.specs.Prelude.{◌≡◌};
 ghost use Rattle.sqlite.specs.Held.{state};
-ghost use Rattle.mailstore.specs.AccountTable.{profile_of};
-ghost use Rattle.mailstore.specs.CopyTable.{HasFirst};
+ghost use Rattle.mailstore.specs.AccountRows.{profile_of};
+ghost use Rattle.mailstore.specs.CopyRows.{HasFirst};
 ghost use Rattle.mailstore.specs.Account.{messages_in};
 ghost use Rattle.mailengine.specs.Lookups.{LooksUp, IsActiveScript};
 

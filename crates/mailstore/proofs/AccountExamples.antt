@@ -3,7 +3,7 @@ use Rattle.std.proofs.Common.{◌≡◌, ℕ, suc, cond, List, [], ◌∷◌, co
 use Rattle.std.specs.FinMap.{get, get-remove}
 use Rattle.std.proofs.lemmas.Cmp.{nat_list_cmp_total}
 use Rattle.sqlite_typed.proofs.TestLemmas.{bytes_eq_refl}
-use Rattle.mailstore.specs.declared.queue.Kind.TheVariants.{Redirect, Reply}
+use Rattle.mailtables.specs.declared.queue.Kind.TheVariants.{Redirect, Reply}
 use Rattle.mailstore.specs.declared.report.Letter.{Letter}
 use Rattle.mailstore.specs.declared.report.Letter.TheVariants as letter
 use Rattle.mailstore.specs.declared.report.Plan.{Plan}

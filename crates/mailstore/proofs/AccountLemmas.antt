@@ -17,18 +17,24 @@ use Rattle.sqlite_typed.proofs.TestLemmas.{at_blobs, at_ints, last_term, then_te
 use Rattle.sqlrows.specs.Rows.{Tables, has_key, added, removed, set_in}
 use Rattle.sqlrows.proofs.ListLemmas.{owner_key, pair_key, equal_itself}
 use Rattle.mailstore.specs.declared.queue.Outgoing.{Outgoing}
-use Rattle.mailstore.specs.Cells.{or_null}
+use Rattle.mailtables.specs.Cells.{or_null}
 use Rattle.mailstore.specs.Account.{bytes_cmp, reply_cmp, Account, Replies, new_account, keeps_script, activates, deletes_script, renames_script, moved, other_name, takes_out}
-use Rattle.mailstore.specs.AccountTable.{account_cells, with_active, account_tree}
-use Rattle.mailstore.specs.ScriptTable.{script_cells, script_row, script_tree}
-use Rattle.mailstore.specs.MessageTable.{Message, message_key, message_row, message_tree}
-use Rattle.mailstore.specs.CopyTable.{copy_row, copy_tree}
-use Rattle.mailstore.specs.ReplyTable.{reply_cells, reply_key, reply_row, ShowsReplies}
+use Rattle.mailtables.specs.AccountTable.{account_cells, with_active, account_tree}
+use Rattle.mailtables.specs.ScriptTable.{script_cells, script_tree}
+use Rattle.mailstore.specs.ScriptRows.{script_row}
+use Rattle.mailstore.specs.MessageRows.{Message, message_row}
+use Rattle.mailtables.specs.MessageTable.{message_key, message_tree}
+use Rattle.mailstore.specs.CopyRows.{copy_row}
+use Rattle.mailtables.specs.CopyTable.{copy_tree}
+use Rattle.mailtables.specs.ReplyTable.{reply_cells, reply_key}
+use Rattle.mailstore.specs.ReplyRows.{reply_row, ShowsReplies}
 use Rattle.mailstore.specs.Shows.{IsShown, IsAbsent}
 use Rattle.mailstore.proofs.NumberLemmas.{numbered_none, numbered_without}
 use Rattle.mailstore.proofs.MapLemmas.{shown_put, shown_without, apart_put, apart_without}
-use Rattle.mailstore.specs.NoticeTable.{notice_row, notice_tree}
-use Rattle.mailstore.specs.QueueTable.{outgoing_tree, queue_key, queue_row}
+use Rattle.mailstore.specs.NoticeRows.{notice_row}
+use Rattle.mailtables.specs.NoticeTable.{notice_tree}
+use Rattle.mailtables.specs.QueueTable.{outgoing_tree, queue_key}
+use Rattle.mailstore.specs.QueueRows.{queue_row}
 
 pub bytes_antisymmetric : IsAntisymmetric bytes_cmp
 bytes_antisymmetric = slice_cmp-IsAntisymmetric nat_cmp-IsAntisymmetric

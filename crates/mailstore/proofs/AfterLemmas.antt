@@ -4,21 +4,21 @@ use Rattle.std.specs.FinMap.{get}
 use Rattle.sqlite.specs.State.{State, HasCleanDisk, Survives}
 use Rattle.sqlite.proofs.StateLemmas.{survives_then, survives_weaker}
 use Rattle.sqlrows.specs.Rows.{Tables, HoldsTables}
-use Rattle.mailstore.specs.declared.change.Change.{Change}
+use Rattle.mailtables.specs.declared.change.Change.{Change}
 use Rattle.mailstore.specs.declared.refusal.Refusal.{Refusal}
 use Rattle.mailstore.specs.declared.refusal.Refusal.TheVariants.{NoUser}
-use Rattle.mailstore.specs.Schema.{mail_schema}
-use Rattle.mailstore.specs.Connection.{StaysSame, IsSettled}
-use Rattle.mailstore.specs.Changes.{made, CrashLeavesTables}
+use Rattle.mailtables.specs.Schema.{mail_schema}
+use Rattle.mailtables.specs.Connection.{StaysSame, IsSettled}
+use Rattle.mailtables.specs.Changes.{made, CrashLeavesTables, MakesAll}
 use Rattle.mailstore.specs.Account.{Account, Accounts, with_user}
 use Rattle.mailstore.specs.Refusals.{IsTransient}
 use Rattle.mailstore.specs.Shows.{ShowsAccounts, Presents}
-use Rattle.mailstore.specs.Promises.{HasUser, IsFree, OfUser, Turns, CrashLeavesAccounts, HasOurTables, Keeps, Reads, MakesAll, ReadsProfile, WritesAccount, WritesKnown}
-use Rattle.mailstore.proofs.ResultLemmas.{on_ok}
-use Rattle.mailstore.proofs.WriteLemmas.{clean_before}
+use Rattle.mailstore.specs.Promises.{HasUser, IsFree, OfUser, Turns, CrashLeavesAccounts, HasOurTables, Keeps, Reads, ReadsProfile, WritesAccount, WritesKnown}
+use Rattle.mailtables.proofs.ResultLemmas.{on_ok}
+use Rattle.mailtables.proofs.WriteLemmas.{clean_before}
 use Rattle.mailstore.proofs.KeepLemmas.{transient_named, transient_other, keeps_ok, keeps_refused, keeps_then, keeps_failed, none_if, mid_shows}
 use Rattle.mailstore.specs.declared.profile.Profile.{Profile}
-use Rattle.mailstore.specs.AccountTable.{profile_of}
+use Rattle.mailstore.specs.AccountRows.{profile_of}
 
 -- ---- a read after a read
 

@@ -7,16 +7,16 @@ use Rattle.sqlite.specs.Effect.{Database}
 use Rattle.sqlite.specs.State.{State, Survives}
 use Rattle.sqlite.proofs.StateLemmas.{survives_weaker}
 use Rattle.sqlrows.specs.Rows.{Tables, HoldsTables}
-use Rattle.mailstore.specs.declared.change.Change.{Change}
-use Rattle.mailstore.specs.declared.change.Change.TheVariants.{AddAccount, SetActive, AddScript, RemoveScript, RemoveOutgoing}
+use Rattle.mailtables.specs.declared.change.Change.{Change}
+use Rattle.mailtables.specs.declared.change.Change.TheVariants.{AddAccount, SetActive, AddScript, RemoveScript, RemoveOutgoing}
 use Rattle.mailstore.specs.declared.refusal.Refusal.{Refusal}
-use Rattle.mailstore.specs.Schema.{mail_schema}
-use Rattle.mailstore.specs.Cells.{contents}
-use Rattle.mailstore.specs.Changes.{made, CrashLeavesTables, AreOf}
+use Rattle.mailtables.specs.Schema.{mail_schema}
+use Rattle.mailtables.specs.Cells.{contents}
+use Rattle.mailtables.specs.Changes.{made, CrashLeavesTables, AreOf}
 use Rattle.mailstore.specs.Account.{Account, Accounts, with_user, in_place, new_account, keeps_script, activates, deletes_script, renames_script, other_name, takes_out}
 use Rattle.mailstore.specs.Shows.{rows_of, IsShown, IsShownOrAbsent, ShowsAccounts}
 use Rattle.mailstore.specs.Promises.{HasUser, IsFree, OfUser, Turns, CrashLeavesAccounts}
-use Rattle.mailstore.specs.ScriptTable.{IsRenaming}
+use Rattle.mailstore.specs.ScriptRows.{IsRenaming}
 use Rattle.mailstore.proofs.ShowLemmas.{shows_after}
 use Rattle.mailstore.proofs.AccountLemmas.{script_put, script_gone, script_moved, none_moved, queue_gone, active_put, account_put}
 

@@ -6,13 +6,14 @@ use Rattle.sqlite_keyed.proofs.ListLemmas.{map-map}
 use Rattle.mailstore.specs.Account.{Account}
 use Rattle.mailstore.specs.Tally.{tallied, AreFolders, AreFolderRows}
 use Rattle.mailstore.specs.declared.folder.Folder.{Folder}
-use Rattle.mailstore.specs.declared.queue.Kind.{Kind}
-use Rattle.mailstore.specs.declared.queue.Kind.TheVariants.{Redirect, Reply}
+use Rattle.mailtables.specs.declared.queue.Kind.{Kind}
+use Rattle.mailtables.specs.declared.queue.Kind.TheVariants.{Redirect, Reply}
 use Rattle.mailstore.specs.declared.queue.Outgoing.{Outgoing}
 use Rattle.mailstore.specs.declared.notice.Notice.{Notice}
-use Rattle.mailstore.specs.NoticeTable.{AreNoticeRows, notice_cells}
-use Rattle.mailstore.specs.Cells.{text_cells, first_one, first_five, first_two}
-use Rattle.mailstore.specs.QueueTable.{AreQueueRows, kind_number, outgoing_cells}
+use Rattle.mailstore.specs.NoticeRows.{AreNoticeRows, notice_cells}
+use Rattle.mailstore.specs.FirstCells.{text_cells, first_one, first_five, first_two}
+use Rattle.mailstore.specs.QueueRows.{AreQueueRows, outgoing_cells}
+use Rattle.mailtables.specs.QueueTable.{kind_number}
 use Rattle.mailstore.proofs.OneLemmas.{map_one}
 
 text_one : (x y : List ℕ) → text_cells x ≡ text_cells y → x ≡ y

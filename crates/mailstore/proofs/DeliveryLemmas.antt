@@ -10,34 +10,42 @@ use Rattle.sqlrows.specs.Rows.{Tables, HoldsTables, has_key, added}
 use Rattle.sqlrows.proofs.ListLemmas.{owner_key, equal_itself}
 use Rattle.octets.specs.Ascii.{lowered}
 use Rattle.mailstore.specs.declared.account.Counters.{Counters}
-use Rattle.mailstore.specs.declared.change.Change.{Change}
-use Rattle.mailstore.specs.declared.change.Change.TheVariants.{AddCopy}
+use Rattle.mailtables.specs.declared.change.Change.{Change}
+use Rattle.mailtables.specs.declared.change.Change.TheVariants.{AddCopy}
 use Rattle.mailstore.specs.declared.notice.Notice.{Notice}
 use Rattle.mailstore.specs.declared.refusal.Refusal.{Refusal}
 use Rattle.mailstore.specs.declared.queue.Outgoing.{Outgoing}
-use Rattle.mailstore.specs.declared.queue.Kind.TheVariants as kind
+use Rattle.mailtables.specs.declared.queue.Kind.TheVariants as kind
 use Rattle.mailstore.specs.declared.report.Letter.{Letter}
 use Rattle.mailstore.specs.declared.report.Letter.TheVariants.{Redirect, Reply}
 use Rattle.mailstore.specs.declared.report.Remembered.{Remembered}
 use Rattle.mailstore.specs.declared.report.Plan.{Plan}
-use Rattle.mailstore.specs.Changes.{made, owner_of, AreOf, Extends, MakesOwn, CrashLeavesTables, AreDelivery, in_turn, message_kept, copy_added, copies_added, copied, lettered, letter_added, reply_put, folded_sender, noticed, notice_count, counters_set, counters_raised, delivered}
+use Rattle.mailtables.specs.Changes.{made, owner_of, AreOf, Extends, MakesOwn, CrashLeavesTables, copy_added, counters_set, MakesAll}
+use Rattle.mailstore.specs.Delivery.{AreDelivery, in_turn, message_kept, copies_added, copied, lettered, letter_added, reply_put, folded_sender, noticed, notice_count, counters_raised, delivered}
 use Rattle.mailstore.specs.Account.{Account, Accounts, Folders, with_user, in_place, filed, files_copies, sends, sends_all, remembers_if_any, notes_if_any, delivers}
-use Rattle.mailstore.specs.AccountTable.{account_row, account_tree, counter_cells, shown_counters, with_counters, Counts}
-use Rattle.mailstore.specs.ScriptTable.{script_tree, ShowsScripts}
-use Rattle.mailstore.specs.QueueTable.{outgoing_tree, queue_row, ShowsQueue}
-use Rattle.mailstore.specs.ReplyTable.{reply_tree, ShowsReplies}
-use Rattle.mailstore.specs.NoticeTable.{notice_tree, notice_row, ShowsNotices}
+use Rattle.mailstore.specs.AccountRows.{account_row, counter_cells, shown_counters, Counts}
+use Rattle.mailtables.specs.AccountTable.{account_tree, with_counters}
+use Rattle.mailtables.specs.ScriptTable.{script_tree}
+use Rattle.mailstore.specs.ScriptRows.{ShowsScripts}
+use Rattle.mailtables.specs.QueueTable.{outgoing_tree}
+use Rattle.mailstore.specs.QueueRows.{queue_row, ShowsQueue}
+use Rattle.mailtables.specs.ReplyTable.{reply_tree}
+use Rattle.mailstore.specs.ReplyRows.{ShowsReplies}
+use Rattle.mailtables.specs.NoticeTable.{notice_tree}
+use Rattle.mailstore.specs.NoticeRows.{notice_row, ShowsNotices}
 use Rattle.sqlite_rules.specs.Lists.{Has}
 use Rattle.sqlite_rules.proofs.ListLemmas.{has_left, has_last}
 use Rattle.std.specs.List.{AllByRecursion}
-use Rattle.mailstore.specs.MessageTable.{Message, message_cells, message_row, message_tree, once_for, GainsOnce}
-use Rattle.mailstore.specs.CopyTable.{Copy, copy_row, copy_tree, message_of, HasCopy, AreKept, ShowsCopies}
+use Rattle.mailstore.specs.MessageRows.{Message, message_row, once_for, GainsOnce}
+use Rattle.mailtables.specs.MessageTable.{message_cells, message_tree}
+use Rattle.mailstore.specs.CopyRows.{Copy, copy_row, message_of, HasCopy, AreKept, ShowsCopies}
+use Rattle.mailtables.specs.CopyTable.{copy_tree}
 use Rattle.mailstore.specs.Shows.{rows_of, IsShown, IsShownOrAbsent, ShowsAccounts}
-use Rattle.mailstore.specs.Schema.{mail_schema}
-use Rattle.mailstore.specs.Promises.{HasUser, Keeps, MakesAll, StoresOnce}
+use Rattle.mailtables.specs.Schema.{mail_schema}
+use Rattle.mailstore.specs.Promises.{HasUser, Keeps, StoresOnce}
 use Rattle.sqlite.specs.State.{State, HasCleanDisk, Survives}
-use Rattle.mailstore.proofs.ResultLemmas.{on_ok}
-use Rattle.mailstore.proofs.WriteLemmas.{made_push, clean_before}
+use Rattle.mailtables.proofs.ResultLemmas.{on_ok}
+use Rattle.mailtables.proofs.WriteLemmas.{made_push, clean_before}
 use Rattle.mailstore.proofs.ShowLemmas.{shows_after}
 use Rattle.mailstore.specs.Numbers.{AreNumbered}
 use Rattle.mailstore.proofs.NumberLemmas.{numbered_next, numbered_up}

@@ -26,17 +26,18 @@ use Rattle.sqlrows.proofs.ListLemmas.{owner_key}
 use Rattle.mailstore.specs.declared.filing.Filing.{Filing}
 use Rattle.mailstore.specs.declared.refusal.Refusal.{Refusal}
 use Rattle.mailstore.specs.declared.refusal.Refusal.TheVariants.{NoUser}
-use Rattle.mailstore.specs.Schema.{mail_schema}
+use Rattle.mailtables.specs.Schema.{mail_schema}
 use Rattle.mailstore.specs.Account.{Account, Accounts}
-use Rattle.mailstore.specs.Cells.{first_three}
-use Rattle.mailstore.specs.CopyTable.{copy, Copy, copy_row, copy_tree, filing_of, filing_cells, select_filings}
+use Rattle.mailstore.specs.FirstCells.{first_three}
+use Rattle.mailtables.specs.CopyTable.{copy, copy_tree, select_filings}
+use Rattle.mailstore.specs.CopyRows.{Copy, copy_row, filing_of, filing_cells}
 use Rattle.mailstore.specs.Shows.{rows_of, IsShown, IsShownOrAbsent, Presents, AreFilingRows, AreFilings}
 use Rattle.mailstore.specs.Refusals.{IsTransient}
 use Rattle.mailstore.specs.Promises.{HasUser, IsFree, OfUser, FindsAmong, Reads, ReadsOwn}
-use Rattle.mailstore.proofs.SchemaFacts.{copy_listed}
-use Rattle.mailstore.proofs.TextFacts.{by_one, filings_shown, select_filings_is, select_filings_plain}
-use Rattle.mailstore.proofs.ResultLemmas.{on_ok}
-use Rattle.mailstore.proofs.WriteLemmas.{clean_before}
+use Rattle.mailtables.proofs.SchemaFacts.{copy_listed}
+use Rattle.mailtables.proofs.TextFacts.{by_one, filings_shown, select_filings_is, select_filings_plain}
+use Rattle.mailtables.proofs.ResultLemmas.{on_ok}
+use Rattle.mailtables.proofs.WriteLemmas.{clean_before}
 use Rattle.mailstore.proofs.OneLemmas.{map_one}
 use Rattle.mailstore.proofs.KeepLemmas.{keeps_ok, keeps_refused, keeps_failed, keeps_then, mid_holds, none_ok, none_if, transient_other, transient_named}
 

@@ -14,15 +14,16 @@ use Rattle.sqlrows.proofs.ReadLemmas.{answered}
 use Rattle.sqlrows.proofs.ListLemmas.{owner_key}
 use Rattle.mailstore.specs.declared.filing.Filing.{Filing}
 use Rattle.mailstore.specs.declared.taking.NumberedMessage.{NumberedMessage}
-use Rattle.mailstore.specs.Schema.{mail_schema}
+use Rattle.mailtables.specs.Schema.{mail_schema}
 use Rattle.mailstore.specs.Account.{Account, messages_in}
-use Rattle.mailstore.specs.MessageTable.{message, message_key, message_row, message_tree, bytes_column, select_message}
-use Rattle.mailstore.specs.CopyTable.{Copy, message_of, is_in, is_filed, filing_of, numbered_of, HasFirst}
+use Rattle.mailtables.specs.MessageTable.{message, message_key, message_tree, bytes_column, select_message}
+use Rattle.mailstore.specs.MessageRows.{message_row}
+use Rattle.mailstore.specs.CopyRows.{Copy, message_of, is_in, is_filed, filing_of, numbered_of, HasFirst}
 use Rattle.mailstore.specs.Shows.{rows_of, IsShown, AreFilings, AreOctetRows, HasOctets, IsFirstOf}
 use Rattle.mailstore.specs.Promises.{FindsAmong}
-use Rattle.mailstore.proofs.SchemaFacts.{message_listed}
-use Rattle.mailstore.proofs.TextFacts.{by_two, select_message_is, select_message_plain}
-use Rattle.mailstore.proofs.StatementLemmas.{message_index, message_agrees}
+use Rattle.mailtables.proofs.SchemaFacts.{message_listed}
+use Rattle.mailtables.proofs.TextFacts.{by_two, select_message_is, select_message_plain}
+use Rattle.mailtables.proofs.StatementLemmas.{message_index, message_agrees}
 use Rattle.mailstore.proofs.AccountLemmas.{message_is}
 use Rattle.mailstore.proofs.KeyLemmas.{key_owned}
 use Rattle.mailstore.proofs.KeepLemmas.{keeps_ok}

@@ -23,14 +23,15 @@ use Rattle.sqlrows.specs.Rows.{has_key}
 use Rattle.sqlrows.proofs.AnswerLemmas.{cells_in_order}
 use Rattle.sqlrows.proofs.ReadLemmas.{answered}
 use Rattle.sqlrows.proofs.ListLemmas.{owner_key}
-use Rattle.mailstore.specs.Schema.{mail_schema}
+use Rattle.mailtables.specs.Schema.{mail_schema}
 use Rattle.mailstore.specs.Account.{bytes_cmp, Account, Accounts}
-use Rattle.mailstore.specs.CopyTable.{copy, select_folders, Copy, copy_row, copy_tree}
+use Rattle.mailtables.specs.CopyTable.{copy, select_folders, copy_tree}
+use Rattle.mailstore.specs.CopyRows.{Copy, copy_row}
 use Rattle.mailstore.specs.Shows.{rows_of, IsShown, IsShownOrAbsent, Presents}
 use Rattle.mailstore.specs.Tally.{tallied, count_of, size_of, AreFolderRows}
-use Rattle.mailstore.proofs.TextFacts.{by_one, select_folders_is, select_folders_plain}
+use Rattle.mailtables.proofs.TextFacts.{by_one, select_folders_is, select_folders_plain}
 use Rattle.mailstore.proofs.TallyLemmas.{InOrder, tally_is}
-use Rattle.mailstore.proofs.SchemaFacts.{copy_listed}
+use Rattle.mailtables.proofs.SchemaFacts.{copy_listed}
 
 each_at : {X : Type 0} (P : X → Type 0) (ys : List X) → ((j : ℕ) (d : X) → j < length ys → P (get_or ys j d)) → AllByRecursion P ys
 each_at P [] h = tt

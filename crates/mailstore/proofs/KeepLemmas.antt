@@ -12,22 +12,23 @@ use Rattle.sqlite.specs.State.{State, HasCleanDisk, Survives, Shown}
 use Rattle.sqlite.proofs.Callers.{IsPlain}
 use Rattle.sqlite.proofs.StateLemmas.{survives_then}
 use Rattle.sqlrows.specs.Rows.{Tables, HoldsTables}
-use Rattle.mailstore.specs.Cells.{first_three}
+use Rattle.mailstore.specs.FirstCells.{first_three}
 use Rattle.mailstore.specs.declared.account.Counters.{Counters}
-use Rattle.mailstore.specs.declared.change.Change.{Change}
+use Rattle.mailtables.specs.declared.change.Change.{Change}
 use Rattle.mailstore.specs.declared.profile.Profile.{Profile}
 use Rattle.mailstore.specs.declared.refusal.Refusal.{Refusal}
 use Rattle.mailstore.specs.declared.refusal.Refusal.TheVariants.{NoUser}
-use Rattle.mailstore.specs.Schema.{mail_schema}
-use Rattle.mailstore.specs.Connection.{StaysSame, IsSettled}
-use Rattle.mailstore.specs.Changes.{CrashLeavesTables}
+use Rattle.mailtables.specs.Schema.{mail_schema}
+use Rattle.mailtables.specs.Connection.{StaysSame, IsSettled, Queries, Answers}
+use Rattle.mailtables.specs.Changes.{CrashLeavesTables, MakesAll}
 use Rattle.mailstore.specs.Account.{Account, Accounts}
 use Rattle.mailstore.specs.Refusals.{IsTransient}
-use Rattle.mailstore.specs.AccountTable.{account_tree, counter_cells, shown_account, shown_counters, profile_row, profile_of, IsRead, Counts}
+use Rattle.mailtables.specs.AccountTable.{account_tree}
+use Rattle.mailstore.specs.AccountRows.{counter_cells, shown_account, shown_counters, profile_row, profile_of, IsRead, Counts}
 use Rattle.mailstore.specs.Shows.{rows_of, IsShownOrAbsent, ShowsAccounts, Presents}
-use Rattle.mailstore.specs.Promises.{HasOurTables, IsFree, OfUser, MakesAll, Keeps, Queries, Answers, FindsOwn, FindsAmong, Finds, Reads, ReadsRows, Requires, ReadsCounters, ReadsProfile, Writes, Turns, CrashLeavesAccounts}
-use Rattle.mailstore.proofs.ResultLemmas.{on_ok, on_any, on_err_any}
-use Rattle.mailstore.proofs.WriteLemmas.{clean_before}
+use Rattle.mailstore.specs.Promises.{HasOurTables, IsFree, OfUser, Keeps, FindsOwn, FindsAmong, Finds, Reads, ReadsRows, Requires, ReadsCounters, ReadsProfile, Writes, Turns, CrashLeavesAccounts}
+use Rattle.mailtables.proofs.ResultLemmas.{on_ok, on_any, on_err_any}
+use Rattle.mailtables.proofs.WriteLemmas.{clean_before}
 use Rattle.mailstore.proofs.QueryLemmas.{query_same, query_quiet, stays_shut, if_shown}
 use Rattle.mailstore.proofs.ReadLemmas.{counters_are, none_counted, profile_first}
 use Rattle.mailstore.proofs.OneLemmas.{or_null_one}

@@ -1,11 +1,5 @@
-pub mod SchemaFacts
-pub mod TextFacts
-pub mod StatementLemmas
-pub mod ResultLemmas
-pub mod WriteLemmas
 pub mod ShowLemmas
 pub mod AccountLemmas
-pub mod CreateLemmas
 pub mod CallLemmas
 pub mod QueryLemmas
 pub mod DeliveryLemmas
@@ -24,8 +18,6 @@ pub mod TakingLemmas
 pub mod FirstLemmas
 pub mod NumberLemmas
 pub mod OneLemmas
-pub mod SchemaLemmas
 pub mod OpenLemmas
 pub mod ShowExamples
 pub mod AccountExamples
-mod OpenExamples

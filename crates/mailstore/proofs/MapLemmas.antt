@@ -11,7 +11,7 @@ use Rattle.sqlite_trees.specs.Tree.{IsAscending}
 use Rattle.sqlite_keyed.specs.Lists.{delete_where}
 use Rattle.sqlite_keyed.proofs.ListLemmas.{ascending-filter, ascending-append, all_weaker}
 use Rattle.sqlite_typed.proofs.TestLemmas.{turn_eq}
-use Rattle.mailstore.specs.ScriptTable.{AreApart}
+use Rattle.mailstore.specs.ScriptRows.{AreApart}
 
 no_length : {X : Type 0} (es : List X) → length es ≡ 0 → es ≡ []
 no_length [] e = refl

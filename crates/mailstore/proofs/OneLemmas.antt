@@ -9,27 +9,33 @@ use Rattle.sqlite_schema.specs.declared.schema.Table.{Table}
 use Rattle.sqlite_rules.specs.Lists.{Has}
 use Rattle.sqlite.specs.Effect.{Database}
 use Rattle.sqlrows.specs.Rows.{Entry, cells_of, stored, IsHeld, Tables, HoldsTables, has_key}
-use Rattle.mailstore.specs.declared.queue.Kind.{Kind}
-use Rattle.mailstore.specs.declared.queue.Kind.TheVariants.{Redirect, Reply}
+use Rattle.mailtables.specs.declared.queue.Kind.{Kind}
+use Rattle.mailtables.specs.declared.queue.Kind.TheVariants.{Redirect, Reply}
 use Rattle.mailstore.specs.declared.queue.Outgoing.{Outgoing}
 use Rattle.mailstore.specs.declared.notice.Notice.{Notice}
-use Rattle.mailstore.specs.Schema.{mail_schema}
-use Rattle.mailstore.specs.Cells.{or_null}
+use Rattle.mailtables.specs.Schema.{mail_schema}
+use Rattle.mailtables.specs.Cells.{or_null}
 use Rattle.mailstore.specs.Account.{Account, Accounts}
-use Rattle.mailstore.specs.AccountTable.{account, account_tree}
-use Rattle.mailstore.specs.ScriptTable.{script, script_row, script_tree}
-use Rattle.mailstore.specs.QueueTable.{outgoing, queue_row, outgoing_tree, kind_number}
-use Rattle.mailstore.specs.ReplyTable.{reply, reply_row, reply_tree}
-use Rattle.mailstore.specs.NoticeTable.{notice, notice_row, notice_tree}
+use Rattle.mailtables.specs.AccountTable.{account, account_tree}
+use Rattle.mailtables.specs.ScriptTable.{script, script_tree}
+use Rattle.mailstore.specs.ScriptRows.{script_row}
+use Rattle.mailtables.specs.QueueTable.{outgoing, outgoing_tree, kind_number}
+use Rattle.mailstore.specs.QueueRows.{queue_row}
+use Rattle.mailtables.specs.ReplyTable.{reply, reply_tree}
+use Rattle.mailstore.specs.ReplyRows.{reply_row}
+use Rattle.mailtables.specs.NoticeTable.{notice, notice_tree}
+use Rattle.mailstore.specs.NoticeRows.{notice_row}
 use Rattle.sqlite_trees.specs.Tree.{IsAscending}
 use Rattle.sqlite_keyed.proofs.ListLemmas.{map-map, ascending-map}
 use Rattle.std.specs.List.{AllByRecursion}
 use Rattle.mailstore.specs.Numbers.{AreNumbered}
-use Rattle.mailstore.specs.MessageTable.{message, Message, message_row, message_tree, message_id_column, bytes_column}
-use Rattle.mailstore.specs.CopyTable.{copy, Copy, copy_cells, copy_row, folders_from, copy_tree, folder_column, id_column, message_of, n_column}
+use Rattle.mailtables.specs.MessageTable.{message, message_tree, message_id_column, bytes_column}
+use Rattle.mailstore.specs.MessageRows.{Message, message_row}
+use Rattle.mailtables.specs.CopyTable.{copy, copy_cells, copy_tree, folder_column, id_column, n_column}
+use Rattle.mailstore.specs.CopyRows.{Copy, copy_row, folders_from, message_of}
 use Rattle.mailstore.specs.Shows.{rows_of, IsShown, IsShownOrAbsent, Presents}
 use Rattle.mailstore.proofs.AccountLemmas.{bytes_antisymmetric}
-use Rattle.mailstore.proofs.SchemaFacts.{account_listed, copy_listed, message_listed, notice_listed, outgoing_listed, reply_listed, script_listed}
+use Rattle.mailtables.proofs.SchemaFacts.{account_listed, copy_listed, message_listed, notice_listed, outgoing_listed, reply_listed, script_listed}
 use Rattle.std.proofs.Math.IntN.{nat_abs}
 use Rattle.mailstore.proofs.NumberLemmas.{numbered_one, alone_at}
 use Rattle.mailstore.proofs.OrderLemmas.{all_mapped}

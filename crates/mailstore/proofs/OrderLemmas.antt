@@ -26,15 +26,20 @@ use Rattle.sqlrows.proofs.ReadLemmas.{answered, answered_from}
 use Rattle.sqlrows.proofs.ListLemmas.{owner_key, pair_key, pair_owned}
 use Rattle.mailstore.specs.declared.queue.Outgoing.{Outgoing}
 use Rattle.mailstore.specs.declared.notice.Notice.{Notice}
-use Rattle.mailstore.specs.QueueTable.{outgoing, outgoing_cells, outgoing_tree, queue_row, select_queue}
-use Rattle.mailstore.specs.NoticeTable.{notice, notice_cells, notice_row, notice_tree, select_notices}
-use Rattle.mailstore.specs.Schema.{mail_schema}
+use Rattle.mailtables.specs.QueueTable.{outgoing, outgoing_tree, select_queue}
+use Rattle.mailstore.specs.QueueRows.{outgoing_cells, queue_row}
+use Rattle.mailtables.specs.NoticeTable.{notice, notice_tree, select_notices}
+use Rattle.mailstore.specs.NoticeRows.{notice_cells, notice_row}
+use Rattle.mailtables.specs.Schema.{mail_schema}
 use Rattle.mailstore.specs.Account.{bytes_cmp, Folders, messages_in, filed}
-use Rattle.mailstore.specs.ScriptTable.{script, select_names, script_row, AreApart, script_tree}
-use Rattle.mailstore.specs.MessageTable.{message, Message, message_key, message_row, message_tree, bytes_column}
-use Rattle.mailstore.specs.CopyTable.{copy, select_folder, Copy, copy_row, folders_from, copy_tree, id_column, n_column, message_of, is_in}
+use Rattle.mailtables.specs.ScriptTable.{script, select_names, script_tree}
+use Rattle.mailstore.specs.ScriptRows.{script_row, AreApart}
+use Rattle.mailtables.specs.MessageTable.{message, message_key, message_tree, bytes_column}
+use Rattle.mailstore.specs.MessageRows.{Message, message_row}
+use Rattle.mailtables.specs.CopyTable.{copy, select_folder, copy_tree, id_column, n_column}
+use Rattle.mailstore.specs.CopyRows.{Copy, copy_row, folders_from, message_of, is_in}
 use Rattle.mailstore.specs.Shows.{rows_of}
-use Rattle.mailstore.proofs.TextFacts.{by_one, of_message, select_names_is, select_names_plain, select_folder_is, select_folder_plain, notices_shown, queue_shown, select_notices_is, select_notices_plain, select_queue_is, select_queue_plain}
+use Rattle.mailtables.proofs.TextFacts.{by_one, of_message, select_names_is, select_names_plain, select_folder_is, select_folder_plain, notices_shown, queue_shown, select_notices_is, select_notices_plain, select_queue_is, select_queue_plain}
 use Rattle.mailstore.proofs.AccountLemmas.{pair_is, message_is, bytes_antisymmetric}
 use Rattle.mailstore.proofs.NumberLemmas.{alone_at}
 use Rattle.mailstore.proofs.KeyLemmas.{key_owned}
@@ -44,7 +49,7 @@ use Rattle.sqlite_rules.proofs.ListLemmas.{all_has, has_kept}
 use Rattle.sqlite_schema.specs.Rules.{equal}
 use Rattle.std.proofs.lemmas.List.Elements.{recursion_from_All, All-from_recursion}
 use Rattle.mailstore.proofs.MapLemmas.{entries_permutation, entries_rise}
-use Rattle.mailstore.proofs.SchemaFacts.{copy_listed, message_listed, script_listed, notice_listed, outgoing_listed}
+use Rattle.mailtables.proofs.SchemaFacts.{copy_listed, message_listed, script_listed, notice_listed, outgoing_listed}
 
 -- the rows with a key of two are among the owner's
 pub of_owner : (owner name : List ℕ) (tables : Tables) (tree : ℕ) → filter (has_key (pair_key owner name)) (tables tree) ≡ filter (has_key (pair_key owner name)) (rows_of owner tables tree)

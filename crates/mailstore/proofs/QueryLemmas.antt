@@ -1,5 +1,5 @@
 -- What each query finds, and that it changes nothing.
-use Rattle.std.proofs.Common.{◌≡◌, ℕ, List, [], ◌∷◌, map, filter, Ok, Err, Result, Vec, Option, Some, None, IfOk, IfErr, OnOk, IsTrue, refl, sym, ◌∙◌, subst, inl, inr}
+use Rattle.std.proofs.Common.{◌≡◌, ℕ, List, [], ◌∷◌, map, filter, Ok, Err, Result, Vec, Option, Some, None, IfOk, IfErr, OnOk, IsTrue, refl, sym, subst, inl, inr}
 use Rattle.std.specs.declared.alloc.Global.{Global}
 use Rattle.sqlite_value.specs.Order.{Row, column}
 use Rattle.sqlite_sql.specs.Term.{col}
@@ -7,28 +7,23 @@ use Rattle.sqlite_schema.specs.declared.command.Returning.{Returning}
 use Rattle.sqlite.specs.Listing.{understood}
 use Rattle.sqlite.specs.Clock.{timed}
 use Rattle.sqlite.specs.declared.error.Error.{Error}
-use Rattle.sqlite.specs.State.{State, HasCleanDisk, Survives, CommitsShowing, Shown, ShowsRows, FailsToQuery, FailsToShow, IsNotRun, IsUnchanged, IsRolledBack}
+use Rattle.sqlite.specs.State.{State, HasCleanDisk, Survives, CommitsShowing, Shown, ShowsRows, FailsToQuery, FailsToShow, IsNotRun}
 use Rattle.sqlite.proofs.Callers.{IsPlain, never_commits}
 use Rattle.sqlite.proofs.StateLemmas.{survives_weaker}
 use Rattle.sqlrows.specs.Rows.{Tables, HoldsTables, has_key}
 use Rattle.sqlrows.proofs.AnswerLemmas.{cells_by_key}
 use Rattle.sqlrows.proofs.ReadLemmas.{shown_same, fails_same, answered}
 use Rattle.sqlrows.proofs.ListLemmas.{owner_key, pair_key}
-use Rattle.mailstore.specs.Schema.{mail_schema}
-use Rattle.mailstore.specs.Connection.{StaysSame}
-use Rattle.mailstore.specs.AccountTable.{account, select_account, select_counters, shown_account, account_tree, shown_counters}
-use Rattle.mailstore.specs.ScriptTable.{script, select_script, script_tree, text_column}
+use Rattle.mailtables.specs.Schema.{mail_schema}
+use Rattle.mailtables.specs.Connection.{StaysSame}
+use Rattle.mailtables.specs.AccountTable.{account, select_account, select_counters, account_tree}
+use Rattle.mailstore.specs.AccountRows.{shown_account, shown_counters}
+use Rattle.mailtables.specs.ScriptTable.{script, select_script, script_tree, text_column}
 use Rattle.mailstore.specs.Shows.{rows_of}
-use Rattle.mailstore.proofs.TextFacts.{by_one, by_two, account_shown, counters_shown, select_account_is, select_account_plain, select_counters_is, select_counters_plain, select_script_is, select_script_plain}
-use Rattle.mailstore.proofs.StatementLemmas.{account_index, script_index, account_agrees, script_agrees}
+use Rattle.mailtables.proofs.VersionLemmas.{same_unchanged, same_undone}
+use Rattle.mailtables.proofs.TextFacts.{by_one, by_two, account_shown, counters_shown, select_account_is, select_account_plain, select_counters_is, select_counters_plain, select_script_is, select_script_plain}
+use Rattle.mailtables.proofs.StatementLemmas.{account_index, script_index, account_agrees, script_agrees}
 use Rattle.mailstore.specs.Promises.{HasOurTables}
-
-pub same_unchanged : (old new : State) → IsUnchanged old new → StaysSame old new
-same_unchanged old new h = record { now_is = λ _. h.0.now_is; committed_is = λ _. h.0.committed_is }
-
--- outside a transaction the last commit is what was seen
-pub same_undone : (old new : State) → (IsTrue old.is_open → old.now ≡ old.committed) → IsRolledBack old new → StaysSame old new
-same_undone old new settled h = record { now_is = λ open_now. (h.undone open_now).0 ∙ sym (settled (h.was_open open_now)); committed_is = λ open_now. (h.undone open_now).1 }
 
 module _ (sql : List ℕ) (params : Row) (old new : State) (plain : IsPlain (understood mail_schema sql)) where
   pub query_same : (r : Result (Vec Row Global) Error) → (IsTrue old.is_open → old.now ≡ old.committed) → (HasCleanDisk new → IfOk r (λ rows. Shown sql params old new rows.items))

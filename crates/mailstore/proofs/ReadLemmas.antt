@@ -9,21 +9,26 @@ use Rattle.sqlite.specs.Effect.{Database}
 use Rattle.sqlite.specs.State.{State, Shown}
 use Rattle.sqlrows.specs.Rows.{Tables, has_key}
 use Rattle.sqlrows.proofs.ListLemmas.{owner_key, pair_key}
-use Rattle.mailstore.specs.Cells.{first_three}
+use Rattle.mailstore.specs.FirstCells.{first_three}
 use Rattle.mailstore.specs.declared.account.Counters.{Counters}
 use Rattle.mailstore.specs.declared.refusal.Refusal.{Refusal}
 use Rattle.mailstore.specs.declared.refusal.Refusal.TheVariants.{NoUser}
 use Rattle.mailstore.specs.Account.{bytes_cmp, Account, Accounts, messages_in}
-use Rattle.mailstore.specs.AccountTable.{shown_account, profile_row, account_tree, counter_cells, Counts, shown_counters}
-use Rattle.mailstore.specs.ScriptTable.{select_names, select_script, script_row, script_tree, text_column, AreNameRows, HasTextRow}
-use Rattle.mailstore.specs.CopyTable.{select_folder, Copy, is_in, AreMessageRows}
+use Rattle.mailstore.specs.AccountRows.{shown_account, profile_row, counter_cells, Counts, shown_counters}
+use Rattle.mailtables.specs.AccountTable.{account_tree}
+use Rattle.mailtables.specs.ScriptTable.{select_names, select_script, script_tree, text_column}
+use Rattle.mailstore.specs.ScriptRows.{script_row, AreNameRows, HasTextRow}
+use Rattle.mailtables.specs.CopyTable.{select_folder}
+use Rattle.mailstore.specs.CopyRows.{Copy, is_in, AreMessageRows}
 use Rattle.mailstore.specs.Shows.{rows_of, IsShown, IsShownOrAbsent, ShowsAccounts, Presents}
 use Rattle.mailstore.proofs.AccountLemmas.{pair_is, is_named, bytes_antisymmetric}
 use Rattle.mailstore.proofs.MapLemmas.{first_found}
 use Rattle.mailstore.proofs.QueryLemmas.{script_found}
 use Rattle.mailstore.proofs.OrderLemmas.{of_owner, folder_found, names_found, messages_are, notices_found, queue_found}
-use Rattle.mailstore.specs.NoticeTable.{AreNoticeRows, notice_cells, select_notices}
-use Rattle.mailstore.specs.QueueTable.{AreQueueRows, select_queue}
+use Rattle.mailstore.specs.NoticeRows.{AreNoticeRows, notice_cells}
+use Rattle.mailtables.specs.NoticeTable.{select_notices}
+use Rattle.mailstore.specs.QueueRows.{AreQueueRows}
+use Rattle.mailtables.specs.QueueTable.{select_queue}
 
 first_mapped : (own : List Row) → option_map first_three (slice_get (map shown_counters own) 0) ≡ option_map shown_counters (slice_get own 0)
 first_mapped [] = refl

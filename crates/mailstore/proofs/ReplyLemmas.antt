@@ -26,15 +26,16 @@ use Rattle.sqlrows.proofs.AnswerLemmas.{cells_in_order, cells_by_key}
 use Rattle.sqlrows.proofs.ReadLemmas.{answered}
 use Rattle.sqlrows.proofs.ListLemmas.{owner_key, pair_key, equal_itself}
 use Rattle.mailstore.specs.declared.reply.KeptReply.{KeptReply}
-use Rattle.mailstore.specs.Schema.{mail_schema}
-use Rattle.mailstore.specs.Cells.{first_two}
+use Rattle.mailtables.specs.Schema.{mail_schema}
+use Rattle.mailstore.specs.FirstCells.{first_two}
 use Rattle.mailstore.specs.Account.{bytes_cmp, reply_cmp, Accounts, Replies}
-use Rattle.mailstore.specs.ScriptTable.{AreApart}
-use Rattle.mailstore.specs.ReplyTable.{reply, reply_tree, reply_key, reply_row, select_moment, select_replies, HasMomentRow, AreReplyRows, replies_to, kept_reply, kept_cells}
+use Rattle.mailstore.specs.ScriptRows.{AreApart}
+use Rattle.mailtables.specs.ReplyTable.{reply, reply_tree, reply_key, select_moment, select_replies}
+use Rattle.mailstore.specs.ReplyRows.{reply_row, HasMomentRow, AreReplyRows, replies_to, kept_reply, kept_cells}
 use Rattle.mailstore.specs.Shows.{rows_of, Presents}
-use Rattle.mailstore.proofs.SchemaFacts.{reply_listed}
-use Rattle.mailstore.proofs.TextFacts.{by_three, by_sender, replies_shown, select_moment_is, select_moment_plain, select_replies_is, select_replies_plain}
-use Rattle.mailstore.proofs.StatementLemmas.{reply_index, reply_agrees}
+use Rattle.mailtables.proofs.SchemaFacts.{reply_listed}
+use Rattle.mailtables.proofs.TextFacts.{by_three, by_sender, replies_shown, select_moment_is, select_moment_plain, select_replies_is, select_replies_plain}
+use Rattle.mailtables.proofs.StatementLemmas.{reply_index, reply_agrees}
 use Rattle.mailstore.proofs.KeyLemmas.{key_owned}
 use Rattle.mailstore.proofs.MapLemmas.{tied_is, entries_permutation, entries_rise, first_found}
 use Rattle.mailstore.proofs.OneLemmas.{map_one}

@@ -9,15 +9,20 @@ use Rattle.sqlite_value.specs.Order.{Row, column}
 use Rattle.sqlite_trees.specs.Tree.{IsAscending}
 use Rattle.sqlrows.specs.Rows.{Tables}
 use Rattle.mailstore.specs.Account.{Account, Accounts, messages_in}
-use Rattle.mailstore.specs.MetaTable.{meta_tree}
-use Rattle.mailstore.specs.AccountTable.{account_tree, account_row}
-use Rattle.mailstore.specs.ScriptTable.{script_tree, script_cells}
-use Rattle.mailstore.specs.QueueTable.{queue_row}
-use Rattle.mailstore.specs.NoticeTable.{notice_row}
+use Rattle.mailtables.specs.MetaTable.{meta_tree}
+use Rattle.mailtables.specs.AccountTable.{account_tree}
+use Rattle.mailstore.specs.AccountRows.{account_row}
+use Rattle.mailtables.specs.ScriptTable.{script_tree, script_cells}
+use Rattle.mailstore.specs.QueueRows.{queue_row}
+use Rattle.mailstore.specs.NoticeRows.{notice_row}
 use Rattle.sqlite_rules.specs.Lists.{Has}
-use Rattle.mailstore.specs.Changes.{copied, copy_removed, message_removed, mail_taken}
-use Rattle.mailstore.specs.MessageTable.{Message, message_cells, message_row, message_tree}
-use Rattle.mailstore.specs.CopyTable.{copy_tree, n_column, Copy, copy_cells, copy_row, folders_from, message_of, HasCopy, AreKept, ShowsCopies, filing_of}
+use Rattle.mailstore.specs.Delivery.{copied}
+use Rattle.mailtables.specs.Changes.{copy_removed, message_removed}
+use Rattle.mailstore.specs.Taking.{mail_taken}
+use Rattle.mailstore.specs.MessageRows.{Message, message_row}
+use Rattle.mailtables.specs.MessageTable.{message_cells, message_tree}
+use Rattle.mailtables.specs.CopyTable.{copy_tree, n_column, copy_cells}
+use Rattle.mailstore.specs.CopyRows.{Copy, copy_row, folders_from, message_of, HasCopy, AreKept, ShowsCopies, filing_of}
 use Rattle.mailstore.specs.Shows.{IsShown, IsAbsent, ShowsAccounts}
 use Rattle.mailstore.proofs.NumberLemmas.{numbered_none}
 use Rattle.mailstore.proofs.OrderLemmas.{messages_are}

@@ -10,21 +10,21 @@ use Rattle.sqlite_trees.specs.Tree.{with_tree}
 use Rattle.sqlite_keyed.specs.Lists.{update_where, delete_where}
 use Rattle.sqlrows.specs.Rows.{Tables, has_key}
 use Rattle.sqlrows.proofs.ListLemmas.{owner_key, pair_key, owned_by, owners_apart, pair_apart, filter_pushed, filter_beside, filter_kept, filter_unset}
-use Rattle.mailstore.specs.declared.change.Change.{Change}
-use Rattle.mailstore.specs.declared.change.Change.TheVariants.{AddAccount, SetActive, SetCounters, AddScript, RemoveScript, AddMessage, RemoveMessage, AddCopy, RemoveCopy, AddOutgoing, RemoveOutgoing, AddReply, RemoveReply, AddNotice}
-use Rattle.mailstore.specs.Cells.{or_null, contents}
-use Rattle.mailstore.specs.Changes.{made_one, made, owner_of, AreOf}
+use Rattle.mailtables.specs.declared.change.Change.{Change}
+use Rattle.mailtables.specs.declared.change.Change.TheVariants.{AddAccount, SetActive, SetCounters, AddScript, RemoveScript, AddMessage, RemoveMessage, AddCopy, RemoveCopy, AddOutgoing, RemoveOutgoing, AddReply, RemoveReply, AddNotice}
+use Rattle.mailtables.specs.Cells.{or_null, contents}
+use Rattle.mailtables.specs.Changes.{made_one, made, owner_of, AreOf}
 use Rattle.mailstore.specs.Account.{bytes_cmp, Account, Accounts}
-use Rattle.mailstore.specs.AccountTable.{account_cells, with_active, with_counters, account_tree}
-use Rattle.mailstore.specs.ScriptTable.{script_cells, script_tree}
-use Rattle.mailstore.specs.MessageTable.{message_cells, message_key, message_tree}
-use Rattle.mailstore.specs.CopyTable.{copy_cells, copy_key, copy_tree}
-use Rattle.mailstore.specs.QueueTable.{queue_cells, queue_key, outgoing_tree}
-use Rattle.mailstore.specs.ReplyTable.{reply_cells, reply_key, reply_tree}
-use Rattle.mailstore.specs.NoticeTable.{notice_row_cells, notice_tree}
+use Rattle.mailtables.specs.AccountTable.{account_cells, with_active, with_counters, account_tree}
+use Rattle.mailtables.specs.ScriptTable.{script_cells, script_tree}
+use Rattle.mailtables.specs.MessageTable.{message_cells, message_key, message_tree}
+use Rattle.mailtables.specs.CopyTable.{copy_cells, copy_key, copy_tree}
+use Rattle.mailtables.specs.QueueTable.{queue_cells, queue_key, outgoing_tree}
+use Rattle.mailtables.specs.ReplyTable.{reply_cells, reply_key, reply_tree}
+use Rattle.mailtables.specs.NoticeTable.{notice_row_cells, notice_tree}
 use Rattle.mailstore.proofs.KeyLemmas.{key_apart}
 use Rattle.mailstore.specs.Shows.{rows_of, IsShown, IsShownOrAbsent, ShowsAccounts}
-use Rattle.mailstore.specs.MetaTable.{meta_tree}
+use Rattle.mailtables.specs.MetaTable.{meta_tree}
 
 -- the filter of a user, after one tree got other rows
 filter_tree : (p : Row → Bool) (tables : Tables) (tree : ℕ) (rows : List Row) (t : ℕ) → filter p (with_tree tables tree rows t) ≡ with_tree (λ s. filter p (tables s)) tree (filter p rows) t

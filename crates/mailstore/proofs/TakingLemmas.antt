@@ -15,12 +15,15 @@ use Rattle.sqlite_typed.proofs.TestLemmas.{at_blobs, at_ints, last_term, then_te
 use Rattle.sqlrows.specs.Rows.{Tables, has_key}
 use Rattle.sqlrows.proofs.AnswerLemmas.{has_unmap}
 use Rattle.sqlrows.proofs.ListLemmas.{equal_itself, filter_kept}
-use Rattle.mailstore.specs.declared.change.Change.{Change}
+use Rattle.mailtables.specs.declared.change.Change.{Change}
 use Rattle.mailstore.specs.declared.filing.Filing.{Filing}
 use Rattle.mailstore.specs.Account.{bytes_cmp, Account, Accounts, Folders, with_user, in_place, messages_in, filed, holding, takes_mail}
-use Rattle.mailstore.specs.Changes.{made, copy_removed, message_removed, is_other_copy, message_left, copy_taken, mail_taken, AreTaking}
-use Rattle.mailstore.specs.CopyTable.{Copy, copy_key, copy_row, copy_tree, message_of, HasCopy, AreKept, folders_from, filing_of, is_filed, is_in}
-use Rattle.mailstore.specs.MessageTable.{Message, message_key, message_row, message_tree}
+use Rattle.mailtables.specs.Changes.{made, copy_removed, message_removed}
+use Rattle.mailstore.specs.Taking.{is_other_copy, message_left, copy_taken, mail_taken, AreTaking}
+use Rattle.mailstore.specs.CopyRows.{Copy, copy_row, message_of, HasCopy, AreKept, folders_from, filing_of, is_filed, is_in}
+use Rattle.mailtables.specs.CopyTable.{copy_key, copy_tree}
+use Rattle.mailstore.specs.MessageRows.{Message, message_row}
+use Rattle.mailtables.specs.MessageTable.{message_key, message_tree}
 use Rattle.mailstore.specs.Shows.{rows_of, IsShown, IsShownOrAbsent, ShowsAccounts, AreFilings}
 use Rattle.mailstore.specs.Promises.{HasUser}
 use Rattle.mailstore.proofs.AccountLemmas.{bytes_antisymmetric, message_is, same_numbers}

@@ -9,7 +9,7 @@ use Rattle.std.specs.Cmp.Lexicographic.{pointwise}
 use Rattle.std.proofs.lemmas.List.Sums.{sum_by-cons}
 use Rattle.std.proofs.lemmas.List.Sorted.{sum_by-IsPermutation}
 use Rattle.mailstore.specs.Account.{bytes_cmp, Folders, messages_in, filed}
-use Rattle.mailstore.specs.CopyTable.{Copy, folders_from}
+use Rattle.mailstore.specs.CopyRows.{Copy, folders_from}
 use Rattle.mailstore.specs.Tally.{counted, tallied, count_of, size_of}
 use Rattle.mailstore.proofs.AccountLemmas.{bytes_antisymmetric}
 use Rattle.mailstore.proofs.MapLemmas.{entries_rise}
@@ -17,7 +17,6 @@ use Rattle.sqlite_trees.specs.Tree.{IsAscending}
 use Rattle.sqlite_keyed.proofs.ListLemmas.{all_weaker, ascending-map}
 use Rattle.sqlite_typed.proofs.TestLemmas.{same_bytes}
 use Rattle.mailstore.specs.declared.folder.Folder.{Folder}
-use Rattle.mailstore.proofs.AccountLemmas.{bytes_antisymmetric}
 
 abbrev Below : List ℕ → List ℕ → Type 0
 Below a b = bytes_cmp a b ≡ Less

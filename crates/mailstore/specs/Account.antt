@@ -5,8 +5,8 @@ use Rattle.std.specs.FinMap.{FinMap, empty, get, insert, remove}
 use Rattle.std.specs.Ordering.{nat_cmp, on, then_cmp, is_eq}
 use Rattle.octets.specs.Ascii.{lowered}
 use Rattle.std.specs.Cmp.Lexicographic.{slice_cmp}
-use Rattle.mailstore.specs.declared.queue.Kind.{Kind}
-use Rattle.mailstore.specs.declared.queue.Kind.TheVariants as kind
+use Rattle.mailtables.specs.declared.queue.Kind.{Kind}
+use Rattle.mailtables.specs.declared.queue.Kind.TheVariants as kind
 use Rattle.mailstore.specs.declared.queue.Outgoing.{Outgoing}
 use Rattle.mailstore.specs.declared.notice.Notice.{Notice}
 use Rattle.mailstore.specs.declared.report.Letter.{Letter}

@@ -1,29 +1,26 @@
 -- What the calls of the store promise of accounts.
-use Rattle.std.specs.Prelude.{◌≡◌, ◌⊎◌, false, List, [], ℕ, Option, Result, Vec, OnOk, OnErr, IfOk, IfErr, IfSome, IsTrue, IsSome, None, Some, map, option_map}
+use Rattle.std.specs.Prelude.{◌≡◌, ◌⊎◌, List, [], ℕ, Option, Result, Vec, OnOk, OnErr, IfOk, IfErr, IfSome, IsTrue, IsSome, None, Some, map, option_map}
 use Rattle.std.specs.declared.alloc.Global.{Global}
 use Rattle.std.specs.FinMap.{get}
 use Rattle.sqlite_value.specs.Order.{Row}
 use Rattle.sqlite_trees.specs.Tree.{Trees}
-use Rattle.sqlite_trees.specs.declared.store.Store.{Ghosts}
-use Rattle.sqlite.specs.declared.error.Error.{Error}
 use Rattle.sqlite.specs.Effect.{Database}
-use Rattle.sqlite.specs.Held.{Held, state}
-use Rattle.sqlite.specs.State.{State, HasCleanDisk, CommitsShowing, FailsToQuery, Shown, Survives}
+use Rattle.sqlite.specs.State.{State, HasCleanDisk, Survives}
 use Rattle.sqlrows.specs.Rows.{Tables, HoldsTables}
-use Rattle.mailstore.specs.declared.change.Change.{Change}
 use Rattle.mailstore.specs.declared.account.Counters.{Counters}
 use Rattle.mailstore.specs.declared.profile.Profile.{Profile}
 use Rattle.mailstore.specs.declared.report.Plan.{Plan}
 use Rattle.mailstore.specs.declared.refusal.Refusal.{Refusal}
 use Rattle.mailstore.specs.declared.refusal.Refusal.TheVariants.{NoUser}
-use Rattle.mailstore.specs.Schema.{mail_schema}
-use Rattle.mailstore.specs.Connection.{SeesCommit, IsSettled, StaysSame}
-use Rattle.mailstore.specs.Changes.{made}
+use Rattle.mailtables.specs.Schema.{mail_schema}
+use Rattle.mailtables.specs.Connection.{IsSettled, StaysSame}
 use Rattle.mailstore.specs.Account.{Account, Accounts, renames_script, with_user}
 use Rattle.mailstore.specs.Refusals.{IsTransient}
-use Rattle.mailstore.specs.AccountTable.{account_tree, Counts, profile_of}
-use Rattle.mailstore.specs.ScriptTable.{IsRenaming}
-use Rattle.mailstore.specs.MessageTable.{message_tree, GainsOnce}
+use Rattle.mailtables.specs.AccountTable.{account_tree}
+use Rattle.mailstore.specs.AccountRows.{Counts, profile_of}
+use Rattle.mailstore.specs.ScriptRows.{IsRenaming}
+use Rattle.mailtables.specs.MessageTable.{message_tree}
+use Rattle.mailstore.specs.MessageRows.{GainsOnce}
 use Rattle.mailstore.specs.Shows.{rows_of, Presents}
 
 -- a database of our tables
@@ -50,19 +47,6 @@ pub record Keeps {X E : Type 0} (old new : State) (result : Result X E) : Type 0
   pub live : HasCleanDisk new → OnOk result (IsTrue new.is_open)
   pub shut : HasCleanDisk new → IsTrue new.is_open → IsTrue old.is_open
   pub crash : Survives old new (λ _. HasOurTables old.now → ⊥)
-
--- a query outside a transaction: none is begun, the limit of steps stays, and this is found
-pub record Queries {S X E : Type 0} (g : Ghosts S) (Found : State → State → Result X E → Type 0) (old new : Held S) (result : Result X E) : Type 0 where
-  pub ended : new.in_transaction ≡ false
-  pub limit : new.step_limit ≡ old.step_limit
-  pub finds : Found (state g old) (state g new) result
-
--- the answer to the query of this text, over a connection that, where it is open, sees its last commit
-pub record Answers (sql : List ℕ) (params : Row) (old new : State) (result : Result (Vec Row Global) Error) : Type 0 where
-  pub settled : IsTrue old.is_open → old.now ≡ old.committed
-  pub ok : HasCleanDisk new → IfOk result (λ rows. Shown sql params old new rows.items)
-  pub err : HasCleanDisk new → IfErr result (FailsToQuery sql params old new)
-  pub survives : Survives old new (CommitsShowing sql params old)
 
 -- a query for the user's rows in one table: it shows this of each
 pub record FindsOwn {E : Type 0} (user : List ℕ) (tree : ℕ) (show : Row → Row) (old new : State) (result : Result (Vec Row Global) E) : Type 0 where
@@ -115,13 +99,6 @@ pub record ReadsProfile (user : List ℕ) (old new : State) (result : Result (Op
   pub keeps : Keeps old new result
   pub named : IfErr result IsTransient
 
--- a query of a database of our schema, whatever its rows are: this holds of the answer; all stays as it was, and after Ok the last commit is seen
-pub record Asks {X E : Type 0} (P : X → Type 0) (old new : State) (result : Result X E) : Type 0 where
-  pub found : old.now.schema ≡ mail_schema → HasCleanDisk new → IfOk result P
-  pub same : old.now.schema ≡ mail_schema → HasCleanDisk new → StaysSame old new
-  pub live : old.now.schema ≡ mail_schema → HasCleanDisk new → OnOk result (SeesCommit new)
-  pub crash : old.now.schema ≡ mail_schema → Survives old new (λ _. ⊥)
-
 -- ---- writes
 
 -- after Ok the table of messages has the plan's message once more
@@ -129,10 +106,6 @@ abbrev pub StoresOnce : {X E : Type 0} → List ℕ → Plan → State → State
 StoresOnce user plan old new result =
     HasCleanDisk new → (tables : Tables) → HoldsTables mail_schema old.now tables
     → OnOk result ((after : Tables) × HoldsTables mail_schema new.now after × GainsOnce user plan.message.now plan.copies (tables message_tree) (after message_tree))
-
--- after Ok all row changes are made
-abbrev pub MakesAll : {X E : Type 0} → List Change → State → State → Result X E → Type 0
-MakesAll changes old new result = HasCleanDisk new → (tables : Tables) → HoldsTables mail_schema old.now tables → OnOk result (HoldsTables mail_schema new.now (made tables changes))
 
 -- where the old tables show accounts that fit, the new ones show them with the change
 abbrev pub Turns : (Accounts → Type 0) → (Accounts → Accounts) → Database → Database → Type 0

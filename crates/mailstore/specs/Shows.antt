@@ -1,23 +1,29 @@
 -- Which accounts the tables show, row by row.
-use Rattle.std.specs.Prelude.{◌≡◌, ℕ, ℤ, pos, List, [], ◌∷◌, filter, map, slice_get, Option, Some, None, option_map, Result, OnOk}
+use Rattle.std.specs.Prelude.{◌≡◌, ℕ, ℤ, pos, List, [], ◌∷◌, filter, map, slice_get, Option, Some, None, option_map}
 use Rattle.std.specs.List.{find}
 use Rattle.std.specs.FinMap.{get}
-use Rattle.sqlite_value.specs.declared.value.Value.TheVariants.{Int, Blob}
+use Rattle.sqlite_value.specs.declared.value.Value.TheVariants.{Blob}
 use Rattle.sqlite_value.specs.Order.{Row, column}
 use Rattle.sqlite_trees.specs.Tree.{Trees}
 use Rattle.sqlite.specs.Effect.{Database}
 use Rattle.sqlite.specs.State.{State, HasCleanDisk}
 use Rattle.sqlrows.specs.Rows.{Tables, HoldsTables, has_key}
-use Rattle.mailstore.specs.Schema.{no_schema, mail_schema}
-use Rattle.mailstore.specs.Account.{Account, Accounts, no_accounts}
-use Rattle.mailstore.specs.MetaTable.{meta_tree, version_row, version_rows, stored_value_column}
-use Rattle.mailstore.specs.AccountTable.{account_tree, account_row}
-use Rattle.mailstore.specs.ScriptTable.{script_tree, ShowsScripts}
-use Rattle.mailstore.specs.QueueTable.{outgoing_tree, ShowsQueue}
-use Rattle.mailstore.specs.ReplyTable.{reply_tree, ShowsReplies}
-use Rattle.mailstore.specs.NoticeTable.{notice_tree, ShowsNotices}
-use Rattle.mailstore.specs.MessageTable.{message_key, message_tree, bytes_column}
-use Rattle.mailstore.specs.CopyTable.{copy_tree, ShowsCopies, is_in, filing_of, filing_cells, numbered_of}
+use Rattle.mailtables.specs.Schema.{mail_schema}
+use Rattle.mailstore.specs.Account.{Account, Accounts}
+use Rattle.mailtables.specs.MetaTable.{meta_tree, version_row}
+use Rattle.mailtables.specs.AccountTable.{account_tree}
+use Rattle.mailstore.specs.AccountRows.{account_row}
+use Rattle.mailtables.specs.ScriptTable.{script_tree}
+use Rattle.mailstore.specs.ScriptRows.{ShowsScripts}
+use Rattle.mailtables.specs.QueueTable.{outgoing_tree}
+use Rattle.mailstore.specs.QueueRows.{ShowsQueue}
+use Rattle.mailtables.specs.ReplyTable.{reply_tree}
+use Rattle.mailstore.specs.ReplyRows.{ShowsReplies}
+use Rattle.mailtables.specs.NoticeTable.{notice_tree}
+use Rattle.mailstore.specs.NoticeRows.{ShowsNotices}
+use Rattle.mailtables.specs.MessageTable.{message_key, message_tree, bytes_column}
+use Rattle.mailtables.specs.CopyTable.{copy_tree}
+use Rattle.mailstore.specs.CopyRows.{ShowsCopies, is_in, filing_of, filing_cells, numbered_of}
 use Rattle.mailstore.specs.declared.taking.NumberedMessage.{NumberedMessage}
 use Rattle.mailstore.specs.declared.filing.Filing.{Filing}
 
@@ -63,13 +69,6 @@ Presents db accounts = (tables : Tables) × HoldsTables mail_schema db tables ×
 abbrev pub PresentsNothing : Database → Type 0
 PresentsNothing db = (accounts : Accounts) → ¬ Presents db accounts
 
--- a database of our tables, whose one row of the version says 2
-pub record IsOurs (db : Database) : Type 0 where
-  pub schema : db.schema ≡ mail_schema
-  pub row : Row
-  pub only : version_rows db.trees ≡ row ∷ []
-  pub says : column row stored_value_column ≡ Int (pos 2)
-
 -- the trees are those of a database that shows the accounts
 abbrev pub ShowsIn : Trees → Accounts → Type 0
 ShowsIn trees accounts = (db : Database) × Presents db accounts × (trees ≡ db.trees)
@@ -77,14 +76,6 @@ ShowsIn trees accounts = (db : Database) × Presents db accounts × (trees ≡ d
 -- whatever accounts the trees showed, they show
 abbrev pub StillShows : State → State → Type 0
 StillShows old new = HasCleanDisk new → (accounts : Accounts) → ShowsIn old.now.trees accounts → Presents new.now accounts
-
--- after Ok tables were made in an empty database, and show no account yet
-abbrev pub Creates : {X E : Type 0} → State → State → Result X E → Type 0
-Creates old new result = HasCleanDisk new → old.now.schema ≡ no_schema → OnOk result (Presents new.now no_accounts)
-
--- what a crash may leave while the tables are made in an empty database
-abbrev pub MayCreate : State → Trees → Type 0
-MayCreate s trees = s.now.schema ≡ no_schema → ShowsIn trees no_accounts
 
 -- ---- what is read of the copies
 

@@ -1,94 +1,32 @@
-//! The table of accounts: its rows are the users.
+//! A user's account, as its row has it.
 ghost use Rattle.std.specs.Prelude.{◌≡◌, false, ◌⊎◌, [], pos, Some, option_map, slice_get, IfOk, IfErr};
 ghost use Rattle.sqlite.specs.Held.{state};
-ghost use Rattle.mailstore.specs.AccountTable.{account_tree, shown_account, shown_counters, counter_cells, IsRead};
-ghost use Rattle.mailstore.specs.Promises.{FindsOwn, Reads, ReadsCounters, ReadsProfile, Requires, IsFree, Writes, WritesUser, Queries};
-ghost use Rattle.mailstore.specs.Connection.{ChangesRows, MakesTables};
-ghost use Rattle.mailstore.specs.Cells.{contents, first_three, or_null};
-ghost use Rattle.mailstore.specs.Changes.{account_added, active_set, counters_set};
-ghost use Rattle.mailstore.specs.Schema.{schema_1, schema_2};
+ghost use Rattle.mailtables.specs.AccountTable.{account_tree};
+ghost use Rattle.mailstore.specs.AccountRows.{shown_account, shown_counters, counter_cells, IsRead};
+ghost use Rattle.mailstore.specs.Promises.{FindsOwn, Reads, ReadsCounters, ReadsProfile, Requires, IsFree, Writes, WritesUser};
+ghost use Rattle.mailtables.specs.Connection.{Queries};
+ghost use Rattle.mailtables.specs.Cells.{contents, or_null};
+ghost use Rattle.mailstore.specs.FirstCells.{first_three};
 ghost use Rattle.mailstore.specs.Account.{activates, new_user};
 ghost use Rattle.mailstore.specs.Refusals.{IsTransient};
 ghost use Rattle.sqlite_value.specs.declared.value.Value.TheVariants.{Int, Blob};
 ghost use Rattle.sqlite_value.specs.Order.{column};
 
 use crate::cell::{optional_text_at, text_at};
-use crate::change::Change;
 use crate::profile::Profile;
 use crate::refusal::Refusal;
-use crate::statement::{execute, query};
 use crate::store::Store;
+use mailtables::{Change, query};
 use octets::Octets;
-use sqlite::{Alter, Connection, Error, Row, Transaction, params};
+use sqlite::{Alter, Connection, Error, Row, params};
 
 /// The numbers that an account gives next: to a copy, to a message on its way out, and to a notice. Each counts from 1
 /// on its own, and no number is given twice.
-#[derive(Clone, Copy, Debug)]
+#[derive(Clone, Copy)]
 pub struct Counters {
     pub copy: u64,
     pub out: u64,
     pub notice: u64,
-}
-
-/// Makes the table `account`, inside a transaction.
-pub fn make_account<S: Alter>(tx: &mut Transaction<'_, S>) -> Result<(), Error>
-    ensures { MakesTables S.Store schema_1 schema_2 tx.old tx.new result }
-{
-    execute(
-        tx,
-        "CREATE TABLE account (name BLOB NOT NULL PRIMARY KEY, address BLOB NOT NULL, salt BLOB NOT NULL, rounds INTEGER NOT NULL, digest BLOB NOT NULL, active BLOB, next_copy INTEGER NOT NULL, next_out INTEGER NOT NULL, next_notice INTEGER NOT NULL) STRICT",
-        &[],
-    )
-}
-
-/// A new account without an active script, whose counters begin at 1. Inside a transaction.
-pub fn add_account<S: Alter>(
-    tx: &mut Transaction<'_, S>,
-    name: &[u8],
-    address: &[u8],
-    salt: &[u8],
-    rounds: u32,
-    digest: &[u8],
-) -> Result<(), Error>
-    ensures { ChangesRows S.Store (account_added name.now address.now salt.now rounds digest.now) tx.old tx.new result }
-{
-    execute(
-        tx,
-        "INSERT INTO account (name, address, salt, rounds, digest, active, next_copy, next_out, next_notice) VALUES (?1, ?2, ?3, ?4, ?5, NULL, 1, 1, 1)",
-        params![name, address, salt, rounds, digest],
-    )
-}
-
-/// Another script is active, or none. Inside a transaction.
-pub fn set_active<S: Alter>(
-    tx: &mut Transaction<'_, S>,
-    name: &[u8],
-    active: Option<&[u8]>,
-) -> Result<(), Error>
-    ensures { ChangesRows S.Store (active_set name.now (contents active.entry)) tx.old tx.new result }
-{
-    execute(
-        tx,
-        "UPDATE account SET active = ?2 WHERE name = ?1",
-        params![name, active],
-    )
-}
-
-/// Other counters: of copies, of messages on their way out, and of notices. Inside a transaction.
-pub fn set_counters<S: Alter>(
-    tx: &mut Transaction<'_, S>,
-    name: &[u8],
-    copy: &i64,
-    out: &i64,
-    notice: &i64,
-) -> Result<(), Error>
-    ensures { ChangesRows S.Store (counters_set name.now copy.now out.now notice.now) tx.old tx.new result }
-{
-    execute(
-        tx,
-        "UPDATE account SET next_copy = ?2, next_out = ?3, next_notice = ?4 WHERE name = ?1",
-        params![name, copy, out, notice],
-    )
 }
 
 /// The address, salt, rounds, digest and active script of the account.

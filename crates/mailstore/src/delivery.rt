@@ -2,17 +2,17 @@
 ghost use Rattle.std.specs.Prelude.{◌≡◌, pos, IfOk, IfErr, OnOk, ◌+◌, option_copied};
 ghost use Rattle.sqlite.specs.Held.{state};
 ghost use Rattle.mailstore.specs.Promises.{WritesAccount, StoresOnce};
-ghost use Rattle.mailstore.specs.Changes.{AreDelivery, Extends, MakesOwn, message_kept, copies_added, lettered, letter_added, reply_put, noticed, counters_raised, notice_count, folded_sender};
+ghost use Rattle.mailstore.specs.Delivery.{AreDelivery, message_kept, copies_added, lettered, letter_added, reply_put, noticed, counters_raised, notice_count, folded_sender};
+ghost use Rattle.mailtables.specs.Changes.{Extends, MakesOwn};
 ghost use Rattle.mailstore.specs.Account.{delivers};
 ghost use Rattle.mailstore.specs.Refusals.{IsTransient};
 
 use crate::account::Counters;
 use crate::cell::number;
-use crate::change::Change;
-use crate::queue::Kind;
 use crate::refusal::Refusal;
 use crate::report::{Letter, Plan, Remembered};
 use crate::store::Store;
+use mailtables::{Change, Kind};
 use octets::Octets;
 use sqlite::Alter;
 use std::alloc::Global;

@@ -1,19 +1,20 @@
 //! Which copies a user has, in which folders.
 ghost use Rattle.std.specs.Prelude.{◌≡◌, false};
 ghost use Rattle.sqlite.specs.Held.{state};
-ghost use Rattle.mailstore.specs.Promises.{FindsAmong, ReadsOwn, Queries};
+ghost use Rattle.mailstore.specs.Promises.{FindsAmong, ReadsOwn};
+ghost use Rattle.mailtables.specs.Connection.{Queries};
 ghost use Rattle.mailstore.specs.Shows.{AreFilingRows, AreFilings};
 
 use crate::cell::text_at;
 use crate::refusal::Refusal;
 use crate::row::{FromRow, all_from_rows};
-use crate::statement::query;
 use crate::store::Store;
+use mailtables::query;
 use octets::{List, Octets};
 use sqlite::{Alter, Connection, Error, Row, params};
 
 /// A copy in a folder, without its message.
-#[derive(Debug, Drop)]
+#[derive(Drop)]
 pub struct Filing {
     /// The folder's name.
     pub folder: Octets,
@@ -36,8 +37,8 @@ fn find_filings<S: Alter>(conn: &mut Connection<S>, owner: &[u8]) -> Result<Vec<
 }
 
 impl FromRow for Filing {
-    ghost use Rattle.mailstore.specs.Cells.{first_three};
-    ghost use Rattle.mailstore.specs.CopyTable.{filing_cells};
+    ghost use Rattle.mailstore.specs.FirstCells.{first_three};
+    ghost use Rattle.mailstore.specs.CopyRows.{filing_cells};
 
     ghost cells_of = { first_three };
 

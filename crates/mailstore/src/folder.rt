@@ -1,12 +1,10 @@
-//! The table of the copies of messages, which are the folders.
+//! A user's folders.
 ghost use Rattle.std.specs.Prelude.{◌≡◌, ℕ, false, OnOk, List, map, IfOk, IfErr};
 ghost use Rattle.sqlite.specs.Held.{state};
-ghost use Rattle.mailstore.specs.CopyTable.{AreMessageRows};
-ghost use Rattle.mailstore.specs.Promises.{Finds, Reads, ReadsRows, Queries};
+ghost use Rattle.mailstore.specs.CopyRows.{AreMessageRows};
+ghost use Rattle.mailstore.specs.Promises.{Finds, Reads, ReadsRows};
+ghost use Rattle.mailtables.specs.Connection.{Queries};
 ghost use Rattle.mailstore.specs.Tally.{AreFolderRows, tallied, AreFolders, counted};
-ghost use Rattle.mailstore.specs.Connection.{ChangesRows, MakesTables};
-ghost use Rattle.mailstore.specs.Changes.{copy_added, copy_removed};
-ghost use Rattle.mailstore.specs.Schema.{mail_schema, schema_7};
 ghost use Rattle.mailstore.specs.Account.{messages_in};
 ghost use Rattle.mailstore.specs.Refusals.{IsTransient};
 ghost use Rattle.sqlite_value.specs.declared.value.Value.TheVariants.{Blob};
@@ -15,10 +13,10 @@ ghost use Rattle.sqlite_value.specs.Order.{column};
 use crate::cell::text_at;
 use crate::refusal::Refusal;
 use crate::row::all_from_rows;
-use crate::statement::{execute, query};
 use crate::store::Store;
+use mailtables::query;
 use octets::{List, Octets, Texts};
-use sqlite::{Alter, Connection, Error, Row, Transaction, params};
+use sqlite::{Alter, Connection, Error, Row, params};
 use std::alloc::Global;
 
 /// A folder and the number of its messages.
@@ -26,50 +24,6 @@ use std::alloc::Global;
 pub struct Folder {
     pub name: Octets,
     pub count: u64,
-}
-
-/// Makes the table `copy`, inside a transaction.
-pub fn make_copy<S: Alter>(tx: &mut Transaction<'_, S>) -> Result<(), Error>
-    ensures { MakesTables S.Store schema_7 mail_schema tx.old tx.new result }
-{
-    execute(
-        tx,
-        "CREATE TABLE copy (owner BLOB NOT NULL REFERENCES account (name), folder BLOB NOT NULL, n INTEGER NOT NULL, id INTEGER NOT NULL, PRIMARY KEY (owner, folder, n), FOREIGN KEY (owner, id) REFERENCES message (owner, id)) STRICT",
-        &[],
-    )
-}
-
-/// A copy in a folder, with its number, of the message with the number `id`, which is there. Inside a transaction.
-pub fn add_copy<S: Alter>(
-    tx: &mut Transaction<'_, S>,
-    owner: &[u8],
-    folder: &[u8],
-    n: &i64,
-    id: &i64,
-) -> Result<(), Error>
-    ensures { ChangesRows S.Store (copy_added owner.now folder.now n.now id.now) tx.old tx.new result }
-{
-    execute(
-        tx,
-        "INSERT INTO copy (owner, folder, n, id) VALUES (?1, ?2, ?3, ?4)",
-        params![owner, folder, n, id],
-    )
-}
-
-/// The copy with the number goes from the folder, if there is one. Inside a transaction.
-pub fn remove_copy<S: Alter>(
-    tx: &mut Transaction<'_, S>,
-    owner: &[u8],
-    folder: &[u8],
-    n: &i64,
-) -> Result<(), Error>
-    ensures { ChangesRows S.Store (copy_removed owner.now folder.now n.now) tx.old tx.new result }
-{
-    execute(
-        tx,
-        "DELETE FROM copy WHERE owner = ?1 AND folder = ?2 AND n = ?3",
-        params![owner, folder, n],
-    )
 }
 
 /// The messages of the folder, in the order of their numbers.

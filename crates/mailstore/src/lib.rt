@@ -1,9 +1,8 @@
-//! The tables of accounts, scripts and messages in an SQL database.
+//! Accounts with their scripts and messages, kept in the tables of an SQL database.
 #![tactic(auto)]
 
 mod account;
 mod cell;
-mod change;
 mod delivery;
 mod filing;
 mod folder;
@@ -15,18 +14,15 @@ mod refusal;
 mod reply;
 mod report;
 mod row;
-mod schema;
 mod script;
-mod statement;
 pub mod store;
-mod table;
 mod taking;
-mod version;
 
 pub use folder::Folder;
+pub use mailtables::Kind;
 pub use notice::Notice;
 pub use profile::Profile;
-pub use queue::{Kind, Outgoing};
+pub use queue::Outgoing;
 pub use refusal::Refusal;
 pub use reply::KeptReply;
 pub use report::{Letter, Plan, Remembered, Report, VacationReport};

@@ -1,34 +1,23 @@
-//! The table of messages on their way out.
+//! A user's messages on their way out.
 ghost use Rattle.std.specs.Prelude.{◌≡◌, false, pos, IfOk, IfErr};
 ghost use Rattle.sqlite_value.specs.declared.value.Value.TheVariants.{Int};
 ghost use Rattle.sqlite_value.specs.Order.{column};
 ghost use Rattle.sqlite.specs.Held.{state};
 ghost use Rattle.mailstore.specs.Account.{takes_out};
-ghost use Rattle.mailstore.specs.Changes.{outgoing_added, outgoing_removed};
-ghost use Rattle.mailstore.specs.Connection.{ChangesRows, MakesTables};
-ghost use Rattle.mailstore.specs.Schema.{schema_3, schema_4};
-ghost use Rattle.mailstore.specs.Promises.{Finds, Reads, ReadsRows, WritesUser, Queries};
-ghost use Rattle.mailstore.specs.QueueTable.{AreQueueRows, kind_number};
+ghost use Rattle.mailtables.specs.Connection.{Queries};
+ghost use Rattle.mailstore.specs.Promises.{Finds, Reads, ReadsRows, WritesUser};
+ghost use Rattle.mailstore.specs.QueueRows.{AreQueueRows};
+ghost use Rattle.mailtables.specs.QueueTable.{kind_number};
 ghost use Rattle.mailstore.specs.Refusals.{IsTransient};
 
 use crate::cell::{number, text_at};
-use crate::change::Change;
 use crate::refusal::Refusal;
 use crate::row::{FromRow, all_from_rows};
-use crate::statement::{execute, query};
 use crate::store::Store;
+use mailtables::{Change, Kind, query};
 use octets::{List, Octets};
-use sqlite::{Alter, Connection, Error, Row, Transaction, params};
+use sqlite::{Alter, Connection, Error, Row, params};
 use std::alloc::{AllocError, Global};
-
-/// Why a message goes out.
-#[derive(Clone, Copy, Debug, PartialEq, Eq)]
-pub enum Kind {
-    /// A `redirect` (RFC 5228, section 4.2).
-    Redirect,
-    /// A vacation reply (RFC 5230).
-    Reply,
-}
 
 /// A message on its way out.
 #[derive(Debug, Drop)]
@@ -55,62 +44,6 @@ impl Outgoing {
             message: self.message.try_clone(alloc)?,
         })
     }
-}
-
-/// Makes the table `outgoing`, inside a transaction.
-pub fn make_outgoing<S: Alter>(tx: &mut Transaction<'_, S>) -> Result<(), Error>
-    ensures { MakesTables S.Store schema_3 schema_4 tx.old tx.new result }
-{
-    execute(
-        tx,
-        "CREATE TABLE outgoing (owner BLOB NOT NULL REFERENCES account (name), id INTEGER NOT NULL, kind INTEGER NOT NULL, sender BLOB NOT NULL, target BLOB NOT NULL, message BLOB NOT NULL, PRIMARY KEY (owner, id)) STRICT",
-        &[],
-    )
-}
-
-/// The number of the kind, as the table has it.
-fn number_of(kind: Kind) -> u32
-    ensures { result ≡ kind_number kind }
-{
-    match kind {
-        Kind::Redirect => 1,
-        Kind::Reply => 2,
-    }
-}
-
-/// A message that joins the queue, with its number. Inside a transaction.
-pub fn add_outgoing<S: Alter>(
-    tx: &mut Transaction<'_, S>,
-    owner: &[u8],
-    id: &i64,
-    kind: Kind,
-    sender: &[u8],
-    target: &[u8],
-    message: &[u8],
-) -> Result<(), Error>
-    ensures { ChangesRows S.Store (outgoing_added owner.now id.now kind sender.now target.now message.now) tx.old tx.new result }
-{
-    let kind = number_of(kind);
-    execute(
-        tx,
-        "INSERT INTO outgoing (owner, id, kind, sender, target, message) VALUES (?1, ?2, ?3, ?4, ?5, ?6)",
-        params![owner, id, kind, sender, target, message],
-    )
-}
-
-/// The row with the number goes, if there is one. Inside a transaction.
-pub fn remove_outgoing<S: Alter>(
-    tx: &mut Transaction<'_, S>,
-    owner: &[u8],
-    id: &i64,
-) -> Result<(), Error>
-    ensures { ChangesRows S.Store (outgoing_removed owner.now id.now) tx.old tx.new result }
-{
-    execute(
-        tx,
-        "DELETE FROM outgoing WHERE owner = ?1 AND id = ?2",
-        params![owner, id],
-    )
 }
 
 /// The user's queue, in the order of its numbers.
@@ -141,8 +74,8 @@ fn kind_at(row: &Row, at: usize) -> Result<Kind, Refusal>
 }
 
 impl FromRow for Outgoing {
-    ghost use Rattle.mailstore.specs.Cells.{first_five};
-    ghost use Rattle.mailstore.specs.QueueTable.{outgoing_cells};
+    ghost use Rattle.mailstore.specs.FirstCells.{first_five};
+    ghost use Rattle.mailstore.specs.QueueRows.{outgoing_cells};
 
     ghost cells_of = { first_five };
 

@@ -1,22 +1,20 @@
-//! The table of the moments of the last replies.
+//! The moments of a user's last replies.
 ghost use Rattle.std.specs.Prelude.{◌≡◌, false, pos, option_map, slice_get, IfOk, IfErr};
 ghost use Rattle.sqlite_value.specs.declared.value.Value.TheVariants.{Int};
 ghost use Rattle.sqlite_value.specs.Order.{column};
-ghost use Rattle.mailstore.specs.Promises.{Finds, Reads, ReadsRows, Queries};
+ghost use Rattle.mailstore.specs.Promises.{Finds, Reads, ReadsRows};
+ghost use Rattle.mailtables.specs.Connection.{Queries};
 ghost use Rattle.mailstore.specs.Refusals.{IsTransient};
-ghost use Rattle.mailstore.specs.ReplyTable.{AreReplies, AreReplyRows, HasMomentRow, IsLastReply};
+ghost use Rattle.mailstore.specs.ReplyRows.{AreReplies, AreReplyRows, HasMomentRow, IsLastReply};
 ghost use Rattle.sqlite.specs.Held.{state};
-ghost use Rattle.mailstore.specs.Changes.{reply_added, reply_removed};
-ghost use Rattle.mailstore.specs.Connection.{ChangesRows, MakesTables};
-ghost use Rattle.mailstore.specs.Schema.{schema_4, schema_5};
 
 use crate::cell::text_at;
 use crate::refusal::Refusal;
 use crate::row::{FromRow, all_from_rows};
-use crate::statement::{execute, query};
 use crate::store::Store;
+use mailtables::query;
 use octets::{List, Octets};
-use sqlite::{Alter, Connection, Error, Row, Transaction, params};
+use sqlite::{Alter, Connection, Error, Row, params};
 
 /// The moment of the last reply under a handle.
 #[derive(Debug, Drop)]
@@ -25,50 +23,6 @@ pub struct KeptReply {
     pub handle: Octets,
     /// In seconds since 1970-01-01 UTC.
     pub moment: u64,
-}
-
-/// Makes the table `reply`, inside a transaction.
-pub fn make_reply<S: Alter>(tx: &mut Transaction<'_, S>) -> Result<(), Error>
-    ensures { MakesTables S.Store schema_4 schema_5 tx.old tx.new result }
-{
-    execute(
-        tx,
-        "CREATE TABLE reply (owner BLOB NOT NULL REFERENCES account (name), handle BLOB NOT NULL, sender BLOB NOT NULL, moment INTEGER NOT NULL, PRIMARY KEY (owner, handle, sender)) STRICT",
-        &[],
-    )
-}
-
-/// The moment of the last reply to a sender, where none is kept under the handle yet. Inside a transaction.
-pub fn add_reply<S: Alter>(
-    tx: &mut Transaction<'_, S>,
-    owner: &[u8],
-    handle: &[u8],
-    sender: &[u8],
-    moment: &i64,
-) -> Result<(), Error>
-    ensures { ChangesRows S.Store (reply_added owner.now handle.now sender.now moment.now) tx.old tx.new result }
-{
-    execute(
-        tx,
-        "INSERT INTO reply (owner, handle, sender, moment) VALUES (?1, ?2, ?3, ?4)",
-        params![owner, handle, sender, moment],
-    )
-}
-
-/// The row of the handle and the sender goes, if there is one. Inside a transaction.
-pub fn remove_reply<S: Alter>(
-    tx: &mut Transaction<'_, S>,
-    owner: &[u8],
-    handle: &[u8],
-    sender: &[u8],
-) -> Result<(), Error>
-    ensures { ChangesRows S.Store (reply_removed owner.now handle.now sender.now) tx.old tx.new result }
-{
-    execute(
-        tx,
-        "DELETE FROM reply WHERE owner = ?1 AND handle = ?2 AND sender = ?3",
-        params![owner, handle, sender],
-    )
 }
 
 /// The moment that is kept under the handle's key and the sender.
@@ -119,8 +73,8 @@ fn first_moment(rows: &[Row]) -> Result<Option<u64>, Refusal>
 }
 
 impl FromRow for KeptReply {
-    ghost use Rattle.mailstore.specs.Cells.{first_two};
-    ghost use Rattle.mailstore.specs.ReplyTable.{kept_cells};
+    ghost use Rattle.mailstore.specs.FirstCells.{first_two};
+    ghost use Rattle.mailstore.specs.ReplyRows.{kept_cells};
 
     ghost cells_of = { first_two };
 

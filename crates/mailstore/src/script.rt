@@ -1,65 +1,20 @@
-//! The table of scripts.
+//! A user's scripts.
 ghost use Rattle.std.specs.Prelude.{◌≡◌, false, option_map};
 ghost use Rattle.sqlite.specs.Held.{state};
-ghost use Rattle.mailstore.specs.Promises.{Finds, Reads, ReadsRows, Renames, WritesAccount, WritesUser, Queries};
-ghost use Rattle.mailstore.specs.ScriptTable.{AreNameRows, HasTextAndActive, HasTextRow};
-ghost use Rattle.mailstore.specs.Connection.{ChangesRows, MakesTables};
-ghost use Rattle.mailstore.specs.Cells.{contents};
-ghost use Rattle.mailstore.specs.Changes.{script_added, script_removed};
-ghost use Rattle.mailstore.specs.Schema.{schema_2, schema_3};
+ghost use Rattle.mailstore.specs.Promises.{Finds, Reads, ReadsRows, Renames, WritesAccount, WritesUser};
+ghost use Rattle.mailtables.specs.Connection.{Queries};
+ghost use Rattle.mailstore.specs.ScriptRows.{AreNameRows, HasTextAndActive, HasTextRow};
+ghost use Rattle.mailtables.specs.Cells.{contents};
 ghost use Rattle.mailstore.specs.Account.{deletes_script, keeps_script, other_name, renames_script};
 ghost use Rattle.std.specs.FinMap.{get, keys};
 
 use crate::cell::first_text;
-use crate::change::Change;
 use crate::refusal::Refusal;
 use crate::row::all_from_rows;
-use crate::statement::{execute, query};
 use crate::store::Store;
+use mailtables::{Change, query};
 use octets::{Octets, Texts};
-use sqlite::{Alter, Connection, Error, Row, Transaction, params};
-
-/// Makes the table `script`, inside a transaction.
-pub fn make_script<S: Alter>(tx: &mut Transaction<'_, S>) -> Result<(), Error>
-    ensures { MakesTables S.Store schema_2 schema_3 tx.old tx.new result }
-{
-    execute(
-        tx,
-        "CREATE TABLE script (owner BLOB NOT NULL REFERENCES account (name), name BLOB NOT NULL, text BLOB NOT NULL, PRIMARY KEY (owner, name)) STRICT",
-        &[],
-    )
-}
-
-/// A script that has no row of its name yet. Inside a transaction.
-pub fn add_script<S: Alter>(
-    tx: &mut Transaction<'_, S>,
-    owner: &[u8],
-    name: &[u8],
-    text: &[u8],
-) -> Result<(), Error>
-    ensures { ChangesRows S.Store (script_added owner.now name.now text.now) tx.old tx.new result }
-{
-    execute(
-        tx,
-        "INSERT INTO script (owner, name, text) VALUES (?1, ?2, ?3)",
-        params![owner, name, text],
-    )
-}
-
-/// The row of the name goes, if there is one. Inside a transaction.
-pub fn remove_script<S: Alter>(
-    tx: &mut Transaction<'_, S>,
-    owner: &[u8],
-    name: &[u8],
-) -> Result<(), Error>
-    ensures { ChangesRows S.Store (script_removed owner.now name.now) tx.old tx.new result }
-{
-    execute(
-        tx,
-        "DELETE FROM script WHERE owner = ?1 AND name = ?2",
-        params![owner, name],
-    )
-}
+use sqlite::{Alter, Connection, Error, Row, params};
 
 /// The text of the script.
 fn find_script<S: Alter>(

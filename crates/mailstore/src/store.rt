@@ -1,18 +1,18 @@
 //! The store of accounts.
-ghost use Rattle.std.specs.Prelude.{◌≡◌, ◌⊎◌, false, IsTrue, IfOk, IfErr, OnOk};
+ghost use Rattle.std.specs.Prelude.{◌≡◌, ◌⊎◌, false, IsTrue, IfOk, IfErr, OnOk, OnErr};
 ghost use Rattle.sqlite_trees.specs.Tree.{Trees};
 ghost use Rattle.sqlite.specs.Held.{state};
-ghost use Rattle.sqlite.specs.State.{HasCleanDisk};
-ghost use Rattle.mailstore.specs.Schema.{no_schema};
-ghost use Rattle.mailstore.specs.Connection.{IsSettled, StaysSame, Leaves, Outlives, has_our_name};
+ghost use Rattle.sqlite.specs.State.{HasCleanDisk, Survives};
+ghost use Rattle.mailtables.specs.Schema.{no_schema};
+ghost use Rattle.mailtables.specs.Connection.{IsSettled, StaysSame, Leaves, Outlives, has_our_name};
 ghost use Rattle.mailstore.specs.Account.{no_accounts};
 ghost use Rattle.mailstore.specs.Refusals.{IsTransient, IsMemoryBy, code_in};
-ghost use Rattle.mailstore.specs.Shows.{Presents, PresentsNothing, IsOurs, ShowsIn, StillShows};
+ghost use Rattle.mailstore.specs.Shows.{Presents, PresentsNothing, ShowsIn, StillShows};
+ghost use Rattle.mailtables.specs.Changes.{CrashLeavesTables, MakesAll};
+ghost use Rattle.mailtables.specs.Ours.{IsOurs};
 
 use crate::refusal::Refusal;
-use crate::schema::is_ours;
-use crate::table::{is_blank, is_taken, make_tables};
-use crate::version::has_version;
+use mailtables::{Change, has_version, is_blank, is_ours, is_taken, make_all, make_tables};
 use sqlite::{Alter, Connection, Error, ErrorCode};
 use std::alloc::Global;
 use std::marker::Model;
@@ -127,6 +127,21 @@ impl<S: Alter> Store<S> {
             Ok(false) => Err((Refusal::NotOurs, conn, None)),
             Err(error) => Err((Refusal::from(error), conn, code_of(&error))),
         }
+    }
+
+    /// Makes the changes in turn, in one transaction: all of them, or none.
+    pub(crate) fn apply(&mut self, changes: &[Change<'_>]) -> Result<(), Refusal>
+        ensures made { MakesAll changes.now (state S.Store self.old) (state S.Store self.new) result }
+        ensures settled { HasCleanDisk (state S.Store self.new) → OnOk result (IsSettled (state S.Store self.new)) }
+        ensures same { HasCleanDisk (state S.Store self.new) → OnErr result (StaysSame (state S.Store self.old) (state S.Store self.new)) }
+        ensures crash { Survives (state S.Store self.old) (state S.Store self.new) (CrashLeavesTables changes.now (state S.Store self.old)) }
+        ensures named { IfErr result IsTransient }
+    {
+        if let Err(error) = make_all(&mut self.conn, changes) {
+            self.cause = code_of(&error);
+            return Err(Refusal::from(error));
+        }
+        Ok(())
     }
 
     /// What SQLite said of the last write that was refused as `Store`, if there was one.

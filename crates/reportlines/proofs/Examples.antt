@@ -3,7 +3,7 @@ use Rattle.std.proofs.Common.{◌≡◌, ℕ, List, refl, ap, get_or, [], ◌∷
 use Rattle.std.specs.Prelude.{codes}
 use Rattle.sievesyntax.specs.Meaning.{Done, Failed}
 use Rattle.sievesyntax.specs.RunState.{TooManyRedirects}
-use Rattle.mailstore.specs.declared.queue.Kind.TheVariants.{Redirect, Reply}
+use Rattle.mailtables.specs.declared.queue.Kind.TheVariants.{Redirect, Reply}
 use Rattle.mailstore.specs.declared.report.VacationReport.TheVariants as vacation
 use Rattle.reportlines.specs.Reports.{delivery_report, report_of}
 use Rattle.reportlines.specs.Listings.{notice_line, notice_listing, queue_line, queue_listing}

@@ -1,8 +1,8 @@
 -- What the program prints of a user's queue and notices: a line for each row.
 use Rattle.std.specs.Prelude.{ℕ, List, ◌++◌, codes, decimal, length, map}
 use Rattle.std.specs.List.{flat_map}
-use Rattle.mailstore.specs.declared.queue.Kind.{Kind}
-use Rattle.mailstore.specs.declared.queue.Kind.TheVariants.{Redirect, Reply}
+use Rattle.mailtables.specs.declared.queue.Kind.{Kind}
+use Rattle.mailtables.specs.declared.queue.Kind.TheVariants.{Redirect, Reply}
 use Rattle.mailstore.specs.declared.queue.Outgoing.{Outgoing}
 use Rattle.mailstore.specs.declared.notice.Notice.{Notice}
 use Rattle.reportlines.specs.Reports.{with_end}

@@ -8,8 +8,8 @@ use Rattle.mailstore.specs.Account.{Accounts}
 use Rattle.mailstore.specs.Connection.{StaysSame, IsSettled}
 use Rattle.mailstore.specs.Promises.{HasOurTables, Keeps, Turns, CrashLeavesAccounts}
 use Rattle.mailstore.specs.Shows.{Presents}
-use Rattle.mailstore.proofs.ResultLemmas.{on_ok, on_err_any}
-use Rattle.mailstore.proofs.WriteLemmas.{clean_before}
+use Rattle.mailtables.proofs.ResultLemmas.{on_ok, on_err_any}
+use Rattle.mailtables.proofs.WriteLemmas.{clean_before}
 use Rattle.sessions.specs.Acts.{HasAccounts, CrashLeaves, Acts, Glances, IsAnswered, Stays}
 
 -- ---- reads

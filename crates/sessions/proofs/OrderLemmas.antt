@@ -11,13 +11,13 @@ use Rattle.mailstore.specs.declared.profile.Profile.{Profile}
 use Rattle.mailstore.specs.declared.refusal.Refusal.{Refusal}
 use Rattle.mailstore.specs.declared.refusal.Refusal.TheVariants.{NoUser}
 use Rattle.mailstore.specs.Account.{Account, Accounts, with_user}
-use Rattle.mailstore.specs.AccountTable.{profile_of}
+use Rattle.mailstore.specs.AccountRows.{profile_of}
 use Rattle.mailstore.specs.Cells.{contents}
 use Rattle.mailstore.specs.Promises.{HasUser, IsFree, OfUser, Reads, ReadsProfile, WritesUser, WritesAccount}
 use Rattle.mailstore.specs.Refusals.{IsTransient}
 use Rattle.mailstore.specs.Shows.{Presents}
 use Rattle.mailstore.proofs.KeepLemmas.{keeps_ok, keeps_refused, keeps_then, mid_shows}
-use Rattle.mailstore.proofs.WriteLemmas.{clean_before}
+use Rattle.mailtables.proofs.WriteLemmas.{clean_before}
 use Rattle.sessions.specs.declared.account.KeptScripts.{KeptScripts}
 use Rattle.sessions.specs.declared.decision.Change.{Change}
 use Rattle.sessions.specs.declared.decision.Decision.{Decision}

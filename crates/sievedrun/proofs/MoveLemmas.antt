@@ -10,11 +10,11 @@ use Rattle.mailstore.specs.declared.refusal.Refusal.{Refusal}
 use Rattle.mailstore.specs.declared.profile.Profile.{Profile}
 use Rattle.mailstore.specs.declared.taking.NumberedMessage.{NumberedMessage}
 use Rattle.mailstore.specs.Account.{Account, Accounts, with_user, messages_in, takes_mail}
-use Rattle.mailstore.specs.AccountTable.{profile_of}
-use Rattle.mailstore.specs.CopyTable.{HasFirst}
+use Rattle.mailstore.specs.AccountRows.{profile_of}
+use Rattle.mailstore.specs.CopyRows.{HasFirst}
 use Rattle.mailstore.specs.Promises.{HasOurTables, HasUser, IsFree, OfUser, Keeps, CrashLeavesAccounts, Reads, ReadsProfile, WritesAccount}
 use Rattle.mailstore.specs.Refusals.{IsTransient}
-use Rattle.mailstore.proofs.WriteLemmas.{clean_before}
+use Rattle.mailtables.proofs.WriteLemmas.{clean_before}
 use Rattle.sessions.specs.Acts.{HasAccounts, CrashLeaves}
 use Rattle.sessions.proofs.ActLemmas.{glanced, accounts_stay, read_shows}
 use Rattle.mailengine.specs.declared.answer.Answer.TheVariants.{MailTaken, Refused}

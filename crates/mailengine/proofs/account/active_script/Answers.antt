@@ -2,7 +2,7 @@ use Rattle.std.proofs.Common.{◌≡◌, List, ℕ, Option, Ok, Err, rules}
 use Rattle.std.specs.FinMap.{get}
 use Rattle.sqlite.specs.Held.{state}
 use Rattle.mailstore.specs.Account.{Account}
-use Rattle.mailstore.specs.AccountTable.{profile_of}
+use Rattle.mailstore.specs.AccountRows.{profile_of}
 use Rattle.mailstore.specs.declared.profile.Profile.{Profile}
 use Rattle.mailengine.specs.Lookups.{IsActiveScript}
 use Rattle.mailengine.proofs.LookupLemmas.{looks_answer, looks_both, looks_then_refused, none_active, some_active}

@@ -1,7 +1,7 @@
 use Rattle.std.proofs.Common.{◌≡◌}
 use Rattle.sqlite.specs.Held.{state}
 use Rattle.mailstore.specs.Account.{Account}
-use Rattle.mailstore.specs.AccountTable.{profile_of}
+use Rattle.mailstore.specs.AccountRows.{profile_of}
 use Rattle.mailstore.specs.declared.profile.Profile.{Profile}
 use Rattle.mailengine.proofs.LookupLemmas.{looks_then}
 use Rattle.mailengine.proofs.account.queue.Goals as goal

@@ -6,7 +6,7 @@ use Rattle.addrparts.specs.Outbound.{IsBareAddress}
 use Rattle.mailstore.specs.Account.{Account}
 use Rattle.mailstore.specs.declared.profile.Profile.{Profile}
 use Rattle.mailstore.specs.declared.reply.KeptReply.{KeptReply}
-use Rattle.mailstore.specs.ReplyTable.{replies_to, kept_reply}
+use Rattle.mailstore.specs.ReplyRows.{replies_to, kept_reply}
 use Rattle.deliverplan.specs.Views.{moment_under}
 use Rattle.mailengine.specs.Lookups.{IsActiveScript, IsLookup}
 use Rattle.mailengine.proofs.LookupLemmas.{looks_both, looks_then_refused}

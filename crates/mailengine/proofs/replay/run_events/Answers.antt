@@ -1,7 +1,7 @@
 use Rattle.std.proofs.Common.{◌≡◌, ◌+◌, [], ◌∷◌, ◌++◌, length, refl, sym, ◌∙◌, ap, subst, rules}
 use Rattle.std.proofs.lemmas.List.{length_push}
 use Rattle.sqlite.specs.Held.{state}
-use Rattle.mailstore.proofs.WriteLemmas.{clean_before}
+use Rattle.mailtables.proofs.WriteLemmas.{clean_before}
 use Rattle.mailengine.specs.Hosts.{host, host_of, IsRun}
 use Rattle.mailengine.proofs.RunLemmas.{run_none, run_goes, run_counted, crash_goes}
 use Rattle.mailengine.proofs.replay.run_events.Goals as goal

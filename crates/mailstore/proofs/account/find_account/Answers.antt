@@ -1,6 +1,7 @@
 use Rattle.sqlrows.proofs.ListLemmas.{owner_key}
-use Rattle.mailstore.specs.AccountTable.{account_tree, select_account, shown_account}
-use Rattle.mailstore.proofs.TextFacts.{select_account_plain}
+use Rattle.mailtables.specs.AccountTable.{account_tree, select_account}
+use Rattle.mailstore.specs.AccountRows.{shown_account}
+use Rattle.mailtables.proofs.TextFacts.{select_account_plain}
 use Rattle.mailstore.proofs.QueryLemmas.{account_found}
 use Rattle.mailstore.proofs.KeepLemmas.{finds_own}
 use Rattle.mailstore.proofs.account.find_account.Goals as goal

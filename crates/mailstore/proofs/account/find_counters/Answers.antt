@@ -1,6 +1,7 @@
 use Rattle.sqlrows.proofs.ListLemmas.{owner_key}
-use Rattle.mailstore.specs.AccountTable.{account_tree, select_counters, shown_counters}
-use Rattle.mailstore.proofs.TextFacts.{select_counters_plain}
+use Rattle.mailtables.specs.AccountTable.{account_tree, select_counters}
+use Rattle.mailstore.specs.AccountRows.{shown_counters}
+use Rattle.mailtables.proofs.TextFacts.{select_counters_plain}
 use Rattle.mailstore.proofs.QueryLemmas.{counters_found}
 use Rattle.mailstore.proofs.KeepLemmas.{finds_own}
 use Rattle.mailstore.proofs.account.find_counters.Goals as goal

@@ -1,5 +1,6 @@
 use Rattle.std.proofs.Common.{subst}
-use Rattle.mailstore.specs.Changes.{Extends, counters_raised, message_kept, copies_added, lettered, reply_put, noticed}
+use Rattle.mailtables.specs.Changes.{Extends}
+use Rattle.mailstore.specs.Delivery.{counters_raised, message_kept, copies_added, lettered, reply_put, noticed}
 use Rattle.mailstore.proofs.DeliveryLemmas.{are_delivery}
 use Rattle.mailstore.proofs.delivery.delivery_changes.Goals as goal
 

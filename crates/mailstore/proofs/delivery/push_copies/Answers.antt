@@ -1,5 +1,5 @@
 use Rattle.std.proofs.Common.{◌≡◌, ◌+◌, ◌++◌, ◌∷◌, ◌∙◌, [], pos, rules}
-use Rattle.mailstore.specs.declared.change.Change.TheVariants.{AddCopy}
+use Rattle.mailtables.specs.declared.change.Change.TheVariants.{AddCopy}
 use Rattle.mailstore.proofs.DeliveryLemmas.{copies_more}
 use Rattle.mailstore.proofs.delivery.push_copies.Goals as goal
 

@@ -1,5 +1,6 @@
 use Rattle.std.proofs.Common.{take}
-use Rattle.mailstore.specs.Changes.{Extends, copies_added}
+use Rattle.mailtables.specs.Changes.{Extends}
+use Rattle.mailstore.specs.Delivery.{copies_added}
 use Rattle.mailstore.proofs.delivery.push_copies.Given as goal
 
 abbrev pub invariant-loop-i : goal.invariant-loop-i

@@ -1,5 +1,6 @@
 use Rattle.std.proofs.Common.{take}
-use Rattle.mailstore.specs.Changes.{Extends, lettered}
+use Rattle.mailtables.specs.Changes.{Extends}
+use Rattle.mailstore.specs.Delivery.{lettered}
 use Rattle.mailstore.proofs.delivery.push_letters.Given as goal
 
 abbrev pub invariant-loop-i : goal.invariant-loop-i

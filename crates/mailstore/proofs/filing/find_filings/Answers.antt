@@ -1,7 +1,7 @@
 use Rattle.sqlrows.proofs.ListLemmas.{owner_key}
-use Rattle.mailstore.specs.CopyTable.{select_filings}
+use Rattle.mailtables.specs.CopyTable.{select_filings}
 use Rattle.mailstore.specs.Shows.{AreFilingRows}
-use Rattle.mailstore.proofs.TextFacts.{select_filings_plain}
+use Rattle.mailtables.proofs.TextFacts.{select_filings_plain}
 use Rattle.mailstore.proofs.FilingLemmas.{filings_read}
 use Rattle.mailstore.proofs.KeepLemmas.{finds_among}
 use Rattle.mailstore.proofs.filing.find_filings.Goals as goal

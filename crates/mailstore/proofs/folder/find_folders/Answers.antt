@@ -1,7 +1,7 @@
 use Rattle.sqlrows.proofs.ListLemmas.{owner_key}
-use Rattle.mailstore.specs.CopyTable.{select_folders}
+use Rattle.mailtables.specs.CopyTable.{select_folders}
 use Rattle.mailstore.specs.Tally.{AreFolderRows}
-use Rattle.mailstore.proofs.TextFacts.{select_folders_plain}
+use Rattle.mailtables.proofs.TextFacts.{select_folders_plain}
 use Rattle.mailstore.proofs.FolderLemmas.{folders_read}
 use Rattle.mailstore.proofs.KeepLemmas.{finds}
 use Rattle.mailstore.proofs.folder.find_folders.Goals as goal

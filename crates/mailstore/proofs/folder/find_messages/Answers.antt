@@ -1,6 +1,7 @@
 use Rattle.sqlrows.proofs.ListLemmas.{pair_key}
-use Rattle.mailstore.specs.CopyTable.{select_folder, AreMessageRows}
-use Rattle.mailstore.proofs.TextFacts.{select_folder_plain}
+use Rattle.mailtables.specs.CopyTable.{select_folder}
+use Rattle.mailstore.specs.CopyRows.{AreMessageRows}
+use Rattle.mailtables.proofs.TextFacts.{select_folder_plain}
 use Rattle.mailstore.proofs.ReadLemmas.{messages_read}
 use Rattle.mailstore.proofs.KeepLemmas.{finds}
 use Rattle.mailstore.proofs.folder.find_messages.Goals as goal

@@ -1,6 +1,6 @@
-use Rattle.mailstore.specs.MessageTable.{select_message, message_key}
+use Rattle.mailtables.specs.MessageTable.{select_message, message_key}
 use Rattle.mailstore.specs.Shows.{AreOctetRows}
-use Rattle.mailstore.proofs.TextFacts.{select_message_plain}
+use Rattle.mailtables.proofs.TextFacts.{select_message_plain}
 use Rattle.mailstore.proofs.KeepLemmas.{finds_among}
 use Rattle.mailstore.proofs.FirstLemmas.{octets_read}
 use Rattle.mailstore.proofs.message.find_message.Goals as goal

@@ -1,6 +1,7 @@
 use Rattle.sqlrows.proofs.ListLemmas.{owner_key}
-use Rattle.mailstore.specs.NoticeTable.{select_notices, AreNoticeRows}
-use Rattle.mailstore.proofs.TextFacts.{select_notices_plain}
+use Rattle.mailtables.specs.NoticeTable.{select_notices}
+use Rattle.mailstore.specs.NoticeRows.{AreNoticeRows}
+use Rattle.mailtables.proofs.TextFacts.{select_notices_plain}
 use Rattle.mailstore.proofs.ReadLemmas.{notices_read}
 use Rattle.mailstore.proofs.KeepLemmas.{finds}
 use Rattle.mailstore.proofs.notice.find_notices.Goals as goal

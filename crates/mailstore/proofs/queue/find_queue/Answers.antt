@@ -1,6 +1,7 @@
 use Rattle.sqlrows.proofs.ListLemmas.{owner_key}
-use Rattle.mailstore.specs.QueueTable.{select_queue, AreQueueRows}
-use Rattle.mailstore.proofs.TextFacts.{select_queue_plain}
+use Rattle.mailtables.specs.QueueTable.{select_queue}
+use Rattle.mailstore.specs.QueueRows.{AreQueueRows}
+use Rattle.mailtables.proofs.TextFacts.{select_queue_plain}
 use Rattle.mailstore.proofs.ReadLemmas.{queue_read}
 use Rattle.mailstore.proofs.KeepLemmas.{finds}
 use Rattle.mailstore.proofs.queue.find_queue.Goals as goal

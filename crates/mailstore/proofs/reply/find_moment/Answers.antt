@@ -1,5 +1,6 @@
-use Rattle.mailstore.specs.ReplyTable.{reply_key, select_moment, HasMomentRow}
-use Rattle.mailstore.proofs.TextFacts.{select_moment_plain}
+use Rattle.mailtables.specs.ReplyTable.{reply_key, select_moment}
+use Rattle.mailstore.specs.ReplyRows.{HasMomentRow}
+use Rattle.mailtables.proofs.TextFacts.{select_moment_plain}
 use Rattle.mailstore.proofs.ReplyLemmas.{moment_read}
 use Rattle.mailstore.proofs.KeepLemmas.{finds}
 use Rattle.mailstore.proofs.reply.find_moment.Goals as goal

@@ -1,6 +1,7 @@
 use Rattle.sqlrows.proofs.ListLemmas.{pair_key}
-use Rattle.mailstore.specs.ReplyTable.{select_replies, AreReplyRows}
-use Rattle.mailstore.proofs.TextFacts.{select_replies_plain}
+use Rattle.mailtables.specs.ReplyTable.{select_replies}
+use Rattle.mailstore.specs.ReplyRows.{AreReplyRows}
+use Rattle.mailtables.proofs.TextFacts.{select_replies_plain}
 use Rattle.mailstore.proofs.ReplyLemmas.{replies_read}
 use Rattle.mailstore.proofs.KeepLemmas.{finds}
 use Rattle.mailstore.proofs.reply.find_replies.Goals as goal

@@ -1,6 +1,7 @@
 use Rattle.sqlrows.proofs.ListLemmas.{owner_key}
-use Rattle.mailstore.specs.ScriptTable.{select_names, AreNameRows}
-use Rattle.mailstore.proofs.TextFacts.{select_names_plain}
+use Rattle.mailtables.specs.ScriptTable.{select_names}
+use Rattle.mailstore.specs.ScriptRows.{AreNameRows}
+use Rattle.mailtables.proofs.TextFacts.{select_names_plain}
 use Rattle.mailstore.proofs.ReadLemmas.{names_read}
 use Rattle.mailstore.proofs.KeepLemmas.{finds}
 use Rattle.mailstore.proofs.script.find_names.Goals as goal

@@ -1,6 +1,7 @@
 use Rattle.sqlrows.proofs.ListLemmas.{pair_key}
-use Rattle.mailstore.specs.ScriptTable.{select_script, HasTextRow}
-use Rattle.mailstore.proofs.TextFacts.{select_script_plain}
+use Rattle.mailtables.specs.ScriptTable.{select_script}
+use Rattle.mailstore.specs.ScriptRows.{HasTextRow}
+use Rattle.mailtables.proofs.TextFacts.{select_script_plain}
 use Rattle.mailstore.proofs.ReadLemmas.{script_read}
 use Rattle.mailstore.proofs.KeepLemmas.{finds}
 use Rattle.mailstore.proofs.script.find_script.Goals as goal

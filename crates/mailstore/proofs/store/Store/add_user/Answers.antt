@@ -1,6 +1,6 @@
 use Rattle.std.proofs.Common.{[], ◌∷◌}
 use Rattle.sqlite.specs.Held.{state}
-use Rattle.mailstore.specs.declared.change.Change.TheVariants.{AddAccount}
+use Rattle.mailtables.specs.declared.change.Change.TheVariants.{AddAccount}
 use Rattle.mailstore.specs.Account.{new_user}
 use Rattle.mailstore.specs.Promises.{IsFree}
 use Rattle.mailstore.proofs.CallLemmas.{carries_account}

@@ -1,5 +1,5 @@
 use Rattle.std.proofs.Common.{◌≡◌, rules}
-use Rattle.mailstore.proofs.ResultLemmas.{on_ok}
+use Rattle.mailtables.proofs.ResultLemmas.{on_ok}
 use Rattle.mailstore.proofs.store.Store.apply.Goals as goal
 
 pub returns-clause-made : goal.returns-clause-made

@@ -1,7 +1,7 @@
 use Rattle.std.proofs.Common.{◌≡◌, ◌∙◌, ap, sym, subst}
 use Rattle.sqlite.specs.Held.{state}
 use Rattle.mailstore.specs.Account.{delivers}
-use Rattle.mailstore.specs.Changes.{AreDelivery, folded_sender}
+use Rattle.mailstore.specs.Delivery.{AreDelivery, folded_sender}
 use Rattle.mailstore.proofs.DeliveryLemmas.{delivery_shows, stores_once}
 use Rattle.mailstore.proofs.AfterLemmas.{writes_then}
 use Rattle.mailstore.proofs.store.Store.commit_delivery.Goals as goal

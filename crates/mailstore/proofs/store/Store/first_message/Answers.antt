@@ -1,6 +1,6 @@
 use Rattle.sqlite.specs.Held.{state}
 use Rattle.mailstore.specs.Account.{messages_in}
-use Rattle.mailstore.specs.CopyTable.{HasFirst}
+use Rattle.mailstore.specs.CopyRows.{HasFirst}
 use Rattle.mailstore.specs.Shows.{IsFirstOf}
 use Rattle.mailstore.proofs.FilingLemmas.{own_reads}
 use Rattle.mailstore.proofs.FirstLemmas.{first_shows}

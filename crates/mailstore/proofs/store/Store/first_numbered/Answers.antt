@@ -2,7 +2,7 @@ use Rattle.std.proofs.Common.{◌≡◌, ◌∙◌, Ok, Some, None, sym, ap}
 use Rattle.sqlite.specs.Held.{state}
 use Rattle.std.specs.List.{find}
 use Rattle.std.specs.Option.{option_copied}
-use Rattle.mailstore.specs.CopyTable.{is_filed}
+use Rattle.mailstore.specs.CopyRows.{is_filed}
 use Rattle.mailstore.specs.Shows.{AreFilings, HasOctets, IsFirstOf}
 use Rattle.mailstore.proofs.FilingLemmas.{own_answer, own_then}
 use Rattle.mailstore.proofs.FirstLemmas.{first_none, first_some}

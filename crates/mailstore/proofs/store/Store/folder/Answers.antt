@@ -3,7 +3,7 @@ use Rattle.sqlite.specs.Held.{state}
 use Rattle.std.specs.declared.alloc.Global.{Global}
 use Rattle.sqlite_value.specs.Order.{Row}
 use Rattle.mailstore.specs.Account.{messages_in}
-use Rattle.mailstore.specs.CopyTable.{AreMessageRows}
+use Rattle.mailstore.specs.CopyRows.{AreMessageRows}
 use Rattle.mailstore.proofs.DecodeLemmas.{texts_are}
 use Rattle.mailstore.proofs.KeepLemmas.{reads_refused, reads_answer}
 use Rattle.mailstore.proofs.store.Store.folder.Goals as goal

@@ -6,7 +6,7 @@ use Rattle.sqlite.specs.Held.{state}
 use Rattle.sqlite_value.specs.declared.value.Value.TheVariants.{Int}
 use Rattle.sqlite_value.specs.Order.{Row}
 use Rattle.mailstore.specs.Refusals.{IsTransient}
-use Rattle.mailstore.specs.ReplyTable.{HasMomentRow}
+use Rattle.mailstore.specs.ReplyRows.{HasMomentRow}
 use Rattle.mailstore.proofs.KeepLemmas.{reads_answer, reads_failed, reads_refused}
 use Rattle.mailstore.proofs.ReplyLemmas.{moment_is}
 use Rattle.mailstore.proofs.store.Store.last_reply.Goals as goal

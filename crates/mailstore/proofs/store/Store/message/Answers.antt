@@ -4,7 +4,7 @@ use Rattle.sqlite.specs.Held.{state}
 use Rattle.sqlite_value.specs.declared.value.Value.TheVariants.{Blob}
 use Rattle.sqlite_value.specs.Order.{Row, column}
 use Rattle.sqlrows.specs.Rows.{has_key}
-use Rattle.mailstore.specs.MessageTable.{message_key, message_tree}
+use Rattle.mailtables.specs.MessageTable.{message_key, message_tree}
 use Rattle.mailstore.specs.Shows.{AreOctetRows, HasOctets}
 use Rattle.mailstore.proofs.FirstLemmas.{among_answer, octets_first}
 use Rattle.mailstore.proofs.store.Store.message.Goals as goal

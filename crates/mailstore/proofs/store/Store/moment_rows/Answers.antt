@@ -1,7 +1,7 @@
 use Rattle.std.proofs.Common.{◌≡◌, Err, OnOk, IfErr, rules}
 use Rattle.sqlite.specs.Held.{state}
 use Rattle.mailstore.specs.Refusals.{IsTransient}
-use Rattle.mailstore.specs.ReplyTable.{HasMomentRow}
+use Rattle.mailstore.specs.ReplyRows.{HasMomentRow}
 use Rattle.mailstore.proofs.KeepLemmas.{reads_refused, query_read, query_refused}
 use Rattle.mailstore.proofs.store.Store.moment_rows.Goals as goal
 

@@ -2,7 +2,7 @@ use Rattle.std.proofs.Common.{◌≡◌, ◌∙◌, Err, Vec, rules}
 use Rattle.sqlite.specs.Held.{state}
 use Rattle.std.specs.declared.alloc.Global.{Global}
 use Rattle.sqlite_value.specs.Order.{Row}
-use Rattle.mailstore.specs.NoticeTable.{AreNoticeRows}
+use Rattle.mailstore.specs.NoticeRows.{AreNoticeRows}
 use Rattle.mailstore.proofs.DecodeLemmas.{notices_are}
 use Rattle.mailstore.proofs.KeepLemmas.{reads_refused, reads_answer}
 use Rattle.mailstore.proofs.store.Store.notices.Goals as goal

@@ -1,6 +1,6 @@
 use Rattle.std.proofs.Common.{◌≡◌, true, false, rules, refl}
 use Rattle.sqlite.specs.Held.{state}
-use Rattle.mailstore.specs.Schema.{mail_schema}
+use Rattle.mailtables.specs.Schema.{mail_schema}
 use Rattle.mailstore.proofs.OpenLemmas.{shows_again, shown_ours}
 use Rattle.mailstore.proofs.store.Store.open.Goals as goal
 

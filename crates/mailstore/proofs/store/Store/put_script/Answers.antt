@@ -1,6 +1,6 @@
 use Rattle.std.proofs.Common.{[], ◌∷◌}
 use Rattle.sqlite.specs.Held.{state}
-use Rattle.mailstore.specs.declared.change.Change.TheVariants.{AddScript, RemoveScript}
+use Rattle.mailtables.specs.declared.change.Change.TheVariants.{AddScript, RemoveScript}
 use Rattle.mailstore.specs.Account.{with_user, keeps_script}
 use Rattle.mailstore.specs.Promises.{HasUser}
 use Rattle.mailstore.proofs.CallLemmas.{carries_script}

@@ -2,7 +2,7 @@ use Rattle.std.proofs.Common.{◌≡◌, ◌∙◌, Err, Vec, rules}
 use Rattle.sqlite.specs.Held.{state}
 use Rattle.std.specs.declared.alloc.Global.{Global}
 use Rattle.sqlite_value.specs.Order.{Row}
-use Rattle.mailstore.specs.QueueTable.{AreQueueRows}
+use Rattle.mailstore.specs.QueueRows.{AreQueueRows}
 use Rattle.mailstore.proofs.DecodeLemmas.{queue_is}
 use Rattle.mailstore.proofs.KeepLemmas.{reads_refused, reads_answer}
 use Rattle.mailstore.proofs.store.Store.queue.Goals as goal

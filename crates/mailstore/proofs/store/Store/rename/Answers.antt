@@ -1,8 +1,8 @@
 use Rattle.std.proofs.Common.{◌≡◌, Err, option_map, ap, ◌∙◌, rules}
 use Rattle.sqlite.specs.Held.{state}
 use Rattle.mailstore.specs.Account.{other_name, renames_script}
-use Rattle.mailstore.specs.Cells.{contents}
-use Rattle.mailstore.specs.ScriptTable.{HasTextAndActive, IsRenaming}
+use Rattle.mailtables.specs.Cells.{contents}
+use Rattle.mailstore.specs.ScriptRows.{HasTextAndActive, IsRenaming}
 use Rattle.mailstore.proofs.AfterLemmas.{known_writes, write_refused}
 use Rattle.mailstore.proofs.CallLemmas.{contents_is}
 use Rattle.mailstore.proofs.store.Store.rename.Goals as goal

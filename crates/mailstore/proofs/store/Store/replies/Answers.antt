@@ -4,7 +4,7 @@ use Rattle.octets.specs.Ascii.{lowered}
 use Rattle.sqlite.specs.Held.{state}
 use Rattle.sqlite_value.specs.Order.{Row}
 use Rattle.mailstore.specs.Refusals.{IsTransient}
-use Rattle.mailstore.specs.ReplyTable.{AreReplyRows, kept_cells, kept_reply, replies_to}
+use Rattle.mailstore.specs.ReplyRows.{AreReplyRows, kept_cells, kept_reply, replies_to}
 use Rattle.mailstore.proofs.KeepLemmas.{reads_answer, reads_failed, reads_refused}
 use Rattle.mailstore.proofs.ReplyLemmas.{replies_are}
 use Rattle.mailstore.proofs.store.Store.replies.Goals as goal

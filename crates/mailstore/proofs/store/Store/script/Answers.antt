@@ -4,7 +4,7 @@ use Rattle.std.specs.declared.alloc.Global.{Global}
 use Rattle.sqlite_value.specs.Order.{Row}
 use Rattle.std.specs.FinMap.{get}
 use Rattle.std.specs.Prelude.{slice_get}
-use Rattle.mailstore.specs.ScriptTable.{HasTextRow}
+use Rattle.mailstore.specs.ScriptRows.{HasTextRow}
 use Rattle.mailstore.proofs.DecodeLemmas.{text_is}
 use Rattle.mailstore.proofs.KeepLemmas.{reads_refused, reads_answer}
 use Rattle.mailstore.proofs.store.Store.script.Goals as goal

@@ -3,7 +3,7 @@ use Rattle.sqlite.specs.Held.{state}
 use Rattle.std.specs.declared.alloc.Global.{Global}
 use Rattle.sqlite_value.specs.Order.{Row}
 use Rattle.std.specs.FinMap.{keys}
-use Rattle.mailstore.specs.ScriptTable.{AreNameRows}
+use Rattle.mailstore.specs.ScriptRows.{AreNameRows}
 use Rattle.mailstore.proofs.DecodeLemmas.{texts_are}
 use Rattle.mailstore.proofs.KeepLemmas.{reads_refused, reads_answer}
 use Rattle.mailstore.proofs.store.Store.scripts.Goals as goal

@@ -1,7 +1,7 @@
 use Rattle.std.proofs.Common.{[], ◌∷◌}
 use Rattle.sqlite.specs.Held.{state}
-use Rattle.mailstore.specs.declared.change.Change.TheVariants.{SetActive}
-use Rattle.mailstore.specs.Cells.{contents}
+use Rattle.mailtables.specs.declared.change.Change.TheVariants.{SetActive}
+use Rattle.mailtables.specs.Cells.{contents}
 use Rattle.mailstore.specs.Account.{with_user, activates}
 use Rattle.mailstore.specs.Promises.{HasUser}
 use Rattle.mailstore.proofs.CallLemmas.{carries_active}

@@ -1,7 +1,7 @@
 use Rattle.std.proofs.Common.{sym, subst}
 use Rattle.sqlite.specs.Held.{state}
 use Rattle.mailstore.specs.Account.{takes_mail}
-use Rattle.mailstore.specs.Changes.{AreTaking}
+use Rattle.mailstore.specs.Taking.{AreTaking}
 use Rattle.mailstore.proofs.TakingLemmas.{mail_shows}
 use Rattle.mailstore.proofs.AfterLemmas.{writes_then}
 use Rattle.mailstore.proofs.store.Store.take_mail.Goals as goal

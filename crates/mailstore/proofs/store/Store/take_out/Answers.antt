@@ -1,6 +1,6 @@
 use Rattle.std.proofs.Common.{OnOk, IfErr, ◌∙◌, [], ◌∷◌, w64, SFits, to_z-of_z, rules}
 use Rattle.sqlite.specs.Held.{state}
-use Rattle.mailstore.specs.declared.change.Change.TheVariants.{RemoveOutgoing}
+use Rattle.mailtables.specs.declared.change.Change.TheVariants.{RemoveOutgoing}
 use Rattle.mailstore.specs.Account.{with_user, takes_out}
 use Rattle.mailstore.specs.Promises.{HasUser}
 use Rattle.mailstore.specs.Refusals.{IsTransient}

@@ -1,7 +1,7 @@
 use Rattle.std.proofs.Common.{◌≡◌, Err, rules}
 use Rattle.std.specs.FinMap.{get}
 use Rattle.sqlite.specs.Held.{state}
-use Rattle.mailstore.specs.ScriptTable.{HasTextAndActive}
+use Rattle.mailstore.specs.ScriptRows.{HasTextAndActive}
 use Rattle.mailstore.proofs.AfterLemmas.{reads_both, second_refused}
 use Rattle.mailstore.proofs.KeepLemmas.{reads_refused}
 use Rattle.mailstore.proofs.store.Store.text_and_active.Goals as goal

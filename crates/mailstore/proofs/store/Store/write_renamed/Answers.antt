@@ -1,10 +1,10 @@
 use Rattle.std.proofs.Common.{◌≡◌, None, Some, [], ◌∷◌, sym, ap, ◌∙◌, subst}
 use Rattle.sqlite.specs.Held.{state}
-use Rattle.mailstore.specs.declared.change.Change.TheVariants.{AddScript, RemoveScript, SetActive}
+use Rattle.mailtables.specs.declared.change.Change.TheVariants.{AddScript, RemoveScript, SetActive}
 use Rattle.mailstore.specs.Account.{renames_script, with_user}
-use Rattle.mailstore.specs.Cells.{contents}
+use Rattle.mailtables.specs.Cells.{contents}
 use Rattle.mailstore.specs.Promises.{OfUser, WritesKnown}
-use Rattle.mailstore.specs.ScriptTable.{IsRenaming}
+use Rattle.mailstore.specs.ScriptRows.{IsRenaming}
 use Rattle.mailstore.proofs.CallLemmas.{carries_active_name, carries_renaming}
 use Rattle.mailstore.proofs.KeepLemmas.{writes}
 use Rattle.mailstore.proofs.store.Store.write_renamed.Goals as goal

@@ -1,8 +1,0 @@
-use Rattle.mailstore.proofs.WriteLemmas.{statement_makes}
-use Rattle.mailstore.proofs.StatementLemmas.{sets_counters}
-use Rattle.mailstore.proofs.account.set_counters.Goals as goal
-
-pub returns : goal.returns
-returns g c =
-    statement_makes g.S.Store _ _ _ c.args.tx.now c.execute.new.tx c.execute.result (sets_counters _ _ c.args.name.now c.args.copy.now c.args.out.now c.args.notice.now)
-    (rw (c.params-to_sql.ensures, c.params-to_sql-2.ensures, c.params-to_sql-3.ensures, c.params-to_sql-4.ensures) at c.execute.ensures)

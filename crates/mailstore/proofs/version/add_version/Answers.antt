@@ -1,8 +1,0 @@
-use Rattle.mailstore.proofs.WriteLemmas.{statement_makes}
-use Rattle.mailstore.proofs.StatementLemmas.{inserts_version}
-use Rattle.mailstore.proofs.version.add_version.Goals as goal
-
-pub returns : goal.returns
-returns g c =
-    statement_makes g.S.Store _ _ _ c.args.tx.now c.execute.new.tx c.execute.result (inserts_version _ _)
-    c.execute.ensures

@@ -1,0 +1,83 @@
+-- What rows show of the copies of a user's messages, which are the folders, and what is read of them.
+use Rattle.std.specs.Prelude.{◌≡◌, ◌≤◌, Bool, ℕ, pos, List, [], ◌∷◌, fold, map, nat_eq, Option, option_map, slice_get}
+use Rattle.std.specs.List.{AllByRecursion}
+use Rattle.std.specs.FinMap.{empty}
+use Rattle.std.specs.Ordering.{is_eq}
+use Rattle.std.specs.Cmp.Lexicographic.{pointwise}
+use Rattle.sqlite_value.specs.declared.value.Value.TheVariants.{Int, Blob}
+use Rattle.sqlite_value.specs.Order.{Row}
+use Rattle.sqlite_rules.specs.Lists.{Has}
+use Rattle.mailtables.specs.CopyTable.{copy_cells}
+use Rattle.mailstore.specs.Account.{bytes_cmp, Account, Folders, messages_in, filed}
+use Rattle.mailstore.specs.declared.filing.Filing.{Filing}
+use Rattle.mailstore.specs.declared.taking.NumberedMessage.{NumberedMessage}
+use Rattle.mailstore.specs.Numbers.{AreNumbered}
+use Rattle.mailstore.specs.MessageRows.{Message, message_row}
+
+-- ---- what rows show
+
+-- a copy in a folder, with its number, and the message that it is a copy of
+pub record Copy : Type 0 where
+  pub folder : List ℕ
+  pub n : ℕ
+  pub id : ℕ
+  pub message : List ℕ
+
+abbrev pub copy_row : List ℕ → Copy → Row
+copy_row user copy = copy_cells user copy.folder (pos copy.n) (pos copy.id)
+
+abbrev pub message_of : Copy → Message
+message_of copy = record { id = copy.id; bytes = copy.message }
+
+-- the folders that the copies make, in the order of their numbers
+abbrev pub folders_from : List Copy → Folders
+folders_from = fold (λ folders copy. filed folders copy.folder copy.message) empty
+
+-- the message has a copy
+abbrev pub HasCopy : List Copy → Message → Type 0
+HasCopy copies m = (c : Copy) × Has copies c × (c.id ≡ m.id)
+
+-- each copy's message is kept, and each message that is kept has a copy; its number is that of its first copy, which may be gone since
+pub record AreKept (copies : List Copy) (messages : List Message) : Type 0 where
+  pub present : AllByRecursion (λ c. Has messages (message_of c)) copies
+  pub used : AllByRecursion (HasCopy copies) messages
+  pub first : AllByRecursion (λ c. c.id ≤ c.n) copies
+
+-- the rows are those of the user's copies and of their messages: a folder is the list of its copies in the order of their numbers, and one without copies isn't there
+pub record ShowsCopies (user : List ℕ) (rows message_rows : List Row) (folders : Folders) (next : ℕ) : Type 0 where
+  pub entries : List Copy
+  pub messages : List Message
+  pub numbered : AreNumbered (λ c. c.n) (copy_row user) rows entries next
+  pub stored : AreNumbered (λ m. m.id) (message_row user) message_rows messages next
+  pub kept : AreKept entries messages
+  pub shown : folders ≡ folders_from entries
+
+-- the copy is in the folder
+abbrev pub is_in : List ℕ → Copy → Bool
+is_in folder c = is_eq (bytes_cmp c.folder folder)
+
+-- ---- what is read of them
+
+-- where a copy is, its number and its message's
+abbrev pub filing_of : Copy → Filing
+filing_of c = record { folder = c.folder; n = c.n; id = c.id }
+
+-- what the query for the copies shows of one
+abbrev pub filing_cells : Filing → Row
+filing_cells f = Blob f.folder ∷ Int (pos f.n) ∷ Int (pos f.id) ∷ []
+
+-- it is in the folder of this name, octet by octet
+abbrev pub is_filed : List ℕ → Filing → Bool
+is_filed folder f = pointwise nat_eq f.folder folder
+
+-- a copy's message, with the copy's number
+abbrev pub numbered_of : Copy → NumberedMessage
+numbered_of c = record { number = c.n; message = c.message }
+
+-- it is the first of the messages, and none where there is none
+abbrev pub HasFirst : Option NumberedMessage → List (List ℕ) → Type 0
+HasFirst first messages = option_map (λ m. m.message) first ≡ slice_get messages 0
+
+-- the rows are the messages of the folder, in the order in which they came
+abbrev pub AreMessageRows : List ℕ → List Row → Account → Type 0
+AreMessageRows folder rows a = rows ≡ map (λ message. Blob message ∷ []) (messages_in a.folders folder)

@@ -1,0 +1,53 @@
+-- What rows show of the moments of a user's last replies, and what is read of them.
+use Rattle.std.specs.Prelude.{◌≡◌, ℕ, pos, List, [], ◌∷◌, map, filter, slice_get, Option, option_map}
+use Rattle.std.specs.FinMap.{get, entries, from_entries}
+use Rattle.std.specs.Ordering.{is_eq}
+use Rattle.octets.specs.Ascii.{lowered}
+use Rattle.sqlite_value.specs.declared.value.Value.TheVariants.{Int, Blob}
+use Rattle.sqlite_value.specs.Order.{Row}
+use Rattle.mailtables.specs.ReplyTable.{reply_cells}
+use Rattle.mailstore.specs.declared.reply.KeptReply.{KeptReply}
+use Rattle.mailstore.specs.Account.{bytes_cmp, Account, Replies}
+use Rattle.mailstore.specs.ScriptRows.{AreApart}
+
+-- ---- what rows show
+
+-- the row of a handle's key, a sender and the moment
+abbrev pub reply_row : List ℕ → (List ℕ × List ℕ) × ℕ → Row
+reply_row user entry = reply_cells user entry.0.0 entry.0.1 (pos entry.1)
+
+-- the rows are those of the moments that the user's account keeps, in any order
+pub record ShowsReplies (user : List ℕ) (rows : List Row) (replies : Replies) : Type 0 where
+  pub entries : List ((List ℕ × List ℕ) × ℕ)
+  pub rows_are : rows ≡ map (reply_row user) entries
+  pub shown : replies ≡ from_entries entries
+  pub apart : AreApart entries
+
+-- ---- what is read of them
+
+-- the first row is the moment that is kept under the handle's key and the sender, if one is
+abbrev pub HasMomentRow : List ℕ × List ℕ → List Row → Account → Type 0
+HasMomentRow key rows a = slice_get rows 0 ≡ option_map (λ moment. Int (pos moment) ∷ []) (get a.replies key)
+
+-- the replies to one sender, in the order of the octets of their handles' keys
+abbrev pub replies_to : List ℕ → Replies → List ((List ℕ × List ℕ) × ℕ)
+replies_to sender replies = filter (λ e. is_eq (bytes_cmp e.0.1 sender)) (entries replies)
+
+abbrev pub kept_reply : (List ℕ × List ℕ) × ℕ → KeptReply
+kept_reply e = record { handle = e.0.0; moment = e.1 }
+
+-- what the query for the replies shows of one
+abbrev pub kept_cells : KeptReply → Row
+kept_cells kept = Blob kept.handle ∷ Int (pos kept.moment) ∷ []
+
+-- this is the moment that is kept under the handle's key and the sender, if one is; case ignored in the sender
+abbrev pub IsLastReply : List ℕ → List ℕ → Option ℕ → Account → Type 0
+IsLastReply handle sender moment a = moment ≡ get a.replies (handle, lowered sender)
+
+-- these are the replies to the sender, in that order; case ignored in the sender
+abbrev pub AreReplies : List ℕ → List KeptReply → Account → Type 0
+AreReplies sender replies a = replies ≡ map kept_reply (replies_to (lowered sender) a.replies)
+
+-- the rows are the replies to the sender, in that order
+abbrev pub AreReplyRows : List ℕ → List Row → Account → Type 0
+AreReplyRows sender rows a = rows ≡ map kept_cells (map kept_reply (replies_to sender a.replies))

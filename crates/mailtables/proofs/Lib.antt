@@ -1,0 +1,9 @@
+pub mod SchemaFacts
+pub mod TextFacts
+pub mod SchemaLemmas
+pub mod StatementLemmas
+pub mod ResultLemmas
+pub mod WriteLemmas
+pub mod CreateLemmas
+pub mod VersionLemmas
+mod OursExamples

@@ -1,0 +1,131 @@
+-- What the query for the version finds, and that it changes nothing.
+use Rattle.std.proofs.Common.{◌≡◌, ◌↔◌, ℕ, pos, Bool, true, false, cond, List, [], ◌∷◌, ◌++◌, map, filter, flat_map, length, Ok, Err, Result, Vec, IfOk, IfErr, OnOk, IsTrue, IsPermutation, refl, sym, ap, ◌∙◌, subst, inl, inr, arith}
+use Rattle.std.specs.declared.alloc.Global.{Global}
+use Rattle.sqlite_value.specs.declared.value.Value.TheVariants.{Int}
+use Rattle.sqlite_value.specs.Order.{Row, column}
+use Rattle.std.specs.List.{list_all}
+use Rattle.std.proofs.lemmas.List.Sorted.{length_permutation, IsPermutation-map}
+use Rattle.sqlite_sql.specs.Term.{col, holds, Env}
+use Rattle.sqlite_sql.specs.Query.{Query, IsAnswer, Output, output}
+use Rattle.sqlite_sql.specs.Program.{overlay}
+use Rattle.sqlite_trees.specs.Tree.{Trees}
+use Rattle.sqlite.specs.Effect.{Database}
+use Rattle.sqlite.specs.Listing.{understood}
+use Rattle.sqlite.specs.declared.error.Error.{Error}
+use Rattle.sqlite.specs.State.{State, HasCleanDisk, Shown, FailsToQuery, IsUnchanged, IsRolledBack}
+use Rattle.sqlite_keyed.proofs.ListLemmas.{map-map}
+use Rattle.sqlite.proofs.Callers.{IsPlain, one_permutation}
+use Rattle.sqlrows.specs.Forms.{over}
+use Rattle.sqlrows.specs.Rows.{has_key_from}
+use Rattle.sqlrows.proofs.ReadLemmas.{shown_same, fails_same, answered, quiet}
+use Rattle.mailtables.specs.Schema.{mail_schema}
+use Rattle.mailtables.specs.Connection.{StaysSame, SeesCommit, Asks, Answers}
+use Rattle.mailtables.specs.MetaTable.{select_version, version_key, version_rows, SaysTwo, meta_tree, stored_value_column, AreVersions}
+use Rattle.mailtables.specs.Ours.{IsOurs}
+use Rattle.mailtables.proofs.TextFacts.{by_one, select_version_is, select_version_plain}
+use Rattle.mailtables.proofs.ResultLemmas.{on_any, on_ok}
+
+pub same_unchanged : (old new : State) → IsUnchanged old new → StaysSame old new
+same_unchanged old new h = record { now_is = λ _. h.0.now_is; committed_is = λ _. h.0.committed_is }
+
+-- outside a transaction the last commit is what was seen
+pub same_undone : (old new : State) → (IsTrue old.is_open → old.now ≡ old.committed) → IsRolledBack old new → StaysSame old new
+same_undone old new settled h = record { now_is = λ open_now. (h.undone open_now).0 ∙ sym (settled (h.was_open open_now)); committed_is = λ open_now. (h.undone open_now).1 }
+
+-- a query whose text is plain, where the tables are ours
+module _ (sql : List ℕ) (params : Row) (old new : State) (ours : old.now.schema ≡ mail_schema) (plain : IsPlain (understood mail_schema sql)) where
+  pub keeps_same : (r : Result (Vec Row Global) Error) → (IsTrue old.is_open → old.now ≡ old.committed) → (HasCleanDisk new → IfOk r (λ rows. Shown sql params old new rows.items))
+      → (HasCleanDisk new → IfErr r (FailsToQuery sql params old new)) → HasCleanDisk new → StaysSame old new
+  keeps_same (Ok rows) settled ok err clean = same_unchanged old new (shown_same mail_schema sql params old new ours plain rows.items (ok clean))
+  keeps_same (Err e) settled ok err clean = elim (fails_same mail_schema sql params old new ours plain e (err clean)) [ inl same ↦ same_unchanged old new same | inr undone ↦ same_undone old new settled undone ]
+
+  pub sees_commit : (r : Result (Vec Row Global) Error) → (IsTrue old.is_open → old.now ≡ old.committed) → (HasCleanDisk new → IfOk r (λ rows. Shown sql params old new rows.items)) → HasCleanDisk new → OnOk r (SeesCommit new)
+  sees_commit (Ok rows) settled ok clean =
+      let shows = (shown_same mail_schema sql params old new ours plain rows.items (ok clean)).0 in
+      record { is_open = shows.is_open; same = shows.now_is ∙ settled shows.was_open ∙ sym shows.committed_is }
+  sees_commit (Err e) settled ok clean = tt
+
+abbrev asked : Query
+asked = (over meta_tree by_one (col 1 2 ∷ []) []).body
+
+abbrev slots : Row → Env
+slots row = version_key ∷ row ∷ []
+
+matches_are : (rows : List Row)
+    → flat_map (λ r. cond (list_all (holds (version_key ∷ r ∷ [])) by_one) ((version_key ∷ r ∷ []) ∷ []) []) rows ≡ map slots (filter (has_key_from 1 version_key) rows)
+matches_are [] = refl
+matches_are (r ∷ rows) =
+    rw (matches_are rows) (elim (has_key_from 1 version_key r) as (λ b. cond b (slots r ∷ []) [] ++ map slots (filter (has_key_from 1 version_key) rows) ≡ map slots (cond b (r ∷ filter (has_key_from 1 version_key) rows) (filter (has_key_from 1 version_key) rows)))
+    [ true ↦ refl | false ↦ refl ])
+
+-- the numbers that the query shows are those of the rows of the version
+numbers_are : (trees : Trees) (rows : List Row) → IsAnswer asked (overlay trees []) version_key rows → IsPermutation (map (λ r. column r stored_value_column ∷ []) (version_rows trees)) rows
+numbers_are trees rows a =
+    let kept : a.kept ≡ map (output asked) (map slots (version_rows trees)) = a.distinct ∙ ap (map (output asked)) (a.grouped ∙ matches_are (trees meta_tree)) in
+    let shown : map (λ (o : Output). o.1) a.kept ≡ map (λ r. column r stored_value_column ∷ []) (version_rows trees) =
+    ap (map (λ (o : Output). o.1)) kept ∙ map-map (λ (o : Output). o.1) (output asked) (map slots (version_rows trees)) ∙ map-map _ slots (version_rows trees) in
+    subst (λ l. IsPermutation l rows) shown (subst (λ l. IsPermutation (map (λ (o : Output). o.1) a.kept) l) (sym a.shown) (IsPermutation-map (λ (o : Output). o.1) a.kept a.ordered a.same))
+
+pub version_found : (old new : State) (rows : List Row) → old.now.schema ≡ mail_schema → Shown select_version version_key old new rows → IsPermutation (map (λ r. column r stored_value_column ∷ []) (version_rows old.now.trees)) rows
+version_found old new rows ours shown =
+    numbers_are old.now.trees rows (answered mail_schema select_version version_key old new ours select_version_plain.0 meta_tree by_one (col 1 2 ∷ []) [] _ select_version_is select_version_plain.1 rows shown)
+
+says_ours : (db : Database) (rows found : List Row) → db.schema ≡ mail_schema → version_rows db.trees ≡ found → IsPermutation (map (λ r. column r stored_value_column ∷ []) found) rows → SaysTwo rows ↔ IsOurs db
+says_ours db rows [] ours are same = (
+  λ one. absurd (let none = length_permutation _ _ (subst (IsPermutation []) one.1 same) in omega (arith, none)),
+  λ h. absurd (let none = sym are ∙ h.only in cc),
+)
+says_ours db rows (r ∷ []) ours are same =
+    let alone = one_permutation (column r stored_value_column ∷ []) rows same in (
+      λ one. record { schema = ours; row = r; only = are; says = ap (λ l. column (first_of l) 0) (sym alone ∙ one.1) ∙ one.2 },
+      λ h. (column r stored_value_column ∷ [], alone, ap (λ l. column (first_of l) stored_value_column) (sym are ∙ h.only) ∙ h.says),
+    )
+  where
+    first_of : List Row → Row
+    first_of [] = []
+    first_of (x ∷ xs) = x
+says_ours db rows (r ∷ q ∷ more) ours are same = (
+  λ one. absurd (let many = length_permutation _ _ (subst (IsPermutation _) one.1 same) in omega (arith, many)),
+  λ h. absurd (let one = sym are ∙ h.only in let many : length (r ∷ q ∷ more) ≡ 1 = ap length one in omega (arith, many)),
+)
+
+pub row_says : (rows : List Row) (row : Row) → rows ≡ row ∷ [] → (r : Result Bool Error) → IfOk r (λ is. IsTrue is ↔ (column row 0 ≡ Int (pos 2))) → IfOk r (λ is. IsTrue is ↔ SaysTwo rows)
+row_says rows row are (Err e) said = tt
+row_says rows row are (Ok is) said = (λ e. (row, are, said.0 e), λ h. let same : row ∷ [] ≡ h.0 ∷ [] = sym are ∙ h.1 in let one : row ≡ h.0 = cc in said.1 (ap (λ (x : Row). column x 0) one ∙ h.2))
+
+pub version_says : (db : Database) (rows : List Row) → db.schema ≡ mail_schema → IsPermutation (map (λ r. column r stored_value_column ∷ []) (version_rows db.trees)) rows → (r : Result Bool Error) → IfOk r (λ is. IsTrue is ↔ SaysTwo rows)
+    → IfOk r (λ is. IsTrue is ↔ IsOurs db)
+version_says db rows ours same (Err e) said = tt
+version_says db rows ours same (Ok is) said = let both = says_ours db rows _ ours refl same in (λ e. both.0 (said.0 e), λ h. said.1 (both.1 h))
+
+-- the query for the version
+pub asks_version : (old new : State) (r : Result (Vec Row Global) Error) → Answers select_version version_key old new r → Asks (AreVersions old.now.trees) old new r
+asks_version old new r asked = record {
+  found = λ ours clean. found r ours (asked.ok clean);
+  same = λ ours. keeps_same select_version version_key old new ours select_version_plain.0 r asked.settled asked.ok asked.err;
+  live = λ ours. sees_commit select_version version_key old new ours select_version_plain.0 r asked.settled asked.ok;
+  crash = λ ours. quiet mail_schema select_version version_key old new ours select_version_plain.0 asked.survives;
+}
+  where
+    found : (o : Result (Vec Row Global) Error) → old.now.schema ≡ mail_schema → IfOk o (λ rows. Shown select_version version_key old new rows.items) → IfOk o (AreVersions old.now.trees)
+    found (Err e) ours shown = tt
+    found (Ok rows) ours shown = version_found old new rows.items ours shown
+
+-- with a refusal as the answer
+pub asks_refused : {X Y E F : Type 0} {P : X → Type 0} {Q : Y → Type 0} (old new : State) (r : Result X E) (e : F) (q : Result Y F) → q ≡ Err e → Asks P old new r → Asks Q old new q
+asks_refused {Q = Q} old new r e q is h = record {
+  found = λ ours clean. subst (λ o. IfOk o Q) (sym is) tt;
+  same = h.same;
+  live = λ ours clean. subst (λ o. OnOk o (SeesCommit new)) (sym is) tt;
+  crash = h.crash;
+}
+
+-- and what its rows say
+pub says_version : (old new : State) (r : Result (Vec Row Global) Error) (rows : Vec Row Global) → r ≡ Ok rows → Asks (AreVersions old.now.trees) old new r → (q : Result Bool Error) → IfOk q (λ is. IsTrue is ↔ SaysTwo rows.items)
+    → Asks (λ is. IsTrue is ↔ IsOurs old.now) old new q
+says_version old new r rows was h q said = record {
+  found = λ ours clean. version_says old.now rows.items ours (subst (λ o. IfOk o (AreVersions old.now.trees)) was (h.found ours clean)) q said;
+  same = h.same;
+  live = λ ours clean. on_any q (SeesCommit new) (on_ok r rows was (SeesCommit new) (h.live ours clean));
+  crash = h.crash;
+}

@@ -1,0 +1,8 @@
+use Rattle.mailtables.proofs.WriteLemmas.{statement_makes}
+use Rattle.mailtables.proofs.StatementLemmas.{inserts_message}
+use Rattle.mailtables.proofs.message.add_message.Goals as goal
+
+pub returns : goal.returns
+returns g c =
+    statement_makes g.S.Store _ _ _ c.args.tx.now c.execute.new.tx c.execute.result (inserts_message _ _ c.args.owner.now c.args.id.now c.args.bytes.now)
+    (rw (c.params-to_sql.ensures, c.params-to_sql-2.ensures, c.params-to_sql-3.ensures) at c.execute.ensures)

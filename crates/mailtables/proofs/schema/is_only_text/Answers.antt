@@ -1,0 +1,9 @@
+use Rattle.std.proofs.Common.{◌≡◌, [], ◌∷◌, ap, sym, ◌∙◌}
+use Rattle.mailtables.proofs.SchemaLemmas.{only_item, only_same, same_text}
+use Rattle.mailtables.proofs.schema.is_only_text.Goals as goal
+
+pub returns : goal.returns
+returns c =
+    let one : c.args.texts.now ≡ c.only-item.result ∷ [] = only_item c.args.texts.now c.only-item.result c.in-len1.len_at_least c.in-len1.len_below c.only-item.is in
+    let same = same_text c.as_slice.result.now c.args.text.now c.eq.result c.eq.ensures in
+    (λ e. one ∙ ap (λ t. t ∷ []) (sym c.as_slice.ensures ∙ same.0 e), λ h. same.1 (c.as_slice.ensures ∙ only_same c.args.texts.now _ _ one h))

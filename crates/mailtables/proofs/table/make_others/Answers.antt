@@ -1,0 +1,14 @@
+use Rattle.mailtables.specs.Schema.{schema_3, schema_4, schema_5, schema_6, mail_schema}
+use Rattle.mailtables.proofs.CreateLemmas.{makes_then}
+use Rattle.mailtables.proofs.table.make_others.Goals as goal
+
+pub returns : goal.returns
+returns g c =
+    let start = c.args.tx.now in
+    let one = c.make_outgoing.new.tx in
+    let two = c.make_reply.new.tx in
+    let three = c.make_notice.new.tx in
+    let four = c.make_folders.new.tx in
+    let both = makes_then g.S.Store start one two schema_3 schema_4 schema_5 c.make_outgoing.result _ c.make_reply.result c.in_ok-make_outgoing.was c.make_outgoing.ensures c.make_reply.ensures in
+    let all = makes_then g.S.Store start two three schema_3 schema_5 schema_6 c.make_reply.result _ c.make_notice.result c.in_ok-make_reply.was both c.make_notice.ensures in
+    makes_then g.S.Store start three four schema_3 schema_6 mail_schema c.make_notice.result _ c.make_folders.result c.in_ok-make_notice.was all c.make_folders.ensures

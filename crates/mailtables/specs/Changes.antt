@@ -1,0 +1,125 @@
+-- What row changes make of the tables.
+use Rattle.std.specs.Prelude.{◌≡◌, ℕ, ℤ, Option, List, [], ◌∷◌, fold, Result, OnOk}
+use Rattle.std.specs.List.{AllByRecursion}
+use Rattle.sqlite_value.specs.declared.value.Value.TheVariants.{Blob}
+use Rattle.sqlite_trees.specs.Tree.{Trees}
+use Rattle.sqlite.specs.Effect.{Database}
+use Rattle.sqlite.specs.State.{State, HasCleanDisk}
+use Rattle.sqlrows.specs.Rows.{Tables, HoldsTables, added, removed, set_in}
+use Rattle.mailtables.specs.declared.change.Change.{Change}
+use Rattle.mailtables.specs.declared.change.Change.TheVariants.{AddAccount, SetActive, SetCounters, AddScript, RemoveScript, AddMessage, RemoveMessage, AddCopy, RemoveCopy, AddOutgoing, RemoveOutgoing, AddReply, RemoveReply, AddNotice}
+use Rattle.mailtables.specs.Schema.{mail_schema}
+use Rattle.mailtables.specs.Cells.{or_null, contents}
+use Rattle.mailtables.specs.AccountTable.{account_cells, with_active, with_counters, account_tree}
+use Rattle.mailtables.specs.ScriptTable.{script_cells, script_tree}
+use Rattle.mailtables.specs.MessageTable.{message_cells, message_key, message_tree}
+use Rattle.mailtables.specs.CopyTable.{copy_cells, copy_key, copy_tree}
+use Rattle.mailtables.specs.QueueTable.{queue_cells, queue_key, outgoing_tree}
+use Rattle.mailtables.specs.ReplyTable.{reply_cells, reply_key, reply_tree}
+use Rattle.mailtables.specs.NoticeTable.{notice_row_cells, notice_tree}
+use Rattle.mailtables.specs.declared.queue.Kind.{Kind}
+
+-- ---- one row change
+
+abbrev pub account_added : List ℕ → List ℕ → List ℕ → ℕ → List ℕ → Tables → Tables
+account_added name address salt rounds digest = added account_tree (account_cells name address salt rounds digest)
+
+abbrev pub active_set : List ℕ → Option (List ℕ) → Tables → Tables
+active_set name active = set_in account_tree (Blob name ∷ []) (with_active (or_null active))
+
+abbrev pub counters_set : List ℕ → ℤ → ℤ → ℤ → Tables → Tables
+counters_set name copy out notice = set_in account_tree (Blob name ∷ []) (with_counters copy out notice)
+
+abbrev pub script_added : List ℕ → List ℕ → List ℕ → Tables → Tables
+script_added owner name text = added script_tree (script_cells owner name text)
+
+abbrev pub script_removed : List ℕ → List ℕ → Tables → Tables
+script_removed owner name = removed script_tree (Blob owner ∷ Blob name ∷ [])
+
+abbrev pub message_added : List ℕ → ℤ → List ℕ → Tables → Tables
+message_added owner id bytes = added message_tree (message_cells owner id bytes)
+
+abbrev pub message_removed : List ℕ → ℤ → Tables → Tables
+message_removed owner id = removed message_tree (message_key owner id)
+
+abbrev pub copy_added : List ℕ → List ℕ → ℤ → ℤ → Tables → Tables
+copy_added owner folder n id = added copy_tree (copy_cells owner folder n id)
+
+abbrev pub copy_removed : List ℕ → List ℕ → ℤ → Tables → Tables
+copy_removed owner folder n = removed copy_tree (copy_key owner folder n)
+
+abbrev pub outgoing_added : List ℕ → ℤ → Kind → List ℕ → List ℕ → List ℕ → Tables → Tables
+outgoing_added owner id kind sender target message = added outgoing_tree (queue_cells owner id kind sender target message)
+
+abbrev pub outgoing_removed : List ℕ → ℤ → Tables → Tables
+outgoing_removed owner id = removed outgoing_tree (queue_key owner id)
+
+abbrev pub reply_added : List ℕ → List ℕ → List ℕ → ℤ → Tables → Tables
+reply_added owner handle sender moment = added reply_tree (reply_cells owner handle sender moment)
+
+abbrev pub reply_removed : List ℕ → List ℕ → List ℕ → Tables → Tables
+reply_removed owner handle sender = removed reply_tree (reply_key owner handle sender)
+
+abbrev pub notice_added : List ℕ → ℤ → ℤ → List ℕ → Tables → Tables
+notice_added owner id moment text = added notice_tree (notice_row_cells owner id moment text)
+
+abbrev pub made_one : Change → Tables → Tables
+made_one (AddAccount name address salt rounds digest) = account_added name.now address.now salt.now rounds digest.now
+made_one (SetActive name active) = active_set name.now (contents active)
+made_one (SetCounters name copy out notice) = counters_set name.now copy out notice
+made_one (AddScript owner name text) = script_added owner.now name.now text.now
+made_one (RemoveScript owner name) = script_removed owner.now name.now
+made_one (AddMessage owner id bytes) = message_added owner.now id bytes.now
+made_one (RemoveMessage owner id) = message_removed owner.now id
+made_one (AddCopy owner folder n id) = copy_added owner.now folder.now n id
+made_one (RemoveCopy owner folder n) = copy_removed owner.now folder.now n
+made_one (AddOutgoing owner id kind sender target message) = outgoing_added owner.now id kind sender.now target.now message.now
+made_one (RemoveOutgoing owner id) = outgoing_removed owner.now id
+made_one (AddReply owner handle sender moment) = reply_added owner.now handle.now sender.now moment
+made_one (RemoveReply owner handle sender) = reply_removed owner.now handle.now sender.now
+made_one (AddNotice owner id moment text) = notice_added owner.now id moment text.now
+
+-- ---- several
+
+-- the changes one after another
+abbrev pub made : Tables → List Change → Tables
+made = fold (λ tables change. made_one change tables)
+
+-- after Ok all row changes are made
+abbrev pub MakesAll : {X E : Type 0} → List Change → State → State → Result X E → Type 0
+MakesAll changes old new result = HasCleanDisk new → (tables : Tables) → HoldsTables mail_schema old.now tables → OnOk result (HoldsTables mail_schema new.now (made tables changes))
+
+-- what a crash may leave of a transaction of these changes
+abbrev pub CrashLeavesTables : List Change → State → Trees → Type 0
+CrashLeavesTables changes s trees = (tables : Tables) → HoldsTables mail_schema s.now tables → (after : Database) × HoldsTables mail_schema after (made tables changes) × (trees ≡ after.trees)
+
+-- whose row it is
+abbrev pub owner_of : Change → List ℕ
+owner_of (AddAccount name address salt rounds digest) = name.now
+owner_of (SetActive name active) = name.now
+owner_of (SetCounters name copy out notice) = name.now
+owner_of (AddScript owner name text) = owner.now
+owner_of (RemoveScript owner name) = owner.now
+owner_of (AddMessage owner id bytes) = owner.now
+owner_of (RemoveMessage owner id) = owner.now
+owner_of (AddCopy owner folder n id) = owner.now
+owner_of (RemoveCopy owner folder n) = owner.now
+owner_of (AddOutgoing owner id kind sender target message) = owner.now
+owner_of (RemoveOutgoing owner id) = owner.now
+owner_of (AddReply owner handle sender moment) = owner.now
+owner_of (RemoveReply owner handle sender) = owner.now
+owner_of (AddNotice owner id moment text) = owner.now
+
+-- all changes are one user's
+abbrev pub AreOf : List ℕ → List Change → Type 0
+AreOf user = AllByRecursion (λ d. owner_of d ≡ user)
+
+-- the changes are one user's, and make this of the tables beside what the earlier ones made
+pub record Extends (user : List ℕ) (change : Tables → Tables) (earlier changes : List Change) : Type 0 where
+  pub owned : AreOf user earlier → AreOf user changes
+  pub makes : (own : Tables) → made own changes ≡ change (made own earlier)
+
+-- the change is one user's, and makes this of the tables
+pub record MakesOwn (user : List ℕ) (change : Tables → Tables) (one : Change) : Type 0 where
+  pub owned : owner_of one ≡ user
+  pub makes : (own : Tables) → made_one one own ≡ change own

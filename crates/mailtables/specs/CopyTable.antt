@@ -1,0 +1,67 @@
+-- The table of the copies of messages, which are the folders: a row says which message a folder has.
+use Rattle.std.specs.Prelude.{false, ℕ, ℤ, List, [], ◌∷◌, codes}
+use Rattle.sqlite_schema.specs.declared.schema.Action.TheVariants.{NoAction}
+use Rattle.sqlite_schema.specs.declared.schema.Kind.TheVariants as kind
+use Rattle.sqlite_schema.specs.declared.schema.Reference.{Reference}
+use Rattle.sqlite_schema.specs.declared.schema.Table.{Table}
+use Rattle.sqlite_value.specs.declared.value.Value.TheVariants.{Int, Blob}
+use Rattle.sqlite_value.specs.Order.{Row}
+use Rattle.sqlrows.specs.Forms.{needed, keyed}
+use Rattle.mailtables.specs.AccountTable.{account_reference}
+
+abbrev pub copy_tree : ℕ
+copy_tree = 14
+
+-- ---- the columns
+
+abbrev pub folder_column : ℕ
+folder_column = 1
+
+abbrev pub n_column : ℕ
+n_column = 2
+
+abbrev pub id_column : ℕ
+id_column = 3
+
+-- `REFERENCES message (owner, id)` at the columns of the owner and of the message's number
+abbrev pub message_reference : Reference
+message_reference = record { columns = 1 ∷ 4 ∷ []; parent = codes "message"; parent_columns = codes "owner" ∷ codes "id" ∷ []; on_delete = NoAction; on_update = NoAction; is_deferred = false }
+
+abbrev pub to_message : List Reference
+to_message = account_reference ∷ message_reference ∷ []
+
+abbrev pub copy : Table
+copy = keyed (codes "copy") copy_tree (1 ∷ 2 ∷ 3 ∷ []) to_message
+    (needed (codes "owner") kind.Blob ∷ needed (codes "folder") kind.Blob ∷ needed (codes "n") kind.Integer ∷ needed (codes "id") kind.Integer ∷ [])
+
+-- ---- its statements
+
+abbrev pub create_copy : List ℕ
+create_copy =
+    codes "CREATE TABLE copy (owner BLOB NOT NULL REFERENCES account (name), folder BLOB NOT NULL, n INTEGER NOT NULL, id INTEGER NOT NULL, PRIMARY KEY (owner, folder, n), FOREIGN KEY (owner, id) REFERENCES message (owner, id)) STRICT"
+
+abbrev pub insert_copy : List ℕ
+insert_copy = codes "INSERT INTO copy (owner, folder, n, id) VALUES (?1, ?2, ?3, ?4)"
+
+abbrev pub delete_copy : List ℕ
+delete_copy = codes "DELETE FROM copy WHERE owner = ?1 AND folder = ?2 AND n = ?3"
+
+-- a user's copies go out in the order of their numbers
+abbrev pub select_filings : List ℕ
+select_filings = codes "SELECT folder, n, id FROM copy WHERE owner = ?1 ORDER BY n"
+
+abbrev pub select_folders : List ℕ
+select_folders = codes "SELECT folder FROM copy WHERE owner = ?1 ORDER BY folder"
+
+abbrev pub select_folder : List ℕ
+select_folder =
+    codes "SELECT message.bytes FROM copy JOIN message ON message.owner = copy.owner AND message.id = copy.id WHERE copy.owner = ?1 AND copy.folder = ?2 ORDER BY copy.n"
+
+-- ---- its rows
+
+abbrev pub copy_cells : List ℕ → List ℕ → ℤ → ℤ → Row
+copy_cells owner folder n id = Blob owner ∷ Blob folder ∷ Int n ∷ Int id ∷ []
+
+-- the key of a row: the owner, the folder and the number
+abbrev pub copy_key : List ℕ → List ℕ → ℤ → Row
+copy_key owner folder n = Blob owner ∷ Blob folder ∷ Int n ∷ []

@@ -1,0 +1,13 @@
+pub mod AccountTable
+pub mod Cells
+pub mod Changes
+pub mod Connection
+pub mod CopyTable
+pub mod MessageTable
+pub mod MetaTable
+pub mod NoticeTable
+pub mod Ours
+pub mod QueueTable
+pub mod ReplyTable
+pub mod Schema
+pub mod ScriptTable

@@ -1,0 +1,44 @@
+-- The table of messages on their way out.
+use Rattle.std.specs.Prelude.{ℕ, ℤ, pos, List, [], ◌∷◌, codes}
+use Rattle.sqlite_schema.specs.declared.schema.Kind.TheVariants as kind
+use Rattle.sqlite_schema.specs.declared.schema.Table.{Table}
+use Rattle.sqlite_value.specs.declared.value.Value.TheVariants.{Int, Blob}
+use Rattle.sqlite_value.specs.Order.{Row}
+use Rattle.sqlrows.specs.Forms.{needed, keyed}
+use Rattle.mailtables.specs.declared.queue.Kind.{Kind}
+use Rattle.mailtables.specs.declared.queue.Kind.TheVariants.{Redirect, Reply}
+use Rattle.mailtables.specs.AccountTable.{to_account}
+
+abbrev pub outgoing_tree : ℕ
+outgoing_tree = 6
+
+abbrev pub outgoing : Table
+outgoing = keyed (codes "outgoing") outgoing_tree (1 ∷ 2 ∷ []) to_account
+    (needed (codes "owner") kind.Blob ∷ needed (codes "id") kind.Integer ∷ needed (codes "kind") kind.Integer ∷ needed (codes "sender") kind.Blob ∷ needed (codes "target") kind.Blob
+    ∷ needed (codes "message") kind.Blob ∷ [])
+
+abbrev pub create_outgoing : List ℕ
+create_outgoing =
+    codes "CREATE TABLE outgoing (owner BLOB NOT NULL REFERENCES account (name), id INTEGER NOT NULL, kind INTEGER NOT NULL, sender BLOB NOT NULL, target BLOB NOT NULL, message BLOB NOT NULL, PRIMARY KEY (owner, id)) STRICT"
+
+-- a redirect, or a vacation reply (RFC 5230)
+abbrev pub kind_number : Kind → ℕ
+kind_number Redirect = 1
+kind_number Reply = 2
+
+abbrev pub queue_cells : List ℕ → ℤ → Kind → List ℕ → List ℕ → List ℕ → Row
+queue_cells owner id kind sender target message = Blob owner ∷ Int id ∷ Int (pos (kind_number kind)) ∷ Blob sender ∷ Blob target ∷ Blob message ∷ []
+
+-- the key of a row: the owner and the number
+abbrev pub queue_key : List ℕ → ℤ → Row
+queue_key owner id = Blob owner ∷ Int id ∷ []
+
+abbrev pub insert_outgoing : List ℕ
+insert_outgoing = codes "INSERT INTO outgoing (owner, id, kind, sender, target, message) VALUES (?1, ?2, ?3, ?4, ?5, ?6)"
+
+abbrev pub delete_outgoing : List ℕ
+delete_outgoing = codes "DELETE FROM outgoing WHERE owner = ?1 AND id = ?2"
+
+-- the queue goes out in the order of its numbers
+abbrev pub select_queue : List ℕ
+select_queue = codes "SELECT id, kind, sender, target, message FROM outgoing WHERE owner = ?1 ORDER BY id"

@@ -1,0 +1,78 @@
+-- The tables of version 2, as the texts of their CREATE statements define them.
+use Rattle.std.specs.Prelude.{◌≡◌, ◌+◌, true, false, None, List, [], ◌∷◌, ◌++◌}
+use Rattle.sqlite_schema.specs.declared.schema.Column.{Column}
+use Rattle.sqlite_schema.specs.declared.schema.Index.{Index}
+use Rattle.sqlite_schema.specs.declared.schema.Reference.{Reference}
+use Rattle.sqlite_schema.specs.declared.schema.Table.{Table}
+use Rattle.sqlite_schema.specs.declared.schema.Schema.{Schema}
+use Rattle.sqlite_catalog.specs.Change.{automatics, created}
+use Rattle.sqlite_value.specs.declared.value.Value.TheVariants.{Null}
+use Rattle.sqlite_value.specs.declared.keys.Collation.TheVariants.{Binary}
+use Rattle.sqlite_value.specs.Keys.{plain}
+use Rattle.mailtables.specs.declared.schema.Form.{Form}
+use Rattle.mailtables.specs.declared.schema.Parents.{Parents}
+use Rattle.mailtables.specs.declared.schema.Parents.TheVariants.{Nothing, Account, AccountAndMessage}
+use Rattle.mailtables.specs.declared.schema.KeyForm.{KeyForm}
+use Rattle.mailtables.specs.MetaTable.{meta_tree, meta}
+use Rattle.mailtables.specs.AccountTable.{account_tree, account, to_account}
+use Rattle.mailtables.specs.ScriptTable.{script_tree, script}
+use Rattle.mailtables.specs.QueueTable.{outgoing_tree, outgoing}
+use Rattle.mailtables.specs.ReplyTable.{reply_tree, reply}
+use Rattle.mailtables.specs.NoticeTable.{notice_tree, notice}
+use Rattle.mailtables.specs.MessageTable.{message_tree, message}
+use Rattle.mailtables.specs.CopyTable.{copy_tree, copy, to_message}
+
+abbrev pub the_tables : List Table
+the_tables = meta ∷ account ∷ script ∷ outgoing ∷ reply ∷ notice ∷ message ∷ copy ∷ []
+
+abbrev pub no_schema : Schema
+no_schema = record { tables = []; indexes = []; views = [] }
+
+-- the index of each table's key: its tree is the one after the table's
+abbrev pub the_indexes : List Index
+the_indexes =
+    automatics meta 0 (meta_tree + 1) meta.uniques ++ automatics account 0 (account_tree + 1) account.uniques ++ automatics script 0 (script_tree + 1) script.uniques
+    ++ automatics outgoing 0 (outgoing_tree + 1) outgoing.uniques ++ automatics reply 0 (reply_tree + 1) reply.uniques ++ automatics notice 0 (notice_tree + 1) notice.uniques
+    ++ automatics message 0 (message_tree + 1) message.uniques ++ automatics copy 0 (copy_tree + 1) copy.uniques
+
+abbrev pub mail_schema : Schema
+mail_schema = record { tables = the_tables; indexes = the_indexes; views = [] }
+
+-- the schema once the first tables are made
+abbrev pub schema_1 : Schema
+schema_1 = created no_schema (record meta { tree = 0 })
+
+abbrev pub schema_2 : Schema
+schema_2 = created schema_1 (record account { tree = 0 })
+
+abbrev pub schema_3 : Schema
+schema_3 = created schema_2 (record script { tree = 0 })
+
+abbrev pub schema_4 : Schema
+schema_4 = created schema_3 (record outgoing { tree = 0 })
+
+abbrev pub schema_5 : Schema
+schema_5 = created schema_4 (record reply { tree = 0 })
+
+abbrev pub schema_6 : Schema
+schema_6 = created schema_5 (record notice { tree = 0 })
+
+abbrev pub schema_7 : Schema
+schema_7 = created schema_6 (record message { tree = 0 })
+
+-- the column of this form, without a default
+abbrev pub column_of : Form → Column
+column_of form = record { name = form.name.now; kind = form.kind; is_strict = true; not_null = form.not_null; default = Null; collation = Binary }
+
+abbrev pub references_to : Parents → List Reference
+references_to Nothing = []
+references_to Account = to_account
+references_to AccountAndMessage = to_message
+
+-- no INTEGER PRIMARY KEY, CHECK, default that is no literal, or AUTOINCREMENT
+abbrev pub HasNoOtherRule : Table → Type 0
+HasNoOtherRule table = (table.key ≡ None) × (table.checks ≡ []) × (table.computed ≡ []) × (table.stamps ≡ record { places = []; terms = []; formats = [] }) × (table.is_counted ≡ false)
+
+-- the index of this form, of a table's one key
+abbrev pub index_of : KeyForm → Index
+index_of form = record { name = form.name.now; tree = form.tree; table = form.table; columns = form.places.now; order = plain; is_unique = true }

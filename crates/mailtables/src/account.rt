@@ -1,0 +1,69 @@
+//! The table of accounts: its rows are the users.
+ghost use Rattle.mailtables.specs.Cells.{contents};
+ghost use Rattle.mailtables.specs.Changes.{account_added, active_set, counters_set};
+ghost use Rattle.mailtables.specs.Connection.{ChangesRows, MakesTables};
+ghost use Rattle.mailtables.specs.Schema.{schema_1, schema_2};
+
+use crate::statement::execute;
+use sqlite::{Alter, Error, Transaction, params};
+
+/// Makes the table `account`, inside a transaction.
+pub(crate) fn make_account<S: Alter>(tx: &mut Transaction<'_, S>) -> Result<(), Error>
+    ensures { MakesTables S.Store schema_1 schema_2 tx.old tx.new result }
+{
+    execute(
+        tx,
+        "CREATE TABLE account (name BLOB NOT NULL PRIMARY KEY, address BLOB NOT NULL, salt BLOB NOT NULL, rounds INTEGER NOT NULL, digest BLOB NOT NULL, active BLOB, next_copy INTEGER NOT NULL, next_out INTEGER NOT NULL, next_notice INTEGER NOT NULL) STRICT",
+        &[],
+    )
+}
+
+/// A new account without an active script, whose counters begin at 1. Inside a transaction.
+pub(crate) fn add_account<S: Alter>(
+    tx: &mut Transaction<'_, S>,
+    name: &[u8],
+    address: &[u8],
+    salt: &[u8],
+    rounds: u32,
+    digest: &[u8],
+) -> Result<(), Error>
+    ensures { ChangesRows S.Store (account_added name.now address.now salt.now rounds digest.now) tx.old tx.new result }
+{
+    execute(
+        tx,
+        "INSERT INTO account (name, address, salt, rounds, digest, active, next_copy, next_out, next_notice) VALUES (?1, ?2, ?3, ?4, ?5, NULL, 1, 1, 1)",
+        params![name, address, salt, rounds, digest],
+    )
+}
+
+/// Another script is active, or none. Inside a transaction.
+pub(crate) fn set_active<S: Alter>(
+    tx: &mut Transaction<'_, S>,
+    name: &[u8],
+    active: Option<&[u8]>,
+) -> Result<(), Error>
+    ensures { ChangesRows S.Store (active_set name.now (contents active.entry)) tx.old tx.new result }
+{
+    execute(
+        tx,
+        "UPDATE account SET active = ?2 WHERE name = ?1",
+        params![name, active],
+    )
+}
+
+/// Other counters: of copies, of messages on their way out, and of notices. Inside a transaction.
+pub(crate) fn set_counters<S: Alter>(
+    tx: &mut Transaction<'_, S>,
+    name: &[u8],
+    copy: &i64,
+    out: &i64,
+    notice: &i64,
+) -> Result<(), Error>
+    ensures { ChangesRows S.Store (counters_set name.now copy.now out.now notice.now) tx.old tx.new result }
+{
+    execute(
+        tx,
+        "UPDATE account SET next_copy = ?2, next_out = ?3, next_notice = ?4 WHERE name = ?1",
+        params![name, copy, out, notice],
+    )
+}

@@ -1,0 +1,171 @@
+//! One row change, and a list of them in one transaction.
+ghost use Rattle.std.specs.Prelude.{◌≡◌, false, OnOk, OnErr};
+ghost use Rattle.sqlite.specs.Held.{state};
+ghost use Rattle.mailtables.specs.Changes.{MakesAll, CrashLeavesTables, made_one};
+ghost use Rattle.sqlite.specs.State.{Survives, HasCleanDisk};
+ghost use Rattle.mailtables.specs.Connection.{ChangesRows, IsSettled, StaysSame};
+
+use crate::account::{add_account, set_active, set_counters};
+use crate::copy::{add_copy, remove_copy};
+use crate::message::{add_message, remove_message};
+use crate::notice::add_notice;
+use crate::queue::{Kind, add_outgoing, remove_outgoing};
+use crate::reply::{add_reply, remove_reply};
+use crate::script::{add_script, remove_script};
+use sqlite::{Alter, Connection, Error, Transaction};
+
+/// A change of one row by its key. Names, texts and messages are borrowed.
+#[derive(Drop)]
+pub enum Change<'a> {
+    AddAccount {
+        name: &'a [u8],
+        address: &'a [u8],
+        salt: &'a [u8],
+        rounds: u32,
+        digest: &'a [u8],
+    },
+    SetActive {
+        name: &'a [u8],
+        active: Option<&'a [u8]>,
+    },
+    SetCounters {
+        name: &'a [u8],
+        copy: i64,
+        out: i64,
+        notice: i64,
+    },
+    AddScript {
+        owner: &'a [u8],
+        name: &'a [u8],
+        text: &'a [u8],
+    },
+    RemoveScript {
+        owner: &'a [u8],
+        name: &'a [u8],
+    },
+    AddMessage {
+        owner: &'a [u8],
+        id: i64,
+        bytes: &'a [u8],
+    },
+    RemoveMessage {
+        owner: &'a [u8],
+        id: i64,
+    },
+    AddCopy {
+        owner: &'a [u8],
+        folder: &'a [u8],
+        n: i64,
+        id: i64,
+    },
+    RemoveCopy {
+        owner: &'a [u8],
+        folder: &'a [u8],
+        n: i64,
+    },
+    AddOutgoing {
+        owner: &'a [u8],
+        id: i64,
+        kind: Kind,
+        sender: &'a [u8],
+        target: &'a [u8],
+        message: &'a [u8],
+    },
+    RemoveOutgoing {
+        owner: &'a [u8],
+        id: i64,
+    },
+    AddReply {
+        owner: &'a [u8],
+        handle: &'a [u8],
+        sender: &'a [u8],
+        moment: i64,
+    },
+    RemoveReply {
+        owner: &'a [u8],
+        handle: &'a [u8],
+        sender: &'a [u8],
+    },
+    AddNotice {
+        owner: &'a [u8],
+        id: i64,
+        moment: i64,
+        text: &'a [u8],
+    },
+}
+
+/// Makes the change, inside a transaction.
+fn make<S: Alter>(tx: &mut Transaction<'_, S>, change: &Change<'_>) -> Result<(), Error>
+    ensures { ChangesRows S.Store (made_one change.now) tx.old tx.new result }
+{
+    match change {
+        Change::AddAccount {
+            name,
+            address,
+            salt,
+            rounds,
+            digest,
+        } => add_account(tx, name, address, salt, *rounds, digest),
+        Change::SetActive { name, active } => set_active(tx, name, *active),
+        Change::SetCounters {
+            name,
+            copy,
+            out,
+            notice,
+        } => set_counters(tx, name, copy, out, notice),
+        Change::AddScript { owner, name, text } => add_script(tx, owner, name, text),
+        Change::RemoveScript { owner, name } => remove_script(tx, owner, name),
+        Change::AddMessage { owner, id, bytes } => add_message(tx, owner, id, bytes),
+        Change::RemoveMessage { owner, id } => remove_message(tx, owner, id),
+        Change::AddCopy {
+            owner,
+            folder,
+            n,
+            id,
+        } => add_copy(tx, owner, folder, n, id),
+        Change::RemoveCopy { owner, folder, n } => remove_copy(tx, owner, folder, n),
+        Change::AddOutgoing {
+            owner,
+            id,
+            kind,
+            sender,
+            target,
+            message,
+        } => add_outgoing(tx, owner, id, *kind, sender, target, message),
+        Change::RemoveOutgoing { owner, id } => remove_outgoing(tx, owner, id),
+        Change::AddReply {
+            owner,
+            handle,
+            sender,
+            moment,
+        } => add_reply(tx, owner, handle, sender, moment),
+        Change::RemoveReply {
+            owner,
+            handle,
+            sender,
+        } => remove_reply(tx, owner, handle, sender),
+        Change::AddNotice {
+            owner,
+            id,
+            moment,
+            text,
+        } => add_notice(tx, owner, id, moment, text),
+    }
+}
+
+/// Makes the changes in turn, in one transaction: all of them, or none.
+pub fn make_all<S: Alter>(conn: &mut Connection<S>, changes: &[Change<'_>]) -> Result<(), Error>
+    requires { conn.old.in_transaction ≡ false }
+    ensures ended { conn.new.in_transaction ≡ false }
+    ensures made { MakesAll changes.now (state S.Store conn.old) (state S.Store conn.new) result }
+    ensures settled { HasCleanDisk (state S.Store conn.new) → OnOk result (IsSettled (state S.Store conn.new)) }
+    ensures same { HasCleanDisk (state S.Store conn.new) → OnErr result (StaysSame (state S.Store conn.old) (state S.Store conn.new)) }
+    ensures crash { Survives (state S.Store conn.old) (state S.Store conn.new) (CrashLeavesTables changes.now (state S.Store conn.old)) }
+{
+    let _settled = conn.is_autocommit();
+    let mut tx = conn.transaction();
+    for change in changes {
+        make(&mut tx, change)?;
+    }
+    tx.commit()
+}

@@ -1,0 +1,51 @@
+//! The table of the copies of messages, which are the folders.
+ghost use Rattle.mailtables.specs.Changes.{copy_added, copy_removed};
+ghost use Rattle.mailtables.specs.Connection.{ChangesRows, MakesTables};
+ghost use Rattle.mailtables.specs.Schema.{mail_schema, schema_7};
+
+use crate::statement::execute;
+use sqlite::{Alter, Error, Transaction, params};
+
+/// Makes the table `copy`, inside a transaction.
+pub(crate) fn make_copy<S: Alter>(tx: &mut Transaction<'_, S>) -> Result<(), Error>
+    ensures { MakesTables S.Store schema_7 mail_schema tx.old tx.new result }
+{
+    execute(
+        tx,
+        "CREATE TABLE copy (owner BLOB NOT NULL REFERENCES account (name), folder BLOB NOT NULL, n INTEGER NOT NULL, id INTEGER NOT NULL, PRIMARY KEY (owner, folder, n), FOREIGN KEY (owner, id) REFERENCES message (owner, id)) STRICT",
+        &[],
+    )
+}
+
+/// A copy in a folder, with its number, of the message with the number `id`, which is there. Inside a transaction.
+pub(crate) fn add_copy<S: Alter>(
+    tx: &mut Transaction<'_, S>,
+    owner: &[u8],
+    folder: &[u8],
+    n: &i64,
+    id: &i64,
+) -> Result<(), Error>
+    ensures { ChangesRows S.Store (copy_added owner.now folder.now n.now id.now) tx.old tx.new result }
+{
+    execute(
+        tx,
+        "INSERT INTO copy (owner, folder, n, id) VALUES (?1, ?2, ?3, ?4)",
+        params![owner, folder, n, id],
+    )
+}
+
+/// The copy with the number goes from the folder, if there is one. Inside a transaction.
+pub(crate) fn remove_copy<S: Alter>(
+    tx: &mut Transaction<'_, S>,
+    owner: &[u8],
+    folder: &[u8],
+    n: &i64,
+) -> Result<(), Error>
+    ensures { ChangesRows S.Store (copy_removed owner.now folder.now n.now) tx.old tx.new result }
+{
+    execute(
+        tx,
+        "DELETE FROM copy WHERE owner = ?1 AND folder = ?2 AND n = ?3",
+        params![owner, folder, n],
+    )
+}

@@ -1,0 +1,35 @@
+//! The table of notices.
+ghost use Rattle.mailtables.specs.Changes.{notice_added};
+ghost use Rattle.mailtables.specs.Connection.{ChangesRows, MakesTables};
+ghost use Rattle.mailtables.specs.Schema.{schema_5, schema_6};
+
+use crate::statement::execute;
+use sqlite::{Alter, Error, Transaction, params};
+
+/// Makes the table `notice`, inside a transaction.
+pub(crate) fn make_notice<S: Alter>(tx: &mut Transaction<'_, S>) -> Result<(), Error>
+    ensures { MakesTables S.Store schema_5 schema_6 tx.old tx.new result }
+{
+    execute(
+        tx,
+        "CREATE TABLE notice (owner BLOB NOT NULL REFERENCES account (name), id INTEGER NOT NULL, moment INTEGER NOT NULL, text BLOB NOT NULL, PRIMARY KEY (owner, id)) STRICT",
+        &[],
+    )
+}
+
+/// A notice with its number. Inside a transaction.
+pub(crate) fn add_notice<S: Alter>(
+    tx: &mut Transaction<'_, S>,
+    owner: &[u8],
+    id: &i64,
+    moment: &i64,
+    text: &[u8],
+) -> Result<(), Error>
+    ensures { ChangesRows S.Store (notice_added owner.now id.now moment.now text.now) tx.old tx.new result }
+{
+    execute(
+        tx,
+        "INSERT INTO notice (owner, id, moment, text) VALUES (?1, ?2, ?3, ?4)",
+        params![owner, id, moment, text],
+    )
+}

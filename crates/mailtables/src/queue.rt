@@ -1,0 +1,74 @@
+//! The table of messages on their way out.
+ghost use Rattle.std.specs.Prelude.{◌≡◌};
+ghost use Rattle.mailtables.specs.Changes.{outgoing_added, outgoing_removed};
+ghost use Rattle.mailtables.specs.Connection.{ChangesRows, MakesTables};
+ghost use Rattle.mailtables.specs.QueueTable.{kind_number};
+ghost use Rattle.mailtables.specs.Schema.{schema_3, schema_4};
+
+use crate::statement::execute;
+use sqlite::{Alter, Error, Transaction, params};
+
+/// Why a message goes out.
+#[derive(Clone, Copy, Debug, PartialEq, Eq)]
+pub enum Kind {
+    /// A `redirect` (RFC 5228, section 4.2).
+    Redirect,
+    /// A vacation reply (RFC 5230).
+    Reply,
+}
+
+/// Makes the table `outgoing`, inside a transaction.
+pub(crate) fn make_outgoing<S: Alter>(tx: &mut Transaction<'_, S>) -> Result<(), Error>
+    ensures { MakesTables S.Store schema_3 schema_4 tx.old tx.new result }
+{
+    execute(
+        tx,
+        "CREATE TABLE outgoing (owner BLOB NOT NULL REFERENCES account (name), id INTEGER NOT NULL, kind INTEGER NOT NULL, sender BLOB NOT NULL, target BLOB NOT NULL, message BLOB NOT NULL, PRIMARY KEY (owner, id)) STRICT",
+        &[],
+    )
+}
+
+/// The number of the kind, as the table has it.
+fn number_of(kind: Kind) -> u32
+    ensures { result ≡ kind_number kind }
+{
+    match kind {
+        Kind::Redirect => 1,
+        Kind::Reply => 2,
+    }
+}
+
+/// A message that joins the queue, with its number. Inside a transaction.
+pub(crate) fn add_outgoing<S: Alter>(
+    tx: &mut Transaction<'_, S>,
+    owner: &[u8],
+    id: &i64,
+    kind: Kind,
+    sender: &[u8],
+    target: &[u8],
+    message: &[u8],
+) -> Result<(), Error>
+    ensures { ChangesRows S.Store (outgoing_added owner.now id.now kind sender.now target.now message.now) tx.old tx.new result }
+{
+    let kind = number_of(kind);
+    execute(
+        tx,
+        "INSERT INTO outgoing (owner, id, kind, sender, target, message) VALUES (?1, ?2, ?3, ?4, ?5, ?6)",
+        params![owner, id, kind, sender, target, message],
+    )
+}
+
+/// The row with the number goes, if there is one. Inside a transaction.
+pub(crate) fn remove_outgoing<S: Alter>(
+    tx: &mut Transaction<'_, S>,
+    owner: &[u8],
+    id: &i64,
+) -> Result<(), Error>
+    ensures { ChangesRows S.Store (outgoing_removed owner.now id.now) tx.old tx.new result }
+{
+    execute(
+        tx,
+        "DELETE FROM outgoing WHERE owner = ?1 AND id = ?2",
+        params![owner, id],
+    )
+}

@@ -1,0 +1,33 @@
+//! One statement: inside a transaction, or a query outside of one.
+ghost use Rattle.std.specs.Prelude.{◌≡◌, false};
+ghost use Rattle.sqlite.specs.Values.{bound};
+ghost use Rattle.mailtables.specs.Connection.{RunsStatement, Answers, Queries};
+
+use sqlite::{Alter, Connection, Error, Row, Transaction};
+use sqlite_value::value::ValueRef;
+
+/// Runs the statement inside the transaction. How many rows it changes is not told.
+pub(crate) fn execute<S: Alter>(
+    tx: &mut Transaction<'_, S>,
+    sql: &str,
+    params: &[ValueRef<'_>],
+) -> Result<(), Error>
+    ensures { RunsStatement S.Store sql.now (bound params.now) tx.old tx.new result }
+{
+    tx.execute(sql, params)?;
+    Ok(())
+}
+
+/// All rows of the query's answer. Outside a transaction.
+pub fn query<S: Alter>(
+    conn: &mut Connection<S>,
+    sql: &str,
+    params: &[ValueRef<'_>],
+) -> Result<Vec<Row>, Error>
+    requires { conn.old.in_transaction ≡ false }
+    ensures { Queries S.Store (Answers sql.now (bound params.now)) conn.old conn.new result }
+{
+    // Outside a transaction what is seen is what was committed, which this call tells.
+    let _settled = conn.is_autocommit();
+    conn.query_all(sql, params)
+}
