@@ -4,7 +4,7 @@ use clap::{ArgMatches, Error};
 use std::alloc::Global;
 
 /// Where a store is.
-#[derive(Clone, Copy, Debug, PartialEq, Eq)]
+#[derive(Clone, Copy)]
 pub struct Place<'a> {
     /// The path of the database's file.
     pub path: &'a str,
@@ -13,7 +13,7 @@ pub struct Place<'a> {
 }
 
 /// What the words ask for, with its values as they were written. An address that was left out is empty.
-#[derive(Clone, Copy, Debug, PartialEq, Eq)]
+#[derive(Clone, Copy)]
 pub enum Asked<'a> {
     /// `try`: what a script does with a message.
     Try {
@@ -124,61 +124,68 @@ pub fn read<'a>(alloc: Global, words: &'a [String]) -> Result<Asked<'a>, Error> 
 /// What a word asks for with what was given to it.
 fn asked_by<'a>(word: &str, given: &ArgMatches<'a>) -> Asked<'a> {
     match word {
-        "init" => Asked::Init(place_in(given)),
+        "try" => Asked::Try {
+            from: text(given, "from"),
+            to: text(given, "to"),
+        },
+        _ => asked_of_store(word, place_in(given), given),
+    }
+}
+
+/// What a word asks for that works on a store.
+fn asked_of_store<'a>(word: &str, place: Place<'a>, given: &ArgMatches<'a>) -> Asked<'a> {
+    match word {
+        "init" => Asked::Init(place),
         "adduser" => Asked::AddUser {
-            place: place_in(given),
+            place,
             salt: text(given, "salt"),
             name: text(given, "name"),
             address: text(given, "address"),
         },
         "deliver" => Asked::Deliver {
-            place: place_in(given),
+            place,
             from: text(given, "from"),
             to: text(given, "to"),
             at: given.get_str("at"),
             user: text(given, "user"),
         },
         "folders" => Asked::Folders {
-            place: place_in(given),
+            place,
             user: text(given, "user"),
         },
         "show" => Asked::Show {
-            place: place_in(given),
+            place,
             user: text(given, "user"),
             folder: text(given, "folder"),
             number: text(given, "number"),
         },
         "queue" => Asked::Queue {
-            place: place_in(given),
+            place,
             user: text(given, "user"),
             id: given.get_str("id"),
         },
         "done" => Asked::Done {
-            place: place_in(given),
+            place,
             user: text(given, "user"),
             id: text(given, "id"),
         },
         "notices" => Asked::Notices {
-            place: place_in(given),
+            place,
             user: text(given, "user"),
         },
         "drain" => Asked::Drain {
-            place: place_in(given),
+            place,
             most: given.get_str("most"),
             user: text(given, "user"),
             folder: text(given, "folder"),
             maildir: text(given, "maildir"),
         },
         "serve" => Asked::Serve {
-            place: place_in(given),
+            place,
             port: text(given, "port"),
             sessions: given.get_str("sessions"),
         },
-        "session" => Asked::Session(place_in(given)),
-        _ => Asked::Try {
-            from: text(given, "from"),
-            to: text(given, "to"),
-        },
+        _ => Asked::Session(place),
     }
 }
 

@@ -1,0 +1,153 @@
+//! What may be given to a word.
+use clap::{Arg, ArgAction};
+use std::alloc::Global;
+
+/// An argument of a word. What one word has to have and another may have is two of these.
+#[derive(Clone, Copy)]
+pub enum Argument {
+    Db,
+    Wait,
+    From,
+    To,
+    AnyTo,
+    At,
+    Salt,
+    Name,
+    Address,
+    User,
+    Folder,
+    Number,
+    Id,
+    AnyId,
+    Most,
+    Maildir,
+    Port,
+    Sessions,
+}
+
+/// How an argument is written.
+#[derive(Clone, Copy)]
+enum Form {
+    /// `--name`, without a value.
+    Flag,
+    /// `--name` and a value, which may begin with a hyphen.
+    Option,
+    /// A value that stands by its place.
+    Operand,
+}
+
+impl Argument {
+    /// The argument as `clap` reads it.
+    pub fn arg(self, alloc: Global) -> Arg<'static> {
+        let arg = Arg::new(alloc, self.name())
+            .required(self.is_required())
+            .help(self.help());
+        match self.form() {
+            Form::Flag => arg.long(self.name()).action(ArgAction::SetTrue),
+            Form::Option => arg
+                .long(self.name())
+                .value_name(self.value_name())
+                .allow_hyphen_values(true),
+            Form::Operand => arg.action(ArgAction::Set).value_name(self.value_name()),
+        }
+    }
+
+    fn form(self) -> Form {
+        match self {
+            Argument::Wait => Form::Flag,
+            Argument::Db
+            | Argument::From
+            | Argument::To
+            | Argument::AnyTo
+            | Argument::At
+            | Argument::Salt
+            | Argument::Most
+            | Argument::Port
+            | Argument::Sessions => Form::Option,
+            Argument::Name
+            | Argument::Address
+            | Argument::User
+            | Argument::Folder
+            | Argument::Number
+            | Argument::Id
+            | Argument::AnyId
+            | Argument::Maildir => Form::Operand,
+        }
+    }
+
+    fn name(self) -> &'static str {
+        match self {
+            Argument::Db => "db",
+            Argument::Wait => "wait",
+            Argument::From => "from",
+            Argument::To | Argument::AnyTo => "to",
+            Argument::At => "at",
+            Argument::Salt => "salt",
+            Argument::Name => "name",
+            Argument::Address => "address",
+            Argument::User => "user",
+            Argument::Folder => "folder",
+            Argument::Number => "number",
+            Argument::Id | Argument::AnyId => "id",
+            Argument::Most => "most",
+            Argument::Maildir => "maildir",
+            Argument::Port => "port",
+            Argument::Sessions => "sessions",
+        }
+    }
+
+    /// What the help calls its value.
+    fn value_name(self) -> &'static str {
+        match self {
+            Argument::Wait => "",
+            Argument::From | Argument::To | Argument::AnyTo => "A",
+            Argument::At | Argument::Number | Argument::Sessions => "N",
+            Argument::Most => "K",
+            Argument::Port => "P",
+            Argument::Salt => "HEX32",
+            Argument::Db => "FILE",
+            Argument::Name => "NAME",
+            Argument::Address => "ADDRESS",
+            Argument::User => "USER",
+            Argument::Folder => "FOLDER",
+            Argument::Id | Argument::AnyId => "ID",
+            Argument::Maildir => "MAILDIR",
+        }
+    }
+
+    fn help(self) -> &'static str {
+        match self {
+            Argument::Db => "The store's file",
+            Argument::Wait => "Waits where another process has the store",
+            Argument::From => "The envelope's sender [default: none]",
+            Argument::To => "The envelope's recipient",
+            Argument::AnyTo => "The envelope's recipient [default: none]",
+            Argument::At => "Seconds since 1970 [default: the clock]",
+            Argument::Salt => "16 random octets in hexadecimal",
+            Argument::Name => "1 to 64 of letters, digits and . _ - @",
+            Argument::Address => "The mail address, without a display name",
+            Argument::User => "The account's name",
+            Argument::Folder => "The folder's name, as `folders` prints it",
+            Argument::Number => "The message's number in the folder, from 1",
+            Argument::Id => "The message's number, as `queue` prints it",
+            Argument::AnyId => "The message's number in the queue",
+            Argument::Most => "Moves at most K messages [default: all]",
+            Argument::Maildir => "A directory that has `tmp` and `new`",
+            Argument::Port => "The port; 0 for any that is free",
+            Argument::Sessions => "Ends after N sessions [default: never]",
+        }
+    }
+
+    fn is_required(self) -> bool {
+        !matches!(
+            self,
+            Argument::Wait
+                | Argument::From
+                | Argument::AnyTo
+                | Argument::At
+                | Argument::AnyId
+                | Argument::Most
+                | Argument::Sessions
+        )
+    }
+}
