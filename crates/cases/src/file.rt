@@ -2,7 +2,8 @@
 use crate::run::{add_run, answer, text_in};
 use crate::table::{Answers, try_rows};
 use crate::tally::Tally;
-use keepers::{FileKeeper, Keeper, MailSink, Maildir};
+use keepers::{FileKeeper, Keeper};
+use mailsinks::{MailSink, Maildir};
 use mailstore::Store;
 use octets::Octets;
 use sqlite::{Alter, Connection, Error};

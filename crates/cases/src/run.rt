@@ -2,7 +2,8 @@
 use crate::table::Answers;
 use crate::talk;
 use crate::text::words_of;
-use keepers::{Keeper, MailSink, MemoryKeeper, MemorySink};
+use keepers::{Keeper, MemoryKeeper};
+use mailsinks::{MailSink, MemorySink};
 use octets::{Octets, parse_decimal, write_decimal};
 use sievedrun::drive::drive;
 use sievedrun::fault::Fault;

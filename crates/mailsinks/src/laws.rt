@@ -1,6 +1,6 @@
 //! Laws of the definitions, each the contract of a function that does nothing.
 ghost use Rattle.std.specs.Prelude.{◌≡◌, ◌++◌, ◌<◌, ◌^◌, ℕ, List, length};
-ghost use Rattle.keepers.specs.FileName.{counted};
+ghost use Rattle.mailsinks.specs.FileName.{counted};
 
 /// A counted text tells where it ends. So no two messages, folders or users give a file's name the same text to hash.
 pub fn counted_texts_end()

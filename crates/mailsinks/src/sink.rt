@@ -1,6 +1,6 @@
 //! Where messages go that leave a store.
 ghost use Rattle.std.specs.Prelude.{◌≡◌, ℕ, Bool, List, [], ◌∷◌, ◌++◌, IsTrue, OnOk, OnErr};
-ghost use Rattle.keepers.specs.Kept.{MayKeep};
+ghost use Rattle.mailsinks.specs.Kept.{MayKeep};
 
 use std::alloc::AllocError;
 
@@ -17,7 +17,7 @@ pub enum SinkError {
 
 impl From<AllocError> for SinkError {
     ghost use Rattle.std.specs.Prelude.{◌≡◌};
-    ghost use Rattle.keepers.specs.declared.sink.SinkError.TheVariants.{Memory};
+    ghost use Rattle.mailsinks.specs.declared.sink.SinkError.TheVariants.{Memory};
 
     ghost from_gives = { λ _ error. error ≡ Memory };
 

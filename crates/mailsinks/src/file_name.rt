@@ -2,7 +2,7 @@
 ghost use Rattle.std.specs.Prelude.{◌≡◌, ◌++◌, IfOk};
 ghost use Rattle.std.specs.String.{string_bytes};
 ghost use Rattle.sha2.specs.Sha256.{sha256};
-ghost use Rattle.keepers.specs.FileName.{counted, joined, file_name};
+ghost use Rattle.mailsinks.specs.FileName.{counted, joined, file_name};
 
 use sha2::{Digest, Sha256};
 use std::alloc::{AllocError, Global};

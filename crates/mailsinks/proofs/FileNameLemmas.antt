@@ -3,7 +3,7 @@ use Rattle.std.proofs.Common.{◌≡◌, ◌<◌, ◌^◌, ℕ, List, ◌++◌, 
 use Rattle.std.specs.Int.{w64, to_be_bytes, from_be_bytes}
 use Rattle.std.proofs.lemmas.Nat.{from_be_bytes-to_be_bytes_8}
 use Rattle.std.proofs.lemmas.List.{append_cancel_left, take_at, append_assoc}
-use Rattle.keepers.specs.FileName.{counted}
+use Rattle.mailsinks.specs.FileName.{counted}
 
 -- two texts of one length that begin the same text are the same
 pub heads_same : (n : ℕ) (a b more rest : List ℕ) → length a ≡ n → length b ≡ n → a ++ more ≡ b ++ rest → a ≡ b
