@@ -1,17 +1,19 @@
 //! Lines of a message, and the fields among them (RFC 5322, 2.1 and 2.2).
+use casefiles::Part::Text;
+use casefiles::{add_parts, text_in};
 use mailhead::{after_empty_line, first_line, logical_line, read_field, unfolded, without_end};
 use octets::Octets;
 use std::alloc::{AllocError, Global};
 
 /// What a call makes of a text.
 pub fn answer(alloc: Global, out: &mut Octets, call: &[u8], text: &[u8]) -> Result<(), AllocError> {
-    match call {
-        b"first" => add_first(out, text),
-        b"logical" => add_logical(out, text),
-        b"end" => out.extend_from_slice(without_end(text)),
-        b"field" => add_field(out, text),
-        b"body" => add_body(out, text),
-        b"unfold" => out.extend_from_slice(unfolded(alloc, text)?.as_slice()),
+    match text_in(call) {
+        "first" => add_first(out, text),
+        "logical" => add_logical(out, text),
+        "end" => out.extend_from_slice(without_end(text)),
+        "field" => add_field(out, text),
+        "body" => add_body(out, text),
+        "unfold" => out.extend_from_slice(unfolded(alloc, text)?.as_slice()),
         _ => out.extend_from_slice(b"no such call"),
     }
 }
@@ -45,8 +47,6 @@ fn add_body(out: &mut Octets, text: &[u8]) -> Result<(), AllocError> {
 }
 
 /// Appends two texts with `|` between them.
-pub fn add_pair(out: &mut Octets, pair: (&[u8], &[u8])) -> Result<(), AllocError> {
-    out.extend_from_slice(pair.0)?;
-    out.push(b'|')?;
-    out.extend_from_slice(pair.1)
+pub fn add_pair<'a>(out: &mut Octets, pair: (&'a [u8], &'a [u8])) -> Result<(), AllocError> {
+    add_parts(out, &[Text(pair.0), Text(b"|"), Text(pair.1)])
 }

@@ -1,6 +1,8 @@
 //! What stands first in the octets of a ManageSieve client (RFC 5804).
+use casefiles::Part::{Number, Text};
+use casefiles::add_parts;
 use msproto::{Command, Item, Reach, Scan, extent, first};
-use octets::{Octets, write_decimal};
+use octets::Octets;
 use std::alloc::{AllocError, Global};
 
 /// How many octets the first item takes, and what it says. `extent` has to reach as far, and a scan too, octet by octet and in two pieces.
@@ -12,40 +14,40 @@ pub fn told(
 ) -> Result<(), AllocError> {
     let pending = state == b"challenged".as_slice();
     let item = first(alloc, octets, pending)?;
-    let reached = extent(octets, pending);
-    if !reaches(&item, reached) {
-        return out.extend_from_slice(b"extent says another");
-    }
-    if octet_by_octet(octets, pending) != reached || in_two_pieces(octets, pending) != reached {
-        return out.extend_from_slice(b"a scan says another");
-    }
-    add_item(out, &item)
+    add_told(out, &item, octets, pending)
 }
 
-/// Whether this is how far an item goes.
-fn reaches(item: &Item, reach: Reach) -> bool {
-    match item {
-        Item::Need => reach == Reach::Need,
-        Item::TooBig => reach == Reach::TooBig,
-        Item::Bad(used) => reach == Reach::Bad(*used),
-        Item::Command(_, used) => reach == Reach::Command(*used),
+fn add_told(
+    out: &mut Octets,
+    item: &Item,
+    octets: &[u8],
+    pending: bool,
+) -> Result<(), AllocError> {
+    match other_reach(reach_of(item), octets, pending) {
+        Some(other) => out.extend_from_slice(other),
+        None => add_item(out, item),
     }
 }
 
-fn add_item(out: &mut Octets, item: &Item) -> Result<(), AllocError> {
+/// How far an item goes.
+fn reach_of(item: &Item) -> Reach {
     match item {
-        Item::Need => out.extend_from_slice(b"need more"),
-        Item::TooBig => out.extend_from_slice(b"too big"),
-        Item::Bad(used) => {
-            write_decimal(out, *used as u64)?;
-            out.extend_from_slice(b" bad")
-        }
-        Item::Command(command, used) => {
-            write_decimal(out, *used as u64)?;
-            out.push(b' ')?;
-            add(out, command)
-        }
+        Item::Need => Reach::Need,
+        Item::TooBig => Reach::TooBig,
+        Item::Bad(used) => Reach::Bad(*used),
+        Item::Command(_, used) => Reach::Command(*used),
     }
+}
+
+/// What says that the first item goes another way than this, if something does.
+fn other_reach(reach: Reach, octets: &[u8], pending: bool) -> Option<&'static [u8]> {
+    if extent(octets, pending) != reach {
+        return Some(b"extent says another");
+    }
+    if octet_by_octet(octets, pending) != reach || in_two_pieces(octets, pending) != reach {
+        return Some(b"a scan says another");
+    }
+    None
 }
 
 fn octet_by_octet(octets: &[u8], pending: bool) -> Reach {
@@ -68,6 +70,18 @@ fn in_two_pieces(octets: &[u8], pending: bool) -> Reach {
     scan.state()
 }
 
+fn add_item(out: &mut Octets, item: &Item) -> Result<(), AllocError> {
+    match item {
+        Item::Need => out.extend_from_slice(b"need more"),
+        Item::TooBig => out.extend_from_slice(b"too big"),
+        Item::Bad(used) => add_parts(out, &[Number(*used as u64), Text(b" bad")]),
+        Item::Command(command, used) => {
+            add_parts(out, &[Number(*used as u64), Text(b" ")])?;
+            add(out, command)
+        }
+    }
+}
+
 fn add(out: &mut Octets, command: &Command) -> Result<(), AllocError> {
     match command {
         Command::Capability => out.extend_from_slice(b"capability"),
@@ -76,16 +90,17 @@ fn add(out: &mut Octets, command: &Command) -> Result<(), AllocError> {
         Command::Authenticate {
             mechanism,
             response,
-        } => {
-            add_one(out, b"authenticate", mechanism)?;
-            add_some(out, b"", response.as_ref())
-        }
+        } => add_login(out, mechanism, response.as_ref()),
         Command::Unauthenticate => out.extend_from_slice(b"unauthenticate"),
-        Command::HaveSpace { name, size } => {
-            add_one(out, b"space", name)?;
-            out.push(b'|')?;
-            write_decimal(out, *size as u64)
-        }
+        Command::HaveSpace { name, size } => add_parts(
+            out,
+            &[
+                Text(b"space|"),
+                Text(name.as_slice()),
+                Text(b"|"),
+                Number(*size as u64),
+            ],
+        ),
         Command::PutScript { name, script } => add_two(out, b"put", name, script),
         Command::CheckScript(script) => add_one(out, b"check", script),
         Command::ListScripts => out.extend_from_slice(b"list"),
@@ -97,10 +112,17 @@ fn add(out: &mut Octets, command: &Command) -> Result<(), AllocError> {
     }
 }
 
-fn add_one(out: &mut Octets, word: &[u8], value: &Octets) -> Result<(), AllocError> {
-    out.extend_from_slice(word)?;
-    out.push(b'|')?;
-    out.extend_from_slice(value.as_slice())
+fn add_login(
+    out: &mut Octets,
+    mechanism: &Octets,
+    response: Option<&Octets>,
+) -> Result<(), AllocError> {
+    add_one(out, b"authenticate", mechanism)?;
+    add_some(out, b"", response)
+}
+
+fn add_one<'a>(out: &mut Octets, word: &'a [u8], value: &'a Octets) -> Result<(), AllocError> {
+    add_parts(out, &[Text(word), Text(b"|"), Text(value.as_slice())])
 }
 
 fn add_two(

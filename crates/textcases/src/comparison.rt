@@ -1,4 +1,6 @@
 //! Texts compared by both comparators (RFC 4790, 9.2 and 9.3).
+use casefiles::Part::Text;
+use casefiles::add_parts;
 use collation::{AsciiCasemap, Octet, contains, is};
 use globmatch::matches;
 use octets::Octets;
@@ -6,12 +8,12 @@ use std::alloc::AllocError;
 
 /// By which comparators a key is the value, and by which the value contains it.
 pub fn compared(out: &mut Octets, key: &[u8], value: &[u8]) -> Result<(), AllocError> {
-    out.extend_from_slice(by(is::<Octet>(key, value), is::<AsciiCasemap>(key, value)))?;
-    out.push(b' ')?;
-    out.extend_from_slice(by(
+    let equal = by(is::<Octet>(key, value), is::<AsciiCasemap>(key, value));
+    let within = by(
         contains::<Octet>(key, value),
         contains::<AsciiCasemap>(key, value),
-    ))
+    );
+    add_parts(out, &[Text(equal), Text(b" "), Text(within)])
 }
 
 /// By which comparators a pattern matches a value.
@@ -23,13 +25,10 @@ pub fn matched(out: &mut Octets, pattern: &[u8], value: &[u8]) -> Result<(), All
 }
 
 fn by(octets: bool, letters: bool) -> &'static [u8] {
-    if octets && letters {
-        b"both"
-    } else if letters {
-        b"letters"
-    } else if octets {
-        b"octets"
-    } else {
-        b"neither"
+    match (octets, letters) {
+        (true, true) => b"both",
+        (false, true) => b"letters",
+        (true, false) => b"octets",
+        (false, false) => b"neither",
     }
 }

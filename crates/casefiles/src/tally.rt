@@ -2,6 +2,7 @@
 ghost use Rattle.std.specs.Prelude.{◌≡◌, ◌≢◌};
 
 use crate::section::Section;
+use crate::text::{decoded, trimmed};
 use percent_encoding::{CONTROLS, percent_encode};
 use std::alloc::{AllocError, Global};
 use std::fmt::Write;
@@ -33,6 +34,13 @@ impl Tally {
             self.held = self.held.saturating_add(1);
             return Ok(());
         }
+        self.tell(line, wanted, got)
+    }
+
+    /// Tells of a case that fails.
+    fn tell(&mut self, line: usize, wanted: &[u8], got: &[u8]) -> Result<(), AllocError>
+        ensures held { self.new.held ≡ self.old.held }
+    {
         let escaped = CONTROLS.add(b'%');
         let (wanted, got) = (
             percent_encode(wanted, escaped),
@@ -42,20 +50,32 @@ impl Tally {
         writeln!(self.failed, "{file}:{line}: wanted {wanted}, got {got}")
     }
 
-    /// Passes over a section that is no case. A name that is neither one of these nor that of a comment is told as one
-    /// that isn't known, so that a case whose name is misspelled fails.
+    /// Holds what came against the text of a section. Blanks and line ends at the end of both don't count.
+    pub fn note_text(
+        &mut self,
+        alloc: Global,
+        section: &Section<'_>,
+        got: &[u8],
+    ) -> Result<(), AllocError> {
+        let wanted = decoded(alloc, section.text)?;
+        self.note(section.line, trimmed(wanted.as_slice()), trimmed(got))
+    }
+
+    /// Passes over a section that is no case. A name that is neither one of these nor that of a comment is told, so
+    /// that a case whose name is misspelled fails.
     pub fn skip(&mut self, section: &Section<'_>, known: &[&str]) -> Result<(), AllocError>
         ensures held { self.new.held ≡ self.old.held }
     {
         if section.name == "#" || known.contains(&section.name) {
             return Ok(());
         }
-        let (file, line, name) = (self.file, section.line, section.name);
-        writeln!(self.failed, "{file}:{line}: no section has the name {name}")
+        self.tell(section.line, b"a section's name", section.name.as_bytes())
     }
 
     /// How many cases hold.
-    pub fn held(&self) -> u64 {
+    pub fn held(&self) -> u64
+        ensures { result ≡ self.now.held }
+    {
         self.held
     }
 

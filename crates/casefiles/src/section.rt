@@ -1,4 +1,5 @@
 //! The sections of a file.
+use crate::text::cut;
 use std::alloc::{AllocError, Global};
 
 /// A part of a file below a title `== NAME NOTE`. What stands above the first title is a section too; its name is `#`
@@ -18,16 +19,25 @@ pub struct Section<'a> {
 pub fn sections<'a>(alloc: Global, file: &'a str) -> Result<Vec<Section<'a>>, AllocError> {
     let mut found = Vec::new(alloc);
     let mut line: usize = 1;
-    for section in file.split("\n== ") {
-        let (title, text) = section.split_once('\n').unwrap_or((section, ""));
-        let (name, note) = title.split_once(' ').unwrap_or((title, ""));
-        found.push(Section {
-            line,
-            name,
-            note,
-            text,
-        })?;
-        line = line.saturating_add(section.split('\n').count());
+    for text in file.split("\n== ") {
+        found.push(section_at(line, text))?;
+        line = line.saturating_add(lines_in(text));
     }
     Ok(found)
+}
+
+/// The section whose title stands in this line.
+fn section_at<'a>(line: usize, section: &'a str) -> Section<'a> {
+    let (title, text) = cut(section, "\n");
+    let (name, note) = cut(title, " ");
+    Section {
+        line,
+        name,
+        note,
+        text,
+    }
+}
+
+fn lines_in(text: &str) -> usize {
+    text.split('\n').count()
 }
