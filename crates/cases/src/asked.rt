@@ -1,14 +1,14 @@
 //! What the words of the command line ask for.
-use crate::text::words_of;
+use casefiles::{text_in, words_of};
 use clap::Error;
 use octets::Octets;
 use sievedwords::{Asked, Place, read};
 use std::alloc::{AllocError, Global};
-use std::{format, str};
+use std::format;
 
 /// What the words ask for, with the values in them; or whether what `clap` says is an error.
 pub fn told(alloc: Global, out: &mut Octets, words: &[u8]) -> Result<(), AllocError> {
-    let words = words_of(alloc, str::from_utf8(words).unwrap_or(""), "F")?;
+    let words = words_of(alloc, text_in(words), "F")?;
     match read(alloc, &words) {
         Ok(asked) => add(out, asked),
         Err(error) => add_error(alloc, out, &error),
@@ -28,75 +28,78 @@ fn add_error(alloc: Global, out: &mut Octets, error: &Error) -> Result<(), Alloc
 fn add(out: &mut Octets, asked: Asked<'_>) -> Result<(), AllocError> {
     match asked {
         Asked::Try { from, to } => add_texts(out, &["try", from, to]),
-        Asked::Init(place) => add_place(out, "init", place),
+        Asked::Init(place) => add_at(out, "init", place, &[]),
         Asked::AddUser {
             place,
             salt,
             name,
             address,
-        } => {
-            add_place(out, "adduser", place)?;
-            add_texts(out, &[salt, name, address])
-        }
+        } => add_at(out, "adduser", place, &[salt, name, address]),
         Asked::Deliver {
             place,
             from,
             to,
             at,
             user,
-        } => {
-            add_place(out, "deliver", place)?;
-            add_texts(out, &[from, to, at.unwrap_or("no moment"), user])
-        }
-        Asked::Folders { place, user } => {
-            add_place(out, "folders", place)?;
-            add_texts(out, &[user])
-        }
+        } => add_at(
+            out,
+            "deliver",
+            place,
+            &[from, to, at.unwrap_or("no moment"), user],
+        ),
+        Asked::Folders { place, user } => add_at(out, "folders", place, &[user]),
         Asked::Show {
             place,
             user,
             folder,
             number,
-        } => {
-            add_place(out, "show", place)?;
-            add_texts(out, &[user, folder, number])
-        }
-        Asked::Queue { place, user, id } => {
-            add_place(out, "queue", place)?;
-            add_texts(out, &[user, id.unwrap_or("no number")])
-        }
-        Asked::Done { place, user, id } => {
-            add_place(out, "done", place)?;
-            add_texts(out, &[user, id])
-        }
-        Asked::Notices { place, user } => {
-            add_place(out, "notices", place)?;
-            add_texts(out, &[user])
-        }
+        } => add_at(out, "show", place, &[user, folder, number]),
+        Asked::Queue { place, user, id } => add_at(
+            out,
+            "queue",
+            place,
+            &[user, id.unwrap_or("no number")],
+        ),
+        Asked::Done { place, user, id } => add_at(out, "done", place, &[user, id]),
+        Asked::Notices { place, user } => add_at(out, "notices", place, &[user]),
         Asked::Drain {
             place,
             most,
             user,
             folder,
             maildir,
-        } => {
-            add_place(out, "drain", place)?;
-            add_texts(out, &[most.unwrap_or("no number"), user, folder, maildir])
-        }
+        } => add_at(
+            out,
+            "drain",
+            place,
+            &[most.unwrap_or("no number"), user, folder, maildir],
+        ),
         Asked::Serve {
             place,
             port,
             sessions,
-        } => {
-            add_place(out, "serve", place)?;
-            add_texts(out, &[port, sessions.unwrap_or("no number")])
-        }
-        Asked::Session(place) => add_place(out, "session", place),
+        } => add_at(
+            out,
+            "serve",
+            place,
+            &[port, sessions.unwrap_or("no number")],
+        ),
+        Asked::Session(place) => add_at(out, "session", place, &[]),
     }
 }
 
-/// Appends the word and where the store is.
-fn add_place(out: &mut Octets, word: &str, place: Place<'_>) -> Result<(), AllocError> {
+/// Appends the word, where the store is, and the values.
+fn add_at(
+    out: &mut Octets,
+    word: &str,
+    place: Place<'_>,
+    values: &[&str],
+) -> Result<(), AllocError> {
+    add_place(out, word, place)?;
+    add_texts(out, values)
+}
+
+fn add_place<'a>(out: &mut Octets, word: &'a str, place: Place<'a>) -> Result<(), AllocError> {
     let lock = if place.waits { "waits" } else { "" };
     add_texts(out, &[word, place.path, lock])
 }
@@ -104,8 +107,12 @@ fn add_place(out: &mut Octets, word: &str, place: Place<'_>) -> Result<(), Alloc
 /// Appends texts, each with `|` after it.
 fn add_texts(out: &mut Octets, texts: &[&str]) -> Result<(), AllocError> {
     for text in texts {
-        out.extend_from_slice(text.as_bytes())?;
-        out.push(b'|')?;
+        add_text(out, text)?;
     }
     Ok(())
+}
+
+fn add_text(out: &mut Octets, text: &str) -> Result<(), AllocError> {
+    out.extend_from_slice(text.as_bytes())?;
+    out.push(b'|')
 }

@@ -1,6 +1,8 @@
 //! Streams of a client that come in pieces, and how far they are scanned.
+use casefiles::Part::{Number, Text};
+use casefiles::add_parts;
 use mailengine::{Answer, Event, World, run};
-use octets::{Octets, write_decimal};
+use octets::Octets;
 use sessions::{Progress, Session, Stepped};
 use sqlite::MemStore;
 use std::alloc::{AllocError, Global};
@@ -15,39 +17,91 @@ pub fn add_answers(
     out: &mut Octets,
     stream: &[u8],
 ) -> Result<(), AllocError> {
-    let steps = stream.split(|octet| *octet == b'\n').count();
-    let wanted = answers(alloc, world, stream, 0, steps)?;
-    for place in 0..=stream.len() {
-        let told = answers(alloc, world, stream, place, steps)?;
-        if told.as_slice() != wanted.as_slice() {
-            out.extend_from_slice(b"differs at ")?;
-            write_decimal(out, place as u64)?;
-        }
-    }
-    out.extend_from_slice(wanted.as_slice())
+    let wanted = answers(alloc, world, stream, 0)?;
+    add_cuts(alloc, world, out, stream, wanted.as_slice())
 }
 
-/// What a stream is answered that comes in two pieces, each with that many steps after it.
+fn add_cuts(
+    alloc: Global,
+    world: &mut World<MemStore>,
+    out: &mut Octets,
+    stream: &[u8],
+    wanted: &[u8],
+) -> Result<(), AllocError> {
+    for place in 0..=stream.len() {
+        add_cut(alloc, world, out, stream, place, wanted)?;
+    }
+    out.extend_from_slice(wanted)
+}
+
+/// Appends the place where a stream is cut, if it isn't answered so.
+fn add_cut(
+    alloc: Global,
+    world: &mut World<MemStore>,
+    out: &mut Octets,
+    stream: &[u8],
+    place: usize,
+    wanted: &[u8],
+) -> Result<(), AllocError> {
+    let told = answers(alloc, world, stream, place)?;
+    if told.as_slice() == wanted {
+        return Ok(());
+    }
+    add_parts(out, &[Text(b"differs at "), Number(place as u64)])
+}
+
+/// What a stream is answered that is cut at this place.
 fn answers(
     alloc: Global,
     world: &mut World<MemStore>,
     stream: &[u8],
     place: usize,
-    steps: usize,
 ) -> Result<Octets, AllocError> {
-    let (front, back) = stream.split_at(place.min(stream.len()));
-    let mut events = Vec::new(alloc);
-    events.push(Event::Open(NUMBER))?;
-    for piece in [front, back] {
-        events.push(Event::Give(NUMBER, Octets::from_slice(alloc, piece)?))?;
-        for _ in 0..steps {
-            events.push(Event::Step(NUMBER))?;
-        }
-    }
-    events.push(Event::Close(NUMBER))?;
+    let events = events(alloc, stream, place)?;
     let ran = run(world, &events);
+    told(alloc, ran.answers.as_slice())
+}
+
+/// A client that sends a stream in two pieces. Each has as many steps after it as the stream has lines.
+fn events(alloc: Global, stream: &[u8], place: usize) -> Result<Vec<Event>, AllocError> {
+    let mut events = Vec::new(alloc);
+    add_pieces(alloc, &mut events, stream, place)?;
+    Ok(events)
+}
+
+fn add_pieces(
+    alloc: Global,
+    events: &mut Vec<Event>,
+    stream: &[u8],
+    place: usize,
+) -> Result<(), AllocError> {
+    let steps = stream.split(|octet| *octet == b'\n').count();
+    let (front, back) = stream.split_at(place.min(stream.len()));
+    events.push(Event::Open(NUMBER))?;
+    add_piece(alloc, events, front, steps)?;
+    add_piece(alloc, events, back, steps)?;
+    events.push(Event::Close(NUMBER))?;
+    Ok(())
+}
+
+fn add_piece(
+    alloc: Global,
+    events: &mut Vec<Event>,
+    piece: &[u8],
+    steps: usize,
+) -> Result<(), AllocError> {
+    let piece = Octets::from_slice(alloc, piece)?;
+    events.push(Event::Give(NUMBER, piece))?;
+    for _ in 0..steps {
+        events.push(Event::Step(NUMBER))?;
+    }
+    Ok(())
+}
+
+/// What is told in these answers.
+fn told(alloc: Global, answers: &[Answer]) -> Result<Octets, AllocError> {
     let mut told = Octets::new(alloc);
-    for answer in ran.answers.iter() {
+    for answer in answers {
         add_octets(&mut told, answer)?;
     }
     Ok(told)
@@ -70,21 +124,50 @@ pub fn add_counts(
 ) -> Result<(), AllocError> {
     let mut answer = Octets::new(alloc);
     let mut session = Session::new(alloc, &mut answer)?;
+    count(out, &mut session, &mut answer, stream, most)
+}
+
+fn count(
+    out: &mut Octets,
+    session: &mut Session,
+    answer: &mut Octets,
+    stream: &[u8],
+    most: usize,
+) -> Result<(), AllocError> {
     for piece in stream.chunks(most.max(1)) {
-        session.give(piece)?;
-        out.push(if session.ready() { b'1' } else { b'0' })?;
+        give(out, session, piece)?;
     }
     add_count(out, session.looked())?;
-    for _ in 0..stream.len() {
-        let Stepped::Made(Progress::Done) = session.step_free(&mut answer)? else {
-            return Ok(());
-        };
+    add_steps(out, session, answer, stream.len())
+}
+
+fn give(out: &mut Octets, session: &mut Session, piece: &[u8]) -> Result<(), AllocError> {
+    session.give(piece)?;
+    out.push(if session.ready() { b'1' } else { b'0' })
+}
+
+/// Appends after each of so many steps how many octets were looked at, while steps need no store.
+fn add_steps(
+    out: &mut Octets,
+    session: &mut Session,
+    answer: &mut Octets,
+    most: usize,
+) -> Result<(), AllocError> {
+    for _ in 0..most {
+        if !step(session, answer)? {
+            break;
+        }
         add_count(out, session.looked())?;
     }
     Ok(())
 }
 
+/// Makes a step, and says whether it was made without a store.
+fn step(session: &mut Session, answer: &mut Octets) -> Result<bool, AllocError> {
+    let stepped = session.step_free(answer)?;
+    Ok(matches!(stepped, Stepped::Made(Progress::Done)))
+}
+
 fn add_count(out: &mut Octets, count: u64) -> Result<(), AllocError> {
-    out.push(b' ')?;
-    write_decimal(out, count)
+    add_parts(out, &[Text(b" "), Number(count)])
 }

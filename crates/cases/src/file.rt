@@ -1,37 +1,51 @@
 //! Runs of the program on a store in a file, which another process may lock and read.
-use crate::run::{add_run, answer, text_in};
-use crate::table::{Answers, try_rows};
-use crate::tally::Tally;
-use keepers::{FileKeeper, Keeper, MailSink, Maildir};
+use crate::run::{Run, add_run, answer};
+use crate::stream::NEVER;
+use casefiles::{Answers, Tally, text_in, try_rows};
+use keepers::{FileKeeper, Keeper};
+use mailsinks::{MailSink, Maildir};
 use mailstore::Store;
 use octets::Octets;
 use sqlite::{Alter, Connection, Error};
 use std::alloc::{AllocError, Global};
 use std::{env, format, fs, io, process};
 
+/// Where a database lies, and what opens the files beside it.
+#[derive(Clone, Copy)]
+struct Place<'a> {
+    rt: &'a HostRuntime,
+    path: &'a str,
+}
+
 /// Runs on the store of a file, by one keeper, while the other one may have it. Messages leave it into a Maildir.
 #[derive(Drop)]
 struct FileRuns<'a> {
-    rt: &'a HostRuntime,
+    place: Place<'a>,
     keeper: FileKeeper<'a>,
     other: FileKeeper<'a>,
     sink: Maildir<'a>,
-    path: String,
 }
 
 /// Tries each case of the file, on a store of this process alone, which is taken away after them.
 pub fn try_all(rt: &HostRuntime, tally: &mut Tally, file: &str) -> io::Result<()> {
     let path = path_for(rt)?;
-    clear(rt, path.as_str())?;
+    try_at(rt, tally, file, path.as_str())
+}
+
+fn try_at(rt: &HostRuntime, tally: &mut Tally, file: &str, path: &str) -> io::Result<()> {
+    clear(rt, path)?;
+    try_runs(rt, tally, file, path)?;
+    Ok(clear(rt, path)?)
+}
+
+fn try_runs(rt: &HostRuntime, tally: &mut Tally, file: &str, path: &str) -> Result<(), AllocError> {
     let mut runs = FileRuns {
-        rt,
+        place: Place { rt, path },
         keeper: FileKeeper::new(rt),
         other: FileKeeper::new(rt),
         sink: Maildir::new(rt),
-        path,
     };
-    try_rows(rt.alloc(), tally, &mut runs, file)?;
-    Ok(clear(rt, runs.path.as_str())?)
+    try_rows(rt.alloc(), tally, &mut runs, file)
 }
 
 fn path_for(rt: &HostRuntime) -> io::Result<String> {
@@ -43,20 +57,27 @@ fn path_for(rt: &HostRuntime) -> io::Result<String> {
 /// Takes away the database with what lies beside it, the Maildir too.
 fn clear(rt: &HostRuntime, path: &str) -> Result<(), AllocError> {
     for end in ["", "-wal", "-journal", ".lock"] {
-        let _ = fs::remove_file(rt, format!(in rt.alloc(); "{path}{end}")?.as_str());
+        remove(rt, path, end)?;
     }
     let _ = fs::remove_dir_all(rt, format!(in rt.alloc(); "{path}.d")?.as_str());
     Ok(())
 }
 
+fn remove(rt: &HostRuntime, path: &str, end: &str) -> Result<(), AllocError> {
+    let _ = fs::remove_file(rt, format!(in rt.alloc(); "{path}{end}")?.as_str());
+    Ok(())
+}
+
 /// Appends what comes of making a directory of the Maildir.
-fn add_made(rt: &HostRuntime, out: &mut Octets, path: &str, name: &str) -> Result<(), AllocError> {
+fn add_made(place: Place<'_>, out: &mut Octets, name: &str) -> Result<(), AllocError> {
+    let Place { rt, path } = place;
     let made = fs::create_dir_all(rt, format!(in rt.alloc(); "{path}.d/{name}")?.as_str());
     out.extend_from_slice(if made.is_ok() { b"done" } else { b"refused" })
 }
 
 /// Appends the octets of a file of the Maildir.
-fn add_file(rt: &HostRuntime, out: &mut Octets, path: &str, name: &str) -> Result<(), AllocError> {
+fn add_file(place: Place<'_>, out: &mut Octets, name: &str) -> Result<(), AllocError> {
+    let Place { rt, path } = place;
     match fs::read(rt, format!(in rt.alloc(); "{path}.d/{name}")?.as_str()) {
         Ok(octets) => out.extend_from_slice(&octets),
         Err(_) => out.extend_from_slice(b"no such file"),
@@ -70,41 +91,61 @@ impl Answers for FileRuns<'_> {
         out: &mut Octets,
         given: &[Octets],
     ) -> Result<(), AllocError> {
-        match given {
-            [call, query] if call.as_slice() == b"sql".as_slice() => {
-                add_number(
-                    alloc,
-                    out,
-                    &mut self.other,
-                    self.path.as_str(),
-                    text_in(query),
-                )
-            }
-            [call, name] if call.as_slice() == b"made".as_slice() => {
-                add_made(self.rt, out, self.path.as_str(), text_in(name))
-            }
-            [call, name] if call.as_slice() == b"file".as_slice() => {
-                add_file(self.rt, out, self.path.as_str(), text_in(name))
-            }
-            [call, words, input] if call.as_slice() == b"locked".as_slice() => add_locked(
-                alloc,
-                out,
-                &mut self.other,
-                &mut self.keeper,
-                &mut self.sink,
-                self.path.as_str(),
-                text_in(words),
-                input.as_slice(),
-            ),
-            _ => answer(
-                alloc,
-                out,
-                &mut self.keeper,
-                &mut self.sink,
-                self.path.as_str(),
-                given,
-            ),
+        add_row(
+            alloc,
+            out,
+            self.place,
+            &mut self.keeper,
+            &mut self.other,
+            &mut self.sink,
+            given,
+        )
+    }
+}
+
+/// Appends what comes of a row: what is found beside the runs, a run while the other keeper has the store, or what any
+/// keeper can have.
+fn add_row<K: Keeper, T: MailSink>(
+    alloc: Global,
+    out: &mut Octets,
+    place: Place<'_>,
+    keeper: &mut K,
+    other: &mut K,
+    sink: &mut T,
+    given: &[Octets],
+) -> Result<(), AllocError> {
+    match given {
+        [call, text] => {
+            let (call, text) = (text_in(call.as_slice()), text_in(text.as_slice()));
+            add_beside(alloc, out, place, other, call, text)
         }
+        [call, words, input] if text_in(call.as_slice()) == "locked" => {
+            let run = Run {
+                path: place.path,
+                words: text_in(words.as_slice()),
+                input: input.as_slice(),
+                writes: NEVER,
+            };
+            add_locked(alloc, out, other, keeper, sink, run)
+        }
+        _ => answer(alloc, out, keeper, sink, place.path, given),
+    }
+}
+
+/// Appends what another connection reads, or what comes of making and reading in the Maildir.
+fn add_beside<K: Keeper>(
+    alloc: Global,
+    out: &mut Octets,
+    place: Place<'_>,
+    other: &mut K,
+    call: &str,
+    text: &str,
+) -> Result<(), AllocError> {
+    match call {
+        "sql" => add_number(alloc, out, other, place.path, text),
+        "made" => add_made(place, out, text),
+        "file" => add_file(place, out, text),
+        _ => out.extend_from_slice(b"no such call"),
     }
 }
 
@@ -142,14 +183,12 @@ fn add_locked<K: Keeper, T: MailSink>(
     other: &mut K,
     keeper: &mut K,
     sink: &mut T,
-    path: &str,
-    words: &str,
-    input: &[u8],
+    run: Run<'_>,
 ) -> Result<(), AllocError> {
-    let Ok(store) = other.take(path, false) else {
+    let Ok(store) = other.take(run.path, false) else {
         return out.extend_from_slice(b"not taken");
     };
-    let ran = add_run(alloc, out, keeper, sink, path, words, input);
+    let ran = add_run(alloc, out, keeper, sink, run);
     if other.hand_back(store).is_err() {
         return out.extend_from_slice(b" not closed");
     }

@@ -4,48 +4,49 @@
 //! that doesn't, and then the exit status is 1.
 #![tactic(auto)]
 
-mod address;
-mod ascii;
+mod answer;
 mod asked;
-mod comparison;
 mod cut;
-mod fault;
+mod event;
 mod file;
-mod head;
-mod item;
-mod line;
-mod login;
-mod reply;
+mod question;
 mod run;
 mod script;
-mod section;
 mod session;
 mod stream;
 mod table;
 mod talk;
-mod tally;
-mod text;
-mod token;
-mod vacation;
-mod word;
 
+use casefiles::Tally;
 use std::process::ExitCode;
 use std::{fs, io};
-use table::TABLES;
-use tally::Tally;
+use table::{TABLES, Table};
 
 fn main(rt: HostRuntime) -> io::Result<ExitCode> {
     let mut status = ExitCode::SUCCESS;
     for table in TABLES {
-        let file = table.file();
-        let text = fs::read_to_string(&rt, file)?;
-        let mut tally = Tally::new(rt.alloc(), file);
-        table.try_all(&rt, &mut tally, text.as_str())?;
-        eprint!(rt; "{}", tally.failed())?;
-        println!(rt; "{file}: {} cases hold", tally.held())?;
-        if !tally.failed().is_empty() {
+        if !try_file(&rt, table)? {
             status = ExitCode::FAILURE;
         }
     }
     Ok(status)
+}
+
+/// Tries each case of a file, and says whether all hold.
+fn try_file(rt: &HostRuntime, table: Table) -> io::Result<bool> {
+    let text = fs::read_to_string(rt, table.file())?;
+    try_text(rt, table, text.as_str())
+}
+
+fn try_text(rt: &HostRuntime, table: Table, text: &str) -> io::Result<bool> {
+    let mut tally = Tally::new(rt.alloc(), table.file());
+    table.try_all(rt, &mut tally, text)?;
+    tell(rt, table.file(), &tally)
+}
+
+/// Tells how many cases of a file hold, and which don't; and says whether all hold.
+fn tell(rt: &HostRuntime, file: &str, tally: &Tally) -> io::Result<bool> {
+    eprint!(rt; "{}", tally.failed())?;
+    println!(rt; "{file}: {} cases hold", tally.held())?;
+    Ok(tally.failed().is_empty())
 }

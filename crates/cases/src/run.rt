@@ -1,15 +1,16 @@
 //! Runs of the program: its words, its input, and what they leave.
-use crate::table::Answers;
+use crate::stream::{NEVER, Takes};
 use crate::talk;
-use crate::text::words_of;
-use keepers::{Keeper, MailSink, MemoryKeeper, MemorySink};
+use casefiles::Part::{Number, Text};
+use casefiles::{Answers, add_parts, text_in, words_of};
+use keepers::{Keeper, MemoryKeeper};
+use mailsinks::{MailSink, MemorySink};
 use octets::{Octets, parse_decimal, write_decimal};
 use sievedrun::drive::drive;
 use sievedrun::fault::Fault;
 use sqlite::{Connection, Error};
 use std::alloc::{AllocError, Global};
-use std::io::{ErrorKind, Write};
-use std::{format, io, str};
+use std::format;
 
 /// What the clock says, in seconds since 1970-01-01 UTC.
 const CLOCK: Option<u64> = Some(1_700_000_000);
@@ -62,41 +63,55 @@ impl MemoryRuns {
         made
     }
 
-    /// Delivers that many messages of the same octets to alice.
-    fn deliver(&mut self, alloc: Global, times: u64) -> Result<(), AllocError> {
-        for _ in 0..times {
-            let mut out = Octets::new(alloc);
-            add_run(
-                alloc,
-                &mut out,
-                &mut self.keeper,
-                &mut self.sink,
-                "",
-                DELIVERY,
-                b"Subject: more\n\n",
-            )?;
-        }
-        Ok(())
-    }
-
-    /// Appends what comes of a row on where messages go: `fail` and `nowhere` say what the sink refuses, `kept` tells
-    /// what it has, and `mails` delivers.
-    fn add_kept(
+    /// Appends what comes of a row of two columns: `new` makes the database, `busy`, `fail` and `nowhere` say what the
+    /// keeper and the sink refuse, `mails` delivers, and `kept` tells what the sink has.
+    fn add_set(
         &mut self,
         alloc: Global,
         out: &mut Octets,
-        call: &[u8],
+        call: &str,
         text: &[u8],
     ) -> Result<(), AllocError> {
         let number = parse_decimal(text).unwrap_or(0);
         match call {
-            b"fail" => self.sink.fail_after(number),
-            b"nowhere" => self.sink.refuse_maildir(),
-            b"mails" => self.deliver(alloc, number)?,
-            b"kept" => return add_messages(out, self.sink.messages()),
+            "new" => return self.add_replaced(alloc, out, text_in(text)),
+            "mails" => return self.deliver(alloc, out, number),
+            "kept" => return add_messages(out, self.sink.messages()),
+            "busy" => self.keeper.be_busy_after(number),
+            "fail" => self.sink.fail_after(number),
+            "nowhere" => self.sink.refuse_maildir(),
             _ => return out.extend_from_slice(b"no such call"),
         }
         out.extend_from_slice(b"done")
+    }
+
+    fn add_replaced(
+        &mut self,
+        alloc: Global,
+        out: &mut Octets,
+        sql: &str,
+    ) -> Result<(), AllocError> {
+        let made = self.replace(alloc, sql).is_ok();
+        out.extend_from_slice(if made { b"done" } else { b"refused" })
+    }
+
+    /// Delivers that many messages of the same octets to alice.
+    fn deliver(&mut self, alloc: Global, out: &mut Octets, times: u64) -> Result<(), AllocError> {
+        for _ in 0..times {
+            self.deliver_one(alloc)?;
+        }
+        out.extend_from_slice(b"done")
+    }
+
+    fn deliver_one(&mut self, alloc: Global) -> Result<(), AllocError> {
+        let run = Run {
+            path: "",
+            words: DELIVERY,
+            input: b"Subject: more\n\n",
+            writes: NEVER,
+        };
+        let mut out = Octets::new(alloc);
+        add_run(alloc, &mut out, &mut self.keeper, &mut self.sink, run)
     }
 }
 
@@ -108,16 +123,7 @@ impl Answers for MemoryRuns {
         given: &[Octets],
     ) -> Result<(), AllocError> {
         match given {
-            [call, sql] if call.as_slice() == b"new".as_slice() => {
-                let made = self.replace(alloc, text_in(sql)).is_ok();
-                out.extend_from_slice(if made { b"done" } else { b"refused" })
-            }
-            [call, calls] if call.as_slice() == b"busy".as_slice() => {
-                self.keeper
-                    .be_busy_after(parse_decimal(calls.as_slice()).unwrap_or(0));
-                out.extend_from_slice(b"done")
-            }
-            [call, text] => self.add_kept(alloc, out, call.as_slice(), text.as_slice()),
+            [call, text] => self.add_set(alloc, out, text_in(call.as_slice()), text.as_slice()),
             _ => answer(alloc, out, &mut self.keeper, &mut self.sink, "", given),
         }
     }
@@ -127,8 +133,7 @@ impl Answers for MemoryRuns {
 fn add_messages(out: &mut Octets, messages: &[Octets]) -> Result<(), AllocError> {
     write_decimal(out, messages.len() as u64)?;
     for message in messages {
-        out.push(b'|')?;
-        out.extend_from_slice(message.as_slice())?;
+        add_parts(out, &[Text(b"|"), Text(message.as_slice())])?;
     }
     Ok(())
 }
@@ -146,41 +151,47 @@ pub fn answer<K: Keeper, T: MailSink>(
     let [call, text, input] = given else {
         return out.extend_from_slice(b"not that many columns");
     };
-    match call.as_slice() {
-        b"run" => add_run(
+    let (words, input) = (text_in(text.as_slice()), input.as_slice());
+    match text_in(call.as_slice()) {
+        "run" => add_run(
             alloc,
             out,
             keeper,
             sink,
-            path,
-            text_in(text),
-            input.as_slice(),
+            Run {
+                path,
+                words,
+                input,
+                writes: NEVER,
+            },
         ),
-        b"full" => add_full(
+        "full" => add_run(
             alloc,
             out,
             keeper,
             sink,
-            path,
-            text_in(text),
-            input.as_slice(),
+            Run {
+                path,
+                words,
+                input,
+                writes: 0,
+            },
         ),
-        b"told" => add_told(alloc, out, text_in(text)),
-        b"send" => talk::add_sent(alloc, out, keeper, path, input.as_slice()),
-        b"greet" | b"talk" | b"gone" | b"deaf" => talk::answer(
-            alloc,
-            out,
-            keeper,
-            path,
-            (call.as_slice(), text.as_slice(), input.as_slice()),
-        ),
-        _ => out.extend_from_slice(b"no such call"),
+        "told" => add_told(alloc, out, words),
+        "send" => talk::add_sent(alloc, out, keeper, path, input),
+        call => talk::answer(alloc, out, keeper, path, call, text.as_slice(), input),
     }
 }
 
-/// The text of a column, or the empty one where it is no UTF-8.
-pub fn text_in(column: &Octets) -> &str {
-    str::from_utf8(column.as_slice()).unwrap_or("")
+/// A run of the program.
+#[derive(Clone, Copy)]
+pub struct Run<'a> {
+    /// The path of the store, for which `F` stands in the words.
+    pub path: &'a str,
+    pub words: &'a str,
+    pub input: &'a [u8],
+    /// From which of its calls on the output takes nothing more.
+    pub writes: u64,
 }
 
 /// Appends what a run leaves.
@@ -189,12 +200,12 @@ pub fn add_run<K: Keeper, T: MailSink>(
     out: &mut Octets,
     keeper: &mut K,
     sink: &mut T,
-    path: &str,
-    words: &str,
-    input: &[u8],
+    run: Run<'_>,
 ) -> Result<(), AllocError> {
-    let words = words_of(alloc, words, path)?;
-    let (mut left, mut output, mut faults) = (input, Vec::new(alloc), Vec::new(alloc));
+    let words = words_of(alloc, run.words, run.path)?;
+    let mut left = run.input;
+    let mut output = Takes::new(alloc, run.writes);
+    let mut faults = Vec::new(alloc);
     let status = drive(
         alloc,
         &words,
@@ -205,81 +216,63 @@ pub fn add_run<K: Keeper, T: MailSink>(
         CLOCK,
         sink,
     );
-    add_left(out, status, output.as_slice(), faults.as_slice())?;
-    add_unread(out, left.len())
-}
-
-/// Appends what a run leaves whose output takes nothing.
-fn add_full<K: Keeper, T: MailSink>(
-    alloc: Global,
-    out: &mut Octets,
-    keeper: &mut K,
-    sink: &mut T,
-    path: &str,
-    words: &str,
-    input: &[u8],
-) -> Result<(), AllocError> {
-    let words = words_of(alloc, words, path)?;
-    let (mut left, mut faults) = (input, Vec::new(alloc));
-    let status = drive(
-        alloc,
-        &words,
-        &mut left,
-        &mut Full,
-        &mut faults,
-        keeper,
-        CLOCK,
-        sink,
-    );
-    add_left(out, status, b"", faults.as_slice())
+    add_all_left(
+        out,
+        status,
+        output.taken.as_slice(),
+        faults.as_slice(),
+        left.len(),
+    )
 }
 
 /// Appends `STATUS|LINE` of the fault with this text.
 fn add_told(alloc: Global, out: &mut Octets, text: &str) -> Result<(), AllocError> {
     for fault in FAULTS {
-        if format!(in alloc; "{fault}")?.as_str() == text {
-            write_decimal(out, u64::from(fault.status()))?;
-            out.push(b'|')?;
-            return out.extend_from_slice(fault.line());
+        if is_told_as(alloc, fault, text)? {
+            let status = u64::from(fault.status());
+            return add_parts(out, &[Number(status), Text(b"|"), Text(fault.line())]);
         }
     }
     out.extend_from_slice(b"no such fault")
 }
 
-/// Appends `STATUS|OUTPUT|FAULTS`. Of a fault of the words only its beginning, `error: `, is shown.
-pub fn add_left(
+fn is_told_as(alloc: Global, fault: Fault, text: &str) -> Result<bool, AllocError> {
+    let told = format!(in alloc; "{fault}")?;
+    Ok(told.as_str() == text)
+}
+
+/// Appends what a run leaves, and how many octets of the input weren't read, if any.
+fn add_all_left(
     out: &mut Octets,
     status: u8,
     output: &[u8],
     faults: &[u8],
+    unread: usize,
 ) -> Result<(), AllocError> {
-    write_decimal(out, u64::from(status))?;
-    out.push(b'|')?;
-    out.extend_from_slice(output)?;
-    out.push(b'|')?;
-    let is_usage = faults.starts_with(b"error: ");
-    out.extend_from_slice(if is_usage { b"error: " } else { faults })
-}
-
-/// Appends how many octets of the input weren't read, if any.
-fn add_unread(out: &mut Octets, unread: usize) -> Result<(), AllocError> {
+    add_left(out, status, output, faults)?;
     if unread == 0 {
         return Ok(());
     }
-    out.extend_from_slice(b"|unread ")?;
-    write_decimal(out, unread as u64)
+    add_parts(out, &[Text(b"|unread "), Number(unread as u64)])
 }
 
-/// An output that is full.
-#[derive(Drop)]
-struct Full;
-
-impl Write for Full {
-    fn write(&mut self, _buf: &[u8]) -> io::Result<usize> {
-        Err(io::Error::from(ErrorKind::StorageFull))
-    }
-
-    fn flush(&mut self) -> io::Result<()> {
-        Ok(())
-    }
+/// Appends `STATUS|OUTPUT|FAULTS`. Of a fault of the words only its beginning, `error: `, is shown.
+pub fn add_left<'a>(
+    out: &mut Octets,
+    status: u8,
+    output: &'a [u8],
+    faults: &'a [u8],
+) -> Result<(), AllocError> {
+    let is_usage = faults.starts_with(b"error: ");
+    let faults = if is_usage { b"error: " } else { faults };
+    add_parts(
+        out,
+        &[
+            Number(u64::from(status)),
+            Text(b"|"),
+            Text(output),
+            Text(b"|"),
+            Text(faults),
+        ],
+    )
 }

@@ -1,5 +1,6 @@
 //! Readers and writers that fail at a call.
 use crate::run::add_left;
+use casefiles::text_in;
 use mailengine::Envelope;
 use octets::{Octets, parse_decimal};
 use sievedrun::trial::try_run;
@@ -10,6 +11,9 @@ use std::io::{ErrorKind, Read, Write};
 /// A script that files into two mailboxes, without a message: `file a`, `file b`, 14 octets.
 const TWO: &[u8] = b"44\nrequire \"fileinto\";fileinto \"a\";fileinto\"b\";";
 
+/// The number of a call that no run makes.
+pub const NEVER: u64 = u64::MAX;
+
 /// What a run leaves whose input, or output, fails from the call with this number on, counted from 0.
 pub fn answer(
     alloc: Global,
@@ -18,18 +22,53 @@ pub fn answer(
     number: &[u8],
 ) -> Result<(), AllocError> {
     let calls = parse_decimal(number).unwrap_or(0);
-    match call {
-        b"read" => add_reading(alloc, out, calls, ErrorKind::BrokenPipe),
-        b"interrupted" => add_reading(alloc, out, calls, ErrorKind::Interrupted),
-        b"write" => add_writing(alloc, out, calls),
+    match text_in(call) {
+        "read" => add_tried(alloc, out, calls, ErrorKind::BrokenPipe, NEVER),
+        "interrupted" => add_tried(alloc, out, calls, ErrorKind::Interrupted, NEVER),
+        "write" => add_tried(alloc, out, NEVER, ErrorKind::BrokenPipe, calls),
         _ => out.extend_from_slice(b"no such call"),
     }
 }
 
-/// An input that gives its octets one by one, and fails from one of its calls on.
+/// Appends what a run leaves whose input and output fail from these calls on.
+fn add_tried(
+    alloc: Global,
+    out: &mut Octets,
+    reads: u64,
+    fails_as: ErrorKind,
+    writes: u64,
+) -> Result<(), AllocError> {
+    let mut input = Pieces {
+        left: TWO,
+        most: 1,
+        calls: reads,
+        fails_as,
+    };
+    let mut output = Takes::new(alloc, writes);
+    let mut faults = Vec::new(alloc);
+    let status = try_run(
+        alloc,
+        unaddressed(alloc),
+        &mut input,
+        &mut output,
+        &mut faults,
+    );
+    add_left(out, status, output.taken.as_slice(), faults.as_slice())
+}
+
+/// The envelope of no sender and no recipient. Takes no memory.
+fn unaddressed(alloc: Global) -> Envelope {
+    Envelope {
+        from: Octets::new(alloc),
+        to: Octets::new(alloc),
+    }
+}
+
+/// An input that gives so many octets at a time at most, and fails from one of its calls on.
 #[derive(Drop)]
 pub struct Pieces<'a> {
     pub left: &'a [u8],
+    pub most: usize,
     pub calls: u64,
     pub fails_as: ErrorKind,
 }
@@ -40,7 +79,7 @@ impl Read for Pieces<'_> {
             return Err(io::Error::from(self.fails_as));
         }
         self.calls -= 1;
-        let most = buf.len().min(1);
+        let most = buf.len().min(self.most);
         self.left.read(&mut buf[..most])
     }
 }
@@ -49,10 +88,18 @@ impl Read for Pieces<'_> {
 #[derive(Drop)]
 pub struct Takes {
     pub taken: Vec<u8>,
-    pub calls: u64,
+    calls: u64,
 }
 
 impl Takes {
+    /// Nothing was taken yet. Takes no memory.
+    pub fn new(alloc: Global, calls: u64) -> Takes {
+        Takes {
+            taken: Vec::new(alloc),
+            calls,
+        }
+    }
+
     fn count(&mut self) -> io::Result<()> {
         if self.calls == 0 {
             return Err(io::Error::from(ErrorKind::StorageFull));
@@ -72,42 +119,5 @@ impl Write for Takes {
 
     fn flush(&mut self) -> io::Result<()> {
         self.count()
-    }
-}
-
-fn add_reading(
-    alloc: Global,
-    out: &mut Octets,
-    calls: u64,
-    fails_as: ErrorKind,
-) -> Result<(), AllocError> {
-    let mut input = Pieces {
-        left: TWO,
-        calls,
-        fails_as,
-    };
-    let (mut output, mut faults) = (Vec::new(alloc), Vec::new(alloc));
-    let envelope = unaddressed(alloc);
-    let status = try_run(alloc, envelope, &mut input, &mut output, &mut faults);
-    add_left(out, status, output.as_slice(), faults.as_slice())
-}
-
-fn add_writing(alloc: Global, out: &mut Octets, calls: u64) -> Result<(), AllocError> {
-    let mut input = TWO;
-    let mut output = Takes {
-        taken: Vec::new(alloc),
-        calls,
-    };
-    let mut faults = Vec::new(alloc);
-    let envelope = unaddressed(alloc);
-    let status = try_run(alloc, envelope, &mut input, &mut output, &mut faults);
-    add_left(out, status, output.taken.as_slice(), faults.as_slice())
-}
-
-/// The envelope of no sender and no recipient. Takes no memory.
-fn unaddressed(alloc: Global) -> Envelope {
-    Envelope {
-        from: Octets::new(alloc),
-        to: Octets::new(alloc),
     }
 }

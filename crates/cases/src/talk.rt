@@ -1,12 +1,14 @@
 //! Sessions of ManageSieve over a keeper: what one client is told.
-use crate::stream::{Pieces, Takes};
+use crate::stream::{NEVER, Pieces, Takes};
+use casefiles::Part::Text;
+use casefiles::add_parts;
 use keepers::Keeper;
 use octets::{Octets, parse_decimal};
 use sievedrun::fault::Fault;
 use sievedrun::session::serve_one;
 use std::alloc::{AllocError, Global};
-use std::io::{ErrorKind, Read};
-use std::{format, io};
+use std::format;
+use std::io::ErrorKind;
 
 /// The greeting's last line.
 const GREETED: &[u8] = b"OK\r\n";
@@ -23,18 +25,28 @@ pub fn add_sent<K: Keeper>(
     out: &mut Octets,
     keeper: &mut K,
     path: &str,
-    bytes: &[u8],
+    command: &[u8],
 ) -> Result<(), AllocError> {
-    let mut sent = Octets::from_slice(alloc, LOGIN)?;
-    sent.extend_from_slice(bytes)?;
-    let mut left = sent.as_slice();
-    let mut told = Vec::new(alloc);
-    let ended = serve_one(alloc, path, &mut left, &mut told, keeper);
-    let answers = after_greeting(told.as_slice());
+    let sent = after_login(alloc, command)?;
+    let mut output = Takes::new(alloc, NEVER);
+    let ended = serve(
+        alloc,
+        keeper,
+        path,
+        at_most(usize::MAX, sent.as_slice()),
+        &mut output,
+    );
+    let answers = after_greeting(output.taken.as_slice());
     match answers.strip_prefix(LOGGED_IN) {
         Some(answer) if ended.is_ok() => out.extend_from_slice(answer),
         _ => out.extend_from_slice(answers),
     }
+}
+
+fn after_login(alloc: Global, command: &[u8]) -> Result<Octets, AllocError> {
+    let mut sent = Octets::new(alloc);
+    add_parts(&mut sent, &[Text(LOGIN), Text(command)])?;
+    Ok(sent)
 }
 
 /// Appends how a session ended, and what the client was told: all of it, or what stands after the greeting. The number
@@ -44,40 +56,69 @@ pub fn answer<K: Keeper>(
     out: &mut Octets,
     keeper: &mut K,
     path: &str,
-    given: (&[u8], &[u8], &[u8]),
+    call: &str,
+    number: &[u8],
+    input: &[u8],
 ) -> Result<(), AllocError> {
-    let (call, number, input) = given;
     let number = parse_decimal(number).unwrap_or(0);
-    let mut told = Vec::new(alloc);
-    let ended = match call {
-        b"gone" => {
-            let mut input = Pieces {
-                left: input,
-                calls: number,
-                fails_as: ErrorKind::ConnectionReset,
-            };
-            serve_one(alloc, path, &mut input, &mut told, keeper)
-        }
-        b"deaf" => {
-            let mut left = input;
-            let mut output = Takes {
-                taken: told,
-                calls: number,
-            };
-            let ended = serve_one(alloc, path, &mut left, &mut output, keeper);
-            told = output.taken;
-            ended
-        }
-        _ => {
-            let most = usize::try_from(number).unwrap_or(0);
-            let mut input = Cut { left: input, most };
-            serve_one(alloc, path, &mut input, &mut told, keeper)
-        }
+    let most = usize::try_from(number).unwrap_or(0);
+    let (input, writes, is_greeted) = match call {
+        "greet" => (at_most(most, input), NEVER, true),
+        "talk" => (at_most(most, input), NEVER, false),
+        "gone" => (broken(number, input), NEVER, false),
+        "deaf" => (at_most(usize::MAX, input), number, true),
+        _ => return out.extend_from_slice(b"no such call"),
     };
+    let mut output = Takes::new(alloc, writes);
+    let ended = serve(alloc, keeper, path, input, &mut output);
+    add_told(alloc, out, ended, output.taken.as_slice(), is_greeted)
+}
+
+/// What gives that many octets at a time at most.
+fn at_most(most: usize, left: &[u8]) -> Pieces<'_> {
+    Pieces {
+        left,
+        most,
+        calls: NEVER,
+        fails_as: ErrorKind::ConnectionReset,
+    }
+}
+
+/// What gives its octets one by one, and fails from a call on.
+fn broken(calls: u64, left: &[u8]) -> Pieces<'_> {
+    Pieces {
+        left,
+        most: 1,
+        calls,
+        fails_as: ErrorKind::ConnectionReset,
+    }
+}
+
+/// Serves a client that sends this, and takes what it is told.
+fn serve<K: Keeper>(
+    alloc: Global,
+    keeper: &mut K,
+    path: &str,
+    input: Pieces<'_>,
+    output: &mut Takes,
+) -> Result<(), Fault> {
+    let mut input = input;
+    serve_one(alloc, path, &mut input, output, keeper)
+}
+
+/// Appends how a session ended, and what the client was told.
+fn add_told(
+    alloc: Global,
+    out: &mut Octets,
+    ended: Result<(), Fault>,
+    told: &[u8],
+    is_greeted: bool,
+) -> Result<(), AllocError> {
     add_end(alloc, out, ended)?;
-    out.extend_from_slice(match call {
-        b"talk" | b"gone" => after_greeting(told.as_slice()),
-        _ => told.as_slice(),
+    out.extend_from_slice(if is_greeted {
+        told
+    } else {
+        after_greeting(told)
     })
 }
 
@@ -94,19 +135,5 @@ fn after_greeting(told: &[u8]) -> &[u8] {
     match told.windows(GREETED.len()).position(|four| four == GREETED) {
         Some(at) => told.get(at.saturating_add(GREETED.len())..).unwrap_or(told),
         None => told,
-    }
-}
-
-/// An input that gives that many octets at a time at most.
-#[derive(Drop)]
-struct Cut<'a> {
-    left: &'a [u8],
-    most: usize,
-}
-
-impl Read for Cut<'_> {
-    fn read(&mut self, buf: &mut [u8]) -> io::Result<usize> {
-        let most = buf.len().min(self.most);
-        self.left.read(&mut buf[..most])
     }
 }

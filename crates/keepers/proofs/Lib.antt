@@ -1,2 +1,1 @@
-mod FileNameLemmas
 mod TakenLemmas

@@ -1,23 +1,11 @@
 //! What the system and SQLite say of a failure, as texts for a person.
+use mailsinks::cause::of_file;
 use sqlite::ErrorCode;
 use std::io::ErrorKind;
 
 /// Of a lock's file that can't be opened or locked.
 pub fn of_lock(kind: ErrorKind) -> &'static str {
     of_file(kind).unwrap_or("lock file can't be used")
-}
-
-/// Of a file that can't be opened, written or renamed; none where nothing more is known of it.
-pub fn of_file(kind: ErrorKind) -> Option<&'static str> {
-    match kind {
-        ErrorKind::NotFound => Some("no such directory"),
-        ErrorKind::PermissionDenied => Some("permission denied"),
-        ErrorKind::ReadOnlyFilesystem => Some("file system is read-only"),
-        ErrorKind::StorageFull => Some("disk is full"),
-        ErrorKind::QuotaExceeded => Some("disk quota is used up"),
-        ErrorKind::FileTooLarge => Some("file would be too large"),
-        _ => None,
-    }
 }
 
 /// Of a call that SQLite refused; none where its own name says no more.

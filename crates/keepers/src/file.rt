@@ -3,7 +3,7 @@ ghost use Rattle.std.specs.Prelude.{◌≡◌, IfErr};
 ghost use Rattle.mailstore.specs.Refusals.{IsTransient};
 
 use crate::cause::{of_lock, of_sqlite};
-use crate::keeper::{Held, Keeper, store_of};
+use crate::keeper::{Held, Keeper, released, store_of};
 use mailstore::{Refusal, Store};
 use sqlite::{Connection, Error, ErrorCode, File as Database, FileStore};
 use std::fs::{File, OpenOptions, TryLockError};
@@ -43,8 +43,8 @@ impl<'a> FileKeeper<'a> {
         ensures named { IfErr result IsTransient }
         ensures kept { self.new.lock ≡ self.old.lock }
     {
-        let said = store.cause();
-        let closed = store.release().close();
+        let (conn, said) = released(store);
+        let closed = conn.close();
         self.cause = cause_at_end(said, &closed);
         Ok(closed?)
     }

@@ -115,3 +115,9 @@ pub(crate) fn store_of<S: Alter + Drop>(
         Store::open(alloc, conn)
     }
 }
+
+/// The connection of a store, and what SQLite said of the last write that it refused.
+pub(crate) fn released<S: Alter>(store: Store<S>) -> (Connection<S>, Option<ErrorCode>) {
+    let cause = store.cause();
+    (store.release(), cause)
+}

@@ -1,5 +1,5 @@
 -- A read after a read, and a write after a read, of one user's account.
-use Rattle.std.proofs.Common.{◌≡◌, ◌⊎◌, ℕ, List, Option, Some, None, Ok, Err, Result, OnOk, OnErr, IfOk, IfErr, IsTrue, refl, sym, ap, ◌∙◌, subst, inl, option_map}
+use Rattle.std.proofs.Common.{◌≡◌, ◌⊎◌, ℕ, List, Option, Some, None, Ok, Err, Result, OnOk, OnErr, IfOk, IfErr, IsTrue, inr, refl, sym, ap, ◌∙◌, subst, inl, option_map}
 use Rattle.std.specs.FinMap.{get}
 use Rattle.sqlite.specs.State.{State, HasCleanDisk, Survives}
 use Rattle.sqlite.proofs.StateLemmas.{survives_then, survives_weaker}
@@ -146,6 +146,10 @@ write_refused a b r user change e q is kept absent named = record {
   crash = survives_weaker a b _ (CrashLeavesAccounts (HasUser user) (λ all. with_user all user change) a) (λ clean db none accounts p has. absurd (none (p.0, p.1))) kept.crash;
   named = subst (λ o. IfErr o (λ f. (f ≡ NoUser) ⊎ IsTransient f)) (sym is) named;
 }
+
+-- and a refusal that may come without visible cause
+pub write_failed : {X Y : Type 0} (a b : State) (r : Result X Refusal) (user : List ℕ) (change : Account → Account) (e : Refusal) (q : Result Y Refusal) → q ≡ Err e → Keeps a b r → IsTransient e → WritesAccount user change a b q
+write_failed {Y = Y} a b r user change e q is kept transient = write_refused a b r user change e q is kept (λ clean accounts p. transient_other {Y = Y} (Err e) (IsFree user accounts) transient) (inr transient)
 
 -- ---- the name of the active script
 

@@ -12,7 +12,7 @@ use Rattle.sqlite.specs.Effect.{Database}
 use Rattle.sqlite.specs.State.{State, HasCleanDisk}
 use Rattle.sqlrows.specs.Rows.{Entry, id_of, cells_of, stored, IsHeld, HoldsTables, has_key_from}
 use Rattle.mailtables.specs.Schema.{no_schema, mail_schema}
-use Rattle.mailtables.specs.Connection.{IsSettled, Outlives}
+use Rattle.mailtables.specs.Connection.{IsSettled, Leaves, Outlives}
 use Rattle.mailstore.specs.Account.{Accounts, bytes_cmp, no_accounts}
 use Rattle.mailtables.specs.MetaTable.{meta, version_key, version_row, meta_tree}
 use Rattle.mailtables.specs.Ours.{IsOurs, MayCreate, only_version}
@@ -41,6 +41,10 @@ outlives_made old new empty faults left = record {
   faults = faults;
   crash = λ clean db leaves. elim (left clean db leaves) [ inl before ↦ inl before | inr made ↦ let m = made empty in inr (m.0, presents_nobody m.0 m.1, m.2) ];
 }
+
+-- a crash leaves what it left before, where it commits nothing
+pub leaves : (old new : State) → doubt old.is_clean ≤ doubt new.is_clean → (HasCleanDisk new → (db : Trees) → new.may_leave db → old.may_leave db ⊎ ⊥) → Leaves old new
+leaves old new faults left = record { faults = faults; alone = λ clean db may. elim (left clean db may) [ inl before ↦ before | inr none ↦ absurd none ] }
 
 -- opened on trees that show accounts, a database of our schema shows them
 pub shows_again : (db new : Database) (accounts : Accounts) → db.schema ≡ mail_schema → new ≡ db → ShowsIn db.trees accounts → Presents new accounts

@@ -102,6 +102,14 @@ inside_then g T U V both a b c r x q ok one two = record {
 pub makes_then : {S X Y : Type 0} (g : Ghosts S) (a b c : Transaction S) (s t u : Schema) (r : Result X Error) (x : X) (q : Result Y Error) → r ≡ Ok x → MakesTables g s t a b r → MakesTables g t u b c q → MakesTables g s u a c q
 makes_then g a b c s t u r x q ok one two = inside_then g (TurnsSchema s t) (TurnsSchema t u) (TurnsSchema s u) (λ _ _ _ first second held. second (first held)) a b c r x q ok one two
 
+-- and a refusal after them
+pub makes_failed : {S X Y : Type 0} (g : Ghosts S) (a b : Transaction S) (s t u : Schema) (r : Result X Error) (e : Error) (q : Result Y Error) → q ≡ Err e → MakesTables g s t a b r → MakesTables g s u a b q
+makes_failed g a b s t u r e q is one = record {
+  same_reference = one.same_reference;
+  made = λ clean inside. ((one.made clean inside).0, subst (λ o. OnOk o (TurnsSchema s u (state g a.conn.now).now (state g b.conn.now).now × Shows (state g a.conn.now) (state g b.conn.now) (state g b.conn.now).now (state g a.conn.now).committed true)) (sym is) tt);
+  survives = one.survives;
+}
+
 -- all tables, and then the row of the version
 pub ours_then : {S X Y : Type 0} (g : Ghosts S) (a b c : Transaction S) (r : Result X Error) (x : X) (q : Result Y Error) → r ≡ Ok x → MakesTables g no_schema mail_schema a b r → ChangesRows g (added meta_tree version_row) b c q → MakesOurs g a c q
 ours_then g a b c r x q ok tables version =

@@ -98,46 +98,54 @@ pub enum Change<'a> {
 fn make<S: Alter>(tx: &mut Transaction<'_, S>, change: &Change<'_>) -> Result<(), Error>
     ensures { ChangesRows S.Store (made_one change.now) tx.old tx.new result }
 {
-    match change {
+    match *change {
         Change::AddAccount {
             name,
             address,
             salt,
             rounds,
             digest,
-        } => add_account(tx, name, address, salt, *rounds, digest),
-        Change::SetActive { name, active } => set_active(tx, name, *active),
+        } => add_account(tx, name, address, salt, rounds, digest),
+        Change::SetActive { name, active } => set_active(tx, name, active),
         Change::SetCounters {
             name,
-            copy,
-            out,
-            notice,
+            ref copy,
+            ref out,
+            ref notice,
         } => set_counters(tx, name, copy, out, notice),
         Change::AddScript { owner, name, text } => add_script(tx, owner, name, text),
         Change::RemoveScript { owner, name } => remove_script(tx, owner, name),
-        Change::AddMessage { owner, id, bytes } => add_message(tx, owner, id, bytes),
-        Change::RemoveMessage { owner, id } => remove_message(tx, owner, id),
+        Change::AddMessage {
+            owner,
+            ref id,
+            bytes,
+        } => add_message(tx, owner, id, bytes),
+        Change::RemoveMessage { owner, ref id } => remove_message(tx, owner, id),
         Change::AddCopy {
             owner,
             folder,
-            n,
-            id,
+            ref n,
+            ref id,
         } => add_copy(tx, owner, folder, n, id),
-        Change::RemoveCopy { owner, folder, n } => remove_copy(tx, owner, folder, n),
+        Change::RemoveCopy {
+            owner,
+            folder,
+            ref n,
+        } => remove_copy(tx, owner, folder, n),
         Change::AddOutgoing {
             owner,
-            id,
+            ref id,
             kind,
             sender,
             target,
             message,
-        } => add_outgoing(tx, owner, id, *kind, sender, target, message),
-        Change::RemoveOutgoing { owner, id } => remove_outgoing(tx, owner, id),
+        } => add_outgoing(tx, owner, id, kind, sender, target, message),
+        Change::RemoveOutgoing { owner, ref id } => remove_outgoing(tx, owner, id),
         Change::AddReply {
             owner,
             handle,
             sender,
-            moment,
+            ref moment,
         } => add_reply(tx, owner, handle, sender, moment),
         Change::RemoveReply {
             owner,
@@ -146,8 +154,8 @@ fn make<S: Alter>(tx: &mut Transaction<'_, S>, change: &Change<'_>) -> Result<()
         } => remove_reply(tx, owner, handle, sender),
         Change::AddNotice {
             owner,
-            id,
-            moment,
+            ref id,
+            ref moment,
             text,
         } => add_notice(tx, owner, id, moment, text),
     }

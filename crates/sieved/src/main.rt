@@ -4,8 +4,9 @@
 
 mod listener;
 
-use keepers::{FileKeeper, Maildir};
+use keepers::FileKeeper;
 use listener::{Service, serve};
+use mailsinks::Maildir;
 use sievedrun::drive::drive;
 use sievedrun::fault::{Fault, refuse};
 use sievedrun::session::run_session;

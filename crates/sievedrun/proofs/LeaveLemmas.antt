@@ -6,7 +6,7 @@ use Rattle.std.proofs.Math.Seq.{take-add}
 use Rattle.std.proofs.lemmas.List.{append-nil}
 use Rattle.std.specs.FinMap.{get}
 use Rattle.sqlite_typed.proofs.TestLemmas.{bytes_eq_refl}
-use Rattle.keepers.specs.Kept.{MayKeep}
+use Rattle.mailsinks.specs.Kept.{MayKeep}
 use Rattle.mailstore.specs.declared.refusal.Refusal.{Refusal}
 use Rattle.mailstore.specs.Account.{Account, Accounts, with_user, messages_in, takes_mail}
 use Rattle.mailstore.proofs.TakingLemmas.{held_get, unless_none}

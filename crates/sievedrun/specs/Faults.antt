@@ -4,8 +4,8 @@ use Rattle.mailstore.specs.declared.refusal.Refusal.{Refusal}
 use Rattle.mailstore.specs.declared.refusal.Refusal.TheVariants as refusal
 use Rattle.keepers.specs.declared.keeper.Held.{Held}
 use Rattle.keepers.specs.declared.keeper.Held.TheVariants as held
-use Rattle.keepers.specs.declared.sink.SinkError.{SinkError}
-use Rattle.keepers.specs.declared.sink.SinkError.TheVariants as sink
+use Rattle.mailsinks.specs.declared.sink.SinkError.{SinkError}
+use Rattle.mailsinks.specs.declared.sink.SinkError.TheVariants as sink
 use Rattle.sievedrun.specs.declared.fault.Fault.{Fault}
 use Rattle.sievedrun.specs.declared.fault.Fault.TheVariants.{Memory, Store, Busy, Stream, NotOurs, NoUser, TooLarge, BadEnvelope, BadMoment, UserExists, BadUser, NoRow, NoMessage, NoMaildir, BadInput, BadArgument}
 

@@ -4,7 +4,8 @@ ghost use Rattle.sievedrun.specs.Faults.{status_of, line_of};
 ghost use Rattle.sievedrun.specs.Streams.{AppendsFront};
 
 use crate::stream;
-use keepers::{Held, SinkError};
+use keepers::Held;
+use mailsinks::SinkError;
 use mailstore::Refusal;
 use std::alloc::AllocError;
 use std::io::Write;

@@ -16,7 +16,7 @@ pub returns-in-RemoveScript : goal.returns-in-RemoveScript
 returns-in-RemoveScript g c = rw c.in-RemoveScript.is c.remove_script.ensures
 
 pub returns-in-AddMessage : goal.returns-in-AddMessage
-returns-in-AddMessage g c = rw c.in-AddMessage.is c.add_message.ensures
+returns-in-AddMessage g c = rw c.in-AddMessage.is (rw (c.in-AddMessage.is) at c.add_message.ensures)
 
 pub returns-in-AddCopy : goal.returns-in-AddCopy
 returns-in-AddCopy g c = rw c.in-AddCopy.is c.add_copy.ensures
@@ -28,7 +28,7 @@ pub returns-in-RemoveCopy : goal.returns-in-RemoveCopy
 returns-in-RemoveCopy g c = rw c.in-RemoveCopy.is c.remove_copy.ensures
 
 pub returns-in-AddOutgoing : goal.returns-in-AddOutgoing
-returns-in-AddOutgoing g c = rw c.in-AddOutgoing.is c.add_outgoing.ensures
+returns-in-AddOutgoing g c = rw c.in-AddOutgoing.is (rw (c.in-AddOutgoing.is) at c.add_outgoing.ensures)
 
 pub returns-in-RemoveOutgoing : goal.returns-in-RemoveOutgoing
 returns-in-RemoveOutgoing g c = rw c.in-RemoveOutgoing.is c.remove_outgoing.ensures
@@ -40,4 +40,4 @@ pub returns-in-RemoveReply : goal.returns-in-RemoveReply
 returns-in-RemoveReply g c = rw c.in-RemoveReply.is c.remove_reply.ensures
 
 pub returns-in-AddNotice : goal.returns-in-AddNotice
-returns-in-AddNotice g c = rw c.in-AddNotice.is c.add_notice.ensures
+returns-in-AddNotice g c = rw c.in-AddNotice.is (rw (c.in-AddNotice.is) at c.add_notice.ensures)

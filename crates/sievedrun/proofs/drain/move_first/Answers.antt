@@ -1,6 +1,6 @@
 -- The message was read, kept and taken, as far as that went.
 use Rattle.std.proofs.Common.{[], ◌∷◌, ◌++◌, ◌∙◌, ap, subst}
-use Rattle.keepers.specs.Kept.{MayKeep}
+use Rattle.mailsinks.specs.Kept.{MayKeep}
 use Rattle.sqlite.specs.Held.{state}
 use Rattle.mailengine.proofs.MailTakingLemmas.{mail_written}
 use Rattle.sievedrun.proofs.LeaveLemmas.{grown_none}

@@ -1,9 +1,10 @@
-use Rattle.std.proofs.Common.{◌≡◌, ◌∙◌, ap, sym, subst}
+use Rattle.std.proofs.Common.{◌≡◌, Err, ◌∙◌, ap, refl, sym, subst, rules}
 use Rattle.sqlite.specs.Held.{state}
 use Rattle.mailstore.specs.Account.{delivers}
 use Rattle.mailstore.specs.Delivery.{AreDelivery, folded_sender}
 use Rattle.mailstore.proofs.DeliveryLemmas.{delivery_shows, stores_once}
-use Rattle.mailstore.proofs.AfterLemmas.{writes_then}
+use Rattle.mailstore.proofs.KeepLemmas.{account_refused}
+use Rattle.mailstore.proofs.AfterLemmas.{writes_then, write_refused, write_failed}
 use Rattle.mailstore.proofs.store.Store.commit_delivery.Goals as goal
 
 pub returns-clause-writes : goal.returns-clause-writes
@@ -26,3 +27,28 @@ returns-clause-once g c =
     let delivery = subst (AreDelivery user counters plan) (sym c.deref.ensures.value) (c.in_ok-changes.ensures.delivery same) in
     stores_once (state g.S.Store c.args.self.now) (state g.S.Store c.counters.new.self) (state g.S.Store c.apply.new.self) c.counters.result counters c.in_ok-counters.was c.counters.ensures.keeps user counters plan c.deref.result.now delivery
     c.apply.ensures.crash c.apply.result c.apply.ensures.made
+
+pub returns-in_err-counters-clause-writes : goal.returns-in_err-counters-clause-writes
+returns-in_err-counters-clause-writes g c =
+    let old = state g.S.Store c.args.self.now in
+    let new = state g.S.Store c.counters.new.self in
+    let e = c.in_err-counters.field-0.0 in
+    let is : c.from_residual.result ≡ Err e = search rules in
+    let read = account_refused c.args.user.now old new e (Err e) refl c.in_err-counters.ensures in
+    write_refused old new c.counters.result c.args.user.now (delivers c.args.plan.now) e c.from_residual.result is c.counters.ensures.keeps (λ clean accounts p none. read.absent clean accounts p none) read.named
+
+pub returns-in_err-sender-clause-writes : goal.returns-in_err-sender-clause-writes
+returns-in_err-sender-clause-writes g c =
+    let old = state g.S.Store c.args.self.now in
+    let new = state g.S.Store c.counters.new.self in
+    let e = c.in_err-sender.field-0.0 in
+    let is : c.from_residual-in_err-sender.result ≡ Err e = search rules in
+    write_failed old new c.counters.result c.args.user.now (delivers c.args.plan.now) e c.from_residual-in_err-sender.result is c.counters.ensures.keeps c.in_err-sender.ensures.named
+
+pub returns-in_err-changes-clause-writes : goal.returns-in_err-changes-clause-writes
+returns-in_err-changes-clause-writes g c =
+    let old = state g.S.Store c.args.self.now in
+    let new = state g.S.Store c.counters.new.self in
+    let e = c.in_err-changes.field-0.0 in
+    let is : c.from_residual-in_err-changes.result ≡ Err e = search rules in
+    write_failed old new c.counters.result c.args.user.now (delivers c.args.plan.now) e c.from_residual-in_err-changes.result is c.counters.ensures.keeps c.in_err-changes.ensures.named

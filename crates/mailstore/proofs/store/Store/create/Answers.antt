@@ -20,3 +20,11 @@ returns-in-Err-clause-crash_if_refused g c =
     let empty : c.args.conn.schema ≡ no_schema = search rules in
     let left = rw (c.set_step_limit.ensures) at c.make_tables.ensures.crash in
     outlives_made (state g.S.Store c.args.conn) (state g.S.Store c.make_tables.new.conn) empty left.clean left.crash
+
+pub returns-in-Ok-clause-settled : goal.returns-in-Ok-clause-settled
+returns-in-Ok-clause-settled g c = rw (c.in-Ok.is) at c.make_tables.ensures.settled
+
+pub returns-in-Err-clause-same_if_refused : goal.returns-in-Err-clause-same_if_refused
+returns-in-Err-clause-same_if_refused g c clean =
+    let same = (rw (c.in-Err.is, c.set_step_limit.ensures) at c.make_tables.ensures.same) clean in
+    record { now_is = same.now_is; committed_is = same.committed_is }

@@ -1,7 +1,7 @@
 use Rattle.std.proofs.Common.{◌≡◌, true, false, rules, refl}
 use Rattle.sqlite.specs.Held.{state}
 use Rattle.mailtables.specs.Schema.{mail_schema}
-use Rattle.mailstore.proofs.OpenLemmas.{shows_again, shown_ours}
+use Rattle.mailstore.proofs.OpenLemmas.{leaves, shows_again, shown_ours}
 use Rattle.mailstore.proofs.store.Store.open.Goals as goal
 
 pub returns-in-Ok-true-clause-shown : goal.returns-in-Ok-true-clause-shown
@@ -31,3 +31,39 @@ returns-in-Ok-false-clause-not_ours g c clean same ours =
 
 pub returns-in-Ok-false-clause-not_shown : goal.returns-in-Ok-false-clause-not_shown
 returns-in-Ok-false-clause-not_shown g c clean same accounts p = returns-in-Ok-false-clause-not_ours g c clean same (shown_ours (state g.S.Store c.args.conn).now accounts p)
+
+pub returns-in-Ok-true-clause-same : goal.returns-in-Ok-true-clause-same
+returns-in-Ok-true-clause-same g c clean =
+    let ours : c.args.conn.schema ≡ mail_schema = search rules in
+    let same = (rw (c.set_step_limit.ensures) at c.has_version.ensures.finds.same) ours clean in
+    record { now_is = same.now_is; committed_is = same.committed_is }
+
+pub returns-in-Ok-true-clause-crash : goal.returns-in-Ok-true-clause-crash
+returns-in-Ok-true-clause-crash g c =
+    let ours : c.args.conn.schema ≡ mail_schema = search rules in
+    let left = (rw (c.set_step_limit.ensures) at c.has_version.ensures.finds.crash) ours in
+    leaves (state g.S.Store c.args.conn) (state g.S.Store c.has_version.new.conn) left.clean left.crash
+
+pub returns-in-Ok-false-clause-same_if_refused : goal.returns-in-Ok-false-clause-same_if_refused
+returns-in-Ok-false-clause-same_if_refused g c clean =
+    let ours : c.args.conn.schema ≡ mail_schema = search rules in
+    let same = (rw (c.set_step_limit.ensures) at c.has_version.ensures.finds.same) ours clean in
+    record { now_is = same.now_is; committed_is = same.committed_is }
+
+pub returns-in-Ok-false-clause-crash_if_refused : goal.returns-in-Ok-false-clause-crash_if_refused
+returns-in-Ok-false-clause-crash_if_refused g c =
+    let ours : c.args.conn.schema ≡ mail_schema = search rules in
+    let left = (rw (c.set_step_limit.ensures) at c.has_version.ensures.finds.crash) ours in
+    leaves (state g.S.Store c.args.conn) (state g.S.Store c.has_version.new.conn) left.clean left.crash
+
+pub returns-in-Err-clause-same_if_refused : goal.returns-in-Err-clause-same_if_refused
+returns-in-Err-clause-same_if_refused g c clean =
+    let ours : c.args.conn.schema ≡ mail_schema = search rules in
+    let same = (rw (c.set_step_limit.ensures) at c.has_version.ensures.finds.same) ours clean in
+    record { now_is = same.now_is; committed_is = same.committed_is }
+
+pub returns-in-Err-clause-crash_if_refused : goal.returns-in-Err-clause-crash_if_refused
+returns-in-Err-clause-crash_if_refused g c =
+    let ours : c.args.conn.schema ≡ mail_schema = search rules in
+    let left = (rw (c.set_step_limit.ensures) at c.has_version.ensures.finds.crash) ours in
+    leaves (state g.S.Store c.args.conn) (state g.S.Store c.has_version.new.conn) left.clean left.crash

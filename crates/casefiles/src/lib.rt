@@ -1,0 +1,18 @@
+//! Files of cases: how octets, tables and sections are written in them, and how each of their cases is held against what is wanted.
+#![tactic(auto)]
+
+mod line;
+mod message;
+mod part;
+mod row;
+mod section;
+mod tally;
+mod text;
+
+pub use line::{Lines, try_lines};
+pub use message::Message;
+pub use part::{Part, add_parts};
+pub use row::{Answers, try_rows};
+pub use section::{Section, sections};
+pub use tally::Tally;
+pub use text::{cut, decoded, text_in, trimmed, with_ends, words_of};

@@ -1,0 +1,26 @@
+//! What an answer is made of.
+use octets::{Octets, write_decimal};
+use std::alloc::AllocError;
+
+/// A part of an answer.
+#[derive(Clone, Copy)]
+pub enum Part<'a> {
+    Text(&'a [u8]),
+    /// A number, which is written in decimal.
+    Number(u64),
+}
+
+/// Appends parts, one after the other.
+pub fn add_parts(out: &mut Octets, parts: &[Part<'_>]) -> Result<(), AllocError> {
+    for part in parts {
+        add_part(out, part)?;
+    }
+    Ok(())
+}
+
+fn add_part(out: &mut Octets, part: &Part<'_>) -> Result<(), AllocError> {
+    match part {
+        Part::Text(text) => out.extend_from_slice(text),
+        Part::Number(number) => write_decimal(out, *number),
+    }
+}

@@ -1,0 +1,43 @@
+//! The sections of a file.
+use crate::text::cut;
+use std::alloc::{AllocError, Global};
+
+/// A part of a file below a title `== NAME NOTE`. What stands above the first title is a section too; its name is `#`
+/// where the file begins with a comment.
+#[derive(Clone, Copy)]
+pub struct Section<'a> {
+    /// The number of the title's line, counted from 1.
+    pub line: usize,
+    pub name: &'a str,
+    /// What stands after the name, to the end of the line.
+    pub note: &'a str,
+    /// The lines below the title, without the line end before the next title.
+    pub text: &'a str,
+}
+
+/// The sections of a file, in their order.
+pub fn sections<'a>(alloc: Global, file: &'a str) -> Result<Vec<Section<'a>>, AllocError> {
+    let mut found = Vec::new(alloc);
+    let mut line: usize = 1;
+    for text in file.split("\n== ") {
+        found.push(section_at(line, text))?;
+        line = line.saturating_add(lines_in(text));
+    }
+    Ok(found)
+}
+
+/// The section whose title stands in this line.
+fn section_at<'a>(line: usize, section: &'a str) -> Section<'a> {
+    let (title, text) = cut(section, "\n");
+    let (name, note) = cut(title, " ");
+    Section {
+        line,
+        name,
+        note,
+        text,
+    }
+}
+
+fn lines_in(text: &str) -> usize {
+    text.split('\n').count()
+}

@@ -1,0 +1,79 @@
+//! What is answered to events.
+use casefiles::Part::{Number, Text};
+use casefiles::add_parts;
+use mailengine::{Answer, Outgoing, Progress, Refusal};
+use octets::Octets;
+use reportlines::of_report;
+use std::alloc::{AllocError, Global};
+use std::format;
+
+/// Appends the answers that are shown.
+pub fn add_shown(
+    alloc: Global,
+    out: &mut Octets,
+    answers: &[Answer],
+    shown: &[bool],
+) -> Result<(), AllocError> {
+    for (answer, is_shown) in answers.iter().zip(shown.iter()) {
+        if *is_shown {
+            add_answer(alloc, out, answer)?;
+        }
+    }
+    Ok(())
+}
+
+/// Appends what was answered: how the session goes on, the report, the row, or the refusal.
+fn add_answer(alloc: Global, out: &mut Octets, answer: &Answer) -> Result<(), AllocError> {
+    match answer {
+        Answer::Out(progress, octets) => add_sent(out, *progress, octets.as_slice()),
+        Answer::Delivered(report) => out.extend_from_slice(of_report(alloc, report)?.as_slice()),
+        Answer::Added => add_line(out, b"", b"added"),
+        Answer::Taken(row) => add_row(out, row),
+        Answer::MailTaken => add_line(out, b"", b"mail taken"),
+        Answer::Ignored => add_line(out, b"", b"ignored"),
+        Answer::Refused(refusal) => add_refusal(alloc, out, *refusal),
+    }
+}
+
+/// Appends what a client is sent, without the CRLF at its end, and a line `need` or `close` where the session waits for
+/// octets or has ended.
+fn add_sent(out: &mut Octets, progress: Progress, octets: &[u8]) -> Result<(), AllocError> {
+    add_octets(out, octets)?;
+    match progress {
+        Progress::Done => Ok(()),
+        Progress::Need => add_line(out, b"", b"need"),
+        Progress::Close => add_line(out, b"", b"close"),
+    }
+}
+
+fn add_octets(out: &mut Octets, octets: &[u8]) -> Result<(), AllocError> {
+    match octets.strip_suffix(b"\r\n") {
+        Some(line) => add_line(out, b"", line),
+        None if octets.is_empty() => Ok(()),
+        None => add_line(out, b"no line end: ", octets),
+    }
+}
+
+fn add_row(out: &mut Octets, row: &Outgoing) -> Result<(), AllocError> {
+    add_parts(
+        out,
+        &[
+            Text(b"taken "),
+            Number(row.id),
+            Text(b" "),
+            Text(row.target.as_slice()),
+            Text(b"\n"),
+        ],
+    )
+}
+
+/// Appends why something was refused.
+pub fn add_refusal(alloc: Global, out: &mut Octets, refusal: Refusal) -> Result<(), AllocError> {
+    let told = format!(in alloc; "{refusal}")?;
+    add_line(out, b"refused: ", told.as_bytes())
+}
+
+/// Appends a word and a text as a line.
+pub fn add_line<'a>(out: &mut Octets, word: &'a [u8], text: &'a [u8]) -> Result<(), AllocError> {
+    add_parts(out, &[Text(word), Text(text), Text(b"\n")])
+}

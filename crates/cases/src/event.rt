@@ -1,0 +1,177 @@
+//! The events that sections are.
+use base64::engine::general_purpose::STANDARD;
+use casefiles::Part::Text;
+use casefiles::{Section, add_parts, cut, decoded, with_ends};
+use mailengine::{Envelope, Event};
+use octets::{Octets, parse_decimal};
+use std::alloc::{AllocError, Global};
+
+/// The password of every account that `account` adds.
+pub const PASSWORD: &[u8] = b"secret";
+
+/// What holds of the messages that follow.
+#[derive(Clone, Copy)]
+pub struct Post<'a> {
+    /// Their sender.
+    pub from: &'a str,
+    /// When they come, in seconds since 1970-01-01 UTC.
+    pub moment: u64,
+}
+
+impl<'a> Post<'a> {
+    /// What holds after a section `from` or `moment`.
+    pub fn after(self, section: &Section<'a>) -> Post<'a> {
+        let text = section.text.trim_ascii_end();
+        let (from, moment) = match section.name {
+            "from" => (text, self.moment),
+            _ => (self.from, number(text)),
+        };
+        Post { from, moment }
+    }
+}
+
+/// The event that a section is, if it is one, where its note says this.
+pub fn event(
+    alloc: Global,
+    post: Post<'_>,
+    section: &Section<'_>,
+    note: &str,
+) -> Result<Option<Event>, AllocError> {
+    match section.name {
+        "open" => Ok(Some(Event::Open(session(note)))),
+        "give" => given(alloc, section, note, true),
+        "piece" => given(alloc, section, note, false),
+        "step" => Ok(Some(Event::Step(session(note)))),
+        "giveup" => Ok(Some(Event::GiveUp(session(note)))),
+        "close" => Ok(Some(Event::Close(session(note)))),
+        "adduser" => new_user(alloc, note, section.text),
+        "deliver" => delivery(alloc, post, section, note),
+        "takeout" => row_taken(alloc, note),
+        "takemail" => mail_taken(alloc, note),
+        _ => Ok(None),
+    }
+}
+
+/// Octets that come from a client, with each line end as CRLF where that is wanted.
+fn given(
+    alloc: Global,
+    section: &Section<'_>,
+    note: &str,
+    crlf: bool,
+) -> Result<Option<Event>, AllocError> {
+    let octets = with_ends(alloc, section.text, crlf)?;
+    Ok(Some(Event::Give(session(note), octets)))
+}
+
+/// A user to be added: the address is the first line, the password the second.
+fn new_user(alloc: Global, name: &str, text: &str) -> Result<Option<Event>, AllocError> {
+    let (address, password) = cut(text, "\n");
+    let name = decoded(alloc, name)?;
+    let address = decoded(alloc, address)?;
+    let password = decoded(alloc, password)?;
+    Ok(Some(Event::AddUser {
+        name,
+        address,
+        salt: *b"0123456789abcdef",
+        password,
+    }))
+}
+
+/// A message to be delivered to this user.
+fn delivery(
+    alloc: Global,
+    post: Post<'_>,
+    section: &Section<'_>,
+    user: &str,
+) -> Result<Option<Event>, AllocError> {
+    let message = octets_in(alloc, section)?;
+    let user = Octets::from_slice(alloc, user.as_bytes())?;
+    let envelope = envelope(alloc, post.from)?;
+    Ok(Some(Event::Deliver {
+        user,
+        envelope,
+        message,
+        moment: post.moment,
+    }))
+}
+
+fn envelope(alloc: Global, from: &str) -> Result<Envelope, AllocError> {
+    let from = decoded(alloc, from)?;
+    let to = Octets::from_slice(alloc, b"alice@example.org")?;
+    Ok(Envelope { from, to })
+}
+
+/// A row to be taken out: `USER ID`.
+fn row_taken(alloc: Global, note: &str) -> Result<Option<Event>, AllocError> {
+    let (user, id) = cut(note, " ");
+    let user = Octets::from_slice(alloc, user.as_bytes())?;
+    Ok(Some(Event::TakeOut {
+        user,
+        id: number(id),
+    }))
+}
+
+/// A folder whose first message is to be taken out: `USER FOLDER`.
+fn mail_taken(alloc: Global, note: &str) -> Result<Option<Event>, AllocError> {
+    let (user, folder) = cut(note, " ");
+    let user = Octets::from_slice(alloc, user.as_bytes())?;
+    let folder = Octets::from_slice(alloc, folder.as_bytes())?;
+    Ok(Some(Event::TakeMail { user, folder }))
+}
+
+/// The octets of a section, each line end as CRLF.
+pub fn octets_in(alloc: Global, section: &Section<'_>) -> Result<Octets, AllocError> {
+    with_ends(alloc, section.text, true)
+}
+
+/// The line that logs a user in whose password is `secret` (RFC 5804, 2.1; RFC 4616, 2).
+pub fn login(alloc: Global, user: &str) -> Result<Octets, AllocError> {
+    let message = credentials(alloc, user)?;
+    let text = STANDARD.encode(alloc, message.as_slice())?;
+    login_by(alloc, text.as_bytes())
+}
+
+fn credentials(alloc: Global, user: &str) -> Result<Octets, AllocError> {
+    let mut message = Octets::new(alloc);
+    add_parts(
+        &mut message,
+        &[
+            Text(b"\0"),
+            Text(user.as_bytes()),
+            Text(b"\0"),
+            Text(PASSWORD),
+        ],
+    )?;
+    Ok(message)
+}
+
+fn login_by(alloc: Global, text: &[u8]) -> Result<Octets, AllocError> {
+    let mut line = Octets::new(alloc);
+    add_parts(
+        &mut line,
+        &[
+            Text(b"AUTHENTICATE \"PLAIN\" \""),
+            Text(text),
+            Text(b"\"\r\n"),
+        ],
+    )?;
+    Ok(line)
+}
+
+fn session(digits: &str) -> u32 {
+    u32::try_from(number(digits)).unwrap_or(0)
+}
+
+/// What a note says before `xN`, and how often an event is meant: N times, else once.
+pub fn times_in(note: &str) -> (&str, u64) {
+    let (front, digits) = cut(note, " x");
+    match parse_decimal(digits.as_bytes()) {
+        Some(times) => (front, times),
+        None => (note, 1),
+    }
+}
+
+/// The number that these digits are, or 0.
+pub fn number(digits: &str) -> u64 {
+    parse_decimal(digits.as_bytes()).unwrap_or(0)
+}

@@ -1,0 +1,181 @@
+//! What is asked of a store, and done to it, beside events.
+use crate::answer::{add_line, add_refusal};
+use crate::event::PASSWORD;
+use casefiles::Part::{Number, Text};
+use casefiles::{Section, Tally, add_parts, cut, decoded, trimmed};
+use mailengine::Refusal;
+use mailstore::{Folder, NumberedMessage, Store};
+use octets::{Octets, Texts};
+use reportlines::{of_notices, of_queue};
+use saslplain::digest;
+use sqlite::MemStore;
+use std::alloc::{AllocError, Global};
+
+/// Asks the store what a section asks, and appends what it says.
+pub fn ask(
+    alloc: Global,
+    tally: &mut Tally,
+    store: &mut Store<MemStore>,
+    out: &mut Octets,
+    section: &Section<'_>,
+) -> Result<(), AllocError> {
+    let (user, name) = cut(section.note, " ");
+    let (user, name) = (user.as_bytes(), name.as_bytes());
+    let asked = match section.name {
+        "account" => add_account(alloc, store, user, section.text),
+        "put" => put(alloc, store, user, name, section.text),
+        "activate" => store.set_active(user, Some(name)),
+        "text" => add_script(store, out, user, name),
+        "scripts" => add_scripts(store, out, user),
+        "folder" => add_folder(store, out, user, name),
+        "folders" => add_folders(store, out, user),
+        "first" => add_first(store, out, user, name),
+        "queue" => add_queue(alloc, store, out, user),
+        "notices" => add_notices(alloc, store, out, user),
+        _ => return tally.skip(section, &[]),
+    };
+    match asked {
+        Ok(()) => Ok(()),
+        Err(refusal) => add_refusal(alloc, out, refusal),
+    }
+}
+
+fn add_account(
+    alloc: Global,
+    store: &mut Store<MemStore>,
+    user: &[u8],
+    address: &str,
+) -> Result<(), Refusal> {
+    let address = decoded(alloc, address)?;
+    let digest = digest(b"salt", 1, PASSWORD);
+    store.add_user(user, trimmed(address.as_slice()), b"salt", 1, &digest)
+}
+
+fn put(
+    alloc: Global,
+    store: &mut Store<MemStore>,
+    user: &[u8],
+    name: &[u8],
+    text: &str,
+) -> Result<(), Refusal> {
+    let text = decoded(alloc, text)?;
+    store.put_script(user, name, text.as_slice())
+}
+
+/// Appends the text of a script, or `none`.
+fn add_script(
+    store: &mut Store<MemStore>,
+    out: &mut Octets,
+    user: &[u8],
+    name: &[u8],
+) -> Result<(), Refusal> {
+    let script = store.script(user, name)?;
+    Ok(add_text(out, script.as_ref())?)
+}
+
+fn add_text(out: &mut Octets, text: Option<&Octets>) -> Result<(), AllocError> {
+    match text {
+        Some(text) => add_line(out, b"text ", text.as_slice()),
+        None => add_line(out, b"", b"none"),
+    }
+}
+
+/// Appends the names of the scripts, a line each.
+fn add_scripts(store: &mut Store<MemStore>, out: &mut Octets, user: &[u8]) -> Result<(), Refusal> {
+    let names = store.scripts(user)?;
+    Ok(add_lines(out, &names)?)
+}
+
+fn add_lines(out: &mut Octets, texts: &Texts) -> Result<(), AllocError> {
+    for text in texts.as_slice() {
+        add_line(out, b"", text.as_slice())?;
+    }
+    Ok(())
+}
+
+/// Appends how many messages the folder has, and each of them.
+fn add_folder(
+    store: &mut Store<MemStore>,
+    out: &mut Octets,
+    user: &[u8],
+    name: &[u8],
+) -> Result<(), Refusal> {
+    let messages = store.folder(user, name)?;
+    Ok(add_messages(out, &messages)?)
+}
+
+fn add_messages(out: &mut Octets, messages: &Texts) -> Result<(), AllocError> {
+    add_parts(out, &[Number(messages.len() as u64), Text(b"\n")])?;
+    add_lines(out, messages)
+}
+
+/// Appends the number of the folder's first message and the message, or `none`.
+fn add_first(
+    store: &mut Store<MemStore>,
+    out: &mut Octets,
+    user: &[u8],
+    name: &[u8],
+) -> Result<(), Refusal> {
+    let first = store.first_message(user, name)?;
+    Ok(add_numbered(out, first.as_ref())?)
+}
+
+fn add_numbered(out: &mut Octets, first: Option<&NumberedMessage>) -> Result<(), AllocError> {
+    match first {
+        Some(first) => add_parts(
+            out,
+            &[
+                Number(first.number),
+                Text(b" "),
+                Text(first.message.as_slice()),
+                Text(b"\n"),
+            ],
+        ),
+        None => add_line(out, b"", b"none"),
+    }
+}
+
+/// Appends a line `NAME COUNT` for each folder.
+fn add_folders(store: &mut Store<MemStore>, out: &mut Octets, user: &[u8]) -> Result<(), Refusal> {
+    let folders = store.folders(user)?;
+    Ok(add_counts(out, folders.as_slice())?)
+}
+
+fn add_counts(out: &mut Octets, folders: &[Folder]) -> Result<(), AllocError> {
+    for folder in folders {
+        add_parts(
+            out,
+            &[
+                Text(folder.name.as_slice()),
+                Text(b" "),
+                Number(folder.count),
+                Text(b"\n"),
+            ],
+        )?;
+    }
+    Ok(())
+}
+
+/// Appends the rows of the queue, a line each.
+fn add_queue(
+    alloc: Global,
+    store: &mut Store<MemStore>,
+    out: &mut Octets,
+    user: &[u8],
+) -> Result<(), Refusal> {
+    let rows = store.queue(user)?;
+    let listing = of_queue(alloc, rows.as_slice())?;
+    Ok(out.extend_from_slice(listing.as_slice())?)
+}
+
+/// Appends the notices, a line each.
+fn add_notices(
+    alloc: Global,
+    store: &mut Store<MemStore>,
+    out: &mut Octets,
+    user: &[u8],
+) -> Result<(), Refusal> {
+    let notices = store.notices(user)?;
+    let listing = of_notices(alloc, notices.as_slice())?;
+    Ok(out.extend_from_slice(listing.as_slice())?)
+}

@@ -1,5 +1,0 @@
-use Rattle.keepers.proofs.FileNameLemmas.{counted_ends}
-use Rattle.keepers.proofs.laws.counted_texts_end.Goals as goal
-
-pub returns : goal.returns
-returns c = counted_ends

@@ -1,0 +1,39 @@
+//! The names of files that keep messages.
+ghost use Rattle.std.specs.Prelude.{◌≡◌, ◌++◌, IfOk};
+ghost use Rattle.std.specs.String.{string_bytes};
+ghost use Rattle.sha2.specs.Sha256.{sha256};
+ghost use Rattle.mailsinks.specs.FileName.{counted, joined, file_name};
+
+use sha2::{Digest, Sha256};
+use std::alloc::{AllocError, Global};
+use std::format;
+
+/// The name of the file that keeps the message which has this number in the user's folder: the number, and a digest of
+/// the user, the folder and the octets, so that a second try writes the same name and no other message has it.
+///
+/// Digits, a dot and letters from a to f: 66 to 85 octets. Time is linear in the message, memory constant.
+pub fn name_of(
+    alloc: Global,
+    user: &[u8],
+    folder: &[u8],
+    number: u64,
+    message: &[u8],
+) -> Result<String, AllocError>
+    ensures { IfOk result (λ name. string_bytes name ≡ file_name user.now folder.now number message.now) }
+{
+    let digest = hex::encode(alloc, digest_of(user, folder, message))?;
+    format!(in alloc; "{number}.{digest}")
+}
+
+/// The digest of a user, a folder and a message, each with its own place in what is hashed.
+fn digest_of(user: &[u8], folder: &[u8], message: &[u8]) -> [u8; 32]
+    ensures { result ≡ sha256 (joined user.now folder.now message.now) }
+{
+    let mut hasher = Sha256::new();
+    hasher.update((user.len() as u64).to_be_bytes());
+    hasher.update(user);
+    hasher.update((folder.len() as u64).to_be_bytes());
+    hasher.update(folder);
+    hasher.update(message);
+    hasher.finalize()
+}

@@ -1,0 +1,13 @@
+//! Who keeps the messages that leave a store: a Maildir, or memory.
+#![tactic(auto)]
+
+pub mod cause;
+mod file_name;
+pub mod laws;
+mod maildir;
+mod memory_sink;
+mod sink;
+
+pub use maildir::Maildir;
+pub use memory_sink::MemorySink;
+pub use sink::{MailSink, SinkError};

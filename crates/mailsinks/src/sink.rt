@@ -1,0 +1,63 @@
+//! Where messages go that leave a store.
+ghost use Rattle.std.specs.Prelude.{◌≡◌, ℕ, Bool, List, [], ◌∷◌, ◌++◌, IsTrue, OnOk, OnErr};
+ghost use Rattle.mailsinks.specs.Kept.{MayKeep};
+
+use std::alloc::AllocError;
+
+/// Why a message isn't kept.
+#[derive(Clone, Copy, Debug, PartialEq, Eq)]
+pub enum SinkError {
+    /// Memory that was asked for was refused.
+    Memory,
+    /// The path is no Maildir: `tmp` or `new` isn't there.
+    NoMaildir,
+    /// A call of the system failed.
+    Failed,
+}
+
+impl From<AllocError> for SinkError {
+    ghost use Rattle.std.specs.Prelude.{◌≡◌};
+    ghost use Rattle.mailsinks.specs.declared.sink.SinkError.TheVariants.{Memory};
+
+    ghost from_gives = { λ _ error. error ≡ Memory };
+
+    fn from(_refused: AllocError) -> SinkError {
+        SinkError::Memory
+    }
+}
+
+/// Keeps messages that leave a store.
+pub trait MailSink {
+    /// Whether it tells what it keeps. One over memory does, one over files doesn't.
+    ghost tells: { Bool };
+
+    /// The messages that it keeps, in the order in which they came, where it tells them.
+    ghost kept: { Self → List (List ℕ) };
+
+    /// Takes the place at the path: what is kept from now on is kept there.
+    ///
+    /// # Errors
+    ///
+    /// `NoMaildir` where the path isn't one; else why it can't be looked at. The place that was taken before stays.
+    fn open(&mut self, path: &str) -> Result<(), SinkError>
+        ensures same { IsTrue tells → kept self.new ≡ kept self.old };
+
+    /// Keeps the message that has this number in the user's folder, so that a crash after Ok doesn't lose it. What a try
+    /// before kept of the same message under the same number isn't kept twice (a Maildir: while it is still in `new`).
+    ///
+    /// # Errors
+    ///
+    /// `NoMaildir` where no place was taken; else why the message isn't kept for sure. It may be kept nevertheless.
+    fn keep(
+        &mut self,
+        user: &[u8],
+        folder: &[u8],
+        number: u64,
+        message: &[u8],
+    ) -> Result<(), SinkError>
+        ensures kept { OnOk result (IsTrue tells → kept self.new ≡ kept self.old ++ message.now ∷ []) }
+        ensures refused { OnErr result (IsTrue tells → MayKeep (kept self.old) message.now (kept self.new)) };
+
+    /// What the system said of the last failure, for a person; none where nothing is known of it.
+    fn cause(&self) -> Option<&'static str>;
+}

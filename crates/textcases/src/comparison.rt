@@ -1,0 +1,34 @@
+//! Texts compared by both comparators (RFC 4790, 9.2 and 9.3).
+use casefiles::Part::Text;
+use casefiles::add_parts;
+use collation::{AsciiCasemap, Octet, contains, is};
+use globmatch::matches;
+use octets::Octets;
+use std::alloc::AllocError;
+
+/// By which comparators a key is the value, and by which the value contains it.
+pub fn compared(out: &mut Octets, key: &[u8], value: &[u8]) -> Result<(), AllocError> {
+    let equal = by(is::<Octet>(key, value), is::<AsciiCasemap>(key, value));
+    let within = by(
+        contains::<Octet>(key, value),
+        contains::<AsciiCasemap>(key, value),
+    );
+    add_parts(out, &[Text(equal), Text(b" "), Text(within)])
+}
+
+/// By which comparators a pattern matches a value.
+pub fn matched(out: &mut Octets, pattern: &[u8], value: &[u8]) -> Result<(), AllocError> {
+    out.extend_from_slice(by(
+        matches::<Octet>(pattern, value),
+        matches::<AsciiCasemap>(pattern, value),
+    ))
+}
+
+fn by(octets: bool, letters: bool) -> &'static [u8] {
+    match (octets, letters) {
+        (true, true) => b"both",
+        (false, true) => b"letters",
+        (true, false) => b"octets",
+        (false, false) => b"neither",
+    }
+}

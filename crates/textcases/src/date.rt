@@ -1,0 +1,31 @@
+//! Dates in a response (RFC 5322, 3.3).
+use casefiles::{Lines, Tally, cut};
+use octets::{Octets, parse_decimal};
+use std::alloc::{AllocError, Global};
+use vacreply::{MAX_MOMENT, write_date};
+
+/// Dates: a line has a moment and its text.
+#[derive(Drop)]
+pub struct Dates;
+
+impl Lines for Dates {
+    fn try_line(
+        &self,
+        alloc: Global,
+        tally: &mut Tally,
+        number: usize,
+        line: &str,
+    ) -> Result<(), AllocError> {
+        let (moment, wanted) = cut(line, " ");
+        let mut got = Octets::new(alloc);
+        add(&mut got, moment)?;
+        tally.note(number, wanted.as_bytes(), got.as_slice())
+    }
+}
+
+fn add(out: &mut Octets, moment: &str) -> Result<(), AllocError> {
+    match parse_decimal(moment.as_bytes()) {
+        Some(moment) if moment <= MAX_MOMENT => write_date(out, moment),
+        _ => out.extend_from_slice(b"no moment"),
+    }
+}

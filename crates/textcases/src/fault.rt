@@ -1,0 +1,27 @@
+//! Scripts and their first fault.
+use crate::trial::Trial;
+use deliverplan::outcome_on;
+use octets::Octets;
+use sieveexec::Mail;
+use sievelex::ScriptError;
+use std::alloc::{AllocError, Global};
+
+/// The first fault of a script, or `valid`.
+pub fn told(alloc: Global, out: &mut Octets, script: &[u8]) -> Result<(), AllocError> {
+    let mail = Trial::empty().mail(alloc, b"")?;
+    add(alloc, out, script, &mail)
+}
+
+fn add(alloc: Global, out: &mut Octets, script: &[u8], mail: &Mail<'_>) -> Result<(), AllocError> {
+    match outcome_on(alloc, script, mail) {
+        Ok(_) => out.extend_from_slice(b"valid"),
+        Err(error) => add_error(alloc, out, &error),
+    }
+}
+
+fn add_error(alloc: Global, out: &mut Octets, error: &ScriptError) -> Result<(), AllocError> {
+    match error {
+        ScriptError::Fault(fault) => out.extend_from_slice(fault.told(alloc)?.as_slice()),
+        ScriptError::Memory => Err(AllocError),
+    }
+}

@@ -1,0 +1,116 @@
+//! The files of cases whose answers need no store.
+use crate::{
+    address, ascii, comparison, fault, head, item, line, login, reply, token, vacation, word,
+};
+use casefiles::{Answers, Tally, try_rows};
+use octets::Octets;
+use std::alloc::{AllocError, Global};
+
+/// A file of cases whose answers need no store: in tables a line is a case, and its last column is what is wanted.
+#[derive(Clone, Copy)]
+pub enum TextTable {
+    Ascii,
+    Addresses,
+    Targets,
+    Bare,
+    Spellings,
+    Comparisons,
+    Globs,
+    Lines,
+    Words,
+    Texts,
+    Tokens,
+    Faults,
+    Items,
+    Replies,
+    Logins,
+    Heads,
+    Vacations,
+}
+
+impl TextTable {
+    /// The file's name.
+    pub fn file(self) -> &'static str {
+        match self {
+            TextTable::Ascii => "ascii.cases",
+            TextTable::Addresses => "addresses.cases",
+            TextTable::Targets => "targets.cases",
+            TextTable::Bare => "bare.cases",
+            TextTable::Spellings => "spellings.cases",
+            TextTable::Comparisons => "comparisons.cases",
+            TextTable::Globs => "globs.cases",
+            TextTable::Lines => "lines.cases",
+            TextTable::Words => "words.cases",
+            TextTable::Texts => "texts.cases",
+            TextTable::Tokens => "tokens.cases",
+            TextTable::Faults => "faults.cases",
+            TextTable::Items => "items.cases",
+            TextTable::Replies => "replies.cases",
+            TextTable::Logins => "logins.cases",
+            TextTable::Heads => "heads.cases",
+            TextTable::Vacations => "vacations.cases",
+        }
+    }
+
+    /// Tries each case of the file.
+    pub fn try_all(self, alloc: Global, tally: &mut Tally, file: &str) -> Result<(), AllocError> {
+        match self {
+            TextTable::Heads => head::try_all(alloc, tally, file),
+            TextTable::Vacations => vacation::try_all(alloc, tally, file),
+            _ => try_rows(alloc, tally, &mut Rows(self), file),
+        }
+    }
+
+    fn of_one(self, alloc: Global, out: &mut Octets, text: &[u8]) -> Result<(), AllocError> {
+        match self {
+            TextTable::Addresses => address::found(alloc, out, text),
+            TextTable::Targets => address::named(alloc, out, text),
+            TextTable::Bare => address::bare(alloc, out, text),
+            TextTable::Words => word::said(alloc, out, text),
+            TextTable::Texts => word::written(alloc, out, text),
+            TextTable::Tokens => token::told(alloc, out, text),
+            TextTable::Faults => fault::told(alloc, out, text),
+            _ => out.extend_from_slice(b"not that many columns"),
+        }
+    }
+
+    fn of_two(
+        self,
+        alloc: Global,
+        out: &mut Octets,
+        text: &[u8],
+        other: &[u8],
+    ) -> Result<(), AllocError> {
+        match self {
+            TextTable::Ascii => ascii::answer(alloc, out, text, other),
+            TextTable::Lines => line::answer(alloc, out, text, other),
+            TextTable::Spellings => address::spelled(alloc, out, text, other),
+            TextTable::Comparisons => comparison::compared(out, text, other),
+            TextTable::Globs => comparison::matched(out, text, other),
+            TextTable::Items => item::told(alloc, out, text, other),
+            _ => out.extend_from_slice(b"not that many columns"),
+        }
+    }
+}
+
+/// A table whose rows know nothing of each other.
+#[derive(Drop)]
+struct Rows(TextTable);
+
+impl Answers for Rows {
+    fn answer(
+        &mut self,
+        alloc: Global,
+        out: &mut Octets,
+        given: &[Octets],
+    ) -> Result<(), AllocError> {
+        let table = self.0;
+        match (table, given) {
+            (TextTable::Replies, _) => reply::spelled(alloc, out, given),
+            (TextTable::Logins, _) => login::answer(alloc, out, given),
+            (_, [text]) => table.of_one(alloc, out, text.as_slice()),
+            (_, [text, other]) => table.of_two(alloc, out, text.as_slice(), other.as_slice()),
+            _ => out.extend_from_slice(b"not that many columns"),
+        }
+    }
+}
