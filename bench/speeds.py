@@ -11,7 +11,7 @@ import os, subprocess, sys, tempfile
 HERE = os.path.dirname(os.path.abspath(__file__))
 ROOT = os.path.dirname(HERE)
 LINE = "speeds: octets mailhead encwords addrparts collation globmatch sievesyntax msproto saslplain mailstore mailengine sqlite\n"
-ABOVE = ("cases", "sieved", "sievedrun", "sievedwords", "mailsinks", "keepers", "reportlines")
+ABOVE = ("cases", "casefiles", "textcases", "sieved", "sievedrun", "sievedwords", "mailsinks", "keepers", "reportlines")
 
 
 def made(folder):
