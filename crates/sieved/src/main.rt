@@ -11,6 +11,7 @@ use sievedrun::drive::drive;
 use sievedrun::fault::{Fault, refuse};
 use sievedrun::session::run_session;
 use sievedwords::{Asked, read};
+use std::alloc::AllocError;
 use std::env;
 use std::io::ErrorKind;
 use std::process::ExitCode;
@@ -83,7 +84,7 @@ fn asked_of_server<'a>(rt: &HostRuntime, words: &'a [String]) -> Option<Asked<'a
 fn words_after_name(rt: &HostRuntime) -> Result<Vec<String>, Fault> {
     match env::args(rt) {
         Ok(words) => Ok(words.skip(1).collect(rt.alloc())?),
-        Err(error) if error.kind() == ErrorKind::OutOfMemory => Err(Fault::Memory),
+        Err(error) if error.kind() == ErrorKind::OutOfMemory => Err(Fault::from(AllocError)),
         Err(_) => Err(Fault::BadArgument),
     }
 }

@@ -11,9 +11,9 @@ use Rattle.mailstore.specs.Shows.{Presents}
 use Rattle.mailengine.specs.declared.event.Event.TheVariants.{TakeMail}
 use Rattle.mailengine.specs.declared.answer.Answer.TheVariants.{MailTaken}
 use Rattle.sievedrun.specs.declared.fault.Fault.{Fault}
-use Rattle.sievedrun.specs.declared.fault.Fault.TheVariants.{NoUser, Stream}
+use Rattle.sievedrun.specs.declared.fault.Fault.TheVariants.{Stream}
 use Rattle.sievedrun.specs.declared.drain.Draining.{Draining}
-use Rattle.sievedrun.specs.Faults.{status_of}
+use Rattle.sievedrun.specs.Faults.{no_user, status_of}
 use Rattle.sievedrun.specs.Draining.{mail_in, Leave, GrowsBy, StoppedShort, MovesMail, BrokeOff, Drained, Drains, TurnsTables, MovesTables, IsMost, WordDrained, HasDrained, KeepsMail}
 use Rattle.sievedrun.specs.Promise.{status_after, MayFollow, world_of, AreOfWord, ShowsAfter, LeavesSound}
 use Rattle.sievedrun.proofs.PromiseLemmas.{ours_not_none}
@@ -60,7 +60,7 @@ pub drained_turned : (asked : Draining) (user folder : List ℕ) → user ≡ as
     (taken given : State) → taken.now ≡ held → held.schema ≡ mail_schema → HasCleanDisk given → IsTrue given.is_open → new ≡ given.now → Drains user folder tells had has most q taken given → MovesTables asked tells had has most r held new
 drained_turned asked user folder user_is folder_is tells had has most q r same held new taken given seen ours clean live back moves =
     let Grew = GrowsBy tells had has in
-    let Became : Accounts → Accounts → Type 0 = λ accounts later. Drained user folder Grew most q accounts later × (q ≡ Err NoUser → IsFree user accounts) in
+    let Became : Accounts → Accounts → Type 0 = λ accounts later. Drained user folder Grew most q accounts later × (q ≡ Err no_user → IsFree user accounts) in
     let turned = turned_wider Became (Drained user folder Grew most q) held new (λ accounts later h. h.0) (moves_turned user folder Grew Became held new taken given seen ours clean live back moves) in
     subst (λ o. TurnsTables (Drained asked.user.now asked.folder.now Grew most o) held new) same
     (subst (λ u. TurnsTables (Drained u asked.folder.now Grew most q) held new) user_is (subst (λ f. TurnsTables (Drained user f Grew most q) held new) folder_is turned))

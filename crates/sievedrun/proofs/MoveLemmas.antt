@@ -21,8 +21,7 @@ use Rattle.mailengine.specs.declared.answer.Answer.TheVariants.{MailTaken, Refus
 use Rattle.mailengine.specs.AccountEvents.{MailTaking}
 use Rattle.mailengine.specs.Hosts.{TurnsBy, MayTurnBy, ActsMailTaking, answer_by}
 use Rattle.sievedrun.specs.declared.fault.Fault.{Fault}
-use Rattle.sievedrun.specs.declared.fault.Fault.TheVariants.{NoUser}
-use Rattle.sievedrun.specs.Faults.{status_of}
+use Rattle.sievedrun.specs.Faults.{no_user, status_of}
 use Rattle.sievedrun.specs.Draining.{mail_of, mail_in, GrowsBy, Moved, StoppedShort, LostNone, MovesMail, FirstMoved, AllMoved, AnyMoved, Drained}
 use Rattle.sievedrun.specs.Promise.{world_of}
 use Rattle.sievedrun.proofs.LeaveLemmas.{has_first, none_left, leave_one, leave_then, take_then, grown_none, grown_then, may_be_kept}
@@ -294,9 +293,9 @@ most_moved user folder Grew most count a b is moves =
 -- ---- a user whose account was looked for first
 
 -- a refusal that may pass says nothing of the user
-transient_user : (fault : Fault) → status_of fault ≡ 75 → (q : Result ℕ Fault) → q ≡ Err fault → q ≡ Err NoUser → ⊥
+transient_user : (fault : Fault) → status_of fault ≡ 75 → (q : Result ℕ Fault) → q ≡ Err fault → q ≡ Err no_user → ⊥
 transient_user fault transient q was is =
-    let same : fault ≡ NoUser = cc in
+    let same : fault ≡ no_user = cc in
     differ 67 75 refl refl (sym (ap status_of same) ∙ transient)
   where
     differ : (x y : ℕ) → x ≡ 67 → y ≡ 75 → x ≡ y → ⊥
@@ -307,7 +306,7 @@ module _ (user folder : List ℕ) (tells : Bool) (had has : List (List ℕ)) (mo
   Grown = GrowsBy tells had has
 
   abbrev Ended : Result ℕ Fault → Accounts → Accounts → Type 0
-  Ended q accounts later = Drained user folder Grown most q accounts later × (q ≡ Err NoUser → IsFree user accounts)
+  Ended q accounts later = Drained user folder Grown most q accounts later × (q ≡ Err no_user → IsFree user accounts)
 
   profile_read : (o : Option Profile) → r ≡ Ok o → HasCleanDisk b → (accounts : Accounts) → HasAccounts a accounts → o ≡ option_map profile_of (get accounts user)
   profile_read o was clean accounts shown =
@@ -321,8 +320,8 @@ module _ (user folder : List ℕ) (tells : Bool) (had has : List (List ℕ)) (mo
   some_is_there None p is = absurd (let no = is in cc)
   some_is_there (Some a) p is = refl
 
-  pub no_account : r ≡ Ok None → Grown [] → MovesMail user folder Grown (Ended (Err NoUser)) a b
-  no_account was same = read_alone user folder tells had has a b r (Ended (Err NoUser)) reads.keeps
+  pub no_account : r ≡ Ok None → Grown [] → MovesMail user folder Grown (Ended (Err no_user)) a b
+  no_account was same = read_alone user folder tells had has a b r (Ended (Err no_user)) reads.keeps
       (λ clean accounts shown. ((0, record { left = refl; kept = inl same }, inl refl), λ _. none_is_free (get accounts user) (profile_read None was clean accounts shown)))
 
   -- the account can't be read now

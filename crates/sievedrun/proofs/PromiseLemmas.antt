@@ -23,7 +23,8 @@ use Rattle.mailstore.specs.declared.queue.Outgoing.{Outgoing}
 use Rattle.mailstore.specs.declared.report.Report.{Report}
 use Rattle.sievedrun.specs.declared.fault.Fault.{Fault}
 use Rattle.sievedrun.specs.declared.fault.Fault.TheVariants.{Stream}
-use Rattle.sievedrun.specs.Faults.{status_of, fault_of, IsFailure}
+use Rattle.sievedrun.specs.declared.fault.Fault.TheVariants.{Refused}
+use Rattle.sievedrun.specs.Faults.{status_of, IsFailure}
 use Rattle.sievedrun.specs.Promise.{status_after, Brings, Takes, MayFollow, world_of, IsOne, AreOfWord, ShowsAfter, Leaves, LeavesAll, LeavesAfter, LeavesNew, LeavesSound}
 
 -- what may be left is told less exactly
@@ -121,8 +122,8 @@ after_later OfThese Others status later of may old new leaves =
     (λ accounts. shows_later (IsOne OfThese) (IsOne Others) status later (λ events one. (one.0, one.1, of one.0 one.2)) may accounts new) (λ h. h) leaves
 
 -- a store that couldn't be closed, or memory that is lacking, doesn't deny an event
-pub transient_may_follow : (refusal : Refusal) → IsTransient refusal → MayFollow (status_of (fault_of refusal))
-transient_may_follow refusal transient = inr (elim transient [ inl e ↦ ap (λ r. status_of (fault_of r)) e | inr e ↦ ap (λ r. status_of (fault_of r)) e ])
+pub transient_may_follow : (refusal : Refusal) → IsTransient refusal → MayFollow (status_of (Refused refusal))
+transient_may_follow refusal transient = inr (elim transient [ inl e ↦ ap (λ r. status_of (Refused r)) e | inr e ↦ ap (λ r. status_of (Refused r)) e ])
 
 -- nor does a failure to write
 pub failure_may_follow : (fault : Fault) → IsFailure fault → MayFollow (status_of fault)

@@ -14,8 +14,7 @@ use Rattle.mailengine.specs.declared.answer.Answer.TheVariants.{MailTaken}
 use Rattle.mailengine.specs.World.{Runs}
 use Rattle.sievedrun.specs.declared.drain.Draining.{Draining}
 use Rattle.sievedrun.specs.declared.fault.Fault.{Fault}
-use Rattle.sievedrun.specs.declared.fault.Fault.TheVariants.{NoUser}
-use Rattle.sievedrun.specs.Faults.{status_of}
+use Rattle.sievedrun.specs.Faults.{no_user, status_of}
 use Rattle.sievedrun.specs.Promise.{world_of}
 
 -- the messages of an account's folder; none where there is no account
@@ -105,7 +104,7 @@ MovesAll user folder tells had has most result = MovesMail user folder (GrowsBy 
 -- and there is no such user where that is said
 abbrev pub Drains : List ℕ → List ℕ → Bool → List (List ℕ) → List (List ℕ) → ℕ → Result ℕ Fault → State → State → Type 0
 Drains user folder tells had has most result =
-    MovesMail user folder (GrowsBy tells had has) (λ accounts later. Drained user folder (GrowsBy tells had has) most result accounts later × (result ≡ Err NoUser → IsFree user accounts))
+    MovesMail user folder (GrowsBy tells had has) (λ accounts later. Drained user folder (GrowsBy tells had has) most result accounts later × (result ≡ Err no_user → IsFree user accounts))
 
 -- ---- the word
 

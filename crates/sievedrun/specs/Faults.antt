@@ -1,28 +1,27 @@
 -- What the program says where it gives no answer.
 use Rattle.std.specs.Prelude.{◌≡◌, ◌⊎◌, ℕ, List, [], ◌∷◌, ◌++◌, codes}
-use Rattle.mailstore.specs.declared.refusal.Refusal.{Refusal}
 use Rattle.mailstore.specs.declared.refusal.Refusal.TheVariants as refusal
 use Rattle.keepers.specs.declared.keeper.Held.{Held}
 use Rattle.keepers.specs.declared.keeper.Held.TheVariants as held
 use Rattle.mailsinks.specs.declared.sink.SinkError.{SinkError}
 use Rattle.mailsinks.specs.declared.sink.SinkError.TheVariants as sink
 use Rattle.sievedrun.specs.declared.fault.Fault.{Fault}
-use Rattle.sievedrun.specs.declared.fault.Fault.TheVariants.{Memory, Store, Busy, Stream, NotOurs, NoUser, TooLarge, BadEnvelope, BadMoment, UserExists, BadUser, NoRow, NoMessage, NoMaildir, BadInput, BadArgument}
+use Rattle.sievedrun.specs.declared.fault.Fault.TheVariants.{Refused, Busy, Stream, NoMessage, NoMaildir, BadInput, BadArgument}
 
 -- the exit status of a fault (sysexits.h): wrong use, wrong data, no such user, try again
 abbrev pub status_of : Fault → ℕ
-status_of Memory = 75
-status_of Store = 75
+status_of (Refused refusal.Memory) = 75
+status_of (Refused refusal.Store) = 75
+status_of (Refused refusal.NotOurs) = 65
+status_of (Refused refusal.NoUser) = 67
+status_of (Refused refusal.TooLarge) = 65
+status_of (Refused refusal.BadEnvelope) = 65
+status_of (Refused refusal.BadMoment) = 65
+status_of (Refused refusal.UserExists) = 65
+status_of (Refused refusal.BadUser) = 65
+status_of (Refused refusal.NoRow) = 65
 status_of Busy = 75
 status_of Stream = 75
-status_of NotOurs = 65
-status_of NoUser = 67
-status_of TooLarge = 65
-status_of BadEnvelope = 65
-status_of BadMoment = 65
-status_of UserExists = 65
-status_of BadUser = 65
-status_of NoRow = 65
 status_of NoMessage = 65
 status_of NoMaildir = 65
 status_of BadInput = 65
@@ -30,18 +29,18 @@ status_of BadArgument = 64
 
 -- what is told of a fault
 abbrev pub text_of : Fault → List ℕ
-text_of Memory = codes "out of memory"
-text_of Store = codes "store failed"
+text_of (Refused refusal.Memory) = codes "out of memory"
+text_of (Refused refusal.Store) = codes "store failed"
+text_of (Refused refusal.NotOurs) = codes "not a sieved database"
+text_of (Refused refusal.NoUser) = codes "no such user"
+text_of (Refused refusal.TooLarge) = codes "message too large"
+text_of (Refused refusal.BadEnvelope) = codes "bad envelope address"
+text_of (Refused refusal.BadMoment) = codes "bad moment"
+text_of (Refused refusal.UserExists) = codes "user exists"
+text_of (Refused refusal.BadUser) = codes "bad user"
+text_of (Refused refusal.NoRow) = codes "no such row"
 text_of Busy = codes "busy"
 text_of Stream = codes "input or output failed"
-text_of NotOurs = codes "not a sieved database"
-text_of NoUser = codes "no such user"
-text_of TooLarge = codes "message too large"
-text_of BadEnvelope = codes "bad envelope address"
-text_of BadMoment = codes "bad moment"
-text_of UserExists = codes "user exists"
-text_of BadUser = codes "bad user"
-text_of NoRow = codes "no such row"
 text_of NoMessage = codes "no such message"
 text_of NoMaildir = codes "no such Maildir"
 text_of BadInput = codes "bad input"
@@ -51,36 +50,31 @@ text_of BadArgument = codes "bad argument"
 abbrev pub line_of : Fault → List ℕ
 line_of fault = codes "sieved: " ++ text_of fault ++ 10 ∷ []
 
--- the fault that a refusal of the store or of the engine is
-abbrev pub fault_of : Refusal → Fault
-fault_of refusal.Memory = Memory
-fault_of refusal.Store = Store
-fault_of refusal.NotOurs = NotOurs
-fault_of refusal.NoUser = NoUser
-fault_of refusal.TooLarge = TooLarge
-fault_of refusal.BadEnvelope = BadEnvelope
-fault_of refusal.BadMoment = BadMoment
-fault_of refusal.UserExists = UserExists
-fault_of refusal.BadUser = BadUser
-fault_of refusal.NoRow = NoRow
+-- memory that was asked for was refused
+abbrev pub memory : Fault
+memory = Refused refusal.Memory
+
+-- no account has the name
+abbrev pub no_user : Fault
+no_user = Refused refusal.NoUser
 
 -- the fault that it is where no store is given out
 abbrev pub fault_held : Held → Fault
 fault_held held.Busy = Busy
-fault_held (held.Refused cause) = fault_of cause
+fault_held (held.Refused cause) = Refused cause
 
 -- the fault that it is where a message can't be kept
 abbrev pub fault_sunk : SinkError → Fault
-fault_sunk sink.Memory = Memory
+fault_sunk sink.Memory = memory
 fault_sunk sink.NoMaildir = NoMaildir
 fault_sunk sink.Failed = Stream
 
 -- what a failure to read or to write, or lack of memory, is told as
 abbrev pub IsFailure : Fault → Type 0
-IsFailure fault = (fault ≡ Memory) ⊎ (fault ≡ Stream)
+IsFailure fault = (fault ≡ memory) ⊎ (fault ≡ Stream)
 
 -- no answer: there is no input, or memory was refused
 abbrev pub IsUnanswered : Type 0 → Fault → Type 0
-IsUnanswered no_input Memory = Unit {0}
+IsUnanswered no_input (Refused refusal.Memory) = Unit {0}
 IsUnanswered no_input BadInput = no_input
 IsUnanswered no_input _ = ⊥

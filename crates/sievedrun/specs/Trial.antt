@@ -10,7 +10,8 @@ use Rattle.sieveexec.specs.declared.envelope.Envelope.{Envelope}
 use Rattle.sieveexec.specs.Mails.{mail_of}
 use Rattle.sieveexec.specs.Outcomes.{outcome_at}
 use Rattle.sievedrun.specs.declared.fault.Fault.{Fault}
-use Rattle.sievedrun.specs.declared.fault.Fault.TheVariants.{Memory, Stream, BadInput}
+use Rattle.mailstore.specs.declared.refusal.Refusal.TheVariants as refusal
+use Rattle.sievedrun.specs.declared.fault.Fault.TheVariants.{Refused, Stream, BadInput}
 use Rattle.sievedrun.specs.declared.answer.Answer.{Answer}
 use Rattle.sievedrun.specs.declared.answer.Answer.TheVariants.{Report, Refusal}
 use Rattle.sievedrun.specs.Faults.{status_of, line_of}
@@ -68,7 +69,7 @@ status_at (Err fault) = status_of fault
 abbrev pub LeavesOutput : Envelope → Option (List ℕ) → Option (List ℕ) → Option (List ℕ) → Result Answer Fault → Type 0
 LeavesOutput envelope given old new (Ok answer) = OfInput given (λ input. Answers envelope input answer) × Appends old new (text_in answer)
 LeavesOutput envelope given old new (Err BadInput) = OfInput given IsNoInput × Keeps old new
-LeavesOutput envelope given old new (Err Memory) = Keeps old new
+LeavesOutput envelope given old new (Err (Refused refusal.Memory)) = Keeps old new
 LeavesOutput envelope given old new (Err Stream) =
     Keeps old new ⊎ ((answer : Answer) × OfInput given (λ input. Answers envelope input answer) × AppendsFront old new (text_in answer))
 LeavesOutput envelope given old new (Err _) = ⊥

@@ -1,11 +1,16 @@
 //! What is said of an input.
-ghost use Rattle.std.specs.Prelude.{◌≡◌, IfOk, IfErr};
+ghost use Rattle.std.specs.Prelude.{◌≡◌, ℕ, List, IfOk, IfErr};
+ghost use Rattle.reportlines.specs.Reports.{report_of};
+ghost use Rattle.sieveexec.specs.Runs.{outcome_view};
+ghost use Rattle.sievedrun.specs.declared.answer.Answer.TheVariants.{Report};
+ghost use Rattle.sievedrun.specs.Faults.{IsUnanswered, memory};
+ghost use Rattle.sievedrun.specs.Framing.{IsFramed};
 ghost use Rattle.sievedrun.specs.Trial.{Answers, IsNoInput, text_in};
-ghost use Rattle.sievedrun.specs.Faults.{IsUnanswered};
 
 use crate::fault::Fault;
 use crate::framing;
-use mailengine::{Envelope, attempt};
+use mailengine::{Envelope, Outcome, attempt};
+use mailstore::Refusal;
 use octets::Octets;
 use reportlines::{of_fault, of_outcome};
 use sievelex::ScriptError;
@@ -36,10 +41,33 @@ pub fn answer_to(alloc: Global, envelope: Envelope, input: &[u8]) -> Result<Answ
     ensures answer { IfOk result (λ answer. Answers envelope input.now answer) }
     ensures none { IfErr result (IsUnanswered (IsNoInput input.now)) }
 {
-    let framed = framing::split(input).ok_or(Fault::BadInput)?;
-    match attempt(alloc, framed.script, envelope, framed.message) {
-        Ok(outcome) => Ok(Answer::Report(of_outcome(alloc, &outcome)?)),
-        Err(ScriptError::Fault(fault)) => Ok(Answer::Refusal(of_fault(alloc, fault)?)),
-        Err(ScriptError::Memory) => Err(Fault::Memory),
+    match framing::split(input) {
+        Some(framed) => answer_on(alloc, envelope, framed.script, framed.message),
+        None => Err(Fault::BadInput),
     }
+}
+
+/// Tries a script on a message, received with the envelope.
+fn answer_on(
+    alloc: Global,
+    envelope: Envelope,
+    script: &[u8],
+    message: &[u8],
+) -> Result<Answer, Fault>
+    ensures answer { IfOk result (λ answer. (input : List ℕ) → IsFramed input script.now message.now → Answers envelope input answer) }
+    ensures memory { IfErr result (λ fault. fault ≡ memory) }
+{
+    match attempt(alloc, script, envelope, message) {
+        Ok(outcome) => report(alloc, outcome),
+        Err(ScriptError::Fault(fault)) => Ok(Answer::Refusal(of_fault(alloc, fault)?)),
+        Err(ScriptError::Memory) => Err(Fault::Refused(Refusal::Memory)),
+    }
+}
+
+/// The report on what a script does.
+fn report(alloc: Global, outcome: Outcome) -> Result<Answer, Fault>
+    ensures report { IfOk result (λ answer. answer ≡ Report (report_of (outcome_view outcome))) }
+    ensures memory { IfErr result (λ fault. fault ≡ memory) }
+{
+    Ok(Answer::Report(of_outcome(alloc, &outcome)?))
 }

@@ -126,8 +126,8 @@ fn failure_of(refusal: Refusal) -> Fault
     ensures { status_of result ≡ 75 }
 {
     match refusal {
-        Refusal::Memory => Fault::Memory,
-        _ => Fault::Store,
+        Refusal::Memory => Fault::Refused(Refusal::Memory),
+        _ => Fault::Refused(Refusal::Store),
     }
 }
 
@@ -136,7 +136,7 @@ fn unkept(error: SinkError) -> Fault
     ensures { status_of result ≡ 75 }
 {
     match error {
-        SinkError::Memory => Fault::Memory,
+        SinkError::Memory => Fault::Refused(Refusal::Memory),
         _ => Fault::Stream,
     }
 }
@@ -178,7 +178,7 @@ fn drain<S: Alter, T: MailSink>(
     ensures { Drains user.now folder.now T.tells (T.kept sink.old) (T.kept sink.new) most result (state S.Store store.old) (state S.Store store.new) }
 {
     let Some(_account) = store.account(user)? else {
-        return Err(Fault::NoUser);
+        return Err(Fault::Refused(Refusal::NoUser));
     };
     move_all(store, user, folder, most, sink)
 }

@@ -16,6 +16,7 @@ use clap::Error;
 use clap::error::ErrorKind;
 use keepers::Keeper;
 use mailsinks::MailSink;
+use mailstore::Refusal;
 use sievedwords::{Asked, read};
 use std::alloc::{AllocError, Global};
 use std::format;
@@ -46,35 +47,30 @@ pub fn drive<R: Read, W: Write, F: Write, K: Keeper, T: MailSink>(
     ensures kept { IsTrue K.tells → KeepsMail T.tells (T.kept sink.old) (T.kept sink.new) (K.holds keeper.old) (K.holds keeper.new) }
 {
     match read(alloc, words) {
-        Ok(asked) => run(alloc, asked, input, output, faults, keeper, clock, sink),
+        Ok(Asked::Try { from, to }) => try_mail(alloc, from, to, input, output, faults),
+        Ok(asked) => {
+            let done = act(alloc, asked, input, output, keeper, clock, sink);
+            ended(done, faults, keeper, sink)
+        }
         Err(error) => tell(alloc, &error, output, faults),
     }
 }
 
-/// Does what the words ask for, and answers the exit status.
-fn run<R: Read, W: Write, F: Write, K: Keeper, T: MailSink>(
+/// Tries a script on a message that comes with this envelope, and answers the exit status.
+fn try_mail<R: Read, W: Write, F: Write>(
     alloc: Global,
-    asked: Asked<'_>,
+    from: &str,
+    to: &str,
     input: &mut R,
     output: &mut W,
     faults: &mut F,
-    keeper: &mut K,
-    clock: Option<u64>,
-    sink: &mut T,
 ) -> u8
     ensures unread { result ≡ 64 → input.new ≡ input.old }
-    ensures back { K.is_out keeper.old ≡ false → K.is_out keeper.new ≡ false }
-    ensures leaves { IsTrue K.tells → LeavesSound (R.remaining input.old) result (K.holds keeper.old) (K.holds keeper.new) }
-    ensures kept { IsTrue K.tells → KeepsMail T.tells (T.kept sink.old) (T.kept sink.new) (K.holds keeper.old) (K.holds keeper.new) }
 {
-    if let Asked::Try { from, to } = asked {
-        return match envelope_of(alloc, from, to) {
-            Ok(envelope) => try_run(alloc, envelope, input, output, faults),
-            Err(_) => refuse(faults, Fault::Memory),
-        };
+    match envelope_of(alloc, from, to) {
+        Ok(envelope) => try_run(alloc, envelope, input, output, faults),
+        Err(_) => refuse(faults, Fault::Refused(Refusal::Memory)),
     }
-    let done = act(alloc, asked, input, output, keeper, clock, sink);
-    ended(done, faults, keeper, sink)
 }
 
 /// Does what a word asks for that works on a store. A word that writes none is none of these.
@@ -196,7 +192,7 @@ fn ended<F: Write, K: Keeper, T: MailSink>(
     };
     let status = refuse(faults, fault);
     let cause = match fault {
-        Fault::Store => keeper.cause(),
+        Fault::Refused(Refusal::Store) => keeper.cause(),
         Fault::Stream | Fault::NoMaildir => sink.cause(),
         _ => None,
     };
@@ -216,10 +212,10 @@ fn tell_cause<F: Write>(faults: &mut F, cause: Option<&'static str>) {
 /// Tells what `clap` has to say: of wrong words on the faults, of help and version on the output.
 fn tell<W: Write, F: Write>(alloc: Global, error: &Error, output: &mut W, faults: &mut F) -> u8 {
     if error.kind() == ErrorKind::OutOfMemory {
-        return refuse(faults, Fault::Memory);
+        return refuse(faults, Fault::Refused(Refusal::Memory));
     }
     let Ok(text) = shown(alloc, error) else {
-        return refuse(faults, Fault::Memory);
+        return refuse(faults, Fault::Refused(Refusal::Memory));
     };
     if error.use_stderr() {
         let _ = write_all(faults, text.as_bytes());

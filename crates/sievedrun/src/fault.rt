@@ -1,6 +1,7 @@
 //! What goes wrong, as the program tells it.
 ghost use Rattle.std.specs.Prelude.{◌≡◌};
 ghost use Rattle.sievedrun.specs.Faults.{status_of, line_of};
+ghost use Rattle.sievedrun.specs.declared.fault.Fault.TheVariants.{Refused};
 ghost use Rattle.sievedrun.specs.Streams.{AppendsFront};
 
 use crate::stream;
@@ -14,42 +15,16 @@ use thiserror::Error;
 /// Why a run gives no answer.
 #[derive(Clone, Copy, Debug, PartialEq, Eq, Error)]
 pub enum Fault {
-    /// Memory that was asked for was refused.
-    #[error("out of memory")]
-    Memory,
-    /// The database failed, or its file or its lock's can't be used.
-    #[error("store failed")]
-    Store,
+    /// What a store or the engine refuses is refused: memory, a database that failed or whose file or lock's can't be used,
+    /// and what a name, a message or a number is not.
+    #[error(transparent)]
+    Refused(Refusal),
     /// Another process has the lock.
     #[error("busy")]
     Busy,
     /// A read or a write failed, the input has more pieces than are read, or the clock can't be read.
     #[error("input or output failed")]
     Stream,
-    /// The database isn't one that `init` made.
-    #[error("not a sieved database")]
-    NotOurs,
-    /// No account has the name.
-    #[error("no such user")]
-    NoUser,
-    /// The message has more than 33,554,432 octets.
-    #[error("message too large")]
-    TooLarge,
-    /// An envelope address has more than 1,024 octets, or CR, LF or NUL.
-    #[error("bad envelope address")]
-    BadEnvelope,
-    /// The moment is past the year 9999.
-    #[error("bad moment")]
-    BadMoment,
-    /// An account has the name.
-    #[error("user exists")]
-    UserExists,
-    /// The name, address or password is not allowed.
-    #[error("bad user")]
-    BadUser,
-    /// No row of the queue has the number.
-    #[error("no such row")]
-    NoRow,
     /// No message of the folder has the number.
     #[error("no such message")]
     NoMessage,
@@ -71,8 +46,8 @@ impl Fault {
     {
         match self {
             Fault::BadArgument => 64,
-            Fault::NoUser => 67,
-            Fault::Memory | Fault::Store | Fault::Busy | Fault::Stream => 75,
+            Fault::Refused(Refusal::NoUser) => 67,
+            Fault::Refused(Refusal::Memory | Refusal::Store) | Fault::Busy | Fault::Stream => 75,
             _ => 65,
         }
     }
@@ -82,18 +57,9 @@ impl Fault {
         ensures { result.now ≡ line_of self }
     {
         match self {
-            Fault::Memory => b"sieved: out of memory\n",
-            Fault::Store => b"sieved: store failed\n",
+            Fault::Refused(refusal) => refusal_line(refusal),
             Fault::Busy => b"sieved: busy\n",
             Fault::Stream => b"sieved: input or output failed\n",
-            Fault::NotOurs => b"sieved: not a sieved database\n",
-            Fault::NoUser => b"sieved: no such user\n",
-            Fault::TooLarge => b"sieved: message too large\n",
-            Fault::BadEnvelope => b"sieved: bad envelope address\n",
-            Fault::BadMoment => b"sieved: bad moment\n",
-            Fault::UserExists => b"sieved: user exists\n",
-            Fault::BadUser => b"sieved: bad user\n",
-            Fault::NoRow => b"sieved: no such row\n",
             Fault::NoMessage => b"sieved: no such message\n",
             Fault::NoMaildir => b"sieved: no such Maildir\n",
             Fault::BadInput => b"sieved: bad input\n",
@@ -102,36 +68,43 @@ impl Fault {
     }
 }
 
+/// The line that tells of a refusal.
+fn refusal_line(refusal: Refusal) -> &'static [u8]
+    ensures { result.now ≡ line_of (Refused refusal) }
+{
+    match refusal {
+        Refusal::Memory => b"sieved: out of memory\n",
+        Refusal::Store => b"sieved: store failed\n",
+        Refusal::NotOurs => b"sieved: not a sieved database\n",
+        Refusal::NoUser => b"sieved: no such user\n",
+        Refusal::TooLarge => b"sieved: message too large\n",
+        Refusal::BadEnvelope => b"sieved: bad envelope address\n",
+        Refusal::BadMoment => b"sieved: bad moment\n",
+        Refusal::UserExists => b"sieved: user exists\n",
+        Refusal::BadUser => b"sieved: bad user\n",
+        Refusal::NoRow => b"sieved: no such row\n",
+    }
+}
+
 impl From<AllocError> for Fault {
     ghost use Rattle.std.specs.Prelude.{◌≡◌};
-    ghost use Rattle.sievedrun.specs.declared.fault.Fault.TheVariants.{Memory};
+    ghost use Rattle.sievedrun.specs.Faults.{memory};
 
-    ghost from_gives = { λ _ fault. fault ≡ Memory };
+    ghost from_gives = { λ _ fault. fault ≡ memory };
 
     fn from(_refused: AllocError) -> Fault {
-        Fault::Memory
+        Fault::Refused(Refusal::Memory)
     }
 }
 
 impl From<Refusal> for Fault {
     ghost use Rattle.std.specs.Prelude.{◌≡◌};
-    ghost use Rattle.sievedrun.specs.Faults.{fault_of};
+    ghost use Rattle.sievedrun.specs.declared.fault.Fault.TheVariants.{Refused};
 
-    ghost from_gives = { λ refusal fault. fault ≡ fault_of refusal };
+    ghost from_gives = { λ refusal fault. fault ≡ Refused refusal };
 
     fn from(refusal: Refusal) -> Fault {
-        match refusal {
-            Refusal::Memory => Fault::Memory,
-            Refusal::Store => Fault::Store,
-            Refusal::NotOurs => Fault::NotOurs,
-            Refusal::NoUser => Fault::NoUser,
-            Refusal::TooLarge => Fault::TooLarge,
-            Refusal::BadEnvelope => Fault::BadEnvelope,
-            Refusal::BadMoment => Fault::BadMoment,
-            Refusal::UserExists => Fault::UserExists,
-            Refusal::BadUser => Fault::BadUser,
-            Refusal::NoRow => Fault::NoRow,
-        }
+        Fault::Refused(refusal)
     }
 }
 
@@ -144,7 +117,7 @@ impl From<Held> for Fault {
     fn from(held: Held) -> Fault {
         match held {
             Held::Busy => Fault::Busy,
-            Held::Refused(refusal) => Fault::from(refusal),
+            Held::Refused(refusal) => Fault::Refused(refusal),
         }
     }
 }
@@ -157,7 +130,7 @@ impl From<SinkError> for Fault {
 
     fn from(error: SinkError) -> Fault {
         match error {
-            SinkError::Memory => Fault::Memory,
+            SinkError::Memory => Fault::Refused(Refusal::Memory),
             SinkError::NoMaildir => Fault::NoMaildir,
             SinkError::Failed => Fault::Stream,
         }

@@ -10,6 +10,7 @@ use crate::stream::write_all;
 use crate::values::decimal;
 use keepers::Keeper;
 use mailengine::take_out;
+use mailstore::Refusal;
 use octets::{Octets, write_decimal};
 use sievedwords::Place;
 use std::alloc::{AllocError, Global};
@@ -29,7 +30,12 @@ pub fn run_queued<W: Write, K: Keeper>(
     let id = decimal(id)?;
     let queue = read_once(place, &QueueOf(user), keeper)?;
     let row = queue.as_slice().iter().find(|row| row.id == id);
-    write_all(output, row.ok_or(Fault::NoRow)?.message.as_slice())
+    write_all(
+        output,
+        row.ok_or(Fault::Refused(Refusal::NoRow))?
+            .message
+            .as_slice(),
+    )
 }
 
 /// `done`: a message leaves the queue, since it went out.

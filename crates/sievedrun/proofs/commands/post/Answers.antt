@@ -3,7 +3,7 @@ use Rattle.std.proofs.Common.{◌≡◌, Err, refl, sym, subst, rules, inl}
 use Rattle.sqlite.specs.Held.{state}
 use Rattle.mailengine.specs.declared.event.Event.TheVariants.{Deliver}
 use Rattle.mailengine.specs.declared.answer.Answer.TheVariants.{Delivered}
-use Rattle.sievedrun.specs.Faults.{fault_of}
+use Rattle.sievedrun.specs.declared.fault.Fault.TheVariants.{Refused}
 use Rattle.sievedrun.specs.Promise.{MayFollow, IsOne, ShowsAfter, status_after}
 use Rattle.sievedrun.proofs.PromiseLemmas.{event_refused, event_made, delivered_next, transient_may_follow}
 use Rattle.sievedrun.proofs.commands.post.Goals as goal
@@ -20,7 +20,7 @@ returns-in_err-closed-clause-leaves g c tells =
     let got = c.in_ok-store.ensures.taken tells in
     let sure = g.met.K.Keeper.sure c.deliver-delivered.new.store tells in
     let refusal = c.in_err-closed.field-0.0 in
-    let is : c.from_residual-in_err-closed.result ≡ Err (fault_of refusal) = search rules in
+    let is : c.from_residual-in_err-closed.result ≡ Err (Refused refusal) = search rules in
     let may : MayFollow (status_after c.from_residual-in_err-closed.result) =
     subst (λ r. MayFollow (status_after r)) (sym is) (transient_may_follow refusal c.in_err-closed.ensures.named) in
     event_made (g.K.Keeper.holds c.args.keeper.now) (g.K.Keeper.holds c.hand_back-closed.new.self) (state g.K.S.Store c.in_ok-store.store) (state g.K.S.Store c.deliver-delivered.new.store) got.0 got.1 sure.0 sure.1 (c.hand_back-closed.ensures.held tells)

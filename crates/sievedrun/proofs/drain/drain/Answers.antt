@@ -3,7 +3,8 @@ use Rattle.std.proofs.Common.{◌≡◌, Ok, Err, inl, inr, ◌∙◌, ap, subst
 use Rattle.sqlite.specs.Held.{state}
 use Rattle.mailstore.specs.Refusals.{IsTransient}
 use Rattle.sievedrun.specs.Draining.{Drains}
-use Rattle.sievedrun.specs.Faults.{fault_of, status_of}
+use Rattle.sievedrun.specs.declared.fault.Fault.TheVariants.{Refused}
+use Rattle.sievedrun.specs.Faults.{status_of}
 use Rattle.sievedrun.proofs.LeaveLemmas.{grown_none}
 use Rattle.sievedrun.proofs.MoveLemmas.{no_account, not_looked, drained_then}
 use Rattle.sievedrun.proofs.drain.drain.Goals as goal
@@ -12,11 +13,11 @@ pub returns-in_err-_account : goal.returns-in_err-_account
 returns-in_err-_account g c =
     let refusal = c.in_err-_account.field-0.0 in
     let kept = g.T.MailSink.kept c.args.sink.now in
-    let is : c.from_residual.result ≡ Err (fault_of refusal) = search rules in
+    let is : c.from_residual.result ≡ Err (Refused refusal) = search rules in
     let transient : IsTransient refusal = c.in_err-_account.ensures.named in
     subst (λ r. Drains c.args.user.now c.args.folder.now g.T.MailSink.tells kept kept c.args.most r (state g.S.Store c.args.store.now) (state g.S.Store c.account.new.self)) (sym is)
     (not_looked c.args.user.now c.args.folder.now g.T.MailSink.tells (g.T.MailSink.kept c.args.sink.now) (g.T.MailSink.kept c.args.sink.now) c.args.most (state g.S.Store c.args.store.now) (state g.S.Store c.account.new.self) c.account.result
-    c.account.ensures (fault_of refusal) (elim transient [ inl e ↦ ap (λ r. status_of (fault_of r)) e | inr e ↦ ap (λ r. status_of (fault_of r)) e ]) (grown_none g.T.MailSink.tells (g.T.MailSink.kept c.args.sink.now)))
+    c.account.ensures (Refused refusal) (elim transient [ inl e ↦ ap (λ r. status_of (Refused r)) e | inr e ↦ ap (λ r. status_of (Refused r)) e ]) (grown_none g.T.MailSink.tells (g.T.MailSink.kept c.args.sink.now)))
 
 pub returns-in_default : goal.returns-in_default
 returns-in_default g c =

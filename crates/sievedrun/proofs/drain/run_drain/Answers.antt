@@ -1,8 +1,7 @@
 -- The sink was opened, the store drained, and the line written, as far as that went.
 use Rattle.std.proofs.Common.{◌≡◌, Err, refl, subst, sym, rules}
-use Rattle.sievedrun.specs.declared.fault.Fault.TheVariants.{Memory}
 use Rattle.sievedrun.specs.Draining.{HasDrained}
-use Rattle.sievedrun.specs.Faults.{fault_sunk}
+use Rattle.sievedrun.specs.Faults.{fault_sunk, memory}
 use Rattle.sievedrun.proofs.DrainLemmas.{word_refused, word_broke_off, word_failed, word_written}
 use Rattle.sievedrun.proofs.drain.run_drain.Goals as goal
 
@@ -42,9 +41,9 @@ returns-in_err-line-clause-drains g c tells =
     let has = g.T.MailSink.kept c.drain_store.new.sink in
     let held = g.K.Keeper.holds c.args.keeper.now in
     let new = g.K.Keeper.holds c.drain_store.new.keeper in
-    let is : c.from_residual-in_err-line.result ≡ Err Memory = search rules in
+    let is : c.from_residual-in_err-line.result ≡ Err memory = search rules in
     subst (λ r. HasDrained c.args.asked g.T.MailSink.tells had has r held new) (sym is)
-    (word_failed c.args.asked g.T.MailSink.tells had opened has c.open.ensures.same c.in_ok-most.most c.drain_store.result held new (c.drain_store.ensures.moves tells) c.in_ok-moved.moved Memory c.in_ok-moved.was refl)
+    (word_failed c.args.asked g.T.MailSink.tells had opened has c.open.ensures.same c.in_ok-most.most c.drain_store.result held new (c.drain_store.ensures.moves tells) c.in_ok-moved.moved memory c.in_ok-moved.was refl)
 
 pub returns-clause-drains : goal.returns-clause-drains
 returns-clause-drains g c tells =

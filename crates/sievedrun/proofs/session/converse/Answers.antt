@@ -3,7 +3,7 @@ use Rattle.std.proofs.Common.{◌≡◌, ◌≤◌, ℕ, [], Option, Ok, Err, un
 use Rattle.std.proofs.lemmas.List.{length-take}
 use Rattle.std.specs.Io.KnownBytes.{Consumes}
 use Rattle.sessions.specs.Clients.{client_given}
-use Rattle.sievedrun.specs.declared.fault.Fault.TheVariants.{Memory}
+use Rattle.sievedrun.specs.Faults.{memory}
 use Rattle.sievedrun.specs.Serving.{Converses}
 use Rattle.sievedrun.proofs.ServingLemmas.{broken_served, served_at_end, served_on, broken_on}
 use Rattle.sievedrun.proofs.session.converse.Goals as goal
@@ -27,7 +27,7 @@ returns-in_default-clause-serves g c tells accounts first_in first_out first =
 
 pub returns-in_err-give-clause-serves : goal.returns-in_err-give-clause-serves
 returns-in_err-give-clause-serves g c tells accounts first_in first_out first =
-    let is : c.from_residual-in_err-give.result ≡ Err Memory = search rules in
+    let is : c.from_residual-in_err-give.result ≡ Err memory = search rules in
     subst (Converses accounts first_in (g.R.Read.remaining c.read_at.new.input) first_out (g.W.Write.contents c.loop.output) (g.K.Keeper.holds c.loop.keeper)) (sym is)
     (broken_served accounts first_in (g.R.Read.remaining c.loop.input) first_out (g.W.Write.contents c.loop.output) c.loop.session.client (g.K.Keeper.holds c.loop.keeper) (c.loop.invariant.served tells accounts first_in first_out first))
 

@@ -4,7 +4,7 @@ use Rattle.msproto.specs.Replies.{spelled}
 use Rattle.sessions.specs.Clients.{new_client}
 use Rattle.sessions.specs.Counts.{SessionView}
 use Rattle.sessions.specs.Replies.{capabilities}
-use Rattle.sievedrun.specs.declared.fault.Fault.TheVariants.{Memory}
+use Rattle.sievedrun.specs.Faults.{memory}
 use Rattle.sievedrun.specs.Serving.{Serves}
 use Rattle.sievedrun.proofs.StreamLemmas.{nothing_written}
 use Rattle.sievedrun.proofs.ServingLemmas.{broken_first, served_first}
@@ -14,7 +14,7 @@ pub returns-in_err-session-clause-serves : goal.returns-in_err-session-clause-se
 returns-in_err-session-clause-serves g c tells =
     let input = g.R.Read.remaining c.args.input.now in
     let out = g.W.Write.contents c.args.output.now in
-    let is : c.from_residual.result ≡ Err Memory = search rules in
+    let is : c.from_residual.result ≡ Err memory = search rules in
     subst (Serves input input out out (g.K.Keeper.holds c.args.keeper.now) (g.K.Keeper.holds c.args.keeper.now)) (sym is)
     (record { talks = λ accounts shown. broken_first accounts input out out (spelled (capabilities None)) (g.K.Keeper.holds c.args.keeper.now) shown refl (0, nothing_written out); none = λ h. h })
 
