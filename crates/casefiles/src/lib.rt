@@ -13,6 +13,6 @@ pub use line::{Lines, try_lines};
 pub use message::Message;
 pub use part::{Part, add_parts};
 pub use row::{Answers, try_rows};
-pub use section::{Section, sections};
+pub use section::{Section, Sections, try_sections};
 pub use tally::Tally;
 pub use text::{cut, decoded, text_in, trimmed, with_ends, words_of};

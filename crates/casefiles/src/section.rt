@@ -1,4 +1,5 @@
-//! The sections of a file.
+//! Files of sections.
+use crate::tally::Tally;
 use crate::text::cut;
 use std::alloc::{AllocError, Global};
 
@@ -15,8 +16,42 @@ pub struct Section<'a> {
     pub text: &'a str,
 }
 
+/// What tries the sections of a file, one after the other.
+pub trait Sections<'a> {
+    /// Tries the cases of a section, or keeps what it has for those that follow.
+    fn try_section(
+        &mut self,
+        alloc: Global,
+        tally: &mut Tally,
+        section: &Section<'a>,
+    ) -> Result<(), AllocError>;
+}
+
+/// Tries each section of a file.
+pub fn try_sections<'a, S: Sections<'a>>(
+    alloc: Global,
+    tally: &mut Tally,
+    state: &mut S,
+    file: &'a str,
+) -> Result<(), AllocError> {
+    let all = sections_in(alloc, file)?;
+    try_each(alloc, tally, state, all.as_slice())
+}
+
+fn try_each<'a, S: Sections<'a>>(
+    alloc: Global,
+    tally: &mut Tally,
+    state: &mut S,
+    sections: &[Section<'a>],
+) -> Result<(), AllocError> {
+    for section in sections {
+        state.try_section(alloc, tally, section)?;
+    }
+    Ok(())
+}
+
 /// The sections of a file, in their order.
-pub fn sections<'a>(alloc: Global, file: &'a str) -> Result<Vec<Section<'a>>, AllocError> {
+fn sections_in<'a>(alloc: Global, file: &'a str) -> Result<Vec<Section<'a>>, AllocError> {
     let mut found = Vec::new(alloc);
     let mut line: usize = 1;
     for text in file.split("\n== ") {

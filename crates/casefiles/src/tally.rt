@@ -10,16 +10,14 @@ use std::fmt::Write;
 /// How many cases of a file hold, and what is told of the others.
 #[derive(Drop)]
 pub struct Tally {
-    file: &'static str,
     held: u64,
     failed: String,
 }
 
 impl Tally {
-    /// No case of this file yet. Takes no memory.
-    pub fn new(alloc: Global, file: &'static str) -> Tally {
+    /// No case yet. Takes no memory.
+    pub fn new(alloc: Global) -> Tally {
         Tally {
-            file,
             held: 0,
             failed: String::new(alloc),
         }
@@ -46,8 +44,7 @@ impl Tally {
             percent_encode(wanted, escaped),
             percent_encode(got, escaped),
         );
-        let file = self.file;
-        writeln!(self.failed, "{file}:{line}: wanted {wanted}, got {got}")
+        writeln!(self.failed, "{line}: wanted {wanted}, got {got}")
     }
 
     /// Holds what came against the text of a section. Blanks and line ends at the end of both don't count.

@@ -39,14 +39,16 @@ fn try_file(rt: &HostRuntime, table: Table) -> io::Result<bool> {
 }
 
 fn try_text(rt: &HostRuntime, table: Table, text: &str) -> io::Result<bool> {
-    let mut tally = Tally::new(rt.alloc(), table.file());
+    let mut tally = Tally::new(rt.alloc());
     table.try_all(rt, &mut tally, text)?;
     tell(rt, table.file(), &tally)
 }
 
 /// Tells how many cases of a file hold, and which don't; and says whether all hold.
 fn tell(rt: &HostRuntime, file: &str, tally: &Tally) -> io::Result<bool> {
-    eprint!(rt; "{}", tally.failed())?;
+    for line in tally.failed().lines() {
+        eprintln!(rt; "{file}:{line}")?;
+    }
     println!(rt; "{file}: {} cases hold", tally.held())?;
     Ok(tally.failed().is_empty())
 }

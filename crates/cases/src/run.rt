@@ -5,6 +5,7 @@ use casefiles::Part::{Number, Text};
 use casefiles::{Answers, add_parts, text_in, words_of};
 use keepers::{Keeper, MemoryKeeper};
 use mailsinks::{MailSink, MemorySink};
+use mailstore::Refusal;
 use octets::{Octets, parse_decimal, write_decimal};
 use sievedrun::drive::drive;
 use sievedrun::fault::Fault;
@@ -17,18 +18,18 @@ const CLOCK: Option<u64> = Some(1_700_000_000);
 
 /// What a run may tell, those too that no case can bring about.
 const FAULTS: [Fault; 16] = [
-    Fault::Memory,
-    Fault::Store,
+    Fault::Refused(Refusal::Memory),
+    Fault::Refused(Refusal::Store),
     Fault::Busy,
     Fault::Stream,
-    Fault::NotOurs,
-    Fault::NoUser,
-    Fault::TooLarge,
-    Fault::BadEnvelope,
-    Fault::BadMoment,
-    Fault::UserExists,
-    Fault::BadUser,
-    Fault::NoRow,
+    Fault::Refused(Refusal::NotOurs),
+    Fault::Refused(Refusal::NoUser),
+    Fault::Refused(Refusal::TooLarge),
+    Fault::Refused(Refusal::BadEnvelope),
+    Fault::Refused(Refusal::BadMoment),
+    Fault::Refused(Refusal::UserExists),
+    Fault::Refused(Refusal::BadUser),
+    Fault::Refused(Refusal::NoRow),
     Fault::NoMessage,
     Fault::NoMaildir,
     Fault::BadInput,
@@ -153,30 +154,15 @@ pub fn answer<K: Keeper, T: MailSink>(
     };
     let (words, input) = (text_in(text.as_slice()), input.as_slice());
     match text_in(call.as_slice()) {
-        "run" => add_run(
-            alloc,
-            out,
-            keeper,
-            sink,
-            Run {
+        call @ ("run" | "full") => {
+            let run = Run {
                 path,
                 words,
                 input,
-                writes: NEVER,
-            },
-        ),
-        "full" => add_run(
-            alloc,
-            out,
-            keeper,
-            sink,
-            Run {
-                path,
-                words,
-                input,
-                writes: 0,
-            },
-        ),
+                writes: if call == "full" { 0 } else { NEVER },
+            };
+            add_run(alloc, out, keeper, sink, run)
+        }
         "told" => add_told(alloc, out, words),
         "send" => talk::add_sent(alloc, out, keeper, path, input),
         call => talk::answer(alloc, out, keeper, path, call, text.as_slice(), input),

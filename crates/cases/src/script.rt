@@ -1,6 +1,8 @@
 //! Scripts and tests, each tried on a message with its envelope (RFC 5228).
 use casefiles::Part::Text;
-use casefiles::{Lines, Section, Tally, add_parts, decoded, sections, trimmed, try_lines};
+use casefiles::{
+    Lines, Section, Sections, Tally, add_parts, decoded, trimmed, try_lines, try_sections,
+};
 use mailengine::attempt;
 use octets::Octets;
 use reportlines::{of_fault, of_outcome};
@@ -10,21 +12,29 @@ use textcases::Trial;
 
 /// Tries each case of the file.
 pub fn try_all(alloc: Global, tally: &mut Tally, file: &str) -> Result<(), AllocError> {
-    let all = sections(alloc, file)?;
-    try_sections(alloc, tally, all.as_slice())
+    let mut scripts = Scripts {
+        trial: Trial::empty(),
+    };
+    try_sections(alloc, tally, &mut scripts, file)
 }
 
-fn try_sections(
-    alloc: Global,
-    tally: &mut Tally,
-    sections: &[Section<'_>],
-) -> Result<(), AllocError> {
-    let mut trial = Trial::empty();
-    for section in sections {
-        try_section(alloc, tally, trial, section)?;
-        trial = trial.after(section);
+/// A file of scripts, each with what is in force.
+#[derive(Clone, Copy)]
+struct Scripts<'a> {
+    trial: Trial<'a>,
+}
+
+impl<'a> Sections<'a> for Scripts<'a> {
+    fn try_section(
+        &mut self,
+        alloc: Global,
+        tally: &mut Tally,
+        section: &Section<'a>,
+    ) -> Result<(), AllocError> {
+        try_section(alloc, tally, self.trial, section)?;
+        self.trial = self.trial.after(section);
+        Ok(())
     }
-    Ok(())
 }
 
 /// Tries the cases of a section: `wanted` is one, and each line of `holds` and of `fails`.

@@ -3,7 +3,7 @@ use crate::answer::add_shown;
 use crate::cut::{add_answers, add_counts};
 use crate::event::{Post, event, login, number, octets_in, times_in};
 use crate::question::ask;
-use casefiles::{Section, Tally, sections};
+use casefiles::{Section, Sections, Tally, try_sections};
 use mailengine::{Event, Ran, World, run};
 use mailstore::Store;
 use octets::Octets;
@@ -15,17 +15,8 @@ const FIRST_OWN: u32 = 1_000_000;
 
 /// Tries each case of the file. The accounts stay to its end.
 pub fn try_all(alloc: Global, tally: &mut Tally, file: &str) -> Result<(), AllocError> {
-    let all = sections(alloc, file)?;
-    try_sections(alloc, tally, all.as_slice())
-}
-
-fn try_sections(
-    alloc: Global,
-    tally: &mut Tally,
-    sections: &[Section<'_>],
-) -> Result<(), AllocError> {
     let mut talk = Talk::new(alloc)?;
-    talk.try_sections(alloc, tally, sections)
+    try_sections(alloc, tally, &mut talk, file)
 }
 
 /// A store without accounts.
@@ -51,35 +42,7 @@ struct Talk<'a> {
     post: Post<'a>,
 }
 
-impl<'a> Talk<'a> {
-    /// A world without accounts, in which nothing is to happen yet.
-    fn new(alloc: Global) -> Result<Talk<'a>, AllocError> {
-        let store = opened(alloc)?;
-        Ok(Talk {
-            world: World::new(alloc, store),
-            told: Octets::new(alloc),
-            events: Vec::new(alloc),
-            shown: Vec::new(alloc),
-            users: Vec::new(alloc),
-            post: Post {
-                from: "",
-                moment: 0,
-            },
-        })
-    }
-
-    fn try_sections(
-        &mut self,
-        alloc: Global,
-        tally: &mut Tally,
-        sections: &[Section<'a>],
-    ) -> Result<(), AllocError> {
-        for section in sections {
-            self.try_section(alloc, tally, section)?;
-        }
-        Ok(())
-    }
-
+impl<'a> Sections<'a> for Talk<'a> {
     /// Tries a section: the answer that is wanted by now, another world, an event or what holds of those that follow, or
     /// what is asked of the store.
     fn try_section(
@@ -100,6 +63,24 @@ impl<'a> Talk<'a> {
             "send" => self.send(alloc, section),
             _ => self.add_or_ask(alloc, tally, section),
         }
+    }
+}
+
+impl<'a> Talk<'a> {
+    /// A world without accounts, in which nothing is to happen yet.
+    fn new(alloc: Global) -> Result<Talk<'a>, AllocError> {
+        let store = opened(alloc)?;
+        Ok(Talk {
+            world: World::new(alloc, store),
+            told: Octets::new(alloc),
+            events: Vec::new(alloc),
+            shown: Vec::new(alloc),
+            users: Vec::new(alloc),
+            post: Post {
+                from: "",
+                moment: 0,
+            },
+        })
     }
 
     /// Lets the events happen, and holds what was answered against what is wanted.

@@ -1,27 +1,35 @@
 //! The heads of messages (RFC 5322, 2.2).
 use casefiles::Part::{Number, Text};
-use casefiles::{Message, Section, Tally, add_parts, sections};
+use casefiles::{Message, Section, Sections, Tally, add_parts, try_sections};
 use mailhead::{Field, Head};
 use octets::Octets;
 use std::alloc::{AllocError, Global};
 
 /// Tries each case of the file. `message` is a message as it stands, `mail` one whose line ends are CRLF.
 pub fn try_all(alloc: Global, tally: &mut Tally, file: &str) -> Result<(), AllocError> {
-    let all = sections(alloc, file)?;
-    try_sections(alloc, tally, all.as_slice())
+    let mut heads = Heads {
+        message: Message::empty(),
+    };
+    try_sections(alloc, tally, &mut heads, file)
 }
 
-fn try_sections(
-    alloc: Global,
-    tally: &mut Tally,
-    sections: &[Section<'_>],
-) -> Result<(), AllocError> {
-    let mut message = Message::empty();
-    for section in sections {
-        try_section(alloc, tally, message, section)?;
-        message = message.after(section);
+/// A file of heads, each with the message in force.
+#[derive(Clone, Copy)]
+struct Heads<'a> {
+    message: Message<'a>,
+}
+
+impl<'a> Sections<'a> for Heads<'a> {
+    fn try_section(
+        &mut self,
+        alloc: Global,
+        tally: &mut Tally,
+        section: &Section<'a>,
+    ) -> Result<(), AllocError> {
+        try_section(alloc, tally, self.message, section)?;
+        self.message = self.message.after(section);
+        Ok(())
     }
-    Ok(())
 }
 
 /// Tries the case that a section is, if it is one.

@@ -3,7 +3,7 @@ use crate::answering::Answering;
 use crate::date::Dates;
 use crate::trial::Trial;
 use addrparts::{Addr, bare_address};
-use casefiles::{Section, Tally, decoded, sections, try_lines};
+use casefiles::{Section, Sections, Tally, decoded, try_lines, try_sections};
 use deliverplan::outcome_on;
 use sieveexec::{Mail, Outcome};
 use sievelex::ScriptError;
@@ -22,25 +22,25 @@ struct Absence<'a> {
 
 /// Tries each case of the file.
 pub fn try_all(alloc: Global, tally: &mut Tally, file: &str) -> Result<(), AllocError> {
-    let all = sections(alloc, file)?;
-    try_sections(alloc, tally, all.as_slice())
-}
-
-fn try_sections(
-    alloc: Global,
-    tally: &mut Tally,
-    sections: &[Section<'_>],
-) -> Result<(), AllocError> {
     let mut absence = Absence {
         trial: Trial::empty(),
         own: "",
         moment: "",
     };
-    for section in sections {
-        absence.try_section(alloc, tally, section)?;
-        absence = absence.after(section);
+    try_sections(alloc, tally, &mut absence, file)
+}
+
+impl<'a> Sections<'a> for Absence<'a> {
+    fn try_section(
+        &mut self,
+        alloc: Global,
+        tally: &mut Tally,
+        section: &Section<'a>,
+    ) -> Result<(), AllocError> {
+        self.try_cases(alloc, tally, section)?;
+        *self = self.after(section);
+        Ok(())
     }
-    Ok(())
 }
 
 impl<'a> Absence<'a> {
@@ -56,7 +56,7 @@ impl<'a> Absence<'a> {
     }
 
     /// Tries the cases of a section: `key` and `reply` are one, and each line of `has`, `lacks`, `decisions` and `dates`.
-    fn try_section(
+    fn try_cases(
         &self,
         alloc: Global,
         tally: &mut Tally,
