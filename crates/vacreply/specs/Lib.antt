@@ -1,5 +1,6 @@
 pub mod Handles
 pub mod Cases
+pub mod Signs
 pub mod Reasons
 pub mod Folds
 pub mod Dates

@@ -5,7 +5,7 @@ ghost use Rattle.vacreply.specs.Cases as cases;
 ghost use Rattle.vacreply.specs.Reasons.{decision_of};
 
 use crate::addressed::AddressedMail;
-use crate::fields::{is_automatic, is_bulk, is_list_mail};
+use crate::fields::{Sign, has_sign};
 use crate::reason::{Decision, Reason};
 use crate::sender::{is_bad, is_robot, is_users};
 use addrparts::Addr;
@@ -47,13 +47,13 @@ pub fn decide(
     if is_users(args, mail.mail(), own, sender) {
         return Decision::Quiet(Reason::OwnSender);
     }
-    if is_automatic(mail.mail()) {
+    if has_sign(mail.mail(), Sign::Automatic) {
         return Decision::Quiet(Reason::Automatic);
     }
-    if is_list_mail(mail.mail()) {
+    if has_sign(mail.mail(), Sign::ListMail) {
         return Decision::Quiet(Reason::ListMail);
     }
-    if is_bulk(mail.mail()) {
+    if has_sign(mail.mail(), Sign::Bulk) {
         return Decision::Quiet(Reason::Bulk);
     }
     if !is_addressed(args, mail, own) {

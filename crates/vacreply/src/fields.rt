@@ -1,10 +1,11 @@
 //! Fields that say what sort of mail it is.
-ghost use Rattle.std.specs.Prelude.{◌≡◌, [], ◌∷◌, true, codes, option_map};
+ghost use Rattle.std.specs.Prelude.{◌≡◌, option_map};
 ghost use Rattle.std.specs.List.{list_any};
 ghost use Rattle.mailhead.specs.Fields.{text_of, texts_of};
 ghost use Rattle.mailhead.specs.Heads.{unfold_of};
 ghost use Rattle.vacreply.specs.Cases as cases;
 ghost use Rattle.vacreply.specs.Layout.{first_raw};
+ghost use Rattle.vacreply.specs.Signs.{is_sign};
 
 use crate::text::{is_one_of, is_same};
 use crate::value::{is_word, is_word_before_parameters};
@@ -22,70 +23,47 @@ const LIST_FIELDS: [&[u8]; 7] = [
     b"list-archive",
 ];
 
-/// Whether an Auto-Submitted field says other than `no` (RFC 3834, 5).
-pub(crate) fn is_automatic(mail: &Mail<'_>) -> bool
-    ensures { result ≡ cases.some_value (codes "auto-submitted" ∷ []) cases.is_automatic mail.now }
-{
-    has_automatic(mail.fields())
+/// What a field may say of the mail that it stands in.
+#[derive(Clone, Copy)]
+pub(crate) enum Sign {
+    /// An Auto-Submitted field says other than `no` (RFC 3834, 5).
+    Automatic,
+    /// The field is one that mailing lists add (RFC 2369; RFC 2919).
+    ListMail,
+    /// A Precedence field says `bulk`, `list` or `junk` (RFC 3834, 2).
+    Bulk,
 }
 
-fn has_automatic(fields: &[Field<'_>]) -> bool
-    ensures { result ≡ list_any (λ field. cases.has_value (codes "auto-submitted" ∷ []) cases.is_automatic (text_of field)) fields.now }
+/// Whether some field of the mail says so.
+pub(crate) fn has_sign(mail: &Mail<'_>, sign: Sign) -> bool
+    ensures { result ≡ list_any (is_sign sign) mail.now.fields }
 {
-    fields.iter().any(|field| is_automatic_field(field))
+    some_says(mail.fields(), sign)
 }
 
-fn is_automatic_field(field: &Field<'_>) -> bool
-    ensures { result ≡ cases.has_value (codes "auto-submitted" ∷ []) cases.is_automatic (text_of field.now) }
+fn some_says(fields: &[Field<'_>], sign: Sign) -> bool
+    ensures { result ≡ list_any (λ field. is_sign sign (text_of field)) fields.now }
 {
-    is_same(b"auto-submitted", field.name) && is_automatic_value(field.raw)
+    fields.iter().any(|field| says(field, sign))
 }
 
-fn is_automatic_value(raw: &[u8]) -> bool
+fn says(field: &Field<'_>, sign: Sign) -> bool
+    ensures { result ≡ is_sign sign (text_of field.now) }
+{
+    match sign {
+        Sign::Automatic => is_same(b"auto-submitted", field.name) && is_automatic(field.raw),
+        Sign::ListMail => is_one_of(&LIST_FIELDS, field.name),
+        Sign::Bulk => is_same(b"precedence", field.name) && is_bulk(field.raw),
+    }
+}
+
+fn is_automatic(raw: &[u8]) -> bool
     ensures { result ≡ cases.is_automatic (unfold_of raw.now) }
 {
     !is_word_before_parameters(raw, b"no")
 }
 
-/// Whether a field is there that mailing lists add (RFC 2369; RFC 2919).
-pub(crate) fn is_list_mail(mail: &Mail<'_>) -> bool
-    ensures { result ≡ cases.some_value cases.list_fields (λ value. true) mail.now }
-{
-    has_list_field(mail.fields())
-}
-
-fn has_list_field(fields: &[Field<'_>]) -> bool
-    ensures { result ≡ list_any (λ field. cases.has_value cases.list_fields (λ value. true) (text_of field)) fields.now }
-{
-    fields.iter().any(|field| is_list_field(field))
-}
-
-fn is_list_field(field: &Field<'_>) -> bool
-    ensures { result ≡ cases.has_value cases.list_fields (λ value. true) (text_of field.now) }
-{
-    is_one_of(&LIST_FIELDS, field.name)
-}
-
-/// Whether a Precedence field says `bulk`, `list` or `junk` (RFC 3834, 2).
-pub(crate) fn is_bulk(mail: &Mail<'_>) -> bool
-    ensures { result ≡ cases.some_value (codes "precedence" ∷ []) cases.is_bulk mail.now }
-{
-    has_bulk(mail.fields())
-}
-
-fn has_bulk(fields: &[Field<'_>]) -> bool
-    ensures { result ≡ list_any (λ field. cases.has_value (codes "precedence" ∷ []) cases.is_bulk (text_of field)) fields.now }
-{
-    fields.iter().any(|field| is_bulk_field(field))
-}
-
-fn is_bulk_field(field: &Field<'_>) -> bool
-    ensures { result ≡ cases.has_value (codes "precedence" ∷ []) cases.is_bulk (text_of field.now) }
-{
-    is_same(b"precedence", field.name) && is_bulk_value(field.raw)
-}
-
-fn is_bulk_value(raw: &[u8]) -> bool
+fn is_bulk(raw: &[u8]) -> bool
     ensures { result ≡ cases.is_bulk (unfold_of raw.now) }
 {
     is_word(raw, b"bulk") || is_word(raw, b"list") || is_word(raw, b"junk")
