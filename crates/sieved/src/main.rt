@@ -4,16 +4,17 @@
 
 mod listener;
 
-use keepers::FileKeeper;
+use keepers::{FileKeeper, Keeper};
 use listener::{Service, serve};
-use mailsinks::Maildir;
+use mailsinks::{MailSink, Maildir};
 use sievedrun::drive::drive;
 use sievedrun::fault::{Fault, refuse};
 use sievedrun::session::run_session;
 use sievedwords::{Asked, read};
-use std::alloc::AllocError;
+use std::alloc::{AllocError, Global};
 use std::env;
-use std::io::ErrorKind;
+use std::io::{ErrorKind, Read, Write};
+use std::net::{Net, TcpListener, TcpStream};
 use std::process::ExitCode;
 use std::time::SystemTime;
 
@@ -27,9 +28,35 @@ fn main(rt: HostRuntime) -> ExitCode {
 
 /// Does what the words ask for, over the standard streams and a file, and answers the exit status.
 fn run(rt: &HostRuntime, words: &[String]) -> u8 {
-    let (mut input, mut output, mut faults) = (rt.stdin(), rt.stdout(), rt.stderr());
-    let mut keeper = FileKeeper::new(rt);
-    match asked_of_server(rt, words) {
+    answer(
+        rt,
+        rt.alloc(),
+        words,
+        clock(rt),
+        &mut rt.stdin(),
+        &mut rt.stdout(),
+        &mut rt.stderr(),
+        &mut FileKeeper::new(rt),
+        &mut Maildir::new(rt),
+    )
+}
+
+/// Does what the words ask for, and answers the exit status.
+fn answer<N, R: Read, W: Write, F: Write, K: Keeper, T: MailSink>(
+    net: &N,
+    alloc: Global,
+    words: &[String],
+    clock: Option<u64>,
+    input: &mut R,
+    output: &mut W,
+    faults: &mut F,
+    keeper: &mut K,
+    sink: &mut T,
+) -> u8
+where
+    N: Net<Listener = TcpListener, Stream = TcpStream>,
+{
+    match asked_of_server(alloc, words) {
         Some(
             Asked::Serve {
                 place,
@@ -42,40 +69,17 @@ fn run(rt: &HostRuntime, words: &[String]) -> u8 {
                 port,
                 sessions,
             };
-            serve(
-                rt,
-                rt.alloc(),
-                service,
-                &mut output,
-                &mut faults,
-                &mut keeper,
-            )
+            serve(net, alloc, service, output, faults, keeper)
         }
-        Some(Asked::Session(place)) => run_session(
-            rt.alloc(),
-            place,
-            &mut input,
-            &mut output,
-            &mut faults,
-            &mut keeper,
-        ),
-        _ => drive(
-            rt.alloc(),
-            words,
-            &mut input,
-            &mut output,
-            &mut faults,
-            &mut keeper,
-            clock(rt),
-            &mut Maildir::new(rt),
-        ),
+        Some(Asked::Session(place)) => run_session(alloc, place, input, output, faults, keeper),
+        _ => drive(alloc, words, input, output, faults, keeper, clock, sink),
     }
 }
 
 /// What the words ask for, where the first is `serve` or `session` and the others are right.
-fn asked_of_server<'a>(rt: &HostRuntime, words: &'a [String]) -> Option<Asked<'a>> {
+fn asked_of_server<'a>(alloc: Global, words: &'a [String]) -> Option<Asked<'a>> {
     match words.first()?.as_str() {
-        "serve" | "session" => read(rt.alloc(), words).ok(),
+        "serve" | "session" => read(alloc, words).ok(),
         _ => None,
     }
 }
