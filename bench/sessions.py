@@ -104,9 +104,9 @@ def command_times(port):
 
 
 def traced(store):
-    """What of a NOOP is open and what is close, by strace, in milliseconds: each has in it what strace adds to a call."""
+    """What of a LISTSCRIPTS is open and what is close, by strace, in milliseconds: each has in it what strace adds to a call."""
     trace = f"{store.folder.name}/trace"
-    commands = b'AUTHENTICATE "PLAIN" "AGFsaWNlAHNlY3JldA=="\r\n', *[b"NOOP\r\n"] * 50, b"LOGOUT\r\n"
+    commands = b'AUTHENTICATE "PLAIN" "AGFsaWNlAHNlY3JldA=="\r\n', *[b"LISTSCRIPTS\r\n"] * 50, b"LOGOUT\r\n"
     process = subprocess.Popen(["strace", "-ttt", "-T", "-o", trace, *store.words("session")], stdin=subprocess.PIPE, stdout=subprocess.PIPE)
     process.stdout.readline()
     for command in commands:
@@ -158,7 +158,7 @@ def main():
         print(f"| {name} | {took:.2f} | {took - times['NOOP']:.2f} |")
     if shutil.which("strace"):
         opened, closed = traced(store)
-        print(f"\nOf a NOOP under strace: open {opened:.1f} ms, close {closed:.1f} ms.")
+        print(f"\nOf a LISTSCRIPTS under strace: open {opened:.1f} ms, close {closed:.1f} ms.")
 
 
 if __name__ == "__main__":

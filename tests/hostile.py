@@ -1,12 +1,14 @@
 #!/usr/bin/env python3
 """Tries `sieved serve` and `sieved session` with clients that are slow, silent, noisy or many, and with a program that is killed.
 
-  tests/hostile.py [--sieved SIEVED] [TRIAL ..]       SIEVED: the program, crates/sieved/out/sieved where none is named
+  tests/hostile.py [--quick] [--sieved SIEVED] [TRIAL ..]     SIEVED: the program, crates/sieved/out/sieved where none is named
 
-Prints a line for each trial, and ends with 1 where one failed. No gate runs it. It needs python3 and, for `fifty`, socat.
+Prints a line for each trial, a last one that counts them, and ends with 1 where one failed. `tests/run` runs it, with --quick, which
+does a tenth of what is done many times. It needs python3 and, for `fifty`, socat.
 The trials: octets, rubbish, silent, thousand, killed_serve, killed_session, fifty, fifty_put_off; without a word, all.
 """
-import os, random, socket, sys, threading, time
+import os, random, socket, threading, time
+import trials
 from managesieve import SIEVED, Gone, Store, connect, end
 
 RULES = b'require "fileinto";\r\nif header :contains "subject" "[list]" { fileinto "lists"; }\r\n'
@@ -53,7 +55,7 @@ def octets(store):
 def rubbish(store):
     server, port = store.serve()
     keep(connect(port))
-    noise = random.Random(1).randbytes(10 << 20)
+    noise = random.Random(1).randbytes(trials.some(2 << 20))
     lines = said(port, [noise[at:at + 65_536] for at in range(0, len(noise), 65_536)])
     long = said(port, [b"a" * 65_536] * 160)
     literal = said(port, [b'PUTSCRIPT "a" {10485760+}\r\n', *[b"a" * 65_536] * 160])
@@ -61,7 +63,7 @@ def rubbish(store):
     most = memory(server, "VmHWM")
     end(server)
     assert held and b"Too big." in long + literal, (held, lines[-80:], long[-80:], literal[-80:])
-    return f"10 MiB at random: {lines.count(b'Syntax error')} bad lines, then {lines[-14:]!r}; in one line and as a literal: BYE; at most {most} kB; the next client is served"
+    return f"{len(noise)} octets at random: {lines.count(b'Syntax error')} bad lines, then {lines[-14:]!r}; in one line and as a literal: BYE; at most {most} kB; the next client is served"
 
 
 def keep(client):
@@ -107,13 +109,14 @@ def thousand(store):
     server, port = store.serve()
     kinds = [b"", b'AUTHENTICATE "PLAIN" "AGFsaWNlAHNlY3JldA=="\r\nPUTSCRIPT "a" {100+}\r\nkeep', b"LOGOUT\r\n", SESSION]
     figures = {}
-    for count in range(1, 1_001):
+    last = trials.some(1_000)
+    for count in range(1, last + 1):
         said(port, [kinds[count % 4]])
-        if count in (10, 1_000):
+        if count in (10, last):
             figures[count] = memory(server), len(os.listdir(f"/proc/{server.pid}/fd"))
     end(server)
-    assert figures[10][1] == figures[1_000][1] and figures[1_000][0] < figures[10][0] + 200, figures
-    return f"resident {figures[10][0]} kB after 10 sessions, {figures[1_000][0]} kB after 1,000; descriptors {figures[10][1]} and {figures[1_000][1]}"
+    assert figures[10][1] == figures[last][1] and figures[last][0] < figures[10][0] + 200, figures
+    return f"resident {figures[10][0]} kB after 10 sessions, {figures[last][0]} kB after {last}; descriptors {figures[10][1]} and {figures[last][1]}"
 
 
 class Ledger:
@@ -142,9 +145,9 @@ class Ledger:
 
 
 def killed(start):
-    """Kills a program a hundred times at a moment of chance while it acknowledges scripts."""
+    """Kills a program many times, each at a random moment, while it acknowledges scripts."""
     ledger = Ledger()
-    for _ in range(100):
+    for _ in range(trials.some(100)):
         process, client = start()
         threading.Timer(random.uniform(0.0, 0.15), process.kill).start()
         try:
@@ -158,7 +161,7 @@ def killed(start):
         ledger.check(client)
         client.close()
         end(process)
-    return f"killed 100 times; {ledger.writes} scripts were acknowledged, each is there"
+    return f"killed {trials.some(100)} times; {ledger.writes} scripts were acknowledged, each is there"
 
 
 def killed_serve(store):
@@ -180,6 +183,7 @@ def killed_session(store):
 
 def fifty(store, *more):
     """Fifty clients at once, each its own user, while ten others are silent."""
+    trials.need("socat")
     listener, port = store.listen(*more)
     others = [connect(port) for _ in range(10)]
     results = [None] * 50
@@ -194,7 +198,7 @@ def fifty(store, *more):
         other.close()
     end(listener)
     assert all(type(result) is int for result in results), results
-    return f"50 clients beside 10 silent ones, 20 scripts each: {took:.1f} s, {sum(results)} times put off, nothing lost, each answer its own"
+    return f"50 clients beside 10 silent ones, {trials.some(20)} scripts each: {took:.1f} s, {sum(results)} times put off, nothing lost, each answer its own"
 
 
 def fifty_put_off(store):
@@ -212,7 +216,7 @@ def lives(port, n, results):
 def live(port, user):
     client = connect(port, seconds=300)
     put_off = until_ok(client, lambda: client.log_in(user))
-    for turn in range(20):
+    for turn in range(trials.some(20)):
         text = b"# %s %d\r\nkeep;\r\n" % (user.encode(), turn)
         put_off += until_ok(client, lambda: client.put(b"mine", text))
         put_off += until_ok(client, lambda: checked(client, text))
@@ -238,6 +242,7 @@ def until_ok(client, call):
     raise AssertionError("put off 10,000 times")
 
 
+PROGRAM = [SIEVED]
 TRIALS = {
     "octets": (octets, ["alice"]),
     "rubbish": (rubbish, ["alice"]),
@@ -250,20 +255,10 @@ TRIALS = {
 }
 
 
-def main(words):
-    program = SIEVED
-    if words[:1] == ["--sieved"]:
-        program, words = os.path.abspath(words[1]), words[2:]
-    failed = False
-    for name in words or TRIALS:
-        trial, users = TRIALS[name]
-        try:
-            print(f"{name}: {trial(Store(users, program))}", flush=True)
-        except AssertionError as error:
-            print(f"{name}: FAILED: {error}", flush=True)
-            failed = True
-    return failed
+def over_a_store(trial, users):
+    """The trial over a store of its own, with these users."""
+    return lambda: trial(Store(users, PROGRAM[0]))
 
 
 if __name__ == "__main__":
-    sys.exit(main(sys.argv[1:]))
+    trials.main({name: over_a_store(*row) for name, row in TRIALS.items()}, lambda program: PROGRAM.__setitem__(0, program))

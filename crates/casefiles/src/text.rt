@@ -2,7 +2,7 @@
 use octets::{Octets, Texts, parse_decimal, write_decimal};
 use percent_encoding::percent_decode;
 use std::alloc::{AllocError, Global};
-use std::{format, str};
+use std::str;
 
 /// What stands before a text's first separator, and what after it: the whole text and nothing where it has none.
 pub fn cut<'a>(text: &'a str, separator: &str) -> (&'a str, &'a str) {
@@ -92,23 +92,26 @@ fn add_plain(alloc: Global, out: &mut Octets, text: &str) -> Result<(), AllocErr
 
 /// Words with a blank between two of them; `F` stands for the path, and `F.d` for the path with `.d` after it. Two blanks
 /// have an empty word between them.
-pub fn words_of(alloc: Global, text: &str, path: &str) -> Result<Vec<String>, AllocError> {
+pub fn words_of(alloc: Global, text: &[u8], path: &str) -> Result<Vec<Octets>, AllocError> {
     let mut words = Vec::new(alloc);
     if text.is_empty() {
         return Ok(words);
     }
-    for word in text.split(' ') {
+    for word in text.split(|octet| *octet == b' ') {
         words.push(word_of(alloc, word, path)?)?;
     }
     Ok(words)
 }
 
-fn word_of(alloc: Global, word: &str, path: &str) -> Result<String, AllocError> {
-    match word {
-        "F" => path.to_string(alloc),
-        "F.d" => format!(in alloc; "{path}.d"),
-        _ => word.to_string(alloc),
-    }
+fn word_of(alloc: Global, word: &[u8], path: &str) -> Result<Octets, AllocError> {
+    let (path, rest) = match word {
+        b"F" => (path, ""),
+        b"F.d" => (path, ".d"),
+        _ => return Octets::from_slice(alloc, word),
+    };
+    let mut octets = Octets::from_slice(alloc, path.as_bytes())?;
+    octets.extend_from_slice(rest.as_bytes())?;
+    Ok(octets)
 }
 
 /// The text without blanks and line ends at its end.

@@ -1,17 +1,18 @@
 //! What the words of the command line ask for.
-use casefiles::{text_in, words_of};
+use casefiles::words_of;
 use clap::Error;
 use octets::Octets;
-use sievedwords::{Asked, Place, read};
+use sievedwords::{Asked, CommandLine, Place, ReadError, read};
 use std::alloc::{AllocError, Global};
 use std::format;
 
 /// What the words ask for, with the values in them; or whether what `clap` says is an error.
 pub fn told(alloc: Global, out: &mut Octets, words: &[u8]) -> Result<(), AllocError> {
-    let words = words_of(alloc, text_in(words), "F")?;
+    let words = CommandLine::new(alloc, words_of(alloc, words, "F")?)?;
     match read(alloc, &words) {
         Ok(asked) => add(out, asked),
-        Err(error) => add_error(alloc, out, &error),
+        Err(ReadError::Said(error)) => add_error(alloc, out, &error),
+        Err(ReadError::NotText) => out.extend_from_slice(b"a word that is no text"),
     }
 }
 
@@ -27,7 +28,10 @@ fn add_error(alloc: Global, out: &mut Octets, error: &Error) -> Result<(), Alloc
 
 fn add(out: &mut Octets, asked: Asked<'_>) -> Result<(), AllocError> {
     match asked {
-        Asked::Try { from, to } => add_texts(out, &["try", from, to]),
+        Asked::Try { from, to } => {
+            add_text(out, b"try")?;
+            add_envelope(out, from, to)
+        }
         Asked::Init(place) => add_at(out, "init", place, &[]),
         Asked::AddUser {
             place,
@@ -41,13 +45,32 @@ fn add(out: &mut Octets, asked: Asked<'_>) -> Result<(), AllocError> {
             to,
             at,
             user,
+        } => {
+            add_place(out, "deliver", place)?;
+            add_envelope(out, from, to)?;
+            add_texts(out, &[at.unwrap_or("no moment"), user])
+        }
+        Asked::Folders {
+            place,
+            user,
+            directories: false,
+            separator: None,
+        } => add_at(out, "folders", place, &[user]),
+        Asked::Folders {
+            place,
+            user,
+            directories,
+            separator,
         } => add_at(
             out,
-            "deliver",
+            "folders",
             place,
-            &[from, to, at.unwrap_or("no moment"), user],
+            &[
+                user,
+                if directories { "maildir" } else { "" },
+                separator.unwrap_or("no separator"),
+            ],
         ),
-        Asked::Folders { place, user } => add_at(out, "folders", place, &[user]),
         Asked::Show {
             place,
             user,
@@ -104,15 +127,21 @@ fn add_place<'a>(out: &mut Octets, word: &'a str, place: Place<'a>) -> Result<()
     add_texts(out, &[word, place.path, lock])
 }
 
+/// Appends the envelope's addresses, each with `|` after it.
+fn add_envelope(out: &mut Octets, from: &[u8], to: &[u8]) -> Result<(), AllocError> {
+    add_text(out, from)?;
+    add_text(out, to)
+}
+
 /// Appends texts, each with `|` after it.
 fn add_texts(out: &mut Octets, texts: &[&str]) -> Result<(), AllocError> {
     for text in texts {
-        add_text(out, text)?;
+        add_text(out, text.as_bytes())?;
     }
     Ok(())
 }
 
-fn add_text(out: &mut Octets, text: &str) -> Result<(), AllocError> {
-    out.extend_from_slice(text.as_bytes())?;
+fn add_text(out: &mut Octets, text: &[u8]) -> Result<(), AllocError> {
+    out.extend_from_slice(text)?;
     out.push(b'|')
 }

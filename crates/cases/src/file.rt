@@ -68,6 +68,12 @@ fn remove(rt: &HostRuntime, path: &str, end: &str) -> Result<(), AllocError> {
     Ok(())
 }
 
+/// Appends what comes of writing a text in place of the database.
+fn add_put(place: Place<'_>, out: &mut Octets, text: &str) -> Result<(), AllocError> {
+    let put = fs::write(place.rt, place.path, text);
+    out.extend_from_slice(if put.is_ok() { b"done" } else { b"refused" })
+}
+
 /// Appends what comes of making a directory of the Maildir.
 fn add_made(place: Place<'_>, out: &mut Octets, name: &str) -> Result<(), AllocError> {
     let Place { rt, path } = place;
@@ -122,7 +128,7 @@ fn add_row<K: Keeper, T: MailSink>(
         [call, words, input] if text_in(call.as_slice()) == "locked" => {
             let run = Run {
                 path: place.path,
-                words: text_in(words.as_slice()),
+                words: words.as_slice(),
                 input: input.as_slice(),
                 writes: NEVER,
             };
@@ -132,7 +138,8 @@ fn add_row<K: Keeper, T: MailSink>(
     }
 }
 
-/// Appends what another connection reads, or what comes of making and reading in the Maildir.
+/// Appends what another connection reads, what comes of a file in place of the database, or of making and reading in the
+/// Maildir.
 fn add_beside<K: Keeper>(
     alloc: Global,
     out: &mut Octets,
@@ -143,6 +150,7 @@ fn add_beside<K: Keeper>(
 ) -> Result<(), AllocError> {
     match call {
         "sql" => add_number(alloc, out, other, place.path, text),
+        "put" => add_put(place, out, text),
         "made" => add_made(place, out, text),
         "file" => add_file(place, out, text),
         _ => out.extend_from_slice(b"no such call"),
@@ -165,9 +173,11 @@ fn add_number<K: Keeper>(
     let Ok(store) = Store::open(alloc, conn) else {
         return out.extend_from_slice(b"not opened");
     };
-    let closed = keeper.hand_back(store).is_ok();
+    keeper.hand_back(store);
     match found {
-        Ok(number) if closed => out.extend_from_slice(format!(in alloc; "{number}")?.as_bytes()),
+        Ok(number) if keeper.take_close_error().is_none() => out.extend_from_slice(format!(in alloc;
+            "{number}"
+        )?.as_bytes()),
         _ => out.extend_from_slice(b"refused"),
     }
 }
@@ -189,7 +199,8 @@ fn add_locked<K: Keeper, T: MailSink>(
         return out.extend_from_slice(b"not taken");
     };
     let ran = add_run(alloc, out, keeper, sink, run);
-    if other.hand_back(store).is_err() {
+    other.hand_back(store);
+    if other.take_close_error().is_some() {
         return out.extend_from_slice(b" not closed");
     }
     ran

@@ -9,6 +9,7 @@ use mailstore::Refusal;
 use octets::{Octets, parse_decimal, write_decimal};
 use sievedrun::drive::drive;
 use sievedrun::fault::Fault;
+use sievedwords::CommandLine;
 use sqlite::{Connection, Error};
 use std::alloc::{AllocError, Global};
 use std::format;
@@ -37,7 +38,7 @@ const FAULTS: [Fault; 16] = [
 ];
 
 /// The words of a delivery to alice.
-const DELIVERY: &str = "deliver --db F --to alice@example.org alice";
+const DELIVERY: &[u8] = b"deliver --db F --to alice@example.org alice";
 
 /// Runs on a store in memory, whose messages leave it into memory.
 #[derive(Drop)]
@@ -64,8 +65,8 @@ impl MemoryRuns {
         made
     }
 
-    /// Appends what comes of a row of two columns: `new` makes the database, `busy`, `fail` and `nowhere` say what the
-    /// keeper and the sink refuse, `mails` delivers, and `kept` tells what the sink has.
+    /// Appends what comes of a row of two columns: `new` makes the database, `busy`, `unclosed`, `fail` and `nowhere` say what
+    /// the keeper and the sink refuse, `mails` delivers, and `kept` tells what the sink has.
     fn add_set(
         &mut self,
         alloc: Global,
@@ -79,6 +80,7 @@ impl MemoryRuns {
             "mails" => return self.deliver(alloc, out, number),
             "kept" => return add_messages(out, self.sink.messages()),
             "busy" => self.keeper.be_busy_after(number),
+            "unclosed" => self.keeper.fail_close_after(number),
             "fail" => self.sink.fail_after(number),
             "nowhere" => self.sink.refuse_maildir(),
             _ => return out.extend_from_slice(b"no such call"),
@@ -152,7 +154,7 @@ pub fn answer<K: Keeper, T: MailSink>(
     let [call, text, input] = given else {
         return out.extend_from_slice(b"not that many columns");
     };
-    let (words, input) = (text_in(text.as_slice()), input.as_slice());
+    let (words, input) = (text.as_slice(), input.as_slice());
     match text_in(call.as_slice()) {
         call @ ("run" | "full") => {
             let run = Run {
@@ -163,9 +165,9 @@ pub fn answer<K: Keeper, T: MailSink>(
             };
             add_run(alloc, out, keeper, sink, run)
         }
-        "told" => add_told(alloc, out, words),
+        "told" => add_told(alloc, out, text_in(words)),
         "send" => talk::add_sent(alloc, out, keeper, path, input),
-        call => talk::answer(alloc, out, keeper, path, call, text.as_slice(), input),
+        call => talk::answer(alloc, out, keeper, path, call, words, input),
     }
 }
 
@@ -174,7 +176,7 @@ pub fn answer<K: Keeper, T: MailSink>(
 pub struct Run<'a> {
     /// The path of the store, for which `F` stands in the words.
     pub path: &'a str,
-    pub words: &'a str,
+    pub words: &'a [u8],
     pub input: &'a [u8],
     /// From which of its calls on the output takes nothing more.
     pub writes: u64,
@@ -188,7 +190,7 @@ pub fn add_run<K: Keeper, T: MailSink>(
     sink: &mut T,
     run: Run<'_>,
 ) -> Result<(), AllocError> {
-    let words = words_of(alloc, run.words, run.path)?;
+    let words = CommandLine::new(alloc, words_of(alloc, run.words, run.path)?)?;
     let mut left = run.input;
     let mut output = Takes::new(alloc, run.writes);
     let mut faults = Vec::new(alloc);

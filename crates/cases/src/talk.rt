@@ -5,7 +5,7 @@ use casefiles::add_parts;
 use keepers::Keeper;
 use octets::{Octets, parse_decimal};
 use sievedrun::fault::Fault;
-use sievedrun::session::serve_one;
+use sievedrun::session::{serve_client, serve_one};
 use std::alloc::{AllocError, Global};
 use std::format;
 use std::io::ErrorKind;
@@ -28,14 +28,9 @@ pub fn add_sent<K: Keeper>(
     command: &[u8],
 ) -> Result<(), AllocError> {
     let sent = after_login(alloc, command)?;
+    let mut input = at_most(usize::MAX, sent.as_slice());
     let mut output = Takes::new(alloc, NEVER);
-    let ended = serve(
-        alloc,
-        keeper,
-        path,
-        at_most(usize::MAX, sent.as_slice()),
-        &mut output,
-    );
+    let ended = serve_one(alloc, path, &mut input, &mut output, keeper);
     let answers = after_greeting(output.taken.as_slice());
     match answers.strip_prefix(LOGGED_IN) {
         Some(answer) if ended.is_ok() => out.extend_from_slice(answer),
@@ -49,8 +44,9 @@ fn after_login(alloc: Global, command: &[u8]) -> Result<Octets, AllocError> {
     Ok(sent)
 }
 
-/// Appends how a session ended, and what the client was told: all of it, or what stands after the greeting. The number
-/// is how many octets a read gives at most, or of the call from which on the input or the output fails.
+/// Appends how a session ended, and what the client was told: all of it, or what stands after the greeting; and then what was
+/// told of the store, if anything, after a `|`. The number is how many octets a read gives at most, or of the call from which
+/// on the input or the output fails.
 pub fn answer<K: Keeper>(
     alloc: Global,
     out: &mut Octets,
@@ -69,9 +65,11 @@ pub fn answer<K: Keeper>(
         "deaf" => (at_most(usize::MAX, input), number, true),
         _ => return out.extend_from_slice(b"no such call"),
     };
-    let mut output = Takes::new(alloc, writes);
-    let ended = serve(alloc, keeper, path, input, &mut output);
-    add_told(alloc, out, ended, output.taken.as_slice(), is_greeted)
+    let (mut input, mut output) = (input, Takes::new(alloc, writes));
+    let mut faults = Vec::new(alloc);
+    let ended = serve_client(alloc, path, &mut input, &mut output, &mut faults, keeper);
+    add_told(alloc, out, ended, output.taken.as_slice(), is_greeted)?;
+    add_faults(out, faults.as_slice())
 }
 
 /// What gives that many octets at a time at most.
@@ -94,18 +92,6 @@ fn broken(calls: u64, left: &[u8]) -> Pieces<'_> {
     }
 }
 
-/// Serves a client that sends this, and takes what it is told.
-fn serve<K: Keeper>(
-    alloc: Global,
-    keeper: &mut K,
-    path: &str,
-    input: Pieces<'_>,
-    output: &mut Takes,
-) -> Result<(), Fault> {
-    let mut input = input;
-    serve_one(alloc, path, &mut input, output, keeper)
-}
-
 /// Appends how a session ended, and what the client was told.
 fn add_told(
     alloc: Global,
@@ -120,6 +106,14 @@ fn add_told(
     } else {
         after_greeting(told)
     })
+}
+
+/// Appends what was told of the store, if anything.
+fn add_faults(out: &mut Octets, faults: &[u8]) -> Result<(), AllocError> {
+    if faults.is_empty() {
+        return Ok(());
+    }
+    add_parts(out, &[Text(b"|"), Text(faults)])
 }
 
 /// Appends how the session ended.

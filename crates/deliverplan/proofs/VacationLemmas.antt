@@ -29,11 +29,10 @@ module _ (own : Addr) (moment : ℕ) (mail : MailSpec) (last : List ℕ → Opti
       → SendsReply own moment mail args key plan → IsVacationPlan own moment mail last reply plan
   sending read key kept plan same known found decided is =
       record {
-        response = Sent key is.reply;
-        is_response = follows read key kept D.Send (Sent key is.reply) same known found decided (is.reply, (is.is_reply, ap (λ k. Sent k is.reply) known));
+        response = Sent key is.octets;
+        is_response = follows read key kept D.Send (Sent key is.octets) same known found decided (is.octets, (is.is_reply, ap (λ k. Sent k is.octets) known));
         vacation = is.vacation;
-        letter = is.letter;
-        remember = is.remember;
+        sent = is.sent;
       }
 
   pub staying_quiet : (read : MailSpec) (key : List ℕ) (kept : Option ℕ) (reason : Reason) (plan : VacationPlan)
@@ -44,6 +43,5 @@ module _ (own : Addr) (moment : ℕ) (mail : MailSpec) (last : List ℕ → Opti
         response = Quiet reason;
         is_response = follows read key kept (D.Quiet reason) (Quiet reason) same known found decided refl;
         vacation = ap (λ r. r.vacation) is;
-        letter = ap (λ r. r.letter) is;
-        remember = ap (λ r. r.remember) is;
+        sent = ap (λ r. r.reply) is;
       }

@@ -1,10 +1,10 @@
 //! What a delivery is to write and to report.
-ghost use Rattle.std.specs.Prelude.{◌≡◌, ◌≤◌, IfOk, OnOk, option_copied};
+ghost use Rattle.std.specs.Prelude.{◌≡◌, ◌≤◌, IfOk, option_copied};
 ghost use Rattle.sievesyntax.specs.Meaning.{Actions};
 ghost use Rattle.mailstore.specs.Account.{Account, delivers};
 ghost use Rattle.mailstore.specs.Cells.{contents};
 ghost use Rattle.deliverplan.specs.Delivered.{Delivers};
-ghost use Rattle.deliverplan.specs.Plans.{IsActingPlan, IsNoticePlan, redirect_letters, with_letter};
+ghost use Rattle.deliverplan.specs.Plans.{IsActingPlan, IsNoticePlan};
 ghost use Rattle.deliverplan.specs.Views.{IsViewOf, moment_under};
 
 use crate::looping::is_looping;
@@ -13,9 +13,9 @@ use crate::outcome::outcome_on;
 use crate::texts::{inbox, spelled};
 use crate::vacation::{VacationPlan, plan_vacation};
 use crate::view::View;
-use addrparts::{Addr, spell};
-use mailstore::{Letter, Plan, Report, VacationReport};
-use octets::{List, Octets, Texts};
+use addrparts::Addr;
+use mailstore::{Plan, Report, VacationReport};
+use octets::{Octets, Texts};
 use sieveexec::{Mail, Outcome};
 use sievelex::ScriptError;
 use sievesyntax::VacArgs;
@@ -71,24 +71,19 @@ fn leave_notice<'m>(
 ) -> Result<Plan<'m>, AllocError>
     ensures { IfOk result (IsNoticePlan moment mail.now text.now) }
 {
-    let copies = inbox(alloc)?;
     let filed = inbox(alloc)?;
     let notice = Octets::from_slice(alloc, text)?;
-    let told = Octets::from_slice(alloc, text)?;
     Ok(Plan {
         message: mail.message(),
         sender: mail.from(),
         moment,
-        copies,
-        outgoing: List::new(alloc),
-        remember: None,
-        notice: Some(notice),
         report: Report {
             filed,
             sent: Texts::new(alloc),
             vacation: VacationReport::None,
-            notice: Some(told),
+            notice: Some(notice),
         },
+        reply: None,
     })
 }
 
@@ -106,50 +101,18 @@ fn act<'m>(
     ensures { IfOk result (IsActingPlan view.now.address moment mail.now (moment_under view.now.replies)
         (record { filed = filed; sent = targets.now; reply = option_copied reply.entry })) }
 {
-    let copies = filed.try_clone(alloc)?;
     let sent = spelled(alloc, targets)?;
-    let mut outgoing = redirects(alloc, targets)?;
-    let VacationPlan {
-        vacation,
-        letter,
-        remember,
-    } = plan_vacation(alloc, view, mail, moment, reply)?;
-    push_some(&mut outgoing, letter)?;
+    let VacationPlan { vacation, reply } = plan_vacation(alloc, view, mail, moment, reply)?;
     Ok(Plan {
         message: mail.message(),
         sender: mail.from(),
         moment,
-        copies,
-        outgoing,
-        remember,
-        notice: None,
         report: Report {
             filed,
             sent,
             vacation,
             notice: None,
         },
+        reply,
     })
-}
-
-/// The letters that send a message on to these addresses.
-fn redirects(alloc: Global, targets: &[Addr]) -> Result<List<Letter>, AllocError>
-    ensures { IfOk result (λ letters. letters ≡ redirect_letters targets.now) }
-{
-    let mut letters = List::new(alloc);
-    for address in targets {
-        let target = spell(alloc, address)?;
-        letters.push(Letter::Redirect { target })?;
-    }
-    Ok(letters)
-}
-
-/// Appends a letter, if there is one.
-fn push_some(letters: &mut List<Letter>, letter: Option<Letter>) -> Result<(), AllocError>
-    ensures { OnOk result (letters.new ≡ with_letter letters.old letter) }
-{
-    let Some(letter) = letter else {
-        return Ok(());
-    };
-    letters.push(letter)
 }

@@ -5,10 +5,8 @@ ghost use Rattle.sievesyntax.specs.RunState.{inbox as inbox_of};
 
 use addrparts::{Addr, spell};
 use octets::{Octets, Texts};
+use sieveexec::INBOX;
 use std::alloc::{AllocError, Global};
-
-/// The mailbox of a message that no script files.
-const INBOX: &[u8] = b"INBOX";
 
 /// INBOX alone.
 pub(crate) fn inbox(alloc: Global) -> Result<Texts, AllocError>

@@ -4,7 +4,7 @@ ghost use Rattle.deliverplan.specs.Plans.{IsVacationPlan, SendsReply, unsent_pla
 ghost use Rattle.deliverplan.specs.Views.{moment_under};
 
 use crate::view::View;
-use mailstore::{Letter, Remembered, VacationReport};
+use mailstore::{VacationReply, VacationReport};
 use octets::Octets;
 use sieveexec::Mail;
 use sievesyntax::VacArgs;
@@ -18,9 +18,7 @@ use vacreply::{
 pub struct VacationPlan {
     pub vacation: VacationReport,
     /// The response, if one is sent.
-    pub letter: Option<Letter>,
-    /// Its moment, if one is sent.
-    pub remember: Option<Remembered>,
+    pub reply: Option<VacationReply>,
 }
 
 /// What is done about the `vacation` that was executed, if one was.
@@ -58,12 +56,11 @@ fn unsent(vacation: VacationReport) -> VacationPlan
 {
     VacationPlan {
         vacation,
-        letter: None,
-        remember: None,
+        reply: None,
     }
 }
 
-/// The response with this key is sent, and its moment is kept.
+/// The response with this key is sent.
 fn send(
     alloc: Global,
     view: &View,
@@ -76,15 +73,9 @@ fn send(
     ensures { IfOk result (SendsReply view.now.address moment mail.now args.now key) }
 {
     let message = reply_bytes(alloc, args, mail, &view.address, moment)?;
-    let target = Octets::from_slice(alloc, mail.from())?;
-    let sender = Octets::from_slice(alloc, mail.from())?;
+    let handle = key;
     Ok(VacationPlan {
         vacation: VacationReport::Sent,
-        letter: Some(Letter::Reply { target, message }),
-        remember: Some(Remembered {
-            handle: key,
-            sender,
-            moment,
-        }),
+        reply: Some(VacationReply { handle, message }),
     })
 }

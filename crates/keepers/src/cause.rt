@@ -3,9 +3,20 @@ use mailsinks::cause::of_file;
 use sqlite::ErrorCode;
 use std::io::ErrorKind;
 
+/// Of a disk without room for the store, and how room is made.
+const NO_ROOM: &str = "disk is full: remove the reserve file beside the store";
+
 /// Of a lock's file that can't be opened or locked.
 pub fn of_lock(kind: ErrorKind) -> &'static str {
-    of_file(kind).unwrap_or("lock file can't be used")
+    of_file_of_store(kind).unwrap_or("lock file can't be used")
+}
+
+/// Of a file of the store, or beside it, that can't be made, opened or locked; none where nothing more is known of it.
+pub fn of_file_of_store(kind: ErrorKind) -> Option<&'static str> {
+    match kind {
+        ErrorKind::StorageFull => Some(NO_ROOM),
+        _ => of_file(kind),
+    }
 }
 
 /// Of a call that SQLite refused; none where its own name says no more.
@@ -13,7 +24,7 @@ pub fn of_sqlite(code: ErrorCode) -> Option<&'static str> {
     match code {
         ErrorCode::CannotOpen => Some("file can't be opened"),
         ErrorCode::SystemIoFailure => Some("disk can't be read or written"),
-        ErrorCode::DiskFull => Some("disk is full"),
+        ErrorCode::DiskFull => Some(NO_ROOM),
         ErrorCode::DatabaseCorrupt => Some("database is damaged"),
         ErrorCode::TooBig => Some("database or value is too large"),
         ErrorCode::Closed => Some("an earlier failure closed the database"),

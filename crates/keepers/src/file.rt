@@ -1,14 +1,18 @@
 //! A keeper over a file.
-ghost use Rattle.std.specs.Prelude.{◌≡◌, IfErr};
+ghost use Rattle.std.specs.Prelude.{◌≡◌, IfSome};
 ghost use Rattle.mailstore.specs.Refusals.{IsTransient};
 
-use crate::cause::{of_lock, of_sqlite};
+use crate::cause::{of_file_of_store, of_lock, of_sqlite};
 use crate::keeper::{Held, Keeper, released, store_of};
 use mailstore::{Refusal, Store};
 use sqlite::{Connection, Error, ErrorCode, File as Database, FileStore};
 use std::fs::{File, OpenOptions, TryLockError};
 use std::io::ErrorKind;
+use std::os::unix::fs::OpenOptionsExt;
 use std::{format, fs, io};
+
+/// The permissions of a file that is made: its owner reads and writes it, and no one else does. All users' mail is in it.
+const OWNER_ALONE: u32 = 0o600;
 
 /// Keeps the store of one file after the other: asks for the lock on `FILE.lock`, opens, and closes.
 ///
@@ -19,6 +23,8 @@ pub struct FileKeeper<'a> {
     lock: Option<File>,
     waits: bool,
     cause: Option<&'static str>,
+    /// Why the file that was closed last couldn't be, until that is asked for.
+    unclosed: Option<Refusal>,
 }
 
 /// Why no store is given out, and what is known of it.
@@ -36,17 +42,33 @@ impl<'a> FileKeeper<'a> {
             lock: None,
             waits: false,
             cause: None,
+            unclosed: None,
         }
     }
 
-    fn close(&mut self, store: Store<FileStore<Database>>) -> Result<(), Refusal>
-        ensures named { IfErr result IsTransient }
+    /// Opens a store whose lock is held, and keeps what is known of a failure.
+    fn open(&mut self, path: &str, fresh: bool) -> Result<Store<FileStore<Database>>, Held>
+        ensures kept { self.new.lock ≡ self.old.lock }
+        ensures closed { self.new.unclosed ≡ self.old.unclosed }
+    {
+        match opened(self.rt, path, fresh) {
+            Ok(store) => Ok(store),
+            Err(failure) => {
+                self.cause = failure.cause;
+                Err(failure.held)
+            }
+        }
+    }
+
+    /// Closes a store, and keeps what is known of a failure.
+    fn close(&mut self, store: Store<FileStore<Database>>)
+        ensures named { IfSome self.new.unclosed IsTransient }
         ensures kept { self.new.lock ≡ self.old.lock }
     {
         let (conn, said) = released(store);
         let closed = conn.close();
         self.cause = cause_at_end(said, &closed);
-        Ok(closed?)
+        self.unclosed = closed.err().map(Refusal::from);
     }
 }
 
@@ -64,15 +86,17 @@ impl Keeper for FileKeeper<'_> {
 
     ghost is_out = { λ k. is_some k.lock };
 
+    ghost unclosed = { λ k. k.unclosed };
+
     fn wait_for_lock(&mut self, waits: bool) {
         self.waits = waits;
     }
 
-    fn take(&mut self, path: &str, fresh: bool) -> Result<Store<FileStore<Database>>, Held> {
-        match taken(self.rt, path, self.waits, fresh) {
-            Ok((lock, store)) => {
+    fn lock(&mut self, path: &str) -> Result<(), Held> {
+        match locked(self.rt, path, self.waits) {
+            Ok(lock) => {
                 self.lock = Some(lock);
-                Ok(store)
+                Ok(())
             }
             Err(failure) => {
                 self.cause = failure.cause;
@@ -81,14 +105,34 @@ impl Keeper for FileKeeper<'_> {
         }
     }
 
-    fn put_back(&mut self, store: &mut Option<Store<FileStore<Database>>>) -> Result<(), Refusal> {
-        let closed = match store.take() {
-            Some(store) => self.close(store),
-            None => Ok(()),
-        };
+    fn unlock(&mut self) {
+        self.lock = None;
+    }
+
+    fn take(&mut self, path: &str, fresh: bool) -> Result<Store<FileStore<Database>>, Held> {
+        if self.lock.is_some() {
+            return self.open(path, fresh);
+        }
+        self.lock(path)?;
+        match self.open(path, fresh) {
+            Ok(store) => Ok(store),
+            Err(held) => {
+                self.lock = None;
+                Err(held)
+            }
+        }
+    }
+
+    fn put_back(&mut self, store: &mut Option<Store<FileStore<Database>>>) {
+        if let Some(store) = store.take() {
+            self.close(store);
+        }
         // The lock goes last: until the file is closed no other one may open it.
         self.lock = None;
-        closed
+    }
+
+    fn take_close_error(&mut self) -> Option<Refusal> {
+        self.unclosed.take()
     }
 
     fn cause(&self) -> Option<&'static str> {
@@ -107,18 +151,6 @@ fn cause_at_end(said: Option<ErrorCode>, closed: &Result<(), Error>) -> Option<&
     }
 }
 
-/// The lock and the store of a file. The lock is asked for first.
-fn taken(
-    rt: &HostRuntime,
-    path: &str,
-    waits: bool,
-    fresh: bool,
-) -> Result<(File, Store<FileStore<Database>>), Failure> {
-    let lock = locked(rt, path, waits)?;
-    let store = opened(rt, path, fresh)?;
-    Ok((lock, store))
-}
-
 /// The lock on `FILE.lock`, which lasts until the file is dropped.
 fn locked(rt: &HostRuntime, path: &str, waits: bool) -> Result<File, Failure> {
     let Ok(name) = format!(in rt.alloc(); "{path}.lock") else {
@@ -127,6 +159,7 @@ fn locked(rt: &HostRuntime, path: &str, waits: bool) -> Result<File, Failure> {
     let opened = OpenOptions::new()
         .write(true)
         .create(true)
+        .mode(OWNER_ALONE)
         .open(rt, name.as_str());
     let file = opened.map_err(unlocked)?;
     let held = if waits {
@@ -152,13 +185,16 @@ fn unlocked(error: io::Error) -> Failure {
     }
 }
 
-/// The store of a file whose lock is held. Only a new one makes the file where it is absent.
+/// The store of a file whose lock is held. Only a new one makes the file where it is absent. SQLite gives its log the
+/// permissions of the database's file.
 fn opened(
     rt: &HostRuntime,
     path: &str,
     fresh: bool,
 ) -> Result<Store<FileStore<Database>>, Failure> {
-    if !fresh && is_absent(rt, path) {
+    if fresh {
+        make_file(rt, path)?;
+    } else if is_absent(rt, path) {
         return Err(Failure::from(Refusal::NotOurs));
     }
     let conn = Connection::open(rt, path).map_err(unopened)?;
@@ -171,6 +207,24 @@ fn opened(
                 cause: code.and_then(of_sqlite),
             })
         }
+    }
+}
+
+/// Makes an empty file for a new store, before anything is in it that others may not read. One that is there stays as it
+/// is: whether a store can be made in it is SQLite's to say.
+fn make_file(rt: &HostRuntime, path: &str) -> Result<(), Failure> {
+    let made = OpenOptions::new()
+        .write(true)
+        .create_new(true)
+        .mode(OWNER_ALONE)
+        .open(rt, path);
+    match made {
+        Ok(_) => Ok(()),
+        Err(error) if error.kind() == ErrorKind::AlreadyExists => Ok(()),
+        Err(error) => Err(Failure {
+            held: Held::Refused(Refusal::Store),
+            cause: of_file_of_store(error.kind()),
+        }),
     }
 }
 

@@ -1,5 +1,5 @@
 //! What a keeper of a store promises.
-ghost use Rattle.std.specs.Prelude.{◌≡◌, Bool, false, None, is_some, IsTrue, IfOk, IfErr, IfSome, OnOk, OnErr};
+ghost use Rattle.std.specs.Prelude.{◌≡◌, Bool, false, Option, None, is_some, IsTrue, IfOk, IfErr, IfSome, OnOk, OnErr};
 ghost use Rattle.sqlite.specs.Effect.{Database};
 ghost use Rattle.sqlite.specs.Held as sqlite;
 ghost use Rattle.sqlite.specs.Held.{state};
@@ -7,6 +7,7 @@ ghost use Rattle.sqlite.specs.State.{HasCleanDisk};
 ghost use Rattle.mailstore.specs.Schema.{no_schema, mail_schema};
 ghost use Rattle.mailstore.specs.Connection.{StaysSame};
 ghost use Rattle.mailstore.specs.Account.{no_accounts};
+ghost use Rattle.mailstore.specs.declared.refusal.Refusal.{Refusal};
 ghost use Rattle.mailstore.specs.Refusals.{IsTransient};
 ghost use Rattle.mailstore.specs.Shows.{Presents};
 ghost use Rattle.keepers.specs.Taken.{IsTaken};
@@ -46,15 +47,37 @@ pub trait Keeper {
     /// What the tables hold between two calls, where it tells them.
     ghost holds: { Self → Database };
 
-    /// Whether a store was taken and not handed back yet.
+    /// Whether the lock was taken, alone or with a store, and not given back yet.
     ghost is_out: { Self → Bool };
 
-    /// From now on a call of `take` waits for a lock that another process has, or answers Busy.
+    /// Why the store that was handed back last couldn't be closed, until that is asked for.
+    ghost unclosed: { Self → Option Refusal };
+
+    /// From now on a call of `lock` or `take` waits for a lock that another process has, or answers Busy.
     fn wait_for_lock(&mut self, waits: bool)
         ensures same { IsTrue tells → holds self.new ≡ holds self.old }
-        ensures kept { is_out self.new ≡ is_out self.old };
+        ensures kept { is_out self.new ≡ is_out self.old }
+        ensures closed { unclosed self.new ≡ unclosed self.old };
 
-    /// The store at a path: the one that is there, or with `fresh` a new one. Each one is handed back before the next.
+    /// The lock of the store at a path alone: nothing is opened. A store that is taken before it is given back is opened under it.
+    ///
+    /// # Errors
+    ///
+    /// `Busy` where another process has the lock and there is no waiting; else why it can't be had. The tables stay as they are.
+    fn lock(&mut self, path: &str) -> Result<(), Held>
+        ensures same { IsTrue tells → holds self.new ≡ holds self.old }
+        ensures out { OnOk result (IsTrue (is_out self.new)) }
+        ensures kept { OnErr result (is_out self.new ≡ is_out self.old) }
+        ensures closed { unclosed self.new ≡ unclosed self.old };
+
+    /// Gives the lock back, under which no store is out.
+    fn unlock(&mut self)
+        ensures same { IsTrue tells → holds self.new ≡ holds self.old }
+        ensures back { is_out self.new ≡ false }
+        ensures closed { unclosed self.new ≡ unclosed self.old };
+
+    /// The store at a path: the one that is there, or with `fresh` a new one. Each one is handed back before the next. The lock is
+    /// asked for first, but where `lock` has taken it.
     ///
     /// # Errors
     ///
@@ -64,30 +87,35 @@ pub trait Keeper {
         ensures taken { IfOk result (λ store. IsTrue tells → IsTaken fresh (holds self.old) (state Self.S.Store store).now) }
         ensures refused { OnErr result (IsTrue tells → holds self.new ≡ holds self.old) }
         ensures out { OnOk result (IsTrue (is_out self.new)) }
-        ensures kept { OnErr result (is_out self.new ≡ is_out self.old) };
+        ensures kept { OnErr result (is_out self.new ≡ is_out self.old) }
+        ensures closed { unclosed self.new ≡ unclosed self.old };
 
-    /// Takes the store back out of the place that it is given in, and closes it.
-    ///
-    /// # Errors
-    ///
-    /// `Store` or `Memory` where it couldn't be closed. What was committed stays, and the next one to take the store
-    /// finds it.
-    fn put_back(&mut self, store: &mut Option<Store<Self::S>>) -> Result<(), Refusal>
+    /// Takes the store back out of the place that it is given in, closes it, and gives the lock back. Where it can't be closed what was
+    /// committed stays, and the next one to take the store finds it; `take_close_error` tells of it.
+    fn put_back(&mut self, store: &mut Option<Store<Self::S>>)
         requires { IsTrue (is_some store.old) }
         ensures held { IfSome store.old (λ given. IsTrue tells → holds self.new ≡ (state Self.S.Store given).now) }
         ensures back { is_out self.new ≡ false }
         ensures emptied { store.new ≡ None }
-        ensures named { IfErr result IsTransient };
+        ensures named { IfSome (unclosed self.new) IsTransient };
 
-    /// Hands a taken store back. Errors are those of `put_back`.
-    final fn hand_back(&mut self, store: Store<Self::S>) -> Result<(), Refusal>
+    /// Hands a taken store back, as `put_back` does.
+    final fn hand_back(&mut self, store: Store<Self::S>)
         ensures held { IsTrue tells → holds self.new ≡ (state Self.S.Store store).now }
         ensures back { is_out self.new ≡ false }
-        ensures named { IfErr result IsTransient }
+        ensures named { IfSome (unclosed self.new) IsTransient }
     {
         let mut given = Some(store);
         self.put_back(&mut given)
     }
+
+    /// Why the store that was handed back last couldn't be closed, `Store` or `Memory`, where nobody has asked for that
+    /// yet; none where it was closed.
+    fn take_close_error(&mut self) -> Option<Refusal>
+        ensures error { result ≡ unclosed self.old }
+        ensures asked { unclosed self.new ≡ None }
+        ensures same { IsTrue tells → holds self.new ≡ holds self.old }
+        ensures kept { is_out self.new ≡ is_out self.old };
 
     /// What the system or SQLite said of the last failure that this keeper, or a store that it took back, answered as
     /// `Store`: a text for a person, without a line end. None where nothing is known of it.

@@ -1,16 +1,25 @@
 //! A keeper over memory, for tests.
+ghost use Rattle.std.specs.Prelude.{◌≡◌};
+
 use crate::keeper::{Held, Keeper, store_of};
 use mailstore::{Refusal, Store};
 use sqlite::{Connection, MemStore};
 use std::alloc::{AllocError, Global};
 
-/// Keeps one store in memory, whatever path it is asked for, and answers one call that was chosen as Busy.
+/// Keeps one store in memory, whatever path it is asked for, answers one call for the lock that was chosen as Busy, and can't close
+/// at another one.
 #[derive(Drop)]
 pub struct MemoryKeeper {
     conn: Option<Connection<MemStore>>,
     alloc: Global,
-    /// How many calls of `take` come before the one that is answered as Busy.
+    /// Whether the lock is out, alone or with the store.
+    locked: bool,
+    /// How many times the lock is asked for before the one that is answered as Busy.
     busy_after: Option<u64>,
+    /// How many stores are handed back before the one that can't be closed.
+    unclosed_after: Option<u64>,
+    /// Why the store that was handed back last couldn't be closed, until that is asked for.
+    unclosed: Option<Refusal>,
 }
 
 impl MemoryKeeper {
@@ -24,20 +33,39 @@ impl MemoryKeeper {
         MemoryKeeper {
             conn: Some(conn),
             alloc,
+            locked: false,
             busy_after: None,
+            unclosed_after: None,
+            unclosed: None,
         }
     }
 
-    /// The one call of `take` after that many others is Busy.
+    /// Of the calls that ask for the lock (`lock`, and `take` where it isn't out) the one after that many others is Busy.
     pub fn be_busy_after(&mut self, calls: u64) {
         self.busy_after = Some(calls);
+    }
+
+    /// The one store that is handed back after that many others can't be closed. What was committed stays.
+    pub fn fail_close_after(&mut self, calls: u64) {
+        self.unclosed_after = Some(calls);
+    }
+
+    /// Counts a call that asks for the lock, and says whether it is the one that is Busy.
+    fn is_chosen(&mut self) -> bool
+        ensures conn { self.new.conn ≡ self.old.conn }
+        ensures locked { self.new.locked ≡ self.old.locked }
+        ensures unclosed { self.new.unclosed ≡ self.old.unclosed }
+    {
+        let calls = self.busy_after;
+        self.busy_after = calls.and_then(|calls| calls.checked_sub(1));
+        calls == Some(0)
     }
 }
 
 impl Keeper for MemoryKeeper {
     type S = MemStore;
 
-    ghost use Rattle.std.specs.Prelude.{true, not, is_some, refl};
+    ghost use Rattle.std.specs.Prelude.{true, refl};
     ghost use Rattle.sqlite.proofs.Callers.{memory_is_clean};
     ghost use Rattle.keepers.specs.Memory.{held_by};
 
@@ -45,21 +73,36 @@ impl Keeper for MemoryKeeper {
 
     ghost holds = { λ k. held_by k.conn };
 
-    ghost is_out = { λ k. not (is_some k.conn) };
+    ghost is_out = { λ k. k.locked };
+
+    ghost unclosed = { λ k. k.unclosed };
 
     fn wait_for_lock(&mut self, _waits: bool) {}
 
+    fn lock(&mut self, _path: &str) -> Result<(), Held> {
+        if self.is_chosen() {
+            return Err(Held::Busy);
+        }
+        self.locked = true;
+        Ok(())
+    }
+
+    fn unlock(&mut self) {
+        self.locked = false;
+    }
+
     fn take(&mut self, _path: &str, fresh: bool) -> Result<Store<MemStore>, Held> {
-        let calls = self.busy_after;
-        self.busy_after = calls.and_then(|calls| calls.checked_sub(1));
-        if calls == Some(0) {
+        if !self.locked && self.is_chosen() {
             return Err(Held::Busy);
         }
         let Some(conn) = self.conn.take() else {
             return Err(Held::Busy);
         };
         match store_of(self.alloc, conn, fresh) {
-            Ok(store) => Ok(store),
+            Ok(store) => {
+                self.locked = true;
+                Ok(store)
+            }
             Err((refusal, conn, _)) => {
                 self.conn = Some(conn);
                 Err(Held::Refused(refusal))
@@ -67,11 +110,18 @@ impl Keeper for MemoryKeeper {
         }
     }
 
-    fn put_back(&mut self, store: &mut Option<Store<MemStore>>) -> Result<(), Refusal> {
+    fn put_back(&mut self, store: &mut Option<Store<MemStore>>) {
         if let Some(store) = store.take() {
             self.conn = Some(store.release());
         }
-        Ok(())
+        self.locked = false;
+        let calls = self.unclosed_after;
+        self.unclosed_after = calls.and_then(|calls| calls.checked_sub(1));
+        self.unclosed = (calls == Some(0)).then_some(Refusal::Store);
+    }
+
+    fn take_close_error(&mut self) -> Option<Refusal> {
+        self.unclosed.take()
     }
 
     fn cause(&self) -> Option<&'static str> {

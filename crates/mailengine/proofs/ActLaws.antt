@@ -17,7 +17,8 @@ use Rattle.deliverplan.specs.Delivered.{Delivers}
 use Rattle.deliverplan.proofs.DeliveryLaws.{one_delivery}
 use Rattle.mailengine.specs.declared.answer.Answer.{Answer}
 use Rattle.mailengine.specs.Limits.{limit_refusal}
-use Rattle.mailengine.specs.AccountEvents.{row_with, DeliversTo, active_text}
+use Rattle.mailstore.specs.Account.{row_with}
+use Rattle.mailengine.specs.AccountEvents.{DeliversTo, active_text}
 use Rattle.mailengine.specs.OwnActs as own
 use Rattle.mailengine.specs.OwnActs.{Act, ActsAlone, Alone, CommandsAlone, RepliesAlone, ReceivesIn, JoinsIn, TakesRowAlone, TakesAloneIn, TakesFirstAlone, TakesMailAloneIn}
 

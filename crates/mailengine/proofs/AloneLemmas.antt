@@ -31,7 +31,8 @@ use Rattle.mailengine.specs.declared.event.Event.TheVariants.{Open, Give, Step, 
 use Rattle.mailengine.specs.declared.answer.Answer.{Answer}
 use Rattle.mailengine.specs.declared.answer.Answer.TheVariants.{Delivered, Added, Taken, Refused, MailTaken}
 use Rattle.mailengine.specs.Limits.{limit_refusal}
-use Rattle.mailengine.specs.AccountEvents.{row_with, Refuses, DeliversIn, DeliversUnder, Delivery, AddsUnder, Addition, TakesRow, TakesIn, Taking, TakesFirst, TakesMailIn, MailTaking}
+use Rattle.mailstore.specs.Account.{row_with}
+use Rattle.mailengine.specs.AccountEvents.{Refuses, DeliversIn, DeliversUnder, Delivery, AddsUnder, Addition, TakesRow, TakesIn, Taking, TakesFirst, TakesMailIn, MailTaking}
 use Rattle.mailengine.specs.OwnActs.{Act, Commands, LogsIn, Receives, Joins, TakesOut, TakesMail, TakesFirstAlone, TakesMailAloneIn, RepliesAlone, CommandsAlone, admits, ReceivesIn, JoinsIn, TakesRowAlone, TakesAloneIn, ActsAlone, Alone, is_user, when_of, is_welcome, login_acts, text_acts, command_acts, item_acts, step_acts, is_lost, event_acts, acts_in, acts, IsAlone}
 use Rattle.mailengine.specs.World.{World, InSession, Opens, Steps, Happens, MayRefuse, IsRefused, Next, Runs}
 

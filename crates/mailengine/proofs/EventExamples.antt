@@ -14,7 +14,8 @@ use Rattle.deliverplan.specs.Delivered.{Acts, kept, Silent, report_of}
 use Rattle.mailengine.specs.declared.answer.Answer.{Answer}
 use Rattle.mailengine.specs.declared.answer.Answer.TheVariants.{Delivered, Added, Taken, Refused}
 use Rattle.mailengine.specs.Limits.{IsNewUser}
-use Rattle.mailengine.specs.AccountEvents.{DeliversIn, Delivery, AddsUnder, Addition, row_with, TakesIn, TakesRow, Taking}
+use Rattle.mailstore.specs.Account.{row_with}
+use Rattle.mailengine.specs.AccountEvents.{DeliversIn, Delivery, AddsUnder, Addition, TakesIn, TakesRow, Taking}
 use Rattle.mailengine.proofs.AloneLemmas.{put_own, put_other, delivery_other}
 
 abbrev alice : List ℕ

@@ -24,7 +24,8 @@ use Rattle.sessions.specs.Clients.{Client, new_client, client_given}
 use Rattle.sessions.specs.Counts.{SessionView, new_session}
 use Rattle.sessions.specs.GivenUp.{text_given_up, client_given_up, progress_given_up}
 use Rattle.sessions.specs.Replies.{capabilities}
-use Rattle.sessions.specs.Steps.{IsStep, progress_of, may_lack, may_fail}
+use Rattle.sessions.specs.Steps.{IsStep, StepsOver, AsksFor, progress_of, may_lack, may_fail}
+use Rattle.msproto.specs.declared.commands.Command.{Command}
 use Rattle.sessions.specs.declared.progress.Progress.{Progress}
 use Rattle.sessions.specs.declared.progress.Progress.TheVariants as p
 use Rattle.mailengine.specs.declared.event.Event.{Event}
@@ -32,7 +33,7 @@ use Rattle.mailengine.specs.declared.event.Event.TheVariants.{Open, Give, Step, 
 use Rattle.mailengine.specs.declared.answer.Answer.{Answer}
 use Rattle.mailengine.specs.declared.answer.Answer.TheVariants.{Out, Ignored, Refused}
 use Rattle.mailengine.specs.World.{World, Clients, with_accounts, Ignores, Becomes, InSession, Opens, Steps, Happens, MayRefuse, with_session, without_session, MayLack, MayFail, if_open, is_closed, Next}
-use Rattle.mailengine.specs.Hosts.{clients_of, HasClients, host, Implements, IsSessionEvent, IsEvent, EventCrashLeaves, answer_by, answer_of, TurnsBy, MayTurnBy, MayRefuseDelivery, MayRefuseAddition}
+use Rattle.mailengine.specs.Hosts.{clients_of, AsksStore, HasClients, host, Implements, IsSessionEvent, KeepsClients, IsEvent, EventCrashLeaves, answer_by, answer_of, TurnsBy, MayTurnBy, MayRefuseDelivery, MayRefuseAddition}
 
 abbrev pub Kept : Type 0
 Kept = BTreeMap ℕ SessionView
@@ -261,6 +262,32 @@ session_event event answer s kept after is clean w had =
 pub ignored_step : (kept after : Kept) (n : ℕ) → None ≡ tree.get nat_cmp kept n → after.entries ≡ kept.entries → IsSessionEvent (Step n) Ignored kept after
 ignored_step kept after n none same = ignored (Step n) kept after n (λ w gone. subst (λ o. InSession w o (Steps w n) Ignored w) (sym gone) (nothing w)) none same
 
+-- ---- a step that asks no store
+
+-- it answered
+pub free_told : (kept after : Kept) (n : ℕ) (v u : SessionView) (progress : Progress) (before written : List ℕ) → Some v ≡ tree.get nat_cmp kept n → tree.Updates nat_cmp kept after n (Some u) → StepsOver v.client u.client progress before written
+    → before ≡ [] → IsSessionEvent (Step n) (Out progress written) kept after
+free_told kept after n v u progress before written one put over none w has =
+    let text : written ≡ over.octets = over.written ∙ ap (λ b. b ++ over.octets) none in (
+      insert w.sessions n u.client,
+      inl (subst (λ t. Happens w (Step n) (Out progress t) (record { accounts = w.accounts; sessions = insert w.sessions n u.client })) (sym text)
+          (stepped w n v.client u.client progress over.octets w.accounts (one_there kept w.sessions n v has one) (over.step w.accounts))),
+      clients_put kept after n u w.sessions put has,
+    )
+
+-- there was no memory for it
+pub free_lacks : (kept : Kept) (n : ℕ) (v : SessionView) → Some v ≡ tree.get nat_cmp kept n → may_lack v.client ≡ true → (w : World) → HasClients kept w.sessions → MayLack w (Step n)
+free_lacks kept n v one may w has = subst (λ o. if_open may_lack o ≡ true) (sym (one_there kept w.sessions n v has one)) may
+
+-- its command asks
+pub free_asks : (kept : Kept) (n : ℕ) (v : SessionView) (d : Client) (command : Command) (before written : List ℕ) → Some v ≡ tree.get nat_cmp kept n → AsksFor v.client d command before written → AsksStore (Step n) kept
+free_asks kept n v d command before written one asks =
+    let fails : may_fail v.client ≡ true = rw (asks.live, asks.first, asks.late, asks.asks) refl in
+    subst (λ o. if_open may_fail (option_map (λ session. session.client) o) ≡ true) one fails
+
+pub free_keeps : (kept after : Kept) (n : ℕ) (v : SessionView) → Some v ≡ tree.get nat_cmp kept n → tree.Updates nat_cmp kept after n (Some v) → KeepsClients kept after
+free_keeps kept after n v one put clients has = clients_back kept after n v clients one put has
+
 -- ---- an event of the accounts
 
 module _ (event : Event) (Row : Accounts → Answer → Accounts → Type 0) (May : Refusal → Type 0) (rows : (w : World) (answer : Answer) (next : World) → with_accounts w (Row w.accounts) answer next → Happens w event answer next)
@@ -323,3 +350,7 @@ event_is event told_of answer told old new kept after is same made = subst (λ e
 
 pub crash_is : (event told_of : Event) (old new : State) (kept : Kept) → event ≡ told_of → Survives old new (EventCrashLeaves told_of (host old kept)) → Survives old new (EventCrashLeaves event (host old kept))
 crash_is event told_of old new kept is made = subst (λ e. Survives old new (EventCrashLeaves e (host old kept))) (sym is) made
+
+-- the same event of sessions alone
+pub session_is : (event told_of : Event) (answer told : Answer) (kept after : Kept) → event ≡ told_of → answer ≡ told → IsSessionEvent told_of told kept after → IsSessionEvent event answer kept after
+session_is event told_of answer told kept after is same made = subst (λ e. IsSessionEvent e answer kept after) (sym is) (subst (λ a. IsSessionEvent told_of a kept after) (sym same) made)

@@ -1,5 +1,5 @@
 -- Reads of one user's account, one after the other.
-use Rattle.std.proofs.Common.{◌≡◌, ◌⊎◌, ℕ, List, Option, Some, None, option_map, Ok, Err, Result, IfOk, IfErr, IsTrue, refl, sym, ap, ◌∙◌, subst}
+use Rattle.std.proofs.Common.{◌≡◌, ◌⊎◌, ℕ, List, Option, Some, None, option_map, Ok, Err, Result, OnOk, IfOk, IfErr, IsTrue, refl, sym, ap, ◌∙◌, subst}
 use Rattle.std.specs.FinMap.{get}
 use Rattle.sqlite.specs.State.{State, HasCleanDisk}
 use Rattle.mailstore.specs.declared.profile.Profile.{Profile}
@@ -7,10 +7,11 @@ use Rattle.mailstore.specs.declared.refusal.Refusal.{Refusal}
 use Rattle.mailstore.specs.declared.refusal.Refusal.TheVariants.{NoUser}
 use Rattle.mailstore.specs.Account.{Account, Accounts}
 use Rattle.mailstore.specs.AccountRows.{profile_of}
-use Rattle.mailstore.specs.Promises.{IsFree, OfUser, Reads, ReadsProfile}
+use Rattle.mailstore.specs.Promises.{IsFree, OfUser, Reads, ReadsEntered, ReadsProfile}
 use Rattle.mailstore.specs.Refusals.{IsTransient}
 use Rattle.mailstore.specs.Shows.{Presents}
 use Rattle.mailstore.proofs.KeepLemmas.{keeps_ok, keeps_refused, keeps_then, mid_shows, transient_other, reads_answer}
+use Rattle.mailstore.proofs.EnterLemmas.{enters_both, enters_failed}
 use Rattle.mailtables.proofs.ResultLemmas.{on_ok}
 use Rattle.mailtables.proofs.WriteLemmas.{clean_before}
 use Rattle.mailengine.specs.AccountEvents.{text_named, active_text}
@@ -108,6 +109,21 @@ pub looks_then : {X Z : Type 0} (user : List ℕ) (P : X → Account → Type 0)
     → LooksUp user R a c q
 looks_then user P R a b c r x was early (Ok z) late = looks_both user P R R a b c r x was early z z (λ account one two. two) late
 looks_then user P R a b c r x was early (Err e) late = looks_then_refused user P R R a b c r x was early e (Err e) refl late
+
+-- ---- a read of the account that was entered
+
+module _ {X Y Z : Type 0} (user : List ℕ) (P : X → Account → Type 0) (Q : Y → Account → Type 0) (R : Z → Account → Type 0) (a b c : State) (r : Result X Refusal) (x : X) (was : r ≡ Ok x) (early : LooksUp user P a b r) (q : Result Y Refusal) (late : ReadsEntered user Q b c q) where
+  pub looks_entered : (y : Y) → q ≡ Ok y → (z : Z) → ((account : Account) → P x account → Q y account → R z account) → LooksUp user R a c (Ok z)
+  looks_entered y is z both = record { reads = enters_both user P a b c r x was early.reads Q q y is late R z both; sure = λ clean. tt }
+
+  pub looks_failed : (end : Result Z Refusal) → OnOk end ⊥ → IfErr end IsTransient → LooksUp user R a c end
+  looks_failed end none transient = record { reads = enters_failed user P a b c r x was early.reads Q q late R end none transient; sure = λ clean. sure_of_transient end (IsTrue a.is_open) transient }
+
+-- and what it answers is the answer
+pub looks_enters : {X Z : Type 0} (user : List ℕ) (P : X → Account → Type 0) (R : Z → Account → Type 0) (a b c : State) (r : Result X Refusal) (x : X) → r ≡ Ok x → LooksUp user P a b r → (q : Result Z Refusal) → ReadsEntered user R b c q
+    → LooksUp user R a c q
+looks_enters user P R a b c r x was early (Ok z) late = looks_entered user P R R a b c r x was early (Ok z) late z refl z (λ account one two. two)
+looks_enters user P R a b c r x was early (Err e) late = looks_failed user P R R a b c r x was early (Err e) late (Err e) tt late.named
 
 -- ---- the text of the active script
 

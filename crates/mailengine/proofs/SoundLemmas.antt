@@ -27,7 +27,7 @@ use Rattle.deliverplan.specs.Delivered.{Disposition, Acts, Tells, Response, Sile
 use Rattle.mailengine.specs.declared.event.Event.{Event}
 use Rattle.mailengine.specs.declared.answer.Answer.{Answer}
 use Rattle.mailengine.specs.Limits.{limit_refusal, IsNewUser}
-use Rattle.mailengine.specs.AccountEvents.{row_with}
+use Rattle.mailstore.specs.Account.{row_with}
 use Rattle.mailengine.specs.OwnActs as own
 use Rattle.mailengine.specs.OwnActs.{Act, ActsAlone, Alone, CommandsAlone, RepliesAlone, ReceivesIn, JoinsIn, TakesRowAlone, TakesAloneIn, TakesFirstAlone, TakesMailAloneIn, fresh}
 use Rattle.mailengine.specs.Sound.{IsSoundScript, IsSound, AreSound}

@@ -38,7 +38,8 @@ use Rattle.mailengine.specs.declared.event.Event.{Event}
 use Rattle.mailengine.specs.declared.event.Event.TheVariants.{Open, Give, Step, GiveUp, Close, Deliver, AddUser, TakeOut, TakeMail}
 use Rattle.mailengine.specs.declared.answer.Answer.{Answer}
 use Rattle.mailengine.specs.Limits.{limit_refusal}
-use Rattle.mailengine.specs.AccountEvents.{row_with, DeliversIn, DeliversUnder}
+use Rattle.mailstore.specs.Account.{row_with}
+use Rattle.mailengine.specs.AccountEvents.{DeliversIn, DeliversUnder}
 use Rattle.mailengine.specs.OwnActs as own
 use Rattle.mailengine.specs.OwnActs.{Act, ActsAlone, Alone, ReceivesIn, JoinsIn, TakesRowAlone, TakesAloneIn, TakesFirstAlone, TakesMailAloneIn}
 use Rattle.mailengine.specs.World.{World, Next, Runs}

@@ -1,5 +1,5 @@
 -- A row taken out: the reads, and then the write.
-use Rattle.std.proofs.Common.{◌≡◌, ◌==◌, ◌⊎◌, ℕ, Bool, true, false, cond, List, [], ◌∷◌, Option, Some, None, Ok, Err, Result, OnOk, IfOk, IfErr, IsSome, refl, sym, ap, ◌∙◌, subst, inl, inr, eqb-true}
+use Rattle.std.proofs.Common.{◌≡◌, ◌==◌, ◌⊎◌, ℕ, Bool, true, false, cond, List, [], ◌∷◌, Option, Some, None, Ok, Err, Result, IfOk, IsSome, refl, sym, ap, ◌∙◌, subst, inl, inr, eqb-true}
 use Rattle.sqlite.specs.State.{State, HasCleanDisk}
 use Rattle.mailstore.specs.declared.queue.Outgoing.{Outgoing}
 use Rattle.mailstore.specs.declared.refusal.Refusal.{Refusal}
@@ -12,7 +12,8 @@ use Rattle.sessions.specs.Acts.{HasAccounts}
 use Rattle.sessions.proofs.ActLemmas.{glanced, read_shows, acts_read, acts_made, acts_undone}
 use Rattle.mailengine.specs.declared.answer.Answer.{Answer}
 use Rattle.mailengine.specs.declared.answer.Answer.TheVariants.{Taken, Refused}
-use Rattle.mailengine.specs.AccountEvents.{TakesRow, TakesIn, Taking, row_with}
+use Rattle.mailstore.specs.Account.{row_with}
+use Rattle.mailengine.specs.AccountEvents.{TakesRow, TakesIn, Taking}
 use Rattle.mailengine.specs.Hosts.{TurnsBy, MayTurnBy, ActsTaking}
 use Rattle.mailengine.specs.Lookups.{LooksUp}
 
@@ -29,8 +30,8 @@ module _ (user : List ℕ) (id : ℕ) where
   abbrev Row : Accounts → Answer → Accounts → Type 0
   Row accounts = Taking accounts user id
 
-  abbrev Queue : List Outgoing → Account → Type 0
-  Queue queue account = queue ≡ account.queue
+  abbrev Found : Option Outgoing → Account → Type 0
+  Found row account = row ≡ row_with id account.queue
 
   transient_turn : (e : Refusal) (accounts : Accounts) → IsTransient e → TurnsBy Row IsTransient (Refused e) accounts accounts
   transient_turn e accounts transient = inr (e, transient, refl, refl)
@@ -38,8 +39,8 @@ module _ (user : List ℕ) (id : ℕ) where
   absent_turn : (accounts : Accounts) → IsFree user accounts → TurnsBy Row IsTransient (Refused NoUser) accounts accounts
   absent_turn accounts free = inl (subst (λ o. TakesIn accounts user id o (Refused NoUser) accounts) (sym free) (record { refused = refl; stays = refl }))
 
-  -- the queue couldn't be read
-  pub taking_unread : (a b : State) (e : Refusal) (q : Result Outgoing Refusal) → q ≡ Err e → LooksUp user Queue a b (Err e) → ActsTaking user id a b q
+  -- the row couldn't be read
+  pub taking_unread : (a b : State) (e : Refusal) (q : Result Outgoing Refusal) → q ≡ Err e → LooksUp user Found a b (Err e) → ActsTaking user id a b q
   taking_unread a b e q is look = subst (λ o. ActsTaking user id a b o) (sym is)
       (acts_read a b (TurnsBy Row IsTransient (Refused e)) (MayTurnBy Row) (Err e) (glanced a b (Err e) look.reads.keeps) (λ clean accounts shown. turn clean accounts shown look.reads.named))
     where
@@ -48,41 +49,37 @@ module _ (user : List ℕ) (id : ℕ) where
           subst (λ f. TurnsBy Row IsTransient (Refused f) accounts accounts) (sym absent) (absent_turn accounts (look.reads.absent clean accounts (shown (look.sure clean absent)) absent))
       turn clean accounts shown (inr transient) = transient_turn e accounts transient
 
-  module _ (a b : State) (r : Result (List Outgoing) Refusal) (queue : List Outgoing) (was : r ≡ Ok queue) (look : LooksUp user Queue a b r) where
-    found : HasCleanDisk b → (accounts : Accounts) → Presents a.now accounts → OfUser accounts user (Queue queue)
-    found clean accounts p = subst (λ q. IfOk q (λ x. OfUser accounts user (Queue x))) was (look.reads.found clean accounts p)
+  module _ (a b : State) (r : Result (Option Outgoing) Refusal) (o : Option Outgoing) (was : r ≡ Ok o) (look : LooksUp user Found a b r) where
+    found : HasCleanDisk b → (accounts : Accounts) → Presents a.now accounts → OfUser accounts user (Found o)
+    found clean accounts p = subst (λ q. IfOk q (λ x. OfUser accounts user (Found x))) was (look.reads.found clean accounts p)
 
     -- what the row of the event is, by the row that was found
-    by_row : (o : Option Outgoing) (answer : Answer) (later accounts : Accounts) → row_with id queue ≡ o → OfUser accounts user (Queue queue) → TakesRow accounts user o answer later → Row accounts answer later
-    by_row o answer later accounts is own takes =
-        subst (λ x. TakesIn accounts user id x answer later) (sym own.1) (subst (λ x. TakesRow accounts user x answer later) (sym (ap (row_with id) (sym own.2) ∙ is)) takes)
+    by_row : (answer : Answer) (later accounts : Accounts) → OfUser accounts user (Found o) → TakesRow accounts user o answer later → Row accounts answer later
+    by_row answer later accounts own takes = subst (λ x. TakesIn accounts user id x answer later) (sym own.1) (subst (λ x. TakesRow accounts user x answer later) own.2 takes)
 
     -- no row has the number
-    pub taking_none : row_with id queue ≡ None → ActsTaking user id a b (Err NoRow)
+    pub taking_none : o ≡ None → ActsTaking user id a b (Err NoRow)
     taking_none is = acts_read a b (TurnsBy Row IsTransient (Refused NoRow)) (MayTurnBy Row) (Err NoRow) (glanced a b r look.reads.keeps)
         (λ clean accounts shown.
-        let p = (read_shows a b r queue was look.reads.keeps clean accounts shown).0 in
-        inl (by_row None (Refused NoRow) accounts accounts is (found clean accounts p) (record { refused = refl; stays = refl })))
+        let p = (read_shows a b r o was look.reads.keeps clean accounts shown).0 in
+        inl (by_row (Refused NoRow) accounts accounts (found clean accounts p) (subst (λ x. TakesRow accounts user x (Refused NoRow) accounts) (sym is) (record { refused = refl; stays = refl }))))
 
-    -- no memory for the row
-    pub taking_failed : (q : Result Outgoing Refusal) → OnOk q ⊥ → IfErr q IsTransient → ActsTaking user id a b q
-    taking_failed (Ok row) undone transient = absurd undone
-    taking_failed (Err e) undone transient = acts_read a b (TurnsBy Row IsTransient (Refused e)) (MayTurnBy Row) (Err e) (glanced a b r look.reads.keeps) (λ clean accounts shown. transient_turn e accounts transient)
-
-    module _ (row : Outgoing) (is : row_with id queue ≡ Some row) (c : State) (w : Result (Unit {0}) Refusal) (late : WritesUser user (takes_out id) b c w) where
+    module _ (row : Outgoing) (is : o ≡ Some row) (c : State) (w : Result (Unit {0}) Refusal) (late : WritesUser user (takes_out id) b c w) where
       fits : HasCleanDisk b → (accounts : Accounts) → Presents a.now accounts → HasUser user accounts × Row accounts (Taken row) (with_user accounts user (takes_out id))
       fits clean accounts p =
-          let own = found clean accounts p in (
+          let own = found clean accounts p in
+          let numbered : row.id ≡ id = row_numbered id own.0.queue row (sym own.2 ∙ is) in (
             subst IsSome (sym own.1) refl,
-            by_row (Some row) (Taken row) (with_user accounts user (takes_out id)) accounts is own (record { taken = refl; changed = ap (λ n. with_user accounts user (takes_out n)) (sym (row_numbered id queue row is)) }),
+            by_row (Taken row) (with_user accounts user (takes_out id)) accounts own
+                (subst (λ x. TakesRow accounts user x (Taken row) (with_user accounts user (takes_out id))) (sym is) (record { taken = refl; changed = ap (λ n. with_user accounts user (takes_out n)) (sym numbered) })),
           )
 
       pub taking_made : (y : Unit {0}) → w ≡ Ok y → ActsTaking user id a c (Ok row)
       taking_made y done =
-          acts_made a b c r queue was look.reads.keeps (HasUser user) (λ all. with_user all user (takes_out id)) w late.made late.settled (λ clean tables. late.same clean) late.crash (TurnsBy Row IsTransient (Taken row)) (MayTurnBy Row) y row done
+          acts_made a b c r o was look.reads.keeps (HasUser user) (λ all. with_user all user (takes_out id)) w late.made late.settled (λ clean tables. late.same clean) late.crash (TurnsBy Row IsTransient (Taken row)) (MayTurnBy Row) y row done
           (λ clean accounts p. let f = fits clean accounts p in (f.0, inl f.1, (Taken row, f.1)))
 
       pub taking_undone : (e : Refusal) (q : Result Outgoing Refusal) → w ≡ Err e → q ≡ Err e → IsTransient e → ActsTaking user id a c q
       taking_undone e q refused same transient = subst (λ o. ActsTaking user id a c o) (sym same)
-          (acts_undone a b c r queue was look.reads.keeps (HasUser user) (λ all. with_user all user (takes_out id)) w late.made late.settled (λ clean tables. late.same clean) late.crash (TurnsBy Row IsTransient (Refused e)) (MayTurnBy Row) e (Err e) refused
+          (acts_undone a b c r o was look.reads.keeps (HasUser user) (λ all. with_user all user (takes_out id)) w late.made late.settled (λ clean tables. late.same clean) late.crash (TurnsBy Row IsTransient (Refused e)) (MayTurnBy Row) e (Err e) refused
           (λ told. told transient) (λ accounts. transient_turn e accounts transient) (λ clean accounts p. let f = fits clean accounts p in (f.0, (Taken row, f.1))))

@@ -1,11 +1,10 @@
 -- Events of the accounts alone: a delivery, a new user, a row taken out of the queue, a message taken out of a folder (RFC 5228, 2.10).
-use Rattle.std.specs.Prelude.{◌≡◌, ℕ, ◌==◌, List, [], ◌∷◌, Option, Some, None}
+use Rattle.std.specs.Prelude.{◌≡◌, ℕ, List, [], ◌∷◌, Option, Some, None}
 use Rattle.std.specs.FinMap.{get, insert}
-use Rattle.std.specs.List.{find}
 use Rattle.addrparts.specs.declared.address.Addr.{Addr}
 use Rattle.addrparts.specs.Outbound.{IsBareAddress}
 use Rattle.saslplain.specs.Password.{digest_of}
-use Rattle.mailstore.specs.Account.{Account, Accounts, Scripts, new_user, with_user, messages_in, takes_out, takes_mail}
+use Rattle.mailstore.specs.Account.{Account, Accounts, Scripts, new_user, with_user, messages_in, row_with, takes_out, takes_mail}
 use Rattle.mailstore.specs.declared.queue.Outgoing.{Outgoing}
 use Rattle.mailstore.specs.declared.report.Report.{Report}
 use Rattle.mailstore.specs.declared.refusal.Refusal.{Refusal}
@@ -82,10 +81,6 @@ Addition accounts name address salt password answer later =
     Where (IsNewUser name address password) (AddsUnder accounts name address salt password (get accounts name) answer later) (Refuses BadUser accounts answer later)
 
 -- ---- a row taken out of the queue
-
--- the row with the number, if there is one
-abbrev pub row_with : ℕ → List Outgoing → Option Outgoing
-row_with id rows = find (λ row. row.id == id) rows
 
 -- the row is handed out, and no longer queued; its number isn't used again
 pub record Takes (accounts : Accounts) (user : List ℕ) (row : Outgoing) (answer : Answer) (later : Accounts) : Type 0 where

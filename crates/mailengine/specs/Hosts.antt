@@ -1,12 +1,12 @@
 -- What a store and a map of sessions have of the machine.
-use Rattle.std.specs.Prelude.{◌≡◌, ℕ, ◌⊎◌, List, [], ◌∷◌, map, take, length, Some, None, Ok, Err, Result, IsTrue, IfSome, option_map}
+use Rattle.std.specs.Prelude.{◌≡◌, ℕ, true, ◌⊎◌, List, [], ◌∷◌, map, take, length, Some, None, Ok, Err, Result, IsTrue, IfSome, option_map}
 use Rattle.std.specs.FinMap.{get, from_entries}
 use Rattle.std.specs.Ordering.{nat_cmp}
 use Rattle.std.specs.BTreeMap as tree
 use Rattle.std.specs.BTreeMap.{BTreeMap}
 use Rattle.sqlite_trees.specs.Tree.{Trees}
 use Rattle.sqlite_trees.specs.declared.store.Store.{Ghosts}
-use Rattle.sqlite.specs.Held.{state}
+use Rattle.sqlite.specs.Held.{Held, state}
 use Rattle.sqlite.specs.State.{State, HasCleanDisk, Survives}
 use Rattle.mailstore.specs.Account.{Accounts}
 use Rattle.mailstore.specs.Refusals.{IsTransient}
@@ -19,16 +19,18 @@ use Rattle.mailstore.specs.declared.refusal.Refusal.TheVariants.{Memory, Store, 
 use Rattle.sessions.specs.Acts.{HasAccounts, Acts}
 use Rattle.sessions.specs.Counts.{SessionView}
 use Rattle.sessions.specs.GivenUp.{text_given_up}
-use Rattle.mailengine.specs.declared.event.Event.TheVariants.{Deliver, GiveUp}
+use Rattle.sessions.specs.Steps.{may_fail}
+use Rattle.mailengine.specs.declared.event.Event.TheVariants.{Open, Give, Step, Close, Deliver, GiveUp}
 use Rattle.mailengine.specs.OwnActs.{IsAlone}
 use Rattle.mailengine.specs.Spacing.{IsSpaced}
 use Rattle.mailengine.specs.declared.event.Event.{Event}
 use Rattle.mailengine.specs.declared.answer.Answer.{Answer}
 use Rattle.mailengine.specs.declared.machine.World.{World as Machine}
+use Rattle.mailengine.specs.declared.clients.Clients.{Clients as Sessions}
 use Rattle.mailengine.specs.declared.answer.Answer.TheVariants.{Delivered, Added, Taken, MailTaken, Refused}
 use Rattle.mailengine.specs.AccountEvents.{Delivery, Addition, Taking, MailTaking}
 use Rattle.mailengine.specs.Limits.{limit_refusal, IsNewUser}
-use Rattle.mailengine.specs.World.{World, Clients, Next, Runs}
+use Rattle.mailengine.specs.World.{World, Clients, if_open, Next, Runs}
 
 -- the sessions that a map has, by their numbers
 abbrev pub clients_of : BTreeMap ℕ SessionView → Clients
@@ -47,8 +49,11 @@ abbrev pub host : State → BTreeMap ℕ SessionView → Host
 host store sessions = record { store = store; sessions = sessions }
 
 -- of the values that the code has
+abbrev pub host_with : {S : Type 0} → Ghosts S → Held S → Sessions → Host
+host_with g store clients = host (state g store) clients.sessions
+
 abbrev pub host_of : {S : Type 0} → Ghosts S → Machine S → Host
-host_of g machine = host (state g machine.store) machine.sessions
+host_of g machine = host_with g machine.store machine.clients
 
 -- the store shows the machine's accounts, and the sessions are the machine's; of a connection that a fault of the disk has shut nothing is said
 pub record Implements (h : Host) (w : World) : Type 0 where
@@ -61,6 +66,24 @@ pub record Implements (h : Host) (w : World) : Type 0 where
 abbrev pub IsSessionEvent : Event → Answer → BTreeMap ℕ SessionView → BTreeMap ℕ SessionView → Type 0
 IsSessionEvent event answer before after =
     (w : World) → HasClients before w.sessions → (clients : Clients) × Next w event answer (record { accounts = w.accounts; sessions = clients }) × HasClients after clients
+
+-- whatever sessions there were, there are
+abbrev pub KeepsClients : BTreeMap ℕ SessionView → BTreeMap ℕ SessionView → Type 0
+KeepsClients before after = (clients : Clients) → HasClients before clients → HasClients after clients
+
+-- the event asks a store: one of the accounts, or a step whose command does
+abbrev pub AsksStore : Event → BTreeMap ℕ SessionView → Type 0
+AsksStore (Open s) kept = ⊥
+AsksStore (Give s piece) kept = ⊥
+AsksStore (GiveUp s) kept = ⊥
+AsksStore (Close s) kept = ⊥
+AsksStore (Step s) kept = if_open may_fail (option_map (λ session. session.client) (tree.get nat_cmp kept s)) ≡ true
+AsksStore event kept = Unit {0}
+
+-- a client's first item is given up
+abbrev pub IsGivenUp : Event → Type 0
+IsGivenUp (GiveUp s) = Unit {0}
+IsGivenUp event = ⊥
 
 -- from one store and its sessions to another it is the event with this answer, of whatever world there was
 abbrev pub IsEvent : Event → Answer → Host → Host → Type 0

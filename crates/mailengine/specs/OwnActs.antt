@@ -28,7 +28,8 @@ use Rattle.mailengine.specs.declared.event.Event.TheVariants.{Step, Deliver, Add
 use Rattle.mailengine.specs.declared.answer.Answer.{Answer}
 use Rattle.mailengine.specs.declared.answer.Answer.TheVariants.{Out, Delivered, Added, Taken, MailTaken, Refused}
 use Rattle.mailengine.specs.Limits.{limit_refusal, IsNewUser}
-use Rattle.mailengine.specs.AccountEvents.{row_with, Refuses, DeliversTo, rounds}
+use Rattle.mailstore.specs.Account.{row_with}
+use Rattle.mailengine.specs.AccountEvents.{Refuses, DeliversTo, rounds}
 use Rattle.mailengine.specs.World.{World, Runs}
 
 -- ---- acts

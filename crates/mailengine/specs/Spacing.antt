@@ -1,4 +1,4 @@
--- When a user answers one sender again: never within the period (RFC 5230, 4.2).
+-- When a user answers one sender again under one handle: at least the later answer's period later (RFC 5230, 4.2).
 use Rattle.std.specs.Prelude.{◌≡◌, ℕ, ◌+◌, ◌≤◌, List, [], ◌∷◌, ◌++◌, Option, Some, None}
 use mathlib.Core.Logic.{inl, inr}
 use Rattle.std.specs.FinMap.{get}

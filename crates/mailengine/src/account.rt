@@ -3,11 +3,11 @@ ghost use Rattle.std.specs.Prelude.{◌≡◌};
 ghost use Rattle.sqlite.specs.Held.{state};
 ghost use Rattle.mailstore.specs.AccountRows.{profile_of};
 ghost use Rattle.mailstore.specs.CopyRows.{HasFirst};
-ghost use Rattle.mailstore.specs.Account.{messages_in};
+ghost use Rattle.mailstore.specs.Account.{messages_in, row_with};
 ghost use Rattle.mailengine.specs.Lookups.{LooksUp, IsActiveScript};
 
 use mailstore::{NumberedMessage, Outgoing, Profile, Refusal, Store};
-use octets::{List, Octets};
+use octets::Octets;
 use sqlite::Alter;
 
 /// What the store keeps of an account, with the text of its active script.
@@ -42,16 +42,20 @@ pub(crate) fn active_script<S: Alter>(
             text: None,
         });
     };
-    let text = store.script(user, name.as_slice())?;
+    let text = store.script_of(user, name.as_slice())?;
     Ok(ActiveScript { profile, text })
 }
 
-/// The user's messages on their way out, in the order of their numbers.
-pub(crate) fn queue<S: Alter>(store: &mut Store<S>, user: &[u8]) -> Result<List<Outgoing>, Refusal>
-    ensures { LooksUp user.now (λ queue a. queue ≡ a.queue) (state S.Store store.old) (state S.Store store.new) result }
+/// The user's message on its way out with the number, if there is one. No other is read.
+pub(crate) fn outgoing<S: Alter>(
+    store: &mut Store<S>,
+    user: &[u8],
+    id: u64,
+) -> Result<Option<Outgoing>, Refusal>
+    ensures { LooksUp user.now (λ row a. row ≡ row_with id a.queue) (state S.Store store.old) (state S.Store store.new) result }
 {
     let _ = profile(store, user)?;
-    store.queue(user)
+    store.outgoing_of(user, id)
 }
 
 /// The first message of the user's folder, with its number; none where the folder is absent. Where the user's copies are is

@@ -18,6 +18,6 @@ pub enum Answer {
     MailTaken,
     /// The event isn't one for the session's number.
     Ignored,
-    /// The event was refused, and changed nothing.
+    /// The event was refused, and what is seen stayed; after `Store` a crash may leave the whole of its change.
     Refused(Refusal),
 }

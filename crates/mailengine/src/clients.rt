@@ -1,17 +1,36 @@
 //! Sessions by their numbers, and what happens to one.
-ghost use Rattle.std.specs.Prelude.{◌≡◌, IfOk, IsTrue};
+ghost use Rattle.std.specs.Prelude.{◌≡◌, [], IfOk, IfSome, IfNone, IsTrue};
 ghost use Rattle.sqlite.specs.Held.{state};
 ghost use Rattle.sqlite.specs.State.{HasCleanDisk};
 ghost use Rattle.mailengine.specs.declared.event.Event.TheVariants.{Open, Give, Step, GiveUp, Close};
-ghost use Rattle.mailengine.specs.Hosts.{host, IsSessionEvent, IsEvent, SurvivesEvent, IsPrepared, answer_of};
+ghost use Rattle.mailengine.specs.Hosts.{host, AsksStore, IsSessionEvent, IsEvent, KeepsClients, SurvivesEvent, IsPrepared, answer_of};
 
 use crate::answer::Answer;
 use mailstore::{Refusal, Store};
 use octets::Octets;
-use sessions::{Progress, Session};
+use sessions::{Progress, Session, Stepped};
 use sqlite::Alter;
 use std::alloc::{AllocError, Global};
 use std::collections::BTreeMap;
+
+/// The sessions of clients, by their numbers. Dropping them closes nothing but these sessions.
+#[derive(Drop)]
+pub struct Clients {
+    pub(crate) sessions: BTreeMap<u32, Session>,
+    pub(crate) alloc: Global,
+}
+
+impl Clients {
+    /// No sessions. Takes no memory.
+    pub fn new(alloc: Global) -> Clients
+        ensures { result.sessions.entries ≡ [] }
+    {
+        Clients {
+            sessions: BTreeMap::new(alloc),
+            alloc,
+        }
+    }
+}
 
 /// A client comes: it is greeted, and its session begins. A number that is open stays so.
 pub fn open(
@@ -65,6 +84,28 @@ pub fn step<S: Alter>(
     let mut out = Octets::new(alloc);
     let progress = session.step(store, &mut out)?;
     Ok(Answer::Out(progress, out))
+}
+
+/// The first item that a client sent, where it asks nothing of the accounts: it is taken off and answered. None where it asks,
+/// and no session changes then.
+pub fn step_free(
+    alloc: Global,
+    sessions: &mut BTreeMap<u32, Session>,
+    number: u32,
+) -> Option<Answer>
+    ensures made { IfSome result (λ answer. IsSessionEvent (Step number) answer sessions.old sessions.new) }
+    ensures asks { IfNone result (AsksStore (Step number) sessions.old) }
+    ensures kept { IfNone result (KeepsClients sessions.old sessions.new) }
+{
+    let Some(session) = sessions.get_mut(&number) else {
+        return Some(Answer::Ignored);
+    };
+    let mut out = Octets::new(alloc);
+    match session.step_free(&mut out) {
+        Ok(Stepped::Made(progress)) => Some(Answer::Out(progress, out)),
+        Ok(Stepped::Asks(_)) => None,
+        Err(AllocError) => Some(Answer::Refused(Refusal::Memory)),
+    }
 }
 
 /// What giving up on a client's first item would answer.

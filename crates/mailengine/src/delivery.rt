@@ -77,7 +77,7 @@ fn look_up<S: Alter>(
     let Some(address) = bare_address(alloc, profile.address.as_slice())? else {
         return Err(Refusal::Store);
     };
-    let replies = store.replies(user, sender)?;
+    let replies = store.replies_of(user, sender)?;
     Ok(Lookup {
         view: View { address, replies },
         text,
@@ -103,11 +103,8 @@ fn report_of(plan: Plan<'_>) -> Report
         message: _,
         sender: _,
         moment: _,
-        copies: _,
-        outgoing: _,
-        remember: _,
-        notice: _,
         report,
+        reply: _,
     } = plan;
     report
 }

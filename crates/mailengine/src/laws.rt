@@ -8,7 +8,7 @@ ghost use Rattle.mailstore.specs.Account.{Account};
 ghost use Rattle.mailengine.specs.OwnActs.{Act, Alone, IsAlone};
 ghost use Rattle.mailengine.specs.Spacing.{IsSpaced};
 
-/// What becomes of a user's account, and what it is answered, is by the user's own acts alone.
+/// What becomes of a user's account, and what is answered to the user's own acts, is by these acts alone.
 pub fn each_user_alone()
     ensures { (events : List Event) (told : List Answer) (w end : World) (run : Runs w events told end) → IsAlone w events told end run }
 {}
@@ -18,7 +18,7 @@ pub fn account_by_acts()
     ensures { (user : List ℕ) (acts : List Act) (account one two : Option Account) → Alone user account acts one → Alone user account acts two → one ≡ two }
 {}
 
-/// No sender gets two answers under one handle within the period.
+/// Two answers of one user to one sender under one handle are apart by at least the later one's period.
 pub fn answers_spaced()
     ensures { (events : List Event) (told : List Answer) (w end : World) (run : Runs w events told end) → IsSpaced w events told end run }
 {}

@@ -16,11 +16,12 @@ mod user;
 
 pub use account::first_message;
 pub use answer::Answer;
+pub use clients::Clients;
 pub use delivery::deliver;
 pub use evaluate::attempt;
 pub use event::Event;
-pub use machine::World;
-pub use mailstore::{Kind, Outgoing, Refusal, Report};
+pub use machine::{World, apply, apply_free};
+pub use mailstore::{Kind, Outgoing, Plan, Refusal, Report, VacationReport};
 pub use replay::{Ran, run};
 pub use sessions::Progress;
 pub use sieveexec::{Envelope, Failure, Outcome};

@@ -6,13 +6,12 @@ ghost use Rattle.mailengine.specs.Limits.{is_envelope_address, is_forbidden_octe
 
 use mailstore::Refusal;
 use sieveexec::Envelope;
+use vacreply::MAX_MOMENT;
 
 /// How many octets a message may have.
 pub const MAX_MESSAGE: usize = 33_554_432;
 /// How many octets an envelope address may have.
 pub const MAX_ENVELOPE_ADDRESS: usize = 1_024;
-/// The last second of the year 9999.
-pub const MAX_MOMENT: u64 = 253_402_300_799;
 
 /// Why a delivery is refused before anything is looked up, the first cause in the order of these. Takes no memory.
 pub fn limit_refusal(envelope: &Envelope, message: &[u8], moment: u64) -> Option<Refusal>

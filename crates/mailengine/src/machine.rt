@@ -1,13 +1,13 @@
 //! The machine: the accounts of a store and the sessions of its clients.
-ghost use Rattle.std.specs.Prelude.{◌≡◌, [], IsTrue, IfOk};
+ghost use Rattle.std.specs.Prelude.{◌≡◌, [], IsTrue, IfOk, IfSome, IfNone, OnErr};
 ghost use Rattle.sqlite.specs.Held.{state};
 ghost use Rattle.sqlite.specs.State.{HasCleanDisk};
 ghost use Rattle.mailengine.specs.declared.event.Event.TheVariants.{Deliver};
 ghost use Rattle.mailengine.specs.Hosts as hosts;
-ghost use Rattle.mailengine.specs.Hosts.{host, IsEvent, SurvivesEvent, IsPrepared, ActsDelivery};
+ghost use Rattle.mailengine.specs.Hosts.{host, host_with, AsksStore, IsEvent, IsGivenUp, IsSessionEvent, KeepsClients, SurvivesEvent, IsPrepared, ActsDelivery};
 
 use crate::answer::Answer;
-use crate::clients::{close, give, give_up, open, step, text_given_up};
+use crate::clients::{Clients, close, give, give_up, open, step, step_free, text_given_up};
 use crate::delivery::deliver;
 use crate::event::Event;
 use crate::limits::limit_refusal;
@@ -26,16 +26,14 @@ use std::collections::BTreeMap;
 pub struct World<S: Alter> {
     /// Where the accounts are kept.
     pub store: Store<S>,
-    pub(crate) sessions: BTreeMap<u32, Session>,
-    pub(crate) alloc: Global,
+    pub clients: Clients,
 }
 
 impl<S: Alter + Drop> Drop for World<S> {
     fn drop(self) {
         let World {
             store: _,
-            sessions: _,
-            alloc: _,
+            clients: _,
         } = self;
     }
 }
@@ -44,12 +42,11 @@ impl<S: Alter> World<S> {
     /// The world whose accounts the store has, without sessions. Takes no memory.
     pub fn new(alloc: Global, store: Store<S>) -> World<S>
         ensures store { result.store ≡ store }
-        ensures sessions { result.sessions.entries ≡ [] }
+        ensures sessions { result.clients.sessions.entries ≡ [] }
     {
         World {
             store,
-            sessions: BTreeMap::new(alloc),
-            alloc,
+            clients: Clients::new(alloc),
         }
     }
 
@@ -57,22 +54,58 @@ impl<S: Alter> World<S> {
     pub fn into_store(self) -> Store<S>
         ensures { result ≡ self.store }
     {
-        let World {
-            store,
-            sessions: _,
-            alloc: _,
-        } = self;
+        let World { store, clients: _ } = self;
         store
     }
 }
 
+/// Applies one event to a store and the sessions beside it, in one transaction at most, and answers it. A refused event changes
+/// nothing that is seen. Which store it is may change between two calls, and what others do to it.
+///
+/// # Errors
+///
+/// Lack of memory for the text of giving up ([`Event::GiveUp`]), which may not be refused: nothing has changed then. Any other lack
+/// is an answer, [`Refusal::Memory`].
+pub fn apply<S: Alter>(
+    clients: &mut Clients,
+    store: &mut Store<S>,
+    event: &Event,
+) -> Result<Answer, AllocError>
+    ensures event { IfOk result (λ answer. IsEvent event.now answer (host_with S.Store store.old clients.old) (host_with S.Store store.new clients.new)) }
+    ensures lacks { OnErr result (IsGivenUp event.now) }
+    ensures err { OnErr result ((store.new ≡ store.old) × (clients.new ≡ clients.old)) }
+    ensures crash { SurvivesEvent event.now (host_with S.Store store.old clients.old) (host_with S.Store store.new clients.new) }
+    ensures shut { HasCleanDisk (state S.Store store.new) → IsTrue (state S.Store store.new).is_open → IsTrue (state S.Store store.old).is_open }
+{
+    let text = prepared(clients.alloc, &clients.sessions, event)?;
+    Ok(carry_out(clients.alloc, store, &mut clients.sessions, event, text))
+}
+
+/// Applies an event that asks no store: a client that comes, octets of one, giving one's first item up, one that goes, and the
+/// first item of one that asks nothing of the accounts. None where the event asks a store, and no session changes then.
+///
+/// # Errors
+///
+/// Those of [`apply`].
+pub fn apply_free(clients: &mut Clients, event: &Event) -> Result<Option<Answer>, AllocError>
+    ensures made { IfOk result (λ told. IfSome told (λ answer. IsSessionEvent event.now answer clients.old.sessions clients.new.sessions)) }
+    ensures asks { IfOk result (λ told. IfNone told (AsksStore event.now clients.old.sessions)) }
+    ensures kept { IfOk result (λ told. IfNone told (KeepsClients clients.old.sessions clients.new.sessions)) }
+    ensures lacks { OnErr result (IsGivenUp event.now) }
+    ensures err { OnErr result (clients.new ≡ clients.old) }
+{
+    let text = prepared(clients.alloc, &clients.sessions, event)?;
+    Ok(carry_out_free(clients.alloc, &mut clients.sessions, event, text))
+}
+
 /// What an event answers is had before it, where it may not be refused for memory: the text of giving up.
-pub(crate) fn prepared(
+fn prepared(
     alloc: Global,
     sessions: &BTreeMap<u32, Session>,
     event: &Event,
 ) -> Result<Octets, AllocError>
-    ensures { IfOk result (IsPrepared event.now sessions.now) }
+    ensures ready { IfOk result (IsPrepared event.now sessions.now) }
+    ensures lacks { OnErr result (IsGivenUp event.now) }
 {
     match event {
         Event::GiveUp(number) => text_given_up(alloc, sessions, *number),
@@ -81,7 +114,7 @@ pub(crate) fn prepared(
 }
 
 /// Carries out one event, in one transaction at most, and answers it. A refused event changes nothing.
-pub(crate) fn apply<S: Alter>(
+fn carry_out<S: Alter>(
     alloc: Global,
     store: &mut Store<S>,
     sessions: &mut BTreeMap<u32, Session>,
@@ -134,13 +167,40 @@ pub(crate) fn apply<S: Alter>(
             answer_of(added.and(Ok(Answer::Added)))
         }
         Event::TakeOut { user, id } => {
-            let row = take_out(alloc, store, user.as_slice(), *id);
+            let row = take_out(store, user.as_slice(), *id);
             answer_of(row.map(Answer::Taken))
         }
         Event::TakeMail { user, folder } => {
             let taken = take_mail(store, user.as_slice(), folder.as_slice());
             answer_of(taken.and(Ok(Answer::MailTaken)))
         }
+    }
+}
+
+/// Carries out an event that asks no store, and answers it; none for one that asks.
+fn carry_out_free(
+    alloc: Global,
+    sessions: &mut BTreeMap<u32, Session>,
+    event: &Event,
+    text: Octets,
+) -> Option<Answer>
+    requires { IsPrepared event.now sessions.old text }
+    ensures made { IfSome result (λ answer. IsSessionEvent event.now answer sessions.old sessions.new) }
+    ensures asks { IfNone result (AsksStore event.now sessions.old) }
+    ensures kept { IfNone result (KeepsClients sessions.old sessions.new) }
+{
+    match event {
+        Event::Open(number) => Some(answer_of(open(alloc, sessions, *number))),
+        Event::Give(number, piece) => {
+            Some(answer_of(give(alloc, sessions, *number, piece.as_slice())))
+        }
+        Event::Step(number) => step_free(alloc, sessions, *number),
+        Event::GiveUp(number) => Some(give_up(sessions, *number, text)),
+        Event::Close(number) => Some(close(alloc, sessions, *number)),
+        Event::Deliver { .. }
+        | Event::AddUser { .. }
+        | Event::TakeOut { .. }
+        | Event::TakeMail { .. } => None,
     }
 }
 

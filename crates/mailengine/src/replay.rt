@@ -6,7 +6,7 @@ ghost use Rattle.mailengine.specs.Sound.{KeepsSound};
 
 use crate::answer::Answer;
 use crate::event::Event;
-use crate::machine::{World, apply, prepared};
+use crate::machine::{World, apply};
 use sqlite::Alter;
 
 /// What came of a list of events.
@@ -22,8 +22,8 @@ pub struct Ran {
 ///
 /// The place of an answer is reserved before its event, and so is the text of an answer whose event may not be refused for
 /// memory: where there is no memory for it the run ends before that event, and `whole` is false. An event that is refused
-/// changes nothing, and the next one follows. Events are borrowed, and a message is not copied. Memory beside that of the
-/// events themselves is in proportion to their number and to what the sessions hold.
+/// changes nothing that is seen, and the next one follows. Events are borrowed, and a message is not copied. Memory beside
+/// that of the events themselves is in proportion to their number and to what the sessions hold.
 pub fn run<S: Alter>(world: &mut World<S>, events: &[Event]) -> Ran
     ensures runs { IsRun (answered events.now result.answers.items) result.answers.items (host_of S.Store world.old) (host_of S.Store world.new) }
     ensures whole { IsTrue result.whole ↔ (length result.answers.items ≡ length events.now) }
@@ -41,8 +41,7 @@ fn run_events<S: Alter>(world: &mut World<S>, events: &[Event]) -> Ran
     ensures whole { IsTrue result.whole ↔ (length result.answers.items ≡ length events.now) }
     ensures crash { SurvivesRun events.now (host_of S.Store world.old) (host_of S.Store world.new) }
 {
-    let alloc = world.alloc;
-    let mut answers = Vec::new(alloc);
+    let mut answers = Vec::new(world.clients.alloc);
     for event in events {
         if answers.reserve(1).is_err() {
             return Ran {
@@ -50,13 +49,12 @@ fn run_events<S: Alter>(world: &mut World<S>, events: &[Event]) -> Ran
                 whole: false,
             };
         }
-        let Ok(text) = prepared(alloc, &world.sessions, event) else {
+        let Ok(answer) = apply(&mut world.clients, &mut world.store, event) else {
             return Ran {
                 answers,
                 whole: false,
             };
         };
-        let answer = apply(alloc, &mut world.store, &mut world.sessions, event, text);
         answers.push_reserved(answer);
     }
     Ran {

@@ -1,49 +1,33 @@
 //! Rows taken out of the queue, and messages out of folders.
-ghost use Rattle.std.specs.Prelude.{◌≡◌, IfErr, option_copied};
+ghost use Rattle.std.specs.Prelude.{◌≡◌, IfErr};
 ghost use Rattle.sqlite.specs.Held.{state};
-ghost use Rattle.mailengine.specs.AccountEvents as events;
 ghost use Rattle.mailengine.specs.Hosts.{ActsTaking, ActsMailTaking, RefusesTaking};
 ghost use Rattle.mailstore.specs.Account.{takes_mail};
 ghost use Rattle.mailstore.specs.Promises.{WritesAccount};
 ghost use Rattle.mailstore.specs.Refusals.{IsTransient};
 
-use crate::account::{first_message, queue};
+use crate::account::{first_message, outgoing};
 use mailstore::{Outgoing, Refusal, Store};
 use sqlite::Alter;
-use std::alloc::Global;
 
 /// Takes a row out of the user's queue and hands it out, in one transaction, which is its last act. The number isn't used
 /// again.
 ///
-/// The queue is read whole, and of its rows the one is copied. Memory is in proportion to both.
+/// The row is read by its number, and no other. Memory is in proportion to it.
 ///
 /// # Errors
 ///
 /// In this order: [`Refusal::NoUser`], and [`Refusal::NoRow`] where no row has the number. [`Refusal::Memory`] and
 /// [`Refusal::Store`] may come at any place. The store then stays as it was.
-pub fn take_out<S: Alter>(
-    alloc: Global,
-    store: &mut Store<S>,
-    user: &[u8],
-    id: u64,
-) -> Result<Outgoing, Refusal>
+pub fn take_out<S: Alter>(store: &mut Store<S>, user: &[u8], id: u64) -> Result<Outgoing, Refusal>
     ensures acts { ActsTaking user.now id (state S.Store store.old) (state S.Store store.new) result }
     ensures named { IfErr result RefusesTaking }
 {
-    let queue = queue(store, user)?;
-    let Some(row) = row_with(queue.as_slice(), id) else {
+    let Some(row) = outgoing(store, user, id)? else {
         return Err(Refusal::NoRow);
     };
-    let row = row.try_clone(alloc)?;
     store.take_out(user, id)?;
     Ok(row)
-}
-
-/// The row with the number, if there is one.
-fn row_with(rows: &[Outgoing], id: u64) -> Option<&Outgoing>
-    ensures { option_copied result ≡ events.row_with id rows.now }
-{
-    rows.iter().find(|row| row.id == id)
 }
 
 /// Takes the first message out of the user's folder, in one transaction, which is its last act. The folder goes with its last

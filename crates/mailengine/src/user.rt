@@ -10,7 +10,7 @@ ghost use Rattle.mailengine.specs.Limits.{IsNewUser, IsOwnAddress};
 use addrparts::bare_address;
 use mailstore::{Refusal, Store};
 use octets::is_letter;
-use saslplain::digest;
+use saslplain::{ROUNDS, digest};
 use sqlite::Alter;
 use std::alloc::{AllocError, Global};
 
@@ -18,8 +18,6 @@ use std::alloc::{AllocError, Global};
 pub const MAX_USER_NAME: usize = 64;
 /// How many octets a password may have: each round of its digest hashes it whole.
 pub const MAX_PASSWORD: usize = 1_024;
-/// How often the digest of a new password is hashed again.
-pub const ROUNDS: u32 = 10_000;
 
 /// Makes an account without scripts, folders and replies, in one transaction, which is its last act.
 ///

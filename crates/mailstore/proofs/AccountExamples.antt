@@ -4,11 +4,10 @@ use Rattle.std.specs.FinMap.{get, get-remove}
 use Rattle.std.proofs.lemmas.Cmp.{nat_list_cmp_total}
 use Rattle.sqlite_typed.proofs.TestLemmas.{bytes_eq_refl}
 use Rattle.mailtables.specs.declared.queue.Kind.TheVariants.{Redirect, Reply}
-use Rattle.mailstore.specs.declared.report.Letter.{Letter}
-use Rattle.mailstore.specs.declared.report.Letter.TheVariants as letter
+use Rattle.mailstore.specs.declared.report.VacationReply.{VacationReply}
 use Rattle.mailstore.specs.declared.report.Plan.{Plan}
 use Rattle.mailstore.proofs.TakingLemmas.{held_get}
-use Rattle.mailstore.specs.Account.{Account, holding, messages_in, deletes_script, renames_script, queues, takes_out, takes_mail, remembers, sends_all, delivers, files_copies}
+use Rattle.mailstore.specs.Account.{Account, holding, messages_in, deletes_script, renames_script, queues, takes_out, takes_mail, remembers, sends_on, replies_if_any, delivers, files_copies}
 
 abbrev one : List ℕ
 one = codes "one"
@@ -57,14 +56,19 @@ other_keeps_name a is = rw is refl
 sender_is_folded : (a : Account) (handle : List ℕ) (moment : ℕ) → remembers handle (codes "Bob@Example.org") moment a ≡ remembers handle (codes "bob@example.org") moment a
 sender_is_folded a handle moment = refl
 
--- a delivery of two letters: they have the account's next two numbers, in order, a redirect its sender and message, a reply its own
-abbrev letters : List Letter
-letters = letter.Redirect two ∷ letter.Reply one two ∷ []
+-- a delivery that goes on to two addresses: they have the account's next two numbers, in order, with its sender and message
+two_redirects : (a : Account) → a.queue ≡ [] → a.next_out ≡ 7
+    → (sends_on one (codes "Hi") (two ∷ one ∷ []) a).queue
+    ≡ record { id = 7; kind = Redirect; sender = one; target = two; message = codes "Hi" } ∷ record { id = 8; kind = Redirect; sender = one; target = one; message = codes "Hi" } ∷ []
+two_redirects a none first = rw (none, first) refl
 
-two_letters : (a : Account) → a.queue ≡ [] → a.next_out ≡ 7
-    → (sends_all one (codes "Hi") letters a).queue ≡ record { id = 7; kind = Redirect; sender = one; target = two; message = codes "Hi" } ∷ record { id = 8; kind = Reply; sender = []; target = one; message = two } ∷ []
-two_letters a none first = rw (none, first) refl
+-- a reply goes to the sender, from the empty sender, with its own octets
+abbrev reply : VacationReply
+reply = record { handle = two; message = codes "Away" }
+
+one_reply : (a : Account) → a.queue ≡ [] → a.next_out ≡ 7 → (replies_if_any one 0 (Some reply) a).queue ≡ record { id = 7; kind = Reply; sender = []; target = one; message = codes "Away" } ∷ []
+one_reply a none first = rw (none, first) refl
 
 -- near miss: nothing is remembered and no notice is left where the plan has none
-nothing_more : (plan : Plan) (a : Account) → plan.remember ≡ None → plan.notice ≡ None → plan.outgoing ≡ [] → delivers plan a ≡ files_copies plan.copies plan.message.now a
+nothing_more : (plan : Plan) (a : Account) → plan.reply ≡ None → plan.report.notice ≡ None → plan.report.sent ≡ [] → delivers plan a ≡ files_copies plan.report.filed plan.message.now a
 nothing_more plan a forgets quiet sends = rw (forgets, quiet, sends) refl

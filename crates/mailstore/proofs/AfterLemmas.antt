@@ -20,38 +20,6 @@ use Rattle.mailstore.proofs.KeepLemmas.{transient_named, transient_other, keeps_
 use Rattle.mailstore.specs.declared.profile.Profile.{Profile}
 use Rattle.mailstore.specs.AccountRows.{profile_of}
 
--- ---- a read after a read
-
-one_account : (accounts : Accounts) (user : List ℕ) (P Q R : Account → Type 0) → ((a : Account) → P a → Q a → R a) → OfUser accounts user P → OfUser accounts user Q → OfUser accounts user R
-one_account accounts user P Q R f p q =
-    let same : Some p.0 ≡ Some q.0 = sym p.1 ∙ q.1 in
-    let is : p.0 ≡ q.0 = cc in
-    (q.0, q.1, f q.0 (subst P is p.2) q.2)
-
-module _ {X Y Z : Type 0} (user : List ℕ) (P : X → Account → Type 0) (Q : Y → Account → Type 0) (R : Z → Account → Type 0) (a b c : State) (r : Result X Refusal) (x : X) (was : r ≡ Ok x) (early : Reads user P a b r) where
-  -- an answer that is made of both
-  pub reads_both : (q : Result Y Refusal) (y : Y) → q ≡ Ok y → Reads user Q b c q → (z : Z) → ((account : Account) → P x account → Q y account → R z account) → Reads user R a c (Ok z)
-  reads_both q y is late z f = record {
-    found = λ clean accounts p.
-        let one = subst (λ o. IfOk o (λ w. OfUser accounts user (P w))) was (early.found (clean_before b c _ late.keeps.crash clean) accounts p) in
-        let two = subst (λ o. IfOk o (λ w. OfUser accounts user (Q w))) is (late.found clean accounts (mid_shows a b c r x was q early.keeps late.keeps clean accounts p)) in
-        one_account accounts user (P x) (Q y) (R z) f one two;
-    absent = λ clean accounts p. tt;
-    keeps = keeps_ok a c q y (Ok z) is (keeps_then a b c r x was q early.keeps late.keeps);
-    named = tt;
-  }
-
-  -- the second is refused
-  pub second_refused : (e : Refusal) (q : Result Z Refusal) → q ≡ Err e → Reads user Q b c (Err e) → Reads user R a c q
-  second_refused e q is late = record {
-    found = λ clean accounts p. subst (λ o. IfOk o (λ z. OfUser accounts user (R z))) (sym is) tt;
-    absent = λ clean accounts p.
-        let none : Result Y Refusal = Err e in
-        subst (λ o. IfErr o (λ f. f ≡ NoUser → IsFree user accounts)) (sym is) (late.absent clean accounts (mid_shows a b c r x was none early.keeps late.keeps clean accounts p));
-    keeps = let none : Result Y Refusal = Err e in keeps_refused a c none e q is (keeps_then a b c r x was none early.keeps late.keeps);
-    named = subst (λ o. IfErr o (λ f. (f ≡ NoUser) ⊎ IsTransient f)) (sym is) late.named;
-  }
-
 -- ---- a write after a read
 
 -- the changes turn tables that show accounts, of which something is known, into tables that show them with one user's account changed
@@ -151,14 +119,14 @@ write_refused a b r user change e q is kept absent named = record {
 pub write_failed : {X Y : Type 0} (a b : State) (r : Result X Refusal) (user : List ℕ) (change : Account → Account) (e : Refusal) (q : Result Y Refusal) → q ≡ Err e → Keeps a b r → IsTransient e → WritesAccount user change a b q
 write_failed {Y = Y} a b r user change e q is kept transient = write_refused a b r user change e q is kept (λ clean accounts p. transient_other {Y = Y} (Err e) (IsFree user accounts) transient) (inr transient)
 
--- ---- the name of the active script
+-- ---- the account is entered
 
-active_of : (accounts : Accounts) (user : List ℕ) (profile : Profile) → Some profile ≡ option_map profile_of (get accounts user) → OfUser accounts user (λ a. profile.active ≡ a.active)
-active_of accounts user profile told = go (get accounts user) refl told
+profile_of_user : (accounts : Accounts) (user : List ℕ) (profile : Profile) → Some profile ≡ option_map profile_of (get accounts user) → OfUser accounts user (λ a. profile ≡ profile_of a)
+profile_of_user accounts user profile told = go (get accounts user) refl told
   where
-    go : (o : Option Account) → get accounts user ≡ o → Some profile ≡ option_map profile_of o → OfUser accounts user (λ a. profile.active ≡ a.active)
+    go : (o : Option Account) → get accounts user ≡ o → Some profile ≡ option_map profile_of o → OfUser accounts user (λ a. profile ≡ profile_of a)
     go None is told = absurd (let no = told in cc)
-    go (Some a) is told = (a, is, (let same : profile ≡ profile_of a = cc in ap (λ p. p.active) same))
+    go (Some a) is told = (a, is, (let same : profile ≡ profile_of a = cc in same))
 
 free_of : (accounts : Accounts) (user : List ℕ) → None ≡ option_map profile_of (get accounts user) → IsFree user accounts
 free_of accounts user told = go (get accounts user) refl told
@@ -167,25 +135,28 @@ free_of accounts user told = go (get accounts user) refl told
     go None is told = is
     go (Some a) is told = absurd (let no = told in cc)
 
-module _ (user : List ℕ) (a b : State) (r : Result (Option Profile) Refusal) where
-  pub active_read : (profile : Profile) → r ≡ Ok (Some profile) → ReadsProfile user a b r → Reads user (λ active a. active ≡ a.active) a b (Ok profile.active)
-  active_read profile is h = record {
-    found = λ clean accounts p. active_of accounts user profile (subst (λ o. IfOk o (λ q. q ≡ option_map profile_of (get accounts user))) is (h.found clean accounts p));
+module _ (user : List ℕ) (a b : State) (r : Result (Option Profile) Refusal) (h : ReadsProfile user a b r) where
+  found_of : (o : Option Profile) → r ≡ Ok o → HasCleanDisk b → (accounts : Accounts) → Presents a.now accounts → o ≡ option_map profile_of (get accounts user)
+  found_of o is clean accounts p = subst (λ q. IfOk q (λ w. w ≡ option_map profile_of (get accounts user))) is (h.found clean accounts p)
+
+  pub account_entered : (profile : Profile) → r ≡ Ok (Some profile) → Reads user (λ profile a. profile ≡ profile_of a) a b (Ok profile)
+  account_entered profile is = record {
+    found = λ clean accounts p. profile_of_user accounts user profile (found_of (Some profile) is clean accounts p);
     absent = λ clean accounts p. tt;
-    keeps = keeps_ok a b r (Some profile) (Ok profile.active) is h.keeps;
+    keeps = keeps_ok a b r (Some profile) (Ok profile) is h.keeps;
     named = tt;
   }
 
-  pub active_absent : {X : Type 0} {Part : X → Account → Type 0} → r ≡ Ok None → ReadsProfile user a b r → Reads user Part a b (Err NoUser)
-  active_absent is h = record {
+  pub account_missing : {X : Type 0} {Part : X → Account → Type 0} → r ≡ Ok None → Reads user Part a b (Err NoUser)
+  account_missing is = record {
     found = λ clean accounts p. tt;
-    absent = λ clean accounts p same. free_of accounts user (subst (λ o. IfOk o (λ q. q ≡ option_map profile_of (get accounts user))) is (h.found clean accounts p));
+    absent = λ clean accounts p same. free_of accounts user (found_of None is clean accounts p);
     keeps = keeps_failed a b r (Err NoUser) tt h.keeps;
     named = inl refl;
   }
 
-  pub active_refused : {X : Type 0} {Part : X → Account → Type 0} → ReadsProfile user a b r → (q : Result X Refusal) → OnOk q ⊥ → IfErr q IsTransient → Reads user Part a b q
-  active_refused {Part = Part} h q none transient = record {
+  pub account_unread : {X : Type 0} {Part : X → Account → Type 0} (q : Result X Refusal) → OnOk q ⊥ → IfErr q IsTransient → Reads user Part a b q
+  account_unread {Part = Part} q none transient = record {
     found = λ clean accounts p. none_if q (λ x. OfUser accounts user (Part x)) none;
     absent = λ clean accounts p. transient_other q (IsFree user accounts) transient;
     keeps = keeps_failed a b r q none h.keeps;

@@ -1,9 +1,9 @@
 -- From the cells of rows to what a call answers.
-use Rattle.std.proofs.Common.{◌≡◌, ℕ, List, [], ◌∷◌, map, Option, Some, None, option_map, slice_get, Ok, Err, Result, IfOk, refl, sym, ap, ◌∙◌, subst, arith}
+use Rattle.std.proofs.Common.{◌≡◌, ℕ, ℤ, List, [], ◌∷◌, map, Option, Some, None, option_map, slice_get, Ok, Err, Result, IfOk, refl, sym, ap, ◌∙◌, subst, arith}
 use Rattle.sqlite_value.specs.declared.value.Value.TheVariants.{Blob}
 use Rattle.sqlite_value.specs.Order.{Row, column}
 use Rattle.sqlite_keyed.proofs.ListLemmas.{map-map}
-use Rattle.mailstore.specs.Account.{Account}
+use Rattle.mailstore.specs.Account.{Account, row_with}
 use Rattle.mailstore.specs.Tally.{tallied, AreFolders, AreFolderRows}
 use Rattle.mailstore.specs.declared.folder.Folder.{Folder}
 use Rattle.mailtables.specs.declared.queue.Kind.{Kind}
@@ -12,7 +12,7 @@ use Rattle.mailstore.specs.declared.queue.Outgoing.{Outgoing}
 use Rattle.mailstore.specs.declared.notice.Notice.{Notice}
 use Rattle.mailstore.specs.NoticeRows.{AreNoticeRows, notice_cells}
 use Rattle.mailstore.specs.FirstCells.{text_cells, first_one, first_five, first_two}
-use Rattle.mailstore.specs.QueueRows.{AreQueueRows, outgoing_cells}
+use Rattle.mailstore.specs.QueueRows.{AreQueueRows, HasOutgoingRow, IsOutgoing, outgoing_cells}
 use Rattle.mailtables.specs.QueueTable.{kind_number}
 use Rattle.mailstore.proofs.OneLemmas.{map_one}
 
@@ -66,6 +66,22 @@ outgoing_one x y e =
 pub queue_is : {E : Type 0} (r : Result (List Outgoing) E) (rows : List Row) (a : Account) → AreQueueRows rows a → IfOk r (λ all. map outgoing_cells all ≡ map first_five rows) → IfOk r (λ all. all ≡ a.queue)
 queue_is (Err e) rows a are h = tt
 queue_is (Ok all) rows a are h = map_one outgoing_cells outgoing_one all a.queue (h ∙ ap (map first_five) are ∙ map-map first_five outgoing_cells a.queue)
+
+outgoing_same : (x y : Option Outgoing) → option_map outgoing_cells x ≡ option_map outgoing_cells y → x ≡ y
+outgoing_same None None e = refl
+outgoing_same None (Some y) e = absurd (let no = e in cc)
+outgoing_same (Some x) None e = absurd (let no = e in cc)
+outgoing_same (Some x) (Some y) e = let cells : outgoing_cells x ≡ outgoing_cells y = cc in ap Some (outgoing_one x y cells)
+
+first_read : (o : Option Outgoing) → option_map first_five (option_map outgoing_cells o) ≡ option_map outgoing_cells o
+first_read None = refl
+first_read (Some q) = refl
+
+-- what was read of the first row is the message that it shows
+pub outgoing_told : {E : Type 0} (r : Result (Option Outgoing) E) (rows : List Row) (id : ℤ) (a : Account) → HasOutgoingRow id rows a → IfOk r (λ first. option_map outgoing_cells first ≡ option_map first_five (slice_get rows 0))
+    → IfOk r (λ first. IsOutgoing id first a)
+outgoing_told (Err e) rows id a are h = tt
+outgoing_told (Ok first) rows id a are h = λ n is. outgoing_same first (row_with n a.queue) (h ∙ ap (option_map first_five) (are n is) ∙ first_read (row_with n a.queue))
 
 noticed_one : (x y : Notice) → notice_cells x ≡ notice_cells y → x ≡ y
 noticed_one x y e =

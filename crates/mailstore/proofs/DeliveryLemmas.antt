@@ -16,13 +16,11 @@ use Rattle.mailstore.specs.declared.notice.Notice.{Notice}
 use Rattle.mailstore.specs.declared.refusal.Refusal.{Refusal}
 use Rattle.mailstore.specs.declared.queue.Outgoing.{Outgoing}
 use Rattle.mailtables.specs.declared.queue.Kind.TheVariants as kind
-use Rattle.mailstore.specs.declared.report.Letter.{Letter}
-use Rattle.mailstore.specs.declared.report.Letter.TheVariants.{Redirect, Reply}
-use Rattle.mailstore.specs.declared.report.Remembered.{Remembered}
+use Rattle.mailstore.specs.declared.report.VacationReply.{VacationReply}
 use Rattle.mailstore.specs.declared.report.Plan.{Plan}
 use Rattle.mailtables.specs.Changes.{made, owner_of, AreOf, Extends, MakesOwn, CrashLeavesTables, copy_added, counters_set, MakesAll}
-use Rattle.mailstore.specs.Delivery.{AreDelivery, in_turn, message_kept, copies_added, copied, lettered, letter_added, reply_put, folded_sender, noticed, notice_count, counters_raised, delivered}
-use Rattle.mailstore.specs.Account.{Account, Accounts, Folders, with_user, in_place, filed, files_copies, sends, sends_all, remembers_if_any, notes_if_any, delivers}
+use Rattle.mailstore.specs.Delivery.{AreDelivery, in_turn, message_kept, copies_added, copied, redirect_added, sent_on, reply_queued, reply_put, noticed, count_of, counters_raised, delivered}
+use Rattle.mailstore.specs.Account.{Account, Accounts, Folders, with_user, in_place, filed, files_copies, queues, sends_on, replies_if_any, notes_if_any, delivers}
 use Rattle.mailstore.specs.AccountRows.{account_row, counter_cells, shown_counters, Counts}
 use Rattle.mailtables.specs.AccountTable.{account_tree, with_counters}
 use Rattle.mailtables.specs.ScriptTable.{script_tree}
@@ -92,26 +90,29 @@ copies_more user folders n i name a b c folder k id within is number same joined
     } in
     turn_more user.now f folders n i name a b c within was (extends_one user.now (f (n + i) (get_or folders i name)) b c (AddCopy user folder k id) joined one)
 
-pub letters_more : (user sender message : List ℕ) (letters : List Letter) (n i : ℕ) (x letter : Letter) (a b c : List Change) (d : Change) (k : ℤ) → i < length letters → letter ≡ get_or letters i x → k ≡ pos (n + i) → c ≡ b ++ d ∷ []
-    → MakesOwn user (letter_added user sender message k letter) d → Extends user (lettered user sender message n (take i letters)) a b → Extends user (lettered user sender message n (take (i + 1) letters)) a c
-letters_more user sender message letters n i x letter a b c d k within is number joined makes was =
-    let f = λ (j : ℕ) (l : Letter). letter_added user sender message (pos j) l in
-    let one : MakesOwn user (f (n + i) (get_or letters i x)) d = record {
+pub redirects_more : (user sender message : List ℕ) (targets : List (List ℕ)) (n i : ℕ) (x target : List ℕ) (a b c : List Change) (d : Change) (k : ℤ) → i < length targets → target ≡ get_or targets i x → k ≡ pos (n + i) → c ≡ b ++ d ∷ []
+    → MakesOwn user (redirect_added user sender message k target) d → Extends user (sent_on user sender message n (take i targets)) a b → Extends user (sent_on user sender message n (take (i + 1) targets)) a c
+redirects_more user sender message targets n i x target a b c d k within is number joined makes was =
+    let f = λ (j : ℕ) (t : List ℕ). redirect_added user sender message (pos j) t in
+    let one : MakesOwn user (f (n + i) (get_or targets i x)) d = record {
       owned = makes.owned;
-      makes = λ own. makes.makes own ∙ ap (λ l. letter_added user sender message k l own) is ∙ ap (λ j. letter_added user sender message j (get_or letters i x) own) number;
+      makes = λ own. makes.makes own ∙ ap (λ t. redirect_added user sender message k t own) is ∙ ap (λ j. redirect_added user sender message j (get_or targets i x) own) number;
     } in
-    turn_more user f letters n i x a b c within was (extends_one user (f (n + i) (get_or letters i x)) b c d joined one)
+    turn_more user f targets n i x a b c within was (extends_one user (f (n + i) (get_or targets i x)) b c d joined one)
 
 -- all of them, from no changes on
-pub are_delivery : (user sender : List ℕ) (c : Counters) (plan : Plan) (ds1 kept ds2 ds3 ds4 ds5 : List Change) → sender ≡ folded_sender plan.remember → Extends user (counters_raised user c plan) [] ds1
-    → Extends user (message_kept user plan.message.now c.copy plan.copies) ds1 kept → Extends user (copies_added user c.copy c.copy plan.copies) kept ds2 → Extends user (lettered user plan.sender.now plan.message.now c.out plan.outgoing) ds2 ds3 → Extends user (reply_put user sender plan.remember) ds3 ds4
-    → Extends user (noticed user c.notice plan.moment plan.notice) ds4 ds5 → AreDelivery user c plan ds5
-are_delivery user sender c plan ds1 kept ds2 ds3 ds4 ds5 is one message copies three four five =
-    let two = extends_then user (message_kept user plan.message.now c.copy plan.copies) (copies_added user c.copy c.copy plan.copies) ds1 kept ds2 message copies in
-    let first = extends_then user (counters_raised user c plan) (copied user plan.message.now c.copy plan.copies) [] ds1 ds2 one two in
-    let second = extends_then user _ (lettered user plan.sender.now plan.message.now c.out plan.outgoing) [] ds2 ds3 first three in
-    let third = extends_then user _ (reply_put user (folded_sender plan.remember) plan.remember) [] ds3 ds4 second (subst (λ s. Extends user (reply_put user s plan.remember) ds3 ds4) is four) in
-    let all = extends_then user _ (noticed user c.notice plan.moment plan.notice) [] ds4 ds5 third five in
+pub are_delivery : (user sender : List ℕ) (c : Counters) (plan : Plan) (ds1 kept ds2 ds3 queued ds4 ds5 : List Change) → sender ≡ lowered plan.sender.now → Extends user (counters_raised user c plan) [] ds1
+    → Extends user (message_kept user plan.message.now c.copy plan.report.filed) ds1 kept → Extends user (copies_added user c.copy c.copy plan.report.filed) kept ds2
+    → Extends user (sent_on user plan.sender.now plan.message.now c.out plan.report.sent) ds2 ds3 → Extends user (reply_queued user plan.sender.now (c.out + length plan.report.sent) plan.reply) ds3 queued
+    → Extends user (reply_put user sender plan.moment plan.reply) queued ds4 → Extends user (noticed user c.notice plan.moment plan.report.notice) ds4 ds5 → AreDelivery user c plan ds5
+are_delivery user sender c plan ds1 kept ds2 ds3 queued ds4 ds5 is one message copies three reply four five =
+    let two = extends_then user (message_kept user plan.message.now c.copy plan.report.filed) (copies_added user c.copy c.copy plan.report.filed) ds1 kept ds2 message copies in
+    let first = extends_then user (counters_raised user c plan) (copied user plan.message.now c.copy plan.report.filed) [] ds1 ds2 one two in
+    let second = extends_then user _ (sent_on user plan.sender.now plan.message.now c.out plan.report.sent) [] ds2 ds3 first three in
+    let answered = extends_then user _ (reply_queued user plan.sender.now (c.out + length plan.report.sent) plan.reply) [] ds3 queued second reply in
+    let put = subst (λ s. Extends user (reply_put user s plan.moment plan.reply) queued ds4) is four in
+    let third = extends_then user _ (reply_put user (lowered plan.sender.now) plan.moment plan.reply) [] queued ds4 answered put in
+    let all = extends_then user _ (noticed user c.notice plan.moment plan.report.notice) [] ds4 ds5 third five in
     record { owned = all.owned tt; makes = all.makes }
 
 -- ---- the rows of a user while a delivery is made
@@ -259,32 +260,31 @@ module _ (user : List ℕ) (last : Counters) where
     copies = s.copies;
   }
 
-  letters_joined : (sender message : List ℕ) (letters : List Letter) (copy notice : ℕ) (own : Tables) (a : Account) → IsShownBelow user last copy notice a own
-      → IsShownBelow user last copy notice (sends_all sender message letters a) (lettered user sender message a.next_out letters own)
-  letters_joined sender message [] copy notice own a s = s
-  letters_joined sender message (Redirect target ∷ letters) copy notice own a s =
-      letters_joined sender message letters copy notice _ (sends sender message (Redirect target) a)
+  redirects_joined : (sender message : List ℕ) (targets : List (List ℕ)) (copy notice : ℕ) (own : Tables) (a : Account) → IsShownBelow user last copy notice a own
+      → IsShownBelow user last copy notice (sends_on sender message targets a) (sent_on user sender message a.next_out targets own)
+  redirects_joined sender message [] copy notice own a s = s
+  redirects_joined sender message (target ∷ targets) copy notice own a s =
+      redirects_joined sender message targets copy notice _ (queues kind.Redirect sender target message a)
       (queued (record { id = a.next_out; kind = kind.Redirect; sender = sender; target = target; message = message }) copy notice own a refl s)
-  letters_joined sender message (Reply target reply ∷ letters) copy notice own a s =
-      letters_joined sender message letters copy notice _ (sends sender message (Reply target reply) a)
-      (queued (record { id = a.next_out; kind = kind.Reply; sender = []; target = target; message = reply }) copy notice own a refl s)
 
-  -- the reply is remembered
-  reply_joined : (reply : Option Remembered) (copy notice : ℕ) (own : Tables) (a : Account) → IsShownBelow user last copy notice a own
-      → IsShownBelow user last copy notice (remembers_if_any reply a) (reply_put user (folded_sender reply) reply own)
-  reply_joined None copy notice own a s = s
-  reply_joined (Some reply) copy notice own a s = record {
-    account_is = s.account_is;
-    scripts = s.scripts;
-    queue = s.queue;
-    replies = replies_put user (own reply_tree) a.replies s.replies (reply.handle, lowered reply.sender) reply.moment;
-    notices = s.notices;
-    copies = s.copies;
-  }
+  -- the reply joins the queue and is remembered
+  reply_joined : (sender : List ℕ) (moment : ℕ) (reply : Option VacationReply) (copy notice : ℕ) (own : Tables) (a : Account) → IsShownBelow user last copy notice a own
+      → IsShownBelow user last copy notice (replies_if_any sender moment reply a) (reply_put user (lowered sender) moment reply (reply_queued user sender a.next_out reply own))
+  reply_joined sender moment None copy notice own a s = s
+  reply_joined sender moment (Some reply) copy notice own a s =
+      let q = queued (record { id = a.next_out; kind = kind.Reply; sender = []; target = sender; message = reply.message }) copy notice own a refl s in
+      record {
+        account_is = q.account_is;
+        scripts = q.scripts;
+        queue = q.queue;
+        replies = replies_put user (own reply_tree) a.replies s.replies (reply.handle, lowered sender) moment;
+        notices = q.notices;
+        copies = q.copies;
+      }
 
   -- the notice joins the others
   notice_joined : (moment : ℕ) (text : Option (List ℕ)) (copy notice : ℕ) (own : Tables) (a : Account) → IsShownBelow user last copy notice a own
-      → IsShownBelow user last copy (notice + notice_count text) (notes_if_any moment text a) (noticed user notice moment text own)
+      → IsShownBelow user last copy (notice + count_of text) (notes_if_any moment text a) (noticed user notice moment text own)
   notice_joined moment None copy notice own a s = let same : notice ≡ notice + 0 = omega arith in subst (λ n. IsShownBelow user last copy n a own) same s
   notice_joined moment (Some text) copy notice own a s =
       let one : Notice = record { moment = moment; text = text } in
@@ -303,14 +303,13 @@ module _ (user : List ℕ) (last : Counters) where
         copies = s.copies;
       }
 
-sent_out : (sender message : List ℕ) (letters : List Letter) (a : Account) → (sends_all sender message letters a).next_out ≡ a.next_out + length letters
+sent_out : (sender message : List ℕ) (targets : List (List ℕ)) (a : Account) → (sends_on sender message targets a).next_out ≡ a.next_out + length targets
 sent_out sender message [] a = omega arith
-sent_out sender message (Redirect target ∷ letters) a = let more = sent_out sender message letters (sends sender message (Redirect target) a) in omega (arith, more)
-sent_out sender message (Reply target reply ∷ letters) a = let more = sent_out sender message letters (sends sender message (Reply target reply) a) in omega (arith, more)
+sent_out sender message (target ∷ targets) a = let more = sent_out sender message targets (queues kind.Redirect sender target message a) in omega (arith, more)
 
-remembered_out : (reply : Option Remembered) (a : Account) → (remembers_if_any reply a).next_out ≡ a.next_out
-remembered_out None a = refl
-remembered_out (Some reply) a = refl
+replied_out : (sender : List ℕ) (moment : ℕ) (reply : Option VacationReply) (a : Account) → (replies_if_any sender moment reply a).next_out ≡ a.next_out + count_of reply
+replied_out sender moment None a = omega arith
+replied_out sender moment (Some reply) a = omega arith
 
 noted_out : (moment : ℕ) (text : Option (List ℕ)) (a : Account) → (notes_if_any moment text a).next_out ≡ a.next_out
 noted_out moment None a = refl
@@ -319,18 +318,23 @@ noted_out moment (Some text) a = refl
 -- the rows of a user whose counters were these, once the changes of a delivery are made
 own_delivered : (user : List ℕ) (c : Counters) (plan : Plan) (own : Tables) (a : Account) → IsShown user own a → Counts (own account_tree) c → IsShown user (delivered user c plan own) (delivers plan a)
 own_delivered user c plan own a s counts =
-    let last : Counters = record { copy = c.copy + length plan.copies; out = c.out + length plan.outgoing; notice = c.notice + notice_count plan.notice } in
+    let last : Counters = record { copy = c.copy + length plan.report.filed; out = c.out + (length plan.report.sent + count_of plan.reply); notice = c.notice + count_of plan.report.notice } in
     let up = raised user last c own a s counts in
-    let filed = files_copies plan.copies plan.message.now a in
-    let sent = sends_all plan.sender.now plan.message.now plan.outgoing filed in
-    let kept = remembers_if_any plan.remember sent in
-    let copies = copies_joined user last plan.message.now plan.copies c.copy c.notice _ a up.0 in
-    let letters = subst (λ n. IsShownBelow user last last.copy c.notice sent (lettered user plan.sender.now plan.message.now n plan.outgoing (copied user plan.message.now c.copy plan.copies (counters_set user (pos last.copy) (pos last.out) (pos last.notice) own)))) up.1
-    (letters_joined user last plan.sender.now plan.message.now plan.outgoing last.copy c.notice _ filed copies) in
-    let reply = reply_joined user last plan.remember last.copy c.notice _ sent letters in
-    let all = notice_joined user last plan.moment plan.notice last.copy c.notice _ kept reply in
-    let out = noted_out plan.moment plan.notice kept ∙ remembered_out plan.remember sent ∙ sent_out plan.sender.now plan.message.now plan.outgoing filed ∙ ap (λ n. n + length plan.outgoing) up.1 in
-    lowered_last user last last.copy last.notice _ _ all refl out refl
+    let filed = files_copies plan.report.filed plan.message.now a in
+    let sent = sends_on plan.sender.now plan.message.now plan.report.sent filed in
+    let kept = replies_if_any plan.sender.now plan.moment plan.reply sent in
+    let copies = copies_joined user last plan.message.now plan.report.filed c.copy c.notice _ a up.0 in
+    let redirects = redirects_joined user last plan.sender.now plan.message.now plan.report.sent last.copy c.notice _ filed copies in
+    let reply = reply_joined user last plan.sender.now plan.moment plan.reply last.copy c.notice _ sent redirects in
+    let sent_is = sent_out plan.sender.now plan.message.now plan.report.sent filed in
+    let next : sent.next_out ≡ c.out + length plan.report.sent = sent_is ∙ ap (λ n. n + length plan.report.sent) up.1 in
+    let rows = λ (first after : ℕ). reply_put user (lowered plan.sender.now) plan.moment plan.reply (reply_queued user plan.sender.now after plan.reply
+    (sent_on user plan.sender.now plan.message.now first plan.report.sent (copied user plan.message.now c.copy plan.report.filed (counters_raised user c plan own)))) in
+    let numbered = subst (λ n. IsShownBelow user last last.copy c.notice kept (rows c.out n)) next (subst (λ n. IsShownBelow user last last.copy c.notice kept (rows n sent.next_out)) up.1 reply) in
+    let all = notice_joined user last plan.moment plan.report.notice last.copy c.notice _ kept numbered in
+    let replied = replied_out plan.sender.now plan.moment plan.reply sent in
+    let out : kept.next_out ≡ last.out = omega (arith, replied, next) in
+    lowered_last user last last.copy last.notice _ _ all refl (noted_out plan.moment plan.report.notice kept ∙ out) refl
 
 pub delivery_shows : (user : List ℕ) (c : Counters) (plan : Plan) (ds : List Change) → AreDelivery user c plan ds → (tables : Tables) (accounts : Accounts) → ShowsAccounts tables accounts → HasUser user accounts
     → Counts (rows_of user tables account_tree) c → ShowsAccounts (made tables ds) (with_user accounts user (delivers plan))
@@ -349,13 +353,13 @@ turn_beside : {X : Type 0} (f : ℕ → X → Tables → Tables) → ((n : ℕ) 
 turn_beside f beside [] n own = refl
 turn_beside f beside (x ∷ xs) n own = turn_beside f beside xs (suc n) (f n x own) ∙ beside n x own
 
-letter_beside : (user sender message : List ℕ) (n : ℕ) (letter : Letter) (own : Tables) → letter_added user sender message (pos n) letter own message_tree ≡ own message_tree
-letter_beside user sender message n (Redirect target) own = refl
-letter_beside user sender message n (Reply target reply) own = refl
+queued_beside : (user sender : List ℕ) (n : ℕ) (reply : Option VacationReply) (own : Tables) → reply_queued user sender n reply own message_tree ≡ own message_tree
+queued_beside user sender n None own = refl
+queued_beside user sender n (Some reply) own = refl
 
-reply_beside : (user sender : List ℕ) (reply : Option Remembered) (own : Tables) → reply_put user sender reply own message_tree ≡ own message_tree
-reply_beside user sender None own = refl
-reply_beside user sender (Some reply) own = refl
+reply_beside : (user sender : List ℕ) (moment : ℕ) (reply : Option VacationReply) (own : Tables) → reply_put user sender moment reply own message_tree ≡ own message_tree
+reply_beside user sender moment None own = refl
+reply_beside user sender moment (Some reply) own = refl
 
 notice_beside : (user : List ℕ) (n moment : ℕ) (text : Option (List ℕ)) (own : Tables) → noticed user n moment text own message_tree ≡ own message_tree
 notice_beside user n moment None own = refl
@@ -365,16 +369,18 @@ message_gained : (user message : List ℕ) (names : List (List ℕ)) (n : ℕ) (
 message_gained user message [] n own = sym (append-nil (own message_tree))
 message_gained user message (name ∷ names) n own = refl
 
-delivered_once : (user : List ℕ) (c : Counters) (plan : Plan) (own : Tables) → delivered user c plan own message_tree ≡ own message_tree ++ once_for plan.copies (message_cells user (pos c.copy) plan.message.now)
+delivered_once : (user : List ℕ) (c : Counters) (plan : Plan) (own : Tables) → delivered user c plan own message_tree ≡ own message_tree ++ once_for plan.report.filed (message_cells user (pos c.copy) plan.message.now)
 delivered_once user c plan own =
     let up = counters_raised user c plan own in
-    let kept = message_kept user plan.message.now c.copy plan.copies up in
-    let filed = copies_added user c.copy c.copy plan.copies kept in
-    let sent = lettered user plan.sender.now plan.message.now c.out plan.outgoing filed in
-    let replied = reply_put user (folded_sender plan.remember) plan.remember sent in
-    notice_beside user c.notice plan.moment plan.notice replied ∙ reply_beside user (folded_sender plan.remember) plan.remember sent
-    ∙ turn_beside (λ n letter. letter_added user plan.sender.now plan.message.now (pos n) letter) (letter_beside user plan.sender.now plan.message.now) plan.outgoing c.out filed
-    ∙ turn_beside (λ n folder. copy_added user folder (pos n) (pos c.copy)) (λ n folder own. refl) plan.copies c.copy kept ∙ message_gained user plan.message.now plan.copies c.copy up
+    let kept = message_kept user plan.message.now c.copy plan.report.filed up in
+    let filed = copies_added user c.copy c.copy plan.report.filed kept in
+    let sent = sent_on user plan.sender.now plan.message.now c.out plan.report.sent filed in
+    let after = c.out + length plan.report.sent in
+    let queued = reply_queued user plan.sender.now after plan.reply sent in
+    let replied = reply_put user (lowered plan.sender.now) plan.moment plan.reply queued in
+    notice_beside user c.notice plan.moment plan.report.notice replied ∙ reply_beside user (lowered plan.sender.now) plan.moment plan.reply queued ∙ queued_beside user plan.sender.now after plan.reply sent
+    ∙ turn_beside (λ n target. redirect_added user plan.sender.now plan.message.now (pos n) target) (λ n target own. refl) plan.report.sent c.out filed
+    ∙ turn_beside (λ n folder. copy_added user folder (pos n) (pos c.copy)) (λ n folder own. refl) plan.report.filed c.copy kept ∙ message_gained user plan.message.now plan.report.filed c.copy up
 
 -- after a read that kept the tables, the changes of a delivery store its message once
 pub stores_once : {X E Y : Type 0} (a b d : State) (r : Result X E) (x : X) → r ≡ Ok x → Keeps a b r → (user : List ℕ) (c : Counters) (plan : Plan) (ds : List Change) → AreDelivery user c plan ds → Survives b d (CrashLeavesTables ds b)
@@ -387,6 +393,6 @@ stores_once {Y = Y} a b d r x ok kept user c plan ds delivery survives q wrote c
     mid : HoldsTables mail_schema b.now tables
     mid = subst (λ n. HoldsTables mail_schema n tables) (sym ((kept.same early (tables, h)).now_is (on_ok r x ok (IsTrue b.is_open) (kept.live early)))) h
 
-    go : (o : Result Y Refusal) → MakesAll ds b d o → OnOk o ((after : Tables) × HoldsTables mail_schema d.now after × GainsOnce user plan.message.now plan.copies (tables message_tree) (after message_tree))
+    go : (o : Result Y Refusal) → MakesAll ds b d o → OnOk o ((after : Tables) × HoldsTables mail_schema d.now after × GainsOnce user plan.message.now plan.report.filed (tables message_tree) (after message_tree))
     go (Err e) made_all = tt
     go (Ok y) made_all = (made tables ds, made_all clean tables mid, (pos c.copy, ap (λ (t : Tables). t message_tree) (delivery.makes tables) ∙ delivered_once user c plan tables))

@@ -26,7 +26,7 @@ use Rattle.mailstore.specs.Refusals.{IsTransient}
 use Rattle.mailtables.specs.AccountTable.{account_tree}
 use Rattle.mailstore.specs.AccountRows.{counter_cells, shown_account, shown_counters, profile_row, profile_of, IsRead, Counts}
 use Rattle.mailstore.specs.Shows.{rows_of, IsShownOrAbsent, ShowsAccounts, Presents}
-use Rattle.mailstore.specs.Promises.{HasOurTables, IsFree, OfUser, Keeps, FindsOwn, FindsAmong, Finds, Reads, ReadsRows, Requires, ReadsCounters, ReadsProfile, Writes, Turns, CrashLeavesAccounts}
+use Rattle.mailstore.specs.Promises.{HasOurTables, IsFree, OfUser, Keeps, FindsOwn, FindsAmong, Finds, Reads, ReadsCounters, ReadsProfile, Writes, Turns, CrashLeavesAccounts}
 use Rattle.mailtables.proofs.ResultLemmas.{on_ok, on_any, on_err_any}
 use Rattle.mailtables.proofs.WriteLemmas.{clean_before}
 use Rattle.mailstore.proofs.QueryLemmas.{query_same, query_quiet, stays_shut, if_shown}
@@ -167,27 +167,6 @@ reads_answer user P Q a b r x was q named made h = record {
 pub of_there : (accounts : Accounts) (user : List ℕ) (P Q : Account → Type 0) → OfUser accounts user P → IfSome (get accounts user) Q → OfUser accounts user Q
 of_there accounts user P Q there some = (there.0, there.1, subst (λ o. IfSome o Q) there.1 some)
 
--- a query, after the account was asked for
-module _ {X : Type 0} (user : List ℕ) (P : X → Account → Type 0) (Part : List Row → Account → Type 0) (a b c : State) (r : Result X Refusal) (x : X) (was : r ≡ Ok x) (early : Reads user P a b r) where
-  pub query_read : (q : Result (Vec Row Global) Error) (rows : Vec Row Global) → q ≡ Ok rows → Finds user Part b c q → ReadsRows user Part a c (Ok rows)
-  query_read q rows is late = record {
-    found = λ clean accounts p.
-        let there = subst (λ o. IfOk o (λ z. OfUser accounts user (P z))) was (early.found (clean_before b c _ late.keeps.crash clean) accounts p) in
-        of_there accounts user (P x) (Part rows.items) there
-        (subst (λ o. IfOk o (λ found. IfSome (get accounts user) (Part found.items))) is (late.found clean accounts (mid_shows a b c r x was q early.keeps late.keeps clean accounts p)));
-    absent = λ clean accounts p. tt;
-    keeps = keeps_ok a c q rows (Ok rows) is (keeps_then a b c r x was q early.keeps late.keeps);
-    named = tt;
-  }
-
-  pub query_refused : (q : Result (Vec Row Global) Error) → Finds user Part b c q → (end : Result (Vec Row Global) Refusal) → OnOk end ⊥ → IfErr end IsTransient → ReadsRows user Part a c end
-  query_refused q late end none transient = record {
-    found = λ clean accounts p. none_if end (λ found. OfUser accounts user (Part found.items)) none;
-    absent = λ clean accounts p. transient_other end (IsFree user accounts) transient;
-    keeps = keeps_failed a c q end none (keeps_then a b c r x was q early.keeps late.keeps);
-    named = transient_named end transient;
-  }
-
 -- ---- the counter of copies, and the test for an account
 
 -- what was read of the row of the account
@@ -211,35 +190,12 @@ counter_refused user a b r h q none transient = record {
   named = transient_named q transient;
 }
 
-account_there : (accounts : Accounts) (user : List ℕ) (tables : Tables) (c : Counters) → ShowsAccounts tables accounts → Counts (rows_of user tables account_tree) c → OfUser accounts user (λ _. Unit {0})
-account_there accounts user tables c shows told = go (get accounts user) refl (shows.users user)
-  where
-    go : (o : Option Account) → get accounts user ≡ o → IsShownOrAbsent user (rows_of user tables) o → OfUser accounts user (λ _. Unit {0})
-    go None is h = absurd (let none = sym told ∙ ap (λ l. option_map shown_counters (slice_get l 0)) h.accounts in cc)
-    go (Some a) is h = (a, is, tt)
-
 pub account_absent : (accounts : Accounts) (user : List ℕ) (tables : Tables) → ShowsAccounts tables accounts → rows_of user tables account_tree ≡ [] → IsFree user accounts
 account_absent accounts user tables shows none = go (get accounts user) refl (shows.users user)
   where
     go : (o : Option Account) → get accounts user ≡ o → IsShownOrAbsent user (rows_of user tables) o → IsFree user accounts
     go None is h = is
     go (Some a) is h = absurd (let row = sym none ∙ h.account_is in cc)
-
-pub account_required : (user : List ℕ) (a b : State) (r : Result Counters Refusal) (n : Counters) → r ≡ Ok n → ReadsCounters user a b r → (done : Unit {0}) → Requires user a b (Ok done)
-account_required user a b r n was h done = record {
-  found = λ clean accounts p. account_there accounts user p.0 n p.2 (subst (λ o. IfOk o (Counts (rows_of user p.0 account_tree))) was (h.found clean p.0 p.1));
-  absent = λ clean accounts p. tt;
-  keeps = keeps_ok a b r n (Ok done) was h.keeps;
-  named = tt;
-}
-
-pub account_refused : (user : List ℕ) (a b : State) (e : Refusal) (q : Result (Unit {0}) Refusal) → q ≡ Err e → ReadsCounters user a b (Err e) → Requires user a b q
-account_refused user a b e q is h = record {
-  found = λ clean accounts p. subst (λ o. IfOk o (λ done. OfUser accounts user (λ account. Unit {0}))) (sym is) tt;
-  absent = λ clean accounts p. subst (λ o. IfErr o (λ f. f ≡ NoUser → IsFree user accounts)) (sym is) (λ none. account_absent accounts user p.0 p.2 (h.absent clean p.0 p.1 none));
-  keeps = keeps_refused a b (Err e) e q is h.keeps;
-  named = subst (λ o. IfErr o (λ f. (f ≡ NoUser) ⊎ IsTransient f)) (sym is) h.named;
-}
 
 -- ---- what the store keeps of an account
 

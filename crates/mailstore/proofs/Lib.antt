@@ -8,6 +8,8 @@ pub mod ReadLemmas
 pub mod KeepLemmas
 pub mod AfterLemmas
 pub mod KeyLemmas
+pub mod KeyedLemmas
+pub mod EnterLemmas
 pub mod MapLemmas
 pub mod ReplyLemmas
 pub mod DecodeLemmas

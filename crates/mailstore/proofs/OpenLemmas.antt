@@ -1,28 +1,32 @@
 -- What a database shows that was made, or opened.
 use Rattle.std.proofs.Common.{◌≡◌, ◌≤◌, ◌⊎◌, ℕ, true, false, ◌&&◌, cond, codes, List, [], ◌∷◌, map, filter, refl, sym, ap, ◌∙◌, subst, inl, inr}
 use Rattle.sqlite_value.specs.declared.value.Value.TheVariants.{Int, Text}
-use Rattle.sqlite_value.specs.Order.{Row}
+use Rattle.sqlite_value.specs.Order.{Row, column}
 use Rattle.sqlite_value.specs.declared.keys.Collation.TheVariants.{Binary}
 use Rattle.sqlite_sql.specs.declared.ops.CompareOp.TheVariants.{Eq}
 use Rattle.sqlite_typed.proofs.TestLemmas.{at_texts, bytes_eq_refl}
 use Rattle.sqlite_trees.specs.Tree.{Trees}
+use Rattle.sqlite_keyed.proofs.ListLemmas.{filter-map, filter_same}
 use Rattle.sqlite_trees.specs.View.{doubt}
 use Rattle.sqlite_schema.specs.Rules.{equal, Fits}
 use Rattle.sqlite.specs.Effect.{Database}
 use Rattle.sqlite.specs.State.{State, HasCleanDisk}
-use Rattle.sqlrows.specs.Rows.{Entry, id_of, cells_of, stored, IsHeld, HoldsTables, has_key_from}
+use Rattle.sqlrows.specs.Rows.{Entry, cells_of, stored, IsHeld, HoldsTables, has_key, has_key_from}
 use Rattle.mailtables.specs.Schema.{no_schema, mail_schema}
 use Rattle.mailtables.specs.Connection.{IsSettled, Leaves, Outlives}
 use Rattle.mailstore.specs.Account.{Accounts, bytes_cmp, no_accounts}
-use Rattle.mailtables.specs.MetaTable.{meta, version_key, version_row, meta_tree}
+use Rattle.mailtables.specs.MetaTable.{meta, version_key, version_row, version_rows, meta_tree}
 use Rattle.mailtables.specs.Ours.{IsOurs, MayCreate, only_version}
 use Rattle.mailstore.specs.Shows.{ShowsIn, Presents, rows_of, IsAbsent, IsShownOrAbsent, ShowsAccounts}
 use Rattle.mailtables.proofs.SchemaFacts.{meta_listed}
 use Rattle.std.specs.FinMap.{get-empty}
 
+pub version_itself : equal Binary (Text (codes "version")) (Text (codes "version")) ≡ true
+version_itself = at_texts false Eq (codes "version") (codes "version") ∙ bytes_eq_refl (codes "version")
+
 -- the tables without a user, and with the row of their version
 shows_nobody : ShowsAccounts only_version no_accounts
-shows_nobody = record { version = refl; users = λ user. subst (IsShownOrAbsent user (rows_of user only_version)) (sym (get-empty bytes_cmp user)) (absent user) }
+shows_nobody = record { version = ap (λ b. cond (b && true) (version_row ∷ []) []) version_itself; users = λ user. subst (IsShownOrAbsent user (rows_of user only_version)) (sym (get-empty bytes_cmp user)) (absent user) }
   where
     absent : (user : List ℕ) → IsAbsent (rows_of user only_version)
     absent user = record { accounts = refl; scripts = refl; messages = refl; copies = refl; queue = refl; replies = refl; notices = refl }
@@ -54,22 +58,18 @@ shows_again db new accounts ours is p =
     record { is = ours; fits = subst (Fits mail_schema) (sym p.2) held.fits; each = λ t listed. subst (λ (trees : Trees). IsHeld (trees t.tree) (p.1.0 t.tree)) (sym p.2) (held.each t listed) } in
     (p.1.0, subst (λ d. HoldsTables mail_schema d p.1.0) (sym is) again, p.1.2)
 
-itself : equal Binary (Text (codes "version")) (Text (codes "version")) ≡ true
-itself = at_texts false Eq (codes "version") (codes "version") ∙ bytes_eq_refl (codes "version")
-
 -- a database that shows accounts is ours
 pub shown_ours : (db : Database) (accounts : Accounts) → Presents db accounts → IsOurs db
-shown_ours db accounts p = let held = p.1.each meta meta_listed in go held.entries held.rows_are (sym p.2.version ∙ held.cells_are)
+shown_ours db accounts p =
+    let held = p.1.each meta meta_listed in
+    let kept = sym (filter-map (has_key version_key) cells_of held.entries) ∙ sym (ap (filter (has_key version_key)) held.cells_are) ∙ p.2.version in
+    let found = ap (filter (has_key_from 1 version_key)) held.rows_are ∙ filter-map (has_key_from 1 version_key) stored held.entries
+    ∙ ap (map stored) (filter_same _ (λ (e : Entry). has_key version_key (cells_of e)) (λ e. refl) held.entries) in
+    go (filter (λ (e : Entry). has_key version_key (cells_of e)) held.entries) kept found
   where
-    go : (es : List Entry) → db.trees meta_tree ≡ map stored es → version_row ∷ [] ≡ map cells_of es → IsOurs db
-    go [] rows cells = absurd (let none = cells in cc)
-    go (e ∷ []) rows cells =
-        let is : version_row ≡ cells_of e = cc in
-        let row : Row = Int (id_of e) ∷ version_row in
-        record {
-          schema = p.1.is;
-          row = row;
-          only = ap (filter (has_key_from 1 version_key)) rows ∙ ap (λ c. filter (has_key_from 1 version_key) ((Int (id_of e) ∷ c) ∷ [])) (sym is) ∙ ap (λ b. cond (b && true) (row ∷ []) []) itself;
-          says = refl;
-        }
-    go (e ∷ f ∷ es) rows cells = absurd (let two = cells in cc)
+    go : (es : List Entry) → map cells_of es ≡ version_row ∷ [] → version_rows db.trees ≡ map stored es → IsOurs db
+    go [] kept found = absurd (let none = kept in cc)
+    go (e ∷ []) kept found =
+        let is : cells_of e ≡ version_row = cc in
+        record { schema = p.1.is; row = stored e; only = found; says = ap (λ (c : Row). column c 1) is }
+    go (e ∷ f ∷ es) kept found = absurd (let two = kept in cc)

@@ -1,15 +1,20 @@
 -- Examples of what tables show, and near misses.
-use Rattle.std.proofs.Common.{◌≡◌, ◌==◌, ℕ, pos, ◌<◌, ◌≤◌, cond, List, [], ◌∷◌, map, length, codes, None, inl, inr, refl, sym, ◌∙◌, arith}
+use Rattle.std.proofs.Common.{◌≡◌, ◌==◌, ℕ, pos, ◌<◌, ◌≤◌, false, cond, List, [], ◌∷◌, filter, map, length, codes, None, inl, inr, refl, sym, ap, ◌∙◌, arith}
 use Rattle.std.specs.FinMap.{empty, insert}
 use Rattle.std.specs.List.{AllByRecursion}
 use Rattle.std.proofs.lemmas.List.Elements.{recursion_from_All, All-from_recursion}
 use Rattle.std.proofs.lemmas.List.Sorted.{IsPermutation-refl, IsPermutation-append_comm, IsPermutation-sym, length_permutation, All-permutation}
+use Rattle.sqlite_value.specs.declared.value.Value.{Value}
 use Rattle.sqlite_value.specs.declared.value.Value.TheVariants.{Int, Text}
+use Rattle.sqlite_value.specs.declared.keys.Collation.TheVariants.{Binary}
+use Rattle.sqlite_sql.specs.declared.ops.CompareOp.TheVariants.{Eq}
+use Rattle.sqlite_typed.proofs.TestLemmas.{at_texts}
+use Rattle.sqlite_schema.specs.Rules.{equal}
 use Rattle.sqlite_value.specs.Order.{Row, column}
 use Rattle.sqlite_trees.specs.Tree.{IsAscending}
-use Rattle.sqlrows.specs.Rows.{Tables}
+use Rattle.sqlrows.specs.Rows.{Tables, has_key}
 use Rattle.mailstore.specs.Account.{Account, Accounts, messages_in}
-use Rattle.mailtables.specs.MetaTable.{meta_tree}
+use Rattle.mailtables.specs.MetaTable.{meta_tree, version_key, version_row}
 use Rattle.mailtables.specs.AccountTable.{account_tree}
 use Rattle.mailstore.specs.AccountRows.{account_row}
 use Rattle.mailtables.specs.ScriptTable.{script_tree, script_cells}
@@ -25,6 +30,7 @@ use Rattle.mailtables.specs.CopyTable.{copy_tree, n_column, copy_cells}
 use Rattle.mailstore.specs.CopyRows.{Copy, copy_row, folders_from, message_of, HasCopy, AreKept, ShowsCopies, filing_of}
 use Rattle.mailstore.specs.Shows.{IsShown, IsAbsent, ShowsAccounts}
 use Rattle.mailstore.proofs.NumberLemmas.{numbered_none}
+use Rattle.mailstore.proofs.OpenLemmas.{version_itself}
 use Rattle.mailstore.proofs.OrderLemmas.{messages_are}
 
 abbrev alice : List ℕ
@@ -188,6 +194,23 @@ not_twice a messages next c = at c.entries (length_permutation _ _ c.numbered.ro
 not_orphaned : IsAbsent (λ tree. cond (tree == script_tree) (script_cells alice (codes "main") (codes "keep;") ∷ []) []) → ⊥
 not_orphaned s = let e = s.scripts in cc
 
+-- a row of the version is found by its key
+says : (value : Value) → filter (has_key version_key) ((Text (codes "version") ∷ value ∷ []) ∷ []) ≡ (Text (codes "version") ∷ value ∷ []) ∷ []
+says value = rw version_itself refl
+
 -- near miss: another version
 not_version_1 : (tables : Tables) (accounts : Accounts) → tables meta_tree ≡ (Text (codes "version") ∷ Int (pos 1) ∷ []) ∷ [] → ShowsAccounts tables accounts → ⊥
-not_version_1 tables accounts is s = let e = sym is ∙ s.version in cc
+not_version_1 tables accounts is s = let e = sym (says (Int (pos 1))) ∙ sym (ap (filter (has_key version_key)) is) ∙ s.version in cc
+
+other_apart : equal Binary (Text (codes "other")) (Text (codes "version")) ≡ false
+other_apart = at_texts false Eq (codes "other") (codes "version")
+
+-- right: another row beside that of the version; near miss: the version twice
+further_rows : filter (has_key version_key) (version_row ∷ (Text (codes "other") ∷ Int (pos 7) ∷ []) ∷ []) ≡ version_row ∷ []
+further_rows = rw (version_itself, other_apart) refl
+
+not_twice_said : (tables : Tables) (accounts : Accounts) → tables meta_tree ≡ version_row ∷ version_row ∷ [] → ShowsAccounts tables accounts → ⊥
+not_twice_said tables accounts is s = let e = sym both ∙ sym (ap (filter (has_key version_key)) is) ∙ s.version in cc
+  where
+    both : filter (has_key version_key) (version_row ∷ version_row ∷ []) ≡ version_row ∷ version_row ∷ []
+    both = rw version_itself refl

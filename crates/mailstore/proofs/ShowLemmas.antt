@@ -24,7 +24,7 @@ use Rattle.mailtables.specs.ReplyTable.{reply_cells, reply_key, reply_tree}
 use Rattle.mailtables.specs.NoticeTable.{notice_row_cells, notice_tree}
 use Rattle.mailstore.proofs.KeyLemmas.{key_apart}
 use Rattle.mailstore.specs.Shows.{rows_of, IsShown, IsShownOrAbsent, ShowsAccounts}
-use Rattle.mailtables.specs.MetaTable.{meta_tree}
+use Rattle.mailtables.specs.MetaTable.{meta_tree, version_key}
 
 -- the filter of a user, after one tree got other rows
 filter_tree : (p : Row → Bool) (tables : Tables) (tree : ℕ) (rows : List Row) (t : ℕ) → filter p (with_tree tables tree rows t) ≡ with_tree (λ s. filter p (tables s)) tree (filter p rows) t
@@ -156,7 +156,7 @@ version_all (d ∷ ds) tables = version_all ds (made_one d tables) ∙ version_o
 -- where one user's rows show another account, the tables show the accounts with that one in place
 pub shows_after : (tables : Tables) (accounts : Accounts) (user : List ℕ) (ds : List Change) (next : Account) → AreOf user ds → ShowsAccounts tables accounts → IsShown user (made (rows_of user tables) ds) next
     → ShowsAccounts (made tables ds) (insert accounts user next)
-shows_after tables accounts user ds next are shows here = record { version = version_all ds tables ∙ shows.version; users = each }
+shows_after tables accounts user ds next are shows here = record { version = ap (filter (has_key version_key)) (version_all ds tables) ∙ shows.version; users = each }
   where
     at : (other : List ℕ) (b : Bool) → is_eq (bytes_cmp other user) ≡ b → IsShownOrAbsent other (rows_of other (made tables ds)) (cond b (Some next) (get accounts other))
     at other true same =

@@ -2,6 +2,7 @@
 use Rattle.std.specs.Prelude.{◌++◌, ◌==◌, ℕ, suc, not, List, [], ◌∷◌, drop, fold, filter, Option, Some, None, unwrap_or, option_map, if◌then◌else◌}
 use Rattle.std.specs.declared.cmp.Ordering.{Ordering}
 use Rattle.std.specs.FinMap.{FinMap, empty, get, insert, remove}
+use Rattle.std.specs.List.{find}
 use Rattle.std.specs.Ordering.{nat_cmp, on, then_cmp, is_eq}
 use Rattle.octets.specs.Ascii.{lowered}
 use Rattle.std.specs.Cmp.Lexicographic.{slice_cmp}
@@ -9,9 +10,7 @@ use Rattle.mailtables.specs.declared.queue.Kind.{Kind}
 use Rattle.mailtables.specs.declared.queue.Kind.TheVariants as kind
 use Rattle.mailstore.specs.declared.queue.Outgoing.{Outgoing}
 use Rattle.mailstore.specs.declared.notice.Notice.{Notice}
-use Rattle.mailstore.specs.declared.report.Letter.{Letter}
-use Rattle.mailstore.specs.declared.report.Letter.TheVariants.{Redirect, Reply}
-use Rattle.mailstore.specs.declared.report.Remembered.{Remembered}
+use Rattle.mailstore.specs.declared.report.VacationReply.{VacationReply}
 use Rattle.mailstore.specs.declared.report.Plan.{Plan}
 
 -- the order of octets
@@ -121,6 +120,10 @@ deletes_script name a = record a { scripts = remove a.scripts name }
 abbrev pub queues : Kind → List ℕ → List ℕ → List ℕ → Account → Account
 queues kind sender target message a = record a { queue = a.queue ++ record { id = a.next_out; kind = kind; sender = sender; target = target; message = message } ∷ []; next_out = suc a.next_out }
 
+-- the row of the queue with the number, if there is one
+abbrev pub row_with : ℕ → List Outgoing → Option Outgoing
+row_with id rows = find (λ row. row.id == id) rows
+
 -- the row with the number leaves the queue; the number is not used again
 abbrev pub takes_out : ℕ → Account → Account
 takes_out id a = record a { queue = filter (λ out. not (out.id == id)) a.queue }
@@ -144,27 +147,24 @@ notes moment text a = record a { notices = a.notices ++ record { moment = moment
 
 -- ---- a delivery
 
--- a redirect's message is the one that was received, from its sender; a reply has its own octets and the empty sender
-abbrev pub sends : List ℕ → List ℕ → Letter → Account → Account
-sends sender message (Redirect target) a = queues kind.Redirect sender target message a
-sends sender message (Reply target reply) a = queues kind.Reply [] target reply a
+-- the message goes on to each of the addresses in turn, from its sender
+abbrev pub sends_on : List ℕ → List ℕ → List (List ℕ) → Account → Account
+sends_on sender message targets a = fold (λ b target. queues kind.Redirect sender target message b) a targets
 
--- the letters join the queue, in order
-abbrev pub sends_all : List ℕ → List ℕ → List Letter → Account → Account
-sends_all sender message letters a = fold (λ b letter. sends sender message letter b) a letters
-
-abbrev pub remembers_if_any : Option Remembered → Account → Account
-remembers_if_any None a = a
-remembers_if_any (Some reply) a = remembers reply.handle reply.sender reply.moment a
+-- a reply of its own octets joins the queue for the sender, from the empty sender, and its moment is kept under its handle
+abbrev pub replies_if_any : List ℕ → ℕ → Option VacationReply → Account → Account
+replies_if_any sender moment None a = a
+replies_if_any sender moment (Some reply) a = remembers reply.handle sender moment (queues kind.Reply [] sender reply.message a)
 
 abbrev pub notes_if_any : ℕ → Option (List ℕ) → Account → Account
 notes_if_any moment None a = a
 notes_if_any moment (Some text) a = notes moment text a
 
--- the message joins the end of each folder, the letters join the queue, the reply is remembered, and the notice joins the others
+-- the message joins the end of each folder and goes on to each address, the reply is sent and remembered, and the notice joins the others
 abbrev pub delivers : Plan → Account → Account
 delivers plan a =
-    notes_if_any plan.moment plan.notice (remembers_if_any plan.remember (sends_all plan.sender.now plan.message.now plan.outgoing (files_copies plan.copies plan.message.now a)))
+    notes_if_any plan.moment plan.report.notice
+    (replies_if_any plan.sender.now plan.moment plan.reply (sends_on plan.sender.now plan.message.now plan.report.sent (files_copies plan.report.filed plan.message.now a)))
 
 -- ---- accounts by name
 

@@ -5,9 +5,7 @@ use Rattle.mailtables.specs.declared.change.Change.{Change}
 use Rattle.octets.specs.Ascii.{lowered}
 use Rattle.mailtables.specs.declared.queue.Kind.TheVariants as kind
 use Rattle.mailstore.specs.declared.account.Counters.{Counters}
-use Rattle.mailstore.specs.declared.report.Letter.{Letter}
-use Rattle.mailstore.specs.declared.report.Letter.TheVariants.{Redirect, Reply}
-use Rattle.mailstore.specs.declared.report.Remembered.{Remembered}
+use Rattle.mailstore.specs.declared.report.VacationReply.{VacationReply}
 use Rattle.mailstore.specs.declared.report.Plan.{Plan}
 use Rattle.mailtables.specs.Changes.{AreOf, message_added, copy_added, outgoing_added, reply_added, reply_removed, notice_added, counters_set, made}
 
@@ -29,46 +27,47 @@ copies_added user id = in_turn (λ n folder. copy_added user folder (pos n) (pos
 abbrev pub copied : List ℕ → List ℕ → ℕ → List (List ℕ) → Tables → Tables
 copied user message n names own = copies_added user n n names (message_kept user message n names own)
 
--- a redirect's row has the message that was received and its sender, a reply's its own octets and the empty sender
-abbrev pub letter_added : List ℕ → List ℕ → List ℕ → ℤ → Letter → Tables → Tables
-letter_added user sender message id (Redirect target) = outgoing_added user id kind.Redirect sender target message
-letter_added user sender message id (Reply target reply) = outgoing_added user id kind.Reply [] target reply
+-- a redirect's row has the message that was received, and its sender
+abbrev pub redirect_added : List ℕ → List ℕ → List ℕ → ℤ → List ℕ → Tables → Tables
+redirect_added user sender message id target = outgoing_added user id kind.Redirect sender target message
 
--- the letters join the queue, numbered from n on
-abbrev pub lettered : List ℕ → List ℕ → List ℕ → ℕ → List Letter → Tables → Tables
-lettered user sender message = in_turn (λ n letter. letter_added user sender message (pos n) letter)
+-- the message joins the queue for each of the addresses, numbered from n on
+abbrev pub sent_on : List ℕ → List ℕ → List ℕ → ℕ → List (List ℕ) → Tables → Tables
+sent_on user sender message = in_turn (λ n target. redirect_added user sender message (pos n) target)
 
--- the sender of the reply in lower case, if there is one
-abbrev pub folded_sender : Option Remembered → List ℕ
-folded_sender None = []
-folded_sender (Some reply) = lowered reply.sender
+-- the reply, if there is one, joins the queue with the number n, for the sender: its row has its own octets and the empty sender
+abbrev pub reply_queued : List ℕ → List ℕ → ℕ → Option VacationReply → Tables → Tables
+reply_queued user sender n None own = own
+reply_queued user sender n (Some reply) own = outgoing_added user (pos n) kind.Reply [] sender reply.message own
 
--- the reply takes the place of one under the same handle to the same sender, in lower case
-abbrev pub reply_put : List ℕ → List ℕ → Option Remembered → Tables → Tables
-reply_put user sender None own = own
-reply_put user sender (Some reply) own = reply_added user reply.handle sender (pos reply.moment) (reply_removed user reply.handle sender own)
+-- its moment takes the place of one under the same handle for the same sender, in lower case
+abbrev pub reply_put : List ℕ → List ℕ → ℕ → Option VacationReply → Tables → Tables
+reply_put user sender moment None own = own
+reply_put user sender moment (Some reply) own = reply_added user reply.handle sender (pos moment) (reply_removed user reply.handle sender own)
 
 abbrev pub noticed : List ℕ → ℕ → ℕ → Option (List ℕ) → Tables → Tables
 noticed user n moment None own = own
 noticed user n moment (Some text) own = notice_added user (pos n) (pos moment) text own
 
--- how many notices there are
-abbrev pub notice_count : Option (List ℕ) → ℕ
-notice_count None = 0
-notice_count (Some text) = 1
+-- how many there are
+abbrev pub count_of : {X : Type 0} → Option X → ℕ
+count_of None = 0
+count_of (Some x) = 1
 
 -- the counters go up past all that joins
 abbrev pub counters_raised : List ℕ → Counters → Plan → Tables → Tables
-counters_raised user c plan = counters_set user (pos (c.copy + length plan.copies)) (pos (c.out + length plan.outgoing)) (pos (c.notice + notice_count plan.notice))
+counters_raised user c plan =
+    counters_set user (pos (c.copy + length plan.report.filed)) (pos (c.out + (length plan.report.sent + count_of plan.reply))) (pos (c.notice + count_of plan.report.notice))
 
 -- what a delivery makes of the user's rows, whose counters were these
 abbrev pub delivered : List ℕ → Counters → Plan → Tables → Tables
 delivered user c plan own =
-    noticed user c.notice plan.moment plan.notice
-    (reply_put user (folded_sender plan.remember) plan.remember
-    (lettered user plan.sender.now plan.message.now c.out plan.outgoing
-    (copied user plan.message.now c.copy plan.copies
-    (counters_raised user c plan own))))
+    noticed user c.notice plan.moment plan.report.notice
+    (reply_put user (lowered plan.sender.now) plan.moment plan.reply
+    (reply_queued user plan.sender.now (c.out + length plan.report.sent) plan.reply
+    (sent_on user plan.sender.now plan.message.now c.out plan.report.sent
+    (copied user plan.message.now c.copy plan.report.filed
+    (counters_raised user c plan own)))))
 
 -- the changes of a delivery to a user whose counters were these
 pub record AreDelivery (user : List ℕ) (c : Counters) (plan : Plan) (changes : List Change) : Type 0 where

@@ -65,13 +65,11 @@ pub record Reads {X : Type 0} (user : List ℕ) (Part : X → Account → Type 0
   pub keeps : Keeps old new result
   pub named : IfErr result (λ e. (e ≡ NoUser) ⊎ IsTransient e)
 
--- the same of rows
-abbrev pub ReadsRows : List ℕ → (List Row → Account → Type 0) → State → State → Result (Vec Row Global) Refusal → Type 0
-ReadsRows user Part = Reads user (λ rows. Part rows.items)
-
--- the test for an account
-abbrev pub Requires : List ℕ → State → State → Result (Unit {0}) Refusal → Type 0
-Requires user = Reads user (λ done account. Unit {0})
+-- a read of an account that was entered, so no test for it: this holds of the answer and of the account, if there is one; it is refused without visible cause alone
+pub record ReadsEntered {X : Type 0} (user : List ℕ) (Part : X → Account → Type 0) (old new : State) (result : Result X Refusal) : Type 0 where
+  pub found : HasCleanDisk new → (accounts : Accounts) → Presents old.now accounts → IfOk result (λ x. IfSome (get accounts user) (Part x))
+  pub keeps : Keeps old new result
+  pub named : IfErr result IsTransient
 
 -- the read of the counters in the row of the user's account
 pub record ReadsCounters (user : List ℕ) (old new : State) (result : Result Counters Refusal) : Type 0 where
@@ -105,7 +103,7 @@ pub record ReadsProfile (user : List ℕ) (old new : State) (result : Result (Op
 abbrev pub StoresOnce : {X E : Type 0} → List ℕ → Plan → State → State → Result X E → Type 0
 StoresOnce user plan old new result =
     HasCleanDisk new → (tables : Tables) → HoldsTables mail_schema old.now tables
-    → OnOk result ((after : Tables) × HoldsTables mail_schema new.now after × GainsOnce user plan.message.now plan.copies (tables message_tree) (after message_tree))
+    → OnOk result ((after : Tables) × HoldsTables mail_schema new.now after × GainsOnce user plan.message.now plan.report.filed (tables message_tree) (after message_tree))
 
 -- where the old tables show accounts that fit, the new ones show them with the change
 abbrev pub Turns : (Accounts → Type 0) → (Accounts → Accounts) → Database → Database → Type 0

@@ -1,10 +1,10 @@
 -- What rows show of a user's messages on their way out, and what is read of them.
-use Rattle.std.specs.Prelude.{◌≡◌, ℕ, pos, List, [], ◌∷◌, map}
+use Rattle.std.specs.Prelude.{◌≡◌, ℕ, ℤ, pos, List, [], ◌∷◌, map, Option, option_map, slice_get}
 use Rattle.sqlite_value.specs.declared.value.Value.TheVariants.{Int, Blob}
 use Rattle.sqlite_value.specs.Order.{Row}
 use Rattle.mailtables.specs.QueueTable.{queue_cells, kind_number}
 use Rattle.mailstore.specs.declared.queue.Outgoing.{Outgoing}
-use Rattle.mailstore.specs.Account.{Account}
+use Rattle.mailstore.specs.Account.{Account, row_with}
 use Rattle.mailstore.specs.Numbers.{AreNumbered}
 
 abbrev pub queue_row : List ℕ → Outgoing → Row
@@ -17,6 +17,14 @@ outgoing_cells out = Int (pos out.id) ∷ Int (pos (kind_number out.kind)) ∷ B
 -- the rows are the queue, in the order of its numbers
 abbrev pub AreQueueRows : List Row → Account → Type 0
 AreQueueRows rows a = rows ≡ map outgoing_cells a.queue
+
+-- of a number as the database has it: the message of the queue with the number, if there is one
+abbrev pub IsOutgoing : ℤ → Option Outgoing → Account → Type 0
+IsOutgoing id row a = (n : ℕ) → id ≡ pos n → row ≡ row_with n a.queue
+
+-- and the first row shows it
+abbrev pub HasOutgoingRow : ℤ → List Row → Account → Type 0
+HasOutgoingRow id rows a = (n : ℕ) → id ≡ pos n → slice_get rows 0 ≡ option_map outgoing_cells (row_with n a.queue)
 
 -- the rows are those of the user's queue, which stands in the order of its numbers
 abbrev pub ShowsQueue : List ℕ → List Row → List Outgoing → ℕ → Type 0

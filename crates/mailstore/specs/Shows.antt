@@ -10,7 +10,7 @@ use Rattle.sqlite.specs.State.{State, HasCleanDisk}
 use Rattle.sqlrows.specs.Rows.{Tables, HoldsTables, has_key}
 use Rattle.mailtables.specs.Schema.{mail_schema}
 use Rattle.mailstore.specs.Account.{Account, Accounts}
-use Rattle.mailtables.specs.MetaTable.{meta_tree, version_row}
+use Rattle.mailtables.specs.MetaTable.{meta_tree, version_key, version_row}
 use Rattle.mailtables.specs.AccountTable.{account_tree}
 use Rattle.mailstore.specs.AccountRows.{account_row}
 use Rattle.mailtables.specs.ScriptTable.{script_tree}
@@ -56,9 +56,9 @@ abbrev pub IsShownOrAbsent : List ℕ → Tables → Option Account → Type 0
 IsShownOrAbsent user own None = IsAbsent own
 IsShownOrAbsent user own (Some a) = IsShown user own a
 
--- the tables show the accounts: the row of the version, and each user's rows, of every name
+-- the tables show the accounts: of the version there is the one row, whatever other rows stand beside it, and each user's rows, of every name
 pub record ShowsAccounts (tables : Tables) (accounts : Accounts) : Type 0 where
-  pub version : tables meta_tree ≡ version_row ∷ []
+  pub version : filter (has_key version_key) (tables meta_tree) ≡ version_row ∷ []
   pub users : (user : List ℕ) → IsShownOrAbsent user (rows_of user tables) (get accounts user)
 
 -- a database of our schema, whose tables show the accounts

@@ -2,8 +2,8 @@
 ghost use Rattle.std.specs.Prelude.{◌≡◌, false, ◌⊎◌, [], pos, Some, option_map, slice_get, IfOk, IfErr};
 ghost use Rattle.sqlite.specs.Held.{state};
 ghost use Rattle.mailtables.specs.AccountTable.{account_tree};
-ghost use Rattle.mailstore.specs.AccountRows.{shown_account, shown_counters, counter_cells, IsRead};
-ghost use Rattle.mailstore.specs.Promises.{FindsOwn, Reads, ReadsCounters, ReadsProfile, Requires, IsFree, Writes, WritesUser};
+ghost use Rattle.mailstore.specs.AccountRows.{shown_account, shown_counters, counter_cells, profile_of, IsRead};
+ghost use Rattle.mailstore.specs.Promises.{FindsOwn, Reads, ReadsCounters, ReadsProfile, IsFree, Writes, WritesUser};
 ghost use Rattle.mailtables.specs.Connection.{Queries};
 ghost use Rattle.mailtables.specs.Cells.{contents, or_null};
 ghost use Rattle.mailstore.specs.FirstCells.{first_three};
@@ -118,14 +118,6 @@ impl<S: Alter> Store<S> {
         first_counters(&rows)
     }
 
-    /// Asks whether the user has an account.
-    pub(crate) fn require_account(&mut self, user: &[u8]) -> Result<(), Refusal>
-        ensures { Requires user.now (state S.Store self.old) (state S.Store self.new) result }
-    {
-        self.counters(user)?;
-        Ok(())
-    }
-
     /// What the store keeps of the account; none without an account.
     pub fn account(&mut self, user: &[u8]) -> Result<Option<Profile>, Refusal>
         ensures { ReadsProfile user.now (state S.Store self.old) (state S.Store self.new) result }
@@ -134,14 +126,19 @@ impl<S: Alter> Store<S> {
         first_profile(&rows)
     }
 
-    /// The name of the active script, if there is one.
-    pub(crate) fn active(&mut self, user: &[u8]) -> Result<Option<Octets>, Refusal>
-        ensures { Reads user.now (λ active a. active ≡ a.active) (state S.Store self.old) (state S.Store self.new) result }
+    /// Enters the user's account, and answers what the store keeps of it. The reads whose names end in `_of` are of an
+    /// account that was entered: they don't ask again whether there is one.
+    ///
+    /// # Errors
+    ///
+    /// `NoUser`, `Memory`, `Store`.
+    pub fn enter(&mut self, user: &[u8]) -> Result<Profile, Refusal>
+        ensures { Reads user.now (λ profile a. profile ≡ profile_of a) (state S.Store self.old) (state S.Store self.new) result }
     {
         let Some(profile) = self.account(user)? else {
             return Err(Refusal::NoUser);
         };
-        Ok(profile.active)
+        Ok(profile)
     }
 
     /// Adds an account without scripts, messages and replies. `rounds` is how often the password is

@@ -2,15 +2,16 @@
 ghost use Rattle.std.specs.Prelude.{◌≡◌, pos, IfOk, IfErr, OnOk, ◌+◌, option_copied};
 ghost use Rattle.sqlite.specs.Held.{state};
 ghost use Rattle.mailstore.specs.Promises.{WritesAccount, StoresOnce};
-ghost use Rattle.mailstore.specs.Delivery.{AreDelivery, message_kept, copies_added, lettered, letter_added, reply_put, noticed, counters_raised, notice_count, folded_sender};
+ghost use Rattle.mailstore.specs.Delivery.{AreDelivery, message_kept, copies_added, redirect_added, sent_on, reply_queued, reply_put, noticed, counters_raised, count_of};
 ghost use Rattle.mailtables.specs.Changes.{Extends, MakesOwn};
+ghost use Rattle.octets.specs.Ascii.{lowered};
 ghost use Rattle.mailstore.specs.Account.{delivers};
 ghost use Rattle.mailstore.specs.Refusals.{IsTransient};
 
 use crate::account::Counters;
 use crate::cell::number;
 use crate::refusal::Refusal;
-use crate::report::{Letter, Plan, Remembered};
+use crate::report::{Plan, VacationReply};
 use crate::store::Store;
 use mailtables::{Change, Kind};
 use octets::Octets;
@@ -38,20 +39,22 @@ fn push_counters<'a>(
     ensures raised { OnOk result (Extends user.now (counters_raised user.now counters plan.now) changes.old.items changes.new.items) }
     ensures named { IfErr result IsTransient }
 {
+    let report = &plan.report;
+    let sent = report.sent.as_slice().len() + count(plan.reply.as_ref());
     changes.push(Change::SetCounters {
         name: user,
-        copy: number_after(counters.copy, plan.copies.as_slice().len())?,
-        out: number_after(counters.out, plan.outgoing.as_slice().len())?,
-        notice: number_after(counters.notice, count(plan.notice.as_ref()))?,
+        copy: number_after(counters.copy, report.filed.as_slice().len())?,
+        out: number_after(counters.out, sent)?,
+        notice: number_after(counters.notice, count(report.notice.as_ref()))?,
     })?;
     Ok(())
 }
 
-/// How many notices there are.
-fn count(notice: Option<&Octets>) -> usize
-    ensures { result ≡ notice_count (option_copied notice.entry) }
+/// How many there are.
+fn count<T>(one: Option<&T>) -> usize
+    ensures { result ≡ count_of (option_copied one.entry) }
 {
-    match notice {
+    match one {
         Some(_) => 1,
         None => 0,
     }
@@ -100,63 +103,80 @@ fn push_copies<'a>(
     Ok(())
 }
 
-/// The row of a letter.
-fn letter_change<'a>(
+/// The row of a message that goes on to an address.
+fn redirect<'a>(
     user: &'a [u8],
     sender: &'a [u8],
     message: &'a [u8],
     id: i64,
-    letter: &'a Letter,
+    target: &'a [u8],
 ) -> Change<'a>
-    ensures { MakesOwn user.now (letter_added user.now sender.now message.now id letter.now) result }
+    ensures { MakesOwn user.now (redirect_added user.now sender.now message.now id target.now) result }
 {
-    match letter {
-        Letter::Redirect { target } => Change::AddOutgoing {
-            owner: user,
-            id,
-            kind: Kind::Redirect,
-            sender,
-            target: target.as_slice(),
-            message,
-        },
-        Letter::Reply { target, message } => Change::AddOutgoing {
-            owner: user,
-            id,
-            kind: Kind::Reply,
-            sender: &[],
-            target: target.as_slice(),
-            message: message.as_slice(),
-        },
+    Change::AddOutgoing {
+        owner: user,
+        id,
+        kind: Kind::Redirect,
+        sender,
+        target,
+        message,
     }
 }
 
-/// The letters join the queue in turn, numbered from `next` on.
-fn push_letters<'a>(
+/// The message joins the queue for each of the addresses in turn, numbered from `next` on.
+fn push_redirects<'a>(
     changes: &mut Vec<Change<'a>>,
     user: &'a [u8],
     sender: &'a [u8],
     message: &'a [u8],
-    letters: &'a [Letter],
+    targets: &'a [Octets],
     next: u64,
 ) -> Result<(), Refusal>
-    ensures lettered { OnOk result (Extends user.now (lettered user.now sender.now message.now next letters.now) changes.old.items changes.new.items) }
+    ensures sent { OnOk result (Extends user.now (sent_on user.now sender.now message.now next targets.now) changes.old.items changes.new.items) }
     ensures named { IfErr result IsTransient }
 {
-    for (i, letter) in letters.iter().enumerate() {
+    for (i, target) in targets.iter().enumerate() {
         let id = number_after(next, i)?;
-        changes.push(letter_change(user, sender, message, id, letter))?;
+        changes.push(redirect(user, sender, message, id, target.as_slice()))?;
     }
     Ok(())
 }
 
-/// The reply is remembered, if there is one, in place of an earlier one.
+/// The reply joins the queue for the sender, with the number that comes `sent` after `next`, if there is a reply.
 fn push_reply<'a>(
     changes: &mut Vec<Change<'a>>,
     user: &'a [u8],
     sender: &'a [u8],
-    reply: Option<&'a Remembered>,
+    reply: Option<&'a VacationReply>,
+    next: u64,
+    sent: usize,
 ) -> Result<(), Refusal>
-    ensures put { OnOk result (Extends user.now (reply_put user.now sender.now (option_copied reply.entry)) changes.old.items changes.new.items) }
+    ensures queued { OnOk result (Extends user.now (reply_queued user.now sender.now (next + sent) (option_copied reply.entry)) changes.old.items changes.new.items) }
+    ensures named { IfErr result IsTransient }
+{
+    let Some(reply) = reply else {
+        return Ok(());
+    };
+    changes.push(Change::AddOutgoing {
+        owner: user,
+        id: number_after(next, sent)?,
+        kind: Kind::Reply,
+        sender: &[],
+        target: sender,
+        message: reply.message.as_slice(),
+    })?;
+    Ok(())
+}
+
+/// The reply is remembered, if there is one, in place of an earlier one. `sender` is in lower case.
+fn push_moment<'a>(
+    changes: &mut Vec<Change<'a>>,
+    user: &'a [u8],
+    sender: &'a [u8],
+    reply: Option<&'a VacationReply>,
+    moment: u64,
+) -> Result<(), Refusal>
+    ensures put { OnOk result (Extends user.now (reply_put user.now sender.now moment (option_copied reply.entry)) changes.old.items changes.new.items) }
     ensures named { IfErr result IsTransient }
 {
     let Some(reply) = reply else {
@@ -172,7 +192,7 @@ fn push_reply<'a>(
         owner: user,
         handle,
         sender,
-        moment: number(reply.moment)?,
+        moment: number(moment)?,
     })?;
     Ok(())
 }
@@ -200,58 +220,49 @@ fn push_notice<'a>(
     Ok(())
 }
 
-/// The sender of the reply in lower case, if there is one.
-fn fold_sender(alloc: Global, reply: Option<&Remembered>) -> Result<Octets, Refusal>
-    ensures ok { IfOk result (λ sender. sender ≡ folded_sender (option_copied reply.entry)) }
-    ensures named { IfErr result IsTransient }
-{
-    match reply {
-        Some(reply) => Ok(octets::lowered(alloc, reply.sender.as_slice())?),
-        None => Ok(Octets::from_vec(Vec::new(alloc))),
-    }
-}
-
-/// The changes of the delivery to a user with these counters. `sender` is that of the reply in lower case.
+/// The changes of the delivery to a user with these counters. `folded` is the plan's sender in lower case.
 fn delivery_changes<'a>(
     alloc: Global,
     user: &'a [u8],
-    sender: &'a [u8],
+    folded: &'a [u8],
     counters: Counters,
     plan: &'a Plan<'_>,
 ) -> Result<Vec<Change<'a>>, Refusal>
-    ensures delivery { IfOk result (λ changes. sender.now ≡ folded_sender plan.now.remember → AreDelivery user.now counters plan.now changes.items) }
+    ensures delivery { IfOk result (λ changes. folded.now ≡ lowered plan.now.sender.now → AreDelivery user.now counters plan.now changes.items) }
     ensures named { IfErr result IsTransient }
 {
     let mut changes = Vec::new(alloc);
+    let Plan {
+        message,
+        sender,
+        moment,
+        report,
+        reply,
+    } = plan;
     push_counters(&mut changes, user, plan, counters)?;
-    let folders = plan.copies.as_slice();
-    push_message(&mut changes, user, plan.message, folders, counters.copy)?;
+    let folders = report.filed.as_slice();
+    push_message(&mut changes, user, message, folders, counters.copy)?;
     push_copies(&mut changes, user, folders, counters.copy)?;
-    let letters = plan.outgoing.as_slice();
-    push_letters(
-        &mut changes,
-        user,
-        plan.sender,
-        plan.message,
-        letters,
-        counters.out,
-    )?;
-    push_reply(&mut changes, user, sender, plan.remember.as_ref())?;
-    let notice = plan.notice.as_ref();
-    push_notice(&mut changes, user, counters.notice, plan.moment, notice)?;
+    let sent = report.sent.as_slice();
+    push_redirects(&mut changes, user, sender, message, sent, counters.out)?;
+    let reply = reply.as_ref();
+    push_reply(&mut changes, user, sender, reply, counters.out, sent.len())?;
+    push_moment(&mut changes, user, folded, reply, *moment)?;
+    let notice = report.notice.as_ref();
+    push_notice(&mut changes, user, counters.notice, *moment, notice)?;
     Ok(changes)
 }
 
 impl<S: Alter> Store<S> {
-    /// Writes the delivery: the message joins each folder of the plan, the letters join the queue, the reply is remembered
-    /// and the notice joins the others, all or none. The message is stored once for all folders.
+    /// Writes the delivery: the message joins each folder of the report and goes on to each of its addresses, the reply is
+    /// sent and remembered, and the notice joins the others, all or none. The message is stored once for all folders.
     pub fn commit_delivery(&mut self, user: &[u8], plan: &Plan<'_>) -> Result<(), Refusal>
         ensures writes { WritesAccount user.now (delivers plan.now) (state S.Store self.old) (state S.Store self.new) result }
         ensures once { StoresOnce user.now plan.now (state S.Store self.old) (state S.Store self.new) result }
     {
         let counters = self.counters(user)?;
-        let sender = fold_sender(self.alloc, plan.remember.as_ref())?;
-        let changes = delivery_changes(self.alloc, user, sender.as_slice(), counters, plan)?;
+        let folded = octets::lowered(self.alloc, plan.sender)?;
+        let changes = delivery_changes(self.alloc, user, folded.as_slice(), counters, plan)?;
         self.apply(&changes)
     }
 }

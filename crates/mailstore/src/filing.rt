@@ -58,7 +58,7 @@ impl<S: Alter> Store<S> {
     fn filing_rows(&mut self, user: &[u8]) -> Result<Vec<Row>, Refusal>
         ensures { ReadsOwn user.now (λ rows. AreFilingRows user.now rows.items) (state S.Store self.old) (state S.Store self.new) result }
     {
-        self.require_account(user)?;
+        self.enter(user)?;
         Ok(find_filings(&mut self.conn, user)?)
     }
 

@@ -2,7 +2,7 @@
 ghost use Rattle.std.specs.Prelude.{◌≡◌, ℕ, false, OnOk, List, map, IfOk, IfErr};
 ghost use Rattle.sqlite.specs.Held.{state};
 ghost use Rattle.mailstore.specs.CopyRows.{AreMessageRows};
-ghost use Rattle.mailstore.specs.Promises.{Finds, Reads, ReadsRows};
+ghost use Rattle.mailstore.specs.Promises.{Finds, Reads, ReadsEntered};
 ghost use Rattle.mailtables.specs.Connection.{Queries};
 ghost use Rattle.mailstore.specs.Tally.{AreFolderRows, tallied, AreFolders, counted};
 ghost use Rattle.mailstore.specs.Account.{messages_in};
@@ -89,28 +89,20 @@ fn tally(alloc: Global, rows: &[Row]) -> Result<List<Folder>, Refusal>
 }
 
 impl<S: Alter> Store<S> {
-    /// The rows with the messages of the folder, in the order of their numbers.
-    fn message_rows(&mut self, user: &[u8], folder: &[u8]) -> Result<Vec<Row>, Refusal>
-        ensures { ReadsRows user.now (AreMessageRows folder.now) (state S.Store self.old) (state S.Store self.new) result }
-    {
-        self.require_account(user)?;
-        Ok(find_messages(&mut self.conn, user, folder)?)
-    }
-
     /// The messages of the folder, in the order in which they came; none where it is absent.
     pub fn folder(&mut self, user: &[u8], folder: &[u8]) -> Result<Texts, Refusal>
         ensures { Reads user.now (λ messages a. messages ≡ messages_in a.folders folder.now) (state S.Store self.old) (state S.Store self.new) result }
     {
-        let rows = self.message_rows(user, folder)?;
-        all_from_rows(self.alloc, &rows)
+        self.enter(user)?;
+        self.folder_of(user, folder)
     }
 
-    /// The rows with the folder of each copy, in the order of their octets.
-    fn folder_rows(&mut self, user: &[u8]) -> Result<Vec<Row>, Refusal>
-        ensures { ReadsRows user.now AreFolderRows (state S.Store self.old) (state S.Store self.new) result }
+    /// The same of an account that was entered.
+    fn folder_of(&mut self, user: &[u8], folder: &[u8]) -> Result<Texts, Refusal>
+        ensures { ReadsEntered user.now (λ messages a. messages ≡ messages_in a.folders folder.now) (state S.Store self.old) (state S.Store self.new) result }
     {
-        self.require_account(user)?;
-        Ok(find_folders(&mut self.conn, user)?)
+        let rows = find_messages(&mut self.conn, user, folder)?;
+        all_from_rows(self.alloc, &rows)
     }
 
     /// The user's folders in the order of the octets of their names, with how many messages they
@@ -118,7 +110,15 @@ impl<S: Alter> Store<S> {
     pub fn folders(&mut self, user: &[u8]) -> Result<List<Folder>, Refusal>
         ensures { Reads user.now AreFolders (state S.Store self.old) (state S.Store self.new) result }
     {
-        let rows = self.folder_rows(user)?;
+        self.enter(user)?;
+        self.folders_of(user)
+    }
+
+    /// The same of an account that was entered.
+    fn folders_of(&mut self, user: &[u8]) -> Result<List<Folder>, Refusal>
+        ensures { ReadsEntered user.now AreFolders (state S.Store self.old) (state S.Store self.new) result }
+    {
+        let rows = find_folders(&mut self.conn, user)?;
         tally(self.alloc, &rows)
     }
 }

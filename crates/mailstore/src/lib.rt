@@ -25,6 +25,6 @@ pub use profile::Profile;
 pub use queue::Outgoing;
 pub use refusal::Refusal;
 pub use reply::KeptReply;
-pub use report::{Letter, Plan, Remembered, Report, VacationReport};
+pub use report::{Plan, Report, VacationReply, VacationReport};
 pub use store::Store;
 pub use taking::NumberedMessage;

@@ -3,7 +3,7 @@ ghost use Rattle.std.specs.Prelude.{◌≡◌, false};
 ghost use Rattle.sqlite.specs.Held.{state};
 ghost use Rattle.mailtables.specs.Connection.{Queries};
 ghost use Rattle.mailstore.specs.NoticeRows.{AreNoticeRows};
-ghost use Rattle.mailstore.specs.Promises.{Finds, Reads, ReadsRows};
+ghost use Rattle.mailstore.specs.Promises.{Finds, Reads, ReadsEntered};
 
 use crate::cell::text_at;
 use crate::refusal::Refusal;
@@ -50,19 +50,19 @@ impl FromRow for Notice {
 }
 
 impl<S: Alter> Store<S> {
-    /// The rows of the user's notices, in the order of their numbers.
-    fn notice_rows(&mut self, user: &[u8]) -> Result<Vec<Row>, Refusal>
-        ensures { ReadsRows user.now AreNoticeRows (state S.Store self.old) (state S.Store self.new) result }
-    {
-        self.require_account(user)?;
-        Ok(find_notices(&mut self.conn, user)?)
-    }
-
     /// The user's notices, in the order in which they came.
     pub fn notices(&mut self, user: &[u8]) -> Result<List<Notice>, Refusal>
         ensures { Reads user.now (λ notices a. notices ≡ a.notices) (state S.Store self.old) (state S.Store self.new) result }
     {
-        let rows = self.notice_rows(user)?;
+        self.enter(user)?;
+        self.notices_of(user)
+    }
+
+    /// The same of an account that was entered.
+    fn notices_of(&mut self, user: &[u8]) -> Result<List<Notice>, Refusal>
+        ensures { ReadsEntered user.now (λ notices a. notices ≡ a.notices) (state S.Store self.old) (state S.Store self.new) result }
+    {
+        let rows = find_notices(&mut self.conn, user)?;
         all_from_rows(self.alloc, &rows)
     }
 }

@@ -1,18 +1,18 @@
 //! A user's messages on their way out.
-ghost use Rattle.std.specs.Prelude.{◌≡◌, false, pos, IfOk, IfErr};
+ghost use Rattle.std.specs.Prelude.{◌≡◌, false, pos, IfOk, IfErr, option_copied};
 ghost use Rattle.sqlite_value.specs.declared.value.Value.TheVariants.{Int};
 ghost use Rattle.sqlite_value.specs.Order.{column};
 ghost use Rattle.sqlite.specs.Held.{state};
-ghost use Rattle.mailstore.specs.Account.{takes_out};
+ghost use Rattle.mailstore.specs.Account.{row_with, takes_out};
 ghost use Rattle.mailtables.specs.Connection.{Queries};
-ghost use Rattle.mailstore.specs.Promises.{Finds, Reads, ReadsRows, WritesUser};
-ghost use Rattle.mailstore.specs.QueueRows.{AreQueueRows};
+ghost use Rattle.mailstore.specs.Promises.{Finds, Reads, ReadsEntered, WritesUser};
+ghost use Rattle.mailstore.specs.QueueRows.{AreQueueRows, HasOutgoingRow, IsOutgoing};
 ghost use Rattle.mailtables.specs.QueueTable.{kind_number};
 ghost use Rattle.mailstore.specs.Refusals.{IsTransient};
 
 use crate::cell::{number, text_at};
 use crate::refusal::Refusal;
-use crate::row::{FromRow, all_from_rows};
+use crate::row::{FromRow, all_from_rows, first_from_row};
 use crate::store::Store;
 use mailtables::{Change, Kind, query};
 use octets::{List, Octets};
@@ -46,6 +46,24 @@ impl Outgoing {
     }
 }
 
+/// The row with the number, if there is one.
+fn row_in(rows: &[Outgoing], id: u64) -> Option<&Outgoing>
+    ensures { option_copied result ≡ row_with id rows.now }
+{
+    rows.iter().find(|row| row.id == id)
+}
+
+/// A copy of the row, if there is one.
+fn cloned(alloc: Global, row: Option<&Outgoing>) -> Result<Option<Outgoing>, Refusal>
+    ensures same { IfOk result (λ copy. copy ≡ option_copied row.entry) }
+    ensures named { IfErr result IsTransient }
+{
+    match row {
+        Some(row) => Ok(Some(row.try_clone(alloc)?)),
+        None => Ok(None),
+    }
+}
+
 /// The user's queue, in the order of its numbers.
 fn find_queue<S: Alter>(conn: &mut Connection<S>, owner: &[u8]) -> Result<Vec<Row>, Error>
     requires { conn.old.in_transaction ≡ false }
@@ -55,6 +73,22 @@ fn find_queue<S: Alter>(conn: &mut Connection<S>, owner: &[u8]) -> Result<Vec<Ro
         conn,
         "SELECT id, kind, sender, target, message FROM outgoing WHERE owner = ?1 ORDER BY id",
         params![owner],
+    )
+}
+
+/// The message of the user's queue with the number.
+fn find_outgoing<S: Alter>(
+    conn: &mut Connection<S>,
+    owner: &[u8],
+    id: &i64,
+) -> Result<Vec<Row>, Error>
+    requires { conn.old.in_transaction ≡ false }
+    ensures { Queries S.Store (Finds owner.now (HasOutgoingRow id.now)) conn.old conn.new result }
+{
+    query(
+        conn,
+        "SELECT id, kind, sender, target, message FROM outgoing WHERE owner = ?1 AND id = ?2",
+        params![owner, id],
     )
 }
 
@@ -93,20 +127,55 @@ impl FromRow for Outgoing {
 }
 
 impl<S: Alter> Store<S> {
-    /// The rows of the user's queue, in the order of their numbers.
-    fn queue_rows(&mut self, user: &[u8]) -> Result<Vec<Row>, Refusal>
-        ensures { ReadsRows user.now AreQueueRows (state S.Store self.old) (state S.Store self.new) result }
-    {
-        self.require_account(user)?;
-        Ok(find_queue(&mut self.conn, user)?)
-    }
-
     /// The user's messages on their way out, in the order of their numbers. All are in memory at once.
     pub fn queue(&mut self, user: &[u8]) -> Result<List<Outgoing>, Refusal>
         ensures { Reads user.now (λ queue a. queue ≡ a.queue) (state S.Store self.old) (state S.Store self.new) result }
     {
-        let rows = self.queue_rows(user)?;
+        self.enter(user)?;
+        self.queue_of(user)
+    }
+
+    /// The same of an account that was entered.
+    fn queue_of(&mut self, user: &[u8]) -> Result<List<Outgoing>, Refusal>
+        ensures { ReadsEntered user.now (λ queue a. queue ≡ a.queue) (state S.Store self.old) (state S.Store self.new) result }
+    {
+        let rows = find_queue(&mut self.conn, user)?;
         all_from_rows(self.alloc, &rows)
+    }
+
+    /// The message on its way out with the number; none where no row of the queue has it. No other row is read.
+    pub fn outgoing(&mut self, user: &[u8], id: u64) -> Result<Option<Outgoing>, Refusal>
+        ensures { Reads user.now (λ row a. row ≡ row_with id a.queue) (state S.Store self.old) (state S.Store self.new) result }
+    {
+        self.enter(user)?;
+        self.outgoing_of(user, id)
+    }
+
+    /// The same of an account that was entered.
+    pub fn outgoing_of(&mut self, user: &[u8], id: u64) -> Result<Option<Outgoing>, Refusal>
+        ensures { ReadsEntered user.now (λ row a. row ≡ row_with id a.queue) (state S.Store self.old) (state S.Store self.new) result }
+    {
+        match i64::try_from(id) {
+            Ok(id) => self.outgoing_at(user, id),
+            // The database has no such number, which its contracts don't say: all rows are looked at.
+            Err(_) => self.outgoing_among(user, id),
+        }
+    }
+
+    /// The message with the number, found by its key.
+    fn outgoing_at(&mut self, user: &[u8], id: i64) -> Result<Option<Outgoing>, Refusal>
+        ensures { ReadsEntered user.now (IsOutgoing id) (state S.Store self.old) (state S.Store self.new) result }
+    {
+        let rows = find_outgoing(&mut self.conn, user, &id)?;
+        first_from_row(&rows)
+    }
+
+    /// The message with the number, found among all of the queue.
+    fn outgoing_among(&mut self, user: &[u8], id: u64) -> Result<Option<Outgoing>, Refusal>
+        ensures { ReadsEntered user.now (λ row a. row ≡ row_with id a.queue) (state S.Store self.old) (state S.Store self.new) result }
+    {
+        let queue = self.queue_of(user)?;
+        cloned(self.alloc, row_in(queue.as_slice(), id))
     }
 
     /// The row with the number leaves the queue; the number is not used again. That a row has the number is for the

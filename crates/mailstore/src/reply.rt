@@ -2,7 +2,7 @@
 ghost use Rattle.std.specs.Prelude.{◌≡◌, false, pos, option_map, slice_get, IfOk, IfErr};
 ghost use Rattle.sqlite_value.specs.declared.value.Value.TheVariants.{Int};
 ghost use Rattle.sqlite_value.specs.Order.{column};
-ghost use Rattle.mailstore.specs.Promises.{Finds, Reads, ReadsRows};
+ghost use Rattle.mailstore.specs.Promises.{Finds, Reads, ReadsEntered};
 ghost use Rattle.mailtables.specs.Connection.{Queries};
 ghost use Rattle.mailstore.specs.Refusals.{IsTransient};
 ghost use Rattle.mailstore.specs.ReplyRows.{AreReplies, AreReplyRows, HasMomentRow, IsLastReply};
@@ -89,19 +89,6 @@ impl FromRow for KeptReply {
 }
 
 impl<S: Alter> Store<S> {
-    /// The row with the moment that is kept under the handle's key and the sender, if one is.
-    fn moment_rows(
-        &mut self,
-        user: &[u8],
-        handle: &[u8],
-        sender: &[u8],
-    ) -> Result<Vec<Row>, Refusal>
-        ensures { ReadsRows user.now (HasMomentRow (handle.now, sender.now)) (state S.Store self.old) (state S.Store self.new) result }
-    {
-        self.require_account(user)?;
-        Ok(find_moment(&mut self.conn, user, handle, sender)?)
-    }
-
     /// The moment of the last reply to the sender under the handle's key, if one is kept; case ignored in the sender.
     pub fn last_reply(
         &mut self,
@@ -111,17 +98,22 @@ impl<S: Alter> Store<S> {
     ) -> Result<Option<u64>, Refusal>
         ensures { Reads user.now (IsLastReply handle.now sender.now) (state S.Store self.old) (state S.Store self.new) result }
     {
-        let sender = octets::lowered(self.alloc, sender)?;
-        let rows = self.moment_rows(user, handle, sender.as_slice())?;
-        first_moment(&rows)
+        self.enter(user)?;
+        self.last_reply_of(user, handle, sender)
     }
 
-    /// The rows of the replies to the sender.
-    fn reply_rows(&mut self, user: &[u8], sender: &[u8]) -> Result<Vec<Row>, Refusal>
-        ensures { ReadsRows user.now (AreReplyRows sender.now) (state S.Store self.old) (state S.Store self.new) result }
+    /// The same of an account that was entered.
+    fn last_reply_of(
+        &mut self,
+        user: &[u8],
+        handle: &[u8],
+        sender: &[u8],
+    ) -> Result<Option<u64>, Refusal>
+        ensures { ReadsEntered user.now (IsLastReply handle.now sender.now) (state S.Store self.old) (state S.Store self.new) result }
     {
-        self.require_account(user)?;
-        Ok(find_replies(&mut self.conn, user, sender)?)
+        let sender = octets::lowered(self.alloc, sender)?;
+        let rows = find_moment(&mut self.conn, user, handle, sender.as_slice())?;
+        first_moment(&rows)
     }
 
     /// The moments of the last replies to the sender, in the order of the octets of their handles' keys; case ignored
@@ -129,8 +121,16 @@ impl<S: Alter> Store<S> {
     pub fn replies(&mut self, user: &[u8], sender: &[u8]) -> Result<List<KeptReply>, Refusal>
         ensures { Reads user.now (AreReplies sender.now) (state S.Store self.old) (state S.Store self.new) result }
     {
+        self.enter(user)?;
+        self.replies_of(user, sender)
+    }
+
+    /// The same of an account that was entered.
+    pub fn replies_of(&mut self, user: &[u8], sender: &[u8]) -> Result<List<KeptReply>, Refusal>
+        ensures { ReadsEntered user.now (AreReplies sender.now) (state S.Store self.old) (state S.Store self.new) result }
+    {
         let sender = octets::lowered(self.alloc, sender)?;
-        let rows = self.reply_rows(user, sender.as_slice())?;
+        let rows = find_replies(&mut self.conn, user, sender.as_slice())?;
         all_from_rows(self.alloc, &rows)
     }
 }

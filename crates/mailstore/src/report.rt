@@ -24,42 +24,27 @@ pub struct Report {
     pub notice: Option<Octets>,
 }
 
-/// A message that a delivery puts into the queue.
+/// The reply of a delivery to the sender of the message (RFC 5230).
 #[derive(Debug, Drop)]
-pub enum Letter {
-    /// The message as it was received, from the envelope sender, to another address (RFC 5228, section 4.2).
-    Redirect { target: Octets },
-    /// A vacation reply of its own octets, from the empty sender (RFC 5230, section 5.1).
-    Reply { target: Octets, message: Octets },
-}
-
-/// The moment of the last reply to a sender.
-#[derive(Debug, Drop)]
-pub struct Remembered {
-    /// The key of the vacation's handle, any octets.
+pub struct VacationReply {
+    /// The key of the vacation's handle, any octets, under which the moment of the reply is kept.
     pub handle: Octets,
-    /// The sender as it was received; it is kept with A to Z written a to z.
-    pub sender: Octets,
-    /// In seconds since 1970-01-01 UTC.
-    pub moment: u64,
+    /// The reply's own octets. It goes to the sender of the message, from the empty sender (RFC 5230, section 5.1).
+    pub message: Octets,
 }
 
-/// What a delivery is to write. The message and its sender are borrowed, so no copy of them is made for a folder or for
-/// an address.
+/// What a delivery is to write: what its report tells of folders, addresses and a notice, and the reply. The message and its
+/// sender are borrowed, so no copy of them is made for a folder or for an address.
 #[derive(Drop)]
 pub struct Plan<'a> {
     pub message: &'a [u8],
-    /// The sender of the envelope, as received.
+    /// The sender of the envelope, as received: a redirect has it (RFC 5228, section 4.2), and a reply goes there.
     pub sender: &'a [u8],
-    /// The moment of the delivery, in seconds since 1970-01-01 UTC. A notice has it.
+    /// The moment of the delivery, in seconds since 1970-01-01 UTC. A notice has it, and a reply is remembered by it.
     pub moment: u64,
-    /// The names of the folders, in order. A name that stands twice gets two copies.
-    pub copies: Texts,
-    /// What joins the queue, in order.
-    pub outgoing: List<Letter>,
-    /// The reply that is remembered, if one is sent.
-    pub remember: Option<Remembered>,
-    /// The text of the notice that is left to the user, if there is one.
-    pub notice: Option<Octets>,
+    /// The message joins each folder that is told as filed, in order: a name that stands twice gets two copies. It joins the
+    /// queue for each address that is told as sent, in order, and the user is left the notice.
     pub report: Report,
+    /// The reply joins the queue after them and is remembered, if one is sent.
+    pub reply: Option<VacationReply>,
 }

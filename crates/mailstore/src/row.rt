@@ -1,5 +1,5 @@
 //! Values that the rows of a query show.
-ghost use Rattle.std.specs.Prelude.{◌≡◌, map, IfOk, IfErr};
+ghost use Rattle.std.specs.Prelude.{◌≡◌, map, option_map, slice_get, IfOk, IfErr};
 ghost use Rattle.sqlite_value.specs.Order.{Row};
 ghost use Rattle.mailstore.specs.Refusals.{IsTransient};
 
@@ -20,6 +20,20 @@ pub trait FromRow: Drop {
     fn from_row(row: &Row) -> Result<Self, Refusal>
         ensures shown { IfOk result (λ value. shows value ≡ cells_of row.now) }
         ensures named { IfErr result IsTransient };
+}
+
+/// The value that the first row shows, if there is a row.
+pub fn first_from_row<T: FromRow>(rows: &[Row]) -> Result<Option<T>, Refusal>
+    ensures ok { IfOk result (λ first. option_map T.shows first ≡ option_map T.cells_of (slice_get rows.now 0)) }
+    ensures named { IfErr result IsTransient }
+{
+    match rows.first() {
+        Some(row) => {
+            let value = T::from_row(row)?;
+            Ok(Some(value))
+        }
+        None => Ok(None),
+    }
 }
 
 /// The values that the rows show, in their order.

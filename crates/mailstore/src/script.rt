@@ -1,7 +1,7 @@
 //! A user's scripts.
 ghost use Rattle.std.specs.Prelude.{◌≡◌, false, option_map};
 ghost use Rattle.sqlite.specs.Held.{state};
-ghost use Rattle.mailstore.specs.Promises.{Finds, Reads, ReadsRows, Renames, WritesAccount, WritesUser};
+ghost use Rattle.mailstore.specs.Promises.{Finds, Reads, ReadsEntered, Renames, WritesAccount, WritesUser};
 ghost use Rattle.mailtables.specs.Connection.{Queries};
 ghost use Rattle.mailstore.specs.ScriptRows.{AreNameRows, HasTextAndActive, HasTextRow};
 ghost use Rattle.mailtables.specs.Cells.{contents};
@@ -58,35 +58,35 @@ fn active_renamed<'a>(active: Option<&'a Octets>, name: &[u8], other: &'a [u8]) 
 }
 
 impl<S: Alter> Store<S> {
-    /// The row with the text of the script, if there is one.
-    fn script_rows(&mut self, user: &[u8], name: &[u8]) -> Result<Vec<Row>, Refusal>
-        ensures { ReadsRows user.now (HasTextRow name.now) (state S.Store self.old) (state S.Store self.new) result }
-    {
-        self.require_account(user)?;
-        Ok(find_script(&mut self.conn, user, name)?)
-    }
-
     /// The text of the script; none where no script has the name.
     pub fn script(&mut self, user: &[u8], name: &[u8]) -> Result<Option<Octets>, Refusal>
         ensures { Reads user.now (λ text a. text ≡ get a.scripts name.now) (state S.Store self.old) (state S.Store self.new) result }
     {
-        let rows = self.script_rows(user, name)?;
-        first_text(&rows)
+        self.enter(user)?;
+        self.script_of(user, name)
     }
 
-    /// The rows with the names of the scripts, in their order.
-    fn name_rows(&mut self, user: &[u8]) -> Result<Vec<Row>, Refusal>
-        ensures { ReadsRows user.now AreNameRows (state S.Store self.old) (state S.Store self.new) result }
+    /// The same of an account that was entered.
+    pub fn script_of(&mut self, user: &[u8], name: &[u8]) -> Result<Option<Octets>, Refusal>
+        ensures { ReadsEntered user.now (λ text a. text ≡ get a.scripts name.now) (state S.Store self.old) (state S.Store self.new) result }
     {
-        self.require_account(user)?;
-        Ok(find_names(&mut self.conn, user)?)
+        let rows = find_script(&mut self.conn, user, name)?;
+        first_text(&rows)
     }
 
     /// The names of the user's scripts, in the order of their octets.
     pub fn scripts(&mut self, user: &[u8]) -> Result<Texts, Refusal>
         ensures { Reads user.now (λ names a. names ≡ keys a.scripts) (state S.Store self.old) (state S.Store self.new) result }
     {
-        let rows = self.name_rows(user)?;
+        self.enter(user)?;
+        self.scripts_of(user)
+    }
+
+    /// The same of an account that was entered.
+    pub fn scripts_of(&mut self, user: &[u8]) -> Result<Texts, Refusal>
+        ensures { ReadsEntered user.now (λ names a. names ≡ keys a.scripts) (state S.Store self.old) (state S.Store self.new) result }
+    {
+        let rows = find_names(&mut self.conn, user)?;
         all_from_rows(self.alloc, &rows)
     }
 
@@ -121,9 +121,9 @@ impl<S: Alter> Store<S> {
     ) -> Result<(Option<Octets>, Option<Octets>), Refusal>
         ensures { Reads user.now (HasTextAndActive name.now) (state S.Store self.old) (state S.Store self.new) result }
     {
-        let text = self.script(user, name)?;
-        let active = self.active(user)?;
-        Ok((text, active))
+        let profile = self.enter(user)?;
+        let text = self.script_of(user, name)?;
+        Ok((text, profile.active))
     }
 
     /// The text stands under the other name, where there is one, and another script is active, or none.

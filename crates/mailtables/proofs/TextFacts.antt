@@ -18,7 +18,7 @@ use Rattle.mailtables.specs.AccountTable.{insert_account, update_active, update_
 use Rattle.mailtables.specs.ScriptTable.{insert_script, delete_script, select_names, select_script, script_tree}
 use Rattle.mailtables.specs.MessageTable.{insert_message, delete_message, select_message, message_tree}
 use Rattle.mailtables.specs.CopyTable.{insert_copy, delete_copy, select_filings, select_folders, select_folder, copy_tree}
-use Rattle.mailtables.specs.QueueTable.{outgoing_tree, select_queue, insert_outgoing, delete_outgoing}
+use Rattle.mailtables.specs.QueueTable.{outgoing_tree, select_outgoing, select_queue, insert_outgoing, delete_outgoing}
 use Rattle.mailtables.specs.NoticeTable.{notice_tree, select_notices, insert_notice}
 use Rattle.mailtables.specs.ReplyTable.{reply_tree, insert_reply, delete_reply, select_moment, select_replies}
 
@@ -186,6 +186,14 @@ select_queue_is = refl
 pub select_queue_plain : IsPlain (understood mail_schema select_queue) × (reads_listing mail_schema select_queue ≡ false)
 unfolding understood everything
 select_queue_plain = ((refl, refl), refl)
+
+pub select_outgoing_is : command_of (understood mail_schema select_outgoing) ≡ Select (over outgoing_tree by_two queue_shown []) (codes "id" ∷ codes "kind" ∷ codes "sender" ∷ codes "target" ∷ codes "message" ∷ [])
+unfolding understood everything
+select_outgoing_is = refl
+
+pub select_outgoing_plain : IsPlain (understood mail_schema select_outgoing) × (reads_listing mail_schema select_outgoing ≡ false)
+unfolding understood everything
+select_outgoing_plain = ((refl, refl), refl)
 
 abbrev pub notices_shown : List Term
 notices_shown = col 1 3 ∷ col 1 4 ∷ []

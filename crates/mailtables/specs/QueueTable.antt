@@ -42,3 +42,7 @@ delete_outgoing = codes "DELETE FROM outgoing WHERE owner = ?1 AND id = ?2"
 -- the queue goes out in the order of its numbers
 abbrev pub select_queue : List ℕ
 select_queue = codes "SELECT id, kind, sender, target, message FROM outgoing WHERE owner = ?1 ORDER BY id"
+
+-- one message by its number
+abbrev pub select_outgoing : List ℕ
+select_outgoing = codes "SELECT id, kind, sender, target, message FROM outgoing WHERE owner = ?1 AND id = ?2"

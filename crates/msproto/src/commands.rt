@@ -45,7 +45,7 @@ pub enum Command {
     GetScript(Octets),
     /// Deletes a script (section 2.10).
     DeleteScript(Octets),
-    /// Gives a script another name (section 2.11.1).
+    /// Gives a script another name (section 2.11).
     RenameScript {
         /// The name that the script has.
         old: Octets,

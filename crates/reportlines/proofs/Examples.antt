@@ -1,10 +1,11 @@
 -- Reports and listings by example: right ones, and what is near them.
-use Rattle.std.proofs.Common.{◌≡◌, ℕ, List, refl, ap, get_or, [], ◌∷◌, Some, None, arith}
+use Rattle.std.proofs.Common.{◌≡◌, ℕ, List, refl, ap, get_or, [], ◌∷◌, ◌++◌, Some, None, arith}
 use Rattle.std.specs.Prelude.{codes}
 use Rattle.sievesyntax.specs.Meaning.{Done, Failed}
 use Rattle.sievesyntax.specs.RunState.{TooManyRedirects}
 use Rattle.mailtables.specs.declared.queue.Kind.TheVariants.{Redirect, Reply}
 use Rattle.mailstore.specs.declared.report.VacationReport.TheVariants as vacation
+use Rattle.reportlines.specs.Addresses.{shown_address, shown_octet}
 use Rattle.reportlines.specs.Reports.{delivery_report, report_of}
 use Rattle.reportlines.specs.Listings.{notice_line, notice_listing, queue_line, queue_listing}
 
@@ -49,9 +50,40 @@ queue-reply = refl
 distinct : (x y : ℕ) → x ≡ 97 → y ≡ 98 → x ≡ y → ⊥
 distinct x y a b same = omega arith
 
+other : (x y : ℕ) → x ≡ 101 → y ≡ 69 → x ≡ y → ⊥
+other x y a b same = omega arith
+
+other_digit : (x y : ℕ) → x ≡ 99 → y ≡ 101 → x ≡ y → ⊥
+other_digit x y a b same = omega arith
+
 queue-order : queue_line (record { id = 1; kind = Redirect; sender = codes "a"; target = codes "b"; message = [] }) ≡ codes "1 redirect <b> <a> 0" → ⊥
 unfolding Rattle.std.specs.Fmt.digits
 queue-order e = distinct 97 98 refl refl (ap (λ (l : List ℕ). get_or l 12 0) e)
+
+-- a sender whose quoted local part is `> <`: the line has five words all the same
+queue-escaped :
+    queue_line (record { id = 1; kind = Redirect; sender = codes "\"> <\"@evil.example"; target = codes "c@example.com"; message = codes "x" })
+    ≡ codes "1 redirect <\"\\3e\\20\\3c\"@evil.example> <c@example.com> 1"
+unfolding Rattle.std.specs.Fmt.digits Rattle.hex.specs.Hex.encode_with
+queue-escaped = refl
+
+-- the octets at the ends: 32 and 127 are escaped, 33 and 126 and an octet over 127 aren't; `\` is
+shown-ends : shown_address (0 ∷ 32 ∷ 33 ∷ 126 ∷ 127 ∷ 128 ∷ 255 ∷ 92 ∷ []) ≡ codes "\\00\\20" ++ (33 ∷ 126 ∷ (codes "\\7f" ++ (128 ∷ 255 ∷ codes "\\5c")))
+unfolding Rattle.hex.specs.Hex.encode_with
+shown-ends = refl
+
+-- the digits are in lower case
+third : (text : List ℕ) → ℕ
+third text = get_or text 2 0
+
+shown-lower : shown_octet 62 ≡ codes "\\3E" → ⊥
+unfolding Rattle.hex.specs.Hex.encode_with third
+shown-lower e = other 101 69 refl refl (ap third e)
+
+-- an address that has the octets of an escape isn't the one that is escaped so
+shown-escape : shown_address (codes "\\3e") ≡ shown_address (codes ">") → ⊥
+unfolding Rattle.hex.specs.Hex.encode_with third
+shown-escape e = other_digit 99 101 refl refl (ap third e)
 
 queue-none : queue_listing [] ≡ []
 queue-none = refl

@@ -1,2 +1,4 @@
+pub mod Addresses
+pub mod Laws
 pub mod Listings
 pub mod Reports

@@ -5,6 +5,7 @@ use Rattle.mailtables.specs.declared.queue.Kind.{Kind}
 use Rattle.mailtables.specs.declared.queue.Kind.TheVariants.{Redirect, Reply}
 use Rattle.mailstore.specs.declared.queue.Outgoing.{Outgoing}
 use Rattle.mailstore.specs.declared.notice.Notice.{Notice}
+use Rattle.reportlines.specs.Addresses.{shown_address}
 use Rattle.reportlines.specs.Reports.{with_end}
 
 -- why a message goes out
@@ -12,9 +13,9 @@ abbrev pub kind_word : Kind → List ℕ
 kind_word Redirect = codes "redirect"
 kind_word Reply = codes "reply"
 
--- the line of a message on its way out: number, kind, sender and target in angle brackets, octets
+-- the line of a message on its way out: number, kind, sender and target as lines show them in angle brackets, octets
 abbrev pub queue_line : Outgoing → List ℕ
-queue_line row = decimal row.id ++ (codes " " ++ (kind_word row.kind ++ (codes " <" ++ (row.sender ++ (codes "> <" ++ (row.target ++ (codes "> " ++ decimal (length row.message))))))))
+queue_line row = decimal row.id ++ (codes " " ++ (kind_word row.kind ++ (codes " <" ++ (shown_address row.sender ++ (codes "> <" ++ (shown_address row.target ++ (codes "> " ++ decimal (length row.message))))))))
 
 -- the line of a notice: the moment in seconds since 1970, and the text
 abbrev pub notice_line : Notice → List ℕ

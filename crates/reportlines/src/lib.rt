@@ -2,6 +2,8 @@
 //! a user's queue and notices, a line for each row.
 #![tactic(auto)]
 
+mod address;
+pub mod laws;
 mod line;
 pub mod listing;
 pub mod report;

@@ -3,12 +3,14 @@ ghost use Rattle.std.specs.Prelude.{◌≡◌, ◌++◌, IfOk, OnOk};
 ghost use Rattle.reportlines.specs.Listings.{kind_word, notice_line, notice_listing, queue_line, queue_listing};
 ghost use Rattle.reportlines.specs.Reports.{with_end};
 
+use crate::address::add_address;
 use mailstore::{Kind, Notice, Outgoing};
 use octets::{Octets, write_decimal};
 use std::alloc::{AllocError, Global};
 
 /// A line for each message on its way out, in order: `1 redirect <bob@example.net> <c@example.com> 18`, which are its
-/// number, its kind, its sender, its target and its octets.
+/// number, its kind, its sender, its target and its octets. In an address an octet up to 32, 127, `<`, `>` or `\` is
+/// written `\` and two hexadecimal digits in lower case, so that a line has five words, and says the row.
 pub fn of_queue(alloc: Global, rows: &[Outgoing]) -> Result<Octets, AllocError>
     ensures { IfOk result (λ text. text ≡ queue_listing rows.now) }
 {
@@ -39,9 +41,9 @@ fn add_row(text: &mut Octets, row: &Outgoing) -> Result<(), AllocError>
     text.extend_from_slice(b" ")?;
     text.extend_from_slice(word_of(row.kind))?;
     text.extend_from_slice(b" <")?;
-    text.extend_from_slice(row.sender.as_slice())?;
+    add_address(text, row.sender.as_slice())?;
     text.extend_from_slice(b"> <")?;
-    text.extend_from_slice(row.target.as_slice())?;
+    add_address(text, row.target.as_slice())?;
     text.extend_from_slice(b"> ")?;
     write_decimal(text, row.message.len() as u64)?;
     text.push(b'\n')

@@ -6,6 +6,9 @@ ghost use Rattle.saslplain.specs.Password.{digest_of};
 use octets::Octets;
 use sha2::{Digest, Sha256};
 
+/// How often the digest of a new password is hashed again: a guess costs some milliseconds of work.
+pub const ROUNDS: u32 = 10_000;
+
 /// A password as it is kept: the salt, how many rounds, and the digest that they gave.
 #[derive(Drop)]
 pub struct Record {

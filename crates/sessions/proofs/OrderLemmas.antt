@@ -1,28 +1,23 @@
 -- Commands about scripts, over a store.
-use Rattle.std.proofs.Common.{◌≡◌, ◌⊎◌, ℕ, Bool, true, false, cond, List, ◌++◌, Option, Some, None, option_map, Ok, Err, Result, OnOk, IfOk, IfErr, IsSome, refl, sym, ap, ◌∙◌, subst, inl, inr}
+use Rattle.std.proofs.Common.{◌≡◌, ◌⊎◌, ℕ, Bool, true, false, cond, List, ◌++◌, Option, Some, None, Ok, Err, Result, OnOk, IfOk, IfErr, IsSome, refl, sym, ap, ◌∙◌, subst, inl, inr}
 use Rattle.std.specs.Borrow.{Bor}
-use Rattle.std.specs.FinMap.{get, keys}
+use Rattle.std.specs.FinMap.{get}
 use Rattle.sqlite.specs.State.{State, HasCleanDisk}
 use Rattle.msproto.specs.declared.commands.Command.{Command}
 use Rattle.msproto.specs.declared.commands.Command.TheVariants.{GetScript}
 use Rattle.msproto.specs.declared.replies.Reply.{Reply}
 use Rattle.msproto.specs.Replies.{spelled}
-use Rattle.mailstore.specs.declared.profile.Profile.{Profile}
 use Rattle.mailstore.specs.declared.refusal.Refusal.{Refusal}
 use Rattle.mailstore.specs.declared.refusal.Refusal.TheVariants.{NoUser}
 use Rattle.mailstore.specs.Account.{Account, Accounts, with_user}
-use Rattle.mailstore.specs.AccountRows.{profile_of}
 use Rattle.mailstore.specs.Cells.{contents}
-use Rattle.mailstore.specs.Promises.{HasUser, IsFree, OfUser, Reads, ReadsProfile, WritesUser, WritesAccount}
+use Rattle.mailstore.specs.Promises.{HasUser, IsFree, OfUser, Reads, WritesUser, WritesAccount}
 use Rattle.mailstore.specs.Refusals.{IsTransient}
 use Rattle.mailstore.specs.Shows.{Presents}
-use Rattle.mailstore.proofs.KeepLemmas.{keeps_ok, keeps_refused, keeps_then, mid_shows}
-use Rattle.mailtables.proofs.WriteLemmas.{clean_before}
-use Rattle.sessions.specs.declared.account.KeptScripts.{KeptScripts}
 use Rattle.sessions.specs.declared.decision.Change.{Change}
 use Rattle.sessions.specs.declared.decision.Decision.{Decision}
 use Rattle.sessions.specs.Acts.{Acts}
-use Rattle.sessions.specs.Decisions.{AreScripts, Decides, change_made, change_made_if}
+use Rattle.sessions.specs.Decisions.{Decides, change_made, change_made_if}
 use Rattle.sessions.specs.Orders.{ObeysUser, ObeyedTo, MayObey}
 use Rattle.sessions.specs.Replies.{is_ok, value_of}
 use Rattle.sessions.specs.Scripts.{get_reply, obeyed}
@@ -32,32 +27,6 @@ use Rattle.sessions.proofs.ActLemmas.{glanced, read_shows, acts_read, acts_made,
 pub value_is : (o : Option (Bor (List ℕ))) → contents o ≡ value_of o
 value_is None = refl
 value_is (Some text) = refl
-
--- ---- the names and the active one, by two reads
-
-profile_active : (p : Profile) (a : Account) → Some p ≡ Some (profile_of a) → a.active ≡ p.active
-profile_active p a is = let same : p ≡ profile_of a = cc in sym (ap (λ (q : Profile). q.active) same)
-
-module _ (user : List ℕ) (a b c : State) (r : Result (Option Profile) Refusal) (o : Option Profile) (was : r ≡ Ok o) (p : Profile) (some : o ≡ Some p) (early : ReadsProfile user a b r) where
-  pub kept_read : (names : List (List ℕ)) → Reads user (λ texts account. texts ≡ keys account.scripts) b c (Ok names)
-      → Reads user (λ (kept : KeptScripts) account. AreScripts kept.names kept.active account) a c (Ok (record { names = names; active = p.active }))
-  kept_read names late = record {
-    found = λ clean accounts shows.
-        let there = late.found clean accounts (mid_shows a b c r o was (Ok names) early.keeps late.keeps clean accounts shows) in
-        let told : o ≡ option_map profile_of (get accounts user) = subst (λ q. IfOk q (λ profile. profile ≡ option_map profile_of (get accounts user))) was (early.found (clean_before b c _ late.keeps.crash clean) accounts shows) in
-        (there.0, there.1, (there.2, profile_active p there.0 (sym some ∙ told ∙ ap (option_map profile_of) there.1)));
-    absent = λ clean accounts shows. tt;
-    keeps = keeps_ok a c (Ok names) names (Ok (record { names = names; active = p.active })) refl (keeps_then a b c r o was (Ok names) early.keeps late.keeps);
-    named = tt;
-  }
-
-  pub kept_refused : {X Y : Type 0} (P : X → Account → Type 0) (Q : Y → Account → Type 0) (e : Refusal) → Reads user P b c (Err e) → (q : Result Y Refusal) → q ≡ Err e → Reads user Q a c q
-  kept_refused P Q e late q is = record {
-    found = λ clean accounts shows. subst (λ x. IfOk x (λ y. OfUser accounts user (Q y))) (sym is) tt;
-    absent = λ clean accounts shows. subst (λ x. IfErr x (λ f. f ≡ NoUser → IsFree user accounts)) (sym is) (late.absent clean accounts (mid_shows a b c r o was (Err e) early.keeps late.keeps clean accounts shows));
-    keeps = keeps_refused a c (Err e) e q is (keeps_then a b c r o was (Err e) early.keeps late.keeps);
-    named = subst (λ x. IfErr x (λ f. (f ≡ NoUser) ⊎ IsTransient f)) (sym is) late.named;
-  }
 
 -- ---- decisions
 

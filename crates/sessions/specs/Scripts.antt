@@ -122,7 +122,7 @@ RepliesToDelete a name reply =
     (Where (a.active ≡ Some name) (reply ≡ declined (Some Active) (codes "Script is active.")) (reply ≡ done))
     (reply ≡ absent)
 
--- `RENAMESCRIPT` (RFC 5804, 2.11.1): the new name must be free, so it isn't the old one
+-- `RENAMESCRIPT` (RFC 5804, 2.11): the new name must be free, so it isn't the old one
 abbrev pub RepliesToRename : Account → List ℕ → List ℕ → Reply → Type 0
 RepliesToRename a old new reply =
     Where (HasScript a old)

@@ -14,7 +14,7 @@ ghost use Rattle.sessions.specs.Table.{is_about_scripts};
 ghost use Rattle.sessions.specs.Turns.{admitted_in};
 
 use crate::decision::{Change, Decision};
-use crate::login::has_password;
+use crate::login::{has_password, spend_rounds};
 use crate::scripts::{decide, get_script};
 use mailstore::{Profile, Refusal, Store};
 use msproto::{Command, spell};
@@ -75,11 +75,12 @@ pub(crate) fn admitted<S: Alter>(
     checked(store, login)
 }
 
-/// The user of the login, if the account has the password.
+/// The user of the login, if the account has the password. A name without an account takes as long as a wrong password.
 fn checked<S: Alter>(store: &mut Store<S>, login: Login) -> Result<Option<Octets>, Refusal>
     ensures { ReadsAccounts (λ who accounts. admitted_by accounts (login_shown (Some login)) ≡ who) (state S.Store store.old) (state S.Store store.new) result }
 {
     let Some(profile) = store.account(login.user.as_slice())? else {
+        spend_rounds(&login);
         return Ok(None);
     };
     let kept = record_of(profile);
@@ -142,10 +143,8 @@ fn decision_on<'a, S: Alter>(
 fn kept_scripts<S: Alter>(store: &mut Store<S>, user: &[u8]) -> Result<KeptScripts, Refusal>
     ensures { Reads user.now (λ kept a. AreScripts kept.names kept.active a) (state S.Store store.old) (state S.Store store.new) result }
 {
-    let Some(profile) = store.account(user)? else {
-        return Err(Refusal::NoUser);
-    };
-    let names = store.scripts(user)?;
+    let profile = store.enter(user)?;
+    let names = store.scripts_of(user)?;
     Ok(KeptScripts {
         names,
         active: profile.active,

@@ -9,7 +9,7 @@ use crate::replies::{accepted, challenge, declined, farewell};
 use crate::turn::{Sequel, Turn};
 use msproto::{Command, Reply};
 use octets::Octets;
-use saslplain::{Login, Record, accepts};
+use saslplain::{Login, ROUNDS, Record, accepts, digest};
 use std::alloc::{AllocError, Global};
 
 /// How many logins may fail before a further failure ends the session: this project's own limit.
@@ -42,6 +42,13 @@ pub fn has_password(login: &Login, kept: &Record) -> bool
     ensures { result ≡ s.has_password login.now.password (t.password_of kept.now) }
 {
     accepts(kept, login.password.as_slice())
+}
+
+/// Takes as long as `has_password` does at an account's record, and looks at nothing: what a login by a name without an
+/// account is given, so that the time of the answer doesn't tell which names have one. An account's salt has 16 octets.
+pub(crate) fn spend_rounds(login: &Login) {
+    let salt = [0; 16];
+    let _unused = digest(&salt, ROUNDS, login.password.as_slice());
 }
 
 /// What `AUTHENTICATE` and the answer to a challenge come to, in a session where this user is logged in or nobody, and so

@@ -187,7 +187,7 @@ fn delete_script<'a>(
     agree(alloc, b"Done.", Some(Change::Delete(name)))
 }
 
-// `RENAMESCRIPT` (RFC 5804, 2.11.1).
+// `RENAMESCRIPT` (RFC 5804, 2.11).
 fn rename_script<'a>(
     alloc: Global,
     names: &[Octets],

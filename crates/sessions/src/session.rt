@@ -38,8 +38,8 @@ const TOO_BIG: &[u8] = b"BYE \"Too big.\"\r\n";
 /// a challenge waits for its answer, and whether the session has ended. Contracts see that, and two counts of octets: of
 /// those that came, and of those that the scans looked at whose items are taken off.
 ///
-/// Each octet that comes is looked at once, by a scan for the end of the first item. A session holds at most what may stand
-/// unread: what is too big ends it.
+/// The scans for the ends of items count each octet that comes once at most; a command's octets are read again for its
+/// value. A session holds at most what may stand unread: what is too big ends it.
 #[derive(Drop)]
 pub struct Session {
     alloc: Global,

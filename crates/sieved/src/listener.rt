@@ -1,7 +1,7 @@
 //! Clients on the loopback address, one after the other.
 use keepers::Keeper;
 use sievedrun::fault::{Fault, refuse};
-use sievedrun::session::serve_one;
+use sievedrun::session::serve_client;
 use sievedrun::values::{decimal, port_of};
 use sievedwords::Place;
 use std::alloc::Global;
@@ -32,17 +32,18 @@ pub fn serve<R, W: Write, F: Write, K: Keeper>(
 where
     R: Net<Listener = TcpListener, Stream = TcpStream>,
 {
-    match served(rt, alloc, service, output, keeper) {
+    match served(rt, alloc, service, output, faults, keeper) {
         Ok(()) => 0,
         Err(fault) => refuse(faults, fault),
     }
 }
 
-fn served<R, W: Write, K: Keeper>(
+fn served<R, W: Write, F: Write, K: Keeper>(
     rt: &R,
     alloc: Global,
     service: Service<'_>,
     output: &mut W,
+    faults: &mut F,
     keeper: &mut K,
 ) -> Result<(), Fault>
 where
@@ -57,7 +58,14 @@ where
         return Err(Fault::Stream);
     };
     keeper.wait_for_lock(service.place.waits);
-    serve_all(alloc, service.place.path, &listener, sessions, keeper)
+    serve_all(
+        alloc,
+        service.place.path,
+        &listener,
+        sessions,
+        faults,
+        keeper,
+    )
 }
 
 /// A listener on the loopback address, of which the first line of the output tells.
@@ -72,12 +80,14 @@ where
     Ok(listener)
 }
 
-/// Serves each client that connects, up to that many. A client that is gone before it is accepted isn't counted.
-fn serve_all<K: Keeper>(
+/// Serves each client that connects, up to that many. A client that is gone before it is accepted isn't counted. The first
+/// trouble with the store that a client meets is told on the faults.
+fn serve_all<F: Write, K: Keeper>(
     alloc: Global,
     path: &str,
     listener: &TcpListener,
     sessions: Option<u64>,
+    faults: &mut F,
     keeper: &mut K,
 ) -> Result<(), Fault> {
     let mut left = sessions;
@@ -91,7 +101,7 @@ fn serve_all<K: Keeper>(
             Err(_) => return Err(Fault::Stream),
         };
         let (mut input, mut output) = (&stream, &stream);
-        let _ = serve_one(alloc, path, &mut input, &mut output, keeper);
+        let _ = serve_client(alloc, path, &mut input, &mut output, faults, keeper);
         left = match left {
             Some(0 | 1) => return Ok(()),
             Some(more) => Some(more - 1),

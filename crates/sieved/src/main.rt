@@ -7,13 +7,14 @@ mod listener;
 use keepers::{FileKeeper, Keeper};
 use listener::{Service, serve};
 use mailsinks::{MailSink, Maildir};
+use octets::Octets;
 use sievedrun::drive::drive;
 use sievedrun::fault::{Fault, refuse};
 use sievedrun::session::run_session;
-use sievedwords::{Asked, read};
+use sievedwords::{Asked, CommandLine, read};
 use std::alloc::{AllocError, Global};
-use std::env;
-use std::io::{ErrorKind, Read, Write};
+use std::env::{Env, FillError};
+use std::io::{Read, Write};
 use std::net::{Net, TcpListener, TcpStream};
 use std::process::ExitCode;
 use std::time::SystemTime;
@@ -21,13 +22,13 @@ use std::time::SystemTime;
 fn main(rt: HostRuntime) -> ExitCode {
     let status = match words_after_name(&rt) {
         Ok(words) => run(&rt, &words),
-        Err(fault) => refuse(&mut rt.stderr(), fault),
+        Err(refused) => refuse(&mut rt.stderr(), Fault::from(refused)),
     };
     ExitCode::from(status)
 }
 
 /// Does what the words ask for, over the standard streams and a file, and answers the exit status.
-fn run(rt: &HostRuntime, words: &[String]) -> u8 {
+fn run(rt: &HostRuntime, words: &CommandLine) -> u8 {
     answer(
         rt,
         rt.alloc(),
@@ -45,7 +46,7 @@ fn run(rt: &HostRuntime, words: &[String]) -> u8 {
 fn answer<N, R: Read, W: Write, F: Write, K: Keeper, T: MailSink>(
     net: &N,
     alloc: Global,
-    words: &[String],
+    words: &CommandLine,
     clock: Option<u64>,
     input: &mut R,
     output: &mut W,
@@ -77,20 +78,37 @@ where
 }
 
 /// What the words ask for, where the first is `serve` or `session` and the others are right.
-fn asked_of_server<'a>(alloc: Global, words: &'a [String]) -> Option<Asked<'a>> {
-    match words.first()?.as_str() {
+fn asked_of_server<'a>(alloc: Global, words: &'a CommandLine) -> Option<Asked<'a>> {
+    match words.first()? {
         "serve" | "session" => read(alloc, words).ok(),
         _ => None,
     }
 }
 
-/// The words of the command line after the program's name. They are text: other octets are a bad argument.
-fn words_after_name(rt: &HostRuntime) -> Result<Vec<String>, Fault> {
-    match env::args(rt) {
-        Ok(words) => Ok(words.skip(1).collect(rt.alloc())?),
-        Err(error) if error.kind() == ErrorKind::OutOfMemory => Err(Fault::from(AllocError)),
-        Err(_) => Err(Fault::BadArgument),
+/// The words of the command line after the program's name.
+fn words_after_name(rt: &HostRuntime) -> Result<CommandLine, AllocError> {
+    let mut words = Vec::new(rt.alloc());
+    for at in 1..usize::MAX {
+        match word_at(rt, at)? {
+            Some(word) => words.push(word)?,
+            None => break,
+        }
     }
+    CommandLine::new(rt.alloc(), words)
+}
+
+/// The word at a place, counted from the program's name; none after the last one.
+fn word_at(rt: &HostRuntime, at: usize) -> Result<Option<Octets>, AllocError> {
+    let mut room = Vec::new(rt.alloc());
+    for bits in 8..usize::BITS {
+        room.resize(1 << bits, 0)?;
+        match rt.arg(at, &mut room) {
+            Ok(len) => return Ok(Some(Octets::from_slice(rt.alloc(), &room[..len])?)),
+            Err(FillError::NotPresent) => return Ok(None),
+            Err(FillError::TooLong) => {}
+        }
+    }
+    Err(AllocError)
 }
 
 /// Seconds since 1970, where the clock can be read.

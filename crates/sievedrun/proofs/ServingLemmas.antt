@@ -1,5 +1,5 @@
 -- Rounds of a session, one after the other.
-use Rattle.std.proofs.Common.{◌≡◌, ℕ, ◌+◌, ◌≤◌, true, false, List, [], ◌∷◌, ◌++◌, length, take, Option, Some, None, Result, Ok, Err, OnOk, OnErr, IsTrue, refl, sym, ap, ◌∙◌, subst, inl, inr, append_assoc, append-nil}
+use Rattle.std.proofs.Common.{◌≡◌, ℕ, ◌+◌, ◌≤◌, Bool, true, false, List, [], ◌∷◌, ◌++◌, length, take, Option, Some, None, Result, Ok, Err, OnOk, OnErr, IsTrue, refl, sym, ap, ◌∙◌, subst, inl, inr, append_assoc, append-nil}
 use Rattle.std.proofs.Math.Seq.{take-append_seam, take-append-add}
 use Rattle.std.proofs.lemmas.Grind.{flat_map-append}
 use Rattle.std.specs.Io.KnownBytes.{Appends, Consumes}
@@ -13,6 +13,7 @@ use Rattle.sessions.specs.Acts.{Carries}
 use Rattle.sessions.specs.Clients.{Client, client_given, is_ready, new_client}
 use Rattle.sessions.specs.GivenUp.{text_given_up, client_given_up}
 use Rattle.sessions.specs.Orders.{StepsTo}
+use Rattle.sessions.specs.Steps.{StepsOver}
 use Rattle.sessions.specs.Replies.{capabilities}
 use Rattle.msproto.specs.Machine.{rows}
 use Rattle.msproto.specs.Replies.{spelled}
@@ -178,6 +179,22 @@ first_given_up accounts c d out out2 out3 waits waits2 text new ready shown told
       none = refl;
       written = subst (λ l. AppendsFront out out3 (waits ++ l)) (sym (append-nil text)) (front_on out out2 out3 waits text before broken);
     }
+
+-- what comes first is answered, or breaks off, after what was answered
+pub first_on : (accounts : Accounts) (c m d : Client) (out out2 out3 : Option (List ℕ)) (waits waits2 waits3 : List ℕ) (mid new : Database) → Answered accounts c out waits out2 waits2 m mid
+    → (r : Result (Unit {0}) Fault) → ((a : Accounts) → Presents mid a → AnswersFirst a m out2 waits2 out3 waits3 d new r) → AnswersFirst accounts c out waits out3 waits3 d new r
+first_on accounts c m d out out2 out3 waits waits2 waits3 mid new first (Ok done) then = answered_on accounts c m d out out2 out3 waits waits2 waits3 mid new first then
+first_on accounts c m d out out2 out3 waits waits2 waits3 mid new first (Err fault) then = interrupted_on accounts c m out out2 out3 waits waits2 mid new first then
+
+-- a step answers it, or nothing changed
+pub step_answers : (accounts : Accounts) (c d : Client) (out : Option (List ℕ)) (waits waits2 : List ℕ) (new : Database) (made : Bool) → is_ready c ≡ true → StepsOn accounts c waits waits2 d new made → Answered accounts c out waits out waits2 d new
+step_answers accounts c d out waits waits2 new true ready step = first_stepped accounts c d out waits waits2 new ready step
+step_answers accounts c d out waits waits2 new false ready (same, silent, shown) =
+    subst (λ x. Answered accounts c out waits out waits2 x new) (sym same) (subst (λ w. Answered accounts c out waits out w c new) (sym silent) (answered_none accounts c out waits new shown))
+
+-- a step that asks no store answers it
+pub free_stepped : (c d : Client) (progress : Progress) (waits waits2 : List ℕ) (new : Database) → StepsOver c d progress waits waits2 → (accounts : Accounts) → Presents new accounts → StepsOn accounts c waits waits2 d new true
+free_stepped c d progress waits waits2 new over accounts shown = (progress, over.octets, accounts, over.written, over.step accounts, shown)
 
 -- ---- all that is whole
 

@@ -2,6 +2,7 @@
 use Rattle.std.proofs.Common.{◌≡◌, ℕ, ◌+◌, List, [], ◌++◌, Option, Some, None, refl, sym, ap, ◌∙◌, subst, append_assoc, append-nil, take, drop}
 use Rattle.std.proofs.Math.Seq.{take-add}
 use Rattle.std.specs.Io.KnownBytes.{Appends, Consumes, Keeps}
+use Rattle.sievedrun.specs.Streams.{AppendsSome, AppendsFirst}
 
 -- before the first read nothing is taken
 pub nothing_read : (a : Option (List ℕ)) → Consumes a a []
@@ -50,3 +51,17 @@ written_none (Some x) (Some y) (Some z) written first kept = kept ∙ first
 pub text_on : (a b c : Option (List ℕ)) (text rest : List ℕ) (at n : ℕ) → rest ≡ drop at text → Appends a b (take at text) → Appends b c (take n rest) → Appends a c (take (at + n) text)
 text_on a b c text rest at n split before more =
     subst (Appends a c) (sym (take-add at n text ∙ ap (λ l. take at text ++ take n l) (sym split))) (written_on a b c _ _ before more)
+
+-- it grew, and grew again
+pub some_then : (a b c : Option (List ℕ)) → AppendsSome a b → AppendsSome b c → AppendsSome a c
+some_then a b c one two = (one.0 ++ two.0, written_on a b c one.0 two.0 one.1 two.1)
+
+-- a text comes first, whatever follows
+pub first_then : (a b c : Option (List ℕ)) (text : List ℕ) → AppendsFirst a b text → AppendsSome b c → AppendsFirst a c text
+first_then a b c text one two =
+    let all = written_on a b c (take one.0 text ++ one.1) two.0 one.2 two.1 in
+    (one.0, one.1 ++ two.0, subst (Appends a c) (append_assoc (take one.0 text) one.1 two.0) all)
+
+-- and it grew by it
+pub first_some : (a b : Option (List ℕ)) (text : List ℕ) → AppendsFirst a b text → AppendsSome a b
+first_some a b text first = (take first.0 text ++ first.1, first.2)

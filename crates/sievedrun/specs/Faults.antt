@@ -54,6 +54,10 @@ line_of fault = codes "sieved: " ++ text_of fault ++ 10 ∷ []
 abbrev pub memory : Fault
 memory = Refused refusal.Memory
 
+-- the store failed
+abbrev pub store_failed : Fault
+store_failed = Refused refusal.Store
+
 -- no account has the name
 abbrev pub no_user : Fault
 no_user = Refused refusal.NoUser

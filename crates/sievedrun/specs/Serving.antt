@@ -106,6 +106,11 @@ abbrev pub AnswersAll : Accounts → Client → Option (List ℕ) → Option (Li
 AnswersAll accounts c out_old out_new d new (Ok done) = Answered accounts c out_old [] out_new [] d new × (is_ready d ≡ false)
 AnswersAll accounts c out_old out_new d new (Err fault) = Interrupted accounts c out_old [] out_new new
 
+-- what is seen: what an open store sees, or else what is held
+abbrev pub seen : {X : Type 0} → (X → Database) → Database → Option X → Database
+seen sees held None = held
+seen sees held (Some store) = sees store
+
 -- a step was made of the session, whose answer waits after what waited; or nothing changed
 abbrev pub StepsOn : Accounts → Client → List ℕ → List ℕ → Client → Database → Bool → Type 0
 StepsOn accounts c waited waits d new true = (progress : Progress) × (octets : List ℕ) × (later : Accounts) × (waits ≡ waited ++ octets) × IsStep accounts c progress octets d later × Presents new later

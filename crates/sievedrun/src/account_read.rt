@@ -7,6 +7,7 @@ ghost use Rattle.sievedrun.specs.Promise.{LeavesAll};
 use crate::commands::taken;
 use crate::fault::Fault;
 use keepers::Keeper;
+use maildirs::Separator;
 use mailstore::{Folder, Notice, Outgoing, Refusal, Store};
 use octets::{List, Texts};
 use sievedwords::Place;
@@ -26,6 +27,10 @@ pub trait AccountRead {
 #[derive(Clone, Copy)]
 pub struct FoldersOf<'a>(pub &'a str);
 
+/// The folders of the user with this name, each with its directory in a Maildir where this parts the levels of folders.
+#[derive(Clone, Copy)]
+pub struct DirectoriesOf<'a>(pub &'a str, pub Separator);
+
 /// The messages of the folder with the second name, of the user with the first one.
 #[derive(Clone, Copy)]
 pub struct MessagesOf<'a>(pub &'a str, pub &'a str);
@@ -34,11 +39,23 @@ pub struct MessagesOf<'a>(pub &'a str, pub &'a str);
 #[derive(Clone, Copy)]
 pub struct QueueOf<'a>(pub &'a str);
 
+/// The message on its way out with this number, of the user with this name.
+#[derive(Clone, Copy)]
+pub struct OutgoingOf<'a>(pub &'a str, pub u64);
+
 /// The notices of the user with this name.
 #[derive(Clone, Copy)]
 pub struct NoticesOf<'a>(pub &'a str);
 
 impl AccountRead for FoldersOf<'_> {
+    type Found = List<Folder>;
+
+    fn read<S: Alter>(&self, store: &mut Store<S>) -> Result<List<Folder>, Refusal> {
+        store.folders(self.0.as_bytes())
+    }
+}
+
+impl AccountRead for DirectoriesOf<'_> {
     type Found = List<Folder>;
 
     fn read<S: Alter>(&self, store: &mut Store<S>) -> Result<List<Folder>, Refusal> {
@@ -62,6 +79,14 @@ impl AccountRead for QueueOf<'_> {
     }
 }
 
+impl AccountRead for OutgoingOf<'_> {
+    type Found = Option<Outgoing>;
+
+    fn read<S: Alter>(&self, store: &mut Store<S>) -> Result<Option<Outgoing>, Refusal> {
+        store.outgoing(self.0.as_bytes(), self.1)
+    }
+}
+
 impl AccountRead for NoticesOf<'_> {
     type Found = List<Notice>;
 
@@ -80,9 +105,7 @@ pub fn read_once<Q: AccountRead, K: Keeper>(
     ensures leaves { IsTrue K.tells → LeavesAll (K.holds keeper.old) (K.holds keeper.new) }
 {
     let mut store = taken(place, false, keeper)?;
-    let listed = wanted.read(&mut store);
-    let closed = keeper.hand_back(store);
-    let found = listed?;
-    closed?;
-    Ok(found)
+    let found = wanted.read(&mut store);
+    keeper.hand_back(store);
+    Ok(found?)
 }

@@ -34,9 +34,9 @@ pub struct NewUser<'a> {
 #[derive(Clone, Copy)]
 pub struct Posting<'a> {
     /// The envelope's sender.
-    pub from: &'a str,
+    pub from: &'a [u8],
     /// The envelope's recipient.
-    pub to: &'a str,
+    pub to: &'a [u8],
     /// The moment in seconds since 1970, in decimal; the clock's where it is left out.
     pub at: Option<&'a str>,
     /// The account's name.
@@ -54,7 +54,7 @@ pub fn run_init<W: Write, K: Keeper>(
     ensures made { IsTrue K.tells → OnOk result (Presents (K.holds keeper.new) no_accounts) }
 {
     let store = taken(place, true, keeper)?;
-    keeper.hand_back(store)?;
+    keeper.hand_back(store);
     write_all(output, b"ready\n")
 }
 
@@ -103,9 +103,8 @@ fn add<K: Keeper>(
 {
     let mut store = taken(place, false, keeper)?;
     let added = add_user(alloc, &mut store, name, address, salt, password);
-    let closed = keeper.hand_back(store);
-    added?;
-    Ok(closed?)
+    keeper.hand_back(store);
+    Ok(added?)
 }
 
 fn added_line(alloc: Global, name: &str) -> Result<Octets, AllocError> {
@@ -117,7 +116,8 @@ fn added_line(alloc: Global, name: &str) -> Result<Octets, AllocError> {
 
 /// `deliver`: the input is a message for a user. `clock` is the moment where the words have none.
 ///
-/// The report is written once the store was closed, so that a delivery that was reported is on the disk.
+/// The report is written once the store was handed back. What was delivered is on the disk by then, whether or not the store
+/// could be closed.
 pub fn run_deliver<R: Read, W: Write, K: Keeper>(
     alloc: Global,
     place: Place<'_>,
@@ -162,10 +162,8 @@ fn post<K: Keeper>(
 {
     let mut store = taken(place, false, keeper)?;
     let delivered = deliver(alloc, &mut store, user, envelope, message, moment);
-    let closed = keeper.hand_back(store);
-    let report = delivered?;
-    closed?;
-    Ok(report)
+    keeper.hand_back(store);
+    Ok(delivered?)
 }
 
 fn print_report<W: Write>(alloc: Global, report: &Report, output: &mut W) -> Result<(), Fault>

@@ -1,9 +1,11 @@
 //! A run of the program: the words, and what comes of them.
-ghost use Rattle.std.specs.Prelude.{◌≡◌, false, IsTrue};
+ghost use Rattle.std.specs.Prelude.{◌≡◌, ◌≢◌, false, None, IsTrue, IfSome};
 ghost use Rattle.sievedrun.specs.Draining.{KeepsMail};
+ghost use Rattle.sievedrun.specs.Faults.{status_of, line_of, store_failed};
 ghost use Rattle.sievedrun.specs.Promise.{LeavesAll, LeavesSound, status_after};
+ghost use Rattle.sievedrun.specs.Streams.{AppendsFirst};
 
-use crate::account_read::{FoldersOf, NoticesOf, QueueOf};
+use crate::account_read::{DirectoriesOf, FoldersOf, NoticesOf, QueueOf};
 use crate::commands::{NewUser, Posting, run_adduser, run_deliver, run_init, run_show};
 use crate::drain::{Draining, run_drain};
 use crate::fault::{Fault, refuse};
@@ -11,13 +13,14 @@ use crate::listing::run_listing;
 use crate::queue::{run_done, run_queued};
 use crate::stream::write_all;
 use crate::trial::try_run;
-use crate::values::envelope_of;
+use crate::trouble::Trouble;
+use crate::values::{envelope_of, separator_of};
 use clap::Error;
 use clap::error::ErrorKind;
 use keepers::Keeper;
 use mailsinks::MailSink;
 use mailstore::Refusal;
-use sievedwords::{Asked, read};
+use sievedwords::{Asked, CommandLine, ReadError, read};
 use std::alloc::{AllocError, Global};
 use std::format;
 use std::io::{Read, Write};
@@ -33,7 +36,7 @@ const USAGE: u8 = 64;
 /// sink.
 pub fn drive<R: Read, W: Write, F: Write, K: Keeper, T: MailSink>(
     alloc: Global,
-    words: &[String],
+    words: &CommandLine,
     input: &mut R,
     output: &mut W,
     faults: &mut F,
@@ -45,22 +48,24 @@ pub fn drive<R: Read, W: Write, F: Write, K: Keeper, T: MailSink>(
     ensures back { K.is_out keeper.old ≡ false → K.is_out keeper.new ≡ false }
     ensures leaves { IsTrue K.tells → LeavesSound (R.remaining input.old) result (K.holds keeper.old) (K.holds keeper.new) }
     ensures kept { IsTrue K.tells → KeepsMail T.tells (T.kept sink.old) (T.kept sink.new) (K.holds keeper.old) (K.holds keeper.new) }
+    ensures asked { K.unclosed keeper.old ≡ None → K.unclosed keeper.new ≡ None }
 {
     match read(alloc, words) {
         Ok(Asked::Try { from, to }) => try_mail(alloc, from, to, input, output, faults),
         Ok(asked) => {
             let done = act(alloc, asked, input, output, keeper, clock, sink);
-            ended(done, faults, keeper, sink)
+            conclude(done, faults, keeper, sink)
         }
-        Err(error) => tell(alloc, &error, output, faults),
+        Err(ReadError::Said(error)) => tell(alloc, &error, output, faults),
+        Err(ReadError::NotText) => refuse(faults, Fault::BadArgument),
     }
 }
 
 /// Tries a script on a message that comes with this envelope, and answers the exit status.
 fn try_mail<R: Read, W: Write, F: Write>(
     alloc: Global,
-    from: &str,
-    to: &str,
+    from: &[u8],
+    to: &[u8],
     input: &mut R,
     output: &mut W,
     faults: &mut F,
@@ -144,13 +149,27 @@ fn look<W: Write, K: Keeper>(
     ensures leaves { IsTrue K.tells → LeavesAll (K.holds keeper.old) (K.holds keeper.new) }
 {
     match asked {
-        Asked::Folders { place, user } => run_listing(
-            alloc,
+        Asked::Folders {
             place,
-            &FoldersOf(user),
-            output,
-            keeper,
-        ),
+            user,
+            directories: false,
+            separator: None,
+        } => run_listing(alloc, place, &FoldersOf(user), output, keeper),
+        Asked::Folders {
+            place,
+            user,
+            directories: true,
+            separator,
+        } => {
+            let separator = separator_of(separator)?;
+            run_listing(
+                alloc,
+                place,
+                &DirectoriesOf(user, separator),
+                output,
+                keeper,
+            )
+        }
         Asked::Show {
             place,
             user,
@@ -178,35 +197,63 @@ fn look<W: Write, K: Keeper>(
     }
 }
 
-/// The status of what was done in a store, or of the fault. It is told, and what the keeper or the sink knows of it.
-fn ended<F: Write, K: Keeper, T: MailSink>(
+/// The status of what was done in a store, or of the fault. Told are: why the store couldn't be closed, and the fault, each
+/// with what the keeper or the sink knows of it. That a call was refused because the store failed tells of both.
+fn conclude<F: Write, K: Keeper, T: MailSink>(
     done: Result<(), Fault>,
     faults: &mut F,
+    keeper: &mut K,
+    sink: &T,
+) -> u8
+    ensures status { result ≡ status_after done }
+    ensures told { done ≢ Err store_failed → IfSome (K.unclosed keeper.old)
+        (λ refusal. AppendsFirst (F.contents faults.old) (F.contents faults.new) (line_of (Fault.Refused refusal))) }
+    ensures asked { K.unclosed keeper.new ≡ None }
+    ensures same { IsTrue K.tells → K.holds keeper.new ≡ K.holds keeper.old }
+    ensures kept { K.is_out keeper.new ≡ K.is_out keeper.old }
+{
+    let unclosed = keeper.take_close_error();
+    match done {
+        Ok(()) => {
+            tell_unclosed(faults, unclosed, keeper);
+            0
+        }
+        Err(fault @ Fault::Refused(Refusal::Store)) => tell_fault(faults, fault, keeper, sink),
+        Err(fault) => {
+            tell_unclosed(faults, unclosed, keeper);
+            tell_fault(faults, fault, keeper, sink)
+        }
+    }
+}
+
+/// Tells why the store couldn't be closed, where it couldn't.
+fn tell_unclosed<F: Write, K: Keeper>(faults: &mut F, unclosed: Option<Refusal>, keeper: &K)
+    ensures { IfSome unclosed (λ refusal. AppendsFirst (F.contents faults.old) (F.contents faults.new) (line_of (Fault.Refused refusal))) }
+{
+    if let Some(refusal) = unclosed {
+        Trouble::of_store(Fault::Refused(refusal), keeper).tell(faults);
+    }
+}
+
+/// Tells of a fault, with what the keeper or the sink knows of it, and gives its status.
+fn tell_fault<F: Write, K: Keeper, T: MailSink>(
+    faults: &mut F,
+    fault: Fault,
     keeper: &K,
     sink: &T,
 ) -> u8
-    ensures { result ≡ status_after done }
+    ensures status { result ≡ status_of fault }
+    ensures line { AppendsFirst (F.contents faults.old) (F.contents faults.new) (line_of fault) }
 {
-    let Err(fault) = done else {
-        return 0;
+    let trouble = match fault {
+        Fault::Stream | Fault::NoMaildir => Trouble {
+            fault,
+            cause: sink.cause(),
+        },
+        _ => Trouble::of_store(fault, keeper),
     };
-    let status = refuse(faults, fault);
-    let cause = match fault {
-        Fault::Refused(Refusal::Store) => keeper.cause(),
-        Fault::Stream | Fault::NoMaildir => sink.cause(),
-        _ => None,
-    };
-    tell_cause(faults, cause);
-    status
-}
-
-/// A second line on what failed, for who runs it. Where it can't be written the first one has told.
-fn tell_cause<F: Write>(faults: &mut F, cause: Option<&'static str>) {
-    if let Some(text) = cause {
-        let _ = write_all(faults, b"sieved: ");
-        let _ = write_all(faults, text.as_bytes());
-        let _ = write_all(faults, b"\n");
-    }
+    trouble.tell(faults);
+    fault.status()
 }
 
 /// Tells what `clap` has to say: of wrong words on the faults, of help and version on the output.

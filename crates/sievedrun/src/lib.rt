@@ -13,4 +13,5 @@ mod queue;
 pub mod session;
 mod stream;
 pub mod trial;
+mod trouble;
 pub mod values;

@@ -3,7 +3,7 @@ ghost use Rattle.std.specs.Prelude.{◌≡◌, ◌≢◌, false, IsTrue};
 ghost use Rattle.mailengine.specs.declared.event.Event.TheVariants.{TakeOut};
 ghost use Rattle.sievedrun.specs.Promise.{LeavesAll, LeavesAfter, MayCome, Takes, status_after};
 
-use crate::account_read::{QueueOf, read_once};
+use crate::account_read::{OutgoingOf, read_once};
 use crate::commands::taken;
 use crate::fault::Fault;
 use crate::stream::write_all;
@@ -28,14 +28,10 @@ pub fn run_queued<W: Write, K: Keeper>(
     ensures leaves { IsTrue K.tells → LeavesAll (K.holds keeper.old) (K.holds keeper.new) }
 {
     let id = decimal(id)?;
-    let queue = read_once(place, &QueueOf(user), keeper)?;
-    let row = queue.as_slice().iter().find(|row| row.id == id);
-    write_all(
-        output,
-        row.ok_or(Fault::Refused(Refusal::NoRow))?
-            .message
-            .as_slice(),
-    )
+    let Some(row) = read_once(place, &OutgoingOf(user, id), keeper)? else {
+        return Err(Fault::Refused(Refusal::NoRow));
+    };
+    write_all(output, row.message.as_slice())
 }
 
 /// `done`: a message leaves the queue, since it went out.
@@ -52,27 +48,21 @@ pub fn run_done<W: Write, K: Keeper>(
 {
     let id = decimal(id)?;
     let line = taken_line(alloc, id)?;
-    take(alloc, place, user.as_bytes(), id, keeper)?;
+    take(place, user.as_bytes(), id, keeper)?;
     write_all(output, line.as_slice())
 }
 
 /// The message with the number leaves the queue, in a store that is taken and handed back.
-fn take<K: Keeper>(
-    alloc: Global,
-    place: Place<'_>,
-    user: &[u8],
-    id: u64,
-    keeper: &mut K,
-) -> Result<(), Fault>
+fn take<K: Keeper>(place: Place<'_>, user: &[u8], id: u64, keeper: &mut K) -> Result<(), Fault>
     ensures late { status_after result ≢ 64 }
     ensures back { K.is_out keeper.old ≡ false → K.is_out keeper.new ≡ false }
     ensures leaves { IsTrue K.tells → MayCome (TakeOut user.now id) (status_after result) (K.holds keeper.old) (K.holds keeper.new) }
 {
     let mut store = taken(place, false, keeper)?;
-    let done = take_out(alloc, &mut store, user, id);
-    let closed = keeper.hand_back(store);
+    let done = take_out(&mut store, user, id);
+    keeper.hand_back(store);
     done?;
-    Ok(closed?)
+    Ok(())
 }
 
 fn taken_line(alloc: Global, id: u64) -> Result<Octets, AllocError> {

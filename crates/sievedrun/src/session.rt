@@ -1,26 +1,27 @@
-//! One client's session over a reader and a writer, and a store that is taken for each step alone.
-ghost use Rattle.std.specs.Prelude.{◌≡◌, ℕ, List, [], Option, Result, false, true, IsTrue, IfErr, OnOk, OnErr};
+//! One client's session over a reader and a writer, and a store that is taken for the commands that came together.
+ghost use Rattle.std.specs.Prelude.{◌≡◌, ℕ, List, [], Option, None, Result, is_ok, false, true, IsTrue, IfOk, IfErr, OnOk, OnErr};
+ghost use Rattle.sqlite.specs.Held.{state};
 ghost use Rattle.std.specs.Io.KnownBytes.{Appends};
 ghost use Rattle.mailstore.specs.Account.{Accounts};
-ghost use Rattle.mailstore.specs.Schema.{no_schema};
+ghost use Rattle.mailstore.specs.Schema.{mail_schema, no_schema};
 ghost use Rattle.mailstore.specs.Shows.{Presents};
 ghost use Rattle.sessions.specs.Clients.{is_ready};
 ghost use Rattle.sievedrun.specs.declared.fault.Fault.{Fault};
 ghost use Rattle.sievedrun.specs.Promise.{status_after};
-ghost use Rattle.sievedrun.specs.Serving.{AnswersAll, AnswersFirst, Converses, Served, ServesBy, StepsOn};
+ghost use Rattle.sievedrun.specs.Serving.{Answered, AnswersAll, AnswersFirst, Converses, Served, ServesBy, StepsOn, seen};
 ghost use Rattle.sievedrun.specs.Streams.{AppendsFront};
 
 use crate::fault::{Fault, refuse};
-use crate::stream::{read_at, write_all};
-use keepers::Keeper;
+use crate::stream::{MAX_READS, read_at, write_all};
+use crate::trouble::{FirstTrouble, Trouble};
+use keepers::{Held, Keeper};
+use mailstore::{Refusal, Store};
 use octets::Octets;
-use sessions::Session;
+use sessions::{Session, Stepped};
 use sievedwords::Place;
-use std::alloc::Global;
+use std::alloc::{AllocError, Global};
+use std::io;
 use std::io::{Read, Write};
-
-/// A session that needs more reads than this is ended.
-const MAX_READS: u32 = 40_000_000;
 
 /// At most this many octets are read at once.
 const PIECE: usize = 4096;
@@ -29,8 +30,9 @@ const PIECE: usize = 4096;
 const MAX_WAITING: usize = 65_536;
 
 /// Serves one client of ManageSieve (RFC 5804) over a reader and a writer: greets, and answers each command as soon as it
-/// is whole, over the store at the path, which is taken for that step alone and handed back before the answer is written.
-/// Where the store can't be had, or refuses the step, the client is put off (`NO (TRYLATER)`), and the command is dropped.
+/// is whole. For the commands that came together the lock of the store at the path is asked for once, and the store is opened
+/// once, for the first that asks it; both are given back before anything is written or waited for. Where the lock or the store
+/// can't be had, or the store refuses the step, the client is put off (`NO (TRYLATER)`), and the command is dropped.
 ///
 /// Answers to commands that came together are written together, in their order, up to 64 KiB. Ends with the client's `LOGOUT`, with a
 /// `BYE`, or with the input.
@@ -49,10 +51,27 @@ pub fn serve_one<R: Read, W: Write, K: Keeper>(
     ensures back { K.is_out keeper.old ≡ false → K.is_out keeper.new ≡ false }
     ensures serves { IsTrue K.tells → ServesBy R.remaining input.old input.new W.contents output.old output.new K.holds keeper.old keeper.new result }
 {
+    let mut faults = io::sink();
+    serve_client(alloc, path, input, output, &mut faults, keeper)
+}
+
+/// Serves one client as `serve_one` does, with the same errors. The first trouble with the store is told on the faults: why it
+/// can't be had, refused a step or couldn't be closed. That another process has it is no trouble, and passes.
+pub fn serve_client<R: Read, W: Write, F: Write, K: Keeper>(
+    alloc: Global,
+    path: &str,
+    input: &mut R,
+    output: &mut W,
+    faults: &mut F,
+    keeper: &mut K,
+) -> Result<(), Fault>
+    ensures back { K.is_out keeper.old ≡ false → K.is_out keeper.new ≡ false }
+    ensures serves { IsTrue K.tells → ServesBy R.remaining input.old input.new W.contents output.old output.new K.holds keeper.old keeper.new result }
+{
     let mut greeting = Octets::new(alloc);
     let mut session = Session::new(alloc, &mut greeting)?;
     write_all(output, greeting.as_slice())?;
-    converse(alloc, &mut session, path, input, output, keeper)
+    converse(alloc, &mut session, path, input, output, faults, keeper)
 }
 
 /// `session`: serves one client, and answers the exit status. What goes wrong is told on the faults.
@@ -69,19 +88,20 @@ pub fn run_session<R: Read, W: Write, F: Write, K: Keeper>(
         × ServesBy R.remaining input.old input.new W.contents output.old output.new K.holds keeper.old keeper.new ending }
 {
     keeper.wait_for_lock(place.waits);
-    match serve_one(alloc, place.path, input, output, keeper) {
+    match serve_client(alloc, place.path, input, output, faults, keeper) {
         Ok(()) => 0,
         Err(fault) => refuse(faults, fault),
     }
 }
 
 /// Serves a client that was greeted, piece by piece.
-fn converse<R: Read, W: Write, K: Keeper>(
+fn converse<R: Read, W: Write, F: Write, K: Keeper>(
     alloc: Global,
     session: &mut Session,
     path: &str,
     input: &mut R,
     output: &mut W,
+    faults: &mut F,
     keeper: &mut K,
 ) -> Result<(), Fault>
     ensures back { K.is_out keeper.old ≡ false → K.is_out keeper.new ≡ false }
@@ -91,12 +111,15 @@ fn converse<R: Read, W: Write, K: Keeper>(
     ensures none { IsTrue K.tells → (K.holds keeper.old).schema ≡ no_schema → (K.holds keeper.new).schema ≡ no_schema }
 {
     let mut piece = [0u8; PIECE];
+    let mut trouble = FirstTrouble::none();
     for _ in 0..MAX_READS {
         let Some(len) = read_at(input, &mut piece, 0)? else {
             return Ok(());
         };
         session.give(&piece[..len])?;
-        answer_all(alloc, session, path, output, keeper)?;
+        let answered = answer_all(alloc, session, path, output, &mut trouble, keeper);
+        trouble.tell(faults);
+        answered?;
         if session.is_closed() {
             return Ok(());
         }
@@ -110,6 +133,7 @@ fn answer_all<W: Write, K: Keeper>(
     session: &mut Session,
     path: &str,
     output: &mut W,
+    trouble: &mut FirstTrouble,
     keeper: &mut K,
 ) -> Result<(), Fault>
     ensures back { K.is_out keeper.old ≡ false → K.is_out keeper.new ≡ false }
@@ -122,19 +146,20 @@ fn answer_all<W: Write, K: Keeper>(
         if !session.ready() {
             return write_all(output, answers.as_slice());
         }
-        answer_first(alloc, session, path, &mut answers, output, keeper)?;
+        answer_some(alloc, session, path, &mut answers, output, trouble, keeper)?;
     }
     Err(Fault::Stream)
 }
 
-/// Answers what comes first. Where it can't be answered now it is given up, and that is written at once, after the
-/// answers that wait.
-fn answer_first<W: Write, K: Keeper>(
+/// Answers what stands ready, and writes the answers once the lock and the store are given back. One that can't be answered now is
+/// given up, and that is written after them.
+fn answer_some<W: Write, K: Keeper>(
     alloc: Global,
     session: &mut Session,
     path: &str,
     answers: &mut Octets,
     output: &mut W,
+    trouble: &mut FirstTrouble,
     keeper: &mut K,
 ) -> Result<(), Fault>
     requires { is_ready session.old.client ≡ true }
@@ -144,38 +169,172 @@ fn answer_first<W: Write, K: Keeper>(
         session.new.client (K.holds keeper.new) result }
     ensures none { IsTrue K.tells → (K.holds keeper.old).schema ≡ no_schema → (K.holds keeper.new).schema ≡ no_schema }
 {
-    if step_over_store(session, path, answers, keeper) {
-        if answers.len() < MAX_WAITING {
-            return Ok(());
-        }
-        return write_out(alloc, output, answers);
-    }
+    let answered = answer_under_lock(session, path, answers, trouble, keeper);
     write_out(alloc, output, answers)?;
+    if answered {
+        return Ok(());
+    }
     write_all(output, session.give_up())
 }
 
-/// One step, whose answer joins those that wait, over the store, which is taken for it and handed back. Whether it was
-/// made: where the store can't be had, or refuses it, nothing changes.
-fn step_over_store<K: Keeper>(
+/// Answers what stands ready, up to the first that can't be answered now, and says whether there was none. The lock is asked for
+/// first, and both it and the store are given back. Trouble is noted.
+fn answer_under_lock<K: Keeper>(
     session: &mut Session,
     path: &str,
     answers: &mut Octets,
+    trouble: &mut FirstTrouble,
     keeper: &mut K,
 ) -> bool
+    requires { is_ready session.old.client ≡ true }
     ensures back { K.is_out keeper.old ≡ false → K.is_out keeper.new ≡ false }
-    ensures steps { IsTrue K.tells → (accounts : Accounts) → Presents (K.holds keeper.old) accounts →
-        StepsOn accounts session.old.client answers.old answers.new session.new.client (K.holds keeper.new) result }
+    ensures answers { IsTrue K.tells → (accounts : Accounts) → Presents (K.holds keeper.old) accounts → (out : Option (List ℕ))
+        → Answered accounts session.old.client out answers.old out answers.new session.new.client (K.holds keeper.new) }
+    ensures stopped { result ≡ false → is_ready session.new.client ≡ true }
     ensures none { IsTrue K.tells → (K.holds keeper.old).schema ≡ no_schema → (K.holds keeper.new).schema ≡ no_schema }
-    ensures same { result ≡ false → (session.new ≡ session.old) × (answers.new ≡ answers.old) }
+    ensures asked { K.unclosed keeper.old ≡ None → K.unclosed keeper.new ≡ None }
 {
-    let Ok(mut store) = keeper.take(path, false) else {
+    if let Err(held) = keeper.lock(path) {
+        note_held(trouble, held, keeper);
         return false;
-    };
-    let made = session.step(&mut store, answers);
-    let _ = keeper.hand_back(store);
+    }
+    let mut store = None;
+    let answered = answer_ready(session, path, answers, &mut store, keeper);
+    let unclosed = give_back(store, keeper);
+    match answered {
+        Ok(()) => {
+            note_refusal(trouble, unclosed, keeper);
+            true
+        }
+        Err(held) => {
+            note_held(trouble, held, keeper);
+            false
+        }
+    }
+}
+
+/// Gives back what is out: a store with the lock, or the lock alone. Why the store couldn't be closed, if it couldn't: what was made of
+/// it stays.
+fn give_back<K: Keeper>(store: Option<Store<K::S>>, keeper: &mut K) -> Option<Refusal>
+    ensures held { IsTrue K.tells → K.holds keeper.new ≡ seen (λ s. (state K.S.Store s).now) (K.holds keeper.old) store }
+    ensures back { K.is_out keeper.new ≡ false }
+    ensures asked { K.unclosed keeper.old ≡ None → K.unclosed keeper.new ≡ None }
+{
+    match store {
+        Some(store) => {
+            keeper.hand_back(store);
+            keeper.take_close_error()
+        }
+        None => {
+            keeper.unlock();
+            None
+        }
+    }
+}
+
+/// Answers what stands ready, each by a step whose answer joins those that wait, until nothing is ready or much waits. Why the first one
+/// that couldn't be answered wasn't. The lock is held; the store is opened for the first one that asks for it, and stays open.
+fn answer_ready<K: Keeper>(
+    session: &mut Session,
+    path: &str,
+    answers: &mut Octets,
+    store: &mut Option<Store<K::S>>,
+    keeper: &mut K,
+) -> Result<(), Held>
+    ensures answers { IsTrue K.tells → (accounts : Accounts) → Presents (seen (λ s. (state K.S.Store s).now) (K.holds keeper.old) store.old) accounts
+        → (out : Option (List ℕ)) → Answered accounts session.old.client out answers.old out answers.new
+        session.new.client (seen (λ s. (state K.S.Store s).now) (K.holds keeper.new) store.new) }
+    ensures stopped { OnErr result (is_ready session.new.client ≡ true) }
+    ensures none { IsTrue K.tells → (K.holds keeper.old).schema ≡ no_schema → store.old ≡ None
+        → (K.holds keeper.new ≡ K.holds keeper.old) × (store.new ≡ None) }
+    ensures closed { K.unclosed keeper.new ≡ K.unclosed keeper.old }
+{
+    for _ in 0..u64::MAX {
+        if !session.ready() || answers.len() >= MAX_WAITING {
+            return Ok(());
+        }
+        answer_first(session, path, answers, store, keeper)?;
+    }
+    Ok(())
+}
+
+/// Answers what comes first by a step, over the store where its command asks for one. After a refusal nothing has changed, but that
+/// the store may be open.
+fn answer_first<K: Keeper>(
+    session: &mut Session,
+    path: &str,
+    answers: &mut Octets,
+    store: &mut Option<Store<K::S>>,
+    keeper: &mut K,
+) -> Result<(), Held>
+    ensures steps { IsTrue K.tells → (accounts : Accounts) → Presents (seen (λ s. (state K.S.Store s).now) (K.holds keeper.old) store.old) accounts
+        → StepsOn accounts session.old.client answers.old answers.new session.new.client
+        (seen (λ s. (state K.S.Store s).now) (K.holds keeper.new) store.new) (is_ok result) }
+    ensures same { OnErr result ((session.new ≡ session.old) × (answers.new ≡ answers.old)) }
+    ensures none { IsTrue K.tells → (K.holds keeper.old).schema ≡ no_schema → store.old ≡ None
+        → (K.holds keeper.new ≡ K.holds keeper.old) × (store.new ≡ None) }
+    ensures closed { K.unclosed keeper.new ≡ K.unclosed keeper.old }
+{
+    match session.step_free(answers) {
+        Ok(Stepped::Made(_)) => Ok(()),
+        Ok(Stepped::Asks(_)) => answer_over_store(session, path, answers, store, keeper),
+        Err(AllocError) => Err(Held::Refused(Refusal::Memory)),
+    }
+}
+
+/// The same over the store, which is opened where none is.
+fn answer_over_store<K: Keeper>(
+    session: &mut Session,
+    path: &str,
+    answers: &mut Octets,
+    store: &mut Option<Store<K::S>>,
+    keeper: &mut K,
+) -> Result<(), Held>
+    ensures steps { IsTrue K.tells → (accounts : Accounts) → Presents (seen (λ s. (state K.S.Store s).now) (K.holds keeper.old) store.old) accounts
+        → StepsOn accounts session.old.client answers.old answers.new session.new.client
+        (seen (λ s. (state K.S.Store s).now) (K.holds keeper.new) store.new) (is_ok result) }
+    ensures same { OnErr result ((session.new ≡ session.old) × (answers.new ≡ answers.old)) }
+    ensures none { IsTrue K.tells → (K.holds keeper.old).schema ≡ no_schema → store.old ≡ None
+        → (K.holds keeper.new ≡ K.holds keeper.old) × (store.new ≡ None) }
+    ensures closed { K.unclosed keeper.new ≡ K.unclosed keeper.old }
+{
+    let mut taken = open_store(path, store, keeper)?;
+    let made = session.step(&mut taken, answers);
+    *store = Some(taken);
     match made {
-        Ok(_) => true,
-        Err(_) => false,
+        Ok(_) => Ok(()),
+        Err(refusal) => Err(Held::Refused(refusal)),
+    }
+}
+
+/// The store, out of its place; where none is there it is opened under the lock that is held.
+fn open_store<K: Keeper>(
+    path: &str,
+    store: &mut Option<Store<K::S>>,
+    keeper: &mut K,
+) -> Result<Store<K::S>, Held>
+    ensures opened { IfOk result (λ taken. IsTrue K.tells → (state K.S.Store taken).now ≡ seen (λ s. (state K.S.Store s).now) (K.holds keeper.old) store.old) }
+    ensures ours { OnOk result (IsTrue K.tells → store.old ≡ None → (K.holds keeper.old).schema ≡ mail_schema) }
+    ensures refused { OnErr result ((IsTrue K.tells → K.holds keeper.new ≡ K.holds keeper.old) × (store.new ≡ store.old)) }
+    ensures closed { K.unclosed keeper.new ≡ K.unclosed keeper.old }
+{
+    match store.take() {
+        Some(taken) => Ok(taken),
+        None => keeper.take(path, false),
+    }
+}
+
+/// Notes why no store is given out, but for one that another process has.
+fn note_held<K: Keeper>(trouble: &mut FirstTrouble, held: Held, keeper: &K) {
+    if let Held::Refused(refusal) = held {
+        note_refusal(trouble, Some(refusal), keeper);
+    }
+}
+
+/// Notes what a store refused, if anything.
+fn note_refusal<K: Keeper>(trouble: &mut FirstTrouble, refusal: Option<Refusal>, keeper: &K) {
+    if let Some(refusal) = refusal {
+        trouble.note(Trouble::of_store(Fault::Refused(refusal), keeper));
     }
 }
 

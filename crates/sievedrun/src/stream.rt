@@ -9,8 +9,8 @@ use std::alloc::{AllocError, Global};
 use std::io;
 use std::io::{ErrorKind, Read, Write};
 
-/// An input that needs more reads than this is given up.
-const MAX_READS: u32 = 40_000_000;
+/// An input that needs more reads than this is given up, and so is a session.
+pub(crate) const MAX_READS: u32 = 40_000_000;
 
 /// So much room is made for a read, in octets, once the last one is full.
 const PIECE: usize = 262_144;

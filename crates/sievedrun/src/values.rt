@@ -7,6 +7,7 @@ ghost use Rattle.sievedrun.specs.Promise.{is_in_line};
 
 use crate::fault::Fault;
 use hex::FromHex;
+use maildirs::Separator;
 use mailengine::Envelope;
 use octets::{Octets, parse_decimal};
 use std::alloc::{AllocError, Global};
@@ -30,6 +31,17 @@ pub fn port_of(text: &str) -> Result<u16, Fault>
     }
 }
 
+/// What parts the levels of folders: `.` where it isn't said.
+pub fn separator_of(text: Option<&str>) -> Result<Separator, Fault>
+    ensures { IfErr result (λ fault. fault ≡ Fault.BadArgument) }
+{
+    match text {
+        None | Some(".") => Ok(Separator::Dot),
+        Some("/") => Ok(Separator::Slash),
+        Some(_) => Err(Fault::BadArgument),
+    }
+}
+
 /// A salt in 32 hexadecimal digits.
 pub fn salt_of(text: &str) -> Result<[u8; 16], Fault>
     ensures { IfErr result (λ fault. fault ≡ Fault.BadArgument) }
@@ -49,10 +61,12 @@ pub fn moment_of(at: Option<&str>, clock: Option<u64>) -> Result<u64, Fault> {
 }
 
 /// The envelope of these addresses.
-pub fn envelope_of(alloc: Global, from: &str, to: &str) -> Result<Envelope, AllocError> {
+pub fn envelope_of(alloc: Global, from: &[u8], to: &[u8]) -> Result<Envelope, AllocError>
+    ensures { IfOk result (λ envelope. (envelope.from ≡ from.now) × (envelope.to ≡ to.now)) }
+{
     Ok(Envelope {
-        from: Octets::from_slice(alloc, from.as_bytes())?,
-        to: Octets::from_slice(alloc, to.as_bytes())?,
+        from: Octets::from_slice(alloc, from)?,
+        to: Octets::from_slice(alloc, to)?,
     })
 }
 

@@ -21,6 +21,8 @@ pub enum Argument {
     AnyId,
     Most,
     Maildir,
+    Directories,
+    Separator,
     Port,
     Sessions,
 }
@@ -54,7 +56,7 @@ impl Argument {
 
     fn form(self) -> Form {
         match self {
-            Argument::Wait => Form::Flag,
+            Argument::Wait | Argument::Directories => Form::Flag,
             Argument::Db
             | Argument::From
             | Argument::To
@@ -62,6 +64,7 @@ impl Argument {
             | Argument::At
             | Argument::Salt
             | Argument::Most
+            | Argument::Separator
             | Argument::Port
             | Argument::Sessions => Form::Option,
             Argument::Name
@@ -90,7 +93,8 @@ impl Argument {
             Argument::Number => "number",
             Argument::Id | Argument::AnyId => "id",
             Argument::Most => "most",
-            Argument::Maildir => "maildir",
+            Argument::Maildir | Argument::Directories => "maildir",
+            Argument::Separator => "separator",
             Argument::Port => "port",
             Argument::Sessions => "sessions",
         }
@@ -99,7 +103,8 @@ impl Argument {
     /// What the help calls its value.
     fn value_name(self) -> &'static str {
         match self {
-            Argument::Wait => "",
+            Argument::Wait | Argument::Directories => "",
+            Argument::Separator => ".|/",
             Argument::From | Argument::To | Argument::AnyTo => "A",
             Argument::At | Argument::Number | Argument::Sessions => "N",
             Argument::Most => "K",
@@ -133,6 +138,8 @@ impl Argument {
             Argument::AnyId => "The message's number in the queue",
             Argument::Most => "Moves at most K messages [default: all]",
             Argument::Maildir => "A directory that has `tmp` and `new`",
+            Argument::Directories => "Prints each folder's directory in a Maildir before it",
+            Argument::Separator => "What parts a folder's levels [default: .]",
             Argument::Port => "The port; 0 for any that is free",
             Argument::Sessions => "Ends after N sessions [default: never]",
         }
@@ -147,6 +154,8 @@ impl Argument {
                 | Argument::At
                 | Argument::AnyId
                 | Argument::Most
+                | Argument::Directories
+                | Argument::Separator
                 | Argument::Sessions
         )
     }

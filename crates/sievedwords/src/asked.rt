@@ -1,5 +1,7 @@
 //! What the words ask for.
 use crate::command::sieved;
+use crate::command_line::CommandLine;
+use clap::error::ErrorKind;
 use clap::{ArgMatches, Error};
 use std::alloc::Global;
 
@@ -12,15 +14,16 @@ pub struct Place<'a> {
     pub waits: bool,
 }
 
-/// What the words ask for, with its values as they were written. An address that was left out is empty.
+/// What the words ask for, with its values as they were written. An address of an envelope is any octets; one that was left
+/// out is empty.
 #[derive(Clone, Copy)]
 pub enum Asked<'a> {
     /// `try`: what a script does with a message.
     Try {
         /// The envelope's sender.
-        from: &'a str,
+        from: &'a [u8],
         /// The envelope's recipient.
-        to: &'a str,
+        to: &'a [u8],
     },
     /// `init`: a new store.
     Init(Place<'a>),
@@ -38,9 +41,9 @@ pub enum Asked<'a> {
     Deliver {
         place: Place<'a>,
         /// The envelope's sender.
-        from: &'a str,
+        from: &'a [u8],
         /// The envelope's recipient.
-        to: &'a str,
+        to: &'a [u8],
         /// The moment in seconds since 1970, in decimal; the clock's where it is left out.
         at: Option<&'a str>,
         /// The account's name.
@@ -51,6 +54,10 @@ pub enum Asked<'a> {
         place: Place<'a>,
         /// The account's name.
         user: &'a str,
+        /// Whether each folder's directory in a Maildir is asked for.
+        directories: bool,
+        /// What parts a folder's levels, where it is said.
+        separator: Option<&'a str>,
     },
     /// `show`: a message of a folder.
     Show {
@@ -108,27 +115,73 @@ pub enum Asked<'a> {
     Session(Place<'a>),
 }
 
+/// Why words ask for nothing.
+#[derive(Drop)]
+pub enum ReadError {
+    /// A usage error, or what `--help` and `--version` ask for, with the text that `clap` has for it; lack of memory.
+    Said(Error),
+    /// A word isn't UTF-8, and isn't the value of `--from` or `--to` of a word that takes them.
+    NotText,
+}
+
+impl From<Error> for ReadError {
+    fn from(error: Error) -> ReadError {
+        ReadError::Said(error)
+    }
+}
+
 /// What the words ask for. They are those after the program's name; without a word it is `try` with an empty envelope.
 ///
 /// # Errors
 ///
-/// A usage error, or what `--help` and `--version` ask for, with the text that `clap` has for it; lack of memory.
-pub fn read<'a>(alloc: Global, words: &'a [String]) -> Result<Asked<'a>, Error> {
-    let matches = sieved(alloc)?.try_get_matches_from(words)?;
-    Ok(match matches.subcommand() {
-        None => Asked::Try { from: "", to: "" },
-        Some((word, given)) => asked_by(word, given),
-    })
+/// Those of `ReadError`. Where a word isn't UTF-8 `clap` says nothing, since the word isn't what it has read.
+pub fn read<'a>(alloc: Global, words: &'a CommandLine) -> Result<Asked<'a>, ReadError> {
+    let program = sieved(alloc).map_err(Error::from)?;
+    let matches = match program.try_get_matches_from(words.texts()) {
+        Ok(matches) => matches,
+        Err(error) => return Err(unread(words, error)),
+    };
+    match matches.subcommand() {
+        None => Ok(Asked::Try { from: b"", to: b"" }),
+        Some((word, given)) if addresses_stand_in(words, given) == words.stand_ins() => {
+            Ok(asked_by(word, words, given))
+        }
+        Some(_) => Err(ReadError::NotText),
+    }
+}
+
+/// Why `clap` reads nothing.
+fn unread(words: &CommandLine, error: Error) -> ReadError {
+    if words.stand_ins() == 0 || error.kind() == ErrorKind::OutOfMemory {
+        ReadError::Said(error)
+    } else {
+        ReadError::NotText
+    }
+}
+
+/// How many addresses of the envelope aren't UTF-8.
+fn addresses_stand_in(words: &CommandLine, given: &ArgMatches<'_>) -> usize {
+    let from = words.behind(text(given, "from")).is_some();
+    let to = words.behind(text(given, "to")).is_some();
+    usize::from(from) + usize::from(to)
 }
 
 /// What a word asks for with what was given to it.
-fn asked_by<'a>(word: &str, given: &ArgMatches<'a>) -> Asked<'a> {
+fn asked_by<'a>(word: &str, words: &'a CommandLine, given: &ArgMatches<'a>) -> Asked<'a> {
+    let place = place_in(given);
     match word {
         "try" => Asked::Try {
-            from: text(given, "from"),
-            to: text(given, "to"),
+            from: address(words, given, "from"),
+            to: address(words, given, "to"),
         },
-        _ => asked_of_store(word, place_in(given), given),
+        "deliver" => Asked::Deliver {
+            place,
+            from: address(words, given, "from"),
+            to: address(words, given, "to"),
+            at: given.get_str("at"),
+            user: text(given, "user"),
+        },
+        _ => asked_of_store(word, place, given),
     }
 }
 
@@ -142,16 +195,11 @@ fn asked_of_store<'a>(word: &str, place: Place<'a>, given: &ArgMatches<'a>) -> A
             name: text(given, "name"),
             address: text(given, "address"),
         },
-        "deliver" => Asked::Deliver {
-            place,
-            from: text(given, "from"),
-            to: text(given, "to"),
-            at: given.get_str("at"),
-            user: text(given, "user"),
-        },
         "folders" => Asked::Folders {
             place,
             user: text(given, "user"),
+            directories: given.get_flag("maildir"),
+            separator: given.get_str("separator"),
         },
         "show" => Asked::Show {
             place,
@@ -200,4 +248,10 @@ fn place_in<'a>(given: &ArgMatches<'a>) -> Place<'a> {
 /// The value of an argument, or the empty one where it was left out.
 fn text<'a>(given: &ArgMatches<'a>, id: &str) -> &'a str {
     given.get_str(id).unwrap_or("")
+}
+
+/// The octets of an address, or none where it was left out.
+fn address<'a>(words: &'a CommandLine, given: &ArgMatches<'a>, id: &str) -> &'a [u8] {
+    let value = text(given, id);
+    words.behind(value).unwrap_or(value.as_bytes())
 }

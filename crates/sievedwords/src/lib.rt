@@ -4,6 +4,8 @@
 mod argument;
 mod asked;
 mod command;
+mod command_line;
 mod word;
 
-pub use asked::{Asked, Place, read};
+pub use asked::{Asked, Place, ReadError, read};
+pub use command_line::CommandLine;

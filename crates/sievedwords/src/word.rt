@@ -73,9 +73,15 @@ Status 0: delivered, and on the disk. 64: wrong words or values. 65: refused for
     Word {
         name: "folders",
         about: "Lists a user's folders",
-        more: "Reads nothing. Prints `NAME COUNT` for each, in the order of their octets.
-Status 0: listed. 64: wrong words. 65: no such store. 67: no such user. 75: try again later.",
-        arguments: &[Argument::Db, Argument::Wait, Argument::User],
+        more: "Reads nothing. Prints `NAME COUNT` for each, in the order of their octets; with --maildir `DIRECTORY COUNT NAME`.
+Status 0: listed. 64: wrong words or separator. 65: no such store. 67: no such user. 75: try again later.",
+        arguments: &[
+            Argument::Db,
+            Argument::Wait,
+            Argument::Directories,
+            Argument::Separator,
+            Argument::User,
+        ],
     },
     Word {
         name: "show",
@@ -94,6 +100,7 @@ Status 0: shown. 64: wrong words or number. 65: no such message or store. 67: no
         name: "queue",
         about: "Lists a user's messages on their way out, or shows one",
         more: "Reads nothing. Prints `ID KIND <SENDER> <TARGET> OCTETS` for each, or with ID the message as it goes out.
+In an address an octet up to 32, 127, <, > or \\ is \\ and two hexadecimal digits, so that a line has five words.
 Status 0: listed or shown. 64: wrong words or number. 65: no such row or store. 67: no such user. 75: try again later.",
         arguments: &[
             Argument::Db,

@@ -22,3 +22,4 @@ pub use envelope::{Envelope, part_in};
 pub use machine::run;
 pub use mail::Mail;
 pub use outcome::{Failure, Outcome};
+pub use run_state::INBOX;

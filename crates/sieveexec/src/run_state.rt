@@ -16,8 +16,8 @@ use sievesyntax::{Action, VacArgs};
 use std::alloc::{AllocError, Global};
 use std::collections::BTreeSet;
 
-/// The mailbox of `keep` and of the implicit keep.
-const INBOX: &[u8] = b"INBOX";
+/// The mailbox of `keep`, of the implicit keep, and of a message that no script files.
+pub const INBOX: &[u8] = b"INBOX";
 
 /// To how many addresses a run sends a message at most.
 const MAX_TARGETS: usize = 16;

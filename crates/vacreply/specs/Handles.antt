@@ -1,4 +1,4 @@
--- By what a response is known (RFC 5230, 4.7), and the key under which it is remembered.
+-- By what a response is known (RFC 5230, 4.2), and the key under which it is remembered.
 use Rattle.std.specs.Prelude.{ℕ, ◌<◌, ◌^◌, ◌/◌, ◌%◌, Bool, cond, List, [], ◌∷◌, ◌++◌, length, Option, None, Some, option_map}
 use Rattle.sievesyntax.specs.declared.tree.vacation.VacArgs.{VacArgs}
 use Rattle.sievesyntax.specs.declared.tree.vacation.ReplyFrom.{ReplyFrom}

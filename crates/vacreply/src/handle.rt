@@ -1,4 +1,4 @@
-//! By what a response is known (RFC 5230, 4.7).
+//! By what a response is known (RFC 5230, 4.2).
 ghost use Rattle.std.specs.Prelude.{◌≡◌, ◌↔◌, ◌<◌, ◌^◌, ◌++◌, IsTrue, IfOk, OnOk, option_copied};
 ghost use Rattle.vacreply.specs.Handles.{handle_of, key_of, four_octets, part_of, from_text, HasShortTexts, IsShort};
 

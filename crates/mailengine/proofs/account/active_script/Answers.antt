@@ -1,15 +1,19 @@
-use Rattle.std.proofs.Common.{◌≡◌, List, ℕ, Option, Ok, Err, rules}
+use Rattle.std.proofs.Common.{◌≡◌, List, ℕ, Option, Ok, OnOk, IfErr, rules}
 use Rattle.std.specs.FinMap.{get}
 use Rattle.sqlite.specs.Held.{state}
 use Rattle.mailstore.specs.Account.{Account}
 use Rattle.mailstore.specs.AccountRows.{profile_of}
+use Rattle.mailstore.specs.Refusals.{IsTransient}
 use Rattle.mailstore.specs.declared.profile.Profile.{Profile}
 use Rattle.mailengine.specs.Lookups.{IsActiveScript}
-use Rattle.mailengine.proofs.LookupLemmas.{looks_answer, looks_both, looks_then_refused, none_active, some_active}
+use Rattle.mailengine.proofs.LookupLemmas.{looks_answer, looks_entered, looks_failed, none_active, some_active}
 use Rattle.mailengine.proofs.account.active_script.Goals as goal
 
 abbrev Known : Profile → Account → Type 0
 Known profile account = profile ≡ profile_of account
+
+abbrev Text : List ℕ → Option (List ℕ) → Account → Type 0
+Text name text account = text ≡ get account.scripts name
 
 pub returns-in_default : goal.returns-in_default
 returns-in_default g c =
@@ -18,12 +22,13 @@ returns-in_default g c =
 
 pub returns-in_err-text : goal.returns-in_err-text
 returns-in_err-text g c =
-    let is : c.from_residual-in_err-text.result ≡ Err c.in_err-text.field-0.0 = search rules in
-    looks_then_refused c.args.user.now Known (λ (text : Option (List ℕ)) (account : Account). text ≡ get account.scripts c.as_slice.result.now) IsActiveScript (state g.S.Store c.args.store.now) (state g.S.Store c.profile.new.store)
-    (state g.S.Store c.script.new.self) c.profile.result c.in_ok-profile.profile c.in_ok-profile.was c.profile.ensures c.in_err-text.field-0.0 c.from_residual-in_err-text.result is c.in_err-text.ensures
+    let none : OnOk c.from_residual-in_err-text.result ⊥ = search rules in
+    let transient : IfErr c.from_residual-in_err-text.result IsTransient = search rules in
+    looks_failed c.args.user.now Known (Text c.as_slice.result.now) IsActiveScript (state g.S.Store c.args.store.now) (state g.S.Store c.profile.new.store) (state g.S.Store c.script_of.new.self) c.profile.result c.in_ok-profile.profile
+    c.in_ok-profile.was c.profile.ensures c.script_of.result c.script_of.ensures c.from_residual-in_err-text.result none transient
 
 pub returns : goal.returns
 returns g c =
-    looks_both c.args.user.now Known (λ (text : Option (List ℕ)) (account : Account). text ≡ get account.scripts c.as_slice.result.now) IsActiveScript (state g.S.Store c.args.store.now) (state g.S.Store c.profile.new.store) (state g.S.Store c.script.new.self)
-    c.profile.result c.in_ok-profile.profile c.in_ok-profile.was c.profile.ensures c.in_ok-text.text _
-    (λ account is read. record { profile = is; text = some_active c.in_ok-profile.profile account c.in-Some.name c.as_slice.result.now c.in_ok-text.text is c.in-Some.is c.as_slice.ensures read }) c.in_ok-text.ensures
+    looks_entered c.args.user.now Known (Text c.as_slice.result.now) IsActiveScript (state g.S.Store c.args.store.now) (state g.S.Store c.profile.new.store) (state g.S.Store c.script_of.new.self) c.profile.result c.in_ok-profile.profile
+    c.in_ok-profile.was c.profile.ensures c.script_of.result c.script_of.ensures c.in_ok-text.text c.in_ok-text.was _
+    (λ account is read. record { profile = is; text = some_active c.in_ok-profile.profile account c.in-Some.name c.as_slice.result.now c.in_ok-text.text is c.in-Some.is c.as_slice.ensures read })

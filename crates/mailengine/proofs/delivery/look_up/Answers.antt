@@ -1,4 +1,4 @@
-use Rattle.std.proofs.Common.{◌≡◌, ℕ, List, map, Err, IfSome, ap, ◌∙◌, subst, rules}
+use Rattle.std.proofs.Common.{◌≡◌, ℕ, List, map, OnOk, IfErr, IfSome, ap, ◌∙◌, subst, rules}
 use Rattle.sqlite.specs.Held.{state}
 use Rattle.octets.specs.Ascii.{lowered}
 use Rattle.addrparts.specs.declared.address.Addr.{Addr}
@@ -6,10 +6,11 @@ use Rattle.addrparts.specs.Outbound.{IsBareAddress}
 use Rattle.mailstore.specs.Account.{Account}
 use Rattle.mailstore.specs.declared.profile.Profile.{Profile}
 use Rattle.mailstore.specs.declared.reply.KeptReply.{KeptReply}
+use Rattle.mailstore.specs.Refusals.{IsTransient}
 use Rattle.mailstore.specs.ReplyRows.{replies_to, kept_reply}
 use Rattle.deliverplan.specs.Views.{moment_under}
 use Rattle.mailengine.specs.Lookups.{IsActiveScript, IsLookup}
-use Rattle.mailengine.proofs.LookupLemmas.{looks_both, looks_then_refused}
+use Rattle.mailengine.proofs.LookupLemmas.{looks_entered, looks_failed}
 use Rattle.mailengine.proofs.KeptLemmas.{kept_under}
 use Rattle.mailengine.proofs.delivery.look_up.Goals as goal
 
@@ -18,19 +19,20 @@ Replies sender replies a = replies ≡ map kept_reply (replies_to (lowered sende
 
 pub returns-in_err-replies : goal.returns-in_err-replies
 returns-in_err-replies g c =
-    let is : c.from_residual-in_err-replies.result ≡ Err c.in_err-replies.field-0.0 = search rules in
-    looks_then_refused c.args.user.now IsActiveScript (Replies c.args.sender.now) (IsLookup c.args.sender.now) (state g.S.Store c.args.store.now) (state g.S.Store c.active_script.new.store) (state g.S.Store c.replies.new.self) c.active_script.result
-    c.in_ok-profile.field-0 c.in_ok-profile.was c.active_script.ensures c.in_err-replies.field-0.0 c.from_residual-in_err-replies.result is c.in_err-replies.ensures
+    let none : OnOk c.from_residual-in_err-replies.result ⊥ = search rules in
+    let transient : IfErr c.from_residual-in_err-replies.result IsTransient = search rules in
+    looks_failed c.args.user.now IsActiveScript (Replies c.args.sender.now) (IsLookup c.args.sender.now) (state g.S.Store c.args.store.now) (state g.S.Store c.active_script.new.store) (state g.S.Store c.replies_of.new.self) c.active_script.result
+    c.in_ok-profile.field-0 c.in_ok-profile.was c.active_script.ensures c.replies_of.result c.replies_of.ensures c.from_residual-in_err-replies.result none transient
 
 pub returns : goal.returns
 returns g c =
     let bare : IsBareAddress c.as_slice.result.now c.in-Some.address = subst (λ o. IfSome o (λ (address : Addr). IsBareAddress c.as_slice.result.now address)) c.in-Some.is c.in_ok-address.ensures.found in
-    looks_both c.args.user.now IsActiveScript (Replies c.args.sender.now) (IsLookup c.args.sender.now) (state g.S.Store c.args.store.now) (state g.S.Store c.active_script.new.store) (state g.S.Store c.replies.new.self) c.active_script.result
-    c.in_ok-profile.field-0 c.in_ok-profile.was c.active_script.ensures c.in_ok-replies.replies _
+    looks_entered c.args.user.now IsActiveScript (Replies c.args.sender.now) (IsLookup c.args.sender.now) (state g.S.Store c.args.store.now) (state g.S.Store c.active_script.new.store) (state g.S.Store c.replies_of.new.self) c.active_script.result
+    c.in_ok-profile.field-0 c.in_ok-profile.was c.active_script.ensures c.replies_of.result c.replies_of.ensures c.in_ok-replies.replies c.in_ok-replies.was _
     (λ account found kept. record {
       view = record {
         address = subst (λ text. IsBareAddress text c.in-Some.address) (c.as_slice.ensures ∙ ap (λ (p : Profile). p.address) found.profile) bare;
         replies = λ key. ap (λ replies. moment_under replies key) kept ∙ kept_under c.args.sender.now account key;
       };
       text = found.text;
-    }) c.in_ok-replies.ensures
+    })

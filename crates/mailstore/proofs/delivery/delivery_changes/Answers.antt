@@ -1,24 +1,27 @@
-use Rattle.std.proofs.Common.{subst}
+use Rattle.std.proofs.Common.{◌+◌, length, subst}
 use Rattle.mailtables.specs.Changes.{Extends}
-use Rattle.mailstore.specs.Delivery.{counters_raised, message_kept, copies_added, lettered, reply_put, noticed}
+use Rattle.mailstore.specs.Delivery.{counters_raised, message_kept, copies_added, sent_on, reply_queued, reply_put, noticed}
 use Rattle.mailstore.proofs.DeliveryLemmas.{are_delivery}
 use Rattle.mailstore.proofs.delivery.delivery_changes.Goals as goal
 
 pub returns-clause-delivery : goal.returns-clause-delivery
 returns-clause-delivery c is =
     let user = c.args.user.now in
-    let sender = c.args.sender.now in
+    let folded = c.args.folded.now in
     let counters = c.args.counters in
     let plan = c.args.plan.now in
     let ds1 = c.push_counters.new.changes.items in
     let kept = c.push_message.new.changes.items in
     let ds2 = c.push_copies.new.changes.items in
-    let ds3 = c.push_letters.new.changes.items in
-    let ds4 = c.push_reply.new.changes.items in
+    let ds3 = c.push_redirects.new.changes.items in
+    let queued = c.push_reply.new.changes.items in
+    let ds4 = c.push_moment.new.changes.items in
     let ds5 = c.push_notice.new.changes.items in
-    are_delivery user sender counters plan ds1 kept ds2 ds3 ds4 ds5 is (subst (λ ds. Extends user (counters_raised user counters plan) ds ds1) c.new-changes.ensures.items c.in_ok-push_counters.ensures.raised)
+    let reply = subst (λ one. Extends user (reply_queued user plan.sender.now (counters.out + length c.as_slice-sent.result.now) one) ds3 queued) c.as_ref-reply.ensures.value c.in_ok-push_reply.ensures.queued in
+    are_delivery user folded counters plan ds1 kept ds2 ds3 queued ds4 ds5 is (subst (λ ds. Extends user (counters_raised user counters plan) ds ds1) c.new-changes.ensures.items c.in_ok-push_counters.ensures.raised)
     (subst (λ names. Extends user (message_kept user plan.message.now counters.copy names) ds1 kept) c.as_slice-folders.ensures c.in_ok-push_message.ensures.kept)
     (subst (λ names. Extends user (copies_added user counters.copy counters.copy names) kept ds2) c.as_slice-folders.ensures c.in_ok-push_copies.ensures.copied)
-    (subst (λ letters. Extends user (lettered user plan.sender.now plan.message.now counters.out letters) ds2 ds3) c.as_slice-letters.ensures c.in_ok-push_letters.ensures.lettered)
-    (subst (λ reply. Extends user (reply_put user sender reply) ds3 ds4) c.as_ref.ensures.value c.in_ok-push_reply.ensures.put)
+    (subst (λ targets. Extends user (sent_on user plan.sender.now plan.message.now counters.out targets) ds2 ds3) c.as_slice-sent.ensures c.in_ok-push_redirects.ensures.sent)
+    (subst (λ targets. Extends user (reply_queued user plan.sender.now (counters.out + length targets) plan.reply) ds3 queued) c.as_slice-sent.ensures reply)
+    (subst (λ one. Extends user (reply_put user folded plan.moment one) queued ds4) c.as_ref-reply.ensures.value c.in_ok-push_moment.ensures.put)
     (subst (λ text. Extends user (noticed user counters.notice plan.moment text) ds4 ds5) c.as_ref-notice.ensures.value c.in_ok-push_notice.ensures.noticed)

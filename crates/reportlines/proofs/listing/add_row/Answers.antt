@@ -2,6 +2,7 @@
 use Rattle.std.proofs.Common.{◌≡◌, ℕ, List, [], ◌∷◌, ◌++◌, codes, append_assoc, decimal, length, rules}
 use Rattle.std.proofs.lemmas.Result.{on_ok_weaker}
 use Rattle.reportlines.specs.Listings.{kind_word}
+use Rattle.reportlines.specs.Addresses.{shown_address}
 use Rattle.reportlines.proofs.listing.add_row.Goals as goal
 
 line_written : (old id a b kind c d sender e f target g h count i new : List ℕ)
@@ -14,7 +15,7 @@ pub returns : goal.returns
 returns c =
     let row = c.args.row.now in
     on_ok_weaker c.push.result
-    (λ last. line_written c.args.text.now (decimal row.id) c.write_decimal.new.out c.extend_from_slice.new.self (kind_word row.kind) c.extend_from_slice-2.new.self c.extend_from_slice-3.new.self row.sender
-    c.extend_from_slice-4.new.self c.extend_from_slice-5.new.self row.target c.extend_from_slice-6.new.self c.extend_from_slice-7.new.self (decimal (length row.message)) c.write_decimal-2.new.out c.push.new.self
+    (λ last. line_written c.args.text.now (decimal row.id) c.write_decimal.new.out c.extend_from_slice.new.self (kind_word row.kind) c.extend_from_slice-2.new.self c.extend_from_slice-3.new.self (shown_address row.sender)
+    c.add_address.new.text c.extend_from_slice-4.new.self (shown_address row.target) c.add_address-2.new.text c.extend_from_slice-5.new.self (decimal (length row.message)) c.write_decimal-2.new.out c.push.new.self
     (search rules) (search rules) (search rules) (search rules) (search rules) (search rules) (search rules) (search rules) (search rules) last)
     c.push.ensures.ok

@@ -6,11 +6,6 @@ use Rattle.sqlite.specs.Held.{state}
 use Rattle.sievedrun.proofs.PromiseLemmas.{leaves_new, on_ok_anyway}
 use Rattle.sievedrun.proofs.commands.run_init.Goals as goal
 
-pub returns-in_err-hand_back-clause-leaves : goal.returns-in_err-hand_back-clause-leaves
-returns-in_err-hand_back-clause-leaves g c tells =
-    let got = c.in_ok-store.ensures.taken tells in
-    leaves_new (g.K.Keeper.holds c.args.keeper.now) (state g.K.S.Store c.in_ok-store.store).now (g.K.Keeper.holds c.hand_back.new.self) got.0 got.1 (c.hand_back.ensures.held tells)
-
 pub returns-clause-leaves : goal.returns-clause-leaves
 returns-clause-leaves g c tells =
     let got = c.in_ok-store.ensures.taken tells in

@@ -18,12 +18,12 @@ loop-init g c =
 pub loop-preserved : goal.loop-preserved
 loop-preserved g c =
     let was = c.loop.invariant in
-    let now = c.in_ok-answer_first.ensures in
+    let now = c.in_ok-answer_some.ensures in
     record {
       back = λ h. now.back (was.back h);
       answered = λ tells accounts shown.
-          answered_on accounts c.args.session.now.client c.loop.session.client c.answer_first.new.session.client (g.W.Write.contents c.args.output.now) (g.W.Write.contents c.loop.output) (g.W.Write.contents c.answer_first.new.output)
-          [] c.loop.answers c.answer_first.new.answers (g.K.Keeper.holds c.loop.keeper) (g.K.Keeper.holds c.answer_first.new.keeper) (was.answered tells accounts shown) (now.answers tells);
+          answered_on accounts c.args.session.now.client c.loop.session.client c.answer_some.new.session.client (g.W.Write.contents c.args.output.now) (g.W.Write.contents c.loop.output) (g.W.Write.contents c.answer_some.new.output)
+          [] c.loop.answers c.answer_some.new.answers (g.K.Keeper.holds c.loop.keeper) (g.K.Keeper.holds c.answer_some.new.keeper) (was.answered tells accounts shown) (now.answers tells);
       none = λ tells h. now.none tells (was.none tells h);
     }
 
@@ -34,12 +34,12 @@ returns-then-not-ready-clause-answers g c tells accounts shown =
     all_written accounts c.args.session.now.client c.loop.session.client (g.W.Write.contents c.args.output.now) (g.W.Write.contents c.loop.output) (g.W.Write.contents c.write_all.new.output) c.as_slice.result.now
     (g.K.Keeper.holds c.loop.keeper) (rw text (c.loop.invariant.answered tells accounts shown)) idle c.write_all.result c.write_all.ensures.ok c.write_all.ensures.err
 
-pub returns-in_err-answer_first-clause-answers : goal.returns-in_err-answer_first-clause-answers
-returns-in_err-answer_first-clause-answers g c tells accounts shown =
-    let is : c.from_residual.result ≡ Err c.in_err-answer_first.field-0.0 = search rules in
-    subst (AnswersAll accounts c.args.session.now.client (g.W.Write.contents c.args.output.now) (g.W.Write.contents c.answer_first.new.output) c.answer_first.new.session.client (g.K.Keeper.holds c.answer_first.new.keeper)) (sym is)
-    (interrupted_on accounts c.args.session.now.client c.loop.session.client (g.W.Write.contents c.args.output.now) (g.W.Write.contents c.loop.output) (g.W.Write.contents c.answer_first.new.output) [] c.loop.answers
-    (g.K.Keeper.holds c.loop.keeper) (g.K.Keeper.holds c.answer_first.new.keeper) (c.loop.invariant.answered tells accounts shown) (c.in_err-answer_first.ensures.answers tells))
+pub returns-in_err-answer_some-clause-answers : goal.returns-in_err-answer_some-clause-answers
+returns-in_err-answer_some-clause-answers g c tells accounts shown =
+    let is : c.from_residual.result ≡ Err c.in_err-answer_some.field-0.0 = search rules in
+    subst (AnswersAll accounts c.args.session.now.client (g.W.Write.contents c.args.output.now) (g.W.Write.contents c.answer_some.new.output) c.answer_some.new.session.client (g.K.Keeper.holds c.answer_some.new.keeper)) (sym is)
+    (interrupted_on accounts c.args.session.now.client c.loop.session.client (g.W.Write.contents c.args.output.now) (g.W.Write.contents c.loop.output) (g.W.Write.contents c.answer_some.new.output) [] c.loop.answers
+    (g.K.Keeper.holds c.loop.keeper) (g.K.Keeper.holds c.answer_some.new.keeper) (c.loop.invariant.answered tells accounts shown) (c.in_err-answer_some.ensures.answers tells))
 
 pub returns-clause-answers : goal.returns-clause-answers
 returns-clause-answers g c tells accounts shown =

@@ -1,40 +1,22 @@
--- What comes first was answered by a step, or given up after what waited.
-use Rattle.std.proofs.Common.{◌≡◌, Err, ap, ◌∙◌, sym, subst, rules}
-use Rattle.std.specs.Io.KnownBytes.{Appends}
-use Rattle.sessions.specs.GivenUp.{text_given_up, client_given_up}
-use Rattle.sievedrun.specs.Serving.{AnswersFirst}
-use Rattle.sievedrun.specs.Streams.{AppendsFront}
-use Rattle.sievedrun.proofs.ServingLemmas.{first_stepped, first_written, first_given_up, interrupted_none}
+-- A step that asks no store, or one over it, from the session as it was.
+use Rattle.std.proofs.Common.{List, ℕ, is_ok, subst}
+use Rattle.sqlite.specs.Held.{state}
+use Rattle.sessions.specs.Clients.{Client}
+use Rattle.sessions.specs.declared.progress.Stepped.{Stepped}
+use Rattle.sessions.specs.Steps.{StepsFree}
+use Rattle.sievedrun.specs.Serving.{StepsOn, seen}
+use Rattle.sievedrun.proofs.ServingLemmas.{free_stepped}
 use Rattle.sievedrun.proofs.session.answer_first.Goals as goal
 
-pub returns-then-len-lt-MAX_WAITING-clause-answers : goal.returns-then-len-lt-MAX_WAITING-clause-answers
-returns-then-len-lt-MAX_WAITING-clause-answers g c tells accounts shown =
-    first_stepped accounts c.args.session.now.client c.step_over_store.new.session.client (g.W.Write.contents c.args.output.now) c.args.answers.now c.step_over_store.new.answers (g.K.Keeper.holds c.step_over_store.new.keeper)
-    c.requires (c.if-step_over_store.ensures.steps tells accounts shown)
+pub returns-in-Ok-Made-clause-steps : goal.returns-in-Ok-Made-clause-steps
+returns-in-Ok-Made-clause-steps g c tells accounts shown =
+    free_stepped c.args.session.now.client c.step_free.new.self.client _ c.args.answers.now c.step_free.new.out (seen (λ s. (state g.K.S.Store s).now) (g.K.Keeper.holds c.args.keeper.now) c.args.store.now)
+    (subst (λ (s : Stepped). StepsFree c.args.session.now.client c.step_free.new.self.client s c.args.answers.now c.step_free.new.out) c.in-Ok-Made.field-0-is c.in-Ok-Made.ensures.step) accounts shown
 
-pub returns-then-step_over_store-clause-answers : goal.returns-then-step_over_store-clause-answers
-returns-then-step_over_store-clause-answers g c tells accounts shown =
-    let out = g.W.Write.contents c.args.output.now in
-    first_written accounts c.args.session.now.client c.step_over_store.new.session.client out (g.W.Write.contents c.write_out.new.output) c.args.answers.now c.step_over_store.new.answers c.write_out.new.answers (g.K.Keeper.holds c.step_over_store.new.keeper)
-    (first_stepped accounts c.args.session.now.client c.step_over_store.new.session.client out c.args.answers.now c.step_over_store.new.answers (g.K.Keeper.holds c.step_over_store.new.keeper) c.requires (c.if-step_over_store.ensures.steps tells accounts shown))
-    c.write_out.result c.write_out.ensures.ok c.write_out.ensures.err
-
-pub returns-in_err-write_out-clause-answers : goal.returns-in_err-write_out-clause-answers
-returns-in_err-write_out-clause-answers g c tells accounts shown =
-    let out = g.W.Write.contents c.args.output.now in
-    let out2 = g.W.Write.contents c.write_out-2.new.output in
-    let same = c.if-step_over_store.ensures.steps tells accounts shown in
-    let is : c.from_residual.result ≡ Err c.in_err-write_out.field-0.0 = search rules in
-    subst (AnswersFirst accounts c.args.session.now.client out c.args.answers.now out2 c.write_out-2.new.answers c.step_over_store.new.session.client (g.K.Keeper.holds c.step_over_store.new.keeper)) (sym is)
-    (interrupted_none accounts c.args.session.now.client out out2 c.args.answers.now (g.K.Keeper.holds c.step_over_store.new.keeper) same.2 (subst (AppendsFront out out2) same.1 c.in_err-write_out.ensures.err))
-
-pub returns-clause-answers : goal.returns-clause-answers
-returns-clause-answers g c tells accounts shown =
-    let out = g.W.Write.contents c.args.output.now in
-    let out2 = g.W.Write.contents c.write_out-2.new.output in
-    let out3 = g.W.Write.contents c.write_all.new.output in
-    let same = c.if-step_over_store.ensures.steps tells accounts shown in
-    let ready = c.requires in
-    first_given_up accounts c.args.session.now.client c.give_up.new.self.client out out2 out3 c.args.answers.now c.write_out-2.new.answers c.give_up.result.now (g.K.Keeper.holds c.step_over_store.new.keeper)
-    ready same.2 (c.give_up.ensures.text ∙ ap text_given_up same.0) (c.give_up.ensures.client ∙ ap client_given_up same.0)
-    (subst (Appends out out2) same.1 c.in_ok-write_out.ensures.ok.0) c.in_ok-write_out.ensures.ok.1 c.write_all.result c.write_all.ensures.ok c.write_all.ensures.err
+pub returns-in-Ok-Asks-clause-steps : goal.returns-in-Ok-Asks-clause-steps
+returns-in-Ok-Asks-clause-steps g c tells accounts shown =
+    let asks = subst (λ (s : Stepped). StepsFree c.args.session.now.client c.step_free.new.self.client s c.args.answers.now c.step_free.new.out) c.in-Ok-Asks.field-0-is c.in-Ok-Asks.ensures.step in
+    let after = seen (λ s. (state g.K.S.Store s).now) (g.K.Keeper.holds c.answer_over_store.new.keeper) c.answer_over_store.new.store in
+    subst (λ (d : Client). StepsOn accounts d c.args.answers.now c.answer_over_store.new.answers c.answer_over_store.new.session.client after (is_ok c.answer_over_store.result)) asks.stays
+    (subst (λ (out : List ℕ). StepsOn accounts c.step_free.new.self.client out c.answer_over_store.new.answers c.answer_over_store.new.session.client after (is_ok c.answer_over_store.result)) asks.silent
+    (c.answer_over_store.ensures.steps tells accounts shown))

@@ -31,8 +31,8 @@ returns-in_err-give-clause-serves g c tells accounts first_in first_out first =
     subst (Converses accounts first_in (g.R.Read.remaining c.read_at.new.input) first_out (g.W.Write.contents c.loop.output) (g.K.Keeper.holds c.loop.keeper)) (sym is)
     (broken_served accounts first_in (g.R.Read.remaining c.loop.input) first_out (g.W.Write.contents c.loop.output) c.loop.session.client (g.K.Keeper.holds c.loop.keeper) (c.loop.invariant.served tells accounts first_in first_out first))
 
-pub returns-in_err-answer_all-clause-serves : goal.returns-in_err-answer_all-clause-serves
-returns-in_err-answer_all-clause-serves g c tells accounts first_in first_out first =
+pub returns-in_err-answered-clause-serves : goal.returns-in_err-answered-clause-serves
+returns-in_err-answered-clause-serves g c tells accounts first_in first_out first =
     let len = c.in-Some.len in
     let room = c.read_at.new.room in
     let came : unwrap_or c.in_ok-len.field-0 0 ≡ len = ap (λ o. unwrap_or o 0) c.in-Some.is in
@@ -40,11 +40,11 @@ returns-in_err-answer_all-clause-serves g c tells accounts first_in first_out fi
     let whole : length room ≡ 4096 = search rules in
     let short : length (take len room) ≤ 4096 = omega (arith, whole, length-take len room) in
     let joins : c.give.new.self.client ≡ client_given (take len room) c.loop.session.client = search rules in
-    let is : c.from_residual-in_err-answer_all.result ≡ Err c.in_err-answer_all.field-0.0 = search rules in
-    subst (Converses accounts first_in (g.R.Read.remaining c.read_at.new.input) first_out (g.W.Write.contents c.answer_all.new.output) (g.K.Keeper.holds c.answer_all.new.keeper)) (sym is)
-    (broken_on accounts first_in (g.R.Read.remaining c.loop.input) (g.R.Read.remaining c.read_at.new.input) first_out (g.W.Write.contents c.loop.output) (g.W.Write.contents c.answer_all.new.output) (take len room)
-    c.loop.session.client c.give.new.self.client c.answer_all.new.session.client (g.K.Keeper.holds c.loop.keeper) (g.K.Keeper.holds c.answer_all.new.keeper) (c.loop.invariant.served tells accounts first_in first_out first) took short joins
-    (c.in_err-answer_all.ensures.answers tells))
+    let is : c.from_residual-in_err-answered.result ≡ Err c.in_err-answered.field-0.0 = search rules in
+    subst (Converses accounts first_in (g.R.Read.remaining c.read_at.new.input) first_out (g.W.Write.contents c.answer_all-answered.new.output) (g.K.Keeper.holds c.answer_all-answered.new.keeper)) (sym is)
+    (broken_on accounts first_in (g.R.Read.remaining c.loop.input) (g.R.Read.remaining c.read_at.new.input) first_out (g.W.Write.contents c.loop.output) (g.W.Write.contents c.answer_all-answered.new.output) (take len room)
+    c.loop.session.client c.give.new.self.client c.answer_all-answered.new.session.client (g.K.Keeper.holds c.loop.keeper) (g.K.Keeper.holds c.answer_all-answered.new.keeper) (c.loop.invariant.served tells accounts first_in first_out first) took short joins
+    (c.in_err-answered.ensures.answers tells))
 
 pub returns-then-is_closed-clause-serves : goal.returns-then-is_closed-clause-serves
 returns-then-is_closed-clause-serves g c tells accounts first_in first_out first =
@@ -55,12 +55,12 @@ returns-then-is_closed-clause-serves g c tells accounts first_in first_out first
     let whole : length room ≡ 4096 = search rules in
     let short : length (take len room) ≤ 4096 = omega (arith, whole, length-take len room) in
     let joins : c.give.new.self.client ≡ client_given (take len room) c.loop.session.client = search rules in
-    let shut : c.answer_all.new.session.client.closed ≡ true = search rules in
+    let shut : c.answer_all-answered.new.session.client.closed ≡ true = search rules in
     record {
-      client = c.answer_all.new.session.client;
-      served = served_on accounts first_in (g.R.Read.remaining c.loop.input) (g.R.Read.remaining c.read_at.new.input) first_out (g.W.Write.contents c.loop.output) (g.W.Write.contents c.answer_all.new.output) (take len room)
-          c.loop.session.client c.give.new.self.client c.answer_all.new.session.client (g.K.Keeper.holds c.loop.keeper) (g.K.Keeper.holds c.answer_all.new.keeper) (c.loop.invariant.served tells accounts first_in first_out first) took short joins
-          (c.in_ok-answer_all.ensures.answers tells);
+      client = c.answer_all-answered.new.session.client;
+      served = served_on accounts first_in (g.R.Read.remaining c.loop.input) (g.R.Read.remaining c.read_at.new.input) first_out (g.W.Write.contents c.loop.output) (g.W.Write.contents c.answer_all-answered.new.output) (take len room)
+          c.loop.session.client c.give.new.self.client c.answer_all-answered.new.session.client (g.K.Keeper.holds c.loop.keeper) (g.K.Keeper.holds c.answer_all-answered.new.keeper) (c.loop.invariant.served tells accounts first_in first_out first) took short joins
+          (c.in_ok-answered.ensures.answers tells);
       over = inl shut;
     }
 
@@ -74,12 +74,12 @@ loop-preserved g c =
     let short : length (take len room) ≤ 4096 = omega (arith, whole, length-take len room) in
     let joins : c.give.new.self.client ≡ client_given (take len room) c.loop.session.client = search rules in
     let was = c.loop.invariant in
-    let now = c.in_ok-answer_all.ensures in
+    let now = c.in_ok-answered.ensures in
     record {
       back = λ h. now.back (was.back h);
-      served = λ tells accounts first_in first_out first. served_on accounts first_in (g.R.Read.remaining c.loop.input) (g.R.Read.remaining c.read_at.new.input) first_out (g.W.Write.contents c.loop.output) (g.W.Write.contents c.answer_all.new.output) (take len room)
-          c.loop.session.client c.give.new.self.client c.answer_all.new.session.client (g.K.Keeper.holds c.loop.keeper) (g.K.Keeper.holds c.answer_all.new.keeper) (c.loop.invariant.served tells accounts first_in first_out first) took short joins
-          (c.in_ok-answer_all.ensures.answers tells);
+      served = λ tells accounts first_in first_out first. served_on accounts first_in (g.R.Read.remaining c.loop.input) (g.R.Read.remaining c.read_at.new.input) first_out (g.W.Write.contents c.loop.output) (g.W.Write.contents c.answer_all-answered.new.output) (take len room)
+          c.loop.session.client c.give.new.self.client c.answer_all-answered.new.session.client (g.K.Keeper.holds c.loop.keeper) (g.K.Keeper.holds c.answer_all-answered.new.keeper) (c.loop.invariant.served tells accounts first_in first_out first) took short joins
+          (c.in_ok-answered.ensures.answers tells);
       none = λ tells h. now.none tells (was.none tells h);
     }
 

@@ -1,5 +1,5 @@
 -- What a store taken from memory sees is what the connection saw that was held.
-use Rattle.std.proofs.Common.{◌≡◌, Some, refl, ◌∙◌, sym, ap}
+use Rattle.std.proofs.Common.{◌≡◌, Some, refl, rules, ◌∙◌, sym, ap}
 use Rattle.sqlite.proofs.Callers.{memory_is_clean}
 use Rattle.sqlite.specs.Held.{state}
 use Rattle.sqlite.specs.Steps.{over_memory}
@@ -9,7 +9,7 @@ use Rattle.keepers.proofs.memory.MemoryKeeperKeeper.take.Goals as goal
 
 pub returns-in-Ok-clause-taken : goal.returns-in-Ok-clause-taken
 returns-in-Ok-clause-taken c _ =
-    let was : c.args.self.now.conn ≡ Some c.in-Some.conn = cc in
+    let was : c.args.self.now.conn ≡ Some c.in-Some.conn = search rules in
     let made = c.in-Ok.ensures in
     let clean = memory_is_clean c.in-Ok.store in
     is_taken c.args.fresh (held_by c.args.self.now.conn) (state over_memory c.in-Ok.store).now
@@ -20,5 +20,5 @@ returns-in-Ok-clause-taken c _ =
 
 pub returns-in-Err-clause-refused : goal.returns-in-Err-clause-refused
 returns-in-Err-clause-refused c _ =
-    let was : c.args.self.now.conn ≡ Some c.in-Some.conn = cc in
+    let was : c.args.self.now.conn ≡ Some c.in-Some.conn = search rules in
     (c.in-Err.ensures.refused (memory_is_clean c.in-Err.conn)).now_is refl ∙ sym (ap held_by was)

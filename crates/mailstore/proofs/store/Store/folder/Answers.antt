@@ -1,19 +1,21 @@
-use Rattle.std.proofs.Common.{◌≡◌, ◌∙◌, Err, Vec, rules}
+use Rattle.std.proofs.Common.{◌≡◌, Err, rules}
 use Rattle.sqlite.specs.Held.{state}
-use Rattle.std.specs.declared.alloc.Global.{Global}
-use Rattle.sqlite_value.specs.Order.{Row}
+use Rattle.mailstore.specs.Account.{Account}
+use Rattle.mailstore.specs.AccountRows.{profile_of}
+use Rattle.mailstore.specs.declared.profile.Profile.{Profile}
 use Rattle.mailstore.specs.Account.{messages_in}
-use Rattle.mailstore.specs.CopyRows.{AreMessageRows}
-use Rattle.mailstore.proofs.DecodeLemmas.{texts_are}
-use Rattle.mailstore.proofs.KeepLemmas.{reads_refused, reads_answer}
+use Rattle.mailstore.proofs.KeepLemmas.{reads_refused}
+use Rattle.mailstore.proofs.EnterLemmas.{enters}
 use Rattle.mailstore.proofs.store.Store.folder.Goals as goal
 
-pub returns-in_err-rows : goal.returns-in_err-rows
-returns-in_err-rows g c =
-    let is : c.from_residual.result ≡ Err c.in_err-rows.field-0.0 = search rules in
-    reads_refused c.args.user.now (λ (rows : Vec Row Global). AreMessageRows c.args.folder.now rows.items) _ (state g.S.Store c.args.self.now) (state g.S.Store c.message_rows.new.self) c.in_err-rows.field-0.0 c.from_residual.result is c.in_err-rows.ensures
+abbrev Known : Profile → Account → Type 0
+Known profile a = profile ≡ profile_of a
+
+pub returns-in_err-enter : goal.returns-in_err-enter
+returns-in_err-enter g c =
+    let is : c.from_residual.result ≡ Err c.in_err-enter.field-0.0 = search rules in
+    reads_refused c.args.user.now Known (λ messages a. messages ≡ messages_in a.folders c.args.folder.now) (state g.S.Store c.args.self.now) (state g.S.Store c.enter.new.self) c.in_err-enter.field-0.0 c.from_residual.result is c.in_err-enter.ensures
 
 pub returns : goal.returns
 returns g c =
-    reads_answer c.args.user.now (λ (rows : Vec Row Global). AreMessageRows c.args.folder.now rows.items) (λ messages a. messages ≡ messages_in a.folders c.args.folder.now) (state g.S.Store c.args.self.now) (state g.S.Store c.message_rows.new.self) c.message_rows.result c.in_ok-rows.rows c.in_ok-rows.was c.all_from_rows.result c.all_from_rows.ensures.named
-    (λ a is. texts_are c.all_from_rows.result c.deref.result.now (messages_in a.folders c.args.folder.now) (c.deref.ensures.value ∙ is) c.all_from_rows.ensures.ok) c.message_rows.ensures
+    enters c.args.user.now Known (state g.S.Store c.args.self.now) (state g.S.Store c.enter.new.self) (state g.S.Store c.folder_of.new.self) c.enter.result c.in_ok-enter.field-0 c.in_ok-enter.was c.enter.ensures (λ messages a. messages ≡ messages_in a.folders c.args.folder.now) c.folder_of.result c.folder_of.ensures

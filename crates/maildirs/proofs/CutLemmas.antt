@@ -1,0 +1,69 @@
+-- A separator in what is written.
+use Rattle.std.proofs.Common.{◌≡◌, ◌<◌, ℕ, Bool, true, false, cond, List, [], ◌∷◌, ◌++◌, codes, refl, sym, ◌∙◌, ap, append_assoc, arith}
+use Rattle.std.proofs.lemmas.Str.{IsUtf8-append, chars-append, chars_past_char, encode_ascii}
+use Rattle.std.specs.Prelude.{IsUtf8}
+use Rattle.std.specs.Str.{chars}
+use lib.Utf8.{encode}
+use Rattle.octets.specs.Ascii.{is_printable}
+use Rattle.maildirs.specs.declared.separator.Separator.{Separator}
+use Rattle.maildirs.specs.declared.separator.Separator.TheVariants.{Dot, Slash}
+use Rattle.maildirs.specs.Spelling.{Piece, Printable, Run, before_pieces, octet_of, piece_spelling, pieces_of, spelled, spellings, utf16_of}
+
+before_cut : (units : List ℕ) (pieces : List Piece) (character : ℕ) (more : List Piece)
+    → before_pieces units (pieces ++ Printable character ∷ more) ≡ before_pieces units pieces ++ Printable character ∷ more
+before_cut units [] character more = refl
+before_cut units (Printable other ∷ pieces) character more = refl
+before_cut units (Run others ∷ pieces) character more = refl
+
+front_cut : (printable : Bool) (first : ℕ) (pieces : List Piece) (character : ℕ) (more : List Piece)
+    → cond printable (Printable first ∷ (pieces ++ Printable character ∷ more)) (before_pieces (utf16_of first) (pieces ++ Printable character ∷ more))
+    ≡ cond printable (Printable first ∷ pieces) (before_pieces (utf16_of first) pieces) ++ Printable character ∷ more
+front_cut true first pieces character more = refl
+front_cut false first pieces character more = before_cut (utf16_of first) pieces character more
+
+cut_front : (separator : Separator) (rest : List ℕ) → pieces_of (octet_of separator ∷ rest) ≡ Printable (octet_of separator) ∷ pieces_of rest
+cut_front Dot rest = refl
+cut_front Slash rest = refl
+
+cut_pieces : (separator : Separator) (front rest : List ℕ)
+    → pieces_of (front ++ octet_of separator ∷ rest) ≡ pieces_of front ++ Printable (octet_of separator) ∷ pieces_of rest
+cut_pieces separator [] rest = cut_front separator rest
+cut_pieces separator (first ∷ front) rest =
+    ap (λ pieces. cond (is_printable first) (Printable first ∷ pieces) (before_pieces (utf16_of first) pieces)) (cut_pieces separator front rest)
+    ∙ front_cut (is_printable first) first (pieces_of front) (octet_of separator) (pieces_of rest)
+
+spellings-append : (separator : Separator) (xs ys : List Piece) → spellings separator (xs ++ ys) ≡ spellings separator xs ++ spellings separator ys
+spellings-append separator [] ys = refl
+spellings-append separator (x ∷ xs) ys =
+    ap (λ text. piece_spelling separator x ++ text) (spellings-append separator xs ys)
+    ∙ sym (append_assoc (piece_spelling separator x) (spellings separator xs) (spellings separator ys))
+
+dot_between : (separator : Separator) (pieces : List Piece) → spellings separator (Printable (octet_of separator) ∷ pieces) ≡ codes "." ++ spellings separator pieces
+dot_between Dot pieces = refl
+dot_between Slash pieces = refl
+
+separator_scalar : (separator : Separator) → octet_of separator < 128
+separator_scalar Dot = omega arith
+separator_scalar Slash = omega arith
+
+separator_text : (separator : Separator) → IsUtf8 (octet_of separator ∷ [])
+unfolding encode
+separator_text Dot = (46 ∷ [], (refl, refl))
+separator_text Slash = (47 ∷ [], (refl, refl))
+
+cut_chars : (separator : Separator) (front rest : List ℕ) → IsUtf8 front → IsUtf8 rest → chars (front ++ octet_of separator ∷ rest) ≡ chars front ++ octet_of separator ∷ chars rest
+cut_chars separator front rest one two =
+    let mark = octet_of separator in
+    let after : IsUtf8 (mark ∷ rest) = IsUtf8-append (mark ∷ []) rest (separator_text separator) two in
+    chars-append front (mark ∷ rest) one
+    ∙ ap (λ l. chars front ++ l) (chars_past_char (mark ∷ rest) rest mark after (ap (λ l. l ++ rest) (sym (encode_ascii mark (separator_scalar separator)))))
+
+pub cut_spelled : (separator : Separator) (front rest : List ℕ) → IsUtf8 front → IsUtf8 rest
+    → spelled separator (front ++ octet_of separator ∷ rest) ≡ spelled separator front ++ 46 ∷ spelled separator rest
+cut_spelled separator front rest one two =
+    let before = pieces_of (chars front) in
+    let after = pieces_of (chars rest) in
+    ap (λ text. spellings separator (pieces_of text)) (cut_chars separator front rest one two)
+    ∙ ap (spellings separator) (cut_pieces separator (chars front) (chars rest))
+    ∙ spellings-append separator before (Printable (octet_of separator) ∷ after)
+    ∙ ap (λ text. spellings separator before ++ text) (dot_between separator after)

@@ -1,0 +1,101 @@
+-- Directories of folders, each with a near miss.
+use Rattle.std.proofs.Common.{◌≡◌, refl, ap, codes, List, ℕ, [], ◌∷◌, ◌++◌, inl, inr, arith}
+use Rattle.std.specs.Prelude.{slice_index}
+use Rattle.std.specs.Str.{chars, is_utf8}
+use Rattle.base64.specs.Rfc4648.{encode_symbols}
+use Rattle.maildirs.specs.declared.separator.Separator.TheVariants.{Dot, Slash}
+use Rattle.maildirs.specs.Directory.{MayShare, digest_form, directory}
+
+-- a blank is itself
+blank_kept : directory Dot (codes "Sent Items") ≡ codes ".Sent Items"
+unfolding chars is_utf8 lib.Utf8.encode
+blank_kept = refl
+
+-- the separator is `.`, and the other one is escaped
+slash_cuts : directory Slash (codes "work/x") ≡ codes ".work.x"
+unfolding chars is_utf8 lib.Utf8.encode
+slash_cuts = refl
+
+slash_kept : directory Dot (codes "work/x") ≡ codes ".work\\2fx"
+unfolding chars is_utf8 lib.Utf8.encode
+slash_kept = refl
+
+dot_cuts : directory Dot (codes "work.x") ≡ codes ".work.x"
+unfolding chars is_utf8 lib.Utf8.encode
+dot_cuts = refl
+
+dot_kept : directory Slash (codes "work.x") ≡ codes ".work\\2ex"
+unfolding chars is_utf8 lib.Utf8.encode
+dot_kept = refl
+
+-- INBOX is the Maildir itself, in any case, and what lies below it is not
+inbox_itself : directory Dot (codes "inbox") ≡ codes "."
+inbox_itself = refl
+
+below_inbox : directory Dot (codes "INBOX.Junk") ≡ codes ".INBOX.Junk"
+unfolding chars is_utf8 lib.Utf8.encode
+below_inbox = refl
+
+nearly_inbox : directory Dot (codes "inbox2") ≡ codes ".inbox2"
+unfolding chars is_utf8 lib.Utf8.encode
+nearly_inbox = refl
+
+-- `Größe`: ö and ß are one run
+abbrev size_name : List ℕ
+size_name = codes "Gr" ++ 195 ∷ 182 ∷ 195 ∷ 159 ∷ codes "e"
+
+one_run : directory Dot size_name ≡ codes ".Gr&APYA3w-e"
+unfolding chars is_utf8 encode_symbols lib.Utf8.encode
+one_run = refl
+
+-- `ö-ß`: two runs
+two_runs : directory Dot (195 ∷ 182 ∷ 45 ∷ 195 ∷ 159 ∷ []) ≡ codes ".&APY--&AN8-"
+unfolding chars is_utf8 encode_symbols lib.Utf8.encode
+two_runs = refl
+
+-- not UTF-8: ö in ISO-8859-1
+not_text : directory Dot (71 ∷ 246 ∷ []) ≡ digest_form (71 ∷ 246 ∷ [])
+unfolding chars is_utf8 lib.Utf8.encode
+not_text = refl
+
+-- `&`, and what it is written by
+ampersand : directory Dot (codes "&") ≡ codes ".&-"
+unfolding chars is_utf8 lib.Utf8.encode
+ampersand = refl
+
+ampersand_written : directory Dot (codes "&-") ≡ codes ".&--"
+unfolding chars is_utf8 lib.Utf8.encode
+ampersand_written = refl
+
+-- `~` at the front, and elsewhere
+tilde_front : directory Dot (codes "~x") ≡ codes ".\\7ex"
+unfolding chars is_utf8 lib.Utf8.encode
+tilde_front = refl
+
+tilde_inside : directory Dot (codes "x~") ≡ codes ".x~"
+unfolding chars is_utf8 lib.Utf8.encode
+tilde_inside = refl
+
+-- an empty level, and two dots that are none
+empty_level : directory Dot (codes "..") ≡ digest_form (codes "..")
+unfolding chars is_utf8 lib.Utf8.encode
+empty_level = refl
+
+two_dots : directory Slash (codes "..") ≡ codes ".\\2e\\2e"
+unfolding chars is_utf8 lib.Utf8.encode
+two_dots = refl
+
+no_name : directory Dot [] ≡ digest_form []
+unfolding chars is_utf8 lib.Utf8.encode
+no_name = refl
+
+-- INBOX in letters of either case is one folder
+one_inbox : MayShare Dot (codes "inbox") (codes "INBOX")
+one_inbox = inr (inl (refl, refl))
+
+-- near miss: two other names in letters of either case aren't
+two_cases : MayShare Dot (codes "work") (codes "Work") → ⊥
+unfolding chars is_utf8 lib.Utf8.encode
+two_cases (inl same) = let first : 119 ≡ 87 = ap (λ l. slice_index l 0) same in absurd (omega (arith, first))
+two_cases (inr (inl (one, two))) = cc
+two_cases (inr (inr (one, two, three))) = cc

@@ -1,0 +1,144 @@
+-- What is written are octets that a directory keeps.
+use Rattle.std.proofs.Common.{◌≡◌, ℕ, zero, suc, ◌+◌, ◌*◌, ◌/◌, ◌%◌, ◌<◌, ◌==◌, Bool, true, false, cond, ◌&&◌, not, nat_lt, List, [], ◌∷◌, ◌++◌, get_or, codes, refl, ◌∙◌, ap, arith}
+use Rattle.std.proofs.lemmas.List.Folds.{list_all-append}
+use Rattle.std.proofs.lemmas.List.Sums.{AllPass-from_list_all}
+use Rattle.std.specs.List.{list_all}
+use Rattle.std.specs.Int.{w32, to_be_bytes}
+use Rattle.std.specs.Str.{chars}
+use Rattle.base64.specs.Rfc4648.{encode_symbols}
+use Rattle.hex.specs.Hex.{encode_with, lower_digits}
+use Rattle.octets.specs.Ascii.{is_printable}
+use Rattle.sha2.specs.Sha256.{digest_bytes, sha256}
+use Rattle.maildirs.specs.declared.separator.Separator.{Separator}
+use Rattle.maildirs.specs.Directory.{digest_form}
+use Rattle.maildirs.specs.Inside.{is_kept}
+use Rattle.maildirs.specs.Spelling.{Piece, Printable, Run, before_pieces, high_first, modified_base64, modified_symbols, name_spelled, octet_of, piece_spelling, pieces_of, shifted, spelled, spellings, utf16_of}
+
+pub and_true : (a b : Bool) → a ≡ true → b ≡ true → (a && b) ≡ true
+and_true a b one two = rw (one, two) refl
+
+kept-append : (xs ys : List ℕ) → list_all is_kept xs ≡ true → list_all is_kept ys ≡ true → list_all is_kept (xs ++ ys) ≡ true
+kept-append xs ys one two = list_all-append is_kept xs ys ∙ and_true _ _ one two
+
+-- each of these numbers is below 256
+abbrev pub AreSmall : List ℕ → Type 0
+AreSmall [] = Unit {0}
+AreSmall (octet ∷ rest) = (octet < 256) × AreSmall rest
+
+small-append : (xs ys : List ℕ) → AreSmall xs → AreSmall ys → AreSmall (xs ++ ys)
+small-append [] ys one two = two
+small-append (x ∷ xs) ys one two = (one.0, small-append xs ys one.1 two)
+
+-- what holds of each of the 64 symbols holds of each octet of modified base64
+module _ (Passes : ℕ → Bool) (each : list_all Passes modified_symbols ≡ true) where
+  symbol_passes : (k : ℕ) → k < 64 → Passes (get_or modified_symbols k 0) ≡ true
+  symbol_passes k small = AllPass-from_list_all Passes modified_symbols each k 0 small
+
+  symbols_pass : (octets : List ℕ) → AreSmall octets → list_all Passes (encode_symbols modified_symbols octets) ≡ true
+  unfolding encode_symbols
+  symbols_pass [] are = refl
+  symbols_pass (a ∷ []) are = and_true _ _ (symbol_passes (a / 4) (omega (arith, are.0))) (and_true _ _ (symbol_passes (a % 4 * 16) (omega arith)) refl)
+  symbols_pass (a ∷ b ∷ []) are =
+      and_true _ _ (symbol_passes (a / 4) (omega (arith, are.0))) (and_true _ _ (symbol_passes (a % 4 * 16 + b / 16) (omega (arith, are.1.0))) (and_true _ _ (symbol_passes (b % 16 * 4) (omega arith)) refl))
+  symbols_pass (a ∷ b ∷ c ∷ rest) are =
+      and_true _ _ (symbol_passes (a / 4) (omega (arith, are.0))) (and_true _ _ (symbol_passes (a % 4 * 16 + b / 16) (omega (arith, are.1.0)))
+      (and_true _ _ (symbol_passes (b % 16 * 4 + c / 64) (omega (arith, are.1.1.0))) (and_true _ _ (symbol_passes (c % 64) (omega arith)) (symbols_pass rest are.1.1.1))))
+
+  pub modified_passes : (octets : List ℕ) → AreSmall octets → list_all Passes (modified_base64 octets) ≡ true
+  modified_passes octets are = list_all-append Passes (encode_symbols modified_symbols octets) [] ∙ and_true _ _ (symbols_pass octets are) refl
+
+shifted_kept : (octets : List ℕ) → AreSmall octets → list_all is_kept (shifted octets) ≡ true
+shifted_kept octets are = kept-append (modified_base64 octets) (codes "-") (modified_passes is_kept refl octets are) refl
+
+-- one octet or more
+abbrev IsBegun : List ℕ → Type 0
+IsBegun [] = ⊥
+IsBegun (octet ∷ rest) = Unit {0}
+
+-- a printable character, or some octets
+abbrev pub IsSound : Piece → Type 0
+IsSound (Printable character) = is_printable character ≡ true
+IsSound (Run octets) = AreSmall octets × IsBegun octets
+
+abbrev pub AreSound : List Piece → Type 0
+AreSound [] = Unit {0}
+AreSound (piece ∷ more) = IsSound piece × AreSound more
+
+units_sound : (one : Bool) (a b c : ℕ) → IsSound (Run (high_first (cond one (a ∷ []) (b ∷ c ∷ []))))
+units_sound true a b c = ((omega arith, (omega arith, tt)), tt)
+units_sound false a b c = ((omega arith, (omega arith, (omega arith, (omega arith, tt)))), tt)
+
+utf16_sound : (character : ℕ) → IsSound (Run (utf16_of character))
+utf16_sound character = units_sound (nat_lt character 0x1_0000) _ _ _
+
+begun-append : (xs ys : List ℕ) → IsBegun xs → IsBegun (xs ++ ys)
+begun-append [] ys begun = absurd begun
+begun-append (x ∷ xs) ys begun = tt
+
+before_sound : (units : List ℕ) (pieces : List Piece) → IsSound (Run units) → AreSound pieces → AreSound (before_pieces units pieces)
+before_sound units [] sound are = (sound, tt)
+before_sound units (Printable character ∷ more) sound are = (sound, are)
+before_sound units (Run others ∷ more) sound are = ((small-append units others sound.0 are.0.0, begun-append units others sound.1), are.1)
+
+front_sound : (printable : Bool) (character : ℕ) (pieces : List Piece) → is_printable character ≡ printable → AreSound pieces
+    → AreSound (cond printable (Printable character ∷ pieces) (before_pieces (utf16_of character) pieces))
+front_sound true character pieces told are = (told, are)
+front_sound false character pieces told are = before_sound (utf16_of character) pieces (utf16_sound character) are
+
+pub pieces_sound : (text : List ℕ) → AreSound (pieces_of text)
+pieces_sound [] = tt
+pieces_sound (character ∷ more) = front_sound (is_printable character) character (pieces_of more) refl (pieces_sound more)
+
+spelling_by : (cuts dot slash back ampersand : Bool) (character : ℕ) → is_printable character ≡ true → (character == 47) ≡ slash
+    → list_all is_kept (cond cuts (codes ".") (cond dot (codes "\\2e") (cond slash (codes "\\2f") (cond back (codes "\\5c") (cond ampersand (codes "&-") (character ∷ [])))))) ≡ true
+spelling_by true dot slash back ampersand character seen told = refl
+spelling_by false true slash back ampersand character seen told = refl
+spelling_by false false true back ampersand character seen told = refl
+spelling_by false false false true ampersand character seen told = refl
+spelling_by false false false false true character seen told = refl
+spelling_by false false false false false character seen told = and_true _ _ (and_true _ _ seen (ap not told)) refl
+
+piece_kept : (separator : Separator) (piece : Piece) → IsSound piece → list_all is_kept (piece_spelling separator piece) ≡ true
+piece_kept separator (Printable character) seen =
+    spelling_by (character == octet_of separator) (character == 46) (character == 47) (character == 92) (character == 38) character seen refl
+piece_kept separator (Run octets) sound = shifted_kept octets sound.0
+
+pieces_kept : (separator : Separator) (pieces : List Piece) → AreSound pieces → list_all is_kept (spellings separator pieces) ≡ true
+pieces_kept separator [] are = refl
+pieces_kept separator (piece ∷ more) are =
+    kept-append (piece_spelling separator piece) (spellings separator more) (piece_kept separator piece are.0) (pieces_kept separator more are.1)
+
+spelled_kept : (separator : Separator) (text : List ℕ) → list_all is_kept (spelled separator text) ≡ true
+spelled_kept separator text = pieces_kept separator (pieces_of (chars text)) (pieces_sound (chars text))
+
+name_by : (separator : Separator) (tilde : Bool) (octet : ℕ) (rest : List ℕ)
+    → list_all is_kept (cond tilde (codes "\\7e" ++ spelled separator rest) (spelled separator (octet ∷ rest))) ≡ true
+name_by separator true octet rest = spelled_kept separator rest
+name_by separator false octet rest = spelled_kept separator (octet ∷ rest)
+
+pub name_kept : (separator : Separator) (name : List ℕ) → list_all is_kept (name_spelled separator name) ≡ true
+name_kept separator [] = refl
+name_kept separator (octet ∷ rest) = name_by separator (octet == 126) octet rest
+
+digit_kept : (k : ℕ) → k < 16 → is_kept (get_or lower_digits k 0) ≡ true
+digit_kept k small = AllPass-from_list_all is_kept lower_digits refl k 0 small
+
+digits_kept : (octets : List ℕ) → AreSmall octets → list_all is_kept (encode_with lower_digits octets) ≡ true
+unfolding encode_with
+digits_kept [] are = refl
+digits_kept (octet ∷ rest) are = and_true _ _ (digit_kept (octet / 16) (omega (arith, are.0))) (and_true _ _ (digit_kept (octet % 16) (omega arith)) (digits_kept rest are.1))
+
+word_small : (n : ℕ) → AreSmall (to_be_bytes w32 n)
+word_small n = (omega arith, (omega arith, (omega arith, (omega arith, tt))))
+
+words_small : (words : List ℕ) (n : ℕ) → AreSmall (digest_bytes words n)
+unfolding digest_bytes
+words_small words zero = tt
+words_small words (suc n) = small-append (digest_bytes words n) _ (words_small words n) (word_small (get_or words n 0))
+
+pub digest_small : (name : List ℕ) → AreSmall (sha256 name)
+unfolding sha256
+digest_small name = words_small _ 8
+
+pub digest_kept : (name : List ℕ) → list_all is_kept (digest_form name) ≡ true
+digest_kept name = digits_kept (sha256 name) (digest_small name)

@@ -1,0 +1,9 @@
+mod CutLemmas
+mod Examples
+mod InsideLemmas
+mod KeptLemmas
+mod LevelLemmas
+mod NameLemmas
+mod PieceLemmas
+mod RunLemmas
+mod SharingLemmas

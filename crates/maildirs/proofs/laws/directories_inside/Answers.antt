@@ -1,0 +1,8 @@
+use Rattle.maildirs.proofs.InsideLemmas.{directory_inside, length-digest}
+use Rattle.maildirs.proofs.laws.directories_inside.Goals as goal
+
+pub returns-clause-inside : goal.returns-clause-inside
+returns-clause-inside c = directory_inside
+
+pub returns-clause-digest : goal.returns-clause-digest
+returns-clause-digest c = length-digest

@@ -1,0 +1,16 @@
+-- The levels of a folder's name.
+use Rattle.std.specs.Prelude.{ℕ, Bool, true, false, ◌==◌, ◌&&◌, ◌||◌, not, List, [], ◌∷◌}
+
+-- whether a level of one or more octets stands at the front
+abbrev pub begins_level : ℕ → List ℕ → Bool
+begins_level separator [] = false
+begins_level separator (octet ∷ rest) = not (octet == separator)
+
+-- whether each separator stands before a level of one or more octets
+abbrev pub goes_on : ℕ → List ℕ → Bool
+goes_on separator [] = true
+goes_on separator (octet ∷ rest) = (not (octet == separator) || begins_level separator rest) && goes_on separator rest
+
+-- one or more levels with the separator between them, none of them empty
+abbrev pub has_levels : ℕ → List ℕ → Bool
+has_levels separator name = begins_level separator name && goes_on separator name

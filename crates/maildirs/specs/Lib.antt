@@ -1,0 +1,4 @@
+pub mod Levels
+pub mod Spelling
+pub mod Directory
+pub mod Inside

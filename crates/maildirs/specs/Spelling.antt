@@ -1,0 +1,97 @@
+-- How the characters of a name are written in a directory's name.
+use Rattle.std.specs.Prelude.{◌≡◌, ℕ, false, ◌==◌, cond, List, [], ◌∷◌, ◌++◌, codes}
+use Rattle.std.specs.Int.{w16, to_be_bytes}
+use Rattle.std.specs.Char.Escape.{encode_utf16}
+use Rattle.std.specs.Str.{chars}
+use Rattle.base64.specs.Rfc4648.{encode}
+use Rattle.base64.specs.GeneralPurpose.{engine_symbols, engine_config, config_padding}
+use Rattle.base64.specs.declared.engine.general_purpose.GeneralPurpose.{GeneralPurpose}
+use Rattle.octets.specs.Ascii.{is_printable}
+use Rattle.maildirs.specs.declared.separator.Separator.{Separator}
+use Rattle.maildirs.specs.declared.separator.Separator.TheVariants.{Dot, Slash}
+
+-- the separator as an octet
+abbrev pub octet_of : Separator → ℕ
+octet_of Dot = 46
+octet_of Slash = 47
+
+-- the 64 symbols of modified base64 (RFC 3501, section 5.1.3)
+abbrev pub modified_symbols : List ℕ
+modified_symbols = codes "ABCDEFGHIJKLMNOPQRSTUVWXYZabcdefghijklmnopqrstuvwxyz0123456789+,"
+
+-- an engine with these symbols that writes no padding
+pub record IsModified (engine : GeneralPurpose) : Type 0 where
+  pub symbols : engine_symbols engine ≡ modified_symbols
+  pub unpadded : config_padding (engine_config engine) ≡ false
+
+-- octets in modified base64
+abbrev pub modified_base64 : List ℕ → List ℕ
+modified_base64 octets = encode modified_symbols 61 false octets
+
+-- units of UTF-16 as octets, the high one of each first
+abbrev pub high_first : List ℕ → List ℕ
+high_first [] = []
+high_first (unit ∷ more) = to_be_bytes w16 unit ++ high_first more
+
+-- a character in UTF-16
+abbrev pub utf16_of : ℕ → List ℕ
+utf16_of character = high_first (encode_utf16 character)
+
+-- what a text is written by: a character from 32 to 126, or the UTF-16 of a longest run of others
+pub data Piece : Type 0 where
+  Printable : ℕ → Piece
+  Run : List ℕ → Piece
+
+-- the UTF-16 of a character that isn't printable, before the pieces after it: part of the run there
+abbrev pub before_pieces : List ℕ → List Piece → List Piece
+before_pieces units [] = Run units ∷ []
+before_pieces units (Printable character ∷ more) = Run units ∷ Printable character ∷ more
+before_pieces units (Run others ∷ more) = Run (units ++ others) ∷ more
+
+-- the pieces of a text's characters
+abbrev pub pieces_of : List ℕ → List Piece
+pieces_of [] = []
+pieces_of (character ∷ more) =
+    cond (is_printable character) (Printable character ∷ pieces_of more) (before_pieces (utf16_of character) (pieces_of more))
+
+-- a character from 32 to 126: the separator is `.`, the other one of `.` and `/`, and `\`, are escaped
+abbrev pub spelling : Separator → ℕ → List ℕ
+spelling separator character =
+    cond (character == octet_of separator) (codes ".")
+    (cond (character == 46) (codes "\\2e")
+    (cond (character == 47) (codes "\\2f")
+    (cond (character == 92) (codes "\\5c")
+    (cond (character == 38) (codes "&-") (character ∷ [])))))
+
+-- a run in modified base64, between `&` and `-`
+abbrev pub shifted : List ℕ → List ℕ
+shifted octets = codes "&" ++ (modified_base64 octets ++ codes "-")
+
+-- a run as it is written, where there is one
+abbrev pub run_spelled : List ℕ → List ℕ
+run_spelled [] = []
+run_spelled (octet ∷ more) = shifted (octet ∷ more)
+
+-- a piece as it is written
+abbrev pub piece_spelling : Separator → Piece → List ℕ
+piece_spelling separator (Printable character) = spelling separator character
+piece_spelling separator (Run octets) = shifted octets
+
+-- pieces as they are written
+abbrev pub spellings : Separator → List Piece → List ℕ
+spellings separator [] = []
+spellings separator (piece ∷ more) = piece_spelling separator piece ++ spellings separator more
+
+-- a text as it is written
+abbrev pub spelled : Separator → List ℕ → List ℕ
+spelled separator text = spellings separator (pieces_of (chars text))
+
+-- a name as it is written: a `~` at its front is escaped
+abbrev pub name_spelled : Separator → List ℕ → List ℕ
+name_spelled separator [] = []
+name_spelled separator (octet ∷ rest) =
+    cond (octet == 126) (codes "\\7e" ++ spelled separator rest) (spelled separator (octet ∷ rest))
+
+-- the directory that spells a name
+abbrev pub written : Separator → List ℕ → List ℕ
+written separator name = codes "." ++ name_spelled separator name

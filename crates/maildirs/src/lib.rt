@@ -1,0 +1,11 @@
+//! Where a user's mail lies: the directories of a Maildir.
+#![tactic(auto)]
+
+mod directory;
+pub mod laws;
+mod level;
+mod separator;
+mod spelling;
+
+pub use directory::directory_of;
+pub use separator::Separator;

@@ -1,0 +1,101 @@
+use Rattle.std.proofs.Common.{◌≡◌, refl}
+use Rattle.sqlite.specs.Held.{state}
+use Rattle.mailengine.specs.declared.event.Event.{Event}
+use Rattle.mailengine.specs.declared.event.Event.TheVariants.{Open, Give, Step, GiveUp, Close, Deliver, AddUser, TakeOut, TakeMail}
+use Rattle.mailengine.specs.declared.answer.Answer.TheVariants.{Delivered, Added, Taken, MailTaken}
+use Rattle.mailengine.specs.AccountEvents.{Delivery, Addition, Taking, MailTaking}
+use Rattle.mailengine.specs.Hosts.{answer_by, answer_of, MayRefuseDelivery, MayRefuseAddition}
+use Rattle.mailstore.specs.Refusals.{IsTransient}
+use Rattle.mailengine.proofs.HostLemmas.{told_by, told_done, session_event, account_event, account_crash, delivery_may, addition_may, taking_may, mail_taking_may, event_is, crash_is}
+use Rattle.mailengine.proofs.machine.carry_out.Goals as goal
+
+pub returns-in-Open-clause-event : goal.returns-in-Open-clause-event
+returns-in-Open-clause-event g c =
+    let is : c.args.event.now ≡ Open c.in-Open.number = cc in
+    event_is c.args.event.now (Open c.in-Open.number) c.answer_of.result (answer_of c.open.result) (state g.S.Store c.args.store.now) (state g.S.Store c.args.store.now) c.args.sessions.now c.open.new.sessions is c.answer_of.ensures
+    (session_event (Open c.in-Open.number) (answer_of c.open.result) (state g.S.Store c.args.store.now) c.args.sessions.now c.open.new.sessions c.open.ensures)
+
+pub returns-in-Give-clause-event : goal.returns-in-Give-clause-event
+returns-in-Give-clause-event g c =
+    let event = Give c.in-Give.number c.as_slice.result.now in
+    let is : c.args.event.now ≡ event = cc in
+    event_is c.args.event.now event c.answer_of-in-Give.result (answer_of c.give.result) (state g.S.Store c.args.store.now) (state g.S.Store c.args.store.now) c.args.sessions.now c.give.new.sessions is c.answer_of-in-Give.ensures
+    (session_event event (answer_of c.give.result) (state g.S.Store c.args.store.now) c.args.sessions.now c.give.new.sessions c.give.ensures)
+
+pub returns-in-Step-clause-event : goal.returns-in-Step-clause-event
+returns-in-Step-clause-event g c =
+    let is : c.args.event.now ≡ Step c.in-Step.number = cc in
+    event_is c.args.event.now (Step c.in-Step.number) c.answer_of-in-Step.result (answer_of c.step.result) (state g.S.Store c.args.store.now) (state g.S.Store c.step.new.store) c.args.sessions.now c.step.new.sessions is c.answer_of-in-Step.ensures
+    c.step.ensures.event
+
+pub returns-in-GiveUp-clause-event : goal.returns-in-GiveUp-clause-event
+returns-in-GiveUp-clause-event g c =
+    let is : c.args.event.now ≡ GiveUp c.in-GiveUp.number = cc in
+    event_is c.args.event.now (GiveUp c.in-GiveUp.number) c.give_up.result c.give_up.result (state g.S.Store c.args.store.now) (state g.S.Store c.args.store.now) c.args.sessions.now c.give_up.new.sessions is refl
+    (session_event (GiveUp c.in-GiveUp.number) c.give_up.result (state g.S.Store c.args.store.now) c.args.sessions.now c.give_up.new.sessions c.give_up.ensures)
+
+pub returns-in-Close-clause-event : goal.returns-in-Close-clause-event
+returns-in-Close-clause-event g c =
+    let is : c.args.event.now ≡ Close c.in-Close.number = cc in
+    event_is c.args.event.now (Close c.in-Close.number) c.close.result c.close.result (state g.S.Store c.args.store.now) (state g.S.Store c.args.store.now) c.args.sessions.now c.close.new.sessions is refl
+    (session_event (Close c.in-Close.number) c.close.result (state g.S.Store c.args.store.now) c.args.sessions.now c.close.new.sessions c.close.ensures)
+
+pub returns-in-Deliver-clause-event : goal.returns-in-Deliver-clause-event
+returns-in-Deliver-clause-event g c =
+    let event : Event = Deliver c.as_slice-in-Deliver.result.now c.in-Deliver.envelope c.as_slice-in-Deliver-2.result.now c.in-Deliver.moment in
+    let is : c.args.event.now ≡ event = cc in
+    event_is c.args.event.now event c.answer_of-in-Deliver.result (answer_by Delivered c.deliver_borrowed-report.result) (state g.S.Store c.args.store.now) (state g.S.Store c.deliver_borrowed-report.new.store) c.args.sessions.now c.args.sessions.now is
+    (told_by Delivered c.deliver_borrowed-report.result c.map.result c.answer_of-in-Deliver.result c.map.ensures.cases c.answer_of-in-Deliver.ensures)
+    (account_event event (λ accounts. Delivery accounts c.as_slice-in-Deliver.result.now c.in-Deliver.envelope c.as_slice-in-Deliver-2.result.now c.in-Deliver.moment) (MayRefuseDelivery c.in-Deliver.envelope c.as_slice-in-Deliver-2.result.now c.in-Deliver.moment) (λ w answer next made. made) (delivery_may c.as_slice-in-Deliver.result.now c.as_slice-in-Deliver-2.result.now c.in-Deliver.envelope c.in-Deliver.moment) (state g.S.Store c.args.store.now) (state g.S.Store c.deliver_borrowed-report.new.store) c.args.sessions.now c.deliver_borrowed-report.result (answer_by Delivered c.deliver_borrowed-report.result) c.deliver_borrowed-report.ensures)
+
+pub returns-in-Deliver-clause-crash : goal.returns-in-Deliver-clause-crash
+returns-in-Deliver-clause-crash g c =
+    let event : Event = Deliver c.as_slice-in-Deliver.result.now c.in-Deliver.envelope c.as_slice-in-Deliver-2.result.now c.in-Deliver.moment in
+    let is : c.args.event.now ≡ event = cc in
+    crash_is c.args.event.now event (state g.S.Store c.args.store.now) (state g.S.Store c.deliver_borrowed-report.new.store) c.args.sessions.now is
+    (account_crash event (λ accounts. Delivery accounts c.as_slice-in-Deliver.result.now c.in-Deliver.envelope c.as_slice-in-Deliver-2.result.now c.in-Deliver.moment) (MayRefuseDelivery c.in-Deliver.envelope c.as_slice-in-Deliver-2.result.now c.in-Deliver.moment) (λ w answer next made. made) (delivery_may c.as_slice-in-Deliver.result.now c.as_slice-in-Deliver-2.result.now c.in-Deliver.envelope c.in-Deliver.moment) (state g.S.Store c.args.store.now) (state g.S.Store c.deliver_borrowed-report.new.store) c.args.sessions.now c.deliver_borrowed-report.result (answer_by Delivered c.deliver_borrowed-report.result) c.deliver_borrowed-report.ensures)
+
+pub returns-in-AddUser-clause-event : goal.returns-in-AddUser-clause-event
+returns-in-AddUser-clause-event g c =
+    let event : Event = AddUser c.as_slice-in-AddUser.result.now c.as_slice-in-AddUser-2.result.now c.in-AddUser.salt c.as_slice-in-AddUser-3.result.now in
+    let is : c.args.event.now ≡ event = cc in
+    event_is c.args.event.now event c.answer_of-in-AddUser.result (answer_by (λ done. Added) c.add_user-added.result) (state g.S.Store c.args.store.now) (state g.S.Store c.add_user-added.new.store) c.args.sessions.now c.args.sessions.now is
+    (told_done Added c.add_user-added.result c.and.result c.answer_of-in-AddUser.result c.and.ensures c.answer_of-in-AddUser.ensures)
+    (account_event event (λ accounts. Addition accounts c.as_slice-in-AddUser.result.now c.as_slice-in-AddUser-2.result.now c.in-AddUser.salt c.as_slice-in-AddUser-3.result.now) (MayRefuseAddition c.as_slice-in-AddUser.result.now c.as_slice-in-AddUser-2.result.now c.as_slice-in-AddUser-3.result.now) (λ w answer next made. made) (addition_may c.as_slice-in-AddUser.result.now c.as_slice-in-AddUser-2.result.now c.in-AddUser.salt c.as_slice-in-AddUser-3.result.now) (state g.S.Store c.args.store.now) (state g.S.Store c.add_user-added.new.store) c.args.sessions.now c.add_user-added.result (answer_by (λ done. Added) c.add_user-added.result) c.add_user-added.ensures.acts)
+
+pub returns-in-AddUser-clause-crash : goal.returns-in-AddUser-clause-crash
+returns-in-AddUser-clause-crash g c =
+    let event : Event = AddUser c.as_slice-in-AddUser.result.now c.as_slice-in-AddUser-2.result.now c.in-AddUser.salt c.as_slice-in-AddUser-3.result.now in
+    let is : c.args.event.now ≡ event = cc in
+    crash_is c.args.event.now event (state g.S.Store c.args.store.now) (state g.S.Store c.add_user-added.new.store) c.args.sessions.now is
+    (account_crash event (λ accounts. Addition accounts c.as_slice-in-AddUser.result.now c.as_slice-in-AddUser-2.result.now c.in-AddUser.salt c.as_slice-in-AddUser-3.result.now) (MayRefuseAddition c.as_slice-in-AddUser.result.now c.as_slice-in-AddUser-2.result.now c.as_slice-in-AddUser-3.result.now) (λ w answer next made. made) (addition_may c.as_slice-in-AddUser.result.now c.as_slice-in-AddUser-2.result.now c.in-AddUser.salt c.as_slice-in-AddUser-3.result.now) (state g.S.Store c.args.store.now) (state g.S.Store c.add_user-added.new.store) c.args.sessions.now c.add_user-added.result (answer_by (λ done. Added) c.add_user-added.result) c.add_user-added.ensures.acts)
+
+pub returns-in-TakeOut-clause-event : goal.returns-in-TakeOut-clause-event
+returns-in-TakeOut-clause-event g c =
+    let event : Event = TakeOut c.as_slice-in-TakeOut.result.now c.in-TakeOut.id in
+    let is : c.args.event.now ≡ event = cc in
+    event_is c.args.event.now event c.answer_of-in-TakeOut.result (answer_by Taken c.take_out-row.result) (state g.S.Store c.args.store.now) (state g.S.Store c.take_out-row.new.store) c.args.sessions.now c.args.sessions.now is
+    (told_by Taken c.take_out-row.result c.map-in-TakeOut.result c.answer_of-in-TakeOut.result c.map-in-TakeOut.ensures.cases c.answer_of-in-TakeOut.ensures)
+    (account_event event (λ accounts. Taking accounts c.as_slice-in-TakeOut.result.now c.in-TakeOut.id) IsTransient (λ w answer next made. made) (taking_may c.as_slice-in-TakeOut.result.now c.in-TakeOut.id) (state g.S.Store c.args.store.now) (state g.S.Store c.take_out-row.new.store) c.args.sessions.now c.take_out-row.result (answer_by Taken c.take_out-row.result) c.take_out-row.ensures.acts)
+
+pub returns-in-TakeOut-clause-crash : goal.returns-in-TakeOut-clause-crash
+returns-in-TakeOut-clause-crash g c =
+    let event : Event = TakeOut c.as_slice-in-TakeOut.result.now c.in-TakeOut.id in
+    let is : c.args.event.now ≡ event = cc in
+    crash_is c.args.event.now event (state g.S.Store c.args.store.now) (state g.S.Store c.take_out-row.new.store) c.args.sessions.now is
+    (account_crash event (λ accounts. Taking accounts c.as_slice-in-TakeOut.result.now c.in-TakeOut.id) IsTransient (λ w answer next made. made) (taking_may c.as_slice-in-TakeOut.result.now c.in-TakeOut.id) (state g.S.Store c.args.store.now) (state g.S.Store c.take_out-row.new.store) c.args.sessions.now c.take_out-row.result (answer_by Taken c.take_out-row.result) c.take_out-row.ensures.acts)
+
+pub returns-in-TakeMail-clause-event : goal.returns-in-TakeMail-clause-event
+returns-in-TakeMail-clause-event g c =
+    let event : Event = TakeMail c.as_slice-in-TakeMail.result.now c.as_slice-in-TakeMail-2.result.now in
+    let is : c.args.event.now ≡ event = cc in
+    event_is c.args.event.now event c.answer_of-in-TakeMail.result (answer_by (λ done. MailTaken) c.take_mail-taken.result) (state g.S.Store c.args.store.now) (state g.S.Store c.take_mail-taken.new.store) c.args.sessions.now c.args.sessions.now is
+    (told_done MailTaken c.take_mail-taken.result c.and-in-TakeMail.result c.answer_of-in-TakeMail.result c.and-in-TakeMail.ensures c.answer_of-in-TakeMail.ensures)
+    (account_event event (λ accounts. MailTaking accounts c.as_slice-in-TakeMail.result.now c.as_slice-in-TakeMail-2.result.now) IsTransient (λ w answer next made. made) (mail_taking_may c.as_slice-in-TakeMail.result.now c.as_slice-in-TakeMail-2.result.now) (state g.S.Store c.args.store.now) (state g.S.Store c.take_mail-taken.new.store) c.args.sessions.now c.take_mail-taken.result (answer_by (λ done. MailTaken) c.take_mail-taken.result) c.take_mail-taken.ensures.acts)
+
+pub returns-in-TakeMail-clause-crash : goal.returns-in-TakeMail-clause-crash
+returns-in-TakeMail-clause-crash g c =
+    let event : Event = TakeMail c.as_slice-in-TakeMail.result.now c.as_slice-in-TakeMail-2.result.now in
+    let is : c.args.event.now ≡ event = cc in
+    crash_is c.args.event.now event (state g.S.Store c.args.store.now) (state g.S.Store c.take_mail-taken.new.store) c.args.sessions.now is
+    (account_crash event (λ accounts. MailTaking accounts c.as_slice-in-TakeMail.result.now c.as_slice-in-TakeMail-2.result.now) IsTransient (λ w answer next made. made) (mail_taking_may c.as_slice-in-TakeMail.result.now c.as_slice-in-TakeMail-2.result.now) (state g.S.Store c.args.store.now) (state g.S.Store c.take_mail-taken.new.store) c.args.sessions.now c.take_mail-taken.result (answer_by (λ done. MailTaken) c.take_mail-taken.result) c.take_mail-taken.ensures.acts)

@@ -1,0 +1,83 @@
+-- A message on its way out, read by its number.
+use Rattle.std.proofs.Common.{◌≡◌, ◌==◌, ◌<◌, ℕ, ℤ, pos, List, [], ◌∷◌, map, filter, find, slice_get, Option, Some, None, option_map, Ok, Err, Result, IfOk, IfSome, refl, sym, ap, ◌∙◌, subst, inl, inr, eqb-true, IsPermutation}
+use Rattle.std.specs.FinMap.{get}
+use Rattle.std.proofs.lemmas.List.{nil_from_length}
+use Rattle.std.proofs.lemmas.List.Sorted.{length_permutation}
+use Rattle.sqlite_value.specs.declared.value.Value.TheVariants.{Int}
+use Rattle.sqlite_value.specs.Order.{Row, column}
+use Rattle.sqlite_trees.specs.Tree.{IsAscending}
+use Rattle.sqlite_rules.proofs.ListLemmas.{has_found}
+use Rattle.sqlite_keyed.proofs.ListLemmas.{map-map, filter-map, filter_same, filter-filter, slice_get-filter, IsPermutation-filter}
+use Rattle.sqlite.specs.State.{State, Shown}
+use Rattle.sqlite.proofs.Callers.{one_permutation}
+use Rattle.sqlrows.specs.Rows.{Tables, has_key}
+use Rattle.sqlrows.proofs.AnswerLemmas.{cells_by_key}
+use Rattle.sqlrows.proofs.ReadLemmas.{answered}
+use Rattle.sqlrows.proofs.ListLemmas.{owner_key}
+use Rattle.mailstore.specs.declared.queue.Outgoing.{Outgoing}
+use Rattle.mailtables.specs.Schema.{mail_schema}
+use Rattle.mailtables.specs.QueueTable.{outgoing, outgoing_tree, queue_key, select_outgoing}
+use Rattle.mailtables.proofs.SchemaFacts.{outgoing_listed}
+use Rattle.mailtables.proofs.TextFacts.{by_two, queue_shown, select_outgoing_is, select_outgoing_plain}
+use Rattle.mailtables.proofs.StatementLemmas.{outgoing_index, outgoing_agrees}
+use Rattle.mailstore.specs.Account.{Account, Accounts, row_with}
+use Rattle.mailstore.specs.QueueRows.{queue_row, outgoing_cells, HasOutgoingRow}
+use Rattle.mailstore.specs.Shows.{rows_of, IsShown, Presents}
+use Rattle.mailstore.proofs.AccountLemmas.{queue_is}
+use Rattle.mailstore.proofs.KeyLemmas.{key_owned}
+use Rattle.mailstore.proofs.NumberLemmas.{alone_at}
+use Rattle.mailstore.proofs.ReadLemmas.{at_user}
+
+-- none, or one
+listed : Option Outgoing → List Outgoing
+listed None = []
+listed (Some q) = q ∷ []
+
+nothing : {X : Type 0} (xs : List X) → slice_get xs 0 ≡ None → xs ≡ []
+nothing [] e = refl
+nothing (x ∷ xs) e = absurd (let no = e in cc)
+
+-- of numbers that rise one at most is this
+numbered : (id : ℕ) (queue : List Outgoing) → IsAscending (λ x y. x.id < y.id) queue → filter (λ q. q.id == id) queue ≡ listed (row_with id queue)
+unfolding listed
+numbered id queue rise = go (row_with id queue) refl
+  where
+    go : (o : Option Outgoing) → row_with id queue ≡ o → filter (λ q. q.id == id) queue ≡ listed o
+    go None is = nothing _ (slice_get-filter (λ (q : Outgoing). q.id == id) queue ∙ is)
+    go (Some q) is =
+        let found = has_found (λ (q : Outgoing). q.id == id) queue q is in
+        let same : q.id ≡ id = eqb-true q.id id found.1 in
+        ap (λ n. filter (λ (q : Outgoing). q.id == n) queue) (sym same) ∙ alone_at (λ x. x.id) (queue_row []) queue rise q found.0
+
+-- the rows of a permutation of none or one
+permuted : (user : List ℕ) (o : Option Outgoing) (rows : List Row) → IsPermutation (map (queue_row user) (listed o)) rows → rows ≡ map (queue_row user) (listed o)
+unfolding listed
+permuted user None rows are = nil_from_length rows (length_permutation [] rows are)
+permuted user (Some q) rows are = one_permutation (queue_row user q) rows are
+
+-- the one row of the user with the number
+own_row : (user : List ℕ) (id : ℕ) (own : Tables) (a : Account) → IsShown user own a → filter (has_key (queue_key user (pos id))) (own outgoing_tree) ≡ map (queue_row user) (listed (row_with id a.queue))
+own_row user id own a s =
+    let key = has_key (queue_key user (pos id)) in
+    let one : filter key (map (queue_row user) a.queue) ≡ map (queue_row user) (listed (row_with id a.queue)) =
+    filter-map key (queue_row user) a.queue ∙ ap (map (queue_row user)) (filter_same _ (λ q. q.id == id) (λ q. queue_is user id q) a.queue ∙ numbered id a.queue s.queue.rise) in
+    permuted user (row_with id a.queue) _ (subst (λ l. IsPermutation l (filter key (own outgoing_tree))) one (IsPermutation-filter key _ _ s.queue.rows_are))
+
+shown_cells : Row → Row
+shown_cells c = column c 1 ∷ column c 2 ∷ column c 3 ∷ column c 4 ∷ column c 5 ∷ []
+
+first_cells : (user : List ℕ) (o : Option Outgoing) → slice_get (map shown_cells (map (queue_row user) (listed o))) 0 ≡ option_map outgoing_cells o
+unfolding listed shown_cells
+first_cells user None = refl
+first_cells user (Some q) = refl
+
+module _ (old new : State) (rows : List Row) (accounts : Accounts) (p : Presents old.now accounts) (user : List ℕ) (id : ℤ) where
+  pub outgoing_read : Shown select_outgoing (queue_key user id) old new rows → IfSome (get accounts user) (HasOutgoingRow id rows)
+  unfolding shown_cells
+  outgoing_read shown = at_user accounts user p.0 p.2 _ (λ a s n is.
+      let key = queue_key user id in
+      let found : rows ≡ map shown_cells (filter (has_key key) (p.0 outgoing_tree)) =
+      cells_by_key mail_schema outgoing outgoing_listed outgoing_index (inr (inr (inr (inl refl)))) refl key (0 ∷ 1 ∷ []) (outgoing_agrees user id) old.now.trees p.1.fits (p.0 outgoing_tree) (p.1.each outgoing outgoing_listed) by_two key (λ n cells. refl)
+      queue_shown shown_cells (λ n cells. refl) [] rows (answered mail_schema select_outgoing key old new p.1.is select_outgoing_plain.0 outgoing_tree by_two queue_shown [] _ select_outgoing_is select_outgoing_plain.1 rows shown) in
+      let own = sym (filter-filter (has_key key) (has_key (owner_key user)) (key_owned user (Int id ∷ [])) (p.0 outgoing_tree)) in
+      ap (λ l. slice_get l 0) (found ∙ ap (map shown_cells) (own ∙ ap (λ i. filter (has_key (queue_key user i)) (rows_of user p.0 outgoing_tree)) is ∙ own_row user n (rows_of user p.0) a s)) ∙ first_cells user (row_with n a.queue))

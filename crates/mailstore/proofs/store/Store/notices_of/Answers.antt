@@ -1,0 +1,20 @@
+use Rattle.std.proofs.Common.{◌≡◌, ◌∙◌, Ok, Err, Vec, OnOk, IfErr, ap, rules}
+use Rattle.sqlite.specs.Held.{state}
+use Rattle.mailstore.specs.Refusals.{IsTransient}
+use Rattle.mailstore.specs.NoticeRows.{AreNoticeRows}
+use Rattle.mailstore.proofs.DecodeLemmas.{notices_are}
+use Rattle.mailstore.proofs.EnterLemmas.{entered_answer, entered_failed}
+use Rattle.mailstore.proofs.store.Store.notices_of.Goals as goal
+
+pub returns-in_err-rows : goal.returns-in_err-rows
+returns-in_err-rows g c =
+    let same : c.self.inside.conn ≡ c.args.self.now = search rules in
+    let none : OnOk c.from_residual.result ⊥ = search rules in
+    let transient : IfErr c.from_residual.result IsTransient = search rules in
+    entered_failed c.args.user.now AreNoticeRows (λ notices a. notices ≡ a.notices) (state g.S.Store c.args.self.now) (state g.S.Store c.find_notices.new.conn) c.find_notices.result (rw same at c.find_notices.ensures.finds) c.from_residual.result none transient
+
+pub returns : goal.returns
+returns g c =
+    let same : c.self.inside.conn ≡ c.args.self.now = search rules in
+    entered_answer c.args.user.now AreNoticeRows (λ notices a. notices ≡ a.notices) (state g.S.Store c.args.self.now) (state g.S.Store c.find_notices.new.conn) c.find_notices.result (rw same at c.find_notices.ensures.finds) c.all_from_rows.result c.in_ok-rows.rows c.in_ok-rows.was c.all_from_rows.ensures.named
+    (λ a is. notices_are c.all_from_rows.result c.deref.result.now a (c.deref.ensures.value ∙ is) c.all_from_rows.ensures.ok)

@@ -1,0 +1,39 @@
+//! An address as a line shows it.
+ghost use Rattle.std.specs.Prelude.{◌≡◌, ◌++◌, OnOk};
+ghost use Rattle.reportlines.specs.Addresses.{is_escaped as is_escaped_of, shown_address, shown_octet};
+
+use octets::Octets;
+use std::alloc::AllocError;
+
+/// Appends an address, octet by octet, so that its end can be seen in a line: `"> <"@example.net` as
+/// `"\3e\20\3c"@example.net`. The text grows by at most three octets for each of the address.
+pub fn add_address(text: &mut Octets, address: &[u8]) -> Result<(), AllocError>
+    ensures { OnOk result (text.new ≡ text.old ++ shown_address address.now) }
+{
+    for octet in address {
+        add_octet(text, *octet)?;
+    }
+    Ok(())
+}
+
+/// Appends an octet of an address: `\` and two hexadecimal digits in lower case where it is escaped, else itself.
+fn add_octet(text: &mut Octets, octet: u8) -> Result<(), AllocError>
+    ensures { OnOk result (text.new ≡ text.old ++ shown_octet octet) }
+{
+    if !is_escaped(octet) {
+        return text.push(octet);
+    }
+    let mut digits = [0; 2];
+    let Ok(()) = hex::encode_to_slice([octet], &mut digits) else {
+        unreachable!();
+    };
+    text.push(b'\\')?;
+    text.extend_from_slice(&digits)
+}
+
+/// Whether an octet of an address would end the address or the line, or begins an escape. Octets over 127 don't.
+fn is_escaped(octet: u8) -> bool
+    ensures { result ≡ is_escaped_of octet }
+{
+    octet <= b' ' || matches!(octet, b'<' | b'>' | b'\\' | 127)
+}

@@ -1,0 +1,14 @@
+//! Laws of the definitions, each the contract of a function that does nothing.
+ghost use Rattle.reportlines.specs.Laws.{AddressesStand, LinesTell, ListingsTell};
+
+/// An address that a line shows has no blank, no angle bracket and no octet of control, whatever the address.
+pub fn addresses_stand()
+    ensures { AddressesStand }
+{}
+
+/// What `queue` prints tells each row's number, kind, sender and target, and how many octets its message has: rows that
+/// differ in one of these have different lines, and queues different listings.
+pub fn queue_is_told()
+    ensures line { LinesTell }
+    ensures listing { ListingsTell }
+{}

@@ -1,0 +1,99 @@
+//! What goes wrong with a store, or on the way to one, as it is told on standard error.
+ghost use Rattle.std.specs.Prelude.{◌≡◌, IsTrue, IfSome, is_some};
+ghost use Rattle.std.specs.Io.KnownBytes.{Keeps};
+ghost use Rattle.sievedrun.specs.Faults.{line_of};
+ghost use Rattle.sievedrun.specs.Streams.{AppendsFirst, AppendsSome};
+
+use crate::fault::{Fault, refuse};
+use crate::stream::write_all;
+use keepers::Keeper;
+use mailstore::Refusal;
+use std::io::Write;
+
+/// A fault, and what is known of its cause.
+#[derive(Clone, Copy)]
+pub struct Trouble {
+    pub fault: Fault,
+    /// A text for a person, without a line end.
+    pub cause: Option<&'static str>,
+}
+
+impl Trouble {
+    /// A fault of the store, with what its keeper knows of the cause.
+    pub fn of_store<K: Keeper>(fault: Fault, keeper: &K) -> Trouble
+        ensures { result.fault ≡ fault }
+    {
+        let cause = match fault {
+            Fault::Refused(Refusal::Store) => keeper.cause(),
+            _ => None,
+        };
+        Trouble { fault, cause }
+    }
+
+    /// Tells of it, on a line, and of its cause, where that is known, on a second one. Where that can't be written nothing more
+    /// can be done.
+    pub fn tell<F: Write>(self, faults: &mut F)
+        ensures { AppendsFirst (F.contents faults.old) (F.contents faults.new) (line_of self.fault) }
+    {
+        refuse(faults, self.fault);
+        tell_cause(faults, self.cause);
+    }
+}
+
+/// The line on a cause.
+fn tell_cause<F: Write>(faults: &mut F, cause: Option<&'static str>)
+    ensures { AppendsSome (F.contents faults.old) (F.contents faults.new) }
+{
+    if let Some(text) = cause {
+        write_some(faults, b"sieved: ");
+        write_some(faults, text.as_bytes());
+        write_some(faults, b"\n");
+    }
+}
+
+/// Writes a text, or as much of it as can be written.
+fn write_some<F: Write>(faults: &mut F, text: &[u8])
+    ensures { AppendsSome (F.contents faults.old) (F.contents faults.new) }
+{
+    let _ = write_all(faults, text);
+}
+
+/// The first trouble that a connection has with the store, which is told once; those after it aren't.
+#[derive(Clone, Copy)]
+pub struct FirstTrouble {
+    trouble: Option<Trouble>,
+    is_told: bool,
+}
+
+impl FirstTrouble {
+    /// None yet.
+    pub fn none() -> FirstTrouble {
+        FirstTrouble {
+            trouble: None,
+            is_told: false,
+        }
+    }
+
+    /// Keeps a trouble, where it is the first one.
+    pub fn note(&mut self, trouble: Trouble)
+        ensures { IsTrue (is_some self.new.trouble) × (self.new.is_told ≡ self.old.is_told) }
+    {
+        if self.trouble.is_none() {
+            self.trouble = Some(trouble);
+        }
+    }
+
+    /// Tells of it, where there is one that wasn't told yet.
+    pub fn tell<F: Write>(&mut self, faults: &mut F)
+        ensures once { IsTrue self.old.is_told → F.contents faults.new ≡ F.contents faults.old }
+        ensures told { IfSome self.old.trouble (λ trouble. IsTrue self.new.is_told) }
+    {
+        if self.is_told {
+            return;
+        }
+        if let Some(trouble) = self.trouble {
+            trouble.tell(faults);
+            self.is_told = true;
+        }
+    }
+}

@@ -1,0 +1,110 @@
+//! The words of a command line: the octets that the system hands over, and the texts that `clap` reads.
+use octets::Octets;
+use std::alloc::{AllocError, Global};
+use std::str;
+
+/// What stands before the address in a word that has an option and its value.
+const ADDRESS_OPTIONS: [&str; 2] = ["--from=", "--to="];
+
+/// The words after the program's name.
+///
+/// An address may be any octets, and `clap` reads texts. So a word that isn't UTF-8 has a stand-in there, in which `--from=` and
+/// `--to=` stay. Each stand-in is longer than any word, and than those before it: no other value is like it, and where
+/// `clap` finds that it is an address, the octets of its word are. Memory is that of the words, and of the longest one for
+/// each stand-in.
+#[derive(Drop)]
+pub struct CommandLine {
+    octets: Vec<Octets>,
+    texts: Vec<String>,
+}
+
+impl CommandLine {
+    /// The words in their order. The error: memory.
+    pub fn new(alloc: Global, words: Vec<Octets>) -> Result<CommandLine, AllocError> {
+        let longest = words.iter().map(|word| word.len()).max().unwrap_or(0);
+        let mut texts = Vec::new(alloc);
+        for (at, word) in words.iter().enumerate() {
+            let stand_in = longest.saturating_add(at).saturating_add(1);
+            texts.push(text_of(alloc, word.as_slice(), stand_in)?)?;
+        }
+        Ok(CommandLine {
+            octets: words,
+            texts,
+        })
+    }
+
+    /// What the first word is, where it is a text.
+    pub fn first(&self) -> Option<&str> {
+        str::from_utf8(self.octets.first()?.as_slice()).ok()
+    }
+
+    /// What `clap` reads, a text for each word.
+    pub(crate) fn texts(&self) -> &[String] {
+        &self.texts
+    }
+
+    /// How many words aren't UTF-8.
+    pub(crate) fn stand_ins(&self) -> usize {
+        let words = self.octets.iter().zip(self.texts.iter());
+        words
+            .filter(|(octets, text)| stands_in(text.as_str(), octets.as_slice()))
+            .count()
+    }
+
+    /// The octets that a value of an option stands in for; none where it stands for itself.
+    pub(crate) fn behind(&self, value: &str) -> Option<&[u8]> {
+        for (octets, text) in self.octets.iter().zip(self.texts.iter()) {
+            let found = behind_value(octets.as_slice(), text.as_str(), value);
+            if found.is_some() {
+                return found;
+            }
+        }
+        None
+    }
+}
+
+/// What `clap` reads of a word, where a stand-in has that many octets.
+fn text_of(alloc: Global, word: &[u8], stand_in: usize) -> Result<String, AllocError> {
+    match str::from_utf8(word) {
+        Ok(text) => String::from_str(alloc, text),
+        Err(_) => stand_in_of(alloc, option_of(word), stand_in),
+    }
+}
+
+fn stand_in_of(alloc: Global, option: &str, len: usize) -> Result<String, AllocError> {
+    let mut text = String::from_str(alloc, option)?;
+    for _ in 0..len {
+        text.push('?')?;
+    }
+    Ok(text)
+}
+
+/// The option with `=` that stands before the address in a word; empty where there is none.
+fn option_of(word: &[u8]) -> &'static str {
+    for option in ADDRESS_OPTIONS {
+        if word.starts_with(option.as_bytes()) {
+            return option;
+        }
+    }
+    ""
+}
+
+/// Whether a text is read in place of a word.
+fn stands_in(text: &str, word: &[u8]) -> bool {
+    text.as_bytes() != word
+}
+
+/// The octets of a word, or of the address in it, where the value is what is read in their place.
+fn behind_value<'a>(word: &'a [u8], text: &str, value: &str) -> Option<&'a [u8]> {
+    if !stands_in(text, word) {
+        return None;
+    }
+    if text == value {
+        return Some(word);
+    }
+    let option = option_of(word);
+    if text.strip_prefix(option)? == value {
+        return word.strip_prefix(option.as_bytes());
+    }
+    None
+}

@@ -1,0 +1,373 @@
+#!/usr/bin/env python3
+"""Sends mail by SMTP through a Postfix of its own to users of a store, and its queue back through that Postfix to a server that counts.
+
+  tests/postfix.py [--sieved SIEVED] [TRIAL ..]       SIEVED: the program, crates/sieved/out/sieved where none is named
+
+Prints a line for each trial, a last one that counts them, and ends with 1 where one failed. `tests/run` runs it. It needs root and
+Debian's postfix, awk and flock, else its trials are left out. Postfix's files are in a folder that goes with the trial, its ports on the
+loopback address; the transport is the line of docs/OPERATING.md.
+"""
+import os, pwd, random, re, shutil, socket, socketserver, subprocess, tempfile, threading, time
+import mailboxes, managesieve, trials
+from contextlib import contextmanager
+from scripts import PROGRAM, small_disk
+
+TOP = os.path.dirname(managesieve.HERE)
+DOCS = os.environ.get("SIEVED_DOCS", f"{TOP}/docs")
+MAIN = """compatibility_level = 3.6
+queue_directory = {room}/spool
+data_directory = {room}/lib
+command_directory = /usr/sbin
+daemon_directory = /usr/lib/postfix/sbin
+maillog_file = {room}/postfix.log
+maillog_file_prefixes = {room}
+myhostname = mx.example.org
+mydestination = example.org
+mynetworks = 127.0.0.0/8
+inet_interfaces = 127.0.0.1
+inet_protocols = ipv4
+relayhost = [127.0.0.1]:{sink}
+alias_maps =
+alias_database =
+local_recipient_maps =
+mailbox_transport = sieved
+sieved_destination_recipient_limit = 1
+minimal_backoff_time = 1s
+maximal_backoff_time = 2s
+queue_run_delay = 1s
+transport_retry_time = 1s
+message_size_limit = 0
+mailbox_size_limit = 0
+"""
+SERVICES = """pickup unix n - n 60 1 pickup
+cleanup unix n - n - 0 cleanup
+qmgr unix n - n 300 1 qmgr
+rewrite unix - - n - - trivial-rewrite
+bounce unix - - n - 0 bounce
+defer unix - - n - 0 bounce
+trace unix - - n - 0 bounce
+flush unix n - n 1000? 0 flush
+proxymap unix - - n - - proxymap
+smtp unix - - n - - smtp
+relay unix - - n - - smtp
+showq unix n - n - - showq
+error unix - - n - - error
+retry unix - - n - - error
+local unix - n n - - local
+anvil unix - - n - 1 anvil
+scache unix - - n - 1 scache
+postlog unix-dgram n - n - 1 postlogd
+"""
+
+
+class Sink(socketserver.ThreadingTCPServer):
+    """Takes all mail, and keeps sender, recipients and octets of each message."""
+
+    allow_reuse_address = daemon_threads = True
+
+    def __init__(self):
+        super().__init__(("127.0.0.1", 0), Receiver)
+        self.got = []
+        threading.Thread(target=self.serve_forever, daemon=True).start()
+
+    def handle_error(self, request, client_address):
+        """A client that breaks off isn't of interest."""
+
+
+class Receiver(socketserver.StreamRequestHandler):
+    def handle(self):
+        self.wfile.write(b"220 sink\r\n")
+        sender, recipients = None, []
+        while line := self.rfile.readline():
+            word, answer = line[:4].upper(), b"250 ok"
+            if word == b"EHLO":
+                answer = b"250-sink\r\n250-8BITMIME\r\n250 SMTPUTF8"
+            elif word == b"MAIL":
+                sender, recipients = path(line), []
+            elif word == b"RCPT":
+                recipients.append(path(line))
+            elif word == b"DATA":
+                self.wfile.write(b"354 go\r\n")
+                self.server.got.append((sender, recipients, self.octets()))
+            elif word == b"QUIT":
+                answer = b"221 bye"
+            self.wfile.write(answer + b"\r\n")
+
+    def octets(self):
+        lines = []
+        while (line := self.rfile.readline()) not in (b".\r\n", b""):
+            lines.append(line)
+        return b"".join(lines)
+
+
+def path(line):
+    """The address of a MAIL or RCPT command."""
+    return line[line.index(b"<") + 1:line.rindex(b">")]
+
+
+def free_port():
+    with socket.socket() as sock:
+        sock.bind(("127.0.0.1", 0))
+        return sock.getsockname()[1]
+
+
+class Host:
+    """A Postfix whose mail for example.org goes into the store of alice, and the scripts over that store."""
+
+    def __init__(self, room):
+        self.room, self.port, self.sink = room, free_port(), Sink()
+        os.chmod(room, 0o755)
+        for name in "etc", "spool", "lib", "bin", "var":
+            os.mkdir(f"{room}/{name}")
+        postfix, nobody = pwd.getpwnam("postfix"), pwd.getpwnam("nobody")
+        os.chown(f"{room}/lib", postfix.pw_uid, postfix.pw_gid)
+        os.chown(f"{room}/var", nobody.pw_uid, nobody.pw_gid)
+        for name in "sieved-deliver", "sieved-drain", "sieved-queue":
+            shutil.copy(f"{DOCS}/{name}", f"{room}/bin")
+        shutil.copy(PROGRAM[0], f"{room}/bin/sieved")
+        self.file("bin/sendmail", f'#!/bin/sh\nexec /usr/sbin/sendmail -C {room}/etc "$@"\n', 0o755)
+        self.db = f"{room}/var/mail.db"
+        self.env = {**os.environ, "SIEVED": f"{room}/bin/sieved", "SIEVED_DB": self.db, "SIEVED_MAIL": f"{room}/var/mail",
+                    "SIEVED_DRAIN": f"{room}/bin/sieved-drain", "SENDMAIL": f"{room}/bin/sendmail"}
+        self.file("etc/main.cf", MAIN.format(room=room, sink=self.sink.server_address[1]))
+        self.file("etc/master.cf", f"127.0.0.1:{self.port} inet n - n - - smtpd\n" + SERVICES + self.transport() + "\n")
+        self.make_store()
+        # (it prints nothing and keeps no pipe open: what master inherits would be waited for)
+        subprocess.run(["postfix", "-c", f"{room}/etc", "start"], stdout=subprocess.DEVNULL, stderr=subprocess.DEVNULL, stdin=subprocess.DEVNULL, check=True)
+        wait_for(lambda: self.greets(), "a greeting")
+
+    def transport(self):
+        """The first line of docs/OPERATING.md that makes the transport, over the files of this host."""
+        with open(f"{DOCS}/OPERATING.md") as file:
+            line = re.search(r"postconf -M 'sieved/unix=(sieved unix .*)'", file.read())[1]
+        environment = " ".join(f"{name}={self.env[name]}" for name in ("SIEVED", "SIEVED_DB", "SIEVED_MAIL", "SIEVED_DRAIN"))
+        line = line.replace("user=sieved", "user=nobody").replace("/usr/local/bin/sieved ", f"{self.room}/bin/sieved ")
+        line = line.replace("/var/lib/sieved/mail.db", self.db)
+        return line.replace("argv=/usr/local/sbin/", f"argv=/usr/bin/env {environment} {self.room}/bin/")
+
+    def file(self, name, text, mode=0o644):
+        with open(f"{self.room}/{name}", "w") as file:
+            file.write(text)
+        os.chmod(file.name, mode)
+
+    def sieved(self, *words, data=b""):
+        done = subprocess.run(["setpriv", "--reuid=nobody", "--regid=nogroup", "--clear-groups", f"{self.room}/bin/sieved", *words], input=data, capture_output=True)
+        assert not done.returncode, done
+        return done.stdout
+
+    def make_store(self):
+        self.sieved("init", "--db", self.db)
+        self.sieved("adduser", "--db", self.db, "--salt", os.urandom(16).hex(), "alice", "alice@example.org", data=b"secret\n")
+
+    def script(self, text):
+        login = b'AUTHENTICATE "PLAIN" "AGFsaWNlAHNlY3JldA=="\r\n'
+        told = self.sieved("session", "--db", self.db, data=login + b'PUTSCRIPT "m" {%d+}\r\n%s\r\nSETACTIVE "m"\r\nLOGOUT\r\n' % (len(text), text))
+        assert told.count(b"\r\nOK") == 5, told
+
+    def greets(self):
+        try:
+            with socket.create_connection(("127.0.0.1", self.port), timeout=5) as sock:
+                return sock.recv(100).startswith(b"220")
+        except OSError:
+            return False
+
+    def send(self, sender, recipient=b"alice@example.org", subject=b"x", body=b"Hi\r\n"):
+        """Hands a message to Postfix by SMTP, which takes it."""
+        wide = b" SMTPUTF8" if max(sender + recipient, default=0) > 127 else b""
+        head = b"From: bob@example.net\r\nTo: alice@example.org\r\nSubject: " + subject
+        with socket.create_connection(("127.0.0.1", self.port), timeout=60) as sock, sock.makefile("rb") as answers:
+            for command in (b"", b"EHLO x", b"MAIL FROM:<%s>%s" % (sender, wide), b"RCPT TO:<%s>" % recipient, b"DATA", head + b"\r\n\r\n" + body + b"."):
+                if command:
+                    sock.sendall(command + b"\r\n")
+                while (line := answers.readline())[3:4] == b"-":
+                    pass
+                assert line[:1] in b"23", (command[:200], line)
+
+    def flush(self):
+        subprocess.run(["postqueue", "-c", f"{self.room}/etc", "-f"], check=True)
+
+    def waiting(self):
+        return subprocess.run(["postqueue", "-c", f"{self.room}/etc", "-p"], capture_output=True, text=True).stdout
+
+    def log(self):
+        with open(f"{self.room}/postfix.log", errors="replace") as file:
+            return file.read()
+
+    def arrived(self):
+        """The subjects of all messages in the Maildirs and in the store."""
+        found = []
+        for folder, _, files in os.walk(f"{self.room}/var/mail"):
+            for name in files if folder.endswith("/new") else []:
+                with open(f"{folder}/{name}", "rb") as file:
+                    found.append(re.search(rb"Subject: (.*)\n", file.read())[1].strip())
+        for count in [int(line.rsplit(b" ", 1)[1]) for line in self.sieved("folders", "--db", self.db, "alice").splitlines() if line.startswith(b"INBOX ")]:
+            for at in range(1, count + 1):
+                found.append(re.search(rb"Subject: (.*)\n", self.sieved("show", "--db", self.db, "alice", "INBOX", str(at)))[1].strip())
+        return sorted(found)
+
+    def queue(self):
+        return subprocess.run([f"{self.room}/bin/sieved-queue", "alice"], env=self.env, capture_output=True)
+
+    def settled(self):
+        wait_for(lambda: "Mail queue is empty" in self.waiting(), "an empty queue")
+
+    def stop(self):
+        subprocess.run(["postfix", "-c", f"{self.room}/etc", "stop"], stdout=subprocess.DEVNULL, stderr=subprocess.DEVNULL, stdin=subprocess.DEVNULL)
+        self.sink.shutdown()
+        self.sink.server_close()
+
+
+def wait_for(holds, what, seconds=40):
+    for _ in range(seconds * 10):
+        if holds():
+            return
+        time.sleep(0.1)
+    raise AssertionError(f"no {what} after {seconds} seconds")
+
+
+@contextmanager
+def a_host():
+    trials.need_root()
+    trials.need("postfix", "postqueue", "setpriv", "awk", "flock")
+    with tempfile.TemporaryDirectory(prefix="sieved-postfix-") as room:
+        host = Host(room)
+        try:
+            yield host
+        finally:
+            host.stop()
+
+
+def senders():
+    """Who sends, as Postfix hands it over, is who is answered, and nobody else."""
+    with a_host() as host:
+        host.script(b'require "vacation"; vacation "away"; redirect "far@example.com";')
+        given = [b'"x, victim@example.com,"@evil.example', b'"> <"@evil.example', b'"a\\"b\\\\c"@evil.example', b"", "größe@evil.example".encode(), b"o" * 60 + b"@example.net"]
+        for sender in given:
+            host.send(sender)
+        host.settled()
+        done = host.queue()
+        assert (done.returncode, done.stderr) == (0, b""), done
+        host.settled()
+        got = sorted((sender, *recipients) for sender, recipients, _ in host.sink.got)
+        wanted = sorted([(sender, b"far@example.com") for sender in given] + [(b"", sender) for sender in given if sender])
+        assert got == wanted, (got, wanted)
+        assert "status=bounced" not in host.log()
+    return f"{len(given)} senders, quoted ones and the null sender: {len(wanted)} messages went out, each to the one that was named"
+
+
+def rows():
+    """Rows with 200 addresses of the grammar and near misses, each as a target and as a sender, through sendmail."""
+    import sqlite3
+    with a_host() as host:
+        drawn, known = mailboxes.drawn(200, random.Random(33)), b"far@example.com"
+        pairs = [(known, text) for text in drawn] + [(text, known) for text in drawn]
+        with sqlite3.connect(host.db) as base:
+            base.executemany("INSERT INTO outgoing VALUES (?, ?, 1, ?, ?, ?)",
+                             [(b"alice", number, *pair, b"Subject: row %d\n\n" % number) for number, pair in enumerate(pairs, 1)])
+            base.execute("UPDATE account SET next_out = 1000")
+        base.close()
+        done = host.queue()
+        assert done.returncode == 0, done
+        host.settled()
+        sent = {number: pair for number, pair in enumerate(pairs, 1) if all(mailboxes.is_mailbox(text) for text in pair)}
+        log = host.log()
+        taken = re.findall(r"pickup\[\d+\]: \w+: uid=", log)
+        assert len(taken) == len(sent) and {*re.findall(r"nrcpt=(\d+)", log)} == {"1"}, (len(taken), len(sent))
+        went, notices = [], 0
+        for sender, recipients, octets in host.sink.got:
+            if not sender:  # Postfix can't send to each Mailbox, as to one that begins with a hyphen, and tells the sender
+                notices += 1
+                assert plain(recipients[0]) in {plain(pair[0]) for pair in sent.values()}, recipients
+                continue
+            number = int(re.search(rb"Subject: row (\d+)", octets)[1])
+            assert [plain(sender), *map(plain, recipients)] == [*map(plain, sent[number])], (sender, recipients, sent[number])
+            went.append(number)
+        assert len({*went}) == len(went) and len(went) > 150, (len(went), len(sent))
+    return f"{len(sent)} rows of {len(pairs)} went to sendmail, each with its one recipient and its sender; {len(went)} went on, of {notices} Postfix told the sender"
+
+
+def plain(address):
+    """An address in one spelling: its local part without quotation marks."""
+    local, _, domain = address.rpartition(b"@") if not address.endswith(b"]") else address.partition(b"@[")
+    if local.startswith(b'"'):
+        local = re.sub(rb"\\(.)", rb"\1", local[1:-1])
+    return local + b"@" + domain.lower()
+
+
+def bad_days():
+    """A program that is killed, a store that is absent, and one of another version: mail waits, and arrives."""
+    with a_host() as host:
+        program = f"{host.room}/bin/sieved"
+        os.rename(program, f"{program}.real")
+        host.file("bin/sieved", "#!/bin/sh\ncat > /dev/null\nkill -9 $$\n", 0o755)
+        mends = [("killed", lambda: os.rename(f"{program}.real", program))]
+        host.send(b"bob@example.net", subject=b"killed")
+        mended(host, *mends[0])
+        os.rename(host.db, f"{host.db}.away")
+        host.send(b"bob@example.net", subject=b"absent")
+        mended(host, "absent", lambda: os.rename(f"{host.db}.away", host.db))
+        shutil.copy2(host.db, f"{host.db}.good")
+        shutil.chown(f"{host.db}.good", "nobody", "nogroup")
+        version(host, 1)
+        host.send(b"bob@example.net", subject=b"version")
+        mended(host, "version", lambda: version(host, 2))
+        assert host.arrived() == [b"absent", b"killed", b"version"], host.arrived()
+        assert "status=bounced" not in host.log() and not host.sink.got, host.sink.got
+    return "a killed program, an absent store, another version: each message waits and arrives, nothing is bounced"
+
+
+def mended(host, what, mend):
+    wait_for(lambda: "status=deferred" in host.log().split("mended")[-1], f"deferral: {what}: {host.log()[-1_500:]}")
+    assert "status=bounced" not in host.log(), host.log()
+    mend()
+    with open(f"{host.room}/postfix.log", "a") as log:
+        log.write("mended\n")
+    host.flush()
+    host.settled()
+
+
+def version(host, number):
+    import sqlite3
+    with sqlite3.connect(host.db) as base:
+        base.execute("UPDATE meta SET value = ?", (number,))
+    base.close()
+    for name in os.listdir(f"{host.room}/var"):
+        shutil.chown(f"{host.room}/var/{name}", "nobody", "nogroup")
+
+
+def full_disk():
+    """A disk that runs full while mail comes in: what doesn't find room waits, and arrives once there is room."""
+    with a_host() as host:
+        shutil.rmtree(f"{host.room}/var")
+        os.mkdir(f"{host.room}/var")
+        with small_disk(f"{host.room}/var", 500):
+            shutil.chown(f"{host.room}/var", "nobody", "nogroup")
+            host.make_store()
+            names = [b"m%d" % at for at in range(16)]
+            for name in names:
+                host.send(b"bob@example.net", subject=name, body=b"x" * 900 + b"\r\n" + (b"y" * 900 + b"\r\n") * 40)
+            wait_for(lambda: "status=deferred" in host.log(), "deferral")
+            assert "status=bounced" not in host.log(), host.log()
+            subprocess.run(["mount", "-o", "remount,size=20m", f"{host.room}/var"], check=True)
+            host.flush()
+            host.settled()
+            assert sorted({*host.arrived()}) == sorted(names), host.arrived()
+            assert not host.sink.got, host.sink.got
+    return f"{len(names)} messages, more than the disk holds: all arrive once there is room, nothing is bounced"
+
+
+def own_faults():
+    """What is the message's own fault goes back to its sender."""
+    with a_host() as host:
+        host.send(b"bob@example.net", b"carol@example.org")
+        host.send(b"bob@example.net", body=(b"x" * 900 + b"\r\n") * 38_000)
+        host.settled()
+        back = [recipients for sender, recipients, _ in host.sink.got if not sender]
+        assert back == [[b"bob@example.net"]] * 2 and not host.arrived(), (back, host.log()[-2_000:])
+    return "an unknown user and a message of 34,000,000 octets: back to the sender"
+
+
+TRIALS = {trial.__name__: trial for trial in (senders, rows, bad_days, full_disk, own_faults)}
+
+if __name__ == "__main__":
+    trials.main(TRIALS, lambda program: PROGRAM.__setitem__(0, program))

@@ -1,0 +1,224 @@
+#!/usr/bin/env python3
+"""Sets Dovecot up by the lines of docs/OPERATING.md, and tries it as the proxy of ManageSieve and as the IMAP server of drained mail.
+
+  tests/proxy.py [--sieved SIEVED] [TRIAL ..]       SIEVED: the program, crates/sieved/out/sieved where none is named
+
+Prints a line for each trial, a last one that counts them, and ends with 1 where one failed. `tests/run` runs it. It needs root, openssl
+and Debian's dovecot-imapd and dovecot-managesieved, else its trials are left out. Dovecot's files are in a folder that goes with the trial,
+its ports on the loopback address.
+"""
+import base64, imaplib, os, re, shutil, socket, socketserver, ssl, subprocess, tempfile, threading, time
+import managesieve, scripts, trials
+from contextlib import contextmanager
+from postfix import free_port, wait_for
+
+OPERATING = f"{scripts.DOCS}/OPERATING.md"
+MORE = """
+base_dir = {room}/run
+state_dir = {room}/run
+log_path = {room}/log
+listen = 127.0.0.1
+service imap-login {{
+  inet_listener imap {{
+    port = {imap}
+  }}
+  inet_listener imaps {{
+    port = 0
+  }}
+}}
+"""
+
+
+class Backend(socketserver.ThreadingTCPServer):
+    """Starts a session of the program for each connection, as sieved.socket does."""
+
+    allow_reuse_address = daemon_threads = True
+
+    def __init__(self, program, file):
+        self.command = [program, "session", "--db", file, "--wait"]
+        super().__init__(("127.0.0.1", 0), Session)
+        self.port = self.server_address[1]
+        threading.Thread(target=self.serve_forever, daemon=True).start()
+
+
+class Session(socketserver.BaseRequestHandler):
+    def handle(self):
+        subprocess.run(self.server.command, stdin=self.request, stdout=self.request, stderr=subprocess.DEVNULL)
+
+
+def block(begin, end):
+    """The indented lines of the page from one that begins so to the last one before a line of text that begins so."""
+    with open(OPERATING) as file:
+        text = file.read()
+    lines = text[text.index(f"\n    {begin}") + 1:]
+    return "".join(line[4:] + "\n" for line in lines[:lines.index(f"\n{end}")].split("\n") if line.startswith("    ") or not line)
+
+
+class Host:
+    """Dovecot in front of a store."""
+
+    def __init__(self, room, separator="."):
+        self.room, self.port, self.imap = room, free_port(), free_port()
+        os.chmod(room, 0o755)
+        for name in "run", "var", "var/mail":
+            os.mkdir(f"{room}/{name}")
+        shutil.chown(f"{room}/var/mail", "nobody", "nogroup")
+        subprocess.run(["openssl", "req", "-x509", "-newkey", "rsa:2048", "-nodes", "-keyout", f"{room}/key", "-out", f"{room}/cert", "-days", "2",
+                        "-subj", "/CN=localhost"], capture_output=True, check=True)
+        self.store = self.make_store("mail")
+        conf = self.ours(block("protocols = imap sieve", "`%s` is the service"))
+        conf = conf.replace("</etc/ssl/certs/ssl-cert-snakeoil.pem", f"<{room}/cert").replace("</etc/ssl/private/ssl-cert-snakeoil.key", f"<{room}/key")
+        conf = conf.replace("port = 4190", f"port = {self.port}").replace("= sieved\n", "= nobody\n").replace("mail_gid = nobody", "mail_gid = nogroup")
+        conf = conf.replace("uid=sieved gid=sieved", "uid=nobody gid=nogroup").replace("separator = .", f"separator = {separator}")
+        with open(f"{room}/dovecot.conf", "w") as file:
+            file.write(conf + MORE.format(room=room, imap=self.imap))
+        subprocess.run(["dovecot", "-c", f"{room}/dovecot.conf"], check=True, stdin=subprocess.DEVNULL, stdout=subprocess.DEVNULL, stderr=subprocess.DEVNULL)
+        wait_for(lambda: listens(self.port) and listens(self.imap), "a listener")
+
+    def ours(self, text):
+        """A text of the page over the files of this host."""
+        return text.replace("/etc/dovecot/", f"{self.room}/").replace("/var/lib/sieved/", f"{self.room}/var/")
+
+    def make_store(self, name):
+        file = f"{self.room}/var/{name}.db"
+        subprocess.run([scripts.PROGRAM[0], "init", "--db", file], check=True, capture_output=True)
+        return Backend(scripts.PROGRAM[0], file)
+
+    def add_user(self, user, backend, password):
+        """By the page's lines for alice."""
+        lines = self.ours(block("secret=$(openssl", "- **sieved's own passwords")).replace("runuser -u sieved -- sieved", scripts.PROGRAM[0])
+        lines = lines.replace("alice", user).replace("port=4191", f"port={backend.port}").replace(f"{self.room}/var/mail.db", backend.command[3])
+        subprocess.run(["sh", "-e", "-c", lines], env={**os.environ, "PASSWORD": password}, check=True, capture_output=True)
+        with open(f"{self.room}/users.sieve") as file:
+            return file.read().rsplit("pass=", 1)[1].strip()
+
+    def client(self):
+        """A client from another address than the server's, greeted."""
+        sock = socket.create_connection(("127.0.0.1", self.port), timeout=60, source_address=("127.0.0.2", 0))
+        client = managesieve.Client(sock.makefile("rb"), sock.makefile("wb", buffering=0), sock)
+        client.greeting = client.reply()
+        return client
+
+    def secured(self):
+        """A client that has made TLS, told the capabilities again."""
+        client = self.client()
+        assert b'"STARTTLS"\r\n' in client.greeting, client.greeting
+        assert client.ask(b"STARTTLS")[-1].startswith(b"OK")
+        context = ssl.create_default_context()
+        context.check_hostname, context.verify_mode = False, ssl.CERT_NONE
+        sock = context.wrap_socket(client.sock)
+        client = managesieve.Client(sock.makefile("rb"), sock.makefile("wb", buffering=0), sock)
+        client.greeting = client.reply()
+        return client
+
+    def imap_client(self, user, password):
+        client = imaplib.IMAP4("127.0.0.1", self.imap)
+        context = ssl.create_default_context()
+        context.check_hostname, context.verify_mode = False, ssl.CERT_NONE
+        client.starttls(context)
+        client.login(user, password)
+        return client
+
+    def stop(self):
+        subprocess.run(["doveadm", "-c", f"{self.room}/dovecot.conf", "stop"], capture_output=True)
+
+
+def listens(port):
+    try:
+        socket.create_connection(("127.0.0.1", port), timeout=5).close()
+        return True
+    except OSError:
+        return False
+
+
+def log_in(client, user, password):
+    return client.ask(b'AUTHENTICATE "PLAIN" "' + base64.b64encode(f"\0{user}\0{password}".encode()) + b'"')[-1]
+
+
+@contextmanager
+def a_host(separator="."):
+    trials.need_root()
+    trials.need("dovecot", "doveadm", "openssl")
+    if not os.path.exists("/usr/lib/dovecot/managesieve-login"):
+        raise trials.LeftOut("no dovecot-managesieved")
+    with tempfile.TemporaryDirectory(prefix="sieved-proxy-") as room:
+        host = Host(room, separator)
+        try:
+            yield host
+        finally:
+            host.stop()
+
+
+def log_ins():
+    with a_host() as host:
+        secret = host.add_user("alice", host.store, "human")
+        assert re.fullmatch("[0-9a-f]{32}", secret), secret
+        refused = log_in(host.client(), "alice", "human")
+        assert refused.startswith(b"NO (ENCRYPT-NEEDED)"), refused
+        client = host.secured()
+        assert log_in(client, "ALICE", "human") == b'OK "Logged in."\r\n'
+        named = {line for line in client.ask(b"CAPABILITY") if line.startswith((b'"SIEVE"', b'"IMPLEMENTATION"'))}
+        assert len(named) == 2 and named <= {*client.greeting}, (named, client.greeting)
+        assert client.put(b"m", b"keep;").startswith(b"OK") and client.get(b"m") == b"keep;"
+        assert client.ask(b"UNAUTHENTICATE")[-1].startswith(b"OK")
+        assert log_in(client, "alice", "human").startswith(b"NO") and log_in(client, "alice", secret).startswith(b"OK")
+        client, times = host.secured(), []
+        for _ in range(2):
+            began = time.time()
+            assert log_in(client, "alice", secret).startswith(b"NO")
+            times.append(time.time() - began)
+        assert times[0] > 1 and times[1] > times[0], times
+    return f"STARTTLS is asked for; the user's password serves at Dovecot and not behind it; wrong ones wait {times[0]:.1f} and {times[1]:.1f} s"
+
+
+def two_stores():
+    with a_host() as host:
+        second = host.make_store("two")
+        host.add_user("alice", host.store, "human")
+        host.add_user("carol", second, "other")
+        for user, password in ("alice", "human"), ("carol", "other"):
+            client = host.secured()
+            assert log_in(client, user, password).startswith(b"OK")
+            assert client.put(user.encode(), b"keep;").startswith(b"OK")
+            assert client.ask(b"LISTSCRIPTS")[:-1] == [b'"%s"\r\n' % user.encode()]
+    return "each user reaches the store of the own line"
+
+
+def folders():
+    """Each folder that the script makes is listed and subscribed, under the name that its user means."""
+    trials.need("flock")
+    names = {".": {"Sent Items", "work/x", "INBOX.Junk", "Gr&APYA3w-e", " lists", "trail ", "a 1 b 1", "-n", "a\\b", "R&-D", "$(id)`id`;*", "lists"},
+             "/": {"Sent Items", "work/x", "INBOX.Junk", "Gr&APYA3w-e", " lists", "trail ", "a 1 b 1", "-n", "a\\b", "R&-D", "$(id)`id`;*", "lists"}}
+    for separator in "./":
+        with a_host(separator) as host:
+            host.add_user("alice", host.store, "human")
+            given, messages = scripts.filled(*scripts.FOLDERS)
+            status, _, said = given.call("sieved-drain", "alice", SIEVED_MAIL=f"{host.room}/var/mail", SIEVED_SEPARATOR=separator)
+            assert (status, said) == (0, b""), said
+            subprocess.run(["chown", "-R", "nobody:nogroup", f"{host.room}/var/mail"], check=True)
+            client = host.imap_client("alice", "human")
+            listed, subscribed = ({name_of(line) for line in answer[1] if b"\\Noselect" not in first_of(line)} for answer in (client.list(), client.lsub()))
+            assert names[separator] <= subscribed and names[separator] | {"INBOX"} <= listed, (separator, names[separator] - subscribed, names[separator] - listed)
+            for name in names[separator] | {"INBOX"}:
+                answer = client.select('"%s"' % name.replace("\\", "\\\\"), readonly=True)
+                assert answer == ("OK", [b"1"]), (name, answer)
+            client.logout()
+    return f"{len(scripts.FOLDERS)} folders by `.` and by `/`: listed, subscribed, each with its message"
+
+
+def first_of(line):
+    return line[0] if isinstance(line, tuple) else line
+
+
+def name_of(line):
+    """The mailbox of a line of LIST or LSUB."""
+    if isinstance(line, tuple):
+        return line[1].decode()
+    name = re.fullmatch(rb'\(.*?\) (?:"."|NIL) (.*)', line)[1].decode()
+    return re.sub(r"\\(.)", r"\1", name[1:-1]) if name.startswith('"') else name
+
+
+TRIALS = {trial.__name__: trial for trial in (log_ins, two_stores, folders)}
+
+if __name__ == "__main__":
+    trials.main(TRIALS, lambda program: scripts.PROGRAM.__setitem__(0, program))

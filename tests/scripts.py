@@ -1,0 +1,529 @@
+#!/usr/bin/env python3
+"""Tries docs/sieved-deliver, sieved-queue and sieved-drain with what strangers send, programs that are killed and disks that are full.
+
+  tests/scripts.py [--sieved SIEVED] [TRIAL ..]       SIEVED: the program, crates/sieved/out/sieved where none is named
+
+Prints a line for each trial, a last one that counts them, and ends with 1 where one failed. `tests/run` runs it. A trial whose
+tool (awk, flock, shellcheck, strace) or right (root, to mount a small disk) isn't there is left out.
+"""
+import collections, hashlib, os, random, re, shutil, signal, sqlite3, subprocess, time
+import mailboxes, managesieve, trials
+from contextlib import contextmanager
+
+TOP = os.path.dirname(managesieve.HERE)
+DOCS = os.environ.get("SIEVED_DOCS", f"{TOP}/docs")
+PROGRAM = [managesieve.SIEVED]
+MAIL = b"From: bob@example.net\r\nTo: alice@example.org\r\nSubject: %s\r\n\r\nHi\r\n"
+STAND_IN = """#!/bin/sh
+cat > /dev/null
+printf '%s' "$PRINTS"
+printf '%s' "$SAYS" >&2
+[ -z "$DIES" ] || kill -9 $$
+exit "$ENDS"
+"""
+SENDMAIL = """#!/usr/bin/env python3
+import hashlib, os, sys
+message = hashlib.sha256(sys.stdin.buffer.read()).hexdigest()
+with open(os.environ["RUNS"], "a") as runs:
+    print(repr(([os.fsencode(word) for word in sys.argv[1:]], message)), file=runs)
+sys.exit(int(os.environ.get("ENDS", 0)))
+"""
+
+
+class Host(managesieve.Store):
+    """A store with its users, beside it a folder for Maildirs, and the scripts over both."""
+
+    def __init__(self, *users):
+        super().__init__(users, PROGRAM[0])
+        self.room = self.folder.name
+        self.mail = f"{self.room}/mail"
+        os.mkdir(self.mail)
+        self.env = {**os.environ, "SIEVED": self.sieved, "SIEVED_DB": self.file, "SIEVED_MAIL": self.mail,
+                    "SIEVED_DRAIN": f"{DOCS}/sieved-drain", "RUNS": f"{self.room}/runs", "SENDMAIL": self.program("sendmail", SENDMAIL)}
+
+    def program(self, name, text):
+        with open(f"{self.room}/{name}", "w") as file:
+            file.write(text)
+        os.chmod(file.name, 0o755)
+        return file.name
+
+    def start(self, script, *words, **env):
+        return subprocess.Popen([f"{DOCS}/{script}", *words], env={**self.env, **env}, stdin=subprocess.PIPE,
+                                stdout=subprocess.PIPE, stderr=subprocess.PIPE, start_new_session=True)
+
+    def call(self, script, *words, data=b"", **env):
+        """The status of a script, and what it printed and said."""
+        process = self.start(script, *words, **env)
+        printed, said = process.communicate(data, timeout=120)
+        return process.returncode, printed, said
+
+    def deliver(self, *words, data=MAIL % b"x", **env):
+        return self.call("sieved-deliver", *words, data=data, **env)
+
+    def script(self, user, text):
+        process, client = self.session("--wait")
+        client.log_in(user)
+        assert client.put(b"main", text).startswith(b"OK") and client.ask(b'SETACTIVE "main"')[-1].startswith(b"OK"), text
+        client.ask(b"LOGOUT")
+        client.close()
+        process.wait()
+
+    def stored(self):
+        """The messages in the store."""
+        with sqlite3.connect(self.file) as base:
+            found = [octets for octets, in base.execute("SELECT message.bytes FROM copy JOIN message USING (owner, id)")]
+        base.close()
+        return found
+
+    def moved(self):
+        """The messages in Maildirs."""
+        found = []
+        for folder, _, files in os.walk(self.mail):
+            for name in files if folder.endswith("/new") else []:
+                with open(f"{folder}/{name}", "rb") as file:
+                    found.append(file.read())
+        return found
+
+    def rows(self, user):
+        """Sender, target and SHA-256 of the message of each row of the user's queue, by its number."""
+        with sqlite3.connect(self.file) as base:
+            found = base.execute("SELECT id, sender, target, message FROM outgoing WHERE owner = ?", (user.encode(),)).fetchall()
+        base.close()
+        return {number: (sender, target, hashlib.sha256(message).hexdigest()) for number, sender, target, message in found}
+
+    def runs(self):
+        """The words of each run of the stand-in for sendmail, and the SHA-256 of what it read."""
+        if not os.path.exists(self.env["RUNS"]):
+            return []
+        with open(self.env["RUNS"]) as file:
+            return [eval(line) for line in file]
+
+
+@contextmanager
+def small_disk(folder, size):
+    """A file system of its own, of so many kB, in place of an empty folder."""
+    trials.need_root()
+    if subprocess.run(["mount", "-t", "tmpfs", "-o", f"size={size}k", "tmpfs", folder], capture_output=True).returncode:
+        raise trials.LeftOut("no mount")
+    try:
+        yield
+    finally:
+        subprocess.run(["umount", folder], check=True)
+
+
+# deliver
+
+
+def deliver_statuses():
+    host = Host("alice")
+    words = "--to", "alice@example.org"
+    assert host.deliver("--no-drain", *words, "alice")[0] == 0 and len(host.stored()) == 1 and not host.moved()
+    assert host.deliver(*words, "--", "alice")[0] == 0 and not host.stored() and len(host.moved()) == 2
+    assert host.deliver(*words, "carol")[0] == 67
+    assert host.deliver(*words, "alice", data=b"x" * 33_554_433)[0] == 65
+    assert host.deliver("--to", "a" * 1_025, "alice")[0] == 65
+    assert host.deliver(*words, "--at", "253402300800", "alice")[0] == 65
+    assert host.deliver("--wrong", "alice")[0] == 75
+    assert host.deliver(*words, "alice", SIEVED=f"{host.room}/absent")[0] == 75
+    assert host.deliver(*words, "alice", SIEVED_DB=f"{host.room}/absent.db")[0] == 75
+    with open(f"{host.room}/foreign.db", "w") as file:
+        file.write("no database\n" * 100)
+    assert host.deliver(*words, "alice", SIEVED_DB=file.name)[0] == 75
+    with sqlite3.connect(host.file) as base:
+        base.execute("UPDATE meta SET value = 1")
+    base.close()
+    assert host.deliver(*words, "alice")[0] == 75
+    return "0, 65, 67 as the message has it; a store that is absent, foreign or of another version, an absent program, a wrong word: 75"
+
+
+def deliver_faults():
+    """What the program says decides, and nothing of what it prints: a folder may have any name."""
+    host = Host()
+    own = "message too large", "bad envelope address", "bad moment"
+    other = "not a sieved database", "bad user", "no such row", "bad input", ""
+    stand_in = host.program("stand-in", STAND_IN)
+    wanted = [(65, f"sieved: {text}\n", "", 65) for text in own] + [(65, f"sieved: {text}\n", "", 75) for text in other]
+    wanted += [(status, "sieved: message too large\n", "", 75) for status in (1, 2, 64, 66, 69, 75, 126, 127, 255)]
+    wanted += [(65, "sieved: not a sieved database\n", f"file x\nsieved: {text}\n", 75) for text in own]
+    wanted += [(65, "sieved: message too large\nsieved: store failed\n", "", 75), (65, "x sieved: message too large\n", "", 75),
+               (65, "one\nsieved: bad moment\ntwo\n", "", 65), (67, "sieved: no such user\n", "", 67), (0, "", "5.1.1 x\n", 0)]
+    for status, says, prints, want in wanted:
+        ended, printed, said = host.deliver("--no-drain", "alice", SIEVED=stand_in, ENDS=str(status), SAYS=says, PRINTS=prints)
+        assert (ended, printed, said) == (want, prints.encode(), says.encode()), (status, says, prints, ended, printed, said)
+    assert host.deliver("--no-drain", "alice", SIEVED=stand_in, DIES="yes")[0] == 75
+    return f"{len(wanted)} endings and a program that is killed"
+
+
+def deliver_cut():
+    """A script of which only the first lines are there, as on a full disk, doesn't tell a mail server of a delivery that wasn't."""
+    host = Host("alice")
+    with open(f"{DOCS}/sieved-deliver") as file:
+        lines = file.read().splitlines(keepends=True)
+    first = 1 + next(at for at, line in enumerate(lines) if line.startswith(("trap", '"$sieved"')))
+    before = 0
+    for count in range(first, len(lines)):
+        script = host.program("cut", "".join(lines[:count]))
+        done = subprocess.run([script, "--no-drain", "--to", "a@b", "alice"], input=MAIL % b"x", capture_output=True, env=host.env)
+        stored = len(host.stored())
+        assert done.returncode == 75 or done.returncode == 0 and stored > before, (count, done)
+        before = stored
+    return f"cut after each of the lines {first} to {len(lines) - 1}: 75, or the message is in the store"
+
+
+def deliver_killed():
+    host = Host("alice")
+    began = time.time()
+    host.deliver("--to", "alice@example.org", "alice")
+    whole = time.time() - began
+    accepted = set()
+    for number in range(40):
+        message = MAIL % b"%d" % number
+        process = host.start("sieved-deliver", "--to", "alice@example.org", "alice")
+        process.stdin.write(message)
+        process.stdin.close()
+        time.sleep(random.uniform(0, 1.5 * whole))
+        if process.poll() is None:
+            os.killpg(process.pid, signal.SIGKILL)
+        if process.wait() == 0:
+            accepted.add(message)
+        process.stdout.close()
+        process.stderr.close()
+    assert 0 < len(accepted) < 40, len(accepted)
+    host.call("sieved-drain", "alice")
+    there = {*host.stored(), *host.moved()}
+    assert accepted <= there, accepted - there
+    left = {name for name in os.listdir(host.room) if not name.startswith("mail")} - {"sendmail"}
+    assert not left, left
+    return f"40 killed at a random moment, {len(accepted)} of them had ended with 0: each is there"
+
+
+def deliver_full_disk():
+    host = Host()
+    disk = f"{host.room}/disk"
+    os.mkdir(disk)
+    with small_disk(disk, 600):
+        host.file = host.env["SIEVED_DB"] = f"{disk}/mail.db"
+        host.run("init")
+        host.run("adduser", "--salt", os.urandom(16).hex(), "alice", "alice@example.org", data=b"secret\n")
+        message = MAIL % b"x" + b"x" * 20_000
+        statuses = [host.deliver("--no-drain", "--to", "a@b", "alice", data=message)[0] for _ in range(60)]
+        kept = shutil.copy(host.file, host.room), shutil.copy(f"{host.file}-wal", host.room)
+    host.file = kept[0]
+    assert {*statuses} == {0, 75}, statuses
+    assert len(host.stored()) >= statuses.count(0), (statuses, len(host.stored()))
+    return f"{statuses.count(0)} deliveries, then 75: each that ended with 0 is there"
+
+
+# queue
+
+
+def checked_runs(host, user, before):
+    """Runs the queue's script; each row that may go went once, to its target alone, and no other. Returns how many went."""
+    status, printed, said = host.call("sieved-queue", user)
+    may_go = {number: row for number, row in before.items() if mailboxes.is_mailbox(row[1]) and (not row[0] or mailboxes.is_mailbox(row[0]))}
+    wanted = [([b"-i", b"-f", sender or b"<>", b"--", target], message) for sender, target, message in may_go.values()]
+    found = host.runs()
+    assert sorted(found) == sorted(wanted), [run for run in wanted + found if (run in wanted) != (run in found)]
+    assert status == 0 and host.rows(user).keys() == before.keys() - may_go.keys(), (status, host.rows(user), said)
+    lines = said.decode(errors="replace").splitlines()
+    assert len(lines) == len(before) - len(may_go), lines
+    for line in lines:
+        command = line.split("takes it off: ")[1]
+        assert subprocess.run(["sh", "-c", command], capture_output=True).returncode == 0, line
+    assert not host.rows(user), host.rows(user)
+    return len(wanted), len(lines)
+
+
+def queue_addresses():
+    """Each of 200 addresses is the sender of a redirect and the target of an answer."""
+    trials.need("awk")
+    host = Host("alice")
+    host.script("alice", b'require ["vacation"]; vacation :addresses "alice@example.org" "away"; redirect "far@example.com";')
+    drawn = mailboxes.drawn(200, random.Random(31))
+    assert sum(mailboxes.is_mailbox(text) for text in drawn) == 100
+    for text in drawn:
+        status, _, said = host.deliver("--no-drain", "--from", text, "--to", "alice@example.org", "alice")
+        assert status == 0, (text, status, said)
+    rows = host.rows("alice")
+    assert len(rows) > 300, len(rows)
+    went, aside = checked_runs(host, "alice", rows)
+    return f"{len(drawn)} addresses, half of them near misses: {went} rows went to their target alone, {aside} were set aside, and the command that is named takes each off"
+
+
+def queue_targets():
+    """The same addresses as targets of redirects, which only another program could write into the store."""
+    trials.need("awk")
+    host = Host("alice")
+    drawn = mailboxes.drawn(200, random.Random(32))
+    with sqlite3.connect(host.file) as base:
+        base.executemany("INSERT INTO outgoing VALUES (?, ?, 1, ?, ?, ?)",
+                         [(b"alice", number, drawn[-number], text, b"Subject: %d\n\n" % number) for number, text in enumerate(drawn, 1)])
+        base.execute("UPDATE account SET next_out = 1000")
+    base.close()
+    went, aside = checked_runs(host, "alice", host.rows("alice"))
+    return f"{went} rows went to their target alone, {aside} were set aside"
+
+
+def queue_rows():
+    """A long local part, an answer to a sender in quotes, a bounce that goes on, and rows that sendmail doesn't take."""
+    trials.need("awk")
+    host = Host("alice", "bob")
+    host.script("alice", b'require ["vacation"]; vacation "away"; redirect "%s@example.com";' % (b"l" * 100))
+    senders = ["", '"x, victim@example.com,"@evil.example', '"> <"@evil.example', "o" * 100 + "@example.net"]
+    for sender in senders:
+        assert host.deliver("--no-drain", "--from", sender, "--to", "alice@example.org", "alice")[0] == 0
+    rows = host.rows("alice")
+    assert len(rows) == 7, rows
+    status, _, _ = host.call("sieved-queue", "bob", "alice", "carol", ENDS="75")
+    assert status == 75 and host.rows("alice") == rows and len(host.runs()) == 7, (status, host.runs())
+    os.remove(host.env["RUNS"])
+    tools = f"{host.room}/tools"
+    os.mkdir(tools)
+    for tool in "mktemp", "rm", "env", "python3":
+        os.symlink(shutil.which(tool), f"{tools}/{tool}")
+    status, _, said = host.call("sieved-queue", "alice", PATH=tools)
+    assert status == 75 and host.rows("alice") == rows and not host.runs(), (status, said)
+    assert checked_runs(host, "alice", rows) == (7, 0)
+    return "seven rows, each to its target alone; what sendmail refuses, and all where there is no awk, stays with 75"
+
+
+# drain
+
+
+FOLDERS = {  # as `.` and `/` have them: the rules of docs/OPERATING.md, worked out by hand
+    "INBOX": ("", ""), "Sent Items": (".Sent Items", ".Sent Items"), "work/x": (".work\\2fx", ".work.x"),
+    "INBOX.Junk": (".INBOX.Junk", ".INBOX\\2eJunk"), "Größe": (".Gr&APYA3w-e", ".Gr&APYA3w-e"), " lists": (". lists", ". lists"),
+    "trail ": (".trail ", ".trail "), "a 1 b 1": (".a 1 b 1", ".a 1 b 1"), "-n": (".-n", ".-n"), "a\\b": (".a\\5cb", ".a\\5cb"), "R&D": (".R&-D", ".R&-D"),
+    "$(id)`id`;*": (".$(id)`id`;*",) * 2, "lists": (".lists", ".lists"),
+}
+
+
+def filled(*names):
+    """A host where alice has one message in each folder, and by name that message."""
+    host = Host("alice")
+    quoted = lambda name: name.replace("\\", "\\\\").replace('"', '\\"')
+    rules = "".join(f'if header :is "subject" "{at}" {{ fileinto "{quoted(name)}"; }}\r\n' for at, name in enumerate(names))
+    host.script("alice", ('require "fileinto";\r\n' + rules).encode())
+    messages = {name: MAIL % b"%d" % at for at, name in enumerate(names)}
+    for message in messages.values():
+        assert host.deliver("--no-drain", "--to", "alice@example.org", "alice", data=message)[0] == 0
+    return host, messages
+
+
+def drain_folders():
+    trials.need("flock")
+    for at, separator in enumerate("./"):
+        host, messages = filled(*FOLDERS)
+        status, printed, said = host.call("sieved-drain", "alice", SIEVED_SEPARATOR=separator)
+        assert (status, said) == (0, b"") and not host.stored(), (status, said, host.stored())
+        for name, message in messages.items():
+            folder = f"{host.mail}/alice/{FOLDERS[name][at]}"
+            (file,) = os.listdir(f"{folder}/new")
+            with open(f"{folder}/new/{file}", "rb") as found:
+                assert found.read() == message, name
+            assert {"tmp", "new", "cur"} <= {*os.listdir(folder)}, name
+        with open(f"{host.mail}/alice/subscriptions") as file:
+            lines = file.read().split("\n")
+        wanted = {directories[at][1:].replace(".", "\t") for directories in FOLDERS.values()} - {""}
+        assert lines[:2] == ["V\t2", ""] and lines[-1] == "" and sorted(lines[2:-1]) == sorted(wanted), lines
+    return f"{len(FOLDERS)} folders by `.` and by `/`: each message in its directory, each folder subscribed once"
+
+
+def drain_subscriptions():
+    """What the user does with subscriptions stays, and so does what another process has locked."""
+    trials.need("flock")
+    host, messages = filled("lists", "more", "third")
+    file = f"{host.mail}/alice/subscriptions"
+    again = lambda name: host.deliver("--no-drain", "--to", "alice@example.org", "alice", data=messages[name])
+    os.makedirs(f"{host.mail}/alice/.lists/cur")
+    with open(file, "w") as out:
+        out.write("work.x\nmore\nkept")
+    with open(f"{file}.lock", "w"):
+        pass
+    os.utime(f"{file}.lock", (1, 1))
+    assert host.call("sieved-drain", "alice")[0] == 0 and not host.stored() and not os.path.exists(f"{file}.lock")
+    with open(file) as found:
+        assert found.read() == "work.x\nmore\nkept\nthird\n"
+    shutil.rmtree(f"{host.mail}/alice/.more")
+    again("more"), again("third")
+    with open(f"{file}.lock", "w"):
+        pass
+    status, _, said = host.call("sieved-drain", "alice")
+    assert status == 75 and host.stored() == [messages["more"]] and b"more" in said and os.path.exists(f"{file}.lock"), (status, said)
+    os.remove(f"{file}.lock")
+    with open(file, "w") as out:
+        out.write("V\t2\n\nwork\tx\n")
+    assert host.call("sieved-drain", "alice")[0] == 0 and not host.stored()
+    again("more"), host.call("sieved-drain", "alice")
+    with open(file) as found:
+        assert found.read() == "V\t2\n\nwork\tx\nmore\n"
+    return "only a new directory is subscribed, in either version of the file; a lock is waited for and left, one of a dead process is taken"
+
+
+def drain_users():
+    trials.need("flock")
+    host = Host()
+    for user, address in (".hidden", "hidden@example.org"), ("alice@example.org",) * 2:
+        host.run("adduser", "--salt", os.urandom(16).hex(), user, address, data=b"secret\n")
+    for user in ".hidden", "alice@example.org":
+        host.deliver("--no-drain", "--to", "a@b", user)
+    status, _, said = host.call("sieved-drain", ".hidden", "alice@example.org", "..", "a/b", "")
+    assert status == 75 and said.count(b"can't be a directory") == 4 and len(host.stored()) == 1, (status, said)
+    assert os.listdir(host.mail) == ["alice@example.org"], os.listdir(host.mail)
+    return "a user whose name begins with a dot is passed over, and the next one is not"
+
+
+def drain_listings():
+    """Listings that don't fit each other, or a directory that lies elsewhere, move nothing."""
+    host = Host("alice")
+    host.deliver("--no-drain", "--to", "a@b", "alice")
+    for line in (". 2 INBOX", ". 1 Inbox", "../x 1 INBOX", ".. 1 INBOX", ".a/../../x 1 INBOX", "x 1 INBOX", " 1 INBOX", ". 1 INBOX\n.x 1 x"):
+        stand_in = host.program("stand-in", f'#!/bin/sh\ncase "$*" in *--maildir*) printf "%s\\n" "{line}" ;; *) exec "{host.sieved}" "$@" ;; esac\n')
+        status, _, said = host.call("sieved-drain", "alice", SIEVED=stand_in)
+        assert status == 75 and len(host.stored()) == 1 and not host.moved() and b"alice" in said, (line, status, said)
+        assert {"x", "subscriptions"}.isdisjoint(os.listdir(host.room)) and os.listdir(host.mail) in ([], ["alice"]), line
+    return "eight lines that can't be: 75, and the message stays in the store"
+
+
+def drain_killed():
+    trials.need("flock")
+    names = [f"f{n}" for n in range(12)]
+    host, messages = filled("INBOX", *names)
+    counts = collections.Counter()
+    began = time.time()
+    host.call("sieved-drain", "bob")
+    whole = 4 * (time.time() - began)
+    for _ in range(25):
+        process = host.start("sieved-drain", "alice")
+        process.stdin.close()
+        time.sleep(random.uniform(0, whole))
+        if process.poll() is None:
+            os.killpg(process.pid, signal.SIGKILL)
+        counts[process.wait()] += 1
+        process.stdout.close(), process.stderr.close()
+        there = {*host.stored(), *host.moved()}
+        assert there == {*messages.values()}, len(there)
+        file = f"{host.mail}/alice/subscriptions"
+        if os.path.exists(file):
+            with open(file) as found:
+                text = found.read()
+            assert re.fullmatch(r"V\t2\n\n(f\d+\n)+", text), text
+        if os.path.exists(f"{file}.lock"):
+            os.utime(f"{file}.lock", (1, 1))
+        if not host.stored():
+            break
+    assert counts[-9] > 3, counts
+    assert host.call("sieved-drain", "alice")[0] == 0 and not host.stored()
+    with open(f"{host.mail}/alice/subscriptions") as found:
+        assert sorted(found.read().split("\n")[2:-1]) == sorted(names)
+    return f"{counts[-9]} runs killed: each message is there, each folder subscribed once"
+
+
+def drain_full_disk():
+    trials.need("flock")
+    host, messages = filled("INBOX", *(f"f{n}" for n in range(40)))
+    with small_disk(host.mail, 100):
+        status, _, said = host.call("sieved-drain", "alice")
+        there = sorted(host.stored() + host.moved())
+        with open(f"{host.mail}/alice/subscriptions") as found:
+            lines = found.read().split("\n")
+        assert status == 75 and host.stored() and host.moved() and b"alice: f" in said, (status, said)
+        assert there == sorted(messages.values()), len(there)
+        assert lines[:2] == ["V\t2", ""] and lines[-1] == "" and all(re.fullmatch(r"f\d+", line) for line in lines[2:-1]), lines
+        moved = len(host.moved())
+    return f"{moved} of {len(messages)} moved, the others stay, and the script says which folder they are of"
+
+
+def drain_order():
+    """By the calls that strace records: a Maildir and all that it stands in are synced before its first message leaves the store."""
+    trials.need("strace", "flock")
+    host, messages = filled("INBOX", "lists")
+    shutil.rmtree(host.mail)
+    log = f"{host.room}/calls"
+    done = subprocess.run(["strace", "-f", "-y", "-e", "trace=fsync,fdatasync,write,pwrite64,rename,renameat,renameat2,execve", "-s", "200", "-o", log,
+                           f"{DOCS}/sieved-drain", "alice"], env=host.env, capture_output=True)
+    if done.returncode or not os.path.exists(log):
+        raise trials.LeftOut("no strace of another process") if b"PTRACE" in done.stderr else AssertionError(done)
+    with open(log, errors="replace") as file:
+        calls = file.read().split("\n")
+    home, seen = f"{host.mail}/alice", []
+    for folder in (home, f"{home}/.lists"):
+        moved = next(at for at, call in enumerate(calls) if "execve" in call and '"drain"' in call and f'"{folder.replace(home, home)}' in call
+                     and ('"lists"' in call) == folder.endswith(".lists"))
+        writes = next(at for at, call in enumerate(calls) if at > moved and "write" in call and "mail.db-wal>" in call)
+        synced = [re.search(r"fsync\(\d+<(.*)>\)", call) for call in calls[:moved]]
+        synced = {os.path.normpath(match[1]) for match in synced if match}
+        wanted = {folder, home, host.mail, host.room, *(f"{folder}/{part}" for part in ("tmp", "new", "cur"))}
+        assert wanted <= synced, wanted - synced
+        seen.append(writes)
+    return f"{len(wanted)} directories synced before each folder's first message leaves the store"
+
+
+# a full disk
+
+
+def reserve_makes_room():
+    """A full disk stops every word, and the file that OPERATING has made beside the store is the room that mends it."""
+    trials.need("flock")
+    with open(f"{DOCS}/OPERATING.md") as file:
+        page = file.read()
+    make, remove = re.search(r"sh -c '(head -c 64M .* > \S+/reserve)'", page)[1], re.search(r"\n    (rm \S+/reserve)\n", page)[1]
+    host = Host()
+    disk, room = f"{host.room}/disk", f"{host.room}/mail"
+    os.mkdir(disk)
+    ours = lambda line: line.replace("/var/lib/sieved", disk).replace("64M", "1M")
+    with small_disk(disk, 2_500):
+        host.file = host.env["SIEVED_DB"] = f"{disk}/mail.db"
+        host.run("init")
+        host.run("adduser", "--salt", os.urandom(16).hex(), "alice", "alice@example.org", data=b"secret\n")
+        subprocess.run(["sh", "-e", "-c", ours(make)], check=True)
+        count = 0
+        while host.deliver("--no-drain", "--to", "a@b", "alice", data=MAIL % b"%d" % count + b"x" * 20_000)[0] == 0:
+            count += 1
+        status, _, said = host.call("sieved-drain", "alice")
+        assert status == 75 and b"disk is full" in said and len(host.moved()) <= 1, (status, said)
+        subprocess.run(["sh", "-e", "-c", ours(remove)], check=True)
+        runs = next((run for run in range(1, 6) if host.call("sieved-drain", "alice")[0] == 0), None)
+        assert runs and len(host.moved()) >= count > 10, (runs, len(host.moved()), count)
+        assert host.deliver("--to", "a@b", "alice")[0] == 0
+        subprocess.run(["sh", "-e", "-c", ours(make)], check=True)
+    return f"after {count} deliveries the disk is full and no message leaves the store; without the reserve {runs} runs move all, and there is room again"
+
+
+# the scripts' text
+
+
+def shell_scripts():
+    """Each file of the repository that sh or bash is to run."""
+    found = []
+    for folder, folders, files in os.walk(TOP):
+        folders[:] = [name for name in folders if name not in ("out", ".git")]
+        for name in files:
+            with open(f"{folder}/{name}", "rb") as file:
+                if re.match(rb"#!\S*/(env )?(ba)?sh\b", file.readline()):
+                    found.append(file.name)
+    return sorted(found)
+
+
+def text_by_sh():
+    for file in shell_scripts():
+        for shell in [*filter(shutil.which, ("sh", "dash", "bash"))]:
+            done = subprocess.run([shell, "-n", file], capture_output=True)
+            assert done.returncode == 0 and not done.stderr, (shell, file, done.stderr)
+    return f"sh -n says nothing of {len(shell_scripts())} scripts"
+
+
+def text_by_shellcheck():
+    trials.need("shellcheck")
+    done = subprocess.run(["shellcheck", *shell_scripts()], capture_output=True)
+    assert not done.returncode, done.stdout.decode()
+    return f"shellcheck says nothing of {len(shell_scripts())} scripts"
+
+
+TRIALS = {trial.__name__: trial for trial in (
+    text_by_sh, text_by_shellcheck, deliver_statuses, deliver_faults, deliver_cut, deliver_killed, deliver_full_disk,
+    queue_addresses, queue_targets, queue_rows, drain_folders, drain_subscriptions, drain_users, drain_listings, drain_killed,
+    drain_full_disk, drain_order, reserve_makes_room)}
+
+if __name__ == "__main__":
+    trials.main(TRIALS, lambda program: PROGRAM.__setitem__(0, program))

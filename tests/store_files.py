@@ -1,0 +1,306 @@
+#!/usr/bin/env python3
+"""Tries the files of a store: who may read them, and what is told where the store can't be used, written or closed.
+
+  tests/store_files.py [--sieved SIEVED] [TRIAL ..]       SIEVED: the program, crates/sieved/out/sieved where none is named
+
+The trials: made, kept, traced, sessions, failing, full; without a word, all. Prints a line for each; the last one counts them, and the
+status is 1 where one failed. `tests/run` runs it. It needs python3 on Linux; `traced` and `failing` need strace, `full` the right to mount a tmpfs.
+"""
+import os, re, shutil, socket, sqlite3, stat, subprocess, sys, tempfile
+from contextlib import closing
+from managesieve import SIEVED
+
+UMASKS = [0o000, 0o022, 0o077]
+SALT = "000102030405060708090a0b0c0d0e0f"
+MAIL = b"Subject: hi\r\n\r\n" + b"x" * 1000 + b"\r\n"
+PUT_OFF = b'NO (TRYLATER) "Try later."\r\n'
+# A login that fails: it asks the store.
+ASKING = b'AUTHENTICATE "PLAIN" "AGFsaWNlAHg="\r\n'
+ANSWERED = b'NO "Authentication failed."\r\n'
+FAILED = b"sieved: store failed\n"
+FULL = FAILED + b"sieved: disk is full: remove the reserve file beside the store\n"
+
+
+class LeftOut(Exception):
+    """What a trial needs isn't there."""
+
+
+class Place:
+    """A directory for the store `mail.db`, and the program."""
+
+    def __init__(self, folder):
+        self.folder, self.db = folder, f"{folder}/mail.db"
+
+    def run(self, word, *words, given=b"", umask=0o022, before=(), **how):
+        """Runs a word on the store: its status, and what it printed on either stream."""
+        command = [*before, PROGRAM, word, "--db", self.db, *words]
+        done = subprocess.run(command, input=given, capture_output=True, umask=umask, timeout=120, **how)
+        return done.returncode, done.stdout, done.stderr
+
+    def done(self, *words, **how):
+        """The same, of a word that does what it says and tells nothing."""
+        status, said, told = self.run(*words, **how)
+        assert (status, told) == (0, b""), (words, status, said, told)
+        return said
+
+    def deliver(self, **how):
+        return self.run("deliver", "--to", "alice@example.org", "alice", given=MAIL, **how)
+
+    def make(self, **how):
+        """A store with the account alice."""
+        self.done("init", **how)
+        self.done("adduser", "--salt", SALT, "alice", "alice@example.org", given=b"secret\n", **how)
+        return self
+
+    def count(self):
+        """How many messages alice has."""
+        said = self.done("folders", "alice")
+        return int(said.split()[1]) if said else 0
+
+    def modes(self):
+        """The permissions of each file."""
+        return {name: stat.S_IMODE(os.stat(f"{self.folder}/{name}").st_mode) for name in sorted(os.listdir(self.folder))}
+
+
+def all_have(mode):
+    return dict.fromkeys(["mail.db", "mail.db-wal", "mail.db.lock"], mode)
+
+
+def made(new):
+    for umask in UMASKS:
+        place = new()
+        place.done("init", umask=umask)
+        assert place.modes() == all_have(0o600), (umask, place.modes())
+        place.done("adduser", "--salt", SALT, "alice", "alice@example.org", given=b"secret\n", umask=umask)
+        assert place.deliver(umask=umask)[0] == 0
+        place.done("session", given=ASKING, umask=umask)
+        os.remove(f"{place.db}.lock")
+        place.done("folders", "alice", umask=umask)
+        assert place.modes() == all_have(0o600), (umask, place.modes())
+    absent = new()
+    assert absent.run("folders", "alice", umask=0)[0] == 65
+    assert absent.modes() == {"mail.db.lock": 0o600}, absent.modes()
+    return f"store, log and lock are 0600 under the umasks {', '.join('%03o' % umask for umask in UMASKS)}"
+
+
+def kept(new):
+    for umask in UMASKS:
+        place = new().make()
+        for name in place.modes():
+            os.chmod(f"{place.folder}/{name}", 0o640)
+        assert place.deliver(umask=umask)[0] == 0
+        place.done("session", given=ASKING, umask=umask)
+        assert place.modes() == all_have(0o640), (umask, place.modes())
+        empty = new()
+        open(empty.db, "w").close()
+        os.chmod(empty.db, 0o640)
+        empty.make(umask=umask)
+        assert empty.modes() == {"mail.db": 0o640, "mail.db-wal": 0o640, "mail.db.lock": 0o600}, (umask, empty.modes())
+    return "files that are there keep 0640; the log of a store with 0640 is made so"
+
+
+def traced(new):
+    calls = 0
+    for group in False, True:
+        place = new()
+        if group:
+            open(place.db, "w").close()
+            os.chmod(place.db, 0o640)
+        for words, given in (["init"], b""), (["adduser", "--salt", SALT, "alice", "alice@example.org"], b"secret\n"), (["deliver", "--to", "a@b", "alice"], MAIL):
+            out = f"{place.folder}.trace"
+            tracer = [strace(), "-f", "-y", "-o", out, "-e", "trace=open,openat,creat,fchmod,chmod,fchmodat,write,pwrite64,ftruncate"]
+            place.done(*words, given=given, umask=0, before=tracer)
+            calls += in_order(place, open(out).read().splitlines(), 0o640 if group else 0o600)
+    return f"no file is open to others before the store is, in {calls} calls"
+
+
+def in_order(place, lines, mode):
+    """Files are made 0600 and, where the store is for others too, the log is made so before it is written."""
+    written = set()
+    for line in lines:
+        if "O_CREAT" in line and place.folder in line and " = -1 EEXIST " not in line:
+            assert re.search(r", 0600\) = ", line), line
+        changed = re.search(r"chmod(?:at)?\(.*<(.*?)>.*, (0\d+)\)", line)
+        if changed and changed[1].startswith(place.folder):
+            assert int(changed[2], 8) == mode and changed[1] not in written, line
+        put = re.search(r"(?:write|pwrite64)\(\d+<(.*?)>", line)
+        if put and put[1].startswith(place.folder):
+            written.add(put[1])
+    assert written, lines
+    return len(lines)
+
+
+def sessions(new):
+    kinds = {"absent": absent, "a text": text, "a directory": directory, "of another program": foreign, "of version 3": version, "of another user": unreadable}
+    for kind, make in kinds.items():
+        place = new()
+        how = make(place) or {}
+        status, _, told = place.run("folders", "alice", **how)
+        assert status in (65, 75) and told.startswith(b"sieved: "), (kind, status, told)
+        for talk in over_session, over_serve:
+            said, heard = talk(place, **how)
+            assert said.count(PUT_OFF) == 2 and ANSWERED not in said, (kind, said)
+            assert heard == told, (kind, heard, told)
+    place = new().make()
+    for talk in over_session, over_serve:
+        said, heard = talk(place)
+        assert said.count(ANSWERED) == 2 and heard == b"", (said, heard)
+    return f"two logins are put off, and told once as `folders` tells it, of a store that is {', '.join(kinds)}; of a good one nothing is told"
+
+
+def absent(place):
+    pass
+
+
+def text(place):
+    with open(place.db, "w") as file:
+        file.write("no database " * 100)
+
+
+def directory(place):
+    os.mkdir(place.db)
+
+
+def foreign(place):
+    with closing(sqlite3.connect(place.db)) as db, db:
+        db.execute("CREATE TABLE meta (x INTEGER)")
+
+
+def version(place):
+    place.make()
+    with closing(sqlite3.connect(place.db)) as db, db:
+        assert db.execute("UPDATE meta SET value = 3").rowcount == 1
+
+
+def unreadable(place):
+    place.make()
+    os.chmod(place.folder, 0o755)
+    if os.geteuid() == 0:
+        return {"user": 65534, "group": 65534, "extra_groups": []}
+    for name in os.listdir(place.folder):
+        os.chmod(f"{place.folder}/{name}", 0)
+
+
+def over_session(place, **how):
+    status, said, told = place.run("session", given=2 * ASKING, **how)
+    assert status == 0, (status, said, told)
+    return said, told
+
+
+def over_serve(place, **how):
+    command = [PROGRAM, "serve", "--db", place.db, "--port", "0", "--sessions", "1"]
+    with subprocess.Popen(command, stdout=subprocess.PIPE, stderr=subprocess.PIPE, **how) as server:
+        port = int(server.stdout.readline().rsplit(b":", 1)[1])
+        with socket.create_connection(("127.0.0.1", port), timeout=60) as client:
+            client.sendall(2 * ASKING)
+            client.shutdown(socket.SHUT_WR)
+            said = b"".join(iter(lambda: client.recv(65_536), b""))
+        told = server.communicate(timeout=60)[1]
+        assert server.returncode == 0, (server.returncode, told)
+        return said, told
+
+
+def failing(new):
+    """Each call on the store's files fails from some number on: with status 0 the message is there, once, and with 75 it is so or isn't."""
+    base = new().make()
+    assert base.deliver()[0] == 0
+    unclosed = retried = 0
+    for call in "pwrite64", "fdatasync", "ftruncate":
+        for number in range(1, 100):
+            place = new()
+            shutil.copytree(base.folder, place.folder, dirs_exist_ok=True)
+            tracer = [strace(), "-f", "-qq", "-o", "/dev/null", "-e", f"trace={call}", "-e", f"inject={call}:error=EIO:when={number}+"]
+            status, said, told = place.deliver(before=tracer)
+            found = place.count()
+            if status == 0:
+                assert (said, found) == (b"file INBOX\n", 2), (call, number, said, told, found)
+                unclosed += told != b""
+            else:
+                assert (status, said) == (75, b"") and found in (1, 2), (call, number, status, said, told, found)
+                retried += 1
+            assert told == b"" or told.startswith(FAILED) and told.count(FAILED) == 1, (call, number, told)
+            if not told:
+                break
+        assert not told, f"{call} still fails after {number} calls"
+    assert unclosed and retried, (unclosed, retried)
+    return f"of {unclosed + retried} deliveries over a disk that fails {retried} are to be tried again; {unclosed} couldn't close the store, are told so and stand once"
+
+
+def full(new):
+    place = new()
+    if os.geteuid() != 0 or subprocess.run(["mount", "-t", "tmpfs", "-o", "size=2m", "tmpfs", place.folder], stderr=subprocess.DEVNULL).returncode:
+        raise LeftOut("the right to mount a tmpfs")
+    try:
+        return filled(place)
+    finally:
+        subprocess.run(["umount", place.folder], check=True)
+
+
+def filled(place):
+    reserve = f"{place.folder}/reserve"
+    with open(reserve, "wb") as file:
+        file.write(b"\0" * 1_048_576)
+    place.make()
+    count = 0
+    while (ran := place.deliver())[0] == 0:
+        count += 1
+    # What a word wants of a disk is SQLite's to say, some 300 kB at most: once nothing is left none is delivered.
+    with open(f"{place.folder}/rest", "wb", buffering=0) as file:
+        while True:
+            try:
+                file.write(b"\0" * 4096)
+            except OSError:
+                break
+    assert ran[0] == 75 and ran[2] == FULL, ran
+    assert place.deliver() == (75, b"", FULL), place.deliver()
+    os.remove(reserve)
+    assert place.deliver()[0] == 0
+    found = place.count()
+    assert found == count + 1, (found, count)
+    return f"a disk that is full after {count} deliveries is told, with what helps; without the reserve file the next one is delivered"
+
+
+def strace():
+    path = shutil.which("strace")
+    if path is None:
+        raise LeftOut("strace")
+    return path
+
+
+TRIALS = [made, kept, traced, sessions, failing, full]
+
+
+def tried(trial):
+    """Whether a trial passed; None where it was left out."""
+    with tempfile.TemporaryDirectory(prefix="sieved-files-") as top:
+        os.chmod(top, 0o755)
+
+        def new():
+            return Place(tempfile.mkdtemp(dir=top))
+
+        try:
+            print(f"{trial.__name__}: {trial(new)}", flush=True)
+            return True
+        except LeftOut as error:
+            print(f"left out: store_files.py {trial.__name__}, no {error}", flush=True)
+            return None
+        except Exception as error:
+            print(f"{trial.__name__}: FAILED, {type(error).__name__}: {error}", flush=True)
+            return False
+
+
+def main(words):
+    global PROGRAM
+    PROGRAM = SIEVED
+    if words[:1] == ["--sieved"]:
+        PROGRAM, words = os.path.abspath(words[1]), words[2:]
+    named = {trial.__name__: trial for trial in TRIALS}
+    if not set(words) <= set(named):
+        sys.exit(__doc__)
+    results = [tried(named[word]) for word in words or named]
+    print(f"{results.count(True)} passed, {results.count(False)} failed, {results.count(None)} left out")
+    return 1 if False in results else 0
+
+
+if __name__ == "__main__":
+    sys.exit(main(sys.argv[1:]))
