@@ -18,7 +18,7 @@ use Rattle.sessions.specs.Replies.{capabilities}
 use Rattle.msproto.specs.Machine.{rows}
 use Rattle.msproto.specs.Replies.{spelled}
 use Rattle.sievedrun.specs.declared.fault.Fault.{Fault}
-use Rattle.sievedrun.specs.Serving.{Round, IsRound, Leads, came_in, said_in, largest_piece, Tells, BeginsWith, Passes, Answered, Interrupted, AnswersFirst, AnswersAll, StepsOn, Served, BreaksOff}
+use Rattle.sievedrun.specs.Serving.{Round, IsRound, Leads, came_in, said_in, largest_piece, BeginsWith, Passes, Answered, Writes, Interrupted, WritesFirst, WritesAll, StepsOn, Served, BreaksOff}
 use Rattle.sievedrun.specs.Streams.{AppendsFront}
 use Rattle.sievedrun.proofs.StreamLemmas.{nothing_read, nothing_written, read_on, written_on}
 
@@ -52,7 +52,7 @@ passes_none accounts c new shown = record { later = accounts; leads = (refl, ref
 pub passes_one : (accounts : Accounts) (c : Client) (r : Round) (new : Database) → IsRound accounts c r → Presents new r.accounts → Passes accounts c (r ∷ []) r.client new
 passes_one accounts c r new round shown = record { later = r.accounts; leads = (round, (refl, refl)); shown = shown }
 
--- ---- what is written, and what waits
+-- ---- what is written
 
 -- a front of a text after all of another
 pub front_on : (a b c : Option (List ℕ)) (first text : List ℕ) → Appends a b first → AppendsFront b c text → AppendsFront a c (first ++ text)
@@ -62,162 +62,122 @@ front_on a b c first text before more = (length first + more.0, subst (Appends a
 pub front_all : (a b : Option (List ℕ)) (first text : List ℕ) → Appends a b first → AppendsFront a b (first ++ text)
 front_all a b first text before = (length first, subst (Appends a b) (sym (take-append_seam first text)) before)
 
-pub tells_on : (a b c : Option (List ℕ)) (one two three text more : List ℕ) → Tells a one b two text → Tells b two c three more → Tells a one c three (text ++ more)
-tells_on a b c one two three text more first second = record {
-  written = first.written ++ second.written;
-  appends = written_on a b c first.written second.written first.appends second.appends;
-  whole = append_assoc first.written second.written three ∙ ap (λ l. first.written ++ l) second.whole ∙ sym (append_assoc first.written two more) ∙ ap (λ l. l ++ more) first.whole ∙ append_assoc one text more;
-}
+-- rounds in turn: all that came, and all that was said
+came_on : (rounds more : List Round) → came_in rounds ≡ [] → came_in more ≡ [] → came_in (rounds ++ more) ≡ []
+came_on rounds more first second = flat_map-append (λ (r : Round). r.came) rounds more ∙ ap (λ l. l ++ came_in more) first ∙ second
 
--- a write that failed after what was told: a front of it all is written
-pub tells_front : (a b c : Option (List ℕ)) (one two text more : List ℕ) → Tells a one b two text → AppendsFront b c (two ++ more) → AppendsFront a c (one ++ (text ++ more))
-tells_front a b c one two text more first front =
-    subst (AppendsFront a c) (sym (append_assoc first.written two more) ∙ ap (λ l. l ++ more) first.whole ∙ append_assoc one text more) (front_on a b c first.written (two ++ more) first.appends front)
+said_on : (rounds more : List Round) → said_in (rounds ++ more) ≡ said_in rounds ++ said_in more
+said_on rounds more = flat_map-append (λ (r : Round). r.said) rounds more
 
--- ---- what was answered
+-- ---- what was answered, and waits
 
-pub answered_none : (accounts : Accounts) (c : Client) (out : Option (List ℕ)) (waits : List ℕ) (new : Database) → Presents new accounts → Answered accounts c out waits out waits c new
-answered_none accounts c out waits new shown = record {
-  rounds = [];
-  passes = passes_none accounts c new shown;
-  none = refl;
-  told = record { written = []; appends = nothing_written out; whole = sym (append-nil waits) };
-}
+pub answered_none : (accounts : Accounts) (c : Client) (waits : List ℕ) (new : Database) → Presents new accounts → Answered accounts c waits waits c new
+answered_none accounts c waits new shown = record { rounds = []; passes = passes_none accounts c new shown; none = refl; joins = sym (append-nil waits) }
 
-pub answered_on : (accounts : Accounts) (c m d : Client) (out out2 out3 : Option (List ℕ)) (waits waits2 waits3 : List ℕ) (mid new : Database) → Answered accounts c out waits out2 waits2 m mid
-    → ((a : Accounts) → Presents mid a → Answered a m out2 waits2 out3 waits3 d new) → Answered accounts c out waits out3 waits3 d new
-answered_on accounts c m d out out2 out3 waits waits2 waits3 mid new first then =
+pub answered_on : (accounts : Accounts) (c m d : Client) (waits waits2 waits3 : List ℕ) (mid new : Database) → Answered accounts c waits waits2 m mid
+    → ((a : Accounts) → Presents mid a → Answered a m waits2 waits3 d new) → Answered accounts c waits waits3 d new
+answered_on accounts c m d waits waits2 waits3 mid new first then =
     let second = then first.passes.later first.passes.shown in
     record {
       rounds = first.rounds ++ second.rounds;
       passes = passes_on accounts c m d first.rounds second.rounds mid new first.passes second.passes;
-      none = flat_map-append (λ (r : Round). r.came) first.rounds second.rounds ∙ ap (λ l. l ++ came_in second.rounds) first.none ∙ second.none;
-      told = subst (Tells out waits out3 waits3) (sym (flat_map-append (λ (r : Round). r.said) first.rounds second.rounds)) (tells_on out out2 out3 waits waits2 waits3 (said_in first.rounds) (said_in second.rounds) first.told second.told);
+      none = came_on first.rounds second.rounds first.none second.none;
+      joins = second.joins ∙ ap (λ l. l ++ said_in second.rounds) first.joins ∙ append_assoc waits (said_in first.rounds) (said_in second.rounds) ∙ ap (λ l. waits ++ l) (sym (said_on first.rounds second.rounds));
     }
 
-pub interrupted_on : (accounts : Accounts) (c m : Client) (out out2 out3 : Option (List ℕ)) (waits waits2 : List ℕ) (mid new : Database) → Answered accounts c out waits out2 waits2 m mid
-    → ((a : Accounts) → Presents mid a → Interrupted a m out2 waits2 out3 new) → Interrupted accounts c out waits out3 new
-interrupted_on accounts c m out out2 out3 waits waits2 mid new first then =
-    let second = then first.passes.later first.passes.shown in
-    record {
-      rounds = first.rounds ++ second.rounds;
-      client = second.client;
-      passes = passes_on accounts c m second.client first.rounds second.rounds mid new first.passes second.passes;
-      none = flat_map-append (λ (r : Round). r.came) first.rounds second.rounds ∙ ap (λ l. l ++ came_in second.rounds) first.none ∙ second.none;
-      written = subst (λ l. AppendsFront out out3 (waits ++ l)) (sym (flat_map-append (λ (r : Round). r.said) first.rounds second.rounds)) (tells_front out out2 out3 waits waits2 (said_in first.rounds) (said_in second.rounds) first.told second.written);
-    }
-
--- no round came, and a front of what waited is written
-pub interrupted_none : (accounts : Accounts) (c : Client) (out out2 : Option (List ℕ)) (waits : List ℕ) (new : Database) → Presents new accounts → AppendsFront out out2 waits → Interrupted accounts c out waits out2 new
-interrupted_none accounts c out out2 waits new shown front = record {
-  rounds = [];
-  client = c;
-  passes = passes_none accounts c new shown;
-  none = refl;
-  written = subst (AppendsFront out out2) (sym (append-nil waits)) front;
-}
-
--- what was answered counts as interrupted, where no more is written
-pub interrupted_so : (accounts : Accounts) (c d : Client) (out out2 : Option (List ℕ)) (waits waits2 : List ℕ) (new : Database) → Answered accounts c out waits out2 waits2 d new → Interrupted accounts c out waits out2 new
-interrupted_so accounts c d out out2 waits waits2 new a = record {
-  rounds = a.rounds;
-  client = d;
-  passes = a.passes;
-  none = a.none;
-  written = subst (AppendsFront out out2) a.told.whole (front_all out out2 a.told.written waits2 a.told.appends);
-}
-
--- ---- what comes first
-
--- a step answers it
-pub first_stepped : (accounts : Accounts) (c d : Client) (out : Option (List ℕ)) (waits waits2 : List ℕ) (new : Database) → is_ready c ≡ true → StepsOn accounts c waits waits2 d new true → Answered accounts c out waits out waits2 d new
-first_stepped accounts c d out waits waits2 new ready step =
+-- a step answers what comes first
+pub first_stepped : (accounts : Accounts) (c d : Client) (waits waits2 : List ℕ) (new : Database) → is_ready c ≡ true → StepsOn accounts c waits waits2 d new true → Answered accounts c waits waits2 d new
+first_stepped accounts c d waits waits2 new ready step =
     let r : Round = record { came = []; said = step.1; accounts = step.2; client = d } in
     record {
       rounds = r ∷ [];
       passes = passes_one accounts c r new (inr (inl (record { ready = ready; none = refl; progress = step.0; step = step.4 }))) step.5;
       none = refl;
-      told = record { written = []; appends = nothing_written out; whole = step.3 ∙ ap (λ l. waits ++ l) (sym (append-nil step.1)) };
+      joins = step.3 ∙ ap (λ l. waits ++ l) (sym (append-nil step.1));
     }
 
--- a step answers it, and the answers are written, or that fails
-pub first_written : (accounts : Accounts) (c d : Client) (out out2 : Option (List ℕ)) (waits waits2 waits3 : List ℕ) (new : Database) → Answered accounts c out waits out waits2 d new
-    → (r : Result (Unit {0}) Fault) → OnOk r (Appends out out2 waits2 × (waits3 ≡ [])) → OnErr r (AppendsFront out out2 waits2) → AnswersFirst accounts c out waits out2 waits3 d new r
-first_written accounts c d out out2 waits waits2 waits3 new a (Ok done) whole broken =
-    let rest : Tells out waits2 out2 waits3 [] = record { written = waits2; appends = whole.0; whole = ap (λ l. waits2 ++ l) whole.1 } in
+-- or nothing changed
+pub step_answers : (accounts : Accounts) (c d : Client) (waits waits2 : List ℕ) (new : Database) (made : Bool) → is_ready c ≡ true → StepsOn accounts c waits waits2 d new made → Answered accounts c waits waits2 d new
+step_answers accounts c d waits waits2 new true ready step = first_stepped accounts c d waits waits2 new ready step
+step_answers accounts c d waits waits2 new false ready (same, silent, shown) =
+    subst (λ x. Answered accounts c waits waits2 x new) (sym same) (subst (λ w. Answered accounts c waits w c new) (sym silent) (answered_none accounts c waits new shown))
+
+-- ---- what was answered and written
+
+pub writes_none : (accounts : Accounts) (c : Client) (out : Option (List ℕ)) (new : Database) → Presents new accounts → Writes accounts c out out c new
+writes_none accounts c out new shown = record { rounds = []; passes = passes_none accounts c new shown; none = refl; written = nothing_written out }
+
+pub writes_on : (accounts : Accounts) (c m d : Client) (out out2 out3 : Option (List ℕ)) (mid new : Database) → Writes accounts c out out2 m mid
+    → ((a : Accounts) → Presents mid a → Writes a m out2 out3 d new) → Writes accounts c out out3 d new
+writes_on accounts c m d out out2 out3 mid new first then =
+    let second = then first.passes.later first.passes.shown in
     record {
-      rounds = a.rounds;
-      passes = a.passes;
-      none = a.none;
-      told = subst (Tells out waits out2 waits3) (append-nil (said_in a.rounds)) (tells_on out out out2 waits waits2 waits3 (said_in a.rounds) [] a.told rest);
+      rounds = first.rounds ++ second.rounds;
+      passes = passes_on accounts c m d first.rounds second.rounds mid new first.passes second.passes;
+      none = came_on first.rounds second.rounds first.none second.none;
+      written = subst (Appends out out3) (sym (said_on first.rounds second.rounds)) (written_on out out2 out3 (said_in first.rounds) (said_in second.rounds) first.written second.written);
     }
-first_written accounts c d out out2 waits waits2 waits3 new a (Err fault) whole broken = record {
+
+pub interrupted_on : (accounts : Accounts) (c m : Client) (out out2 out3 : Option (List ℕ)) (mid new : Database) → Writes accounts c out out2 m mid
+    → ((a : Accounts) → Presents mid a → Interrupted a m out2 out3 new) → Interrupted accounts c out out3 new
+interrupted_on accounts c m out out2 out3 mid new first then =
+    let second = then first.passes.later first.passes.shown in
+    record {
+      rounds = first.rounds ++ second.rounds;
+      client = second.client;
+      passes = passes_on accounts c m second.client first.rounds second.rounds mid new first.passes second.passes;
+      none = came_on first.rounds second.rounds first.none second.none;
+      written = subst (AppendsFront out out3) (sym (said_on first.rounds second.rounds)) (front_on out out2 out3 (said_in first.rounds) (said_in second.rounds) first.written second.written);
+    }
+
+-- what was written counts as interrupted, where no more is
+pub interrupted_so : (accounts : Accounts) (c d : Client) (out out2 : Option (List ℕ)) (new : Database) → Writes accounts c out out2 d new → Interrupted accounts c out out2 new
+interrupted_so accounts c d out out2 new a = record {
   rounds = a.rounds;
   client = d;
   passes = a.passes;
   none = a.none;
-  written = subst (λ l. AppendsFront out out2 (waits ++ l)) (append-nil (said_in a.rounds)) (tells_front out out out2 waits waits2 (said_in a.rounds) [] a.told (subst (AppendsFront out out2) (sym (append-nil waits2)) broken));
+  written = subst (AppendsFront out out2) (append-nil (said_in a.rounds)) (front_all out out2 (said_in a.rounds) [] a.written);
 }
 
--- it is given up, after what waited, or that can't be written
-pub first_given_up : (accounts : Accounts) (c d : Client) (out out2 out3 : Option (List ℕ)) (waits waits2 text : List ℕ) (new : Database) → is_ready c ≡ true → Presents new accounts → text ≡ text_given_up c → d ≡ client_given_up c
-    → Appends out out2 waits → waits2 ≡ [] → (r : Result (Unit {0}) Fault) → OnOk r (Appends out2 out3 text) → OnErr r (AppendsFront out2 out3 text) → AnswersFirst accounts c out waits out3 waits2 d new r
-first_given_up accounts c d out out2 out3 waits waits2 text new ready shown told drops before empty (Ok done) after broken =
+-- ---- what comes first
+
+-- the answers are written, or that fails
+pub first_written : (accounts : Accounts) (c d : Client) (out out2 : Option (List ℕ)) (waits : List ℕ) (new : Database) → Answered accounts c [] waits d new
+    → (r : Result (Unit {0}) Fault) → OnOk r (Appends out out2 waits) → OnErr r (AppendsFront out out2 waits) → WritesFirst accounts c out out2 d new r
+first_written accounts c d out out2 waits new a (Ok done) whole broken = record { rounds = a.rounds; passes = a.passes; none = a.none; written = subst (Appends out out2) a.joins whole }
+first_written accounts c d out out2 waits new a (Err fault) whole broken = record { rounds = a.rounds; client = d; passes = a.passes; none = a.none; written = subst (AppendsFront out out2) a.joins broken }
+
+-- it is given up, or that can't be written
+pub first_given_up : (accounts : Accounts) (c d : Client) (out out2 : Option (List ℕ)) (text : List ℕ) (new : Database) → is_ready c ≡ true → Presents new accounts → text ≡ text_given_up c → d ≡ client_given_up c
+    → (r : Result (Unit {0}) Fault) → OnOk r (Appends out out2 text) → OnErr r (AppendsFront out out2 text) → WritesFirst accounts c out out2 d new r
+first_given_up accounts c d out out2 text new ready shown told drops (Ok done) whole broken =
     let r : Round = record { came = []; said = text; accounts = accounts; client = d } in
     record {
       rounds = r ∷ [];
       passes = passes_one accounts c r new (inr (inr (record { ready = ready; none = refl; told = told; drops = drops; same = refl }))) shown;
       none = refl;
-      told = record { written = waits ++ text; appends = written_on out out2 out3 waits text before after; whole = ap (λ l. (waits ++ text) ++ l) empty ∙ append-nil (waits ++ text) ∙ ap (λ l. waits ++ l) (sym (append-nil text)) };
+      written = subst (Appends out out2) (sym (append-nil text)) whole;
     }
-first_given_up accounts c d out out2 out3 waits waits2 text new ready shown told drops before empty (Err fault) after broken =
+first_given_up accounts c d out out2 text new ready shown told drops (Err fault) whole broken =
     let r : Round = record { came = []; said = text; accounts = accounts; client = d } in
     record {
       rounds = r ∷ [];
       client = d;
       passes = passes_one accounts c r new (inr (inr (record { ready = ready; none = refl; told = told; drops = drops; same = refl }))) shown;
       none = refl;
-      written = subst (λ l. AppendsFront out out3 (waits ++ l)) (sym (append-nil text)) (front_on out out2 out3 waits text before broken);
+      written = subst (AppendsFront out out2) (sym (append-nil text)) broken;
     }
 
 -- what comes first is answered, or breaks off, after what was answered
-pub first_on : (accounts : Accounts) (c m d : Client) (out out2 out3 : Option (List ℕ)) (waits waits2 waits3 : List ℕ) (mid new : Database) → Answered accounts c out waits out2 waits2 m mid
-    → (r : Result (Unit {0}) Fault) → ((a : Accounts) → Presents mid a → AnswersFirst a m out2 waits2 out3 waits3 d new r) → AnswersFirst accounts c out waits out3 waits3 d new r
-first_on accounts c m d out out2 out3 waits waits2 waits3 mid new first (Ok done) then = answered_on accounts c m d out out2 out3 waits waits2 waits3 mid new first then
-first_on accounts c m d out out2 out3 waits waits2 waits3 mid new first (Err fault) then = interrupted_on accounts c m out out2 out3 waits waits2 mid new first then
-
--- a step answers it, or nothing changed
-pub step_answers : (accounts : Accounts) (c d : Client) (out : Option (List ℕ)) (waits waits2 : List ℕ) (new : Database) (made : Bool) → is_ready c ≡ true → StepsOn accounts c waits waits2 d new made → Answered accounts c out waits out waits2 d new
-step_answers accounts c d out waits waits2 new true ready step = first_stepped accounts c d out waits waits2 new ready step
-step_answers accounts c d out waits waits2 new false ready (same, silent, shown) =
-    subst (λ x. Answered accounts c out waits out waits2 x new) (sym same) (subst (λ w. Answered accounts c out waits out w c new) (sym silent) (answered_none accounts c out waits new shown))
+pub first_on : (accounts : Accounts) (c m d : Client) (out out2 out3 : Option (List ℕ)) (mid new : Database) → Writes accounts c out out2 m mid
+    → (r : Result (Unit {0}) Fault) → ((a : Accounts) → Presents mid a → WritesFirst a m out2 out3 d new r) → WritesFirst accounts c out out3 d new r
+first_on accounts c m d out out2 out3 mid new first (Ok done) then = writes_on accounts c m d out out2 out3 mid new first then
+first_on accounts c m d out out2 out3 mid new first (Err fault) then = interrupted_on accounts c m out out2 out3 mid new first then
 
 -- a step that asks no store answers it
 pub free_stepped : (c d : Client) (progress : Progress) (waits waits2 : List ℕ) (new : Database) → StepsOver c d progress waits waits2 → (accounts : Accounts) → Presents new accounts → StepsOn accounts c waits waits2 d new true
 free_stepped c d progress waits waits2 new over accounts shown = (progress, over.octets, accounts, over.written, over.step accounts, shown)
-
--- ---- all that is whole
-
--- what waits is written, or that fails
-pub all_written : (accounts : Accounts) (c d : Client) (out out2 out3 : Option (List ℕ)) (waits : List ℕ) (new : Database) → Answered accounts c out [] out2 waits d new → is_ready d ≡ false
-    → (r : Result (Unit {0}) Fault) → OnOk r (Appends out2 out3 waits) → OnErr r (AppendsFront out2 out3 waits) → AnswersAll accounts c out out3 d new r
-all_written accounts c d out out2 out3 waits new a idle (Ok done) whole broken =
-    let rest : Tells out2 waits out3 [] [] = record { written = waits; appends = whole; whole = refl } in (
-      record {
-        rounds = a.rounds;
-        passes = a.passes;
-        none = a.none;
-        told = subst (Tells out [] out3 []) (append-nil (said_in a.rounds)) (tells_on out out2 out3 [] waits [] (said_in a.rounds) [] a.told rest);
-      },
-      idle,
-    )
-all_written accounts c d out out2 out3 waits new a idle (Err fault) whole broken = record {
-  rounds = a.rounds;
-  client = d;
-  passes = a.passes;
-  none = a.none;
-  written = subst (AppendsFront out out3) (append-nil (said_in a.rounds)) (tells_front out out2 out3 [] waits (said_in a.rounds) [] a.told (subst (AppendsFront out2 out3) (sym (append-nil waits)) broken));
-}
 
 -- what was taken off a reader stood first
 pub begins_with : (old new : Option (List ℕ)) (text : List ℕ) → Consumes old new text → BeginsWith old text
@@ -290,20 +250,18 @@ module _ (accounts : Accounts) (in_old in_mid in_new out out2 out3 : Option (Lis
       let inner = flat_map-append (λ (r : Round). r.said) s.rounds (heard ∷ []) in
       append_assoc (spelled (capabilities None)) (said_in s.rounds) (said_in more) ∙ ap (λ l. spelled (capabilities None) ++ l) (sym (outer ∙ ap (λ l. l ++ said_in more) (inner ∙ append-nil (said_in s.rounds))))
 
-  pub served_on : ((a : Accounts) → Presents mid a → Answered a m out2 [] out3 [] d new × (is_ready d ≡ false)) → Served accounts in_old in_new out out3 d new
+  pub served_on : ((a : Accounts) → Presents mid a → Writes a m out2 out3 d new × (is_ready d ≡ false)) → Served accounts in_old in_new out out3 d new
   served_on then =
       let (more, idle) = then came.later came.shown in
-      let all = more.told.whole in
-      let told : Appends out2 out3 (said_in more.rounds) = subst (Appends out2 out3) (sym (append-nil more.told.written) ∙ all) more.told.appends in
       record {
         rounds = (s.rounds ++ heard ∷ []) ++ more.rounds;
         passes = passes_on accounts new_client m d (s.rounds ++ heard ∷ []) more.rounds mid new came more.passes;
         read = subst (Consumes in_old in_new) (came_with more.rounds more.none) (read_on in_old in_mid in_new (came_in s.rounds) piece s.read took);
-        written = subst (Appends out out3) (said_with more.rounds) (written_on out out2 out3 (spelled (capabilities None) ++ said_in s.rounds) (said_in more.rounds) s.written told);
+        written = subst (Appends out out3) (said_with more.rounds) (written_on out out2 out3 (spelled (capabilities None) ++ said_in s.rounds) (said_in more.rounds) s.written more.written);
         answered = idle;
       }
 
-  pub broken_on : ((a : Accounts) → Presents mid a → Interrupted a m out2 [] out3 new) → BreaksOff accounts in_old out out3 new
+  pub broken_on : ((a : Accounts) → Presents mid a → Interrupted a m out2 out3 new) → BreaksOff accounts in_old out out3 new
   broken_on then =
       let more = then came.later came.shown in
       record {

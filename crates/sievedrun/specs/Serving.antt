@@ -64,12 +64,6 @@ came_in rounds = flat_map (λ r. r.came) rounds
 abbrev pub said_in : List Round → List ℕ
 said_in rounds = flat_map (λ r. r.said) rounds
 
--- what is written, and after it what waits to be written, grew by a text
-pub record Tells (old : Option (List ℕ)) (waited : List ℕ) (new : Option (List ℕ)) (waits : List ℕ) (text : List ℕ) : Type 0 where
-  pub written : List ℕ
-  pub appends : Appends old new written
-  pub whole : written ++ waits ≡ waited ++ text
-
 -- the octets that a reader had left begin with these
 abbrev pub BeginsWith : Option (List ℕ) → List ℕ → Type 0
 BeginsWith None text = Unit {0}
@@ -81,30 +75,37 @@ pub record Passes (accounts : Accounts) (c : Client) (rounds : List Round) (d : 
   pub leads : Leads accounts c rounds later d
   pub shown : Presents new later
 
--- rounds in which nothing came led here: what waits to be written grew by what was said, or was written
-pub record Answered (accounts : Accounts) (c : Client) (out_old : Option (List ℕ)) (waited : List ℕ) (out_new : Option (List ℕ)) (waits : List ℕ) (d : Client) (new : Database) : Type 0 where
+-- rounds in which nothing came led here: what waits to be written grew by what was said
+pub record Answered (accounts : Accounts) (c : Client) (waited waits : List ℕ) (d : Client) (new : Database) : Type 0 where
   pub rounds : List Round
   pub passes : Passes accounts c rounds d new
   pub none : came_in rounds ≡ []
-  pub told : Tells out_old waited out_new waits (said_in rounds)
+  pub joins : waits ≡ waited ++ said_in rounds
+
+-- the same, and what was said is written
+pub record Writes (accounts : Accounts) (c : Client) (out_old out_new : Option (List ℕ)) (d : Client) (new : Database) : Type 0 where
+  pub rounds : List Round
+  pub passes : Passes accounts c rounds d new
+  pub none : came_in rounds ≡ []
+  pub written : Appends out_old out_new (said_in rounds)
 
 -- the same, where a write failed: a front is written
-pub record Interrupted (accounts : Accounts) (c : Client) (out_old : Option (List ℕ)) (waited : List ℕ) (out_new : Option (List ℕ)) (new : Database) : Type 0 where
+pub record Interrupted (accounts : Accounts) (c : Client) (out_old out_new : Option (List ℕ)) (new : Database) : Type 0 where
   pub rounds : List Round
   pub client : Client
   pub passes : Passes accounts c rounds client new
   pub none : came_in rounds ≡ []
-  pub written : AppendsFront out_old out_new (waited ++ said_in rounds)
+  pub written : AppendsFront out_old out_new (said_in rounds)
 
--- what comes first was answered, or a write failed
-abbrev pub AnswersFirst : Accounts → Client → Option (List ℕ) → List ℕ → Option (List ℕ) → List ℕ → Client → Database → Result (Unit {0}) Fault → Type 0
-AnswersFirst accounts c out_old waited out_new waits d new (Ok done) = Answered accounts c out_old waited out_new waits d new
-AnswersFirst accounts c out_old waited out_new waits d new (Err fault) = Interrupted accounts c out_old waited out_new new
+-- what comes first was answered and written, or a write failed
+abbrev pub WritesFirst : Accounts → Client → Option (List ℕ) → Option (List ℕ) → Client → Database → Result (Unit {0}) Fault → Type 0
+WritesFirst accounts c out_old out_new d new (Ok done) = Writes accounts c out_old out_new d new
+WritesFirst accounts c out_old out_new d new (Err fault) = Interrupted accounts c out_old out_new new
 
 -- all that is whole was answered and written, or a write failed
-abbrev pub AnswersAll : Accounts → Client → Option (List ℕ) → Option (List ℕ) → Client → Database → Result (Unit {0}) Fault → Type 0
-AnswersAll accounts c out_old out_new d new (Ok done) = Answered accounts c out_old [] out_new [] d new × (is_ready d ≡ false)
-AnswersAll accounts c out_old out_new d new (Err fault) = Interrupted accounts c out_old [] out_new new
+abbrev pub WritesAll : Accounts → Client → Option (List ℕ) → Option (List ℕ) → Client → Database → Result (Unit {0}) Fault → Type 0
+WritesAll accounts c out_old out_new d new (Ok done) = Writes accounts c out_old out_new d new × (is_ready d ≡ false)
+WritesAll accounts c out_old out_new d new (Err fault) = Interrupted accounts c out_old out_new new
 
 -- what is seen: what an open store sees, or else what is held
 abbrev pub seen : {X : Type 0} → (X → Database) → Database → Option X → Database

@@ -1,15 +1,13 @@
 //! One client's session over a reader and a writer, and a store that is taken for the commands that came together.
-ghost use Rattle.std.specs.Prelude.{◌≡◌, ℕ, List, [], Option, None, Result, is_ok, false, true, IsTrue, IfOk, IfErr, OnOk, OnErr};
+ghost use Rattle.std.specs.Prelude.{◌≡◌, ℕ, List, Option, None, Result, is_ok, false, true, IsTrue, IfOk, OnOk, OnErr};
 ghost use Rattle.sqlite.specs.Held.{state};
-ghost use Rattle.std.specs.Io.KnownBytes.{Appends};
 ghost use Rattle.mailstore.specs.Account.{Accounts};
 ghost use Rattle.mailstore.specs.Schema.{mail_schema, no_schema};
 ghost use Rattle.mailstore.specs.Shows.{Presents};
 ghost use Rattle.sessions.specs.Clients.{is_ready};
 ghost use Rattle.sievedrun.specs.declared.fault.Fault.{Fault};
 ghost use Rattle.sievedrun.specs.Promise.{status_after};
-ghost use Rattle.sievedrun.specs.Serving.{Answered, AnswersAll, AnswersFirst, Converses, Served, ServesBy, StepsOn, seen};
-ghost use Rattle.sievedrun.specs.Streams.{AppendsFront};
+ghost use Rattle.sievedrun.specs.Serving.{Answered, Converses, Served, ServesBy, StepsOn, WritesAll, WritesFirst, seen};
 
 use crate::fault::{Fault, refuse};
 use crate::stream::{MAX_READS, read_at, write_all};
@@ -138,15 +136,14 @@ fn answer_all<W: Write, K: Keeper>(
 ) -> Result<(), Fault>
     ensures back { K.is_out keeper.old ≡ false → K.is_out keeper.new ≡ false }
     ensures answers { IsTrue K.tells → (accounts : Accounts) → Presents (K.holds keeper.old) accounts
-        → AnswersAll accounts session.old.client (W.contents output.old) (W.contents output.new) session.new.client (K.holds keeper.new) result }
+        → WritesAll accounts session.old.client (W.contents output.old) (W.contents output.new) session.new.client (K.holds keeper.new) result }
     ensures none { IsTrue K.tells → (K.holds keeper.old).schema ≡ no_schema → (K.holds keeper.new).schema ≡ no_schema }
 {
-    let mut answers = Octets::new(alloc);
     for _ in 0..u64::MAX {
         if !session.ready() {
-            return write_all(output, answers.as_slice());
+            return Ok(());
         }
-        answer_some(alloc, session, path, &mut answers, output, trouble, keeper)?;
+        answer_some(alloc, session, path, output, trouble, keeper)?;
     }
     Err(Fault::Stream)
 }
@@ -157,7 +154,6 @@ fn answer_some<W: Write, K: Keeper>(
     alloc: Global,
     session: &mut Session,
     path: &str,
-    answers: &mut Octets,
     output: &mut W,
     trouble: &mut FirstTrouble,
     keeper: &mut K,
@@ -165,12 +161,12 @@ fn answer_some<W: Write, K: Keeper>(
     requires { is_ready session.old.client ≡ true }
     ensures back { K.is_out keeper.old ≡ false → K.is_out keeper.new ≡ false }
     ensures answers { IsTrue K.tells → (accounts : Accounts) → Presents (K.holds keeper.old) accounts
-        → AnswersFirst accounts session.old.client (W.contents output.old) answers.old (W.contents output.new) answers.new
-        session.new.client (K.holds keeper.new) result }
+        → WritesFirst accounts session.old.client (W.contents output.old) (W.contents output.new) session.new.client (K.holds keeper.new) result }
     ensures none { IsTrue K.tells → (K.holds keeper.old).schema ≡ no_schema → (K.holds keeper.new).schema ≡ no_schema }
 {
-    let answered = answer_under_lock(session, path, answers, trouble, keeper);
-    write_out(alloc, output, answers)?;
+    let mut answers = Octets::new(alloc);
+    let answered = answer_under_lock(session, path, &mut answers, trouble, keeper);
+    write_all(output, answers.as_slice())?;
     if answered {
         return Ok(());
     }
@@ -188,8 +184,8 @@ fn answer_under_lock<K: Keeper>(
 ) -> bool
     requires { is_ready session.old.client ≡ true }
     ensures back { K.is_out keeper.old ≡ false → K.is_out keeper.new ≡ false }
-    ensures answers { IsTrue K.tells → (accounts : Accounts) → Presents (K.holds keeper.old) accounts → (out : Option (List ℕ))
-        → Answered accounts session.old.client out answers.old out answers.new session.new.client (K.holds keeper.new) }
+    ensures answers { IsTrue K.tells → (accounts : Accounts) → Presents (K.holds keeper.old) accounts
+        → Answered accounts session.old.client answers.old answers.new session.new.client (K.holds keeper.new) }
     ensures stopped { result ≡ false → is_ready session.new.client ≡ true }
     ensures none { IsTrue K.tells → (K.holds keeper.old).schema ≡ no_schema → (K.holds keeper.new).schema ≡ no_schema }
     ensures asked { K.unclosed keeper.old ≡ None → K.unclosed keeper.new ≡ None }
@@ -242,8 +238,7 @@ fn answer_ready<K: Keeper>(
     keeper: &mut K,
 ) -> Result<(), Held>
     ensures answers { IsTrue K.tells → (accounts : Accounts) → Presents (seen (λ s. (state K.S.Store s).now) (K.holds keeper.old) store.old) accounts
-        → (out : Option (List ℕ)) → Answered accounts session.old.client out answers.old out answers.new
-        session.new.client (seen (λ s. (state K.S.Store s).now) (K.holds keeper.new) store.new) }
+        → Answered accounts session.old.client answers.old answers.new session.new.client (seen (λ s. (state K.S.Store s).now) (K.holds keeper.new) store.new) }
     ensures stopped { OnErr result (is_ready session.new.client ≡ true) }
     ensures none { IsTrue K.tells → (K.holds keeper.old).schema ≡ no_schema → store.old ≡ None
         → (K.holds keeper.new ≡ K.holds keeper.old) × (store.new ≡ None) }
@@ -336,15 +331,4 @@ fn note_refusal<K: Keeper>(trouble: &mut FirstTrouble, refusal: Option<Refusal>,
     if let Some(refusal) = refusal {
         trouble.note(Trouble::of_store(Fault::Refused(refusal), keeper));
     }
-}
-
-/// Writes the answers that wait, of which none waits then.
-fn write_out<W: Write>(alloc: Global, output: &mut W, answers: &mut Octets) -> Result<(), Fault>
-    ensures ok { OnOk result (Appends (W.contents output.old) (W.contents output.new) answers.old × (answers.new ≡ [])) }
-    ensures err { OnErr result (AppendsFront (W.contents output.old) (W.contents output.new) answers.old) }
-    ensures fault { IfErr result (λ fault. fault ≡ Fault.Stream) }
-{
-    write_all(output, answers.as_slice())?;
-    *answers = Octets::new(alloc);
-    Ok(())
 }

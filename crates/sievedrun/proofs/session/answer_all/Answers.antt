@@ -1,19 +1,16 @@
--- Rounds before, and the one of what comes first; then what waits is written.
-use Rattle.std.proofs.Common.{◌≡◌, [], Err, false, rules, sym, subst}
+-- Rounds before, and the one of what comes first.
+use Rattle.std.proofs.Common.{◌≡◌, Err, false, rules, sym, subst}
 use Rattle.sessions.specs.Clients.{is_ready}
-use Rattle.sievedrun.specs.Serving.{Answered, AnswersAll}
-use Rattle.sievedrun.proofs.ServingLemmas.{answered_none, answered_on, interrupted_on, interrupted_so, all_written}
+use Rattle.sievedrun.specs.Serving.{WritesAll}
+use Rattle.sievedrun.proofs.ServingLemmas.{interrupted_on, interrupted_so, writes_none, writes_on}
 use Rattle.sievedrun.proofs.session.answer_all.Goals as goal
 
 pub loop-init : goal.loop-init
-loop-init g c =
-    let empty : c.new-answers.result ≡ [] = search rules in
-    record {
-      back = λ h. h;
-      answered = λ tells accounts shown. subst (λ w. Answered accounts c.args.session.now.client (g.W.Write.contents c.args.output.now) [] (g.W.Write.contents c.args.output.now) w c.args.session.now.client (g.K.Keeper.holds c.args.keeper.now)) (sym empty)
-          (answered_none accounts c.args.session.now.client (g.W.Write.contents c.args.output.now) [] (g.K.Keeper.holds c.args.keeper.now) shown);
-      none = λ tells h. h;
-    }
+loop-init g c = record {
+  back = λ h. h;
+  written = λ tells accounts shown. writes_none accounts c.args.session.now.client (g.W.Write.contents c.args.output.now) (g.K.Keeper.holds c.args.keeper.now) shown;
+  none = λ tells h. h;
+}
 
 pub loop-preserved : goal.loop-preserved
 loop-preserved g c =
@@ -21,26 +18,24 @@ loop-preserved g c =
     let now = c.in_ok-answer_some.ensures in
     record {
       back = λ h. now.back (was.back h);
-      answered = λ tells accounts shown.
-          answered_on accounts c.args.session.now.client c.loop.session.client c.answer_some.new.session.client (g.W.Write.contents c.args.output.now) (g.W.Write.contents c.loop.output) (g.W.Write.contents c.answer_some.new.output)
-          [] c.loop.answers c.answer_some.new.answers (g.K.Keeper.holds c.loop.keeper) (g.K.Keeper.holds c.answer_some.new.keeper) (was.answered tells accounts shown) (now.answers tells);
+      written = λ tells accounts shown.
+          writes_on accounts c.args.session.now.client c.loop.session.client c.answer_some.new.session.client (g.W.Write.contents c.args.output.now) (g.W.Write.contents c.loop.output) (g.W.Write.contents c.answer_some.new.output)
+          (g.K.Keeper.holds c.loop.keeper) (g.K.Keeper.holds c.answer_some.new.keeper) (was.written tells accounts shown) (now.answers tells);
       none = λ tells h. now.none tells (was.none tells h);
     }
 
 pub returns-then-not-ready-clause-answers : goal.returns-then-not-ready-clause-answers
 returns-then-not-ready-clause-answers g c tells accounts shown =
     let idle : is_ready c.loop.session.client ≡ false = search rules in
-    let text : c.as_slice.result.now ≡ c.loop.answers = search rules in
-    all_written accounts c.args.session.now.client c.loop.session.client (g.W.Write.contents c.args.output.now) (g.W.Write.contents c.loop.output) (g.W.Write.contents c.write_all.new.output) c.as_slice.result.now
-    (g.K.Keeper.holds c.loop.keeper) (rw text (c.loop.invariant.answered tells accounts shown)) idle c.write_all.result c.write_all.ensures.ok c.write_all.ensures.err
+    (c.loop.invariant.written tells accounts shown, idle)
 
 pub returns-in_err-answer_some-clause-answers : goal.returns-in_err-answer_some-clause-answers
 returns-in_err-answer_some-clause-answers g c tells accounts shown =
     let is : c.from_residual.result ≡ Err c.in_err-answer_some.field-0.0 = search rules in
-    subst (AnswersAll accounts c.args.session.now.client (g.W.Write.contents c.args.output.now) (g.W.Write.contents c.answer_some.new.output) c.answer_some.new.session.client (g.K.Keeper.holds c.answer_some.new.keeper)) (sym is)
-    (interrupted_on accounts c.args.session.now.client c.loop.session.client (g.W.Write.contents c.args.output.now) (g.W.Write.contents c.loop.output) (g.W.Write.contents c.answer_some.new.output) [] c.loop.answers
-    (g.K.Keeper.holds c.loop.keeper) (g.K.Keeper.holds c.answer_some.new.keeper) (c.loop.invariant.answered tells accounts shown) (c.in_err-answer_some.ensures.answers tells))
+    subst (WritesAll accounts c.args.session.now.client (g.W.Write.contents c.args.output.now) (g.W.Write.contents c.answer_some.new.output) c.answer_some.new.session.client (g.K.Keeper.holds c.answer_some.new.keeper)) (sym is)
+    (interrupted_on accounts c.args.session.now.client c.loop.session.client (g.W.Write.contents c.args.output.now) (g.W.Write.contents c.loop.output) (g.W.Write.contents c.answer_some.new.output)
+    (g.K.Keeper.holds c.loop.keeper) (g.K.Keeper.holds c.answer_some.new.keeper) (c.loop.invariant.written tells accounts shown) (c.in_err-answer_some.ensures.answers tells))
 
 pub returns-clause-answers : goal.returns-clause-answers
 returns-clause-answers g c tells accounts shown =
-    interrupted_so accounts c.args.session.now.client c.loop.session.client (g.W.Write.contents c.args.output.now) (g.W.Write.contents c.loop.output) [] c.loop.answers (g.K.Keeper.holds c.loop.keeper) (c.loop.invariant.answered tells accounts shown)
+    interrupted_so accounts c.args.session.now.client c.loop.session.client (g.W.Write.contents c.args.output.now) (g.W.Write.contents c.loop.output) (g.K.Keeper.holds c.loop.keeper) (c.loop.invariant.written tells accounts shown)

@@ -1,5 +1,5 @@
 -- What stood ready was answered so far.
-use Rattle.std.proofs.Common.{◌≡◌, ℕ, List, Option, None, IsTrue}
+use Rattle.std.proofs.Common.{◌≡◌, None, IsTrue}
 use Rattle.sqlite.specs.Held.{state}
 use Rattle.mailstore.specs.Account.{Accounts}
 use Rattle.mailstore.specs.Schema.{no_schema}
@@ -9,8 +9,8 @@ use Rattle.sievedrun.proofs.session.answer_ready.Given as goal
 
 abbrev pub invariant-loop : goal.invariant-loop
 invariant-loop g l = record {
-  answered : IsTrue g.K.Keeper.tells → (accounts : Accounts) → Presents (seen (λ s. (state g.K.S.Store s).now) (g.K.Keeper.holds l.initial.keeper) l.initial.store) accounts → (out : Option (List ℕ))
-      → Answered accounts l.initial.session.client out l.initial.answers out l.answers l.session.client (seen (λ s. (state g.K.S.Store s).now) (g.K.Keeper.holds l.keeper) l.store);
+  answered : IsTrue g.K.Keeper.tells → (accounts : Accounts) → Presents (seen (λ s. (state g.K.S.Store s).now) (g.K.Keeper.holds l.initial.keeper) l.initial.store) accounts
+      → Answered accounts l.initial.session.client l.initial.answers l.answers l.session.client (seen (λ s. (state g.K.S.Store s).now) (g.K.Keeper.holds l.keeper) l.store);
   none : IsTrue g.K.Keeper.tells → (g.K.Keeper.holds l.initial.keeper).schema ≡ no_schema → l.initial.store ≡ None → (g.K.Keeper.holds l.keeper ≡ g.K.Keeper.holds l.initial.keeper) × (l.store ≡ None);
   closed : g.K.Keeper.unclosed l.keeper ≡ g.K.Keeper.unclosed l.initial.keeper;
 }
