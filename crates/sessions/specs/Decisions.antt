@@ -38,13 +38,3 @@ pub record IsDecision (Fits : Account → Type 0) (command : Command) (decision 
 pub record Decides (command : Command) (decision : Decision) (a : Account) : Type 0 where
   pub replies : RepliesTo a command decision.reply
   pub changes : (b : Account) → change_made_if decision.change b ≡ obeyed command decision.reply.word b
-
--- a command that is decided by the names of the account's scripts and by which one is active
-abbrev pub goes_by_names : Command → Bool
-goes_by_names (HaveSpace name size) = true
-goes_by_names (PutScript name script) = true
-goes_by_names ListScripts = true
-goes_by_names (SetActive name) = true
-goes_by_names (DeleteScript name) = true
-goes_by_names (RenameScript old new) = true
-goes_by_names _ = false
