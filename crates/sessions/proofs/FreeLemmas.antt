@@ -1,25 +1,47 @@
 -- Steps on commands that ask no store.
-use Rattle.std.proofs.Common.{◌≡◌, ℕ, Bool, true, false, List, ◌++◌, take, Option, Some, None, refl, sym, ap, ◌∙◌, subst, inl, inr}
-use Rattle.std.proofs.lemmas.Bool.{false≢true}
+use Rattle.std.proofs.Common.{◌≡◌, ℕ, Bool, true, false, not, List, ◌++◌, take, Option, Some, None, refl, sym, ap, ◌∙◌, subst, inl, inr}
+use Rattle.std.proofs.lemmas.Bool.{false≢true, and_parts, not-true}
 use Rattle.msproto.specs.declared.commands.Command.{Command}
 use Rattle.msproto.specs.declared.commands.Command.TheVariants.{Capability, Noop, Logout, Authenticate, Unauthenticate, HaveSpace, PutScript, CheckScript, ListScripts, SetActive, GetScript, DeleteScript, RenameScript, Response}
 use Rattle.msproto.specs.declared.items.Item.TheVariants as item
 use Rattle.msproto.specs.declared.items.Reach.{Reach}
 use Rattle.msproto.specs.declared.items.Reach.TheVariants as reach
+use Rattle.msproto.specs.Items.{Reaches}
 use Rattle.msproto.specs.Replies.{spelled}
 use Rattle.msproto.specs.Values.{command_in, item_with, item_at}
+use Rattle.msproto.proofs.Scans.{reaches}
+use Rattle.msproto.proofs.Unique.{some_read}
 use Rattle.mailstore.specs.Account.{Accounts}
 use Rattle.sessions.specs.declared.progress.Progress.{Progress}
 use Rattle.sessions.specs.declared.turn.Turn.{Turn}
 use Rattle.sessions.specs.declared.turn.Sequel.TheVariants.{Stay}
-use Rattle.sessions.specs.Clients.{Client, reach_in, item_in, past, without_first}
+use Rattle.sessions.specs.Clients.{Client, reach_in, item_in, is_command, past, without_first}
 use Rattle.sessions.specs.Laws.{ComesFirst}
-use Rattle.sessions.specs.Steps.{IsStep, StepsOver, progress_of, is_free}
+use Rattle.sessions.specs.Steps.{IsStep, StepsOver, HasFirst, progress_of, has_command, is_free}
 use Rattle.sessions.specs.Table.{is_early, is_about_scripts, early_reply}
 use Rattle.sessions.specs.Turns.{followed, IsTurnAlone}
 use Rattle.sessions.proofs.LawLemmas.{early, still_open, turn_step}
 
 -- ---- the command that comes first
+
+pub command_first : (c : Client) → has_command c ≡ true → (command : Command) × HasFirst c command
+command_first c h = by (reach_in c) refl (and_parts (not c.closed) (is_command (reach_in c)) h).1
+  where
+    live : c.closed ≡ false
+    live = not-true c.closed (and_parts (not c.closed) (is_command (reach_in c)) h).0
+
+    read : (n : ℕ) → reach_in c ≡ reach.Command n → (o : Option Command) → command_in c.pending (take n c.unread) ≡ o → (command : Command) × HasFirst c command
+    read n e None none =
+        let reached = subst (λ (r : Reach). Reaches c.pending r c.unread) e (reaches c.pending c.unread) in
+        absurd (some_read c.pending (take n c.unread) reached.2 none)
+    read n e (Some command) is =
+        (command, record { live = live; used = n; first = ap (item_at c.pending c.unread) e ∙ ap (λ (o : Option Command). item_with o n) is })
+
+    by : (r : Reach) → reach_in c ≡ r → is_command r ≡ true → (command : Command) × HasFirst c command
+    by reach.Need e h = absurd (false≢true h)
+    by (reach.Command n) e h = read n e (command_in c.pending (take n c.unread)) refl
+    by (reach.Bad n) e h = absurd (false≢true h)
+    by reach.TooBig e h = absurd (false≢true h)
 
 -- its reach
 pub from_item : (pending : Bool) (unread : List ℕ) (r : Reach) (command : Command) (used : ℕ) → item_at pending unread r ≡ item.Command command used → r ≡ reach.Command used

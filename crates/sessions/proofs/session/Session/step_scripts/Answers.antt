@@ -23,7 +23,7 @@ returns g c =
     record {
       acts =
           scripts_answered c.args.self.now.client (Script c.args.user.now c.args.command.now) c.requires c.as_slice.result.now is (about_scripts c.args.command.now) (state g.S.Store c.args.store.now) (state g.S.Store c.execute.new.store) c.follow.new.self.client
-          c.args.out.now c.execute.new.out c.follow.ensures.session c.in_default-execute.ensures.acts;
+          c.args.out.now c.execute.new.out c.follow.ensures.session c.in_default.ensures.acts;
       counts = search rules;
       scans = search rules;
       err = search rules;
