@@ -1,8 +1,7 @@
 -- What a command comes to, decided from what its account has.
-use Rattle.std.specs.Prelude.{◌≡◌, ℕ, Bool, true, false, List, Option, Some, None}
+use Rattle.std.specs.Prelude.{◌≡◌, ℕ, List, Option, Some, None}
 use Rattle.std.specs.FinMap.{keys}
 use Rattle.msproto.specs.declared.commands.Command.{Command}
-use Rattle.msproto.specs.declared.commands.Command.TheVariants.{HaveSpace, PutScript, ListScripts, SetActive, DeleteScript, RenameScript}
 use Rattle.mailstore.specs.Account.{Account, keeps_script, activates, deletes_script, renames_script}
 use Rattle.sessions.specs.declared.decision.Change.{Change}
 use Rattle.sessions.specs.declared.decision.Change.TheVariants.{Put, Activate, Delete, Rename}

@@ -1,5 +1,5 @@
 -- What a command that isn't about scripts comes to, decided from what the session and the login have.
-use Rattle.std.specs.Prelude.{◌≡◌, ◌⊎◌, ℕ, Bool, true, false, cond, ◌&&◌, is_none, List, Option, Some, None}
+use Rattle.std.specs.Prelude.{◌≡◌, ◌⊎◌, ℕ, true, false, cond, ◌&&◌, is_none, List, Option, Some, None}
 use Rattle.msproto.specs.declared.commands.Command.{Command}
 use Rattle.msproto.specs.declared.commands.Command.TheVariants.{Authenticate, Response}
 use Rattle.saslplain.specs.declared.password.Record.{Record}

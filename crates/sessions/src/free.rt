@@ -54,11 +54,7 @@ fn script_turn(
 }
 
 /// What a command comes to that asks no store: it may lack a login.
-fn turn_of(
-    alloc: Global,
-    user: &Option<Octets>,
-    command: &FreeCommand,
-) -> Result<Turn, AllocError>
+fn turn_of(alloc: Global, user: &Option<Octets>, command: &FreeCommand) -> Result<Turn, AllocError>
     ensures { IfOk result (IsTurnAlone user.now (of_free command.now)) }
 {
     if needs_login(command) && user.is_none() {
