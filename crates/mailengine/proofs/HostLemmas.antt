@@ -26,6 +26,7 @@ use Rattle.sessions.specs.GivenUp.{text_given_up, client_given_up, progress_give
 use Rattle.sessions.specs.Replies.{capabilities}
 use Rattle.sessions.specs.Steps.{IsStep, StepsOver, AsksFor, progress_of, may_lack, may_fail}
 use Rattle.sessions.specs.declared.progress.Progress.{Progress}
+use Rattle.sessions.specs.declared.sort.Order.{Order}
 use Rattle.sessions.specs.declared.progress.Progress.TheVariants as p
 use Rattle.mailengine.specs.declared.event.Event.{Event}
 use Rattle.mailengine.specs.declared.event.Event.TheVariants.{Open, Give, Step, GiveUp, Close, Deliver, AddUser, TakeOut, TakeMail}
