@@ -25,8 +25,8 @@ use Rattle.sessions.specs.Counts.{SessionView, new_session}
 use Rattle.sessions.specs.GivenUp.{text_given_up, client_given_up, progress_given_up}
 use Rattle.sessions.specs.Replies.{capabilities}
 use Rattle.sessions.specs.Steps.{IsStep, StepsOver, AsksFor, progress_of, may_lack, may_fail}
-use Rattle.msproto.specs.declared.commands.Command.{Command}
 use Rattle.sessions.specs.declared.progress.Progress.{Progress}
+use Rattle.sessions.specs.declared.sort.Order.{Order}
 use Rattle.sessions.specs.declared.progress.Progress.TheVariants as p
 use Rattle.mailengine.specs.declared.event.Event.{Event}
 use Rattle.mailengine.specs.declared.event.Event.TheVariants.{Open, Give, Step, GiveUp, Close, Deliver, AddUser, TakeOut, TakeMail}
@@ -280,9 +280,10 @@ pub free_lacks : (kept : Kept) (n : ℕ) (v : SessionView) → Some v ≡ tree.g
 free_lacks kept n v one may w has = subst (λ o. if_open may_lack o ≡ true) (sym (one_there kept w.sessions n v has one)) may
 
 -- its command asks
-pub free_asks : (kept : Kept) (n : ℕ) (v : SessionView) (d : Client) (command : Command) (before written : List ℕ) → Some v ≡ tree.get nat_cmp kept n → AsksFor v.client d command before written → AsksStore (Step n) kept
-free_asks kept n v d command before written one asks =
-    let fails : may_fail v.client ≡ true = rw (asks.live, asks.first, asks.late, asks.asks) refl in
+pub free_asks : (kept : Kept) (n : ℕ) (v : SessionView) (d : Client) (order : Order) (before written : List ℕ) → Some v ≡ tree.get nat_cmp kept n → AsksFor v.client d order before written → AsksStore (Step n) kept
+free_asks kept n v d order before written one asks =
+    let it = asks.asked in
+    let fails : may_fail v.client ≡ true = rw (it.live, it.first, it.late, it.asks) refl in
     subst (λ o. if_open may_fail (option_map (λ session. session.client) o) ≡ true) one fails
 
 pub free_keeps : (kept after : Kept) (n : ℕ) (v : SessionView) → Some v ≡ tree.get nat_cmp kept n → tree.Updates nat_cmp kept after n (Some v) → KeepsClients kept after

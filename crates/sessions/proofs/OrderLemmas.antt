@@ -16,11 +16,15 @@ use Rattle.mailstore.specs.Refusals.{IsTransient}
 use Rattle.mailstore.specs.Shows.{Presents}
 use Rattle.sessions.specs.declared.decision.Change.{Change}
 use Rattle.sessions.specs.declared.decision.Decision.{Decision}
+use Rattle.sessions.specs.declared.sort.NamedCommand.{NamedCommand}
+use Rattle.sessions.specs.declared.sort.ScriptCommand.{ScriptCommand}
+use Rattle.sessions.specs.declared.sort.ScriptCommand.TheVariants.{Named}
 use Rattle.sessions.specs.Acts.{Acts}
-use Rattle.sessions.specs.Decisions.{Decides, change_made, change_made_if}
+use Rattle.sessions.specs.Decisions.{IsDecision, Decides, change_made, change_made_if}
 use Rattle.sessions.specs.Orders.{ObeysUser, ObeyedTo, MayObey}
 use Rattle.sessions.specs.Replies.{is_ok, value_of}
 use Rattle.sessions.specs.Scripts.{get_reply, obeyed}
+use Rattle.sessions.specs.Sorts.{of_named, of_script}
 use Rattle.sessions.proofs.LawLemmas.{none_changed}
 use Rattle.sessions.proofs.ActLemmas.{glanced, read_shows, acts_read, acts_made, acts_undone}
 
@@ -40,6 +44,11 @@ pub got : (command : Command) (name seen : List ℕ) (text : Option (List ℕ)) 
 got command name seen text reply a at same right is =
     subst (λ (c : Command). Decides c (record { reply = reply; change = None }) a) (sym at)
     (record { replies = right ∙ ap get_reply (is ∙ ap (get a.scripts) same); changes = λ b. same_both (is_ok reply.word) b })
+
+-- what was decided by the names
+pub decides_named : (script : ScriptCommand) (command : NamedCommand) (Fits : Account → Type 0) (decision : Decision) (a : Account) → script ≡ Named command → IsDecision Fits (of_named command) decision → Fits a
+    → Decides (of_script script) decision a
+decides_named script command Fits decision a at is fits = subst (λ (s : ScriptCommand). Decides (of_script s) decision a) (sym at) (record { replies = is.replies a fits; changes = is.changes })
 
 -- ---- the answer, and what changes
 
