@@ -49,7 +49,7 @@ returns g c =
     record {
       acts =
           login_answered c.args.self.now.client c.args.command.now c.requires.asked (state g.S.Store c.args.store.now) (state g.S.Store c.admitted.new.store) c.take_turn.new.self.client c.in_ok-who.who c.in_ok-turn.turn c.in_ok-progress.progress
-          c.args.out.now c.take_turn.new.out c.requires.login c.admitted.ensures.glances
+          c.args.out.now c.take_turn.new.out c.requires.login c.in_ok-who.ensures.live c.admitted.ensures.glances
           (λ clean accounts shown. ap (λ o. admitted_in accounts o) (ap (λ o. login_text o c.args.command.now) (sym user) ∙ sym c.login_text.ensures) ∙ c.in_ok-who.ensures.found clean accounts shown)
           (subst (λ f. IsTurn (FitsLogin c.args.self.now.client.user f c.args.command.now c.in_ok-who.who) c.args.command.now c.in_ok-turn.turn) failures
           (subst (λ o. IsTurn (FitsLogin o c.self.inside.failures c.args.command.now c.in_ok-who.who) c.args.command.now c.in_ok-turn.turn) user turn))
