@@ -44,9 +44,12 @@ pub record Lasts (accounts later : Accounts) (old new : State) : Type 0 where
 -- Ok lasts: over a connection that was open, whatever accounts it showed turned into others, which the store shows, and so does what a crash leaves
 abbrev pub Durable : {X : Type 0} → (Accounts → Accounts → Type 0) → State → State → Result X Refusal → Type 0
 Durable Turn old new result =
-    HasCleanDisk new → IsTrue old.is_open → (accounts : Accounts) → Presents old.now accounts → OnOk result ((later : Accounts) × Turn accounts later × Lasts accounts later old new)
+    HasCleanDisk new → IsTrue old.is_open → (accounts : Accounts) → Presents old.now accounts
+    → OnOk result ((later : Accounts) × Turn accounts later × Lasts accounts later old new)
 
--- a call over the store: how the accounts turn; after a refusal all is as before; an open connection is still open after Ok, and one that a fault of the disk has shut stays shut; a crash leaves what it left before, or the accounts turned as they may be; and after an answer it leaves the accounts alone, as they then are, unless nothing changed; so Ok lasts
+-- a call over the store: how the accounts turn; after a refusal all is as before; an open connection is still open after Ok, and one that a
+-- fault of the disk has shut stays shut; a crash leaves what it left before, or the accounts turned as they may be; and after an answer it
+-- leaves the accounts alone, as they then are, unless nothing changed; so Ok lasts
 pub record Acts {X : Type 0} (Turn MayTurn : Accounts → Accounts → Type 0) (old new : State) (result : Result X Refusal) : Type 0 where
   pub carries : Carries Turn old new
   pub same : HasCleanDisk new → HasOurTables old.now → OnErr result (StaysSame old new)
@@ -62,7 +65,8 @@ pub record Glances (old new : State) : Type 0 where
   pub shut : HasCleanDisk new → IsTrue new.is_open → IsTrue old.is_open
   pub crash : Survives old new (λ _. HasOurTables old.now → ⊥)
 
--- a read of the accounts, if any: this holds of the answer and of whatever accounts the store showed; an open connection is still open after Ok; no refusal comes but those that may without visible cause
+-- a read of the accounts, if any: this holds of the answer and of whatever accounts the store showed; an open connection is still open after
+-- Ok; no refusal comes but those that may without visible cause
 pub record ReadsAccounts {X : Type 0} (Part : X → Accounts → Type 0) (old new : State) (result : Result X Refusal) : Type 0 where
   pub found : HasCleanDisk new → (accounts : Accounts) → HasAccounts old accounts → IfOk result (λ x. Part x accounts)
   pub live : StaysOpen old new result
