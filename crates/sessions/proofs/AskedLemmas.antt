@@ -1,5 +1,6 @@
 -- Steps over a store, from what their commands come to.
-use Rattle.std.proofs.Common.{◌≡◌, ℕ, Bool, true, false, not, ◌&&◌, List, ◌++◌, Option, Some, Ok, Err, Result, OnOk, OnErr, refl, sym, ap, ◌∙◌, subst}
+use Rattle.std.proofs.Common.{◌≡◌, ◌⊎◌, ℕ, Bool, true, false, not, ◌&&◌, List, ◌++◌, Option, Some, Ok, Err, Result, OnOk, OnErr, refl, sym, ap, ◌∙◌, subst}
+use Rattle.std.proofs.lemmas.Bool.{false≢true}
 use Rattle.sqlite.specs.State.{State, HasCleanDisk}
 use Rattle.sqlite.proofs.StateLemmas.{survives_weaker}
 use Rattle.msproto.specs.declared.commands.Command.{Command}
@@ -10,6 +11,8 @@ use Rattle.msproto.specs.declared.replies.Reply.{Reply}
 use Rattle.msproto.specs.Replies.{spelled}
 use Rattle.mailstore.specs.declared.refusal.Refusal.{Refusal}
 use Rattle.mailstore.specs.Account.{Accounts}
+use Rattle.mailstore.specs.Connection.{IsSettled}
+use Rattle.mailstore.specs.Promises.{HasOurTables}
 use Rattle.mailstore.specs.Refusals.{IsTransient}
 use Rattle.sessions.specs.declared.free.FreeTurn.TheVariants.{Asks}
 use Rattle.sessions.specs.declared.progress.Progress.{Progress}
@@ -22,14 +25,14 @@ use Rattle.sessions.specs.declared.sort.ScriptCommand.{ScriptCommand}
 use Rattle.sessions.specs.declared.sort.ScriptCommand.TheVariants as script
 use Rattle.sessions.specs.declared.turn.Sequel.TheVariants.{Stay}
 use Rattle.sessions.specs.declared.turn.Turn.{Turn}
-use Rattle.sessions.specs.Acts.{HasAccounts, CrashLeaves, Acts, Glances, IsAnswered}
+use Rattle.sessions.specs.Acts.{HasAccounts, Carries, CrashLeaves, Acts, Glances, IsAnswered, Stays, StaysOpen}
 use Rattle.sessions.specs.Clients.{Client, item_in, reach_in, past, without_first}
 use Rattle.sessions.specs.Orders.{ObeysUser, ObeyedTo, MayObey, StepsTo, MayStep}
 use Rattle.sessions.specs.Steps.{IsStep, StepsOver, HasFirst, Asked, progress_of, is_free, asks_memory, may_lack}
 use Rattle.sessions.specs.Sorts.{of_login, of_script, of_order}
 use Rattle.sessions.specs.Table.{is_about_scripts, is_early}
 use Rattle.sessions.specs.Turns.{IsTurn, FitsLogin, IsFreeTurn, followed, login_text, admitted_in}
-use Rattle.sessions.proofs.ActLemmas.{acts_read, no_glance}
+use Rattle.sessions.proofs.ActLemmas.{lasting, acts_read, no_glance}
 use Rattle.sessions.proofs.FreeLemmas.{from_item}
 use Rattle.sessions.proofs.LawLemmas.{turn_step, script_step}
 use Rattle.sessions.proofs.OrderLemmas.{done, refused}
@@ -52,15 +55,26 @@ login_other (login.Response text) = refl
 -- ---- calls with another answer
 
 pub acts_other : {X Y : Type 0} (a b : State) (T U M N : Accounts → Accounts → Type 0) (r : Result X Refusal) (q : Result Y Refusal) → ((accounts later : Accounts) → T accounts later → U accounts later)
-    → ((accounts later : Accounts) → M accounts later → N accounts later) → ((P : Type 0) → OnErr r P → OnErr q P) → (IsAnswered q → IsAnswered r)
+    → ((accounts later : Accounts) → M accounts later → N accounts later) → ((P : Type 0) → OnOk r P → OnOk q P) → ((P : Type 0) → OnErr r P → OnErr q P) → (IsAnswered q → IsAnswered r)
     → Acts T M a b r → Acts U N a b q
-acts_other a b T U M N r q turn may err answered acts = record {
-  carries = λ clean accounts shown. let it = acts.carries clean accounts shown in (it.0, turn accounts it.0 it.1, it.2);
+acts_other a b T U M N r q turn may ok err answered acts = record {
+  carries = carries;
   same = λ clean tables. err _ (acts.same clean tables);
+  live = live;
   shut = acts.shut;
   crash = survives_weaker a b (CrashLeaves M a) (CrashLeaves N a) (λ clean db left accounts p. let it = left accounts p in (it.0, may accounts it.0 it.1, it.2)) acts.crash;
-  durable = λ clean tables told. acts.durable clean tables (answered told);
+  durable = durable;
+  lasts = lasting U a b q carries live durable;
 }
+  where
+    carries : Carries U a b
+    carries clean accounts shown = let it = acts.carries clean accounts shown in (it.0, turn accounts it.0 it.1, it.2)
+
+    live : StaysOpen a b q
+    live clean open_before = ok _ (acts.live clean open_before)
+
+    durable : HasCleanDisk b → HasOurTables a.now → IsAnswered q → IsSettled b ⊎ Stays a b
+    durable clean tables told = acts.durable clean tables (answered told)
 
 -- ---- the steps
 
@@ -80,25 +94,25 @@ module _ (c : Client) (order : Order) (asked : Asked c order) where
     pub scripts_refused : (a b : State) (e f : Refusal) (before after : List ℕ) → IsTransient f → Acts (ObeyedTo user (of_order order) (refused e) before after) (MayObey user (of_order order)) a b (refused e)
         → Acts {X = Progress} (StepsTo c c (Err f) before after) (MayStep c) a b (Err f)
     scripts_refused a b e f before after transient acts =
-        acts_other {Y = Progress} a b (ObeyedTo user (of_order order) (refused e) before after) (StepsTo c c (Err f) before after) (MayObey user (of_order order)) (MayStep c) (refused e) (Err f) (λ accounts later same. same) may_step (λ P h. h)
+        acts_other {Y = Progress} a b (ObeyedTo user (of_order order) (refused e) before after) (StepsTo c c (Err f) before after) (MayObey user (of_order order)) (MayStep c) (refused e) (Err f) (λ accounts later same. same) may_step (λ P h. tt) (λ P h. h)
         (λ told. absurd (told transient)) acts
 
     pub scripts_answered : (a b : State) (d : Client) (before after : List ℕ) → d ≡ followed Stay (without_first false (reach_in c) c) → Acts (ObeyedTo user (of_order order) done before after) (MayObey user (of_order order)) a b done
         → Acts {X = Progress} (StepsTo c d (Ok Done) before after) (MayStep c) a b (Ok Done)
     scripts_answered a b d before after session acts =
         acts_other {Y = Progress} a b (ObeyedTo user (of_order order) done before after) (StepsTo c d (Ok Done) before after) (MayObey user (of_order order)) (MayStep c) done (Ok Done)
-        (λ accounts later o. (spelled o.0, o.1, subst (λ (k : Client). IsStep accounts c Done (spelled o.0) k later) (sym left) (obeyed_step o.0 accounts later o.2))) may_step (λ P h. tt) (λ told. tt) acts
+        (λ accounts later o. (spelled o.0, o.1, subst (λ (k : Client). IsStep accounts c Done (spelled o.0) k later) (sym left) (obeyed_step o.0 accounts later o.2))) may_step (λ P h. h) (λ P h. tt) (λ told. tt) acts
       where
         left : d ≡ past asked.used c
         left = session ∙ ap (λ (r : Reach). without_first false r c) first_reach
 
   -- a login, or a failed one
-  pub login_answered : (a b : State) (d : Client) (who : Option (List ℕ)) (turn : Turn) (progress : Progress) (before after : List ℕ) → is_about_scripts (of_order order) ≡ false → Glances a b
+  pub login_answered : (a b : State) (d : Client) (who : Option (List ℕ)) (turn : Turn) (progress : Progress) (before after : List ℕ) → is_about_scripts (of_order order) ≡ false → StaysOpen {X = Progress} a b (Ok progress) → Glances a b
       → (HasCleanDisk b → (accounts : Accounts) → HasAccounts a accounts → admitted_in accounts (login_text c.user (of_order order)) ≡ who) → IsTurn (FitsLogin c.user c.failures (of_order order) who) (of_order order) turn
       → after ≡ before ++ spelled turn.reply → d ≡ followed turn.sequel (without_first false (reach_in c) c) → progress ≡ progress_of d
       → Acts {X = Progress} (StepsTo c d (Ok progress) before after) (MayStep c) a b (Ok progress)
-  login_answered a b d who turn progress before after other glances found is told session goes =
-      acts_read a b (StepsTo c d (Ok progress) before after) (MayStep c) (Ok progress) glances (λ clean accounts shown. (spelled turn.reply, told, step accounts (found clean accounts shown)))
+  login_answered a b d who turn progress before after other live glances found is told session goes =
+      acts_read a b (StepsTo c d (Ok progress) before after) (MayStep c) (Ok progress) live glances (λ clean accounts shown. (spelled turn.reply, told, step accounts (found clean accounts shown)))
     where
       left : d ≡ followed turn.sequel (past asked.used c)
       left = session ∙ ap (λ (r : Reach). followed turn.sequel (without_first false r c)) first_reach
@@ -114,12 +128,12 @@ module _ (c : Client) (order : Order) (asked : Asked c order) where
 
 pub over_acts : (c d : Client) (progress : Progress) (before after : List ℕ) (a : State) → StepsOver c d progress before after → Acts {X = Progress} (StepsTo c d (Ok progress) before after) (MayStep c) a a (Ok progress)
 over_acts c d progress before after a over =
-    acts_read a a (StepsTo c d (Ok progress) before after) (MayStep c) (Ok progress) (no_glance a) (λ clean accounts shown. (over.octets, over.written, over.step accounts))
+    acts_read a a (StepsTo c d (Ok progress) before after) (MayStep c) (Ok progress) (λ clean is_open. is_open) (no_glance a) (λ clean accounts shown. (over.octets, over.written, over.step accounts))
 
 -- a step that is refused before anything is written
 pub refused_acts : (c d : Client) (q : Result Progress Refusal) (before after : List ℕ) (a b : State) → OnOk q ⊥ → Glances a b → Acts (StepsTo c d q before after) (MayStep c) a b q
 refused_acts c d (Ok progress) before after a b none glances = absurd none
-refused_acts c d (Err e) before after a b none glances = acts_read a b (StepsTo c d (Err e) before after) (MayStep c) (Err e) glances (λ clean accounts shown. refl)
+refused_acts c d (Err e) before after a b none glances = acts_read a b (StepsTo c d (Err e) before after) (MayStep c) (Err e) (λ clean open_before. tt) glances (λ clean accounts shown. refl)
 
 -- a command that comes first asks for memory
 pub command_lacks : (c : Client) (command : Command) → HasFirst c command → may_lack c ≡ true

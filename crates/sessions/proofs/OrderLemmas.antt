@@ -1,5 +1,5 @@
 -- Commands about scripts, over a store.
-use Rattle.std.proofs.Common.{◌≡◌, ◌⊎◌, ℕ, Bool, true, false, cond, List, ◌++◌, Option, Some, None, Ok, Err, Result, OnOk, IfOk, IfErr, IsSome, refl, sym, ap, ◌∙◌, subst, inl, inr}
+use Rattle.std.proofs.Common.{◌≡◌, ◌⊎◌, ℕ, Bool, true, false, cond, List, ◌++◌, Option, Some, None, Ok, Err, Result, OnOk, IfOk, IfErr, IsSome, IsTrue, refl, sym, ap, ◌∙◌, subst, inl, inr}
 use Rattle.std.specs.Borrow.{Bor}
 use Rattle.std.specs.FinMap.{get}
 use Rattle.sqlite.specs.State.{State, HasCleanDisk}
@@ -14,6 +14,7 @@ use Rattle.mailstore.specs.Cells.{contents}
 use Rattle.mailstore.specs.Promises.{HasUser, IsFree, OfUser, Reads, WritesUser, WritesAccount}
 use Rattle.mailstore.specs.Refusals.{IsTransient}
 use Rattle.mailstore.specs.Shows.{Presents}
+use Rattle.mailtables.proofs.ResultLemmas.{on_ok}
 use Rattle.sessions.specs.declared.decision.Change.{Change}
 use Rattle.sessions.specs.declared.decision.Decision.{Decision}
 use Rattle.sessions.specs.declared.sort.NamedCommand.{NamedCommand}
@@ -110,7 +111,7 @@ module _ (user : List ℕ) (command : Command) (a b : State) (r : Result Decisio
   -- nothing is to be written
   pub obeys_quietly : (before after : List ℕ) → d.change ≡ None → after ≡ before ++ spelled d.reply → Acts (ObeyedTo user command done before after) (MayObey user command) a b done
   obeys_quietly before after none told =
-      acts_read a b (ObeyedTo user command done before after) (MayObey user command) done (glanced a b r reads.keeps)
+      acts_read a b (ObeyedTo user command done before after) (MayObey user command) done (λ clean open_before. on_ok r d was (IsTrue b.is_open) (reads.keeps.live clean)) (glanced a b r reads.keeps)
       (λ clean accounts shown. let p = (read_shows a b r d was reads.keeps clean accounts shown).0 in (d.reply, told, quiet user command d accounts (own clean accounts p) none))
 
   module _ (c : State) (change : Change) (some : d.change ≡ Some change) (w : Result (Unit {0}) Refusal) (late : WritesAccount user (change_made change) b c w) where

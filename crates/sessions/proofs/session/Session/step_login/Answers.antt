@@ -51,7 +51,7 @@ returns g c =
     record {
       acts =
           login_answered c.args.self.now.client (Login c.args.command.now) c.requires (state g.S.Store c.args.store.now) (state g.S.Store c.admitted.new.store) c.take_turn.new.self.client c.in_ok-who.who c.in_ok-turn.turn c.in_ok-progress.progress
-          c.args.out.now c.take_turn.new.out (login_other c.args.command.now) c.admitted.ensures.glances
+          c.args.out.now c.take_turn.new.out (login_other c.args.command.now) c.in_ok-who.ensures.live c.admitted.ensures.glances
           (λ clean accounts shown. ap (λ o. admitted_in accounts o) (ap (λ o. login_text o (of_login c.args.command.now)) (sym user) ∙ sym c.login_text.ensures) ∙ c.in_ok-who.ensures.found clean accounts shown)
           (subst (λ f. IsTurn (FitsLogin c.args.self.now.client.user f (of_login c.args.command.now) c.in_ok-who.who) (of_login c.args.command.now) c.in_ok-turn.turn) failures
           (subst (λ o. IsTurn (FitsLogin o c.self.inside.failures (of_login c.args.command.now) c.in_ok-who.who) (of_login c.args.command.now) c.in_ok-turn.turn) user turn))
