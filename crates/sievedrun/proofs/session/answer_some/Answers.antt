@@ -7,10 +7,45 @@ use Rattle.sievedrun.proofs.session.answer_some.Goals as goal
 pub returns-in_err-write_all-clause-answers : goal.returns-in_err-write_all-clause-answers
 returns-in_err-write_all-clause-answers g c tells accounts shown =
     let out = g.W.Write.contents c.args.output.now in
+    let m = c.answer_under_lock-answered.new.session.client in
     let new = g.K.Keeper.holds c.answer_under_lock-answered.new.keeper in
     let empty : c.new-answers.result ≡ [] = search rules in
+    let text : c.answer_under_lock-answered.new.answers ≡ c.as_slice.result.now = search rules in
     let is : c.from_residual.result ≡ Err c.in_err-write_all.field-0.0 = search rules in
-    subst (WritesFirst accounts c.args.session.now.client out (g.W.Write.contents c.write_all.new.output) c.answer_under_lock-answered.new.session.client new) (c.in_err-write_all.was ∙ sym is)
-    (first_written accounts c.args.session.now.client c.answer_under_lock-answered.new.session.client out (g.W.Write.contents c.write_all.new.output) c.answer_under_lock-answered.new.answers new
-    (rw empty (c.answer_under_lock-answered.ensures.answers tells accounts shown)) c.write_all.result c.write_all.ensures.ok c.write_all.ensures.err)
+    let answered : Answered accounts c.args.session.now.client [] c.as_slice.result.now m new =
+    subst (λ (w : List ℕ). Answered accounts c.args.session.now.client [] w m new) text
+    (subst (λ (w : List ℕ). Answered accounts c.args.session.now.client w c.answer_under_lock-answered.new.answers m new) empty (c.answer_under_lock-answered.ensures.answers tells accounts shown)) in
+    subst (WritesFirst accounts c.args.session.now.client out (g.W.Write.contents c.write_all.new.output) m new) (c.in_err-write_all.was ∙ sym is)
+    (first_written accounts c.args.session.now.client m out (g.W.Write.contents c.write_all.new.output) c.as_slice.result.now new answered c.write_all.result c.write_all.ensures.ok c.write_all.ensures.err)
 
+pub returns-then-answered-clause-answers : goal.returns-then-answered-clause-answers
+returns-then-answered-clause-answers g c tells accounts shown =
+    let out = g.W.Write.contents c.args.output.now in
+    let m = c.answer_under_lock-answered.new.session.client in
+    let new = g.K.Keeper.holds c.answer_under_lock-answered.new.keeper in
+    let empty : c.new-answers.result ≡ [] = search rules in
+    let text : c.answer_under_lock-answered.new.answers ≡ c.as_slice.result.now = search rules in
+    let answered : Answered accounts c.args.session.now.client [] c.as_slice.result.now m new =
+    subst (λ (w : List ℕ). Answered accounts c.args.session.now.client [] w m new) text
+    (subst (λ (w : List ℕ). Answered accounts c.args.session.now.client w c.answer_under_lock-answered.new.answers m new) empty (c.answer_under_lock-answered.ensures.answers tells accounts shown)) in
+    subst (WritesFirst accounts c.args.session.now.client out (g.W.Write.contents c.write_all.new.output) m new) c.in_ok-write_all.was
+    (first_written accounts c.args.session.now.client m out (g.W.Write.contents c.write_all.new.output) c.as_slice.result.now new answered c.write_all.result c.write_all.ensures.ok c.write_all.ensures.err)
+
+pub returns-clause-answers : goal.returns-clause-answers
+returns-clause-answers g c tells accounts shown =
+    let out = g.W.Write.contents c.args.output.now in
+    let out2 = g.W.Write.contents c.write_all.new.output in
+    let out3 = g.W.Write.contents c.write_all-2.new.output in
+    let m = c.answer_under_lock-answered.new.session.client in
+    let new = g.K.Keeper.holds c.answer_under_lock-answered.new.keeper in
+    let empty : c.new-answers.result ≡ [] = search rules in
+    let text : c.answer_under_lock-answered.new.answers ≡ c.as_slice.result.now = search rules in
+    let answered : Answered accounts c.args.session.now.client [] c.as_slice.result.now m new =
+    subst (λ (w : List ℕ). Answered accounts c.args.session.now.client [] w m new) text
+    (subst (λ (w : List ℕ). Answered accounts c.args.session.now.client w c.answer_under_lock-answered.new.answers m new) empty (c.answer_under_lock-answered.ensures.answers tells accounts shown)) in
+    let written : Writes accounts c.args.session.now.client out out2 m new =
+    subst (WritesFirst accounts c.args.session.now.client out out2 m new) c.in_ok-write_all.was
+    (first_written accounts c.args.session.now.client m out out2 c.as_slice.result.now new answered c.write_all.result c.write_all.ensures.ok c.write_all.ensures.err) in
+    first_on accounts c.args.session.now.client m c.give_up.new.self.client out out2 out3 new new written c.write_all-2.result
+    (λ a there. first_given_up a m c.give_up.new.self.client out2 out3 c.give_up.result.now new (c.answer_under_lock-answered.ensures.stopped c.if-answered.false) there
+    c.give_up.ensures.text c.give_up.ensures.client c.write_all-2.result c.write_all-2.ensures.ok c.write_all-2.ensures.err)
