@@ -273,7 +273,9 @@ fn answer_first<K: Keeper>(
 {
     match session.step_free(answers) {
         Ok(Stepped::Made(_)) => Ok(()),
-        Ok(Stepped::Asks(order)) => answer_over_store(session, path, &order, answers, store, keeper),
+        Ok(Stepped::Asks(order)) => answer_over_store(
+            session, path, &order, answers, store, keeper,
+        ),
         Err(AllocError) => Err(Held::Refused(Refusal::Memory)),
     }
 }
