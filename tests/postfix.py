@@ -157,8 +157,8 @@ class Host:
         return text
 
     def run(self, first, last):
-        """Runs the commands of the page from the line that begins so to the first one behind it that does."""
-        lines = [line.strip() for line in page().split("\n") if line.startswith("    ")]
+        """Runs the commands of the page from the line that begins so to the first one behind it that does, without `postfix reload`."""
+        lines = [line.strip() for line in page().split("\n") if line.startswith("    ") and "postfix reload" not in line]
         begin = next(at for at, line in enumerate(lines) if line.startswith(first))
         end = next(at for at, line in enumerate(lines) if at >= begin and line.startswith(last))
         subprocess.run(["sh", "-e", "-c", self.ours("\n".join(lines[begin:end + 1]))], stdin=subprocess.DEVNULL, capture_output=True, check=True)
@@ -400,7 +400,7 @@ def stores_and_domains():
     """Tables, transports and units by the page's lines: two users of a store, one of another, and one of a domain whose users are apart."""
     with a_host() as host:
         two = f"{host.room}/var/two.db"
-        host.run("printf 'alice sieved:", "postfix reload")
+        host.run("printf 'alice sieved:", "postconf -M 'sieved/")
         host.run("printf 'carol@example.net", "postconf -M 'sieved-addresses")
         host.run("runuser -u sieved -- sieved init --db /var/lib/sieved/two.db", "printf 'SIEVED_DB=")
         host.run("echo 'USERS=", "echo 'USERS=")
