@@ -539,6 +539,42 @@ def reserve_makes_room():
     return f"after {count} deliveries the disk is full and no message leaves the store; without the reserve {runs} runs move all, and there is room again"
 
 
+# backup and restore
+
+
+def restore_keeps_the_old():
+    """By the page's lines: a copy that is no store changes nothing, a good one takes the place of the old store, which is moved aside."""
+    trials.need_root()
+    trials.need("flock", "sqlite3")
+    with open(f"{DOCS}/OPERATING.md") as file:
+        section = file.read().split("\n## Backup and restore\n")[1].split("\n## ")[0]
+    host = Host("alice", "bob")
+    ours = re.sub(r"runuser -u sieved -- (sieved )?", lambda found: f"'{host.sieved}' " if found[1] else "", section)
+    for given, own in (("/var/lib/sieved", host.room), ("/var/backups/sieved", f"{host.room}/backups"), (" -o sieved -g sieved", ""), ("systemctl ", ": "),
+                       ("sieved-drain alice", f"'{DOCS}/sieved-drain' alice")):
+        ours = ours.replace(given, own)
+    blocks = ["\n".join(line[4:] for line in block.split("\n")) for block in re.findall(r"(?:\n    .*)+", ours)]
+    run = lambda text: subprocess.run(["sh", "-e", "-c", text], env=host.env, capture_output=True)
+    copy, look, restore, drain = (lambda text=text: run(text) for text in blocks)
+    deliver = lambda subject: host.deliver("--no-drain", "--to", "a@b", "alice", data=MAIL % subject)[0] == 0
+    assert os.path.basename(host.file) == "mail.db" and deliver(b"one")
+    assert copy().returncode == 0 and deliver(b"two")
+    os.truncate(f"{host.room}/backups/mail.db", 20_000)
+    assert look().returncode and restore().returncode and len(host.stored()) == 2 and not os.path.exists(f"{host.room}/before-restore")
+    done = [copy()]
+    host.program("away", f"#!/bin/sh\nexec '{host.sieved}' drain --db '{host.file}' --most 1 alice INBOX '{host.mail}'\n")
+    for name in "tmp", "new", "cur":
+        os.mkdir(f"{host.mail}/{name}")
+    assert run(f"{host.room}/away").returncode == 0 and host.moved() == [MAIL % b"one"] and deliver(b"three")
+    done += [look(), restore()]
+    assert [one.returncode for one in done] == [0, 0, 0] and done[1].stdout == b"ok\nINBOX 2\n" and done[2].stdout == b"INBOX 2\n", done
+    assert sorted(host.stored()) == [MAIL % b"one", MAIL % b"two"] and not [name for name in os.listdir(host.room) if name.startswith("restored")]
+    done = drain()
+    assert done.returncode == 0 and MAIL % b"three" in host.moved() and len(host.stored()) == 2, done
+    assert deliver(b"four") and len(host.stored()) == 3
+    return "a copy that is cut off changes nothing; a good one is the store, and the old one's mail is drained from where it stands"
+
+
 # the scripts' text
 
 
@@ -572,7 +608,7 @@ def text_by_shellcheck():
 TRIALS = {trial.__name__: trial for trial in (
     text_by_sh, text_by_shellcheck, deliver_statuses, deliver_faults, deliver_cut, deliver_killed, deliver_full_disk,
     queue_addresses, queue_targets, queue_rows, queue_beside, queue_by_hand, drain_folders, drain_subscriptions, drain_users, drain_listings, drain_killed,
-    drain_full_disk, drain_order, reserve_makes_room)}
+    drain_full_disk, drain_order, reserve_makes_room, restore_keeps_the_old)}
 
 if __name__ == "__main__":
     trials.main(TRIALS, lambda program: PROGRAM.__setitem__(0, program))
