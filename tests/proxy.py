@@ -216,6 +216,10 @@ def other_disk():
         assert given.call("sieved-drain", "alice", SIEVED_MAIL=f"{host.room}/mnt")[0] == 0
         assert given.deliver("--no-drain", "--to", "alice@example.org", "alice", data=messages["lists"])[0] == 0
         assert given.call("sieved-drain", "alice", SIEVED_MAIL=f"{host.room}/var/mail")[0] == 0
+        (file,) = os.listdir(f"{host.room}/mnt/alice/new")
+        seen = f"{host.room}/mnt/alice/cur/{file}:2,S"
+        os.rename(f"{host.room}/mnt/alice/new/{file}", seen)
+        os.utime(seen, (1_000_000_000,) * 2)
         subprocess.run(["chown", "-R", "nobody:nogroup", f"{host.room}/mnt", f"{host.room}/var/mail"], check=True)
         line = line.replace("doveadm ", f"doveadm -c {host.room}/dovecot.conf ").replace("/mnt/room/mail/", f"{host.room}/mnt/")
         done = subprocess.run(["sh", "-e", "-c", line], capture_output=True)
@@ -226,8 +230,11 @@ def other_disk():
         for name in counts:
             answer = client.select('"%s"' % name.replace("\\", "\\\\"), readonly=True)
             assert answer == ("OK", [b"2" if name == "lists" else b"1"]), (name, answer)
+        client.select("INBOX", readonly=True)
+        told = client.fetch("1", "(FLAGS INTERNALDATE)")[1][0]
+        assert b"\\Seen" in told and imaplib.Internaldate2tuple(told) == time.localtime(1_000_000_000), told
         client.logout()
-    return f"{len(counts)} folders, one of them there already: each message is in its folder, each folder subscribed"
+    return f"{len(counts)} folders, one of them there already: each message is in its folder, with its date and flags, each folder subscribed"
 
 
 def first_of(line):
