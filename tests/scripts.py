@@ -571,7 +571,7 @@ def restore_keeps_the_old():
     assert sorted(host.stored()) == [MAIL % b"one", MAIL % b"two"] and not [name for name in os.listdir(host.room) if name.startswith("restored")]
     done = drain()
     assert done.returncode == 0 and MAIL % b"three" in host.moved() and len(host.stored()) == 2, done
-    assert deliver(b"four") and len(host.stored()) == 3
+    assert deliver(b"four") and look().returncode == 0 and restore().returncode and len(host.stored()) == 3
     return "a copy that is cut off changes nothing; a good one is the store, and the old one's mail is drained from where it stands"
 
 
