@@ -206,6 +206,37 @@ def folders():
     return f"{len(scripts.FOLDERS)} folders by `.` and by `/`: listed, subscribed, each with its message"
 
 
+def other_disk():
+    """What the full disk's recipe has moved elsewhere comes back into the user's own folders, by the page's line."""
+    trials.need("flock")
+    with a_host() as host, open(OPERATING) as file:
+        line = re.search(r"\n    (doveadm import .* alice .*)", file.read())[1]
+        host.add_user("alice", host.store, "human")
+        given, messages = scripts.filled(*scripts.FOLDERS)
+        assert given.call("sieved-drain", "alice", SIEVED_MAIL=f"{host.room}/mnt")[0] == 0
+        assert given.deliver("--no-drain", "--to", "alice@example.org", "alice", data=messages["lists"])[0] == 0
+        assert given.call("sieved-drain", "alice", SIEVED_MAIL=f"{host.room}/var/mail")[0] == 0
+        (file,) = os.listdir(f"{host.room}/mnt/alice/new")
+        seen = f"{host.room}/mnt/alice/cur/{file}:2,S"
+        os.rename(f"{host.room}/mnt/alice/new/{file}", seen)
+        os.utime(seen, (1_000_000_000,) * 2)
+        subprocess.run(["chown", "-R", "nobody:nogroup", f"{host.room}/mnt", f"{host.room}/var/mail"], check=True)
+        line = line.replace("doveadm ", f"doveadm -c {host.room}/dovecot.conf ").replace("/mnt/room/mail/", f"{host.room}/mnt/")
+        done = subprocess.run(["sh", "-e", "-c", line], capture_output=True)
+        assert (done.returncode, done.stderr) == (0, b"") and not os.listdir(f"{host.room}/mnt"), done
+        client = host.imap_client("alice", "human")
+        counts = {name: 1 for name in map(name_of, client.lsub()[1])}
+        assert len(counts) == len(scripts.FOLDERS) and "work/x" in counts, counts
+        for name in counts:
+            answer = client.select('"%s"' % name.replace("\\", "\\\\"), readonly=True)
+            assert answer == ("OK", [b"2" if name == "lists" else b"1"]), (name, answer)
+        client.select("INBOX", readonly=True)
+        told = client.fetch("1", "(FLAGS INTERNALDATE)")[1][0]
+        assert b"\\Seen" in told and imaplib.Internaldate2tuple(told) == time.localtime(1_000_000_000), told
+        client.logout()
+    return f"{len(counts)} folders, one of them there already: each message is in its folder, with its date and flags, each folder subscribed"
+
+
 def first_of(line):
     return line[0] if isinstance(line, tuple) else line
 
@@ -218,7 +249,7 @@ def name_of(line):
     return re.sub(r"\\(.)", r"\1", name[1:-1]) if name.startswith('"') else name
 
 
-TRIALS = {trial.__name__: trial for trial in (log_ins, two_stores, folders)}
+TRIALS = {trial.__name__: trial for trial in (log_ins, two_stores, folders, other_disk)}
 
 if __name__ == "__main__":
     trials.main(TRIALS, lambda program: scripts.PROGRAM.__setitem__(0, program))

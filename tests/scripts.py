@@ -228,7 +228,10 @@ def checked_runs(host, user, before):
     lines = said.decode(errors="replace").splitlines()
     assert len(lines) == len(before) - len(may_go), lines
     for line in lines:
-        command = line.split("takes it off: ")[1]
+        number, look, command = re.fullmatch(r"sieved-queue: \S+ (\d+): .*; this shows it: (.*); this takes it off: (.*)", line).groups()
+        if int(number) % 20 == 0:
+            shown = subprocess.run(["sh", "-c", look.removesuffix(" | cat -v")], capture_output=True)
+            assert (shown.returncode, hashlib.sha256(shown.stdout).hexdigest()) == (0, before[int(number)][2]), line
         assert subprocess.run(["sh", "-c", command], capture_output=True).returncode == 0, line
     assert not host.rows(user), host.rows(user)
     return len(wanted), len(lines)
@@ -285,6 +288,52 @@ def queue_rows():
     assert status == 75 and host.rows("alice") == rows and not host.runs(), (status, said)
     assert checked_runs(host, "alice", rows) == (7, 0)
     return "seven rows, each to its target alone; what sendmail refuses, and all where there is no awk, stays with 75"
+
+
+def queue_beside():
+    """Two runs side by side, one of them by hand: with flock each row goes once. Without it they'd send rows twice."""
+    trials.need("awk", "flock")
+    host = Host("alice", "bob")
+    host.script("alice", b'redirect "far@example.com";')
+    slow = host.program("slow", f'#!/bin/sh\nsleep 0.1\nexec "{host.env["SENDMAIL"]}" "$@"\n')
+    tools = f"{host.room}/tools"
+    os.mkdir(tools)
+    for tool in "awk", "cat", "env", "mktemp", "python3", "rm", "sh", "sleep":
+        os.symlink(shutil.which(tool), f"{tools}/{tool}")
+    counts = []
+    for path in os.environ["PATH"], tools:
+        for _ in range(6):
+            assert host.deliver("--no-drain", "--to", "alice@example.org", "alice")[0] == 0
+        runs = [host.start("sieved-queue", "bob", "alice", SENDMAIL=slow, PATH=path) for _ in range(2)]
+        ended = [(run.communicate(timeout=120)[1], run.returncode) for run in runs]
+        counts.append(len(host.runs()))
+        os.remove(host.env["RUNS"])
+        assert not host.rows("alice"), ended
+        assert path == tools or ended == [(b"", 0)] * 2, ended
+    assert counts[0] == 6 < counts[1], counts
+    return f"six rows went {counts[0]} times; where there is no flock, {counts[1]} times"
+
+
+def queue_by_hand():
+    """A row that is set aside, sent on by the page's lines: what its addresses have is no shell's to read."""
+    trials.need("awk")
+    host = Host("alice")
+    host.script("alice", b'redirect "far@example.com";')
+    for sender in "x, victim@example.com,@evil.example", "a'$(touch x)`touch y`;\x1b[2J b@evil.example":
+        assert host.deliver("--no-drain", "--from", sender, "--to", "alice@example.org", "alice", data=MAIL % b"\x1b[2J")[0] == 0
+    with open(f"{DOCS}/OPERATING.md") as file:
+        lines = [line[4:] for line in file.read().split("**A row that can't go.**")[1].split("\n## ")[0].split("\n") if line.startswith("    ")]
+    ours = "\n".join(lines).replace("runuser -u sieved -- sieved", f"'{host.sieved}'").replace("/var/lib/sieved/mail.db", host.file)
+    ours = ours.replace("/root/", f"{host.room}/").replace("sendmail -i", "'%s' -i" % host.env["SENDMAIL"])
+    (_, _, message), *_ = host.rows("alice").values()
+    for number, (sender, target) in enumerate([("alice@example.org", "far@example.com"), ("<>", "\"$(touch x)`touch y`;'\"@example.com")], 1):
+        done = subprocess.run(["sh", "-e", "-c", ours.replace("alice 3", f"alice {number}").replace("row-3", f"row-{number}")], env=host.env, cwd=host.room,
+                              input=f"{sender}\n{target}\n".encode(), capture_output=True)
+        assert (done.returncode, done.stderr) == (0, b"") and b"\x1b" not in done.stdout, done
+        assert host.runs()[-1] == ([b"-i", b"-f", sender.encode(), b"--", target.encode()], message), host.runs()
+        assert os.stat(f"{host.room}/row-{number}.eml").st_mode & 0o777 == 0o600
+    assert not host.rows("alice") and len(host.runs()) == 2 and {"x", "y"}.isdisjoint(os.listdir(host.room))
+    return "two rows looked at, sent on and taken off; each address was one word"
 
 
 # drain
@@ -490,6 +539,42 @@ def reserve_makes_room():
     return f"after {count} deliveries the disk is full and no message leaves the store; without the reserve {runs} runs move all, and there is room again"
 
 
+# backup and restore
+
+
+def restore_keeps_the_old():
+    """By the page's lines: a copy that is no store changes nothing, a good one takes the place of the old store, which is moved aside."""
+    trials.need_root()
+    trials.need("flock", "sqlite3")
+    with open(f"{DOCS}/OPERATING.md") as file:
+        section = file.read().split("\n## Backup and restore\n")[1].split("\n## ")[0]
+    host = Host("alice", "bob")
+    ours = re.sub(r"runuser -u sieved -- (sieved )?", lambda found: f"'{host.sieved}' " if found[1] else "", section)
+    for given, own in (("/var/lib/sieved", host.room), ("/var/backups/sieved", f"{host.room}/backups"), (" -o sieved -g sieved", ""), ("systemctl ", ": "),
+                       ("sieved-drain alice", f"'{DOCS}/sieved-drain' alice")):
+        ours = ours.replace(given, own)
+    blocks = ["\n".join(line[4:] for line in block.split("\n")) for block in re.findall(r"(?:\n    .*)+", ours)]
+    run = lambda text: subprocess.run(["sh", "-e", "-c", text], env=host.env, capture_output=True)
+    copy, look, restore, drain = (lambda text=text: run(text) for text in blocks)
+    deliver = lambda subject: host.deliver("--no-drain", "--to", "a@b", "alice", data=MAIL % subject)[0] == 0
+    assert os.path.basename(host.file) == "mail.db" and deliver(b"one")
+    assert copy().returncode == 0 and deliver(b"two")
+    os.truncate(f"{host.room}/backups/mail.db", 20_000)
+    assert look().returncode and restore().returncode and len(host.stored()) == 2 and not os.path.exists(f"{host.room}/before-restore")
+    done = [copy()]
+    host.program("away", f"#!/bin/sh\nexec '{host.sieved}' drain --db '{host.file}' --most 1 alice INBOX '{host.mail}'\n")
+    for name in "tmp", "new", "cur":
+        os.mkdir(f"{host.mail}/{name}")
+    assert run(f"{host.room}/away").returncode == 0 and host.moved() == [MAIL % b"one"] and deliver(b"three")
+    done += [look(), restore()]
+    assert [one.returncode for one in done] == [0, 0, 0] and done[1].stdout == b"ok\nINBOX 2\n" and done[2].stdout == b"INBOX 2\n", done
+    assert sorted(host.stored()) == [MAIL % b"one", MAIL % b"two"] and not [name for name in os.listdir(host.room) if name.startswith("restored")]
+    done = drain()
+    assert done.returncode == 0 and MAIL % b"three" in host.moved() and len(host.stored()) == 2, done
+    assert deliver(b"four") and look().returncode == 0 and restore().returncode and len(host.stored()) == 3
+    return "a copy that is cut off changes nothing; a good one is the store, and the old one's mail is drained from where it stands"
+
+
 # the scripts' text
 
 
@@ -522,8 +607,8 @@ def text_by_shellcheck():
 
 TRIALS = {trial.__name__: trial for trial in (
     text_by_sh, text_by_shellcheck, deliver_statuses, deliver_faults, deliver_cut, deliver_killed, deliver_full_disk,
-    queue_addresses, queue_targets, queue_rows, drain_folders, drain_subscriptions, drain_users, drain_listings, drain_killed,
-    drain_full_disk, drain_order, reserve_makes_room)}
+    queue_addresses, queue_targets, queue_rows, queue_beside, queue_by_hand, drain_folders, drain_subscriptions, drain_users, drain_listings, drain_killed,
+    drain_full_disk, drain_order, reserve_makes_room, restore_keeps_the_old)}
 
 if __name__ == "__main__":
     trials.main(TRIALS, lambda program: PROGRAM.__setitem__(0, program))

@@ -40,6 +40,28 @@ nearly_inbox : directory Dot (codes "inbox2") ≡ codes ".inbox2"
 unfolding chars is_utf8 lib.Utf8.encode
 nearly_inbox = refl
 
+-- a first level INBOX is `INBOX`, in any case
+below_any_inbox : directory Dot (codes "Inbox.Junk") ≡ codes ".INBOX.Junk"
+unfolding chars is_utf8 lib.Utf8.encode
+below_any_inbox = refl
+
+below_slash : directory Slash (codes "inbox/a/Inbox") ≡ codes ".INBOX.a.Inbox"
+unfolding chars is_utf8 lib.Utf8.encode
+below_slash = refl
+
+-- near misses: no level of that name, by that separator; a longer one; and a later one
+no_level_there : directory Slash (codes "Inbox.Junk") ≡ codes ".Inbox\\2eJunk"
+unfolding chars is_utf8 lib.Utf8.encode
+no_level_there = refl
+
+longer_level : directory Dot (codes "Inboxes.Junk") ≡ codes ".Inboxes.Junk"
+unfolding chars is_utf8 lib.Utf8.encode
+longer_level = refl
+
+later_level : directory Dot (codes "x.Inbox") ≡ codes ".x.Inbox"
+unfolding chars is_utf8 lib.Utf8.encode
+later_level = refl
+
 -- `Größe`: ö and ß are one run
 abbrev size_name : List ℕ
 size_name = codes "Gr" ++ 195 ∷ 182 ∷ 195 ∷ 159 ∷ codes "e"
@@ -93,9 +115,25 @@ no_name = refl
 one_inbox : MayShare Dot (codes "inbox") (codes "INBOX")
 one_inbox = inr (inl (refl, refl))
 
--- near miss: two other names in letters of either case aren't
+-- what lies below it is so too
+below_one_inbox : MayShare Dot (codes "Inbox.Junk") (codes "INBOX.Junk")
+below_one_inbox = inl refl
+
+-- near misses: other names in letters of either case aren't, nor is a level that only begins so
 two_cases : MayShare Dot (codes "work") (codes "Work") → ⊥
 unfolding chars is_utf8 lib.Utf8.encode
 two_cases (inl same) = let first : 119 ≡ 87 = ap (λ l. slice_index l 0) same in absurd (omega (arith, first))
 two_cases (inr (inl (one, two))) = cc
 two_cases (inr (inr (one, two, three))) = cc
+
+two_levels : MayShare Dot (codes "Inboxes.Junk") (codes "inboxes.Junk") → ⊥
+unfolding chars is_utf8 lib.Utf8.encode
+two_levels (inl same) = let first : 73 ≡ 105 = ap (λ l. slice_index l 0) same in absurd (omega (arith, first))
+two_levels (inr (inl (one, two))) = cc
+two_levels (inr (inr (one, two, three))) = cc
+
+two_ends : MayShare Dot (codes "Inbox.Junk") (codes "INBOX.junk") → ⊥
+unfolding chars is_utf8 lib.Utf8.encode
+two_ends (inl same) = let seventh : 74 ≡ 106 = ap (λ l. slice_index l 6) same in absurd (omega (arith, seventh))
+two_ends (inr (inl (one, two))) = cc
+two_ends (inr (inr (one, two, three))) = cc

@@ -11,7 +11,7 @@ use Rattle.sha2.specs.Sha256.{sha256}
 use Rattle.octets.specs.Ascii.{is_printable}
 use Rattle.maildirs.specs.declared.separator.Separator.{Separator}
 use Rattle.maildirs.specs.declared.separator.Separator.TheVariants.{Dot, Slash}
-use Rattle.maildirs.specs.Directory.{digest_form, directory, has_form, is_inbox}
+use Rattle.maildirs.specs.Directory.{digest_form, directory, folded, has_form, is_inbox, named}
 use Rattle.maildirs.specs.Inside.{IsInside}
 use Rattle.maildirs.specs.Levels.{goes_on, has_levels}
 use Rattle.maildirs.specs.Spelling.{Piece, Printable, Run, before_pieces, name_spelled, octet_of, pieces_of, spelled, spellings, utf16_of, written}
@@ -122,9 +122,9 @@ form_inside false separator name told = record {
   short = (let long = length-digest name in omega (arith, long));
 }
 
-by_name : (inbox : Bool) (separator : Separator) (name : List ℕ) → IsInside (cond inbox (codes ".") (cond (has_form separator name) (written separator name) (digest_form name)))
+by_name : (inbox : Bool) (separator : Separator) (name : List ℕ) → IsInside (cond inbox (codes ".") (named separator name))
 by_name true separator name = record { dotted = ([], refl); kept = refl; not_above = (λ same. cc); short = omega arith }
 by_name false separator name = form_inside (has_form separator name) separator name refl
 
 pub directory_inside : (separator : Separator) (name : List ℕ) → IsInside (directory separator name)
-directory_inside separator name = by_name (is_inbox name) separator name
+directory_inside separator name = by_name (is_inbox name) separator (folded separator name)

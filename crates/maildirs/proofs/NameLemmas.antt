@@ -41,12 +41,14 @@ pub form_is : (separator : Separator) (name place : List ℕ) → IsUtf8 name �
 form_is separator name place text levels told fits =
     form_of_tests (is_utf8 name) (has_levels (octet_of separator) name) (nat_le (length (written separator name)) 250) (is_utf8-from_IsUtf8 name text) levels (ap (λ l. nat_le (length l) 250) (sym told) ∙ fits)
 
-pub place_spelled : (inbox form : Bool) (place spelt digest : List ℕ) → inbox ≡ false → Some place ≡ cond form (Some spelt) None → place ≡ cond inbox (codes ".") (cond form spelt digest)
-place_spelled true form place spelt digest other told = cc
-place_spelled false true place spelt digest other told = cc
-place_spelled false false place spelt digest other told = cc
+pub place_spelled : (form : Bool) (place spelt digest : List ℕ) → Some place ≡ cond form (Some spelt) None → place ≡ cond form spelt digest
+place_spelled true place spelt digest told = cc
+place_spelled false place spelt digest told = cc
 
-pub place_digest : (inbox form : Bool) (spelt digest : List ℕ) → inbox ≡ false → ◌≡◌ {A = Option (List ℕ)} None (cond form (Some spelt) None) → digest ≡ cond inbox (codes ".") (cond form spelt digest)
-place_digest true form spelt digest other told = cc
-place_digest false true spelt digest other told = cc
-place_digest false false spelt digest other told = refl
+pub place_digest : (form : Bool) (spelt digest : List ℕ) → ◌≡◌ {A = Option (List ℕ)} None (cond form (Some spelt) None) → digest ≡ cond form spelt digest
+place_digest true spelt digest told = cc
+place_digest false spelt digest told = refl
+
+pub elsewhere : (inbox : Bool) (place : List ℕ) → inbox ≡ false → place ≡ cond inbox (codes ".") place
+elsewhere true place other = cc
+elsewhere false place other = refl

@@ -16,7 +16,7 @@ use Rattle.hex.proofs.HexLemmas.{decode_of-encode_lower}
 use Rattle.sha2.specs.Sha256.{sha256}
 use Rattle.octets.specs.Ascii.{is_printable}
 use Rattle.maildirs.specs.declared.separator.Separator.{Separator}
-use Rattle.maildirs.specs.Directory.{MayShare, digest_form, directory, has_form, is_inbox}
+use Rattle.maildirs.specs.Directory.{MayShare, digest_form, directory, folded, has_form, is_inbox}
 use Rattle.maildirs.specs.Levels.{has_levels}
 use Rattle.maildirs.specs.Spelling.{Piece, Printable, Run, before_pieces, high_first, modified_base64, modified_symbols, name_spelled, octet_of, piece_spelling, pieces_of, spelled, spellings, utf16_of, written}
 use Rattle.maildirs.proofs.KeptLemmas.{AreSmall, IsSound, AreSound, digest_small, modified_passes, pieces_sound}
@@ -300,19 +300,22 @@ digests_alike one two same =
     let back : Ok (sha256 one) ≡ Ok (sha256 two) = sym (decode_of-encode_lower (sha256 one) (small_at (sha256 one) (digest_small one))) ∙ ap decode_of digits ∙ decode_of-encode_lower (sha256 two) (small_at (sha256 two) (digest_small two)) in
     cc
 
-shared_by : (separator : Separator) (one two : List ℕ) (inbox other form its : Bool) → is_inbox one ≡ inbox → is_inbox two ≡ other → has_form separator one ≡ form → has_form separator two ≡ its
-    → cond inbox (codes ".") (cond form (written separator one) (digest_form one)) ≡ cond other (codes ".") (cond its (written separator two) (digest_form two)) → MayShare separator one two
+shared_by : (separator : Separator) (one two : List ℕ) (inbox other form its : Bool) → is_inbox one ≡ inbox → is_inbox two ≡ other
+    → has_form separator (folded separator one) ≡ form → has_form separator (folded separator two) ≡ its
+    → cond inbox (codes ".") (cond form (written separator (folded separator one)) (digest_form (folded separator one)))
+    ≡ cond other (codes ".") (cond its (written separator (folded separator two)) (digest_form (folded separator two))) → MayShare separator one two
 shared_by separator one two true true form its a b c d same = inr (inl (a, b))
-shared_by separator one two true false form true a b c d same = absurd (form_no_inbox separator two d same)
+shared_by separator one two true false form true a b c d same = absurd (form_no_inbox separator (folded separator two) d same)
 shared_by separator one two true false form false a b c d same = absurd cc
-shared_by separator one two false true true its a b c d same = absurd (form_no_inbox separator one c (sym same))
+shared_by separator one two false true true its a b c d same = absurd (form_no_inbox separator (folded separator one) c (sym same))
 shared_by separator one two false true false its a b c d same = absurd cc
 shared_by separator one two false false true true a b c d same =
-    let names : name_spelled separator one ≡ name_spelled separator two = cc in
-    inl (names_alike separator one two (form_text separator one c) (form_text separator two d) names)
-shared_by separator one two false false true false a b c d same = absurd (form_no_digest separator one two c (sym same))
-shared_by separator one two false false false true a b c d same = absurd (form_no_digest separator two one d same)
-shared_by separator one two false false false false a b c d same = inr (inr (c, d, digests_alike one two same))
+    let names : name_spelled separator (folded separator one) ≡ name_spelled separator (folded separator two) = cc in
+    inl (names_alike separator (folded separator one) (folded separator two) (form_text separator (folded separator one) c) (form_text separator (folded separator two) d) names)
+shared_by separator one two false false true false a b c d same = absurd (form_no_digest separator (folded separator one) (folded separator two) c (sym same))
+shared_by separator one two false false false true a b c d same = absurd (form_no_digest separator (folded separator two) (folded separator one) d same)
+shared_by separator one two false false false false a b c d same = inr (inr (c, d, digests_alike (folded separator one) (folded separator two) same))
 
 pub shared : (separator : Separator) (one two : List ℕ) → directory separator one ≡ directory separator two → MayShare separator one two
-shared separator one two same = shared_by separator one two (is_inbox one) (is_inbox two) (has_form separator one) (has_form separator two) refl refl refl refl same
+shared separator one two same =
+    shared_by separator one two (is_inbox one) (is_inbox two) (has_form separator (folded separator one)) (has_form separator (folded separator two)) refl refl refl refl same

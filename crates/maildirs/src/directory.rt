@@ -1,7 +1,7 @@
 //! The directory of a folder.
 ghost use Rattle.std.specs.Prelude.{◌≡◌, if◌then◌else◌, IfOk};
-ghost use Rattle.maildirs.specs.Directory.{digest_form, directory, has_form};
-ghost use Rattle.maildirs.specs.Spelling.{written};
+ghost use Rattle.maildirs.specs.Directory.{begins_with, digest_form, directory, folded, has_form, named};
+ghost use Rattle.maildirs.specs.Spelling.{octet_of, written};
 
 use crate::level::has_levels;
 use crate::separator::Separator;
@@ -14,7 +14,8 @@ use std::alloc::{AllocError, Global};
 const MAX_DIRECTORY_LEN: usize = 250;
 
 /// The directory, within a user's Maildir, of the folder with this name, as Maildir++ has it: `.` for INBOX, and else
-/// one that begins with `.`, of 32 to 126 without `/`, and of at most 250 octets.
+/// one that begins with `.`, of 32 to 126 without `/`, and of at most 250 octets. A first level that is INBOX but for case
+/// is `INBOX`, since IMAP has one INBOX.
 ///
 /// A name that is empty or has an empty level, isn't UTF-8 or has a longer directory gets one by its digest. Time and memory are linear in the name.
 pub fn directory_of(alloc: Global, name: &[u8], separator: Separator) -> Result<Octets, AllocError>
@@ -23,6 +24,42 @@ pub fn directory_of(alloc: Global, name: &[u8], separator: Separator) -> Result<
     if name.eq_ignore_ascii_case(b"INBOX") {
         return Octets::from_slice(alloc, b".");
     }
+    let name = folded(alloc, name, separator)?;
+    named(alloc, name.as_slice(), separator)
+}
+
+/// The name, with a first level of several that is INBOX but for case as `INBOX`.
+fn folded(alloc: Global, name: &[u8], separator: Separator) -> Result<Octets, AllocError>
+    ensures { IfOk result (λ text. text ≡ folded separator name.now) }
+{
+    let Some((first, rest)) = name.split_at_checked(5) else {
+        return Octets::from_slice(alloc, name);
+    };
+    if !first.eq_ignore_ascii_case(b"INBOX") {
+        return Octets::from_slice(alloc, name);
+    }
+    if !begins_with(rest, separator.octet()) {
+        return Octets::from_slice(alloc, name);
+    }
+    let mut text = Octets::from_slice(alloc, b"INBOX")?;
+    text.extend_from_slice(rest)?;
+    Ok(text)
+}
+
+/// Whether the octet stands at the front.
+fn begins_with(text: &[u8], octet: u8) -> bool
+    ensures { result ≡ begins_with octet text.now }
+{
+    match text.first() {
+        Some(first) => *first == octet,
+        None => false,
+    }
+}
+
+/// The directory of a name that isn't INBOX.
+fn named(alloc: Global, name: &[u8], separator: Separator) -> Result<Octets, AllocError>
+    ensures { IfOk result (λ place. place ≡ named separator name.now) }
+{
     match spelled_form(alloc, name, separator)? {
         Some(place) => Ok(place),
         None => digest_form(alloc, name),

@@ -11,7 +11,7 @@ pub fn directories_inside()
     ensures digest { (name : List ℕ) → length (digest_form name) ≡ 67 }
 {}
 
-/// Two names have two directories, but for INBOX in letters of either case and but for a collision of SHA-256.
+/// Two names have two directories, but for INBOX, or a first level INBOX, in letters of either case, and but for a collision of SHA-256.
 pub fn directories_differ()
     ensures { (separator : Separator) (one two : List ℕ) → directory separator one ≡ directory separator two → MayShare separator one two }
 {}

@@ -61,7 +61,7 @@ module _ (user : List ℕ) (envelope : Envelope) (message : List ℕ) (moment : 
 
   -- a limit stands against it
   pub delivery_limited : (a : State) (e : Refusal) → limit_refusal envelope message moment ≡ Some e → ActsDelivery user envelope message moment a a (Err e)
-  delivery_limited a e is = acts_read a a (TurnsBy Row May (Refused e)) (MayTurnBy Row) (Err e) (no_glance a)
+  delivery_limited a e is = acts_read a a (TurnsBy Row May (Refused e)) (MayTurnBy Row) (Err e) (λ clean open_before. tt) (no_glance a)
       (λ clean accounts shown. inl (subst (λ o. DeliversUnder o accounts user moment envelope message (Refused e) accounts) (sym is) (record { refused = refl; stays = refl })))
 
   module _ (none : limit_refusal envelope message moment ≡ None) where
@@ -72,7 +72,7 @@ module _ (user : List ℕ) (envelope : Envelope) (message : List ℕ) (moment : 
     -- nothing was done for want of memory
     pub delivery_lacks : (a : State) (q : Result Report Refusal) → OnOk q ⊥ → IfErr q IsTransient → ActsDelivery user envelope message moment a a q
     delivery_lacks a (Ok report) undone transient = absurd undone
-    delivery_lacks a (Err e) undone transient = acts_read a a (TurnsBy Row May (Refused e)) (MayTurnBy Row) (Err e) (no_glance a) (λ clean accounts shown. transient_turn e accounts transient)
+    delivery_lacks a (Err e) undone transient = acts_read a a (TurnsBy Row May (Refused e)) (MayTurnBy Row) (Err e) (λ clean open_before. tt) (no_glance a) (λ clean accounts shown. transient_turn e accounts transient)
 
     in_row : (accounts later : Accounts) (answer : Answer) → DeliversIn accounts user moment envelope message (get accounts user) answer later → Row accounts answer later
     in_row accounts later answer is = subst (λ o. DeliversUnder o accounts user moment envelope message answer later) (sym none) is
@@ -85,7 +85,7 @@ module _ (user : List ℕ) (envelope : Envelope) (message : List ℕ) (moment : 
     -- the account couldn't be read
     pub delivery_unread : (a b : State) (e : Refusal) (q : Result Report Refusal) → q ≡ Err e → LooksUp user (IsLookup envelope.from) a b (Err e) → ActsDelivery user envelope message moment a b q
     delivery_unread a b e q is look = subst (λ o. ActsDelivery user envelope message moment a b o) (sym is)
-        (acts_read a b (TurnsBy Row May (Refused e)) (MayTurnBy Row) (Err e) (glanced a b (Err e) look.reads.keeps) (λ clean accounts shown. turn clean accounts shown look.reads.named))
+        (acts_read a b (TurnsBy Row May (Refused e)) (MayTurnBy Row) (Err e) (λ clean open_before. tt) (glanced a b (Err e) look.reads.keeps) (λ clean accounts shown. turn clean accounts shown look.reads.named))
       where
         turn : HasCleanDisk b → (accounts : Accounts) → HasAccounts a accounts → (e ≡ NoUser) ⊎ IsTransient e → TurnsBy Row May (Refused e) accounts accounts
         turn clean accounts shown (inl absent) =
@@ -97,7 +97,7 @@ module _ (user : List ℕ) (envelope : Envelope) (message : List ℕ) (moment : 
       pub delivery_failed : (q : Result Report Refusal) → OnOk q ⊥ → IfErr q IsTransient → ActsDelivery user envelope message moment a b q
       delivery_failed (Ok report) undone transient = absurd undone
       delivery_failed (Err e) undone transient =
-          acts_read a b (TurnsBy Row May (Refused e)) (MayTurnBy Row) (Err e) (glanced a b r look.reads.keeps) (λ clean accounts shown. transient_turn e accounts transient)
+          acts_read a b (TurnsBy Row May (Refused e)) (MayTurnBy Row) (Err e) (λ clean open_before. tt) (glanced a b r look.reads.keeps) (λ clean accounts shown. transient_turn e accounts transient)
 
       module _ (plan : Plan) (planned : (account : Account) → IsViewOf looked.view envelope.from account → Delivers looked.view.address moment (mail_of message envelope) looked.text account plan.report (delivers plan account))
           (c : State) (w : Result (Unit {0}) Refusal) (late : WritesAccount user (delivers plan) b c w) where

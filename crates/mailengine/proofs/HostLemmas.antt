@@ -1,5 +1,5 @@
 -- Sessions in a map are the machine's, one event at a time.
-use Rattle.std.proofs.Common.{◌≡◌, ℕ, Bool, true, false, cond, List, [], ◌∷◌, ◌++◌, map, Option, Some, None, option_map, is_some, Ok, Err, Result, MatchResult, IsOkAnd, refl, sym, ◌∙◌, ap, subst, inl, inr}
+use Rattle.std.proofs.Common.{◌≡◌, ℕ, Bool, true, false, cond, List, [], ◌∷◌, ◌++◌, map, Option, Some, None, option_map, is_some, Ok, Err, Result, MatchResult, IsOkAnd, IsTrue, refl, sym, ◌∙◌, ap, subst, inl, inr}
 use Rattle.std.specs.declared.cmp.Ordering.{Ordering}
 use Rattle.std.specs.declared.cmp.Ordering.TheVariants.{Less, Equal, Greater}
 use Rattle.std.specs.Result.{result_and}
@@ -8,16 +8,18 @@ use Rattle.std.specs.Cmp.{eq_by_cmp_equiv, nat_cmp_total}
 use Rattle.std.specs.FinMap.{get, insert, remove, get-insert, get-remove, get-from_entries, find, nat_cmp-IsAntisymmetric}
 use Rattle.std.specs.Map.{lookup}
 use Rattle.std.specs.BTreeMap as tree
-use Rattle.std.specs.BTreeMap.{BTreeMap}
 use Rattle.msproto.specs.Replies.{spelled}
 use Rattle.mailstore.specs.Account.{Accounts}
 use Rattle.mailstore.specs.Refusals.{IsTransient}
 use Rattle.sieveexec.specs.declared.envelope.Envelope.{Envelope}
 use Rattle.mailstore.specs.declared.refusal.Refusal.{Refusal}
 use Rattle.mailstore.specs.declared.refusal.Refusal.TheVariants.{Memory, Store, NotOurs, NoUser, TooLarge, BadEnvelope, BadMoment, UserExists, BadUser, NoRow}
-use Rattle.sqlite.specs.State.{State, Survives}
+use Rattle.sqlite.specs.State.{State, HasCleanDisk, Survives}
 use Rattle.sqlite.proofs.StateLemmas.{survives_weaker}
-use Rattle.sessions.specs.Acts.{Acts, CrashLeaves, HasAccounts}
+use Rattle.mailstore.proofs.OneLemmas.{accounts_one}
+use Rattle.mailstore.specs.Shows.{Presents}
+use Rattle.mailtables.proofs.ResultLemmas.{on_ok}
+use Rattle.sessions.specs.Acts.{Acts, CrashLeaves, HasAccounts, Lasts}
 use Rattle.sessions.specs.Orders.{StepsTo, MayStep, MayRefuse as MayRefuseStep}
 use Rattle.sessions.specs.Orders.{MayRefuse as MayRefuseStep}
 use Rattle.sessions.specs.Clients.{Client, new_client, client_given}
@@ -25,18 +27,15 @@ use Rattle.sessions.specs.Counts.{SessionView, new_session}
 use Rattle.sessions.specs.GivenUp.{text_given_up, client_given_up, progress_given_up}
 use Rattle.sessions.specs.Replies.{capabilities}
 use Rattle.sessions.specs.Steps.{IsStep, StepsOver, AsksFor, progress_of, may_lack, may_fail}
-use Rattle.msproto.specs.declared.commands.Command.{Command}
 use Rattle.sessions.specs.declared.progress.Progress.{Progress}
+use Rattle.sessions.specs.declared.sort.Order.{Order}
 use Rattle.sessions.specs.declared.progress.Progress.TheVariants as p
 use Rattle.mailengine.specs.declared.event.Event.{Event}
 use Rattle.mailengine.specs.declared.event.Event.TheVariants.{Open, Give, Step, GiveUp, Close, Deliver, AddUser, TakeOut, TakeMail}
 use Rattle.mailengine.specs.declared.answer.Answer.{Answer}
 use Rattle.mailengine.specs.declared.answer.Answer.TheVariants.{Out, Ignored, Refused}
-use Rattle.mailengine.specs.World.{World, Clients, with_accounts, Ignores, Becomes, InSession, Opens, Steps, Happens, MayRefuse, with_session, without_session, MayLack, MayFail, if_open, is_closed, Next}
-use Rattle.mailengine.specs.Hosts.{clients_of, AsksStore, HasClients, host, Implements, IsSessionEvent, KeepsClients, IsEvent, EventCrashLeaves, answer_by, answer_of, TurnsBy, MayTurnBy, MayRefuseDelivery, MayRefuseAddition}
-
-abbrev pub Kept : Type 0
-Kept = BTreeMap ℕ SessionView
+use Rattle.mailengine.specs.World.{World, Clients, with_accounts, Ignores, Becomes, InSession, Opens, Steps, Happens, MayRefuse, with_session, without_session, MayLack, MayFail, if_open, is_closed}
+use Rattle.mailengine.specs.Hosts.{Kept, IsMade, clients_of, AsksStore, HasClients, host, IsSessionEvent, KeepsClients, IsEvent, Leads, EventCrashLeaves, answer_by, answer_of, TurnsBy, MayTurnBy, MayRefuseDelivery, MayRefuseAddition}
 
 -- ---- maps
 
@@ -222,6 +221,17 @@ stepped w n c d progress octets later has is =
     record { goes_on = progress; octets = octets; client = d; accounts = later; step = is; says = refl; changed = refl } in
     subst (λ o. InSession w o (Steps w n) (Out progress octets) (record { accounts = later; sessions = insert w.sessions n d })) (sym has) made
 
+-- an answer that isn't a refusal lasts: the accounts that the store shows are those
+lasts_of : {X : Type 0} (Turn MayTurn : Accounts → Accounts → Type 0) (old new : State) (q : Result X Refusal) (x : X) → q ≡ Ok x → Acts Turn MayTurn old new q → HasCleanDisk new → IsTrue old.is_open
+    → (accounts : Accounts) → Presents old.now accounts → (later : Accounts) → HasAccounts new later → Lasts accounts later old new
+lasts_of Turn MayTurn old new q x is acts clean was accounts p later shown =
+    let lasts = on_ok q x is ((other : Accounts) × Turn accounts other × Lasts accounts other old new) (acts.lasts clean was accounts p) in
+    subst (λ a. Lasts accounts a old new) (accounts_one new.now lasts.0 later lasts.2.shown (shown lasts.2.is_open)) lasts.2
+
+-- of a store that nothing happens to
+still_lasts : (s : State) (accounts : Accounts) → HasAccounts s accounts → IsTrue s.is_open → Lasts accounts accounts s s
+still_lasts s accounts shown is_open = record { is_open = is_open; shown = shown is_open; crash = λ trees may. inr (refl, may) }
+
 module _ (old new : State) (kept after : Kept) (n : ℕ) (v u : SessionView) (r : Result Progress Refusal) (before written : List ℕ) (one : Some v ≡ tree.get nat_cmp kept n) (put : tree.Updates nat_cmp kept after n (Some u))
     (acts : Acts (StepsTo v.client u.client r before written) (MayStep v.client) old new r) where
   -- it answered
@@ -231,9 +241,12 @@ module _ (old new : State) (kept after : Kept) (n : ℕ) (v u : SessionView) (r 
       let made : StepsTo v.client u.client (Ok progress) before written w.accounts turned.0 = subst (λ q. StepsTo v.client u.client q before written w.accounts turned.0) is turned.1 in
       let text : written ≡ made.0 = made.1 ∙ ap (λ b. b ++ made.0) none in (
         record { accounts = turned.0; sessions = insert w.sessions n u.client },
-        inl (subst (λ t. Happens w (Step n) (Out progress t) (record { accounts = turned.0; sessions = insert w.sessions n u.client })) (sym text)
-            (stepped w n v.client u.client progress made.0 turned.0 (one_there kept w.sessions n v had.sessions one) made.2)),
-        record { accounts = turned.2; sessions = clients_put kept after n u w.sessions put had.sessions },
+        record {
+          is_next = inl (subst (λ t. Happens w (Step n) (Out progress t) (record { accounts = turned.0; sessions = insert w.sessions n u.client })) (sym text)
+              (stepped w n v.client u.client progress made.0 turned.0 (one_there kept w.sessions n v had.sessions one) made.2));
+          implements = record { accounts = turned.2; sessions = clients_put kept after n u w.sessions put had.sessions };
+          lasts = λ told was. lasts_of (StepsTo v.client u.client r before written) (MayStep v.client) old new r progress is acts clean was w.accounts (had.accounts was) turned.0 turned.2;
+        },
       )
 
   -- it was refused, and the session is as it was
@@ -242,8 +255,11 @@ module _ (old new : State) (kept after : Kept) (n : ℕ) (v u : SessionView) (r 
       let turned = acts.carries clean w.accounts had.accounts in
       let stays : turned.0 ≡ w.accounts = subst (λ q. StepsTo v.client u.client q before written w.accounts turned.0) is turned.1 in (
         w,
-        inr (record { refusal = refusal; may = step_refused w n v.client refusal (one_there kept w.sessions n v had.sessions one) may; refused = told; stays = refl }),
-        record { accounts = subst (HasAccounts new) stays turned.2; sessions = clients_back kept after n v w.sessions one (subst (λ x. tree.Updates nat_cmp kept after n (Some x)) same put) had.sessions },
+        record {
+          is_next = inr (record { refusal = refusal; may = step_refused w n v.client refusal (one_there kept w.sessions n v had.sessions one) may; refused = told; stays = refl });
+          implements = record { accounts = subst (HasAccounts new) stays turned.2; sessions = clients_back kept after n v w.sessions one (subst (λ x. tree.Updates nat_cmp kept after n (Some x)) same put) had.sessions };
+          lasts = λ made was. absurd (subst IsMade told made);
+        },
       )
 
 -- what a crash leaves of it
@@ -256,8 +272,10 @@ step_crash old new kept n v one crash = survives_weaker old new _ _ (λ clean tr
 -- an event of sessions alone asks no store
 pub session_event : (event : Event) (answer : Answer) (s : State) (kept after : Kept) → IsSessionEvent event answer kept after → IsEvent event answer (host s kept) (host s after)
 session_event event answer s kept after is clean w had =
-    let made = is w had.sessions in
-    (record { accounts = w.accounts; sessions = made.0 }, made.1, record { accounts = had.accounts; sessions = made.2 })
+    let made = is w had.sessions in (
+      record { accounts = w.accounts; sessions = made.0 },
+      record { is_next = made.1; implements = record { accounts = had.accounts; sessions = made.2 }; lasts = λ told. still_lasts s w.accounts had.accounts },
+    )
 
 pub ignored_step : (kept after : Kept) (n : ℕ) → None ≡ tree.get nat_cmp kept n → after.entries ≡ kept.entries → IsSessionEvent (Step n) Ignored kept after
 ignored_step kept after n none same = ignored (Step n) kept after n (λ w gone. subst (λ o. InSession w o (Steps w n) Ignored w) (sym gone) (nothing w)) none same
@@ -280,9 +298,10 @@ pub free_lacks : (kept : Kept) (n : ℕ) (v : SessionView) → Some v ≡ tree.g
 free_lacks kept n v one may w has = subst (λ o. if_open may_lack o ≡ true) (sym (one_there kept w.sessions n v has one)) may
 
 -- its command asks
-pub free_asks : (kept : Kept) (n : ℕ) (v : SessionView) (d : Client) (command : Command) (before written : List ℕ) → Some v ≡ tree.get nat_cmp kept n → AsksFor v.client d command before written → AsksStore (Step n) kept
-free_asks kept n v d command before written one asks =
-    let fails : may_fail v.client ≡ true = rw (asks.live, asks.first, asks.late, asks.asks) refl in
+pub free_asks : (kept : Kept) (n : ℕ) (v : SessionView) (d : Client) (order : Order) (before written : List ℕ) → Some v ≡ tree.get nat_cmp kept n → AsksFor v.client d order before written → AsksStore (Step n) kept
+free_asks kept n v d order before written one asks =
+    let it = asks.asked in
+    let fails : may_fail v.client ≡ true = rw (it.live, it.first, it.late, it.asks) refl in
     subst (λ o. if_open may_fail (option_map (λ session. session.client) o) ≡ true) one fails
 
 pub free_keeps : (kept after : Kept) (n : ℕ) (v : SessionView) → Some v ≡ tree.get nat_cmp kept n → tree.Updates nat_cmp kept after n (Some v) → KeepsClients kept after
@@ -292,16 +311,32 @@ free_keeps kept after n v one put clients has = clients_back kept after n v clie
 
 module _ (event : Event) (Row : Accounts → Answer → Accounts → Type 0) (May : Refusal → Type 0) (rows : (w : World) (answer : Answer) (next : World) → with_accounts w (Row w.accounts) answer next → Happens w event answer next)
     (refuses : (w : World) (refusal : Refusal) → May refusal → MayRefuse w event refusal) (old new : State) (kept : Kept) where
-  pub account_event : {X : Type 0} (r : Result X Refusal) (answer : Answer) → Acts (TurnsBy Row May answer) (MayTurnBy Row) old new r → IsEvent event answer (host old kept) (host new kept)
-  account_event r answer acts clean w had =
+  pub account_event : {X : Type 0} (told : X → Answer) (r : Result X Refusal) → Acts (TurnsBy Row May (answer_by told r)) (MayTurnBy Row) old new r → IsEvent event (answer_by told r) (host old kept) (host new kept)
+  account_event {X} told r acts clean w had =
       let turned = acts.carries clean w.accounts had.accounts in
       go turned.0 turned.1 turned.2
     where
-      go : (later : Accounts) → TurnsBy Row May answer w.accounts later → HasAccounts new later → (next : World) × Next w event answer next × Implements (host new kept) next
-      go later (inl row) shown =
-          (record { accounts = later; sessions = w.sessions }, inl (rows w answer (record { accounts = later; sessions = w.sessions }) (later, row, refl)), record { accounts = shown; sessions = had.sessions })
-      go later (inr (refusal, may, is, same)) shown =
-          (w, inr (record { refusal = refusal; may = refuses w refusal may; refused = is; stays = refl }), record { accounts = subst (HasAccounts new) same shown; sessions = had.sessions })
+      made : (q : Result X Refusal) → r ≡ q → IsMade (answer_by told q) → IsTrue old.is_open → (later : Accounts) → HasAccounts new later → Lasts w.accounts later old new
+      made (Ok x) is answered was later shown = lasts_of (TurnsBy Row May (answer_by told r)) (MayTurnBy Row) old new r x is acts clean was w.accounts (had.accounts was) later shown
+      made (Err e) is answered was later shown = absurd answered
+
+      go : (later : Accounts) → TurnsBy Row May (answer_by told r) w.accounts later → HasAccounts new later → (next : World) × Leads w event (answer_by told r) (host old kept) (host new kept) next
+      go later (inl row) shown = (
+        record { accounts = later; sessions = w.sessions },
+        record {
+          is_next = inl (rows w (answer_by told r) (record { accounts = later; sessions = w.sessions }) (later, row, refl));
+          implements = record { accounts = shown; sessions = had.sessions };
+          lasts = λ answered was. made r refl answered was later shown;
+        },
+      )
+      go later (inr (refusal, may, is, same)) shown = (
+        w,
+        record {
+          is_next = inr (record { refusal = refusal; may = refuses w refusal may; refused = is; stays = refl });
+          implements = record { accounts = subst (HasAccounts new) same shown; sessions = had.sessions };
+          lasts = λ answered was. absurd (subst IsMade is answered);
+        },
+      )
 
   pub account_crash : {X : Type 0} (r : Result X Refusal) (answer : Answer) → Acts (TurnsBy Row May answer) (MayTurnBy Row) old new r → Survives old new (EventCrashLeaves event (host old kept))
   account_crash r answer acts = survives_weaker old new _ _ (λ clean trees may w shown has.

@@ -33,7 +33,7 @@ module _ (user folder : List ℕ) where
   -- the message couldn't be read
   pub mail_unread : (a b : State) (e : Refusal) (q : Result (Unit {0}) Refusal) → q ≡ Err e → LooksUp user First a b (Err e) → ActsMailTaking user folder a b q
   mail_unread a b e q is look = subst (λ o. ActsMailTaking user folder a b o) (sym is)
-      (acts_read a b (TurnsBy Row IsTransient (Refused e)) (MayTurnBy Row) (Err e) (glanced a b (Err e) look.reads.keeps) (λ clean accounts shown. turn clean accounts shown look.reads.named))
+      (acts_read a b (TurnsBy Row IsTransient (Refused e)) (MayTurnBy Row) (Err e) (λ clean open_before. tt) (glanced a b (Err e) look.reads.keeps) (λ clean accounts shown. turn clean accounts shown look.reads.named))
     where
       turn : HasCleanDisk b → (accounts : Accounts) → HasAccounts a accounts → (e ≡ NoUser) ⊎ IsTransient e → TurnsBy Row IsTransient (Refused e) accounts accounts
       turn clean accounts shown (inl absent) =
@@ -55,7 +55,7 @@ module _ (user folder : List ℕ) where
 
     -- the folder has no message
     pub mail_none : first ≡ None → ActsMailTaking user folder a b (Err NoRow)
-    mail_none is = acts_read a b (TurnsBy Row IsTransient (Refused NoRow)) (MayTurnBy Row) (Err NoRow) (glanced a b r look.reads.keeps)
+    mail_none is = acts_read a b (TurnsBy Row IsTransient (Refused NoRow)) (MayTurnBy Row) (Err NoRow) (λ clean open_before. tt) (glanced a b r look.reads.keeps)
         (λ clean accounts shown.
         let own = found clean accounts (read_shows a b r first was look.reads.keeps clean accounts shown).0 in
         inl (subst (λ o. TakesMailIn accounts user folder o (Refused NoRow) accounts) (sym own.1) (none_first accounts (messages_in own.0.folders folder) (subst (λ f. HasFirst f (messages_in own.0.folders folder)) is own.2))))

@@ -38,7 +38,7 @@ pub run_more : (old mid new : Host) (events : List Event) (told : List Answer) (
 run_more old mid new events told event answer ran was here clean w had =
     let one = ran (was clean) w had in
     let two = here clean one.0 one.2 in
-    (two.0, runs_more events told w one.0 two.0 event answer one.1 two.1, two.2)
+    (two.0, runs_more events told w one.0 two.0 event answer one.1 two.1.is_next, two.1.implements)
 
 module _ (old mid new : Host) (events : List Event) (at : ℕ) (event : Event) (within : at < length events) (item : event ≡ get_or events at event) where
   next_taken : take (at + 1) events ≡ take at events ++ event ∷ []

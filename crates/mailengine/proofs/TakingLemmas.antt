@@ -42,7 +42,7 @@ module _ (user : List ℕ) (id : ℕ) where
   -- the row couldn't be read
   pub taking_unread : (a b : State) (e : Refusal) (q : Result Outgoing Refusal) → q ≡ Err e → LooksUp user Found a b (Err e) → ActsTaking user id a b q
   taking_unread a b e q is look = subst (λ o. ActsTaking user id a b o) (sym is)
-      (acts_read a b (TurnsBy Row IsTransient (Refused e)) (MayTurnBy Row) (Err e) (glanced a b (Err e) look.reads.keeps) (λ clean accounts shown. turn clean accounts shown look.reads.named))
+      (acts_read a b (TurnsBy Row IsTransient (Refused e)) (MayTurnBy Row) (Err e) (λ clean open_before. tt) (glanced a b (Err e) look.reads.keeps) (λ clean accounts shown. turn clean accounts shown look.reads.named))
     where
       turn : HasCleanDisk b → (accounts : Accounts) → HasAccounts a accounts → (e ≡ NoUser) ⊎ IsTransient e → TurnsBy Row IsTransient (Refused e) accounts accounts
       turn clean accounts shown (inl absent) =
@@ -59,7 +59,7 @@ module _ (user : List ℕ) (id : ℕ) where
 
     -- no row has the number
     pub taking_none : o ≡ None → ActsTaking user id a b (Err NoRow)
-    taking_none is = acts_read a b (TurnsBy Row IsTransient (Refused NoRow)) (MayTurnBy Row) (Err NoRow) (glanced a b r look.reads.keeps)
+    taking_none is = acts_read a b (TurnsBy Row IsTransient (Refused NoRow)) (MayTurnBy Row) (Err NoRow) (λ clean open_before. tt) (glanced a b r look.reads.keeps)
         (λ clean accounts shown.
         let p = (read_shows a b r o was look.reads.keeps clean accounts shown).0 in
         inl (by_row (Refused NoRow) accounts accounts (found clean accounts p) (subst (λ x. TakesRow accounts user x (Refused NoRow) accounts) (sym is) (record { refused = refl; stays = refl }))))

@@ -28,12 +28,12 @@ module _ (name address salt password : List ℕ) where
 
   -- what is given makes no account
   pub addition_bad : (a : State) → (IsNewUser name address password → ⊥) → ActsAddition name address salt password a a (Err BadUser)
-  addition_bad a bad = acts_read a a (TurnsBy Row May (Refused BadUser)) (MayTurnBy Row) (Err BadUser) (no_glance a) (λ clean accounts shown. inl (inr (bad, record { refused = refl; stays = refl })))
+  addition_bad a bad = acts_read a a (TurnsBy Row May (Refused BadUser)) (MayTurnBy Row) (Err BadUser) (λ clean open_before. tt) (no_glance a) (λ clean accounts shown. inl (inr (bad, record { refused = refl; stays = refl })))
 
   -- no memory for the tests
   pub addition_lacks : (a : State) (q : Result (Unit {0}) Refusal) → OnOk q ⊥ → IfErr q (λ e. e ≡ Memory) → ActsAddition name address salt password a a q
   addition_lacks a (Ok done) undone lack = absurd undone
-  addition_lacks a (Err e) undone lack = acts_read a a (TurnsBy Row May (Refused e)) (MayTurnBy Row) (Err e) (no_glance a) (λ clean accounts shown. inr (e, inl lack, refl, refl))
+  addition_lacks a (Err e) undone lack = acts_read a a (TurnsBy Row May (Refused e)) (MayTurnBy Row) (Err e) (λ clean open_before. tt) (no_glance a) (λ clean accounts shown. inr (e, inl lack, refl, refl))
 
   module _ (new : IsNewUser name address password) (a b : State) (r : Result (Option Profile) Refusal) (read : ReadsProfile name a b r) where
     may : (e : Refusal) → IsTransient e → May e
@@ -49,11 +49,11 @@ module _ (name address salt password : List ℕ) where
     -- the account couldn't be read
     pub addition_unread : (q : Result (Unit {0}) Refusal) → OnOk q ⊥ → IfErr q IsTransient → ActsAddition name address salt password a b q
     addition_unread (Ok done) undone transient = absurd undone
-    addition_unread (Err e) undone transient = acts_read a b (TurnsBy Row May (Refused e)) (MayTurnBy Row) (Err e) (glanced a b r read.keeps) (λ clean accounts shown. transient_turn e accounts transient)
+    addition_unread (Err e) undone transient = acts_read a b (TurnsBy Row May (Refused e)) (MayTurnBy Row) (Err e) (λ clean open_before. tt) (glanced a b r read.keeps) (λ clean accounts shown. transient_turn e accounts transient)
 
     -- the name has an account
     pub addition_taken : (profile : Profile) → r ≡ Ok (Some profile) → ActsAddition name address salt password a b (Err UserExists)
-    addition_taken profile is = acts_read a b (TurnsBy Row May (Refused UserExists)) (MayTurnBy Row) (Err UserExists) (glanced a b r read.keeps)
+    addition_taken profile is = acts_read a b (TurnsBy Row May (Refused UserExists)) (MayTurnBy Row) (Err UserExists) (λ clean open_before. tt) (glanced a b r read.keeps)
         (λ clean accounts shown.
         let p = (read_shows a b r (Some profile) is read.keeps clean accounts shown).0 in
         let own = owned_by accounts name profile (found (Some profile) is clean accounts p) in

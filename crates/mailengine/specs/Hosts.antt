@@ -16,7 +16,7 @@ use Rattle.mailstore.specs.declared.queue.Outgoing.{Outgoing}
 use Rattle.mailstore.specs.declared.report.Report.{Report}
 use Rattle.mailstore.specs.declared.refusal.Refusal.{Refusal}
 use Rattle.mailstore.specs.declared.refusal.Refusal.TheVariants.{Memory, Store, NoUser, UserExists, BadUser, NoRow}
-use Rattle.sessions.specs.Acts.{HasAccounts, Acts}
+use Rattle.sessions.specs.Acts.{HasAccounts, Acts, Lasts}
 use Rattle.sessions.specs.Counts.{SessionView}
 use Rattle.sessions.specs.GivenUp.{text_given_up}
 use Rattle.sessions.specs.Steps.{may_fail}
@@ -32,20 +32,24 @@ use Rattle.mailengine.specs.AccountEvents.{Delivery, Addition, Taking, MailTakin
 use Rattle.mailengine.specs.Limits.{limit_refusal, IsNewUser}
 use Rattle.mailengine.specs.World.{World, Clients, if_open, Next, Runs}
 
+-- sessions by their numbers, as the code keeps them
+abbrev pub Kept : Type 0
+Kept = BTreeMap ℕ SessionView
+
 -- the sessions that a map has, by their numbers
-abbrev pub clients_of : BTreeMap ℕ SessionView → Clients
+abbrev pub clients_of : Kept → Clients
 clients_of kept = from_entries (map (λ entry. (entry.0, entry.1.client)) kept.entries)
 
 -- under each number there is the same session, or none
-abbrev pub HasClients : BTreeMap ℕ SessionView → Clients → Type 0
+abbrev pub HasClients : Kept → Clients → Type 0
 HasClients kept clients = (s : ℕ) → option_map (λ session. session.client) (tree.get nat_cmp kept s) ≡ get clients s
 
 -- a store and the sessions beside it
 pub record Host : Type 1 where
   pub store : State
-  pub sessions : BTreeMap ℕ SessionView
+  pub sessions : Kept
 
-abbrev pub host : State → BTreeMap ℕ SessionView → Host
+abbrev pub host : State → Kept → Host
 host store sessions = record { store = store; sessions = sessions }
 
 -- of the values that the code has
@@ -55,7 +59,8 @@ host_with g store clients = host (state g store) clients.sessions
 abbrev pub host_of : {S : Type 0} → Ghosts S → Machine S → Host
 host_of g machine = host_with g machine.store machine.clients
 
--- the store shows the machine's accounts, and the sessions are the machine's; of a connection that a fault of the disk has shut nothing is said
+-- the store shows the machine's accounts (`HasAccounts`: of a connection that a fault of the disk has shut nothing is said), and the
+-- sessions are the machine's
 pub record Implements (h : Host) (w : World) : Type 0 where
   pub accounts : HasAccounts h.store w.accounts
   pub sessions : HasClients h.sessions w.sessions
@@ -63,16 +68,17 @@ pub record Implements (h : Host) (w : World) : Type 0 where
 -- ---- one event
 
 -- the event, of sessions alone, with this answer, of whatever world there was: no account changes
-abbrev pub IsSessionEvent : Event → Answer → BTreeMap ℕ SessionView → BTreeMap ℕ SessionView → Type 0
+abbrev pub IsSessionEvent : Event → Answer → Kept → Kept → Type 0
 IsSessionEvent event answer before after =
-    (w : World) → HasClients before w.sessions → (clients : Clients) × Next w event answer (record { accounts = w.accounts; sessions = clients }) × HasClients after clients
+    (w : World) → HasClients before w.sessions
+    → (clients : Clients) × Next w event answer (record { accounts = w.accounts; sessions = clients }) × HasClients after clients
 
 -- whatever sessions there were, there are
-abbrev pub KeepsClients : BTreeMap ℕ SessionView → BTreeMap ℕ SessionView → Type 0
+abbrev pub KeepsClients : Kept → Kept → Type 0
 KeepsClients before after = (clients : Clients) → HasClients before clients → HasClients after clients
 
 -- the event asks a store: one of the accounts, or a step whose command does
-abbrev pub AsksStore : Event → BTreeMap ℕ SessionView → Type 0
+abbrev pub AsksStore : Event → Kept → Type 0
 AsksStore (Open s) kept = ⊥
 AsksStore (Give s piece) kept = ⊥
 AsksStore (GiveUp s) kept = ⊥
@@ -85,21 +91,35 @@ abbrev pub IsGivenUp : Event → Type 0
 IsGivenUp (GiveUp s) = Unit {0}
 IsGivenUp event = ⊥
 
+-- the answer is no refusal
+abbrev pub IsMade : Answer → Type 0
+IsMade (Refused refusal) = ⊥
+IsMade answer = Unit {0}
+
+-- the event leads from this world to that, which the store and its sessions then are; and where it was made, over a connection that was
+-- open, the connection is open still, the store shows that world's accounts, and so does what a crash leaves (`Lasts`)
+pub record Leads (w : World) (event : Event) (answer : Answer) (old new : Host) (next : World) : Type 0 where
+  pub is_next : Next w event answer next
+  pub implements : Implements new next
+  pub lasts : IsMade answer → IsTrue old.store.is_open → Lasts w.accounts next.accounts old.store new.store
+
 -- from one store and its sessions to another it is the event with this answer, of whatever world there was
 abbrev pub IsEvent : Event → Answer → Host → Host → Type 0
-IsEvent event answer old new = HasCleanDisk new.store → (w : World) → Implements old w → (next : World) × Next w event answer next × Implements new next
+IsEvent event answer old new =
+    HasCleanDisk new.store → (w : World) → Implements old w → (next : World) × Leads w event answer old new next
 
 -- what a crash leaves of the event shows the accounts of a world after it, as a whole
 abbrev pub EventCrashLeaves : Event → Host → Trees → Type 0
 EventCrashLeaves event old trees =
-    (w : World) → Presents old.store.now w.accounts → HasClients old.sessions w.sessions → (answer : Answer) × (next : World) × Next w event answer next × ShowsIn trees next.accounts
+    (w : World) → Presents old.store.now w.accounts → HasClients old.sessions w.sessions
+    → (answer : Answer) × (next : World) × Next w event answer next × ShowsIn trees next.accounts
 
 -- at the end a crash leaves what it left before the event, or this of it
 abbrev pub SurvivesEvent : Event → Host → Host → Type 0
 SurvivesEvent event old new = Survives old.store new.store (EventCrashLeaves event old)
 
 -- a text that was made ready for the event: that of giving up, where it is one
-abbrev pub IsPrepared : Event → BTreeMap ℕ SessionView → List ℕ → Type 0
+abbrev pub IsPrepared : Event → Kept → List ℕ → Type 0
 IsPrepared (GiveUp s) kept text = IfSome (tree.get nat_cmp kept s) (λ session. text ≡ text_given_up session.client)
 IsPrepared event kept text = Unit {0}
 
@@ -111,19 +131,24 @@ answered events answers = take (length answers) events
 
 -- from one store and its sessions to another it is these events with these answers, of whatever world there was
 abbrev pub IsRun : List Event → List Answer → Host → Host → Type 0
-IsRun events answers old new = HasCleanDisk new.store → (w : World) → Implements old w → (end : World) × Runs w events answers end × Implements new end
+IsRun events answers old new =
+    HasCleanDisk new.store → (w : World) → Implements old w → (end : World) × Runs w events answers end × Implements new end
 
--- a run in which each user is alone: its account at the end is what its own acts make of the one at the start, and each answer among them is allowed
+-- a run in which each user is alone: its account at the end is what its own acts make of the one at the start, and each answer among
+-- them is allowed
 abbrev pub IsRunAlone : List Event → List Answer → Host → Host → Type 0
 IsRunAlone events answers old new =
-    HasCleanDisk new.store → (w : World) → Implements old w → (end : World) × (run : Runs w events answers end) × Implements new end × IsAlone w events answers end run
+    HasCleanDisk new.store → (w : World) → Implements old w
+    → (end : World) × (run : Runs w events answers end) × Implements new end × IsAlone w events answers end run
 
 -- a run whose answers to senders are spaced by their periods
 abbrev pub IsRunSpaced : List Event → List Answer → Host → Host → Type 0
 IsRunSpaced events answers old new =
-    HasCleanDisk new.store → (w : World) → Implements old w → (end : World) × (run : Runs w events answers end) × Implements new end × IsSpaced w events answers end run
+    HasCleanDisk new.store → (w : World) → Implements old w
+    → (end : World) × (run : Runs w events answers end) × Implements new end × IsSpaced w events answers end run
 
--- what a crash leaves of a run, where no fault of the disk has shut the connection at its end, shows the accounts of a world that some of the first events lead to
+-- what a crash leaves of a run, where no fault of the disk has shut the connection at its end, shows the accounts of a world that some of
+-- the first events lead to; what a run that goes on over a shut connection leaves is not said
 abbrev pub RunCrashLeaves : List Event → Host → Host → Trees → Type 0
 RunCrashLeaves events old new trees =
     IsTrue new.store.is_open → (w : World) → Presents old.store.now w.accounts → HasClients old.sessions w.sessions
@@ -144,13 +169,22 @@ answer_by told (Err refusal) = Refused refusal
 abbrev pub answer_of : Result Answer Refusal → Answer
 answer_of = answer_by (λ answer. answer)
 
--- the accounts turn by the event's row with this answer, or the event is refused without visible cause, where it may be, and they stay
-abbrev pub TurnsBy : (Accounts → Answer → Accounts → Type 0) → (Refusal → Type 0) → Answer → Accounts → Accounts → Type 0
-TurnsBy Row May answer accounts later = Row accounts answer later ⊎ ((refusal : Refusal) × May refusal × (answer ≡ Refused refusal) × (later ≡ accounts))
+-- the row of an event of accounts: what it answers, and what they become
+abbrev pub Row : Type 1
+Row = Accounts → Answer → Accounts → Type 0
 
--- the accounts may turn by the event's row, whatever is answered
-abbrev pub MayTurnBy : (Accounts → Answer → Accounts → Type 0) → Accounts → Accounts → Type 0
-MayTurnBy Row accounts later = (answer : Answer) × Row accounts answer later
+-- the accounts turn by the row with this answer, or the event is refused without visible cause, where it may be, and they stay
+abbrev pub TurnsBy : Row → (Refusal → Type 0) → Answer → Accounts → Accounts → Type 0
+TurnsBy By May answer accounts later =
+    By accounts answer later ⊎ ((refusal : Refusal) × May refusal × (answer ≡ Refused refusal) × (later ≡ accounts))
+
+-- the accounts may turn by the row, whatever is answered
+abbrev pub MayTurnBy : Row → Accounts → Accounts → Type 0
+MayTurnBy By accounts later = (answer : Answer) × By accounts answer later
+
+-- what a call makes of the store by the row, with what is told of its result
+abbrev pub ActsBy : {X : Type 0} → Row → (Refusal → Type 0) → (X → Answer) → State → State → Result X Refusal → Type 0
+ActsBy By May told old new result = Acts (TurnsBy By May (answer_by told result)) (MayTurnBy By) old new result
 
 -- without visible cause a delivery is refused only where no limit stands against it
 abbrev pub MayRefuseDelivery : Envelope → List ℕ → ℕ → Refusal → Type 0
@@ -162,42 +196,47 @@ MayRefuseAddition name address password refusal = (refusal ≡ Memory) ⊎ ((ref
 
 -- what a delivery makes of the store
 abbrev pub ActsDelivery : List ℕ → Envelope → List ℕ → ℕ → State → State → Result Report Refusal → Type 0
-ActsDelivery user envelope message moment old new result =
-    Acts (TurnsBy (λ accounts. Delivery accounts user envelope message moment) (MayRefuseDelivery envelope message moment) (answer_by Delivered result)) (MayTurnBy (λ accounts. Delivery accounts user envelope message moment)) old new result
+ActsDelivery user envelope message moment =
+    ActsBy (λ accounts. Delivery accounts user envelope message moment) (MayRefuseDelivery envelope message moment) Delivered
 
 -- a delivery is a run of one event, over whatever sessions there are, and the answer that it sends, if it sends one, is spaced by its period
 abbrev pub IsSpacedDelivery : List ℕ → Envelope → List ℕ → ℕ → State → State → Result Report Refusal → Type 0
 IsSpacedDelivery user envelope message moment old new result =
+    let events = Deliver user envelope message moment ∷ [] in
+    let told = answer_by Delivered result ∷ [] in
     HasCleanDisk new → (w : World) → HasAccounts old w.accounts
-    → (end : World) × (run : Runs w (Deliver user envelope message moment ∷ []) (answer_by Delivered result ∷ []) end) × HasAccounts new end.accounts
-    × IsSpaced w (Deliver user envelope message moment ∷ []) (answer_by Delivered result ∷ []) end run
+    → (end : World) × (run : Runs w events told end) × HasAccounts new end.accounts × IsSpaced w events told end run
 
 -- what a new user makes of it
 abbrev pub ActsAddition : List ℕ → List ℕ → List ℕ → List ℕ → State → State → Result (Unit {0}) Refusal → Type 0
-ActsAddition name address salt password old new result =
-    Acts (TurnsBy (λ accounts. Addition accounts name address salt password) (MayRefuseAddition name address password) (answer_by (λ done. Added) result)) (MayTurnBy (λ accounts. Addition accounts name address salt password)) old new result
+ActsAddition name address salt password =
+    ActsBy (λ accounts. Addition accounts name address salt password) (MayRefuseAddition name address password) (λ done. Added)
 
 -- what a row that is taken out makes of it
 abbrev pub ActsTaking : List ℕ → ℕ → State → State → Result Outgoing Refusal → Type 0
-ActsTaking user id old new result = Acts (TurnsBy (λ accounts. Taking accounts user id) IsTransient (answer_by Taken result)) (MayTurnBy (λ accounts. Taking accounts user id)) old new result
+ActsTaking user id = ActsBy (λ accounts. Taking accounts user id) IsTransient Taken
 
 -- what a message that is taken out of a folder makes of it
 abbrev pub ActsMailTaking : List ℕ → List ℕ → State → State → Result (Unit {0}) Refusal → Type 0
-ActsMailTaking user folder old new result =
-    Acts (TurnsBy (λ accounts. MailTaking accounts user folder) IsTransient (answer_by (λ done. MailTaken) result)) (MayTurnBy (λ accounts. MailTaking accounts user folder)) old new result
+ActsMailTaking user folder = ActsBy (λ accounts. MailTaking accounts user folder) IsTransient (λ done. MailTaken)
 
 -- ---- refusals, by name
 
 -- a delivery is refused by the limit that stands against it; where none does, for want of an account, or without visible cause
 abbrev pub RefusesDelivery : Envelope → List ℕ → ℕ → Refusal → Type 0
 RefusesDelivery envelope message moment refusal =
-    (limit_refusal envelope message moment ≡ Some refusal) ⊎ ((limit_refusal envelope message moment ≡ None) × ((refusal ≡ NoUser) ⊎ IsTransient refusal))
+    (limit_refusal envelope message moment ≡ Some refusal)
+    ⊎ ((limit_refusal envelope message moment ≡ None) × ((refusal ≡ NoUser) ⊎ IsTransient refusal))
 
--- a new user is refused where the name, the address or the password isn't allowed, where the name has an account, or without visible cause
+-- a new user is refused where the name, the address or the password isn't allowed, where the name has an account, or without visible
+-- cause
 abbrev pub RefusesAddition : List ℕ → List ℕ → List ℕ → Refusal → Type 0
 RefusesAddition name address password refusal =
-    ((refusal ≡ BadUser) × (IsNewUser name address password → ⊥)) ⊎ ((refusal ≡ UserExists) × IsNewUser name address password) ⊎ MayRefuseAddition name address password refusal
+    ((refusal ≡ BadUser) × (IsNewUser name address password → ⊥))
+    ⊎ ((refusal ≡ UserExists) × IsNewUser name address password)
+    ⊎ MayRefuseAddition name address password refusal
 
--- a row is refused where the user has no account, where no row has the number, or without visible cause; a message so where the folder has none
+-- a row is refused where the user has no account, where no row has the number, or without visible cause; a message so where the folder
+-- has none
 abbrev pub RefusesTaking : Refusal → Type 0
 RefusesTaking refusal = (refusal ≡ NoUser) ⊎ (refusal ≡ NoRow) ⊎ IsTransient refusal

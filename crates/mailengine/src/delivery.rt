@@ -1,8 +1,10 @@
 //! The delivery of a message.
-ghost use Rattle.std.specs.Prelude.{◌≡◌, Err, IfErr, IfSome};
+ghost use Rattle.std.specs.Prelude.{◌≡◌, Err, OnOk, IfErr, IfSome};
 ghost use Rattle.sqlite.specs.Held.{state};
+ghost use Rattle.sqlite.specs.State.{HasCleanDisk};
 ghost use Rattle.mailstore.specs.Account.{delivers};
 ghost use Rattle.mailstore.specs.Cells.{contents};
+ghost use Rattle.mailstore.specs.Connection.{IsSettled};
 ghost use Rattle.mailstore.specs.Promises.{WritesAccount};
 ghost use Rattle.mailstore.specs.Refusals.{IsTransient};
 ghost use Rattle.mailengine.specs.Hosts.{ActsDelivery, IsSpacedDelivery, RefusesDelivery};
@@ -49,6 +51,7 @@ pub fn deliver<S: Alter>(
     moment: u64,
 ) -> Result<Report, Refusal>
     ensures acts { ActsDelivery user.now envelope message.now moment (state S.Store store.old) (state S.Store store.new) result }
+    ensures settled { HasCleanDisk (state S.Store store.new) → OnOk result (IsSettled (state S.Store store.new)) }
     ensures spaced { IsSpacedDelivery user.now envelope message.now moment (state S.Store store.old) (state S.Store store.new) result }
     ensures early { IfSome (limits.limit_refusal envelope message.now moment) (λ refusal. (result ≡ Err refusal) × (store.new ≡ store.old)) }
     ensures named { IfErr result (RefusesDelivery envelope message.now moment) }

@@ -1,8 +1,10 @@
 //! Rows taken out of the queue, and messages out of folders.
-ghost use Rattle.std.specs.Prelude.{◌≡◌, IfErr};
+ghost use Rattle.std.specs.Prelude.{◌≡◌, OnOk, IfErr};
 ghost use Rattle.sqlite.specs.Held.{state};
+ghost use Rattle.sqlite.specs.State.{HasCleanDisk};
 ghost use Rattle.mailengine.specs.Hosts.{ActsTaking, ActsMailTaking, RefusesTaking};
 ghost use Rattle.mailstore.specs.Account.{takes_mail};
+ghost use Rattle.mailstore.specs.Connection.{IsSettled};
 ghost use Rattle.mailstore.specs.Promises.{WritesAccount};
 ghost use Rattle.mailstore.specs.Refusals.{IsTransient};
 
@@ -21,6 +23,7 @@ use sqlite::Alter;
 /// [`Refusal::Store`] may come at any place. The store then stays as it was.
 pub fn take_out<S: Alter>(store: &mut Store<S>, user: &[u8], id: u64) -> Result<Outgoing, Refusal>
     ensures acts { ActsTaking user.now id (state S.Store store.old) (state S.Store store.new) result }
+    ensures settled { HasCleanDisk (state S.Store store.new) → OnOk result (IsSettled (state S.Store store.new)) }
     ensures named { IfErr result RefusesTaking }
 {
     let Some(row) = outgoing(store, user, id)? else {
@@ -41,6 +44,7 @@ pub fn take_out<S: Alter>(store: &mut Store<S>, user: &[u8], id: u64) -> Result<
 /// [`Refusal::Store`] may come at any place. The store then stays as it was.
 pub fn take_mail<S: Alter>(store: &mut Store<S>, user: &[u8], folder: &[u8]) -> Result<(), Refusal>
     ensures acts { ActsMailTaking user.now folder.now (state S.Store store.old) (state S.Store store.new) result }
+    ensures settled { HasCleanDisk (state S.Store store.new) → OnOk result (IsSettled (state S.Store store.new)) }
     ensures named { IfErr result RefusesTaking }
 {
     let first = first_message(store, user, folder)?;

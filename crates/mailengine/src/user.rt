@@ -1,7 +1,9 @@
 //! New users.
-ghost use Rattle.std.specs.Prelude.{◌≡◌, ◌==◌, IfOk, IfErr, MatchBool};
+ghost use Rattle.std.specs.Prelude.{◌≡◌, ◌==◌, OnOk, IfOk, IfErr, MatchBool};
 ghost use Rattle.std.specs.List.{list_all, list_any};
 ghost use Rattle.sqlite.specs.Held.{state};
+ghost use Rattle.sqlite.specs.State.{HasCleanDisk};
+ghost use Rattle.mailstore.specs.Connection.{IsSettled};
 ghost use Rattle.mailstore.specs.declared.refusal.Refusal.TheVariants.{BadUser};
 ghost use Rattle.mailengine.specs.Hosts.{ActsAddition, RefusesAddition};
 ghost use Rattle.mailengine.specs.Limits as limits;
@@ -39,6 +41,7 @@ pub fn add_user<S: Alter>(
     password: &[u8],
 ) -> Result<(), Refusal>
     ensures acts { ActsAddition name.now address.now salt password.now (state S.Store store.old) (state S.Store store.new) result }
+    ensures settled { HasCleanDisk (state S.Store store.new) → OnOk result (IsSettled (state S.Store store.new)) }
     ensures early { IfErr result (λ e. e ≡ BadUser → store.new ≡ store.old) }
     ensures unasked { (IsNewUser name.now address.now password.now → ⊥) → store.new ≡ store.old }
     ensures named { IfErr result (RefusesAddition name.now address.now password.now) }

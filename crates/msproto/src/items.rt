@@ -1,6 +1,7 @@
 //! What comes first in a stream of octets.
 ghost use Rattle.std.specs.Prelude.{◌≡◌, ◌≢◌, ◌↔◌, ◌++◌, ℕ, Bool, true, List, IfOk};
 ghost use Rattle.msproto.specs.declared.items.Item.{Item as ItemValue};
+ghost use Rattle.msproto.specs.declared.items.Item.TheVariants as item;
 ghost use Rattle.msproto.specs.declared.items.Item.TheVariants.{Need};
 ghost use Rattle.msproto.specs.declared.items.Reach.{Reach as ReachValue};
 ghost use Rattle.msproto.specs.declared.items.Reach.TheVariants as reach;
@@ -79,19 +80,36 @@ pub fn item_at(
     read_at(alloc, buffer, pending, reach)
 }
 
+/// The command that a scan has found first, in that many octets, which are read once. Takes memory for its strings alone,
+/// and lack of it is the only error.
+pub fn command_at(
+    alloc: Global,
+    buffer: &[u8],
+    pending: bool,
+    used: usize,
+) -> Result<Command, AllocError>
+    requires { Reaches pending (reach.Command used) buffer.now }
+    ensures { IfOk result (λ command. item_of pending buffer.now ≡ item.Command command used) }
+{
+    let Some(command) = reading::command(alloc, &buffer[..used], pending)? else {
+        unreachable!();
+    };
+    Ok(command)
+}
+
 fn read_at(alloc: Global, buffer: &[u8], pending: bool, reach: Reach) -> Result<Item, AllocError>
     requires { Reaches pending reach buffer.now }
     ensures { IfOk result (λ item. item ≡ item_at_of pending buffer.now reach) }
 {
-    Ok(match reach {
-        Reach::Need => Item::Need,
-        Reach::Command(used) => match reading::command(alloc, &buffer[..used], pending)? {
-            Some(command) => Item::Command(command, used),
-            None => unreachable!(),
-        },
-        Reach::Bad(used) => Item::Bad(used),
-        Reach::TooBig => Item::TooBig,
-    })
+    match reach {
+        Reach::Need => Ok(Item::Need),
+        Reach::Command(used) => {
+            let command = command_at(alloc, buffer, pending, used)?;
+            Ok(Item::Command(command, used))
+        }
+        Reach::Bad(used) => Ok(Item::Bad(used)),
+        Reach::TooBig => Ok(Item::TooBig),
+    }
 }
 
 /// What comes first is one: no stream has two first items.

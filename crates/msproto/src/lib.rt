@@ -11,7 +11,7 @@ mod state;
 mod verb;
 
 pub use commands::Command;
-pub use items::{Item, Reach, extent, first, item_at};
+pub use items::{Item, Reach, command_at, extent, first, item_at};
 pub use replies::{Code, Line, Reply, Status};
 pub use scanner::Scan;
 pub use spelling::spell;

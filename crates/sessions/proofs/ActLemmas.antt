@@ -1,16 +1,52 @@
 -- Calls over a store: reads alone, and reads with one write after them.
-use Rattle.std.proofs.Common.{◌≡◌, Ok, Err, Result, OnOk, OnErr, IsTrue, refl, sym, ◌∙◌, subst, inl, inr, arith}
+use Rattle.std.proofs.Common.{◌≡◌, Ok, Err, Result, OnOk, OnErr, IsTrue, ◌⊎◌, refl, sym, ap, ◌∙◌, subst, inl, inr, arith}
 use Rattle.sqlite_trees.specs.Tree.{Trees}
+use Rattle.sqlite.specs.Effect.{Database}
 use Rattle.sqlite.specs.State.{State, HasCleanDisk, Survives}
 use Rattle.sqlite.proofs.StateLemmas.{survives_then, survives_weaker}
 use Rattle.mailstore.specs.declared.refusal.Refusal.{Refusal}
 use Rattle.mailstore.specs.Account.{Accounts}
 use Rattle.mailstore.specs.Connection.{StaysSame, IsSettled}
 use Rattle.mailstore.specs.Promises.{HasOurTables, Keeps, Turns, CrashLeavesAccounts}
-use Rattle.mailstore.specs.Shows.{Presents}
+use Rattle.mailstore.specs.Shows.{Presents, ShowsIn}
 use Rattle.mailtables.proofs.ResultLemmas.{on_ok, on_err_any}
 use Rattle.mailtables.proofs.WriteLemmas.{clean_before}
-use Rattle.sessions.specs.Acts.{HasAccounts, CrashLeaves, Acts, Glances, IsAnswered, Stays}
+use Rattle.mailstore.proofs.OneLemmas.{accounts_one}
+use Rattle.sessions.specs.Acts.{HasAccounts, Carries, CrashLeaves, Acts, Glances, IsAnswered, Stays, StaysOpen, Lasts, Durable}
+
+-- no Ok, so nothing is said of one
+pub never_ok : {X E : Type 0} (q : Result X E) (P : Type 0) → OnOk q ⊥ → OnOk q P
+never_ok (Ok x) P none = absurd none
+never_ok (Err e) P none = tt
+
+-- nothing was answered
+pub unanswered : {X : Type 0} (q : Result X Refusal) (P : Type 0) → (IsAnswered q → ⊥) → OnOk q P
+unanswered (Ok x) P none = absurd (none tt)
+unanswered (Err e) P none = tt
+
+-- ---- what lasts
+
+module _ {X : Type 0} (Turn : Accounts → Accounts → Type 0) (a b : State) (q : Result X Refusal) (carries : Carries Turn a b) (live : StaysOpen a b q)
+    (durable : HasCleanDisk b → HasOurTables a.now → IsAnswered q → IsSettled b ⊎ Stays a b) where
+  module _ (clean : HasCleanDisk b) (accounts : Accounts) (p : Presents a.now accounts) where
+    left : (later : Accounts) → IsTrue b.is_open → Presents b.now later → IsSettled b ⊎ Stays a b → (trees : Trees) → b.may_leave trees → ShowsIn trees later ⊎ ((later ≡ accounts) × a.may_leave trees)
+    left later is_open shown (inl settled) trees may = inl (b.now, shown, settled.alone trees may ∙ sym (ap (λ (db : Database). db.trees) settled.same))
+    left later is_open shown (inr stays) trees may =
+        inr (accounts_one b.now later accounts shown (subst (λ db. Presents db accounts) (sym (stays.same.now_is is_open)) p), stays.crash.alone clean trees may)
+
+    turned : IsTrue b.is_open → IsAnswered q → (later : Accounts) × Turn accounts later × Lasts accounts later a b
+    turned is_open told =
+        let it = carries clean accounts (λ o. p) in
+        let shown = it.2 is_open in
+        (it.0, it.1, record { is_open = is_open; shown = shown; crash = left it.0 is_open shown (durable clean (p.0, p.1) told) })
+
+    by_answer : (r : Result X Refusal) → (IsAnswered r → IsAnswered q) → OnOk r (IsTrue b.is_open) → OnOk r ((later : Accounts) × Turn accounts later × Lasts accounts later a b)
+    by_answer (Ok x) told is_open = turned is_open (told tt)
+    by_answer (Err e) told is_open = tt
+
+  -- Ok lasts
+  pub lasting : Durable Turn a b q
+  lasting clean was accounts p = by_answer clean accounts p q (λ told. told) (live clean was)
 
 -- ---- reads
 
@@ -45,15 +81,23 @@ glance_stays a b k clean tables = record { same = k.same clean tables; crash = r
     alone again db left = elim (k.crash.crash again db left) [ inl before ↦ before | inr none ↦ absurd (none tables) ]
 
 -- reads alone, with whatever answer
-pub acts_read : {Y : Type 0} (a b : State) (Turn MayTurn : Accounts → Accounts → Type 0) (q : Result Y Refusal) → Glances a b
+pub acts_read : {Y : Type 0} (a b : State) (Turn MayTurn : Accounts → Accounts → Type 0) (q : Result Y Refusal) → StaysOpen a b q → Glances a b
     → (HasCleanDisk b → (accounts : Accounts) → HasAccounts a accounts → Turn accounts accounts) → Acts Turn MayTurn a b q
-acts_read a b Turn MayTurn q k turn = record {
-  carries = λ clean accounts shown. (accounts, turn clean accounts shown, accounts_stay a b k clean accounts shown);
+acts_read a b Turn MayTurn q live k turn = record {
+  carries = carries;
   same = λ clean tables. on_err_any q _ (k.same clean tables);
+  live = live;
   shut = k.shut;
   crash = survives_weaker a b _ (CrashLeaves MayTurn a) (λ clean db none accounts p. absurd (none (p.0, p.1))) k.crash;
-  durable = λ clean tables answered. inr (glance_stays a b k clean tables);
+  durable = durable;
+  lasts = lasting Turn a b q carries live durable;
 }
+  where
+    carries : Carries Turn a b
+    carries clean accounts shown = (accounts, turn clean accounts shown, accounts_stay a b k clean accounts shown)
+
+    durable : HasCleanDisk b → HasOurTables a.now → IsAnswered q → IsSettled b ⊎ Stays a b
+    durable clean tables answered = inr (glance_stays a b k clean tables)
 
 -- ---- reads, and then one write
 
@@ -78,34 +122,44 @@ module _ {X Y E : Type 0} (a b c : State) (r : Result X E) (x : X) (is : r ≡ O
   -- the write was made
   pub acts_made : {Z : Type 0} (y : Y) (z : Z) → w ≡ Ok y
       → (HasCleanDisk b → (accounts : Accounts) → Presents a.now accounts → Fit accounts × Turn accounts (change accounts) × MayTurn accounts (change accounts)) → Acts Turn MayTurn a c (Ok z)
-  acts_made y z was steps = record {
-    carries = λ clean accounts shown.
-        let m = mid_shows clean accounts shown in
-        let step = steps (clean_before b c _ crash_is clean) accounts m.0 in
-        (change accounts, step.1, λ is_open. on_ok w y was _ (made_is clean) accounts m.2 step.0);
+  acts_made {Z} y z was steps = record {
+    carries = carries;
     same = λ clean tables. tt;
+    live = live;
     shut = λ clean is_open. was_open clean;
     crash = crash_turned (λ clean accounts p. let step = steps clean accounts p in (step.0, step.2));
-    durable = λ clean tables answered. inl (on_ok w y was _ (settled_is clean));
+    durable = λ clean tables answered. inl (settled clean);
+    lasts = lasting Turn a c (Ok z) carries live (λ clean tables answered. inl (settled clean));
   }
+    where
+      settled : HasCleanDisk c → IsSettled c
+      settled clean = on_ok w y was (IsSettled c) (settled_is clean)
+
+      carries : Carries Turn a c
+      carries clean accounts shown =
+          let m = mid_shows clean accounts shown in
+          let step = steps (clean_before b c _ crash_is clean) accounts m.0 in
+          (change accounts, step.1, λ is_open. on_ok w y was _ (made_is clean) accounts m.2 step.0)
+
+      live : StaysOpen {X = Z} a c (Ok z)
+      live clean open_before = (settled clean).is_open
 
   -- the write was refused, without a visible cause
   pub acts_undone : {Z : Type 0} (e : Refusal) (q : Result Z Refusal) → w ≡ Err e → (IsAnswered q → ⊥) → ((accounts : Accounts) → Turn accounts accounts)
       → (HasCleanDisk b → (accounts : Accounts) → Presents a.now accounts → Fit accounts × MayTurn accounts (change accounts)) → Acts Turn MayTurn a c q
-  acts_undone e q was transient turn steps = record {
-    carries = λ clean accounts shown.
-        let m = mid_shows clean accounts shown in
-        let undone = undone_is clean (m.2.0, m.2.1) in
-        (accounts, turn accounts, λ is_open. subst (λ db. Presents db accounts) (sym (undone.now_is is_open)) m.2);
+  acts_undone {Z} e q was transient turn steps = record {
+    carries = carries;
     same = λ clean tables.
         let before = clean_before b c _ crash_is clean in
         let mid = on_ok r x is (IsTrue b.is_open) (k.live before) in
         let one = k.same before tables in
         let two = undone_is clean (subst HasOurTables (sym (one.now_is mid)) tables) in
         on_err_any q _ (record { now_is = λ o. two.now_is o ∙ one.now_is mid; committed_is = λ o. two.committed_is o ∙ one.committed_is mid });
+    live = live;
     shut = λ clean is_open. was_open clean;
     crash = crash_turned steps;
     durable = λ clean tables answered. absurd (transient answered);
+    lasts = lasting Turn a c q carries live (λ clean tables answered. absurd (transient answered));
   }
     where
       refused : (w : Result Y Refusal) → w ≡ Err e → (P : Type 0) → OnErr w P → P
@@ -114,3 +168,12 @@ module _ {X Y E : Type 0} (a b c : State) (r : Result X E) (x : X) (is : r ≡ O
 
       undone_is : HasCleanDisk c → HasOurTables b.now → StaysSame b c
       undone_is clean tables = refused w was _ (same_is clean tables)
+
+      carries : Carries Turn a c
+      carries clean accounts shown =
+          let m = mid_shows clean accounts shown in
+          let undone = undone_is clean (m.2.0, m.2.1) in
+          (accounts, turn accounts, λ is_open. subst (λ db. Presents db accounts) (sym (undone.now_is is_open)) m.2)
+
+      live : StaysOpen a c q
+      live clean open_before = unanswered q (IsTrue c.is_open) transient

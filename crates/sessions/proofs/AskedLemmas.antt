@@ -1,142 +1,151 @@
 -- Steps over a store, from what their commands come to.
-use Rattle.std.proofs.Common.{◌≡◌, ℕ, Bool, true, false, not, ◌&&◌, List, ◌++◌, Option, Some, Ok, Err, Result, OnOk, OnErr, refl, sym, ap, ◌∙◌, subst}
+use Rattle.std.proofs.Common.{◌≡◌, ◌⊎◌, ℕ, Bool, true, false, not, ◌&&◌, List, ◌++◌, Option, Some, Ok, Err, Result, OnOk, OnErr, refl, sym, ap, ◌∙◌, subst}
 use Rattle.std.proofs.lemmas.Bool.{false≢true}
 use Rattle.sqlite.specs.State.{State, HasCleanDisk}
 use Rattle.sqlite.proofs.StateLemmas.{survives_weaker}
 use Rattle.msproto.specs.declared.commands.Command.{Command}
-use Rattle.msproto.specs.declared.commands.Command.TheVariants.{Capability, Noop, Logout, Authenticate, Unauthenticate, HaveSpace, PutScript, CheckScript, ListScripts, SetActive, GetScript, DeleteScript, RenameScript, Response}
+use Rattle.msproto.specs.declared.items.Item.TheVariants as item
 use Rattle.msproto.specs.declared.items.Reach.{Reach}
 use Rattle.msproto.specs.declared.items.Reach.TheVariants as reach
 use Rattle.msproto.specs.declared.replies.Reply.{Reply}
 use Rattle.msproto.specs.Replies.{spelled}
 use Rattle.mailstore.specs.declared.refusal.Refusal.{Refusal}
 use Rattle.mailstore.specs.Account.{Accounts}
+use Rattle.mailstore.specs.Connection.{IsSettled}
+use Rattle.mailstore.specs.Promises.{HasOurTables}
 use Rattle.mailstore.specs.Refusals.{IsTransient}
+use Rattle.sessions.specs.declared.free.FreeTurn.TheVariants.{Asks}
 use Rattle.sessions.specs.declared.progress.Progress.{Progress}
 use Rattle.sessions.specs.declared.progress.Progress.TheVariants.{Done}
+use Rattle.sessions.specs.declared.sort.LoginCommand.{LoginCommand}
+use Rattle.sessions.specs.declared.sort.LoginCommand.TheVariants as login
+use Rattle.sessions.specs.declared.sort.NamedCommand.TheVariants as named
+use Rattle.sessions.specs.declared.sort.Order.{Order}
+use Rattle.sessions.specs.declared.sort.ScriptCommand.{ScriptCommand}
+use Rattle.sessions.specs.declared.sort.ScriptCommand.TheVariants as script
 use Rattle.sessions.specs.declared.turn.Sequel.TheVariants.{Stay}
 use Rattle.sessions.specs.declared.turn.Turn.{Turn}
-use Rattle.sessions.specs.Acts.{HasAccounts, CrashLeaves, Acts, Glances, IsAnswered}
+use Rattle.sessions.specs.Acts.{HasAccounts, Carries, CrashLeaves, Acts, Glances, IsAnswered, Stays, StaysOpen}
 use Rattle.sessions.specs.Clients.{Client, item_in, reach_in, past, without_first}
-use Rattle.sessions.specs.Orders.{ObeysUser, ObeyedTo, MayObey, StepsTo, MayStep, Asked}
-use Rattle.sessions.specs.Steps.{IsStep, StepsOver, AsksFor, progress_of, is_free, asks_memory, may_lack, has_command}
-use Rattle.sessions.specs.Table.{is_about_scripts}
-use Rattle.sessions.specs.Turns.{IsTurn, FitsLogin, followed, is_login, login_text, admitted_in}
-use Rattle.sessions.proofs.ActLemmas.{acts_read, no_glance}
-use Rattle.sessions.proofs.FreeLemmas.{from_item, live_first, command_first}
+use Rattle.sessions.specs.Orders.{ObeysUser, ObeyedTo, MayObey, StepsTo, MayStep}
+use Rattle.sessions.specs.Steps.{IsStep, StepsOver, HasFirst, Asked, progress_of, is_free, asks_memory, may_lack}
+use Rattle.sessions.specs.Sorts.{of_login, of_script, of_order}
+use Rattle.sessions.specs.Table.{is_about_scripts, is_early}
+use Rattle.sessions.specs.Turns.{IsTurn, FitsLogin, IsFreeTurn, followed, login_text, admitted_in}
+use Rattle.sessions.proofs.ActLemmas.{lasting, acts_read, no_glance}
+use Rattle.sessions.proofs.FreeLemmas.{from_item}
 use Rattle.sessions.proofs.LawLemmas.{turn_step, script_step}
 use Rattle.sessions.proofs.OrderLemmas.{done, refused}
 
 -- ---- which command it is
 
-pub asked_about : (command : Command) → is_free command ≡ false → is_login command ≡ false → is_about_scripts command ≡ true
-asked_about Capability f l = absurd (false≢true (sym f))
-asked_about (Noop tag) f l = absurd (false≢true (sym f))
-asked_about Logout f l = absurd (false≢true (sym f))
-asked_about (Authenticate mechanism response) f l = absurd (false≢true (sym l))
-asked_about Unauthenticate f l = absurd (false≢true (sym f))
-asked_about (HaveSpace name size) f l = refl
-asked_about (PutScript name script) f l = refl
-asked_about (CheckScript text) f l = absurd (false≢true (sym f))
-asked_about ListScripts f l = refl
-asked_about (SetActive name) f l = refl
-asked_about (GetScript name) f l = refl
-asked_about (DeleteScript name) f l = refl
-asked_about (RenameScript old new) f l = refl
-asked_about (Response text) f l = absurd (false≢true (sym l))
+pub about_scripts : (script : ScriptCommand) → is_about_scripts (of_script script) ≡ true
+about_scripts (script.Get name) = refl
+about_scripts (script.Named (named.HaveSpace name size)) = refl
+about_scripts (script.Named (named.PutScript name text)) = refl
+about_scripts (script.Named named.ListScripts) = refl
+about_scripts (script.Named (named.SetActive name)) = refl
+about_scripts (script.Named (named.DeleteScript name)) = refl
+about_scripts (script.Named (named.RenameScript old new)) = refl
 
-pub login_other : (command : Command) → is_login command ≡ true → is_about_scripts command ≡ false
-login_other Capability l = refl
-login_other (Noop tag) l = refl
-login_other Logout l = refl
-login_other (Authenticate mechanism response) l = refl
-login_other Unauthenticate l = refl
-login_other (HaveSpace name size) l = absurd (false≢true l)
-login_other (PutScript name script) l = absurd (false≢true l)
-login_other (CheckScript text) l = refl
-login_other ListScripts l = absurd (false≢true l)
-login_other (SetActive name) l = absurd (false≢true l)
-login_other (GetScript name) l = absurd (false≢true l)
-login_other (DeleteScript name) l = absurd (false≢true l)
-login_other (RenameScript old new) l = absurd (false≢true l)
-login_other (Response text) l = refl
+pub login_other : (login : LoginCommand) → is_about_scripts (of_login login) ≡ false
+login_other (login.Authenticate mechanism response) = refl
+login_other (login.Response text) = refl
 
 -- ---- calls with another answer
 
 pub acts_other : {X Y : Type 0} (a b : State) (T U M N : Accounts → Accounts → Type 0) (r : Result X Refusal) (q : Result Y Refusal) → ((accounts later : Accounts) → T accounts later → U accounts later)
-    → ((accounts later : Accounts) → M accounts later → N accounts later) → ((P : Type 0) → OnErr r P → OnErr q P) → (IsAnswered q → IsAnswered r)
+    → ((accounts later : Accounts) → M accounts later → N accounts later) → ((P : Type 0) → OnOk r P → OnOk q P) → ((P : Type 0) → OnErr r P → OnErr q P) → (IsAnswered q → IsAnswered r)
     → Acts T M a b r → Acts U N a b q
-acts_other a b T U M N r q turn may err answered acts = record {
-  carries = λ clean accounts shown. let it = acts.carries clean accounts shown in (it.0, turn accounts it.0 it.1, it.2);
+acts_other a b T U M N r q turn may ok err answered acts = record {
+  carries = carries;
   same = λ clean tables. err _ (acts.same clean tables);
+  live = live;
   shut = acts.shut;
   crash = survives_weaker a b (CrashLeaves M a) (CrashLeaves N a) (λ clean db left accounts p. let it = left accounts p in (it.0, may accounts it.0 it.1, it.2)) acts.crash;
-  durable = λ clean tables told. acts.durable clean tables (answered told);
+  durable = durable;
+  lasts = lasting U a b q carries live durable;
 }
+  where
+    carries : Carries U a b
+    carries clean accounts shown = let it = acts.carries clean accounts shown in (it.0, turn accounts it.0 it.1, it.2)
+
+    live : StaysOpen a b q
+    live clean open_before = ok _ (acts.live clean open_before)
+
+    durable : HasCleanDisk b → HasOurTables a.now → IsAnswered q → IsSettled b ⊎ Stays a b
+    durable clean tables told = acts.durable clean tables (answered told)
 
 -- ---- the steps
 
--- of a session where this command comes first
-module _ (c : Client) (command : Command) (asked : Asked c command) where
+-- of a session where this comes first
+module _ (c : Client) (order : Order) (asked : Asked c order) where
   pub first_reach : reach_in c ≡ reach.Command asked.used
-  first_reach = from_item c.pending c.unread (reach_in c) command asked.used asked.first
+  first_reach = from_item c.pending c.unread (reach_in c) (of_order order) asked.used asked.first
 
-  module _ (user : List ℕ) (is : c.user ≡ Some user) (about : is_about_scripts command ≡ true) where
-    obeyed_step : (reply : Reply) (accounts later : Accounts) → ObeysUser user command reply accounts later → IsStep accounts c Done (spelled reply) (past asked.used c) later
+  module _ (user : List ℕ) (is : c.user ≡ Some user) (about : is_about_scripts (of_order order) ≡ true) where
+    obeyed_step : (reply : Reply) (accounts later : Accounts) → ObeysUser user (of_order order) reply accounts later → IsStep accounts c Done (spelled reply) (past asked.used c) later
     obeyed_step reply accounts later o =
-        subst (IsStep accounts c Done (spelled reply) (past asked.used c)) (sym o.changed) (script_step accounts c command asked.used user o.account reply (asked.live, asked.first) about is o.has o.replies)
+        subst (IsStep accounts c Done (spelled reply) (past asked.used c)) (sym o.changed) (script_step accounts c (of_order order) asked.used user o.account reply (asked.live, asked.first) about is o.has o.replies)
 
-    may_step : (accounts later : Accounts) → MayObey user command accounts later → MayStep c accounts later
+    may_step : (accounts later : Accounts) → MayObey user (of_order order) accounts later → MayStep c accounts later
     may_step accounts later o = (Done, spelled o.0, past asked.used c, obeyed_step o.0 accounts later o.1)
 
-    pub scripts_refused : (a b : State) (e f : Refusal) (before after : List ℕ) → IsTransient f → Acts (ObeyedTo user command (refused e) before after) (MayObey user command) a b (refused e)
+    pub scripts_refused : (a b : State) (e f : Refusal) (before after : List ℕ) → IsTransient f → Acts (ObeyedTo user (of_order order) (refused e) before after) (MayObey user (of_order order)) a b (refused e)
         → Acts {X = Progress} (StepsTo c c (Err f) before after) (MayStep c) a b (Err f)
     scripts_refused a b e f before after transient acts =
-        acts_other {Y = Progress} a b (ObeyedTo user command (refused e) before after) (StepsTo c c (Err f) before after) (MayObey user command) (MayStep c) (refused e) (Err f) (λ accounts later same. same) may_step (λ P h. h)
+        acts_other {Y = Progress} a b (ObeyedTo user (of_order order) (refused e) before after) (StepsTo c c (Err f) before after) (MayObey user (of_order order)) (MayStep c) (refused e) (Err f) (λ accounts later same. same) may_step (λ P h. tt) (λ P h. h)
         (λ told. absurd (told transient)) acts
 
-    pub scripts_answered : (a b : State) (d : Client) (before after : List ℕ) → d ≡ followed Stay (without_first false (reach_in c) c) → Acts (ObeyedTo user command done before after) (MayObey user command) a b done
+    pub scripts_answered : (a b : State) (d : Client) (before after : List ℕ) → d ≡ followed Stay (without_first false (reach_in c) c) → Acts (ObeyedTo user (of_order order) done before after) (MayObey user (of_order order)) a b done
         → Acts {X = Progress} (StepsTo c d (Ok Done) before after) (MayStep c) a b (Ok Done)
     scripts_answered a b d before after session acts =
-        acts_other {Y = Progress} a b (ObeyedTo user command done before after) (StepsTo c d (Ok Done) before after) (MayObey user command) (MayStep c) done (Ok Done)
-        (λ accounts later o. (spelled o.0, o.1, subst (λ (k : Client). IsStep accounts c Done (spelled o.0) k later) (sym left) (obeyed_step o.0 accounts later o.2))) may_step (λ P h. tt) (λ told. tt) acts
+        acts_other {Y = Progress} a b (ObeyedTo user (of_order order) done before after) (StepsTo c d (Ok Done) before after) (MayObey user (of_order order)) (MayStep c) done (Ok Done)
+        (λ accounts later o. (spelled o.0, o.1, subst (λ (k : Client). IsStep accounts c Done (spelled o.0) k later) (sym left) (obeyed_step o.0 accounts later o.2))) may_step (λ P h. h) (λ P h. tt) (λ told. tt) acts
       where
         left : d ≡ past asked.used c
         left = session ∙ ap (λ (r : Reach). without_first false r c) first_reach
 
   -- a login, or a failed one
-  pub login_answered : (a b : State) (d : Client) (who : Option (List ℕ)) (turn : Turn) (progress : Progress) (before after : List ℕ) → is_login command ≡ true → Glances a b
-      → (HasCleanDisk b → (accounts : Accounts) → HasAccounts a accounts → admitted_in accounts (login_text c.user command) ≡ who) → IsTurn (FitsLogin c.user c.failures command who) command turn
+  pub login_answered : (a b : State) (d : Client) (who : Option (List ℕ)) (turn : Turn) (progress : Progress) (before after : List ℕ) → is_about_scripts (of_order order) ≡ false → StaysOpen {X = Progress} a b (Ok progress) → Glances a b
+      → (HasCleanDisk b → (accounts : Accounts) → HasAccounts a accounts → admitted_in accounts (login_text c.user (of_order order)) ≡ who) → IsTurn (FitsLogin c.user c.failures (of_order order) who) (of_order order) turn
       → after ≡ before ++ spelled turn.reply → d ≡ followed turn.sequel (without_first false (reach_in c) c) → progress ≡ progress_of d
       → Acts {X = Progress} (StepsTo c d (Ok progress) before after) (MayStep c) a b (Ok progress)
-  login_answered a b d who turn progress before after login glances found is told session goes =
-      acts_read a b (StepsTo c d (Ok progress) before after) (MayStep c) (Ok progress) glances (λ clean accounts shown. (spelled turn.reply, told, step accounts (found clean accounts shown)))
+  login_answered a b d who turn progress before after other live glances found is told session goes =
+      acts_read a b (StepsTo c d (Ok progress) before after) (MayStep c) (Ok progress) live glances (λ clean accounts shown. (spelled turn.reply, told, step accounts (found clean accounts shown)))
     where
       left : d ≡ followed turn.sequel (past asked.used c)
       left = session ∙ ap (λ (r : Reach). followed turn.sequel (without_first false r c)) first_reach
 
-      step : (accounts : Accounts) → admitted_in accounts (login_text c.user command) ≡ who → IsStep accounts c progress (spelled turn.reply) d accounts
+      step : (accounts : Accounts) → admitted_in accounts (login_text c.user (of_order order)) ≡ who → IsStep accounts c progress (spelled turn.reply) d accounts
       step accounts admits =
-          let fits : FitsLogin c.user c.failures command who accounts (past asked.used c) = record { user_is = refl; failed = refl; admits = admits } in
+          let fits : FitsLogin c.user c.failures (of_order order) who accounts (past asked.used c) = record { user_is = refl; failed = refl; admits = admits } in
           subst (λ (p : Progress). IsStep accounts c p (spelled turn.reply) d accounts) (sym goes)
           (subst (λ (e : Client). IsStep accounts c (progress_of e) (spelled turn.reply) e accounts) (sym left)
-          (turn_step accounts c command asked.used turn (asked.live, asked.first) asked.late (login_other command login) (is.replies accounts (past asked.used c) fits) (is.session accounts (past asked.used c) fits)))
+          (turn_step accounts c (of_order order) asked.used turn (asked.live, asked.first) asked.late other (is.replies accounts (past asked.used c) fits) (is.session accounts (past asked.used c) fits)))
 
 -- ---- steps that ask no store
 
 pub over_acts : (c d : Client) (progress : Progress) (before after : List ℕ) (a : State) → StepsOver c d progress before after → Acts {X = Progress} (StepsTo c d (Ok progress) before after) (MayStep c) a a (Ok progress)
 over_acts c d progress before after a over =
-    acts_read a a (StepsTo c d (Ok progress) before after) (MayStep c) (Ok progress) (no_glance a) (λ clean accounts shown. (over.octets, over.written, over.step accounts))
+    acts_read a a (StepsTo c d (Ok progress) before after) (MayStep c) (Ok progress) (λ clean is_open. is_open) (no_glance a) (λ clean accounts shown. (over.octets, over.written, over.step accounts))
 
 -- a step that is refused before anything is written
 pub refused_acts : (c d : Client) (q : Result Progress Refusal) (before after : List ℕ) (a b : State) → OnOk q ⊥ → Glances a b → Acts (StepsTo c d q before after) (MayStep c) a b q
 refused_acts c d (Ok progress) before after a b none glances = absurd none
-refused_acts c d (Err e) before after a b none glances = acts_read a b (StepsTo c d (Err e) before after) (MayStep c) (Err e) glances (λ clean accounts shown. refl)
+refused_acts c d (Err e) before after a b none glances = acts_read a b (StepsTo c d (Err e) before after) (MayStep c) (Err e) (λ clean open_before. tt) glances (λ clean accounts shown. refl)
 
 -- a command that comes first asks for memory
-pub command_lacks : (c : Client) → has_command c ≡ true → may_lack c ≡ true
-command_lacks c h = ap (λ (b : Bool). not b && asks_memory (item_in c)) (live_first c h) ∙ ap asks_memory (command_first c h).2
+pub command_lacks : (c : Client) (command : Command) → HasFirst c command → may_lack c ≡ true
+command_lacks c command has = ap (λ (b : Bool). not b && asks_memory (item_in c)) has.live ∙ ap asks_memory has.first
 
-pub asked_by : (c d : Client) (command : Command) (before after : List ℕ) → AsksFor c d command before after → d ≡ c → Asked d command
-asked_by c d command before after asks same =
-    subst (λ (k : Client). Asked k command) (sym same) (record { live = asks.live; used = asks.used; first = asks.first; late = asks.late; asks = asks.asks })
+-- an order comes first, where its command does and the store is asked about it
+pub asked_by : (c : Client) (command : Command) (order : Order) → HasFirst c command → IsFreeTurn c.user command (Asks order) → Asked c order
+asked_by c command order has (late, asks, is, owner) = record {
+  live = has.live;
+  used = has.used;
+  first = has.first ∙ ap (λ (k : Command). item.Command k has.used) (sym is);
+  owner = owner;
+  late = ap (is_early c) is ∙ late;
+  asks = ap is_free is ∙ asks;
+}

@@ -15,12 +15,17 @@ use Rattle.sessions.specs.declared.progress.Progress.TheVariants.{Need, Done, Cl
 use Rattle.sessions.specs.declared.turn.Sequel.TheVariants.{Fail, LogOut}
 use Rattle.sessions.specs.Clients.{Client, new_client, is_ready, client_given, shut, challenged, without_first, reach_in}
 use Rattle.sessions.specs.Counts.{SessionView, new_session, given_more, greatest, looked_in, scanned_past}
-use Rattle.sessions.specs.Decisions.{change_made_if, goes_by_names}
+use Rattle.sessions.specs.declared.sort.NamedCommand.TheVariants as named
+use Rattle.sessions.specs.declared.sort.Order.TheVariants as order
+use Rattle.sessions.specs.declared.sort.ScriptCommand.TheVariants as script
+use Rattle.sessions.specs.declared.sort.Sort.TheVariants as sort
+use Rattle.sessions.specs.Decisions.{change_made_if}
 use Rattle.sessions.specs.GivenUp.{text_given_up, client_given_up, progress_given_up}
 use Rattle.sessions.specs.Limits.{IsScriptName}
 use Rattle.sessions.specs.Logins.{checked_by, login_reply, login_client, is_plain, is_star, authenticate_reply, response_reply}
 use Rattle.sessions.specs.Replies.{accepted, declined, farewell, listed, challenge, done, done_with, try_later, is_ok, capabilities, owner_line}
 use Rattle.sessions.specs.Scripts.{RepliesTo, HasScript, absent, too_large, get_reply, obeyed}
+use Rattle.sessions.specs.Sorts.{command_of, of_order}
 use Rattle.sessions.specs.Steps.{IsStep, progress_of, may_fail, may_lack}
 use Rattle.sessions.specs.Table.{is_early, RepliesIn, client_in}
 use Rattle.sessions.specs.Turns.{login_text, followed}
@@ -298,11 +303,11 @@ too_much = refl
 changes_nothing : change_made_if None fresh ≡ fresh
 changes_nothing = refl
 
-by_names : goes_by_names (DeleteScript []) ≡ true
-by_names = refl
+deletes : command_of (sort.Script (script.Named (named.DeleteScript []))) ≡ DeleteScript []
+deletes = refl
 
-by_text : goes_by_names (GetScript []) ≡ false
-by_text = refl
+gets : of_order (order.Script [] (script.Get [])) ≡ GetScript []
+gets = refl
 
 third_fail : followed Fail (record new_client { failures = 2 }) ≡ shut (record new_client { failures = 2 })
 third_fail = refl

@@ -17,26 +17,27 @@ use Rattle.sessions.specs.declared.turn.Turn.{Turn}
 use Rattle.sessions.specs.declared.turn.Sequel.TheVariants.{Stay}
 use Rattle.sessions.specs.Clients.{Client, reach_in, item_in, is_command, past, without_first}
 use Rattle.sessions.specs.Laws.{ComesFirst}
-use Rattle.sessions.specs.Steps.{IsStep, StepsOver, progress_of, has_command, is_free}
+use Rattle.sessions.specs.Steps.{IsStep, StepsOver, HasFirst, progress_of, has_command, is_free}
 use Rattle.sessions.specs.Table.{is_early, is_about_scripts, early_reply}
-use Rattle.sessions.specs.Turns.{followed, IsFreeTurn}
+use Rattle.sessions.specs.Turns.{followed, IsTurnAlone}
 use Rattle.sessions.proofs.LawLemmas.{early, still_open, turn_step}
 
 -- ---- the command that comes first
 
-pub live_first : (c : Client) → has_command c ≡ true → c.closed ≡ false
-live_first c h = not-true c.closed (and_parts (not c.closed) (is_command (reach_in c)) h).0
-
-pub command_first : (c : Client) → has_command c ≡ true → (command : Command) × (used : ℕ) × (item_in c ≡ item.Command command used)
+pub command_first : (c : Client) → has_command c ≡ true → (command : Command) × HasFirst c command
 command_first c h = by (reach_in c) refl (and_parts (not c.closed) (is_command (reach_in c)) h).1
   where
-    read : (n : ℕ) → reach_in c ≡ reach.Command n → (o : Option Command) → command_in c.pending (take n c.unread) ≡ o → (command : Command) × (used : ℕ) × (item_in c ≡ item.Command command used)
+    live : c.closed ≡ false
+    live = not-true c.closed (and_parts (not c.closed) (is_command (reach_in c)) h).0
+
+    read : (n : ℕ) → reach_in c ≡ reach.Command n → (o : Option Command) → command_in c.pending (take n c.unread) ≡ o → (command : Command) × HasFirst c command
     read n e None none =
         let reached = subst (λ (r : Reach). Reaches c.pending r c.unread) e (reaches c.pending c.unread) in
         absurd (some_read c.pending (take n c.unread) reached.2 none)
-    read n e (Some command) is = (command, n, ap (item_at c.pending c.unread) e ∙ ap (λ (o : Option Command). item_with o n) is)
+    read n e (Some command) is =
+        (command, record { live = live; used = n; first = ap (item_at c.pending c.unread) e ∙ ap (λ (o : Option Command). item_with o n) is })
 
-    by : (r : Reach) → reach_in c ≡ r → is_command r ≡ true → (command : Command) × (used : ℕ) × (item_in c ≡ item.Command command used)
+    by : (r : Reach) → reach_in c ≡ r → is_command r ≡ true → (command : Command) × HasFirst c command
     by reach.Need e h = absurd (false≢true h)
     by (reach.Command n) e h = read n e (command_in c.pending (take n c.unread)) refl
     by (reach.Bad n) e h = absurd (false≢true h)
@@ -96,7 +97,7 @@ free_other (DeleteScript name) h = absurd (false≢true h)
 free_other (RenameScript old new) h = absurd (false≢true h)
 free_other (Response text) h = absurd (false≢true h)
 
-pub free_turn_step : (accounts : Accounts) (c : Client) (command : Command) (used : ℕ) (turn : Turn) → ComesFirst c command used → IsFreeTurn c.user command (Some turn)
+pub free_turn_step : (accounts : Accounts) (c : Client) (command : Command) (used : ℕ) (turn : Turn) → ComesFirst c command used → IsTurnAlone c.user command turn
     → IsStep accounts c (progress_of (followed turn.sequel (past used c))) (spelled turn.reply) (followed turn.sequel (past used c)) accounts
 free_turn_step accounts c command used turn first (inl lacks) = early_turn accounts c command used turn first lacks.0 lacks.1
 free_turn_step accounts c command used turn first (inr (late, free, row)) =

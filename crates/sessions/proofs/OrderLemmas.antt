@@ -1,5 +1,5 @@
 -- Commands about scripts, over a store.
-use Rattle.std.proofs.Common.{◌≡◌, ◌⊎◌, ℕ, Bool, true, false, cond, List, ◌++◌, Option, Some, None, Ok, Err, Result, OnOk, IfOk, IfErr, IsSome, refl, sym, ap, ◌∙◌, subst, inl, inr}
+use Rattle.std.proofs.Common.{◌≡◌, ◌⊎◌, ℕ, Bool, true, false, cond, List, ◌++◌, Option, Some, None, Ok, Err, Result, OnOk, IfOk, IfErr, IsSome, IsTrue, refl, sym, ap, ◌∙◌, subst, inl, inr}
 use Rattle.std.specs.Borrow.{Bor}
 use Rattle.std.specs.FinMap.{get}
 use Rattle.sqlite.specs.State.{State, HasCleanDisk}
@@ -14,13 +14,18 @@ use Rattle.mailstore.specs.Cells.{contents}
 use Rattle.mailstore.specs.Promises.{HasUser, IsFree, OfUser, Reads, WritesUser, WritesAccount}
 use Rattle.mailstore.specs.Refusals.{IsTransient}
 use Rattle.mailstore.specs.Shows.{Presents}
+use Rattle.mailtables.proofs.ResultLemmas.{on_ok}
 use Rattle.sessions.specs.declared.decision.Change.{Change}
 use Rattle.sessions.specs.declared.decision.Decision.{Decision}
+use Rattle.sessions.specs.declared.sort.NamedCommand.{NamedCommand}
+use Rattle.sessions.specs.declared.sort.ScriptCommand.{ScriptCommand}
+use Rattle.sessions.specs.declared.sort.ScriptCommand.TheVariants.{Named}
 use Rattle.sessions.specs.Acts.{Acts}
-use Rattle.sessions.specs.Decisions.{Decides, change_made, change_made_if}
+use Rattle.sessions.specs.Decisions.{IsDecision, Decides, change_made, change_made_if}
 use Rattle.sessions.specs.Orders.{ObeysUser, ObeyedTo, MayObey}
 use Rattle.sessions.specs.Replies.{is_ok, value_of}
 use Rattle.sessions.specs.Scripts.{get_reply, obeyed}
+use Rattle.sessions.specs.Sorts.{of_named, of_script}
 use Rattle.sessions.proofs.LawLemmas.{none_changed}
 use Rattle.sessions.proofs.ActLemmas.{glanced, read_shows, acts_read, acts_made, acts_undone}
 
@@ -40,6 +45,11 @@ pub got : (command : Command) (name seen : List ℕ) (text : Option (List ℕ)) 
 got command name seen text reply a at same right is =
     subst (λ (c : Command). Decides c (record { reply = reply; change = None }) a) (sym at)
     (record { replies = right ∙ ap get_reply (is ∙ ap (get a.scripts) same); changes = λ b. same_both (is_ok reply.word) b })
+
+-- what was decided by the names
+pub decides_named : (script : ScriptCommand) (command : NamedCommand) (Fits : Account → Type 0) (decision : Decision) (a : Account) → script ≡ Named command → IsDecision Fits (of_named command) decision → Fits a
+    → Decides (of_script script) decision a
+decides_named script command Fits decision a at is fits = subst (λ (s : ScriptCommand). Decides (of_script s) decision a) (sym at) (record { replies = is.replies a fits; changes = is.changes })
 
 -- ---- the answer, and what changes
 
@@ -101,7 +111,7 @@ module _ (user : List ℕ) (command : Command) (a b : State) (r : Result Decisio
   -- nothing is to be written
   pub obeys_quietly : (before after : List ℕ) → d.change ≡ None → after ≡ before ++ spelled d.reply → Acts (ObeyedTo user command done before after) (MayObey user command) a b done
   obeys_quietly before after none told =
-      acts_read a b (ObeyedTo user command done before after) (MayObey user command) done (glanced a b r reads.keeps)
+      acts_read a b (ObeyedTo user command done before after) (MayObey user command) done (λ clean open_before. on_ok r d was (IsTrue b.is_open) (reads.keeps.live clean)) (glanced a b r reads.keeps)
       (λ clean accounts shown. let p = (read_shows a b r d was reads.keeps clean accounts shown).0 in (d.reply, told, quiet user command d accounts (own clean accounts p) none))
 
   module _ (c : State) (change : Change) (some : d.change ≡ Some change) (w : Result (Unit {0}) Refusal) (late : WritesAccount user (change_made change) b c w) where

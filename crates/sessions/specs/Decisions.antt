@@ -1,8 +1,7 @@
 -- What a command comes to, decided from what its account has.
-use Rattle.std.specs.Prelude.{◌≡◌, ℕ, Bool, true, false, List, Option, Some, None}
+use Rattle.std.specs.Prelude.{◌≡◌, ℕ, List, Option, Some, None}
 use Rattle.std.specs.FinMap.{keys}
 use Rattle.msproto.specs.declared.commands.Command.{Command}
-use Rattle.msproto.specs.declared.commands.Command.TheVariants.{HaveSpace, PutScript, ListScripts, SetActive, DeleteScript, RenameScript}
 use Rattle.mailstore.specs.Account.{Account, keeps_script, activates, deletes_script, renames_script}
 use Rattle.sessions.specs.declared.decision.Change.{Change}
 use Rattle.sessions.specs.declared.decision.Change.TheVariants.{Put, Activate, Delete, Rename}
@@ -38,13 +37,3 @@ pub record IsDecision (Fits : Account → Type 0) (command : Command) (decision 
 pub record Decides (command : Command) (decision : Decision) (a : Account) : Type 0 where
   pub replies : RepliesTo a command decision.reply
   pub changes : (b : Account) → change_made_if decision.change b ≡ obeyed command decision.reply.word b
-
--- a command that is decided by the names of the account's scripts and by which one is active
-abbrev pub goes_by_names : Command → Bool
-goes_by_names (HaveSpace name size) = true
-goes_by_names (PutScript name script) = true
-goes_by_names ListScripts = true
-goes_by_names (SetActive name) = true
-goes_by_names (DeleteScript name) = true
-goes_by_names (RenameScript old new) = true
-goes_by_names _ = false

@@ -9,6 +9,7 @@ pub mod Logins
 pub mod Orders
 pub mod Replies
 pub mod Scripts
+pub mod Sorts
 pub mod Steps
 pub mod Table
 pub mod Turns

@@ -1,9 +1,8 @@
 -- Commands that are answered over a store: what a step over one comes to.
-use Rattle.std.specs.Prelude.{◌≡◌, ℕ, true, false, List, ◌++◌, Some, Result, Ok, Err, OnOk, OnErr, IfErr}
+use Rattle.std.specs.Prelude.{◌≡◌, ℕ, true, List, ◌++◌, Some, Result, Ok, Err, OnOk, OnErr, IfErr}
 use Rattle.std.specs.FinMap.{get}
 use Rattle.sqlite.specs.State.{State}
 use Rattle.msproto.specs.declared.commands.Command.{Command}
-use Rattle.msproto.specs.declared.items.Item.TheVariants as item
 use Rattle.msproto.specs.declared.replies.Reply.{Reply}
 use Rattle.msproto.specs.Replies as octets_of
 use Rattle.mailstore.specs.declared.refusal.Refusal.{Refusal}
@@ -12,11 +11,10 @@ use Rattle.mailstore.specs.Account.{Account, Accounts, with_user}
 use Rattle.mailstore.specs.Refusals.{IsTransient}
 use Rattle.sessions.specs.declared.progress.Progress.{Progress}
 use Rattle.sessions.specs.Acts.{Acts}
-use Rattle.sessions.specs.Clients.{Client, item_in}
+use Rattle.sessions.specs.Clients.{Client}
 use Rattle.sessions.specs.Scripts.{RepliesTo, obeyed}
 use Rattle.sessions.specs.Counts.{SessionView, scanned_past}
-use Rattle.sessions.specs.Steps.{IsStep, may_lack, may_fail, is_free}
-use Rattle.sessions.specs.Table.{is_early}
+use Rattle.sessions.specs.Steps.{IsStep, may_lack, may_fail}
 
 -- ---- a command about a user's scripts
 
@@ -68,11 +66,3 @@ abbrev pub MayRefuse : Client → Refusal → Type 0
 MayRefuse c Memory = may_lack c ≡ true
 MayRefuse c Store = may_fail c ≡ true
 MayRefuse c _ = ⊥
-
--- this command comes first, and is answered over the store
-pub record Asked (c : Client) (command : Command) : Type 0 where
-  pub live : c.closed ≡ false
-  pub used : ℕ
-  pub first : item_in c ≡ item.Command command used
-  pub late : is_early c command ≡ false
-  pub asks : is_free command ≡ false

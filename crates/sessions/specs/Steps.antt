@@ -7,13 +7,17 @@ use Rattle.msproto.specs.declared.items.Item.TheVariants as item
 use Rattle.msproto.specs.declared.replies.Reply.{Reply}
 use Rattle.msproto.specs.Replies as octets_of
 use Rattle.mailstore.specs.Account.{Account, Accounts, with_user}
+use Rattle.sessions.specs.declared.progress.First.{First}
+use Rattle.sessions.specs.declared.progress.First.TheVariants as over
 use Rattle.sessions.specs.declared.progress.Progress.{Progress}
 use Rattle.sessions.specs.declared.progress.Stepped.{Stepped}
 use Rattle.sessions.specs.declared.progress.Stepped.TheVariants.{Made, Asks}
 use Rattle.sessions.specs.declared.progress.Progress.TheVariants.{Need, Done, Close}
+use Rattle.sessions.specs.declared.sort.Order.{Order}
 use Rattle.sessions.specs.Clients.{Client, item_in, reach_in, is_command, past, shut}
 use Rattle.sessions.specs.Replies.{syntax, too_big}
 use Rattle.sessions.specs.Scripts.{obeyed}
+use Rattle.sessions.specs.Sorts.{of_order, IsOrderOf}
 use Rattle.sessions.specs.Table.{is_early, RepliesIn, client_in}
 
 -- the account of the user who is logged in is changed, and no other
@@ -69,30 +73,61 @@ is_free Unauthenticate = true
 is_free (CheckScript text) = true
 is_free _ = false
 
--- a command comes first that is answered over the store, in a session that hasn't ended, and nothing changed
-pub record AsksFor (c d : Client) (command : Command) (before later : List ℕ) : Type 0 where
+-- this command comes first, in a session that hasn't ended
+pub record HasFirst (c : Client) (command : Command) : Type 0 where
   pub live : c.closed ≡ false
   pub used : ℕ
   pub first : item_in c ≡ item.Command command used
-  pub late : is_early c command ≡ false
-  pub asks : is_free command ≡ false
+
+-- whether a command comes first
+abbrev pub gives_command : First → Bool
+gives_command (over.Made progress) = false
+gives_command (over.Command command) = true
+
+-- the step was made, or a command comes first
+abbrev pub StepsFirst : Client → Client → First → List ℕ → List ℕ → Type 0
+StepsFirst c d (over.Made progress) before later = StepsOver c d progress before later
+StepsFirst c d (over.Command command) before later = HasFirst c command
+
+-- a fact for what comes first, where the step was made
+abbrev pub IfOver : First → Type 0 → Type 0
+IfOver (over.Made progress) P = P
+IfOver (over.Command command) P = Unit {0}
+
+-- a fact for what comes first, where it is a command
+abbrev pub IfCommand : First → Type 0 → Type 0
+IfCommand (over.Made progress) P = Unit {0}
+IfCommand (over.Command command) P = P
+
+-- this comes first in a session that hasn't ended, and is answered over the store; of scripts it is those of the user who is logged in
+pub record Asked (c : Client) (order : Order) : Type 0 where
+  pub live : c.closed ≡ false
+  pub used : ℕ
+  pub first : item_in c ≡ item.Command (of_order order) used
+  pub owner : IsOrderOf c.user order
+  pub late : is_early c (of_order order) ≡ false
+  pub asks : is_free (of_order order) ≡ false
+
+-- this comes first and is answered over the store, and nothing changed
+pub record AsksFor (c d : Client) (order : Order) (before later : List ℕ) : Type 0 where
+  pub asked : Asked c order
   pub stays : d ≡ c
   pub silent : later ≡ before
 
--- the step was made, or a command comes first that asks the store
+-- the step was made, or what comes first asks the store
 abbrev pub StepsFree : Client → Client → Stepped → List ℕ → List ℕ → Type 0
 StepsFree c d (Made progress) before later = StepsOver c d progress before later
-StepsFree c d (Asks command) before later = AsksFor c d command before later
+StepsFree c d (Asks order) before later = AsksFor c d order before later
 
 -- a fact for a step that was made
 abbrev pub IfMade : Stepped → Type 0 → Type 0
 IfMade (Made progress) P = P
-IfMade (Asks command) P = Unit {0}
+IfMade (Asks order) P = Unit {0}
 
 -- a fact for a step that wasn't made
 abbrev pub IfAsks : Stepped → Type 0 → Type 0
 IfAsks (Made progress) P = Unit {0}
-IfAsks (Asks command) P = P
+IfAsks (Asks order) P = P
 
 -- whether the store is asked about the item
 abbrev pub asks_store : Client → Item → Bool

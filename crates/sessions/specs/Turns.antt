@@ -1,15 +1,18 @@
 -- What a command that isn't about scripts comes to, decided from what the session and the login have.
-use Rattle.std.specs.Prelude.{◌≡◌, ◌⊎◌, ℕ, Bool, true, false, cond, ◌&&◌, is_none, List, Option, Some, None}
+use Rattle.std.specs.Prelude.{◌≡◌, ◌⊎◌, ℕ, true, false, cond, ◌&&◌, is_none, List, Option, Some, None}
 use Rattle.msproto.specs.declared.commands.Command.{Command}
 use Rattle.msproto.specs.declared.commands.Command.TheVariants.{Authenticate, Response}
 use Rattle.saslplain.specs.declared.password.Record.{Record}
 use Rattle.mailstore.specs.Account.{Accounts, Password}
+use Rattle.sessions.specs.declared.free.FreeTurn.{FreeTurn}
+use Rattle.sessions.specs.declared.free.FreeTurn.TheVariants.{Made, Asks}
 use Rattle.sessions.specs.declared.turn.Turn.{Turn}
 use Rattle.sessions.specs.declared.turn.Sequel.{Sequel}
 use Rattle.sessions.specs.declared.turn.Sequel.TheVariants.{Stay, Close, Challenge, LogIn, Fail, LogOut}
 use Rattle.sessions.specs.Clients.{Client, shut, challenged, left}
 use Rattle.sessions.specs.Logins.{admitted, is_plain, is_star, login_reply, login_client}
 use Rattle.sessions.specs.Replies.{declined}
+use Rattle.sessions.specs.Sorts.{of_order, IsOrderOf}
 use Rattle.sessions.specs.Steps.{is_free}
 use Rattle.sessions.specs.Table.{RepliesTaken, taken_client, lacks_login, early_reply}
 
@@ -31,20 +34,18 @@ pub record IsTurn (Fits : Accounts → Client → Type 0) (command : Command) (t
 abbrev pub HasUser : Option (List ℕ) → Accounts → Client → Type 0
 HasUser user accounts c = c.user ≡ user
 
--- what a command comes to without the store, where this user is logged in, or nobody: one that lacks a login is told so, one that asks no store has its row's answer; none where the store is asked
-abbrev pub IsFreeTurn : Option (List ℕ) → Command → Option Turn → Type 0
-IsFreeTurn user command None = (lacks_login user command ≡ false) × (is_free command ≡ false)
-IsFreeTurn user command (Some turn) =
+-- what a command that asks no store comes to, where this user is logged in, or nobody: one that lacks a login is told so, another has its row's answer
+abbrev pub IsTurnAlone : Option (List ℕ) → Command → Turn → Type 0
+IsTurnAlone user command turn =
     ((lacks_login user command ≡ true) × (turn ≡ record { reply = early_reply; sequel = Stay }))
     ⊎ ((lacks_login user command ≡ false) × (is_free command ≡ true) × IsTurn (HasUser user) command turn)
 
--- ---- logins
+-- what a command comes to without the store: its turn, where it lacks a login or asks no store, else the order for the store
+abbrev pub IsFreeTurn : Option (List ℕ) → Command → FreeTurn → Type 0
+IsFreeTurn user command (Made turn) = IsTurnAlone user command turn
+IsFreeTurn user command (Asks order) = (lacks_login user command ≡ false) × (is_free command ≡ false) × (of_order order ≡ command) × IsOrderOf user order
 
--- a command of a login's exchange
-abbrev pub is_login : Command → Bool
-is_login (Authenticate mechanism response) = true
-is_login (Response text) = true
-is_login _ = false
+-- ---- logins
 
 -- the text that decides a login, where the command has one and it is looked at
 abbrev pub login_text : Option (List ℕ) → Command → Option (List ℕ)

@@ -1,5 +1,5 @@
 //! What a session reads of its user's account, and what it writes there.
-ghost use Rattle.std.specs.Prelude.{◌≡◌, ◌⊎◌, true, take, Some, OnErr, IfErr};
+ghost use Rattle.std.specs.Prelude.{◌≡◌, ◌⊎◌, take, Some, OnErr, IfErr};
 ghost use Rattle.sqlite.specs.Held.{state};
 ghost use Rattle.mailstore.specs.declared.refusal.Refusal.TheVariants.{NoUser};
 ghost use Rattle.mailstore.specs.Promises.{Reads, WritesAccount};
@@ -10,14 +10,15 @@ ghost use Rattle.sessions.specs.Decisions.{AreScripts, Decides, change_made};
 ghost use Rattle.sessions.specs.Logins.{admitted_by};
 ghost use Rattle.sessions.specs.Orders.{ActsCommand};
 ghost use Rattle.sessions.specs.Replies.{value_of};
-ghost use Rattle.sessions.specs.Table.{is_about_scripts};
+ghost use Rattle.sessions.specs.Sorts.{of_script};
 ghost use Rattle.sessions.specs.Turns.{admitted_in};
 
 use crate::decision::{Change, Decision};
 use crate::login::{has_password, spend_rounds};
 use crate::scripts::{decide, get_script};
+use crate::sort::ScriptCommand;
 use mailstore::{Profile, Refusal, Store};
-use msproto::{Command, spell};
+use msproto::spell;
 use octets::{Octets, Texts};
 use saslplain::{Login, Record, plain};
 use sqlite::Alter;
@@ -37,11 +38,10 @@ pub(crate) fn execute<S: Alter>(
     alloc: Global,
     store: &mut Store<S>,
     user: &[u8],
-    command: &Command,
+    command: &ScriptCommand,
     out: &mut Octets,
 ) -> Result<(), Refusal>
-    requires { is_about_scripts command.now ≡ true }
-    ensures acts { ActsCommand user.now command.now out.old out.new (state S.Store store.old) (state S.Store store.new) result }
+    ensures acts { ActsCommand user.now (of_script command.now) out.old out.new (state S.Store store.old) (state S.Store store.new) result }
     ensures err { OnErr result (out.new ≡ out.old) }
     ensures named { IfErr result (λ e. (e ≡ NoUser) ⊎ IsTransient e) }
 {
@@ -116,19 +116,21 @@ fn decision_on<'a, S: Alter>(
     alloc: Global,
     store: &mut Store<S>,
     user: &[u8],
-    command: &'a Command,
+    command: &'a ScriptCommand,
 ) -> Result<Decision<'a>, Refusal>
-    requires { is_about_scripts command.now ≡ true }
-    ensures { Reads user.now (Decides command.entry.now) (state S.Store store.old) (state S.Store store.new) result }
+    ensures { Reads user.now (Decides (of_script command.entry.now)) (state S.Store store.old) (state S.Store store.new) result }
 {
-    if let Command::GetScript(name) = command {
-        let text = store.script(user, name.as_slice())?;
-        let reply = get_script(alloc, text)?;
-        return Ok(Decision {
-            reply,
-            change: None,
-        });
-    }
+    let command = match command {
+        ScriptCommand::Get(name) => {
+            let text = store.script(user, name.as_slice())?;
+            let reply = get_script(alloc, text)?;
+            return Ok(Decision {
+                reply,
+                change: None,
+            });
+        }
+        ScriptCommand::Named(command) => command,
+    };
     let kept = kept_scripts(store, user)?;
     let decision = decide(
         alloc,

@@ -1,51 +1,82 @@
 //! What the commands that look at no account are answered.
-ghost use Rattle.std.specs.Prelude.{◌≡◌, true, IfOk};
+ghost use Rattle.std.specs.Prelude.{◌≡◌, IfOk};
 ghost use Rattle.sessions.specs.declared.turn.Sequel.TheVariants.{Stay};
-ghost use Rattle.sessions.specs.Steps.{is_free as is_free_of};
-ghost use Rattle.sessions.specs.Table.{lacks_login as lacks_login_of, needs_login as needs_login_of, early_reply};
-ghost use Rattle.sessions.specs.Turns.{IsFreeTurn, IsTurn, HasUser};
+ghost use Rattle.sessions.specs.Sorts.{of_free, of_script};
+ghost use Rattle.sessions.specs.Table.{needs_login as needs_login_of, early_reply};
+ghost use Rattle.sessions.specs.Turns.{IsFreeTurn, IsTurnAlone, IsTurn, HasUser};
 
 use crate::replies::{accepted, capabilities, declined, done_with};
 use crate::scripts::check_script;
+use crate::sort::{FreeCommand, Order, ScriptCommand, Sort, split};
 use crate::turn::{Sequel, Turn};
 use msproto::{Command, Reply};
 use octets::Octets;
 use std::alloc::{AllocError, Global};
 
-/// What a command comes to without the store, in a session where this user is logged in, or nobody; none where the store
-/// is asked. Lack of memory is the only error.
+/// What a command comes to without the store.
+#[derive(Drop)]
+pub enum FreeTurn {
+    /// The answer, and what becomes of the session.
+    Made(Turn),
+    /// The store is to be asked about this.
+    Asks(Order),
+}
+
+/// What a command comes to without the store, in a session where this user is logged in, or nobody; the order where the
+/// store is asked. Lack of memory is the only error.
 pub fn free_turn(
     alloc: Global,
     user: &Option<Octets>,
-    command: &Command,
-) -> Result<Option<Turn>, AllocError>
-    ensures { IfOk result (IsFreeTurn user.now command.now) }
+    command: Command,
+) -> Result<FreeTurn, AllocError>
+    ensures { IfOk result (IsFreeTurn user.now command) }
 {
-    if lacks_login(user, command) {
-        return Ok(Some(early(alloc)?));
+    match split(command) {
+        Sort::Free(command) => Ok(FreeTurn::Made(turn_of(alloc, user, &command)?)),
+        Sort::Login(command) => Ok(FreeTurn::Asks(Order::Login(command))),
+        Sort::Script(command) => script_turn(alloc, user, command),
     }
-    if !is_free(command) {
-        return Ok(None);
+}
+
+/// What a command about scripts comes to without the store: the order of the user who is logged in, if somebody is.
+fn script_turn(
+    alloc: Global,
+    user: &Option<Octets>,
+    command: ScriptCommand,
+) -> Result<FreeTurn, AllocError>
+    ensures { IfOk result (IsFreeTurn user.now (of_script command)) }
+{
+    let Some(user) = user else {
+        return Ok(FreeTurn::Made(early(alloc)?));
+    };
+    let user = user.try_clone(alloc)?;
+    Ok(FreeTurn::Asks(Order::Script { user, command }))
+}
+
+/// What a command comes to that asks no store: it may lack a login.
+fn turn_of(alloc: Global, user: &Option<Octets>, command: &FreeCommand) -> Result<Turn, AllocError>
+    ensures { IfOk result (IsTurnAlone user.now (of_free command.now)) }
+{
+    if needs_login(command) && user.is_none() {
+        return early(alloc);
     }
-    Ok(Some(free(alloc, user, command)?))
+    free(alloc, user, command)
 }
 
 /// What `CAPABILITY`, `NOOP`, `LOGOUT`, `UNAUTHENTICATE` and `CHECKSCRIPT` come to (RFC 5804, 2.3, 2.4, 2.12 to 2.14), in a
 /// session where this user is logged in, or nobody. Lack of memory is the only error.
-fn free(alloc: Global, user: &Option<Octets>, command: &Command) -> Result<Turn, AllocError>
-    requires { is_free_of command.now ≡ true }
-    ensures { IfOk result (IsTurn (HasUser user.now) command.now) }
+fn free(alloc: Global, user: &Option<Octets>, command: &FreeCommand) -> Result<Turn, AllocError>
+    ensures { IfOk result (IsTurn (HasUser user.now) (of_free command.now)) }
 {
     match command {
-        Command::Capability => Ok(with_sequel(capabilities(alloc, user)?, Sequel::Stay)),
-        Command::Noop(tag) => Ok(with_sequel(done_with(alloc, tag)?, Sequel::Stay)),
-        Command::Logout => Ok(with_sequel(accepted(alloc, b"Bye.")?, Sequel::Close)),
-        Command::Unauthenticate => Ok(with_sequel(accepted(alloc, b"Done.")?, Sequel::LogOut)),
-        Command::CheckScript(text) => Ok(with_sequel(
+        FreeCommand::Capability => Ok(with_sequel(capabilities(alloc, user)?, Sequel::Stay)),
+        FreeCommand::Noop(tag) => Ok(with_sequel(done_with(alloc, tag)?, Sequel::Stay)),
+        FreeCommand::Logout => Ok(with_sequel(accepted(alloc, b"Bye.")?, Sequel::Close)),
+        FreeCommand::Unauthenticate => Ok(with_sequel(accepted(alloc, b"Done.")?, Sequel::LogOut)),
+        FreeCommand::CheckScript(text) => Ok(with_sequel(
             check_script(alloc, text.as_slice())?,
             Sequel::Stay,
         )),
-        _ => unreachable!(),
     }
 }
 
@@ -56,38 +87,13 @@ fn early(alloc: Global) -> Result<Turn, AllocError>
     Ok(with_sequel(declined(alloc, None, b"Log in first.")?, Sequel::Stay))
 }
 
-/// Whether the command needs a login, and nobody is logged in. Takes no memory.
-fn lacks_login(user: &Option<Octets>, command: &Command) -> bool
-    ensures { result ≡ lacks_login_of user.now command.now }
-{
-    needs_login(command) && user.is_none()
-}
-
 /// Whether the command is of a user who is logged in. Takes no memory.
-fn needs_login(command: &Command) -> bool
-    ensures { result ≡ needs_login_of command.now }
-{
-    !matches!(
-        command,
-        Command::Capability
-            | Command::Noop(_)
-            | Command::Logout
-            | Command::Authenticate { .. }
-            | Command::Response(_)
-    )
-}
-
-/// Whether the command is answered without the store. Takes no memory.
-fn is_free(command: &Command) -> bool
-    ensures { result ≡ is_free_of command.now }
+fn needs_login(command: &FreeCommand) -> bool
+    ensures { result ≡ needs_login_of (of_free command.now) }
 {
     matches!(
         command,
-        Command::Capability
-            | Command::Noop(_)
-            | Command::Logout
-            | Command::Unauthenticate
-            | Command::CheckScript(_)
+        FreeCommand::Unauthenticate | FreeCommand::CheckScript(_)
     )
 }
 

@@ -11,10 +11,12 @@ pub mod replies;
 pub mod script_name;
 pub mod scripts;
 pub mod session;
+pub mod sort;
 pub mod turn;
 mod unread;
 
 pub use decision::{Change, Decision};
-pub use progress::{Progress, Stepped};
+pub use progress::{First, Progress, Stepped};
 pub use session::Session;
+pub use sort::Order;
 pub use turn::{Sequel, Turn};

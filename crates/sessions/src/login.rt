@@ -1,13 +1,15 @@
 //! Logins by PLAIN (RFC 5804, section 2.1; RFC 4616).
-ghost use Rattle.std.specs.Prelude.{◌≡◌, true, Option, Some, None, IfOk};
+ghost use Rattle.std.specs.Prelude.{◌≡◌, Option, Some, None, IfOk};
 ghost use Rattle.msproto.specs.declared.commands.Command.TheVariants as command;
 ghost use Rattle.sessions.specs.Logins as s;
 ghost use Rattle.sessions.specs.Replies.{value_of};
+ghost use Rattle.sessions.specs.Sorts.{of_login};
 ghost use Rattle.sessions.specs.Turns as t;
 
 use crate::replies::{accepted, challenge, declined, farewell};
+use crate::sort::LoginCommand;
 use crate::turn::{Sequel, Turn};
-use msproto::{Command, Reply};
+use msproto::Reply;
 use octets::Octets;
 use saslplain::{Login, ROUNDS, Record, accepts, digest};
 use std::alloc::{AllocError, Global};
@@ -17,24 +19,18 @@ pub(crate) const MAX_FAILURES: u32 = 2;
 
 /// The text that decides a login, where the command has one and it is looked at: not where somebody is logged in already,
 /// the mechanism isn't PLAIN, or the exchange is cancelled. Takes no memory.
-pub fn login_text<'a>(user: &Option<Octets>, command: &'a Command) -> Option<&'a [u8]>
-    ensures { value_of result ≡ t.login_text user.now command.entry.now }
+pub fn login_text<'a>(user: &Option<Octets>, command: &'a LoginCommand) -> Option<&'a [u8]>
+    ensures { value_of result ≡ t.login_text user.now (of_login command.entry.now) }
 {
     match command {
-        Command::Authenticate {
+        LoginCommand::Authenticate {
             mechanism,
             response: Some(text),
         } if user.is_none() && is_plain(mechanism.as_slice()) => Some(text.as_slice()),
-        Command::Response(text) if !is_star(text.as_slice()) => Some(text.as_slice()),
-        _ => None,
+        LoginCommand::Authenticate { .. } => None,
+        LoginCommand::Response(text) if is_star(text.as_slice()) => None,
+        LoginCommand::Response(text) => Some(text.as_slice()),
     }
-}
-
-/// Whether the command is of a login's exchange. Takes no memory.
-pub fn is_login(command: &Command) -> bool
-    ensures { result ≡ t.is_login command.now }
-{
-    matches!(command, Command::Authenticate { .. } | Command::Response(_))
 }
 
 /// Whether the login's password is the one that its user's account keeps. Takes no memory, and as long as `accepts`.
@@ -59,19 +55,17 @@ pub fn exchange(
     alloc: Global,
     user: &Option<Octets>,
     failures: u32,
-    command: &Command,
+    command: &LoginCommand,
     who: Option<Octets>,
 ) -> Result<Turn, AllocError>
-    requires { t.is_login command.now ≡ true }
-    ensures { IfOk result (t.IsTurn (t.FitsLogin user.now failures command.now who) command.now) }
+    ensures { let sent = of_login command.now in IfOk result (t.IsTurn (t.FitsLogin user.now failures sent who) sent) }
 {
     match command {
-        Command::Authenticate {
+        LoginCommand::Authenticate {
             mechanism,
             response,
         } => authenticate(alloc, user, failures, mechanism.as_slice(), response, who),
-        Command::Response(text) => respond(alloc, user, failures, text.as_slice(), who),
-        _ => unreachable!(),
+        LoginCommand::Response(text) => respond(alloc, user, failures, text.as_slice(), who),
     }
 }
 

@@ -1,4 +1,5 @@
 //! How a session goes on.
+use crate::sort::Order;
 use msproto::Command;
 
 /// How a session goes on after a step.
@@ -12,11 +13,20 @@ pub enum Progress {
     Close,
 }
 
+/// What comes first came to, where it is no command.
+#[derive(Drop)]
+pub enum First {
+    /// The step was made.
+    Made(Progress),
+    /// This command comes first.
+    Command(Command),
+}
+
 /// What a step came to that asks no store.
 #[derive(Drop)]
 pub enum Stepped {
     /// The step was made.
     Made(Progress),
-    /// This command comes first, and the store is to be asked about it.
-    Asks(Command),
+    /// This comes first, and the store is to be asked about it.
+    Asks(Order),
 }

@@ -1,18 +1,20 @@
 //! What the commands about scripts are answered (RFC 5804, sections 2.5 to 2.12), and what they change.
-ghost use Rattle.std.specs.Prelude.{◌≡◌, ℕ, ◌++◌, Bool, true, None, Some, IfOk, IsTrue, MatchBool, nat_eq, map};
+ghost use Rattle.std.specs.Prelude.{◌≡◌, ℕ, ◌++◌, Bool, None, Some, IfOk, IsTrue, MatchBool, nat_eq, map};
 ghost use Rattle.std.specs.List.{list_any};
 ghost use Rattle.std.specs.Cmp.Lexicographic.{pointwise};
 ghost use Rattle.msproto.specs.declared.commands.Command.TheVariants as command;
 ghost use Rattle.sievelex.specs.Faults.{fault_line};
 ghost use Rattle.mailstore.specs.Account.{Account};
-ghost use Rattle.sessions.specs.Decisions.{AreNames, AreScripts, IsDecision, goes_by_names};
+ghost use Rattle.sessions.specs.Decisions.{AreNames, AreScripts, IsDecision};
 ghost use Rattle.sessions.specs.Replies as r;
 ghost use Rattle.sessions.specs.Scripts as s;
+ghost use Rattle.sessions.specs.Sorts.{of_named};
 
 use crate::decision::{Change, Decision};
 use crate::replies::{accepted, declined, faulty, listed};
 use crate::script_name::is_script_name;
-use msproto::{Code, Command, Line, Reply};
+use crate::sort::NamedCommand;
+use msproto::{Code, Line, Reply};
 use octets::{List, Octets};
 use sievelex::{ScriptError, ScriptFault};
 use sievesyntax::check;
@@ -31,23 +33,21 @@ pub fn decide<'a>(
     alloc: Global,
     names: &[Octets],
     active: Option<&[u8]>,
-    command: &'a Command,
+    command: &'a NamedCommand,
 ) -> Result<Decision<'a>, AllocError>
-    requires { goes_by_names command.now ≡ true }
-    ensures { IfOk result (IsDecision (AreScripts names.now (r.value_of active.entry)) command.now) }
+    ensures { IfOk result (IsDecision (AreScripts names.now (r.value_of active.entry)) (of_named command.now)) }
 {
     match command {
-        Command::HaveSpace { name, size } => have_space(alloc, names, name.as_slice(), *size),
-        Command::PutScript { name, script } => {
+        NamedCommand::HaveSpace { name, size } => have_space(alloc, names, name.as_slice(), *size),
+        NamedCommand::PutScript { name, script } => {
             put_script(alloc, names, name.as_slice(), script.as_slice())
         }
-        Command::ListScripts => list_scripts(alloc, names, active),
-        Command::SetActive(name) => set_active(alloc, names, name.as_slice()),
-        Command::DeleteScript(name) => delete_script(alloc, names, active, name.as_slice()),
-        Command::RenameScript { old, new } => {
+        NamedCommand::ListScripts => list_scripts(alloc, names, active),
+        NamedCommand::SetActive(name) => set_active(alloc, names, name.as_slice()),
+        NamedCommand::DeleteScript(name) => delete_script(alloc, names, active, name.as_slice()),
+        NamedCommand::RenameScript { old, new } => {
             rename_script(alloc, names, old.as_slice(), new.as_slice())
         }
-        _ => unreachable!(),
     }
 }
 

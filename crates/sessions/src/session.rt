@@ -1,25 +1,27 @@
 //! One client's session.
-ghost use Rattle.std.specs.Prelude.{◌≡◌, ◌≤◌, ◌++◌, cond, true, false, None, Some, is_none, IfSome, IfNone, IfOk, IfErr, OnOk, OnErr};
+ghost use Rattle.std.specs.Prelude.{◌≡◌, ◌≤◌, ◌++◌, cond, true, false, None, Some, IfOk, IfErr, OnOk, OnErr};
 ghost use Rattle.msproto.specs.Replies.{spelled};
-ghost use Rattle.sessions.specs.Clients.{client_given, is_item, is_ready, item_in, reach_in, without_first, left};
+ghost use Rattle.sessions.specs.Clients.{client_given, is_item, is_ready, reach_in, without_first, left};
 ghost use Rattle.sessions.specs.Counts.{new_session, given_more, looked_in, scanned_past, scanned_in_step};
 ghost use Rattle.sessions.specs.GivenUp.{text_given_up, client_given_up, progress_given_up};
 ghost use Rattle.sessions.specs.Logins.{login_client};
 ghost use Rattle.sessions.specs.Replies as r;
 ghost use Rattle.sqlite.specs.Held.{state};
-ghost use Rattle.sessions.specs.Orders.{ActsStep, StepsAsked, MayRefuse, Asked};
-ghost use Rattle.sessions.specs.Steps.{progress_of, StepsOver, StepsFree, IfAsks, IfMade, has_command, may_lack};
-ghost use Rattle.sessions.specs.Turns.{followed, is_login as is_login_of};
+ghost use Rattle.sessions.specs.declared.sort.Order.TheVariants.{Login, Script};
+ghost use Rattle.sessions.specs.Orders.{ActsStep, StepsAsked, MayRefuse};
+ghost use Rattle.sessions.specs.Steps.{progress_of, Asked, StepsFirst, StepsFree, IfOver, IfCommand, IfAsks, IfMade, gives_command, has_command, may_lack};
+ghost use Rattle.sessions.specs.Turns.{followed};
 
 use crate::account::{admitted, execute, in_a_step};
-use crate::free::free_turn;
-use crate::login::{MAX_FAILURES, exchange, is_login, login_text};
-use crate::progress::{Progress, Stepped};
+use crate::free::{FreeTurn, free_turn};
+use crate::login::{MAX_FAILURES, exchange, login_text};
+use crate::progress::{First, Progress, Stepped};
 use crate::replies::capabilities;
+use crate::sort::{LoginCommand, Order, ScriptCommand};
 use crate::turn::{Sequel, Turn};
 use crate::unread::Unread;
 use mailstore::{Refusal, Store};
-use msproto::{Command, Item, Reach, Scan, item_at, spell};
+use msproto::{Reach, Scan, command_at, spell};
 use octets::Octets;
 use sqlite::Alter;
 use std::alloc::{AllocError, Global};
@@ -176,33 +178,36 @@ impl Session {
         }
     }
 
-    /// A step where no command comes first: a bad line is answered and taken off, what is too big ends the session, and
-    /// where no item is whole, or the session has ended, nothing is answered. None where a command comes first, and nothing
-    /// changes then. Lack of memory is the only error, where something is to be answered; nothing changes then.
-    pub fn step_over(&mut self, out: &mut Octets) -> Result<Option<Progress>, AllocError>
-        ensures step { IfOk result (λ told. IfSome told (λ progress. StepsOver self.old.client self.new.client progress out.old out.new)) }
-        ensures command { IfOk result (λ told. is_none told ≡ has_command self.old.client) }
+    /// The step where no command comes first: a bad line and what is too big are answered, and where
+    /// no item is whole, or the session has ended, nothing is. A command that comes first is read and given out, and
+    /// nothing changes then. Lack of memory is the only error, where something is to be answered; nothing changes then.
+    pub fn step_over(&mut self, out: &mut Octets) -> Result<First, AllocError>
+        ensures step { IfOk result (λ first. StepsFirst self.old.client self.new.client first out.old out.new) }
+        ensures command { IfOk result (λ first. gives_command first ≡ has_command self.old.client) }
         ensures counts { OnOk result (self.new.given ≡ self.old.given) }
-        ensures scans { IfOk result (λ told. IfSome told (λ _. self.new.scanned ≡ scanned_in_step self.old)) }
-        ensures same { IfOk result (λ told. IfNone told ((self.new ≡ self.old) × (out.new ≡ out.old))) }
+        ensures scans { IfOk result (λ first. IfOver first (self.new.scanned ≡ scanned_in_step self.old)) }
+        ensures same { IfOk result (λ first. IfCommand first ((self.new ≡ self.old) × (out.new ≡ out.old))) }
         ensures err { OnErr result ((self.new ≡ self.old) × (out.new ≡ out.old)) }
         ensures lacks { OnErr result (may_lack self.old.client ≡ true) }
     {
         if self.closed {
-            return Ok(Some(Progress::Close));
+            return Ok(First::Made(Progress::Close));
         }
         match self.scan.state() {
-            Reach::Need => Ok(Some(Progress::Need)),
-            Reach::Command(_) => Ok(None),
+            Reach::Need => Ok(First::Made(Progress::Need)),
+            Reach::Command(used) => {
+                let command = command_at(self.alloc, self.unread.as_slice(), self.pending, used)?;
+                Ok(First::Command(command))
+            }
             Reach::Bad(_) => {
                 out.extend_from_slice(SYNTAX)?;
                 self.take_off(false);
-                Ok(Some(Progress::Done))
+                Ok(First::Made(Progress::Done))
             }
             Reach::TooBig => {
                 out.extend_from_slice(TOO_BIG)?;
                 self.closed = true;
-                Ok(Some(Progress::Close))
+                Ok(First::Made(Progress::Close))
             }
         }
     }
@@ -219,16 +224,17 @@ impl Session {
         ensures err { OnErr result ((self.new ≡ self.old) × (out.new ≡ out.old)) }
         ensures lacks { OnErr result (may_lack self.old.client ≡ true) }
     {
-        if let Some(progress) = self.step_over(out)? {
-            return Ok(Stepped::Made(progress));
+        let command = match self.step_over(out)? {
+            First::Made(progress) => return Ok(Stepped::Made(progress)),
+            First::Command(command) => command,
+        };
+        match free_turn(self.alloc, &self.user, command)? {
+            FreeTurn::Made(turn) => {
+                let progress = self.take_turn(turn, out)?;
+                Ok(Stepped::Made(progress))
+            }
+            FreeTurn::Asks(order) => Ok(Stepped::Asks(order)),
         }
-        let Item::Command(command, _) = self.item()? else {
-            unreachable!();
-        };
-        let Some(turn) = free_turn(self.alloc, &self.user, &command)? else {
-            return Ok(Stepped::Asks(command));
-        };
-        Ok(Stepped::Made(self.take_turn(turn, out)?))
     }
 
     /// A step over a store: the first item is taken off and answered, as `step_free` does it, or what its command needs of
@@ -251,35 +257,35 @@ impl Session {
     {
         match self.step_free(out)? {
             Stepped::Made(progress) => Ok(progress),
-            Stepped::Asks(command) => self.step_asked(store, &command, out),
+            Stepped::Asks(order) => self.step_asked(store, &order, out),
         }
     }
 
-    // The step of a command that comes first and is answered over the store.
-    fn step_asked<S: Alter>(
+    /// The step of what comes first and is answered over the store, as `step_free` gave it out: its octets are not read
+    /// again. The refusals are those of `step`, and the session, the output and the store are then as before.
+    pub fn step_asked<S: Alter>(
         &mut self,
         store: &mut Store<S>,
-        command: &Command,
+        order: &Order,
         out: &mut Octets,
     ) -> Result<Progress, Refusal>
-        requires { Asked self.old.client command.now }
+        requires { Asked self.old.client order.now }
         ensures { StepsAsked self.old self.new out.old out.new (state S.Store store.old) (state S.Store store.new) result }
     {
-        if is_login(command) {
-            return self.step_login(store, command, out);
+        match order {
+            Order::Login(command) => self.step_login(store, command, out),
+            Order::Script { user, command } => self.step_scripts(store, user, command, out),
         }
-        self.step_scripts(store, command, out)
     }
 
     // `AUTHENTICATE`, or the answer to a challenge.
     fn step_login<S: Alter>(
         &mut self,
         store: &mut Store<S>,
-        command: &Command,
+        command: &LoginCommand,
         out: &mut Octets,
     ) -> Result<Progress, Refusal>
-        requires asked { Asked self.old.client command.now }
-        requires login { is_login_of command.now ≡ true }
+        requires { Asked self.old.client (Login command.now) }
         ensures { StepsAsked self.old self.new out.old out.new (state S.Store store.old) (state S.Store store.new) result }
     {
         let who = admitted(self.alloc, store, login_text(&self.user, command))?;
@@ -292,34 +298,18 @@ impl Session {
     fn step_scripts<S: Alter>(
         &mut self,
         store: &mut Store<S>,
-        command: &Command,
+        user: &Octets,
+        command: &ScriptCommand,
         out: &mut Octets,
     ) -> Result<Progress, Refusal>
-        requires asked { Asked self.old.client command.now }
-        requires other { is_login_of command.now ≡ false }
+        requires { Asked self.old.client (Script user.now command.now) }
         ensures { StepsAsked self.old self.new out.old out.new (state S.Store store.old) (state S.Store store.new) result }
     {
-        let Some(user) = &self.user else {
-            unreachable!();
-        };
         if let Err(refusal) = execute(self.alloc, store, user.as_slice(), command, out) {
             return Err(in_a_step(refusal));
         }
         self.follow(Sequel::Stay);
         Ok(Progress::Done)
-    }
-
-    /// What comes first in the octets that are not yet taken off, with a command's value. Takes memory for a command's
-    /// strings alone, and lack of it is the only error. Nothing is scanned: a command's octets are read for its value.
-    pub fn item(&self) -> Result<Item, AllocError>
-        ensures { IfOk result (λ item. item ≡ item_in self.now.client) }
-    {
-        item_at(
-            self.alloc,
-            self.unread.as_slice(),
-            self.pending,
-            self.scan.state(),
-        )
     }
 
     /// Takes a command off that came to this: the answer joins the output, and then the session goes on so. The command

@@ -1,5 +1,5 @@
 -- A folder that was drained: what tables show, and what the whole program leaves.
-use Rattle.std.proofs.Common.{◌≡◌, ◌⊎◌, ℕ, suc, Bool, List, [], ◌++◌, take, replicate, Option, Result, Ok, Err, IfErr, IsTrue, refl, sym, ◌∙◌, ap, subst, inl, inr}
+use Rattle.std.proofs.Common.{◌≡◌, ◌⊎◌, ℕ, suc, Bool, List, [], ◌++◌, take, replicate, Option, Result, Ok, Err, is_ok, IfErr, IsTrue, refl, sym, ◌∙◌, ap, subst, inl, inr}
 use Rattle.std.proofs.lemmas.List.{append-nil}
 use Rattle.std.specs.Option.{option_copied}
 use Rattle.sqlite.specs.Effect.{Database}
@@ -38,9 +38,9 @@ turned_wider Became Wider old new wider moves = record {
 
 module _ (user folder : List ℕ) (Grew : List (List ℕ) → Type 0) where
   -- a store was taken, messages were moved, and it was handed back
-  pub moves_turned : (Became : Accounts → Accounts → Type 0) (held new : Database) (taken given : State) → taken.now ≡ held → held.schema ≡ mail_schema → HasCleanDisk given → IsTrue given.is_open → new ≡ given.now
-      → MovesMail user folder Grew Became taken given → TurnsTables Became held new
-  moves_turned Became held new taken given seen ours clean live back moves = record {
+  pub moves_turned : (answers_ok : Bool) (Became : Accounts → Accounts → Type 0) (held new : Database) (taken given : State) → taken.now ≡ held → held.schema ≡ mail_schema → HasCleanDisk given → IsTrue given.is_open → new ≡ given.now
+      → MovesMail user folder Grew answers_ok Became taken given → TurnsTables Became held new
+  moves_turned answers_ok Became held new taken given seen ours clean live back moves = record {
     accounts = λ accounts p.
         let h = moves.carries clean accounts (λ _. subst (λ db. Presents db accounts) (sym seen) p) in
         (h.0, h.1, subst (λ db. Presents db h.0) (sym back) (h.2 live));
@@ -61,7 +61,7 @@ pub drained_turned : (asked : Draining) (user folder : List ℕ) → user ≡ as
 drained_turned asked user folder user_is folder_is tells had has most q r same held new taken given seen ours clean live back moves =
     let Grew = GrowsBy tells had has in
     let Became : Accounts → Accounts → Type 0 = λ accounts later. Drained user folder Grew most q accounts later × (q ≡ Err no_user → IsFree user accounts) in
-    let turned = turned_wider Became (Drained user folder Grew most q) held new (λ accounts later h. h.0) (moves_turned user folder Grew Became held new taken given seen ours clean live back moves) in
+    let turned = turned_wider Became (Drained user folder Grew most q) held new (λ accounts later h. h.0) (moves_turned user folder Grew (is_ok q) Became held new taken given seen ours clean live back moves) in
     subst (λ o. TurnsTables (Drained asked.user.now asked.folder.now Grew most o) held new) same
     (subst (λ u. TurnsTables (Drained u asked.folder.now Grew most q) held new) user_is (subst (λ f. TurnsTables (Drained user f Grew most q) held new) folder_is turned))
 

@@ -1,6 +1,7 @@
 -- Messages that a sink keeps, and that then leave the folder, over a store.
-use Rattle.std.proofs.Common.{◌≡◌, ◌+◌, ◌<◌, ℕ, suc, Bool, true, false, List, [], ◌∷◌, ◌++◌, take, drop, Option, Some, None, option_map, Result, Ok, Err, IfOk, IfErr, IsTrue, IsSome, refl, sym, ◌∙◌, ap, subst, inl, inr, append_assoc, add-zero, arith}
+use Rattle.std.proofs.Common.{◌≡◌, ◌+◌, ◌<◌, ℕ, suc, Bool, true, false, List, [], ◌∷◌, ◌++◌, take, drop, Option, Some, None, option_map, Result, Ok, Err, is_ok, IfOk, IfErr, OnOk, IsTrue, IsSome, refl, sym, ◌∙◌, ap, subst, inl, inr, append_assoc, add-zero, arith}
 use Rattle.std.proofs.Math.Nat.{add-suc}
+use Rattle.std.proofs.lemmas.Bool.{false≢true}
 use Rattle.std.proofs.lemmas.List.{append-nil}
 use Rattle.std.specs.FinMap.{get}
 use Rattle.sqlite.specs.State.{State, HasCleanDisk, Survives}
@@ -35,12 +36,13 @@ module _ (user folder : List ℕ) (tells : Bool) (had has : List (List ℕ)) whe
   First first account = HasFirst first (messages_in account.folders folder)
 
   -- only reads
-  pub read_alone : {X E : Type 0} (a b : State) (r : Result X E) (Became : Accounts → Accounts → Type 0) → Keeps a b r → (HasCleanDisk b → (accounts : Accounts) → HasAccounts a accounts → Became accounts accounts)
-      → MovesMail user folder Grew Became a b
-  read_alone a b r Became keeps became = record {
+  pub read_alone : {X E : Type 0} (a b : State) (r : Result X E) (answers_ok : Bool) (Became : Accounts → Accounts → Type 0) → Keeps a b r → (IsTrue answers_ok → HasCleanDisk b → IsTrue b.is_open)
+      → (HasCleanDisk b → (accounts : Accounts) → HasAccounts a accounts → Became accounts accounts) → MovesMail user folder Grew answers_ok Became a b
+  read_alone a b r answers_ok Became keeps opens became = record {
     carries = λ clean accounts shown. (accounts, became clean accounts shown, accounts_stay a b (glanced a b r keeps) clean accounts shown);
+    live = λ told clean was. opens told clean;
     shut = keeps.shut;
-    crash = survives_weaker a b (λ _. HasOurTables a.now → ⊥) (λ trees. IsTrue b.is_open → CrashLeaves (LostNone user folder Grew) a trees) (λ clean db none live accounts p. absurd (none (p.0, p.1))) keeps.crash;
+    crash = survives_weaker a b (λ _. HasOurTables a.now → ⊥) (λ trees. IsTrue a.is_open → CrashLeaves (LostNone user folder Grew) a trees) (λ clean db none live accounts p. absurd (none (p.0, p.1))) keeps.crash;
   }
 
   none_first : (messages : List (List ℕ)) → HasFirst None messages → messages ≡ []
@@ -55,16 +57,16 @@ module _ (user folder : List ℕ) (tells : Bool) (had has : List (List ℕ)) whe
   own_mail accounts a is = ap (λ o. mail_of o folder) is
 
   -- nothing was found to move, or it couldn't be read, and nothing was kept
-  pub not_read : (a b : State) (r : Result (Option NumberedMessage) Refusal) (fault : Fault) → Reads user First a b r → Grew [] → MovesMail user folder Grew (FirstMoved user folder Grew (Err fault)) a b
-  not_read a b r fault reads same = read_alone a b r (FirstMoved user folder Grew (Err fault)) reads.keeps (λ clean accounts shown. record { left = refl; kept = inl same })
+  pub not_read : (a b : State) (r : Result (Option NumberedMessage) Refusal) (fault : Fault) → Reads user First a b r → Grew [] → MovesMail user folder Grew false (FirstMoved user folder Grew (Err fault)) a b
+  not_read a b r fault reads same = read_alone a b r false (FirstMoved user folder Grew (Err fault)) reads.keeps (λ told. absurd (false≢true told)) (λ clean accounts shown. record { left = refl; kept = inl same })
 
   module _ (a b : State) (r : Result (Option NumberedMessage) Refusal) (first : Option NumberedMessage) (was : r ≡ Ok first) (reads : Reads user First a b r) where
     found : HasCleanDisk b → (accounts : Accounts) → HasAccounts a accounts → OfUser accounts user (First first)
     found clean accounts shown =
         subst (λ q. IfOk q (λ x. OfUser accounts user (First x))) was (reads.found clean accounts (read_shows a b r first was reads.keeps clean accounts shown).0)
 
-    pub none_read : first ≡ None → Grew [] → MovesMail user folder Grew (FirstMoved user folder Grew (Ok false)) a b
-    none_read is same = read_alone a b r (FirstMoved user folder Grew (Ok false)) reads.keeps
+    pub none_read : first ≡ None → Grew [] → MovesMail user folder Grew true (FirstMoved user folder Grew (Ok false)) a b
+    none_read is same = read_alone a b r true (FirstMoved user folder Grew (Ok false)) reads.keeps (λ told clean. subst (λ q. OnOk q (IsTrue b.is_open)) was (reads.keeps.live clean))
         (λ clean accounts shown.
         let own = found clean accounts shown in
         let none : mail_in accounts user folder ≡ [] = own_mail accounts own.0 own.1 ∙ none_first (messages_in own.0.folders folder) (subst (λ f. First f own.0) is own.2) in
@@ -77,8 +79,8 @@ module _ (user folder : List ℕ) (tells : Bool) (had has : List (List ℕ)) whe
           (drop 1 (messages_in own.0.folders folder), own_mail accounts own.0 own.1 ∙ some_first (messages_in own.0.folders folder) message (subst (λ f. First f own.0) is own.2))
 
       -- the sink refused it
-      pub not_kept : (fault : Fault) → (IsTrue tells → MayKeep had message.message has) → MovesMail user folder Grew (FirstMoved user folder Grew (Err fault)) a b
-      not_kept fault may = read_alone a b r (FirstMoved user folder Grew (Err fault)) reads.keeps
+      pub not_kept : (fault : Fault) → (IsTrue tells → MayKeep had message.message has) → MovesMail user folder Grew false (FirstMoved user folder Grew (Err fault)) a b
+      not_kept fault may = read_alone a b r false (FirstMoved user folder Grew (Err fault)) reads.keeps (λ told. absurd (false≢true told))
           (λ clean accounts shown.
           let mail = is_first clean accounts shown in
           record { left = refl; kept = may_be_kept tells had has (mail_in accounts user folder) message.message mail.0 mail.1 may })
@@ -91,8 +93,8 @@ module _ (user folder : List ℕ) (tells : Bool) (had has : List (List ℕ)) whe
         one_kept mail more mail_is told = kept told ∙ ap (λ l. had ++ take 1 l) (sym mail_is)
 
         -- whatever was answered, where a crash comes the message is kept
-        crashes : Survives a c (λ trees. IsTrue c.is_open → CrashLeaves (LostNone user folder Grew) a trees)
-        crashes = survives_weaker a c (CrashLeaves (MayTurnBy (λ accounts. MailTaking accounts user folder)) a) (λ trees. IsTrue c.is_open → CrashLeaves (LostNone user folder Grew) a trees)
+        crashes : Survives a c (λ trees. IsTrue a.is_open → CrashLeaves (LostNone user folder Grew) a trees)
+        crashes = survives_weaker a c (CrashLeaves (MayTurnBy (λ accounts. MailTaking accounts user folder)) a) (λ trees. IsTrue a.is_open → CrashLeaves (LostNone user folder Grew) a trees)
             (λ clean db may live accounts p.
             let turned = may accounts p in
             let mail = is_first (before clean) accounts (λ _. p) in
@@ -110,12 +112,13 @@ module _ (user folder : List ℕ) (tells : Bool) (had has : List (List ℕ)) whe
             acts.crash
 
         -- it left
-        pub moved_one : (done : Unit {0}) → q ≡ Ok done → MovesMail user folder Grew (FirstMoved user folder Grew (Ok true)) a c
+        pub moved_one : (done : Unit {0}) → q ≡ Ok done → MovesMail user folder Grew true (FirstMoved user folder Grew (Ok true)) a c
         moved_one done ok = record {
           carries = λ clean accounts shown.
               let mail = is_first (before clean) accounts shown in
               let h = acts.carries clean accounts shown in
               (h.0, by accounts h.0 mail.0 mail.1 (subst (λ o. TurnsBy (λ all. MailTaking all user folder) IsTransient (answer_by (λ done. MailTaken) o) accounts h.0) ok h.1), h.2);
+          live = λ told clean was. subst (λ o. OnOk o (IsTrue c.is_open)) ok (acts.live clean was);
           shut = acts.shut;
           crash = crashes;
         }
@@ -126,12 +129,13 @@ module _ (user folder : List ℕ) (tells : Bool) (had has : List (List ℕ)) whe
             by accounts later more mail (inr refused) = absurd (let no = refused.2 in cc)
 
         -- it is there still, and kept
-        pub not_taken : (e : Refusal) (fault : Fault) → q ≡ Err e → MovesMail user folder Grew (FirstMoved user folder Grew (Err fault)) a c
+        pub not_taken : (e : Refusal) (fault : Fault) → q ≡ Err e → MovesMail user folder Grew false (FirstMoved user folder Grew (Err fault)) a c
         not_taken e fault refused = record {
           carries = λ clean accounts shown.
               let mail = is_first (before clean) accounts shown in
               let h = acts.carries clean accounts shown in
               (h.0, by accounts h.0 mail.0 mail.1 (subst (λ o. TurnsBy (λ all. MailTaking all user folder) IsTransient (answer_by (λ done. MailTaken) o) accounts h.0) refused h.1), h.2);
+          live = λ told. absurd (false≢true told);
           shut = acts.shut;
           crash = crashes;
         }
@@ -196,35 +200,37 @@ module _ (user folder : List ℕ) (tells : Bool) (had mid has : List (List ℕ))
         kept = subst Whole (append_assoc first one.others more) (grown_then tells had mid has (first ++ one.others) more one.kept after);
       }
 
-  module _ (a b c : State) (First Second Became : Accounts → Accounts → Type 0) (count : ℕ) (moved : (accounts between : Accounts) → First accounts between → Moved user folder Before count accounts between)
+  module _ (a b c : State) (answers_ok : Bool) (First Second Became : Accounts → Accounts → Type 0) (count : ℕ) (moved : (accounts between : Accounts) → First accounts between → Moved user folder Before count accounts between)
       (grew : (between later : Accounts) → Second between later → (more : List (List ℕ)) × After more) (became : (accounts between later : Accounts) → First accounts between → Second between later → Became accounts later) where
-    pub moves_then : MovesMail user folder Before First a b → MovesMail user folder After Second b c → MovesMail user folder Whole Became a c
+    pub moves_then : MovesMail user folder Before true First a b → MovesMail user folder After answers_ok Second b c → MovesMail user folder Whole answers_ok Became a c
     moves_then one two = record {
       carries = λ clean accounts shown.
           let m = one.carries (before clean) accounts shown in
           let l = two.carries clean m.0 m.2 in
           (l.0, became accounts m.0 l.0 m.1 l.1, l.2);
+      live = λ told clean was. two.live told clean (one.live refl (before clean) was);
       shut = λ clean live. one.shut (before clean) (two.shut clean live);
-      crash = survives_then a b c (λ trees. IsTrue b.is_open → CrashLeaves (LostNone user folder Before) a trees) (λ trees. IsTrue c.is_open → CrashLeaves (LostNone user folder After) b trees)
-          (λ trees. IsTrue c.is_open → CrashLeaves (LostNone user folder Whole) a trees)
+      crash = survives_then a b c (λ trees. IsTrue a.is_open → CrashLeaves (LostNone user folder Before) a trees) (λ trees. IsTrue b.is_open → CrashLeaves (LostNone user folder After) b trees)
+          (λ trees. IsTrue a.is_open → CrashLeaves (LostNone user folder Whole) a trees)
           (λ clean db left live accounts p.
           let m = one.carries (before clean) accounts (λ _. p) in
           let l = two.carries clean m.0 m.2 in
           let more = grew m.0 l.0 l.1 in
-          let was = left (two.shut clean live) accounts p in
+          let was = left live accounts p in
           (was.0, lost_before accounts was.0 more.0 was.1 more.1, was.2))
           (λ clean db left live accounts p.
           let m = one.carries (before clean) accounts (λ _. p) in
-          let was = left live m.0 (m.2 (two.shut clean live)) in
+          let open_then = one.live refl (before clean) live in
+          let was = left open_then m.0 (m.2 open_then) in
           (was.0, lost_then count accounts m.0 was.0 (moved accounts m.0 m.1) was.1, was.2))
           one.crash two.crash;
     }
       where
         before : HasCleanDisk c → HasCleanDisk b
-        before = clean_before b c (λ trees. IsTrue c.is_open → CrashLeaves (LostNone user folder After) b trees) two.crash
+        before = clean_before b c (λ trees. IsTrue b.is_open → CrashLeaves (LostNone user folder After) b trees) two.crash
 
 -- ---- one message after the other
-module _ (user folder : List ℕ) (tells : Bool) (had mid has : List (List ℕ)) (count : ℕ) (a b c : State) (one : MovesMail user folder (GrowsBy tells had mid) (Moved user folder (GrowsBy tells had mid) count) a b) where
+module _ (user folder : List ℕ) (tells : Bool) (had mid has : List (List ℕ)) (count : ℕ) (a b c : State) (one : MovesMail user folder (GrowsBy tells had mid) true (Moved user folder (GrowsBy tells had mid) count) a b) where
   abbrev Those : List (List ℕ) → Type 0
   Those = GrowsBy tells had has
 
@@ -239,18 +245,18 @@ module _ (user folder : List ℕ) (tells : Bool) (had mid has : List (List ℕ))
 
   step : (r : Result Bool Fault) (Became : Accounts → Accounts → Type 0)
       → ((accounts between later : Accounts) → Moved user folder (GrowsBy tells had mid) count accounts between → FirstMoved user folder Last r between later → Became accounts later)
-      → MovesMail user folder Last (FirstMoved user folder Last r) b c → MovesMail user folder Those Became a c
+      → MovesMail user folder Last (is_ok r) (FirstMoved user folder Last r) b c → MovesMail user folder Those (is_ok r) Became a c
   step r Became became two =
-      moves_then user folder tells had mid has a b c (Moved user folder (GrowsBy tells had mid) count) (FirstMoved user folder Last r) Became count (λ accounts between h. h) (grew_first r) became one two
+      moves_then user folder tells had mid has a b c (is_ok r) (Moved user folder (GrowsBy tells had mid) count) (FirstMoved user folder Last r) Became count (λ accounts between h. h) (grew_first r) became one two
 
-  pub one_more : (r : Result Bool Fault) → r ≡ Ok true → MovesMail user folder Last (FirstMoved user folder Last r) b c → MovesMail user folder Those (Moved user folder Those (count + 1)) a c
+  pub one_more : (r : Result Bool Fault) → r ≡ Ok true → MovesMail user folder Last (is_ok r) (FirstMoved user folder Last r) b c → MovesMail user folder Those true (Moved user folder Those (count + 1)) a c
   one_more r is two =
       step (Ok true) (Moved user folder Those (count + 1)) (λ accounts between later h k. moved_then user folder tells had mid has count 1 accounts between later h k)
-      (subst (λ q. MovesMail user folder Last (FirstMoved user folder Last q) b c) is two)
+      (subst (λ q. MovesMail user folder Last (is_ok q) (FirstMoved user folder Last q) b c) is two)
 
   -- none is left
-  pub no_more : (r : Result Bool Fault) (most : ℕ) → r ≡ Ok false → count < most → MovesMail user folder Last (FirstMoved user folder Last r) b c
-      → MovesMail user folder Those (AnyMoved user folder Those most (Ok count)) a c
+  pub no_more : (r : Result Bool Fault) (most : ℕ) → r ≡ Ok false → count < most → MovesMail user folder Last (is_ok r) (FirstMoved user folder Last r) b c
+      → MovesMail user folder Those true (AnyMoved user folder Those most (Ok count)) a c
   no_more r most is below two =
       step (Ok false) (AnyMoved user folder Those most (Ok count))
       (λ accounts between later h k. record {
@@ -258,36 +264,38 @@ module _ (user folder : List ℕ) (tells : Bool) (had mid has : List (List ℕ))
         at_most = omega arith;
         whole = λ _. ap (λ all. mail_in all user folder) (none_left user folder between later k.0.left) ∙ k.1;
       })
-      (subst (λ q. MovesMail user folder Last (FirstMoved user folder Last q) b c) is two)
+      (subst (λ q. MovesMail user folder Last (is_ok q) (FirstMoved user folder Last q) b c) is two)
 
-  pub stops : (r : Result Bool Fault) (fault told : Fault) (most : ℕ) → r ≡ Err fault → MovesMail user folder Last (FirstMoved user folder Last r) b c → MovesMail user folder Those (AnyMoved user folder Those most (Err told)) a c
+  pub stops : (r : Result Bool Fault) (fault told : Fault) (most : ℕ) → r ≡ Err fault → MovesMail user folder Last (is_ok r) (FirstMoved user folder Last r) b c → MovesMail user folder Those false (AnyMoved user folder Those most (Err told)) a c
   stops r fault told most is two =
       step (Err fault) (AnyMoved user folder Those most (Err told))
       (λ accounts between later h k. (count, subst (λ n. StoppedShort user folder Those n accounts later) (add-zero count) (stopped_then user folder tells had mid has count 0 accounts between later h k)))
-      (subst (λ q. MovesMail user folder Last (FirstMoved user folder Last q) b c) is two)
+      (subst (λ q. MovesMail user folder Last (is_ok q) (FirstMoved user folder Last q) b c) is two)
 
 -- nothing moved yet
-pub none_moved : (user folder : List ℕ) (tells : Bool) (had : List (List ℕ)) (a : State) → MovesMail user folder (GrowsBy tells had had) (Moved user folder (GrowsBy tells had had) 0) a a
+pub none_moved : (user folder : List ℕ) (tells : Bool) (had : List (List ℕ)) (a : State) → MovesMail user folder (GrowsBy tells had had) true (Moved user folder (GrowsBy tells had had) 0) a a
 none_moved user folder tells had a = record {
   carries = λ clean accounts shown. (accounts, record { left = refl; kept = grown_none tells had }, shown);
+  live = λ told clean was. was;
   shut = λ clean live. live;
   crash = record { clean = omega arith; shield = λ shielded. shielded; counts = omega arith; limit = refl; closes = λ clean is_open. inl is_open; crash = λ clean db left. inl left };
 }
 
 -- what became of the accounts is told less exactly
-pub moves_wider : (user folder : List ℕ) (Grew : List (List ℕ) → Type 0) (Became Wider : Accounts → Accounts → Type 0) (a b : State) → ((accounts later : Accounts) → Became accounts later → Wider accounts later)
-    → MovesMail user folder Grew Became a b → MovesMail user folder Grew Wider a b
-moves_wider user folder Grew Became Wider a b wider moves = record {
+pub moves_wider : (user folder : List ℕ) (Grew : List (List ℕ) → Type 0) (answers_ok : Bool) (Became Wider : Accounts → Accounts → Type 0) (a b : State) → ((accounts later : Accounts) → Became accounts later → Wider accounts later)
+    → MovesMail user folder Grew answers_ok Became a b → MovesMail user folder Grew answers_ok Wider a b
+moves_wider user folder Grew answers_ok Became Wider a b wider moves = record {
   carries = λ clean accounts shown. let h = moves.carries clean accounts shown in (h.0, wider accounts h.0 h.1, h.2);
+  live = moves.live;
   shut = moves.shut;
   crash = moves.crash;
 }
 
 -- as many moved as were asked for
-pub most_moved : (user folder : List ℕ) (Grew : List (List ℕ) → Type 0) (most count : ℕ) (a b : State) → count ≡ most → MovesMail user folder Grew (Moved user folder Grew count) a b
-    → MovesMail user folder Grew (AnyMoved user folder Grew most (Ok most)) a b
+pub most_moved : (user folder : List ℕ) (Grew : List (List ℕ) → Type 0) (most count : ℕ) (a b : State) → count ≡ most → MovesMail user folder Grew true (Moved user folder Grew count) a b
+    → MovesMail user folder Grew true (AnyMoved user folder Grew most (Ok most)) a b
 most_moved user folder Grew most count a b is moves =
-    moves_wider user folder Grew (Moved user folder Grew count) (AnyMoved user folder Grew most (Ok most)) a b
+    moves_wider user folder Grew true (Moved user folder Grew count) (AnyMoved user folder Grew most (Ok most)) a b
     (λ accounts later h. record { moved = subst (λ n. Moved user folder Grew n accounts later) is h; at_most = omega arith; whole = λ below. absurd (omega arith) }) moves
 
 -- ---- a user whose account was looked for first
@@ -320,13 +328,13 @@ module _ (user folder : List ℕ) (tells : Bool) (had has : List (List ℕ)) (mo
   some_is_there None p is = absurd (let no = is in cc)
   some_is_there (Some a) p is = refl
 
-  pub no_account : r ≡ Ok None → Grown [] → MovesMail user folder Grown (Ended (Err no_user)) a b
-  no_account was same = read_alone user folder tells had has a b r (Ended (Err no_user)) reads.keeps
+  pub no_account : r ≡ Ok None → Grown [] → MovesMail user folder Grown false (Ended (Err no_user)) a b
+  no_account was same = read_alone user folder tells had has a b r false (Ended (Err no_user)) reads.keeps (λ told. absurd (false≢true told))
       (λ clean accounts shown. ((0, record { left = refl; kept = inl same }, inl refl), λ _. none_is_free (get accounts user) (profile_read None was clean accounts shown)))
 
   -- the account can't be read now
-  pub not_looked : (fault : Fault) → status_of fault ≡ 75 → Grown [] → MovesMail user folder Grown (Ended (Err fault)) a b
-  not_looked fault transient same = read_alone user folder tells had has a b r (Ended (Err fault)) reads.keeps
+  pub not_looked : (fault : Fault) → status_of fault ≡ 75 → Grown [] → MovesMail user folder Grown false (Ended (Err fault)) a b
+  not_looked fault transient same = read_alone user folder tells had has a b r false (Ended (Err fault)) reads.keeps (λ told. absurd (false≢true told))
       (λ clean accounts shown. ((0, record { left = refl; kept = inl same }, inl refl), λ is. absurd (transient_user fault transient (Err fault) refl is)))
 
   -- the account is there, and messages were moved
@@ -334,8 +342,8 @@ module _ (user folder : List ℕ) (tells : Bool) (had has : List (List ℕ)) (mo
     abbrev Looked : Accounts → Accounts → Type 0
     Looked accounts between = Moved user folder (GrowsBy tells had had) 0 accounts between × HasUser user accounts
 
-    looked : MovesMail user folder (GrowsBy tells had had) Looked a b
-    looked = read_alone user folder tells had had a b r Looked reads.keeps
+    looked : MovesMail user folder (GrowsBy tells had had) true Looked a b
+    looked = read_alone user folder tells had had a b r true Looked reads.keeps (λ told clean. subst (λ o. OnOk o (IsTrue b.is_open)) was (reads.keeps.live clean))
         (λ clean accounts shown. (record { left = refl; kept = grown_none tells had }, some_is_there (get accounts user) p (profile_read (Some p) was clean accounts shown)))
 
     grew_any : (q : Result ℕ Fault) (between later : Accounts) → AnyMoved user folder Grown most q between later → (more : List (List ℕ)) × Grown more
@@ -351,6 +359,6 @@ module _ (user folder : List ℕ) (tells : Bool) (had has : List (List ℕ)) (mo
     ended (Err fault) passes accounts between later look h =
         ((h.0, alike (λ all. StoppedShort user folder Grown h.0 all later) accounts between look h.1, inr passes), λ is. absurd (transient_user fault passes (Err fault) refl is))
 
-    pub drained_then : MovesMail user folder Grown (AnyMoved user folder Grown most q) b c → MovesMail user folder Grown (Ended q) a c
+    pub drained_then : MovesMail user folder Grown (is_ok q) (AnyMoved user folder Grown most q) b c → MovesMail user folder Grown (is_ok q) (Ended q) a c
     drained_then moves =
-        moves_then user folder tells had had has a b c Looked (AnyMoved user folder Grown most q) (Ended q) 0 (λ accounts between h. h.0) (grew_any q) (ended q transient) looked moves
+        moves_then user folder tells had had has a b c (is_ok q) Looked (AnyMoved user folder Grown most q) (Ended q) 0 (λ accounts between h. h.0) (grew_any q) (ended q transient) looked moves

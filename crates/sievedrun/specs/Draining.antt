@@ -1,5 +1,5 @@
 -- Messages that go from a folder into a sink.
-use Rattle.std.specs.Prelude.{◌≡◌, ◌⊎◌, ℕ, suc, ◌<◌, ◌≤◌, Bool, true, false, List, [], ◌++◌, take, replicate, Option, Some, None, Result, Ok, Err, IsTrue, option_copied}
+use Rattle.std.specs.Prelude.{◌≡◌, ◌⊎◌, ℕ, suc, ◌<◌, ◌≤◌, Bool, true, false, List, [], ◌++◌, take, replicate, Option, Some, None, Result, Ok, Err, is_ok, IsTrue, option_copied}
 use Rattle.std.specs.FinMap.{get}
 use Rattle.octets.specs.Decimal.{Writes}
 use Rattle.sqlite.specs.Effect.{Database}
@@ -58,11 +58,13 @@ module _ (user folder : List ℕ) (Grew : List (List ℕ) → Type 0) where
     pub others : List (List ℕ)
     pub kept : Grew (take count (mail_in accounts user folder) ++ others)
 
-  -- over a store: whatever accounts it showed, it then shows what became of them; a connection that a fault of the disk has shut stays shut; and no crash loses a message
-  pub record MovesMail (Became : Accounts → Accounts → Type 0) (old new : State) : Type 0 where
+  -- over a store: whatever accounts it showed, it then shows what became of them; an open connection is still open where Ok was answered, and
+  -- one that a fault of the disk has shut stays shut; and of one that was open no crash loses a message
+  pub record MovesMail (answers_ok : Bool) (Became : Accounts → Accounts → Type 0) (old new : State) : Type 0 where
     pub carries : Carries Became old new
+    pub live : IsTrue answers_ok → HasCleanDisk new → IsTrue old.is_open → IsTrue new.is_open
     pub shut : HasCleanDisk new → IsTrue new.is_open → IsTrue old.is_open
-    pub crash : Survives old new (λ trees. IsTrue new.is_open → CrashLeaves LostNone old trees)
+    pub crash : Survives old new (λ trees. IsTrue old.is_open → CrashLeaves LostNone old trees)
 
   -- ---- the first message
 
@@ -96,15 +98,15 @@ module _ (user folder : List ℕ) (Grew : List (List ℕ) → Type 0) where
 -- ---- a call over a store, and a sink that tells what it keeps or doesn't, before and afterwards
 
 abbrev pub MovesFirst : List ℕ → List ℕ → Bool → List (List ℕ) → List (List ℕ) → Result Bool Fault → State → State → Type 0
-MovesFirst user folder tells had has result = MovesMail user folder (GrowsBy tells had has) (FirstMoved user folder (GrowsBy tells had has) result)
+MovesFirst user folder tells had has result = MovesMail user folder (GrowsBy tells had has) (is_ok result) (FirstMoved user folder (GrowsBy tells had has) result)
 
 abbrev pub MovesAll : List ℕ → List ℕ → Bool → List (List ℕ) → List (List ℕ) → ℕ → Result ℕ Fault → State → State → Type 0
-MovesAll user folder tells had has most result = MovesMail user folder (GrowsBy tells had has) (AnyMoved user folder (GrowsBy tells had has) most result)
+MovesAll user folder tells had has most result = MovesMail user folder (GrowsBy tells had has) (is_ok result) (AnyMoved user folder (GrowsBy tells had has) most result)
 
 -- and there is no such user where that is said
 abbrev pub Drains : List ℕ → List ℕ → Bool → List (List ℕ) → List (List ℕ) → ℕ → Result ℕ Fault → State → State → Type 0
 Drains user folder tells had has most result =
-    MovesMail user folder (GrowsBy tells had has) (λ accounts later. Drained user folder (GrowsBy tells had has) most result accounts later × (result ≡ Err no_user → IsFree user accounts))
+    MovesMail user folder (GrowsBy tells had has) (is_ok result) (λ accounts later. Drained user folder (GrowsBy tells had has) most result accounts later × (result ≡ Err no_user → IsFree user accounts))
 
 -- ---- the word
 

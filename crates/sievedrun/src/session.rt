@@ -5,6 +5,7 @@ ghost use Rattle.mailstore.specs.Account.{Accounts};
 ghost use Rattle.mailstore.specs.Schema.{mail_schema, no_schema};
 ghost use Rattle.mailstore.specs.Shows.{Presents};
 ghost use Rattle.sessions.specs.Clients.{is_ready};
+ghost use Rattle.sessions.specs.Steps.{Asked};
 ghost use Rattle.sievedrun.specs.declared.fault.Fault.{Fault};
 ghost use Rattle.sievedrun.specs.Promise.{status_after};
 ghost use Rattle.sievedrun.specs.Serving.{Answered, Converses, Served, ServesBy, StepsOn, WritesAll, WritesFirst, seen};
@@ -15,7 +16,7 @@ use crate::trouble::{FirstTrouble, Trouble};
 use keepers::{Held, Keeper};
 use mailstore::{Refusal, Store};
 use octets::Octets;
-use sessions::{Session, Stepped};
+use sessions::{Order, Session, Stepped};
 use sievedwords::Place;
 use std::alloc::{AllocError, Global};
 use std::io;
@@ -272,19 +273,23 @@ fn answer_first<K: Keeper>(
 {
     match session.step_free(answers) {
         Ok(Stepped::Made(_)) => Ok(()),
-        Ok(Stepped::Asks(_)) => answer_over_store(session, path, answers, store, keeper),
+        Ok(Stepped::Asks(order)) => answer_over_store(
+            session, path, &order, answers, store, keeper,
+        ),
         Err(AllocError) => Err(Held::Refused(Refusal::Memory)),
     }
 }
 
-/// The same over the store, which is opened where none is.
+/// Answers what comes first and asks the store, which is opened where none is.
 fn answer_over_store<K: Keeper>(
     session: &mut Session,
     path: &str,
+    order: &Order,
     answers: &mut Octets,
     store: &mut Option<Store<K::S>>,
     keeper: &mut K,
 ) -> Result<(), Held>
+    requires { Asked session.old.client order.now }
     ensures steps { IsTrue K.tells → (accounts : Accounts) → Presents (seen (λ s. (state K.S.Store s).now) (K.holds keeper.old) store.old) accounts
         → StepsOn accounts session.old.client answers.old answers.new session.new.client
         (seen (λ s. (state K.S.Store s).now) (K.holds keeper.new) store.new) (is_ok result) }
@@ -294,7 +299,7 @@ fn answer_over_store<K: Keeper>(
     ensures closed { K.unclosed keeper.new ≡ K.unclosed keeper.old }
 {
     let mut taken = open_store(path, store, keeper)?;
-    let made = session.step(&mut taken, answers);
+    let made = session.step_asked(&mut taken, order, answers);
     *store = Some(taken);
     match made {
         Ok(_) => Ok(()),

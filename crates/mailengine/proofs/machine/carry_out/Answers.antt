@@ -46,7 +46,7 @@ returns-in-Deliver-clause-event g c =
     let is : c.args.event.now ≡ event = cc in
     event_is c.args.event.now event c.answer_of-in-Deliver.result (answer_by Delivered c.deliver_borrowed-report.result) (state g.S.Store c.args.store.now) (state g.S.Store c.deliver_borrowed-report.new.store) c.args.sessions.now c.args.sessions.now is
     (told_by Delivered c.deliver_borrowed-report.result c.map.result c.answer_of-in-Deliver.result c.map.ensures.cases c.answer_of-in-Deliver.ensures)
-    (account_event event (λ accounts. Delivery accounts c.as_slice-in-Deliver.result.now c.in-Deliver.envelope c.as_slice-in-Deliver-2.result.now c.in-Deliver.moment) (MayRefuseDelivery c.in-Deliver.envelope c.as_slice-in-Deliver-2.result.now c.in-Deliver.moment) (λ w answer next made. made) (delivery_may c.as_slice-in-Deliver.result.now c.as_slice-in-Deliver-2.result.now c.in-Deliver.envelope c.in-Deliver.moment) (state g.S.Store c.args.store.now) (state g.S.Store c.deliver_borrowed-report.new.store) c.args.sessions.now c.deliver_borrowed-report.result (answer_by Delivered c.deliver_borrowed-report.result) c.deliver_borrowed-report.ensures)
+    (account_event event (λ accounts. Delivery accounts c.as_slice-in-Deliver.result.now c.in-Deliver.envelope c.as_slice-in-Deliver-2.result.now c.in-Deliver.moment) (MayRefuseDelivery c.in-Deliver.envelope c.as_slice-in-Deliver-2.result.now c.in-Deliver.moment) (λ w answer next made. made) (delivery_may c.as_slice-in-Deliver.result.now c.as_slice-in-Deliver-2.result.now c.in-Deliver.envelope c.in-Deliver.moment) (state g.S.Store c.args.store.now) (state g.S.Store c.deliver_borrowed-report.new.store) c.args.sessions.now Delivered c.deliver_borrowed-report.result c.deliver_borrowed-report.ensures)
 
 pub returns-in-Deliver-clause-crash : goal.returns-in-Deliver-clause-crash
 returns-in-Deliver-clause-crash g c =
@@ -61,7 +61,7 @@ returns-in-AddUser-clause-event g c =
     let is : c.args.event.now ≡ event = cc in
     event_is c.args.event.now event c.answer_of-in-AddUser.result (answer_by (λ done. Added) c.add_user-added.result) (state g.S.Store c.args.store.now) (state g.S.Store c.add_user-added.new.store) c.args.sessions.now c.args.sessions.now is
     (told_done Added c.add_user-added.result c.and.result c.answer_of-in-AddUser.result c.and.ensures c.answer_of-in-AddUser.ensures)
-    (account_event event (λ accounts. Addition accounts c.as_slice-in-AddUser.result.now c.as_slice-in-AddUser-2.result.now c.in-AddUser.salt c.as_slice-in-AddUser-3.result.now) (MayRefuseAddition c.as_slice-in-AddUser.result.now c.as_slice-in-AddUser-2.result.now c.as_slice-in-AddUser-3.result.now) (λ w answer next made. made) (addition_may c.as_slice-in-AddUser.result.now c.as_slice-in-AddUser-2.result.now c.in-AddUser.salt c.as_slice-in-AddUser-3.result.now) (state g.S.Store c.args.store.now) (state g.S.Store c.add_user-added.new.store) c.args.sessions.now c.add_user-added.result (answer_by (λ done. Added) c.add_user-added.result) c.add_user-added.ensures.acts)
+    (account_event event (λ accounts. Addition accounts c.as_slice-in-AddUser.result.now c.as_slice-in-AddUser-2.result.now c.in-AddUser.salt c.as_slice-in-AddUser-3.result.now) (MayRefuseAddition c.as_slice-in-AddUser.result.now c.as_slice-in-AddUser-2.result.now c.as_slice-in-AddUser-3.result.now) (λ w answer next made. made) (addition_may c.as_slice-in-AddUser.result.now c.as_slice-in-AddUser-2.result.now c.in-AddUser.salt c.as_slice-in-AddUser-3.result.now) (state g.S.Store c.args.store.now) (state g.S.Store c.add_user-added.new.store) c.args.sessions.now (λ done. Added) c.add_user-added.result c.add_user-added.ensures.acts)
 
 pub returns-in-AddUser-clause-crash : goal.returns-in-AddUser-clause-crash
 returns-in-AddUser-clause-crash g c =
@@ -76,7 +76,7 @@ returns-in-TakeOut-clause-event g c =
     let is : c.args.event.now ≡ event = cc in
     event_is c.args.event.now event c.answer_of-in-TakeOut.result (answer_by Taken c.take_out-row.result) (state g.S.Store c.args.store.now) (state g.S.Store c.take_out-row.new.store) c.args.sessions.now c.args.sessions.now is
     (told_by Taken c.take_out-row.result c.map-in-TakeOut.result c.answer_of-in-TakeOut.result c.map-in-TakeOut.ensures.cases c.answer_of-in-TakeOut.ensures)
-    (account_event event (λ accounts. Taking accounts c.as_slice-in-TakeOut.result.now c.in-TakeOut.id) IsTransient (λ w answer next made. made) (taking_may c.as_slice-in-TakeOut.result.now c.in-TakeOut.id) (state g.S.Store c.args.store.now) (state g.S.Store c.take_out-row.new.store) c.args.sessions.now c.take_out-row.result (answer_by Taken c.take_out-row.result) c.take_out-row.ensures.acts)
+    (account_event event (λ accounts. Taking accounts c.as_slice-in-TakeOut.result.now c.in-TakeOut.id) IsTransient (λ w answer next made. made) (taking_may c.as_slice-in-TakeOut.result.now c.in-TakeOut.id) (state g.S.Store c.args.store.now) (state g.S.Store c.take_out-row.new.store) c.args.sessions.now Taken c.take_out-row.result c.take_out-row.ensures.acts)
 
 pub returns-in-TakeOut-clause-crash : goal.returns-in-TakeOut-clause-crash
 returns-in-TakeOut-clause-crash g c =
@@ -91,7 +91,7 @@ returns-in-TakeMail-clause-event g c =
     let is : c.args.event.now ≡ event = cc in
     event_is c.args.event.now event c.answer_of-in-TakeMail.result (answer_by (λ done. MailTaken) c.take_mail-taken.result) (state g.S.Store c.args.store.now) (state g.S.Store c.take_mail-taken.new.store) c.args.sessions.now c.args.sessions.now is
     (told_done MailTaken c.take_mail-taken.result c.and-in-TakeMail.result c.answer_of-in-TakeMail.result c.and-in-TakeMail.ensures c.answer_of-in-TakeMail.ensures)
-    (account_event event (λ accounts. MailTaking accounts c.as_slice-in-TakeMail.result.now c.as_slice-in-TakeMail-2.result.now) IsTransient (λ w answer next made. made) (mail_taking_may c.as_slice-in-TakeMail.result.now c.as_slice-in-TakeMail-2.result.now) (state g.S.Store c.args.store.now) (state g.S.Store c.take_mail-taken.new.store) c.args.sessions.now c.take_mail-taken.result (answer_by (λ done. MailTaken) c.take_mail-taken.result) c.take_mail-taken.ensures.acts)
+    (account_event event (λ accounts. MailTaking accounts c.as_slice-in-TakeMail.result.now c.as_slice-in-TakeMail-2.result.now) IsTransient (λ w answer next made. made) (mail_taking_may c.as_slice-in-TakeMail.result.now c.as_slice-in-TakeMail-2.result.now) (state g.S.Store c.args.store.now) (state g.S.Store c.take_mail-taken.new.store) c.args.sessions.now (λ done. MailTaken) c.take_mail-taken.result c.take_mail-taken.ensures.acts)
 
 pub returns-in-TakeMail-clause-crash : goal.returns-in-TakeMail-clause-crash
 returns-in-TakeMail-clause-crash g c =

@@ -1,20 +1,21 @@
-use Rattle.std.proofs.Common.{◌≡◌, ℕ, List, Option, Ok, sym, ◌∙◌}
+use Rattle.std.proofs.Common.{◌≡◌, ℕ, List, Option, Ok, sym, ap, ◌∙◌}
 use Rattle.std.specs.FinMap.{get}
 use Rattle.sqlite.specs.Held.{state}
 use Rattle.mailstore.specs.Account.{Account}
 use Rattle.mailstore.proofs.KeepLemmas.{reads_answer}
 use Rattle.sessions.specs.declared.account.KeptScripts.{KeptScripts}
 use Rattle.sessions.specs.Decisions.{AreScripts, Decides}
-use Rattle.sessions.proofs.OrderLemmas.{got}
+use Rattle.sessions.specs.Sorts.{of_script}
+use Rattle.sessions.proofs.OrderLemmas.{got, decides_named}
 use Rattle.sessions.proofs.account.decision_on.Goals as goal
 
-pub returns-in-GetScript : goal.returns-in-GetScript
-returns-in-GetScript g c =
-    reads_answer c.args.user.now (λ (text : Option (List ℕ)) (a : Account). text ≡ get a.scripts c.as_slice.result.now) (Decides c.args.command.now) (state g.S.Store c.args.store.now) (state g.S.Store c.script.new.self) c.script.result c.in_ok-text.text c.in_ok-text.was
-    (Ok _) tt (λ a is. got c.args.command.now c.in-GetScript.name c.as_slice.result.now c.in_ok-text.text c.in_ok-reply.reply a c.in-GetScript.is c.as_slice.ensures c.in_ok-reply.ensures is) c.script.ensures
+pub returns-in-Get : goal.returns-in-Get
+returns-in-Get g c =
+    reads_answer c.args.user.now (λ (text : Option (List ℕ)) (a : Account). text ≡ get a.scripts c.as_slice.result.now) (Decides (of_script c.args.command.now)) (state g.S.Store c.args.store.now) (state g.S.Store c.script.new.self) c.script.result c.in_ok-text-in-Get.text c.in_ok-text-in-Get.was
+    (Ok _) tt (λ a is. got (of_script c.args.command.now) c.in-Get.name c.as_slice.result.now c.in_ok-text-in-Get.text c.in_ok-reply-in-Get.reply a (ap of_script c.in-Get.is) c.as_slice.ensures c.in_ok-reply-in-Get.ensures is) c.script.ensures
 
 pub returns : goal.returns
 returns g c =
     let decides = c.in_ok-decision.ensures in
-    reads_answer c.args.user.now (λ (kept : KeptScripts) (a : Account). AreScripts kept.names kept.active a) (Decides c.args.command.now) (state g.S.Store c.args.store.now) (state g.S.Store c.kept_scripts.new.store) c.kept_scripts.result c.in_ok-kept.kept c.in_ok-kept.was
-    (Ok _) tt (λ a fits. record { replies = decides.replies a (c.as_slice-2.ensures ∙ fits.0, fits.1 ∙ sym c.slice_of.ensures); changes = decides.changes }) c.kept_scripts.ensures
+    reads_answer c.args.user.now (λ (kept : KeptScripts) (a : Account). AreScripts kept.names kept.active a) (Decides (of_script c.args.command.now)) (state g.S.Store c.args.store.now) (state g.S.Store c.kept_scripts.new.store) c.kept_scripts.result c.in_ok-kept.kept c.in_ok-kept.was
+    (Ok _) tt (λ a fits. decides_named c.args.command.now c.in-Named.command _ _ a c.in-Named.is decides (c.as_slice-2.ensures ∙ fits.0, fits.1 ∙ sym c.slice_of.ensures)) c.kept_scripts.ensures

@@ -1,5 +1,5 @@
 -- Each turn moves one message more, or is the last.
-use Rattle.std.proofs.Common.{◌≡◌, true, false, Ok, Err, arith, ◌∙◌, ap, subst, sym, rules}
+use Rattle.std.proofs.Common.{◌≡◌, true, false, is_ok, Ok, Err, arith, ◌∙◌, ap, subst, sym, rules}
 use Rattle.sqlite.specs.Held.{state}
 use Rattle.sievedrun.specs.Draining.{GrowsBy, AnyMoved, MovesMail}
 use Rattle.sievedrun.proofs.MoveLemmas.{none_moved, one_more, no_more, stops, most_moved}
@@ -25,7 +25,7 @@ returns-in_err-move_first-clause-moves g c =
     let fault = c.in_err-move_first.field-0.0 in
     let Grew = GrowsBy g.T.MailSink.tells (g.T.MailSink.kept c.args.sink.now) (g.T.MailSink.kept c.move_first.new.sink) in
     let is : c.from_residual.result ≡ Err fault = search rules in
-    subst (λ r. MovesMail c.args.user.now c.args.folder.now Grew (AnyMoved c.args.user.now c.args.folder.now Grew c.args.most r) (state g.S.Store c.args.store.now) (state g.S.Store c.move_first.new.store)) (sym is)
+    subst (λ r. MovesMail c.args.user.now c.args.folder.now Grew (is_ok r) (AnyMoved c.args.user.now c.args.folder.now Grew c.args.most r) (state g.S.Store c.args.store.now) (state g.S.Store c.move_first.new.store)) (sym is)
     (stops c.args.user.now c.args.folder.now g.T.MailSink.tells (g.T.MailSink.kept c.args.sink.now) (g.T.MailSink.kept c.loop-moved.sink) (g.T.MailSink.kept c.move_first.new.sink) c.loop-moved.moved
     (state g.S.Store c.args.store.now) (state g.S.Store c.loop-moved.store) (state g.S.Store c.move_first.new.store) c.loop-moved.invariant c.move_first.result fault fault c.args.most c.in_err-move_first.was c.move_first.ensures.moves)
 

@@ -1,4 +1,5 @@
 -- As many messages moved as there were turns.
+use Rattle.std.proofs.Common.{true}
 use Rattle.sqlite.specs.Held.{state}
 use Rattle.sievedrun.specs.Draining.{GrowsBy, Moved, MovesMail}
 use Rattle.sievedrun.proofs.drain.move_all.Given as goal
@@ -6,4 +7,4 @@ use Rattle.sievedrun.proofs.drain.move_all.Given as goal
 abbrev pub invariant-loop-moved : goal.invariant-loop-moved
 invariant-loop-moved g l =
     let Grew = GrowsBy g.T.MailSink.tells (g.T.MailSink.kept l.initial.sink) (g.T.MailSink.kept l.sink) in
-    MovesMail l.user l.folder Grew (Moved l.user l.folder Grew l.moved) (state g.S.Store l.initial.store) (state g.S.Store l.store)
+    MovesMail l.user l.folder Grew true (Moved l.user l.folder Grew l.moved) (state g.S.Store l.initial.store) (state g.S.Store l.store)

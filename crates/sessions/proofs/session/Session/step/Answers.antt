@@ -1,10 +1,10 @@
-use Rattle.std.proofs.Common.{ℕ, List, OnOk, subst, rules}
+use Rattle.std.proofs.Common.{ℕ, List, OnOk, sym, subst, rules}
 use Rattle.sqlite.specs.Held.{state}
 use Rattle.sessions.specs.declared.progress.Stepped.{Stepped}
 use Rattle.sessions.specs.Acts.{Acts}
 use Rattle.sessions.specs.Clients.{Client}
 use Rattle.sessions.specs.Orders.{StepsTo, MayStep}
-use Rattle.sessions.specs.Steps.{StepsFree}
+use Rattle.sessions.specs.Steps.{StepsFree, Asked}
 use Rattle.sessions.proofs.ActLemmas.{no_glance}
 use Rattle.sessions.proofs.AskedLemmas.{refused_acts, over_acts}
 use Rattle.sessions.proofs.session.Session.step.Goals as goal
@@ -26,3 +26,8 @@ returns-in-Asks-clause-acts g c =
     asks.silent
     (subst (λ (k : Client). Acts (StepsTo k c.step_asked.new.self.client c.step_asked.result c.step_free.new.out c.step_asked.new.out) (MayStep k) (state g.S.Store c.args.store.now) (state g.S.Store c.step_asked.new.store) c.step_asked.result)
     asks.stays c.step_asked.ensures.acts)
+
+pub step_asked-requires : goal.step_asked-requires
+step_asked-requires g c =
+    let asks = subst (λ (s : Stepped). StepsFree c.args.self.now.client c.step_free.new.self.client s c.args.out.now c.step_free.new.out) c.in-Asks.is c.in_ok-progress.ensures.step in
+    subst (λ (k : Client). Asked k c.in-Asks.order) (sym asks.stays) asks.asked

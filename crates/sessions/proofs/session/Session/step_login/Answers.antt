@@ -1,8 +1,10 @@
 use Rattle.std.proofs.Common.{◌≡◌, OnOk, sym, ap, ◌∙◌, subst, rules}
 use Rattle.sqlite.specs.Held.{state}
 use Rattle.sessions.specs.Counts.{SessionView}
+use Rattle.sessions.specs.declared.sort.Order.TheVariants.{Login}
+use Rattle.sessions.specs.Sorts.{of_login}
 use Rattle.sessions.specs.Turns.{IsTurn, FitsLogin, login_text, admitted_in}
-use Rattle.sessions.proofs.AskedLemmas.{refused_acts, login_answered}
+use Rattle.sessions.proofs.AskedLemmas.{refused_acts, login_answered, login_other}
 use Rattle.sessions.proofs.session.Session.step_login.Goals as goal
 
 pub returns-in_err-who : goal.returns-in_err-who
@@ -48,11 +50,11 @@ returns g c =
     let turn = c.in_ok-turn.ensures in
     record {
       acts =
-          login_answered c.args.self.now.client c.args.command.now c.requires.asked (state g.S.Store c.args.store.now) (state g.S.Store c.admitted.new.store) c.take_turn.new.self.client c.in_ok-who.who c.in_ok-turn.turn c.in_ok-progress.progress
-          c.args.out.now c.take_turn.new.out c.requires.login c.admitted.ensures.glances
-          (λ clean accounts shown. ap (λ o. admitted_in accounts o) (ap (λ o. login_text o c.args.command.now) (sym user) ∙ sym c.login_text.ensures) ∙ c.in_ok-who.ensures.found clean accounts shown)
-          (subst (λ f. IsTurn (FitsLogin c.args.self.now.client.user f c.args.command.now c.in_ok-who.who) c.args.command.now c.in_ok-turn.turn) failures
-          (subst (λ o. IsTurn (FitsLogin o c.self.inside.failures c.args.command.now c.in_ok-who.who) c.args.command.now c.in_ok-turn.turn) user turn))
+          login_answered c.args.self.now.client (Login c.args.command.now) c.requires (state g.S.Store c.args.store.now) (state g.S.Store c.admitted.new.store) c.take_turn.new.self.client c.in_ok-who.who c.in_ok-turn.turn c.in_ok-progress.progress
+          c.args.out.now c.take_turn.new.out (login_other c.args.command.now) c.in_ok-who.ensures.live c.admitted.ensures.glances
+          (λ clean accounts shown. ap (λ o. admitted_in accounts o) (ap (λ o. login_text o (of_login c.args.command.now)) (sym user) ∙ sym c.login_text.ensures) ∙ c.in_ok-who.ensures.found clean accounts shown)
+          (subst (λ f. IsTurn (FitsLogin c.args.self.now.client.user f (of_login c.args.command.now) c.in_ok-who.who) (of_login c.args.command.now) c.in_ok-turn.turn) failures
+          (subst (λ o. IsTurn (FitsLogin o c.self.inside.failures (of_login c.args.command.now) c.in_ok-who.who) (of_login c.args.command.now) c.in_ok-turn.turn) user turn))
           c.in_ok-progress.ensures.told c.in_ok-progress.ensures.session c.in_ok-progress.ensures.goes_on;
       counts = search rules;
       scans = search rules;

@@ -1,8 +1,12 @@
-use Rattle.std.proofs.Common.{◌≡◌, Bool, false, cond, sym, ap, ◌∙◌}
+use Rattle.std.proofs.Common.{◌≡◌, Bool, false, cond, sym, ap, ◌∙◌, subst}
+use Rattle.msproto.specs.declared.items.Reach.{Reach}
+use Rattle.msproto.specs.Items.{Reaches}
 use Rattle.sessions.specs.Clients.{reach_in, is_item, shut}
 use Rattle.sessions.specs.Counts.{SessionView, scanned_past}
-use Rattle.sessions.proofs.ScanLemmas.{scan_reach}
+use Rattle.sessions.proofs.ScanLemmas.{scan_reach, unread_reaches}
 use Rattle.sessions.proofs.ReachLemmas.{scanned_same}
+use Rattle.sessions.proofs.AskedLemmas.{command_lacks}
+use Rattle.sessions.proofs.FreeLemmas.{command_first}
 use Rattle.sessions.proofs.StepLemmas.{on_err, need_over, bad_over, big_over, has_by, lacks_by}
 use Rattle.sessions.proofs.session.Session.step_over.Goals as goal
 
@@ -13,8 +17,8 @@ returns-in-Need-clause-step c =
     let is = c.state.ensures.reached ∙ scan_reach s.pending s.scan s.unread s.scanned s.given c.self.invariant ∙ ap (λ (v : SessionView). reach_in v.client) c.self.view_is in
     need_over c.args.self.now.client c.state.result c.args.out.now live is c.in-Need.is
 
-pub returns-in-Command-clause-command : goal.returns-in-Command-clause-command
-returns-in-Command-clause-command c =
+pub returns-in_ok-command-in-Command-clause-command : goal.returns-in_ok-command-in-Command-clause-command
+returns-in_ok-command-in-Command-clause-command c =
     let s = c.self.inside in
     let live : c.args.self.now.client.closed ≡ false = ap (λ (v : SessionView). v.client.closed) (sym c.self.view_is) ∙ c.if-self.false in
     let is = c.state.ensures.reached ∙ scan_reach s.pending s.scan s.unread s.scanned s.given c.self.invariant ∙ ap (λ (v : SessionView). reach_in v.client) c.self.view_is in
@@ -53,7 +57,7 @@ returns-in_err-extend_from_slice-in-Bad-clause-lacks c =
     let s = c.self.inside in
     let live : c.args.self.now.client.closed ≡ false = ap (λ (v : SessionView). v.client.closed) (sym c.self.view_is) ∙ c.if-self.false in
     let is = c.state.ensures.reached ∙ scan_reach s.pending s.scan s.unread s.scanned s.given c.self.invariant ∙ ap (λ (v : SessionView). reach_in v.client) c.self.view_is in
-    on_err c.from_residual.result (sym (lacks_by c.args.self.now.client c.state.result _ live is c.in-Bad.is))
+    on_err c.from_residual-in_err-extend_from_slice-in-Bad.result (sym (lacks_by c.args.self.now.client c.state.result _ live is c.in-Bad.is))
 
 pub returns-in_err-extend_from_slice-in-TooBig-clause-lacks : goal.returns-in_err-extend_from_slice-in-TooBig-clause-lacks
 returns-in_err-extend_from_slice-in-TooBig-clause-lacks c =
@@ -70,3 +74,18 @@ returns-in_ok-extend_from_slice-in-TooBig-clause-scans c =
     ap (λ (v : SessionView). v.scanned) c.self.view_is
     ∙ scanned_same c.args.self.now c.state.result is (ap is_item c.in-TooBig.is)
     ∙ sym (ap (λ (b : Bool). cond b c.args.self.now.scanned (scanned_past c.args.self.now)) live)
+
+pub command_at-requires : goal.command_at-requires
+command_at-requires c =
+    let s = c.self.inside in
+    subst (λ (r : Reach). Reaches s.pending r c.as_slice.result.now) c.in-Command.is
+    (unread_reaches s.pending c.state.result s.unread c.as_slice.result.now
+    (c.state.ensures.reached ∙ scan_reach s.pending s.scan s.unread s.scanned s.given c.self.invariant) c.as_slice.ensures)
+
+pub returns-in_err-command-in-Command-clause-lacks : goal.returns-in_err-command-in-Command-clause-lacks
+returns-in_err-command-in-Command-clause-lacks c =
+    let s = c.self.inside in
+    let live : c.args.self.now.client.closed ≡ false = ap (λ (v : SessionView). v.client.closed) (sym c.self.view_is) ∙ c.if-self.false in
+    let is = c.state.ensures.reached ∙ scan_reach s.pending s.scan s.unread s.scanned s.given c.self.invariant ∙ ap (λ (v : SessionView). reach_in v.client) c.self.view_is in
+    let first = command_first c.args.self.now.client (sym (has_by c.args.self.now.client c.state.result _ live is c.in-Command.is)) in
+    on_err c.from_residual.result (command_lacks c.args.self.now.client first.0 first.1)

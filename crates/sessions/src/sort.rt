@@ -1,0 +1,138 @@
+//! What a command asks: nothing of the store, a login, or a user's scripts. Each is a type of its own.
+ghost use Rattle.std.specs.Prelude.{◌≡◌};
+ghost use Rattle.sessions.specs.declared.sort.ScriptCommand.TheVariants.{Named};
+ghost use Rattle.sessions.specs.declared.sort.Sort.TheVariants.{Script};
+ghost use Rattle.sessions.specs.Sorts.{command_of};
+
+use msproto::Command;
+use octets::Octets;
+
+/// A command, by what it asks.
+#[derive(Drop)]
+pub enum Sort {
+    /// Nothing of the store.
+    Free(FreeCommand),
+    /// A login.
+    Login(LoginCommand),
+    /// A user's scripts.
+    Script(ScriptCommand),
+}
+
+/// A command that is answered without the store.
+#[derive(Drop)]
+pub enum FreeCommand {
+    /// `CAPABILITY` (RFC 5804, 2.4).
+    Capability,
+    /// `NOOP` (RFC 5804, 2.13), with its string.
+    Noop(Option<Octets>),
+    /// `LOGOUT` (RFC 5804, 2.3).
+    Logout,
+    /// `UNAUTHENTICATE` (RFC 5804, 2.14).
+    Unauthenticate,
+    /// `CHECKSCRIPT` (RFC 5804, 2.12), with the text.
+    CheckScript(Octets),
+}
+
+/// A command of a login's exchange (RFC 5804, 2.1).
+#[derive(Drop)]
+pub enum LoginCommand {
+    /// `AUTHENTICATE`.
+    Authenticate {
+        /// The mechanism's name, as it was sent.
+        mechanism: Octets,
+        /// The first response, where there is one.
+        response: Option<Octets>,
+    },
+    /// The answer to a challenge.
+    Response(Octets),
+}
+
+/// A command about the scripts of the user who is logged in.
+#[derive(Drop)]
+pub enum ScriptCommand {
+    /// `GETSCRIPT` (RFC 5804, 2.9): it is answered by the text of the script of this name.
+    Get(Octets),
+    /// A command that goes by the names of the scripts.
+    Named(NamedCommand),
+}
+
+/// A command that is decided by the names of the user's scripts and by which one is active.
+#[derive(Drop)]
+pub enum NamedCommand {
+    /// `HAVESPACE` (RFC 5804, 2.5).
+    HaveSpace {
+        /// The script's name.
+        name: Octets,
+        /// The script's size in octets.
+        size: u32,
+    },
+    /// `PUTSCRIPT` (RFC 5804, 2.6).
+    PutScript {
+        /// The script's name.
+        name: Octets,
+        /// The script's text.
+        script: Octets,
+    },
+    /// `LISTSCRIPTS` (RFC 5804, 2.7).
+    ListScripts,
+    /// `SETACTIVE` (RFC 5804, 2.8); the empty name makes none active.
+    SetActive(Octets),
+    /// `DELETESCRIPT` (RFC 5804, 2.10).
+    DeleteScript(Octets),
+    /// `RENAMESCRIPT` (RFC 5804, 2.11).
+    RenameScript {
+        /// The name that the script has.
+        old: Octets,
+        /// The name that it is to have.
+        new: Octets,
+    },
+}
+
+/// A command that is answered over the store.
+#[derive(Drop)]
+pub enum Order {
+    /// A login.
+    Login(LoginCommand),
+    /// One about the scripts of this user, who is logged in.
+    Script {
+        /// Whose scripts they are.
+        user: Octets,
+        /// What is asked.
+        command: ScriptCommand,
+    },
+}
+
+/// What a command asks: it is split here, and nowhere else. Takes no memory.
+pub fn split(command: Command) -> Sort
+    ensures { command_of result ≡ command }
+{
+    match command {
+        Command::Capability => Sort::Free(FreeCommand::Capability),
+        Command::Noop(tag) => Sort::Free(FreeCommand::Noop(tag)),
+        Command::Logout => Sort::Free(FreeCommand::Logout),
+        Command::Unauthenticate => Sort::Free(FreeCommand::Unauthenticate),
+        Command::CheckScript(text) => Sort::Free(FreeCommand::CheckScript(text)),
+        Command::Authenticate {
+            mechanism,
+            response,
+        } => Sort::Login(LoginCommand::Authenticate {
+            mechanism,
+            response,
+        }),
+        Command::Response(text) => Sort::Login(LoginCommand::Response(text)),
+        Command::GetScript(name) => Sort::Script(ScriptCommand::Get(name)),
+        Command::HaveSpace { name, size } => named(NamedCommand::HaveSpace { name, size }),
+        Command::PutScript { name, script } => named(NamedCommand::PutScript { name, script }),
+        Command::ListScripts => named(NamedCommand::ListScripts),
+        Command::SetActive(name) => named(NamedCommand::SetActive(name)),
+        Command::DeleteScript(name) => named(NamedCommand::DeleteScript(name)),
+        Command::RenameScript { old, new } => named(NamedCommand::RenameScript { old, new }),
+    }
+}
+
+// A command that goes by the names of the scripts.
+fn named(command: NamedCommand) -> Sort
+    ensures { result ≡ Script (Named command) }
+{
+    Sort::Script(ScriptCommand::Named(command))
+}
