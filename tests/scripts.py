@@ -324,7 +324,7 @@ def queue_by_hand():
     with open(f"{DOCS}/OPERATING.md") as file:
         lines = [line[4:] for line in file.read().split("**A row that can't go.**")[1].split("\n## ")[0].split("\n") if line.startswith("    ")]
     ours = "\n".join(lines).replace("runuser -u sieved -- sieved", f"'{host.sieved}'").replace("/var/lib/sieved/mail.db", host.file)
-    ours = ours.replace("/root/", f"{host.room}/").replace("sendmail -i", "'%s' -i" % host.env["SENDMAIL"])
+    ours = ours.replace("sendmail -i", "'%s' -i" % host.env["SENDMAIL"])
     (_, _, message), *_ = host.rows("alice").values()
     for number, (sender, target) in enumerate([("alice@example.org", "far@example.com"), ("<>", "\"$(touch x)`touch y`;'\"@example.com")], 1):
         done = subprocess.run(["sh", "-e", "-c", ours.replace("alice 3", f"alice {number}").replace("row-3", f"row-{number}")], env=host.env, cwd=host.room,
