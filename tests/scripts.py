@@ -4,7 +4,7 @@
   tests/scripts.py [--sieved SIEVED] [TRIAL ..]       SIEVED: the program, crates/sieved/out/sieved where none is named
 
 Prints a line for each trial, a last one that counts them, and ends with 1 where one failed. `tests/run` runs it. A trial whose
-tool (awk, flock, shellcheck, strace) or right (root, to mount a small disk) isn't there is left out.
+tool (awk, flock, mkswap, shellcheck, strace) or right (root, to mount a small disk, to limit memory) isn't there is left out.
 """
 import collections, hashlib, os, random, re, shutil, signal, sqlite3, subprocess, time
 import mailboxes, managesieve, trials
@@ -539,6 +539,57 @@ def reserve_makes_room():
     return f"after {count} deliveries the disk is full and no message leaves the store; without the reserve {runs} runs move all, and there is room again"
 
 
+@contextmanager
+def less_memory(limit):
+    """The folder of a control group of so many octets of memory."""
+    trials.need_root()
+    name = f"sieved-trial-{os.getpid()}"
+    for folder, file in ((f"/sys/fs/cgroup/memory/{name}", "memory.limit_in_bytes"), (f"/sys/fs/cgroup/{name}", "memory.max")):
+        try:
+            os.mkdir(folder)
+        except OSError:
+            continue
+        try:
+            with open(f"{folder}/{file}", "w") as limits:
+                limits.write(str(limit))
+            yield folder
+            return
+        except FileNotFoundError:
+            pass
+        finally:
+            os.rmdir(folder)
+    raise trials.LeftOut("no control group for memory")
+
+
+def swap_serves():
+    """A store of twice the memory that there is: a word is killed or refused, and by the page's lines its mail moves."""
+    trials.need("flock", "mkswap", "swapon")
+    with open(f"{DOCS}/OPERATING.md") as file:
+        lines = re.search(r"\n    (dd if=/dev/zero of=/var/swap .*?)\n\n", file.read(), re.DOTALL)[1].replace("\n    ", "\n")
+    host, count = Host("alice"), 90
+    with sqlite3.connect(host.file) as base:
+        for number in range(1, count + 1):
+            base.execute("INSERT INTO message(owner, id, bytes) VALUES (?, ?, ?)", (b"alice", number, MAIL % b"%d" % number + b"x" * 500_000))
+            base.execute("INSERT INTO copy(owner, folder, n, id) VALUES (?, ?, ?, ?)", (b"alice", b"INBOX", number, number))
+        base.execute("UPDATE account SET next_copy = ? WHERE name = ?", (count + 1, b"alice"))
+    base.close()
+    given = {"/var/swap": f"{host.room}/swap", "/var/lib/sieved/mail.db": host.file, "runuser -u sieved -- sieved-drain alice bob": f"'{DOCS}/sieved-drain' alice"}
+    lines = re.sub("|".join(map(re.escape, given)), lambda found: given[found[0]], lines)
+    make, drain, end = re.fullmatch(r"(.*swapon \S+\n)(.*?\n)(swapoff .*)", lines, re.DOTALL).groups()
+    with less_memory(os.path.getsize(host.file) // 2) as group:
+        confined = lambda command: subprocess.run(["sh", "-c", f"echo $$ > {group}/cgroup.procs; {command}"], env=host.env, capture_output=True, timeout=200)
+        without = confined(f"'{host.sieved}' folders --db '{host.file}' alice")
+        assert without.returncode in (137, -signal.SIGKILL) or b"out of memory" in without.stderr, without
+        if subprocess.run(["sh", "-e", "-c", make], capture_output=True).returncode:
+            raise trials.LeftOut("no swap")
+        try:
+            moves = confined(drain)
+        finally:
+            subprocess.run(["sh", "-e", "-c", end], check=True, capture_output=True)
+    assert moves.returncode == 0 and len(host.moved()) == count and not host.stored(), (moves, len(host.moved()))
+    return f"in half of a store's {os.path.getsize(host.file) // 1_000_000} MB no word comes through; with swap its {count} messages move"
+
+
 # backup and restore
 
 
@@ -608,7 +659,7 @@ def text_by_shellcheck():
 TRIALS = {trial.__name__: trial for trial in (
     text_by_sh, text_by_shellcheck, deliver_statuses, deliver_faults, deliver_cut, deliver_killed, deliver_full_disk,
     queue_addresses, queue_targets, queue_rows, queue_beside, queue_by_hand, drain_folders, drain_subscriptions, drain_users, drain_listings, drain_killed,
-    drain_full_disk, drain_order, reserve_makes_room, restore_keeps_the_old)}
+    drain_full_disk, drain_order, reserve_makes_room, swap_serves, restore_keeps_the_old)}
 
 if __name__ == "__main__":
     trials.main(TRIALS, lambda program: PROGRAM.__setitem__(0, program))

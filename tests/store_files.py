@@ -3,10 +3,10 @@
 
   tests/store_files.py [--sieved SIEVED] [TRIAL ..]       SIEVED: the program, crates/sieved/out/sieved where none is named
 
-The trials: made, kept, traced, sessions, failing, full; without a word, all. Prints a line for each; the last one counts them, and the
+The trials: made, kept, traced, sessions, failing, large, full; without a word, all. Prints a line for each; the last one counts them, and the
 status is 1 where one failed. `tests/run` runs it. It needs python3 on Linux; `traced` and `failing` need strace, `full` the right to mount a tmpfs.
 """
-import os, re, shutil, socket, sqlite3, stat, subprocess, sys, tempfile
+import os, re, resource, shutil, signal, socket, sqlite3, stat, subprocess, sys, tempfile
 from contextlib import closing
 from managesieve import SIEVED
 
@@ -226,6 +226,30 @@ def failing(new):
     return f"of {unclosed + retried} deliveries over a disk that fails {retried} are to be tried again; {unclosed} couldn't close the store, are told so and stand once"
 
 
+def large(new):
+    """A limit on a file's size, which the file of a message and the lock meet: told as what it is, and the message stays."""
+    place = new().make()
+    message = MAIL + b"x" * 3_000_000
+    assert place.run("deliver", "--to", "a@b", "alice", given=message)[0] == 0
+    maildir = f"{place.folder}/Maildir"
+    for part in "tmp", "new", "cur":
+        os.makedirs(f"{maildir}/{part}")
+
+    def limit():
+        # The signal that comes with it would end the program: what starts it leaves it out, as a shell does after `trap '' XFSZ`.
+        signal.signal(signal.SIGXFSZ, signal.SIG_IGN)
+        resource.setrlimit(resource.RLIMIT_FSIZE, (2_000_000, 2_000_000))
+
+    drained = place.run("drain", "alice", "INBOX", maildir, preexec_fn=limit)
+    assert drained == (75, b"", b"sieved: file would be too large\n"), drained
+    assert place.count() == 1 and not any(os.listdir(f"{maildir}/{part}") for part in ("tmp", "new")), os.listdir(f"{maildir}/tmp")
+    assert place.done("drain", "alice", "INBOX", maildir) == b"drained 1\n" and place.count() == 0
+    (name,) = os.listdir(f"{maildir}/new")
+    with open(f"{maildir}/new/{name}", "rb") as file:
+        assert file.read() == message
+    return "a message of 3 MB isn't drained where files may have 2 MB, is told so and stays; it is drained without the limit"
+
+
 def full(new):
     place = new()
     if os.geteuid() != 0 or subprocess.run(["mount", "-t", "tmpfs", "-o", "size=2m", "tmpfs", place.folder], stderr=subprocess.DEVNULL).returncode:
@@ -267,7 +291,7 @@ def strace():
     return path
 
 
-TRIALS = [made, kept, traced, sessions, failing, full]
+TRIALS = [made, kept, traced, sessions, failing, large, full]
 
 
 def tried(trial):
