@@ -7,7 +7,7 @@ use lib.Utf8.{encode}
 use Rattle.octets.specs.Ascii.{is_printable}
 use Rattle.maildirs.specs.declared.separator.Separator.{Separator}
 use Rattle.maildirs.specs.declared.separator.Separator.TheVariants.{Dot, Slash}
-use Rattle.maildirs.specs.Spelling.{Piece, Printable, Run, before_pieces, octet_of, piece_spelling, pieces_of, spelled, spellings, utf16_of}
+use Rattle.maildirs.specs.Spelling.{Piece, Printable, Run, before_pieces, cuts, octet_of, piece_spelling, pieces_of, spelled, spellings, utf16_of}
 
 before_cut : (units : List ℕ) (pieces : List Piece) (character : ℕ) (more : List Piece)
     → before_pieces units (pieces ++ Printable character ∷ more) ≡ before_pieces units pieces ++ Printable character ∷ more
@@ -32,15 +32,18 @@ cut_pieces separator (first ∷ front) rest =
     ap (λ pieces. cond (is_printable first) (Printable first ∷ pieces) (before_pieces (utf16_of first) pieces)) (cut_pieces separator front rest)
     ∙ front_cut (is_printable first) first (pieces_of front) (octet_of separator) (pieces_of rest)
 
-spellings-append : (separator : Separator) (xs ys : List Piece) → spellings separator (xs ++ ys) ≡ spellings separator xs ++ spellings separator ys
-spellings-append separator [] ys = refl
-spellings-append separator (x ∷ xs) ys =
-    ap (λ text. piece_spelling separator x ++ text) (spellings-append separator xs ys)
-    ∙ sym (append_assoc (piece_spelling separator x) (spellings separator xs) (spellings separator ys))
+dot_between : (separator : Separator) (begins : Bool) (pieces : List Piece)
+    → spellings separator begins (Printable (octet_of separator) ∷ pieces) ≡ codes "." ++ spellings separator true pieces
+dot_between Dot begins pieces = refl
+dot_between Slash begins pieces = refl
 
-dot_between : (separator : Separator) (pieces : List Piece) → spellings separator (Printable (octet_of separator) ∷ pieces) ≡ codes "." ++ spellings separator pieces
-dot_between Dot pieces = refl
-dot_between Slash pieces = refl
+spellings-cut : (separator : Separator) (begins : Bool) (xs ys : List Piece)
+    → spellings separator begins (xs ++ Printable (octet_of separator) ∷ ys) ≡ spellings separator begins xs ++ 46 ∷ spellings separator true ys
+spellings-cut separator begins [] ys = dot_between separator begins ys
+spellings-cut separator begins (x ∷ xs) ys =
+    let front = piece_spelling separator begins x in
+    ap (λ text. front ++ text) (spellings-cut separator (cuts separator x) xs ys)
+    ∙ sym (append_assoc front (spellings separator (cuts separator x) xs) (46 ∷ spellings separator true ys))
 
 separator_scalar : (separator : Separator) → octet_of separator < 128
 separator_scalar Dot = omega arith
@@ -63,7 +66,6 @@ pub cut_spelled : (separator : Separator) (front rest : List ℕ) → IsUtf8 fro
 cut_spelled separator front rest one two =
     let before = pieces_of (chars front) in
     let after = pieces_of (chars rest) in
-    ap (λ text. spellings separator (pieces_of text)) (cut_chars separator front rest one two)
-    ∙ ap (spellings separator) (cut_pieces separator (chars front) (chars rest))
-    ∙ spellings-append separator before (Printable (octet_of separator) ∷ after)
-    ∙ ap (λ text. spellings separator before ++ text) (dot_between separator after)
+    ap (λ text. spellings separator true (pieces_of text)) (cut_chars separator front rest one two)
+    ∙ ap (spellings separator true) (cut_pieces separator (chars front) (chars rest))
+    ∙ spellings-cut separator true before after

@@ -1,6 +1,6 @@
 -- Directories of folders, each with a near miss.
 use Rattle.std.proofs.Common.{◌≡◌, refl, ap, codes, List, ℕ, [], ◌∷◌, ◌++◌, inl, inr, arith}
-use Rattle.std.specs.Prelude.{slice_index}
+use Rattle.std.specs.Prelude.{drop, slice_index}
 use Rattle.std.specs.Str.{chars, is_utf8}
 use Rattle.base64.specs.Rfc4648.{encode_symbols}
 use Rattle.maildirs.specs.declared.separator.Separator.TheVariants.{Dot, Slash}
@@ -89,7 +89,7 @@ ampersand_written : directory Dot (codes "&-") ≡ codes ".&--"
 unfolding chars is_utf8 lib.Utf8.encode
 ampersand_written = refl
 
--- `~` at the front, and elsewhere
+-- `~` at the front of a level, and elsewhere
 tilde_front : directory Dot (codes "~x") ≡ codes ".\\7ex"
 unfolding chars is_utf8 lib.Utf8.encode
 tilde_front = refl
@@ -97,6 +97,56 @@ tilde_front = refl
 tilde_inside : directory Dot (codes "x~") ≡ codes ".x~"
 unfolding chars is_utf8 lib.Utf8.encode
 tilde_inside = refl
+
+tilde_later_level : directory Dot (codes "a.~~b") ≡ codes ".a.\\7e~b"
+unfolding chars is_utf8 lib.Utf8.encode
+tilde_later_level = refl
+
+tilde_no_level : directory Slash (codes "a.~b") ≡ codes ".a\\2e~b"
+unfolding chars is_utf8 lib.Utf8.encode
+tilde_no_level = refl
+
+tilde_after_run : directory Dot (195 ∷ 182 ∷ codes "~") ≡ codes ".&APY-~"
+unfolding chars is_utf8 encode_symbols lib.Utf8.encode
+tilde_after_run = refl
+
+-- `\` and two hexadecimal digits of an octet over 127, of one up to 127, and one digit
+high_pair : directory Dot (codes "a\\C3b") ≡ digest_form (codes "a\\C3b")
+unfolding chars is_utf8 lib.Utf8.encode
+high_pair = refl
+
+low_pair : directory Dot (codes "a\\7f") ≡ codes ".a\\5c7f"
+unfolding chars is_utf8 lib.Utf8.encode
+low_pair = refl
+
+one_digit : directory Dot (codes "\\cg") ≡ codes ".\\5ccg"
+unfolding chars is_utf8 lib.Utf8.encode
+one_digit = refl
+
+-- NUL, and another control character
+nul : directory Dot (97 ∷ 0 ∷ []) ≡ digest_form (97 ∷ 0 ∷ [])
+unfolding chars is_utf8 lib.Utf8.encode
+nul = refl
+
+no_nul : directory Dot (97 ∷ 1 ∷ []) ≡ codes ".a&AAE-"
+unfolding chars is_utf8 encode_symbols lib.Utf8.encode
+no_nul = refl
+
+-- the name of a directory that a digest may have, and one digit less
+abbrev digits : List ℕ
+digits = codes "0123456789abcdef0123456789abcdef0123456789abcdef0123456789abcdef"
+
+named_as_digest : directory Dot (codes "sha256-" ++ digits) ≡ digest_form (codes "sha256-" ++ digits)
+unfolding chars is_utf8 lib.Utf8.encode
+named_as_digest = refl
+
+nearly_digest : directory Dot (codes "sha256-" ++ drop 1 digits) ≡ codes ".sha256-" ++ drop 1 digits
+unfolding chars is_utf8 lib.Utf8.encode
+nearly_digest = refl
+
+upper_digits : directory Dot (codes "sha256-A" ++ drop 1 digits) ≡ codes ".sha256-A" ++ drop 1 digits
+unfolding chars is_utf8 lib.Utf8.encode
+upper_digits = refl
 
 -- an empty level, and two dots that are none
 empty_level : directory Dot (codes "..") ≡ digest_form (codes "..")

@@ -1,5 +1,5 @@
 -- A directory lies within the Maildir.
-use Rattle.std.proofs.Common.{◌≡◌, ◌≢◌, ◌≤◌, ◌<◌, ℕ, ◌==◌, Bool, true, false, cond, ◌&&◌, not, nat_le, List, [], ◌∷◌, ◌++◌, length, get_or, drop, codes, refl, sym, ◌∙◌, ap, arith}
+use Rattle.std.proofs.Common.{◌≡◌, ◌≢◌, ◌≤◌, ◌<◌, ℕ, ◌==◌, Bool, true, false, cond, ◌&&◌, not, List, [], ◌∷◌, ◌++◌, length, get_or, drop, codes, refl, sym, ◌∙◌, ap, arith}
 use Rattle.std.proofs.lemmas.Bool.{eqb-true, leb-true, eq-eqb, false≢true}
 use Rattle.std.proofs.lemmas.Str.{IsUtf8-from_is_utf8, byte_from_char, encodes-chars}
 use lib.Utf8.{encodes}
@@ -13,19 +13,16 @@ use Rattle.maildirs.specs.declared.separator.Separator.{Separator}
 use Rattle.maildirs.specs.declared.separator.Separator.TheVariants.{Dot, Slash}
 use Rattle.maildirs.specs.Directory.{digest_form, directory, folded, has_form, is_inbox, named}
 use Rattle.maildirs.specs.Inside.{IsInside}
-use Rattle.maildirs.specs.Levels.{goes_on, has_levels}
-use Rattle.maildirs.specs.Spelling.{Piece, Printable, Run, before_pieces, name_spelled, octet_of, pieces_of, spelled, spellings, utf16_of, written}
-use Rattle.maildirs.proofs.KeptLemmas.{digest_kept, name_kept}
+use Rattle.maildirs.specs.Levels.{goes_on}
+use Rattle.maildirs.specs.Spelling.{Piece, Printable, Run, before_pieces, octet_of, pieces_of, spelled, spellings, utf16_of, written}
+use Rattle.maildirs.proofs.KeptLemmas.{digest_kept, spelled_kept}
+use Rattle.maildirs.proofs.NameLemmas.{form_levels, form_own, form_text, own_short}
 
 and_left : (a b : Bool) → (a && b) ≡ true → a ≡ true
 and_left true b both = refl
 and_left false b both = both
 
-and_right : (a b : Bool) → (a && b) ≡ true → b ≡ true
-and_right true b both = both
-and_right false b both = absurd (false≢true both)
-
-pub length-digest : (name : List ℕ) → length (digest_form name) ≡ 67
+pub length-digest : (name : List ℕ) → length (digest_form name) ≡ 72
 length-digest name =
     let digits = length-encode_with lower_digits (sha256 name) in
     let octets = length-sha256 name in
@@ -37,30 +34,32 @@ run_first units [] = (units, ([], refl))
 run_first units (Printable character ∷ more) = (units, (Printable character ∷ more, refl))
 run_first units (Run others ∷ more) = (units ++ others, (more, refl))
 
-begins_run : (separator : Separator) (octets : List ℕ) (more : List Piece) → get_or (spellings separator (Run octets ∷ more)) 0 0 ≡ 38
+begins_run : (separator : Separator) (octets : List ℕ) (more : List Piece) → get_or (spellings separator true (Run octets ∷ more)) 0 0 ≡ 38
 begins_run separator octets more = refl
 
-run_no_dot : (separator : Separator) (units : List ℕ) (pieces : List Piece) → spellings separator (before_pieces units pieces) ≢ codes "."
+run_no_dot : (separator : Separator) (units : List ℕ) (pieces : List Piece) → spellings separator true (before_pieces units pieces) ≢ codes "."
 run_no_dot separator units pieces same =
     let first = run_first units pieces in
-    let head : 46 ≡ 38 = ap (λ l. get_or l 0 0) (sym same) ∙ ap (λ all. get_or (spellings separator all) 0 0) first.1.1 ∙ begins_run separator first.0 first.1.0 in
+    let head : 46 ≡ 38 = ap (λ l. get_or l 0 0) (sym same) ∙ ap (λ all. get_or (spellings separator true all) 0 0) first.1.1 ∙ begins_run separator first.0 first.1.0 in
     absurd (omega (arith, head))
 
-spelling_no_dot : (cuts dot slash back ampersand : Bool) (character : ℕ) (more : List ℕ) → cuts ≡ false → (character == 46) ≡ dot
-    → cond cuts (codes ".") (cond dot (codes "\\2e") (cond slash (codes "\\2f") (cond back (codes "\\5c") (cond ampersand (codes "&-") (character ∷ []))))) ++ more ≢ codes "."
-spelling_no_dot true dot slash back ampersand character more other told same = absurd (false≢true (sym other))
-spelling_no_dot false true slash back ampersand character more other told same = cc
-spelling_no_dot false false true back ampersand character more other told same = cc
-spelling_no_dot false false false true ampersand character more other told same = cc
-spelling_no_dot false false false false true character more other told same = cc
-spelling_no_dot false false false false false character more other told same =
+spelling_no_dot : (cut dot slash back ampersand tilde : Bool) (character : ℕ) (more : List ℕ) → cut ≡ false → (character == 46) ≡ dot
+    → cond cut (codes ".") (cond dot (codes "\\2e") (cond slash (codes "\\2f") (cond back (codes "\\5c") (cond ampersand (codes "&-") (cond tilde (codes "\\7e") (character ∷ [])))))) ++ more ≢ codes "."
+spelling_no_dot true dot slash back ampersand tilde character more other told same = absurd (false≢true (sym other))
+spelling_no_dot false true slash back ampersand tilde character more other told same = cc
+spelling_no_dot false false true back ampersand tilde character more other told same = cc
+spelling_no_dot false false false true ampersand tilde character more other told same = cc
+spelling_no_dot false false false false true tilde character more other told same = cc
+spelling_no_dot false false false false false true character more other told same = cc
+spelling_no_dot false false false false false false character more other told same =
     let dot : character ≡ 46 = ap (λ l. get_or l 0 0) same in
     false≢true (sym told ∙ eq-eqb character 46 dot)
 
 piece_no_dot : (printable : Bool) (separator : Separator) (character : ℕ) (pieces : List Piece) → (character == octet_of separator) ≡ false
-    → spellings separator (cond printable (Printable character ∷ pieces) (before_pieces (utf16_of character) pieces)) ≢ codes "."
+    → spellings separator true (cond printable (Printable character ∷ pieces) (before_pieces (utf16_of character) pieces)) ≢ codes "."
 piece_no_dot true separator character pieces other =
-    spelling_no_dot (character == octet_of separator) (character == 46) (character == 47) (character == 92) (character == 38) character (spellings separator pieces) other refl
+    spelling_no_dot (character == octet_of separator) (character == 46) (character == 47) (character == 92) (character == 38) (character == 126) character
+    (spellings separator (character == octet_of separator) pieces) other refl
 piece_no_dot false separator character pieces other = run_no_dot separator (utf16_of character) pieces
 
 separator_small : (separator : Separator) → octet_of separator < 128
@@ -71,7 +70,7 @@ other_test : (test : Bool) (a b : ℕ) → (a == b) ≡ test → (a ≡ b → �
 other_test true a b told other = absurd (other (eqb-true a b told))
 other_test false a b told other = told
 
-characters_no_dot : (separator : Separator) (name characters : List ℕ) → encodes characters ≡ name → get_or name 0 0 ≢ octet_of separator → spellings separator (pieces_of characters) ≢ codes "."
+characters_no_dot : (separator : Separator) (name characters : List ℕ) → encodes characters ≡ name → get_or name 0 0 ≢ octet_of separator → spellings separator true (pieces_of characters) ≢ codes "."
 characters_no_dot separator name [] whole other same = cc
 characters_no_dot separator name (character ∷ more) whole other same =
     piece_no_dot (is_printable character) separator character (pieces_of more)
@@ -79,10 +78,9 @@ characters_no_dot separator name (character ∷ more) whole other same =
     let small : character < 128 = omega (arith, separator_small separator) in
     other (byte_from_char name (encodes more) character (sym whole) small ∙ cuts))) same
 
-name_no_dot : (tilde : Bool) (separator : Separator) (octet : ℕ) (rest : List ℕ) → is_utf8 (octet ∷ rest) ≡ true → (octet ≢ octet_of separator)
-    → cond tilde (codes "\\7e" ++ spelled separator rest) (spelled separator (octet ∷ rest)) ≢ codes "."
-name_no_dot true separator octet rest valid other same = cc
-name_no_dot false separator octet rest valid other same =
+name_no_dot : (separator : Separator) (octet : ℕ) (rest : List ℕ) → is_utf8 (octet ∷ rest) ≡ true → (octet ≢ octet_of separator)
+    → spelled separator (octet ∷ rest) ≢ codes "."
+name_no_dot separator octet rest valid other same =
     characters_no_dot separator (octet ∷ rest) (chars (octet ∷ rest)) (encodes-chars (octet ∷ rest) (IsUtf8-from_is_utf8 (octet ∷ rest) valid)) other same
 
 begins_other : (octet separator : ℕ) (more : Bool) → (not (octet == separator) && more) ≡ true → octet ≢ separator
@@ -91,27 +89,26 @@ begins_other octet separator more both same =
     false≢true (ap not (sym (eq-eqb octet separator same)) ∙ no)
 
 pub written_not_above : (separator : Separator) (name : List ℕ) → has_form separator name ≡ true → written separator name ≢ codes ".."
+unfolding chars
 written_not_above separator [] form same = cc
 written_not_above separator (octet ∷ rest) form same =
     let name = octet ∷ rest in
-    let valid = and_left (is_utf8 name) (has_levels (octet_of separator) name && nat_le (length (written separator name)) 250) form in
-    let after = and_right (is_utf8 name) (has_levels (octet_of separator) name && nat_le (length (written separator name)) 250) form in
-    let levels = and_left (has_levels (octet_of separator) name) (nat_le (length (written separator name)) 250) after in
-    let end : name_spelled separator name ≡ codes "." = ap (drop 1) same in
-    name_no_dot (octet == 126) separator octet rest valid (begins_other octet (octet_of separator) (goes_on (octet_of separator) name) levels) end
+    let valid = form_text separator name form in
+    let levels = form_levels separator name form in
+    let end : spelled separator name ≡ codes "." = ap (drop 1) same in
+    name_no_dot separator octet rest valid (begins_other octet (octet_of separator) (goes_on (octet_of separator) name) levels) end
 
 pub written_short : (separator : Separator) (name : List ℕ) → has_form separator name ≡ true → length (written separator name) ≤ 250
 written_short separator name form =
-    let after = and_right (is_utf8 name) (has_levels (octet_of separator) name && nat_le (length (written separator name)) 250) form in
-    leb-true (length (written separator name)) 250 (and_right (has_levels (octet_of separator) name) (nat_le (length (written separator name)) 250) after)
+    leb-true (length (written separator name)) 250 (own_short (written separator name) (form_own separator name form))
 
 digest_not_above : (name : List ℕ) → digest_form name ≢ codes ".."
 digest_not_above name same = cc
 
 form_inside : (form : Bool) (separator : Separator) (name : List ℕ) → has_form separator name ≡ form → IsInside (cond form (written separator name) (digest_form name))
 form_inside true separator name told = record {
-  dotted = (name_spelled separator name, refl);
-  kept = name_kept separator name;
+  dotted = (spelled separator name, refl);
+  kept = spelled_kept separator name;
   not_above = written_not_above separator name told;
   short = written_short separator name told;
 }

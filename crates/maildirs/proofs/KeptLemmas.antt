@@ -1,18 +1,21 @@
 -- What is written are octets that a directory keeps.
-use Rattle.std.proofs.Common.{◌≡◌, ℕ, zero, suc, ◌+◌, ◌*◌, ◌/◌, ◌%◌, ◌<◌, ◌==◌, Bool, true, false, cond, ◌&&◌, not, nat_lt, List, [], ◌∷◌, ◌++◌, get_or, codes, refl, ◌∙◌, ap, arith}
+use Rattle.std.proofs.Common.{◌≡◌, ℕ, zero, suc, ◌+◌, ◌*◌, ◌/◌, ◌%◌, ◌<◌, ◌==◌, Bool, true, false, cond, ◌&&◌, not, nat_lt, List, [], ◌∷◌, ◌++◌, length, get_or, codes, refl, ◌∙◌, ap, arith}
+use Rattle.std.proofs.lemmas.Bool.{eq-eqb}
 use Rattle.std.proofs.lemmas.List.Folds.{list_all-append}
 use Rattle.std.proofs.lemmas.List.Sums.{AllPass-from_list_all}
 use Rattle.std.specs.List.{list_all}
 use Rattle.std.specs.Int.{w32, to_be_bytes}
 use Rattle.std.specs.Str.{chars}
 use Rattle.base64.specs.Rfc4648.{encode_symbols}
-use Rattle.hex.specs.Hex.{encode_with, lower_digits}
+use Rattle.hex.proofs.HexLemmas.{length-encode_with}
+use Rattle.hex.specs.Hex.{encode_lower, encode_with, lower_digits}
 use Rattle.octets.specs.Ascii.{is_printable}
+use Rattle.sha2.proofs.Facts256.{length-sha256}
 use Rattle.sha2.specs.Sha256.{digest_bytes, sha256}
 use Rattle.maildirs.specs.declared.separator.Separator.{Separator}
-use Rattle.maildirs.specs.Directory.{digest_form}
+use Rattle.maildirs.specs.Directory.{digest_form, is_digest, is_lower_digit}
 use Rattle.maildirs.specs.Inside.{is_kept}
-use Rattle.maildirs.specs.Spelling.{Piece, Printable, Run, before_pieces, high_first, modified_base64, modified_symbols, name_spelled, octet_of, piece_spelling, pieces_of, shifted, spelled, spellings, utf16_of}
+use Rattle.maildirs.specs.Spelling.{Piece, Printable, Run, before_pieces, cuts, high_first, modified_base64, modified_symbols, octet_of, piece_spelling, pieces_of, shifted, spelled, spellings, utf16_of}
 
 pub and_true : (a b : Bool) → a ≡ true → b ≡ true → (a && b) ≡ true
 and_true a b one two = rw (one, two) refl
@@ -89,44 +92,39 @@ pub pieces_sound : (text : List ℕ) → AreSound (pieces_of text)
 pieces_sound [] = tt
 pieces_sound (character ∷ more) = front_sound (is_printable character) character (pieces_of more) refl (pieces_sound more)
 
-spelling_by : (cuts dot slash back ampersand : Bool) (character : ℕ) → is_printable character ≡ true → (character == 47) ≡ slash
-    → list_all is_kept (cond cuts (codes ".") (cond dot (codes "\\2e") (cond slash (codes "\\2f") (cond back (codes "\\5c") (cond ampersand (codes "&-") (character ∷ [])))))) ≡ true
-spelling_by true dot slash back ampersand character seen told = refl
-spelling_by false true slash back ampersand character seen told = refl
-spelling_by false false true back ampersand character seen told = refl
-spelling_by false false false true ampersand character seen told = refl
-spelling_by false false false false true character seen told = refl
-spelling_by false false false false false character seen told = and_true _ _ (and_true _ _ seen (ap not told)) refl
+spelling_by : (cut dot slash back ampersand tilde : Bool) (character : ℕ) → is_printable character ≡ true → (character == 47) ≡ slash
+    → list_all is_kept (cond cut (codes ".") (cond dot (codes "\\2e") (cond slash (codes "\\2f") (cond back (codes "\\5c") (cond ampersand (codes "&-") (cond tilde (codes "\\7e") (character ∷ []))))))) ≡ true
+spelling_by true dot slash back ampersand tilde character seen told = refl
+spelling_by false true slash back ampersand tilde character seen told = refl
+spelling_by false false true back ampersand tilde character seen told = refl
+spelling_by false false false true ampersand tilde character seen told = refl
+spelling_by false false false false true tilde character seen told = refl
+spelling_by false false false false false true character seen told = refl
+spelling_by false false false false false false character seen told = and_true _ _ (and_true _ _ seen (ap not told)) refl
 
-piece_kept : (separator : Separator) (piece : Piece) → IsSound piece → list_all is_kept (piece_spelling separator piece) ≡ true
-piece_kept separator (Printable character) seen =
-    spelling_by (character == octet_of separator) (character == 46) (character == 47) (character == 92) (character == 38) character seen refl
-piece_kept separator (Run octets) sound = shifted_kept octets sound.0
+piece_kept : (separator : Separator) (begins : Bool) (piece : Piece) → IsSound piece → list_all is_kept (piece_spelling separator begins piece) ≡ true
+piece_kept separator begins (Printable character) seen =
+    spelling_by (character == octet_of separator) (character == 46) (character == 47) (character == 92) (character == 38) (begins && character == 126) character seen refl
+piece_kept separator begins (Run octets) sound = shifted_kept octets sound.0
 
-pieces_kept : (separator : Separator) (pieces : List Piece) → AreSound pieces → list_all is_kept (spellings separator pieces) ≡ true
-pieces_kept separator [] are = refl
-pieces_kept separator (piece ∷ more) are =
-    kept-append (piece_spelling separator piece) (spellings separator more) (piece_kept separator piece are.0) (pieces_kept separator more are.1)
+pieces_kept : (separator : Separator) (begins : Bool) (pieces : List Piece) → AreSound pieces → list_all is_kept (spellings separator begins pieces) ≡ true
+pieces_kept separator begins [] are = refl
+pieces_kept separator begins (piece ∷ more) are =
+    kept-append (piece_spelling separator begins piece) (spellings separator (cuts separator piece) more)
+    (piece_kept separator begins piece are.0) (pieces_kept separator (cuts separator piece) more are.1)
 
-spelled_kept : (separator : Separator) (text : List ℕ) → list_all is_kept (spelled separator text) ≡ true
-spelled_kept separator text = pieces_kept separator (pieces_of (chars text)) (pieces_sound (chars text))
+pub spelled_kept : (separator : Separator) (text : List ℕ) → list_all is_kept (spelled separator text) ≡ true
+spelled_kept separator text = pieces_kept separator true (pieces_of (chars text)) (pieces_sound (chars text))
 
-name_by : (separator : Separator) (tilde : Bool) (octet : ℕ) (rest : List ℕ)
-    → list_all is_kept (cond tilde (codes "\\7e" ++ spelled separator rest) (spelled separator (octet ∷ rest))) ≡ true
-name_by separator true octet rest = spelled_kept separator rest
-name_by separator false octet rest = spelled_kept separator (octet ∷ rest)
+-- what holds of each of the 16 digits holds of each octet in hexadecimal digits
+module _ (Passes : ℕ → Bool) (each : list_all Passes lower_digits ≡ true) where
+  digit_passes : (k : ℕ) → k < 16 → Passes (get_or lower_digits k 0) ≡ true
+  digit_passes k small = AllPass-from_list_all Passes lower_digits each k 0 small
 
-pub name_kept : (separator : Separator) (name : List ℕ) → list_all is_kept (name_spelled separator name) ≡ true
-name_kept separator [] = refl
-name_kept separator (octet ∷ rest) = name_by separator (octet == 126) octet rest
-
-digit_kept : (k : ℕ) → k < 16 → is_kept (get_or lower_digits k 0) ≡ true
-digit_kept k small = AllPass-from_list_all is_kept lower_digits refl k 0 small
-
-digits_kept : (octets : List ℕ) → AreSmall octets → list_all is_kept (encode_with lower_digits octets) ≡ true
-unfolding encode_with
-digits_kept [] are = refl
-digits_kept (octet ∷ rest) are = and_true _ _ (digit_kept (octet / 16) (omega (arith, are.0))) (and_true _ _ (digit_kept (octet % 16) (omega arith)) (digits_kept rest are.1))
+  pub digits_pass : (octets : List ℕ) → AreSmall octets → list_all Passes (encode_with lower_digits octets) ≡ true
+  unfolding encode_with
+  digits_pass [] are = refl
+  digits_pass (octet ∷ rest) are = and_true _ _ (digit_passes (octet / 16) (omega (arith, are.0))) (and_true _ _ (digit_passes (octet % 16) (omega arith)) (digits_pass rest are.1))
 
 word_small : (n : ℕ) → AreSmall (to_be_bytes w32 n)
 word_small n = (omega arith, (omega arith, (omega arith, (omega arith, tt))))
@@ -141,4 +139,11 @@ unfolding sha256
 digest_small name = words_small _ 8
 
 pub digest_kept : (name : List ℕ) → list_all is_kept (digest_form name) ≡ true
-digest_kept name = digits_kept (sha256 name) (digest_small name)
+digest_kept name = digits_pass is_kept refl (sha256 name) (digest_small name)
+
+-- a digest's directory is one
+pub digest_is : (name : List ℕ) → is_digest (digest_form name) ≡ true
+digest_is name =
+    let text = encode_lower (sha256 name) in
+    let long : length text ≡ 64 = let digits = length-encode_with lower_digits (sha256 name) in let octets = length-sha256 name in omega (arith, digits, octets) in
+    and_true _ _ (eq-eqb (length text) 64 long) (digits_pass is_lower_digit refl (sha256 name) (digest_small name))

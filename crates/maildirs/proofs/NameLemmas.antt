@@ -1,31 +1,19 @@
--- A name's front, and its form.
-use Rattle.std.proofs.Common.{◌≡◌, ◌≢◌, ℕ, ◌==◌, Bool, true, false, cond, ◌&&◌, nat_le, Option, None, Some, List, [], ◌∷◌, ◌++◌, length, codes, IsTrue, ◌↔◌, map, refl, sym, ◌∙◌, ap}
-use Rattle.std.specs.Str.{chars, is_utf8, IsUtf8}
-use Rattle.std.proofs.lemmas.Bool.{eqb-true, false_from_ne_true, false≢true}
+-- A name's form.
+use Rattle.std.proofs.Common.{◌≡◌, ℕ, Bool, true, false, cond, ◌&&◌, not, nat_le, Option, None, Some, List, length, codes, IsTrue, ◌↔◌, map, refl, sym, ◌∙◌, ap}
+use Rattle.std.specs.Str.{is_utf8, IsUtf8}
+use Rattle.std.proofs.lemmas.Bool.{and_parts, false_from_ne_true, false≢true}
 use Rattle.std.proofs.lemmas.Slice.Eq.{bytes_eq-Decides}
 use Rattle.std.specs.Char.{to_ascii_lowercase}
 use Rattle.std.proofs.lemmas.Str.{is_utf8-from_IsUtf8, IsUtf8-from_is_utf8}
 use Rattle.maildirs.specs.declared.separator.Separator.{Separator}
-use Rattle.maildirs.specs.Directory.{has_form, is_inbox}
+use Rattle.maildirs.specs.Directory.{has_form, is_digest, is_inbox, is_own}
 use Rattle.maildirs.specs.Levels.{has_levels}
-use Rattle.maildirs.specs.Spelling.{name_spelled, octet_of, spelled, written}
-
-pub name_tilde : (separator : Separator) (name rest : List ℕ) → name ≡ 126 ∷ rest → name_spelled separator name ≡ codes "\\7e" ++ spelled separator rest
-name_tilde separator name rest told = ap (name_spelled separator) told
-
-plain_front : (separator : Separator) (octet : ℕ) (rest : List ℕ) (tilde : Bool) → (octet == 126) ≡ tilde → (octet ∷ rest ≢ 126 ∷ rest)
-    → cond tilde (codes "\\7e" ++ spelled separator rest) (spelled separator (octet ∷ rest)) ≡ spelled separator (octet ∷ rest)
-plain_front separator octet rest false told other = refl
-plain_front separator octet rest true told other = absurd (other (ap (λ o. o ∷ rest) (eqb-true octet 126 told)))
-
-pub name_plain : (separator : Separator) (name : List ℕ) → ((rest : List ℕ) → name ≢ 126 ∷ rest) → name_spelled separator name ≡ spelled separator name
-unfolding chars
-name_plain separator [] other = refl
-name_plain separator (octet ∷ rest) other = plain_front separator octet rest (octet == 126) refl (other rest)
+use Rattle.maildirs.specs.Listed.{is_listed}
+use Rattle.maildirs.specs.Spelling.{octet_of, written}
 
 pub no_text : (separator : Separator) (name : List ℕ) → ¬ (IsUtf8 name) → has_form separator name ≡ false
 no_text separator name none =
-    ap (λ b. b && (has_levels (octet_of separator) name && nat_le (length (written separator name)) 250)) (false_from_ne_true (is_utf8 name) (λ yes. none (IsUtf8-from_is_utf8 name yes)))
+    ap (λ b. b && (has_levels (octet_of separator) name && (is_listed name && is_own (written separator name)))) (false_from_ne_true (is_utf8 name) (λ yes. none (IsUtf8-from_is_utf8 name yes)))
 
 pub not_inbox : (test : Bool) (name : List ℕ) → (IsTrue test ↔ (map to_ascii_lowercase name ≡ map to_ascii_lowercase (codes "INBOX"))) → test ≡ false → is_inbox name ≡ false
 not_inbox test name iff fails =
@@ -33,13 +21,32 @@ not_inbox test name iff fails =
     let equal = (bytes_eq-Decides (map to_ascii_lowercase name) (map to_ascii_lowercase (codes "INBOX"))).0 same in
     false≢true (sym fails ∙ iff.1 equal))
 
-form_of_tests : (a b c : Bool) → a ≡ true → b ≡ true → c ≡ true → (a && (b && c)) ≡ true
-form_of_tests a b c one two three = rw (one, two, three) refl
+pub form_is : (separator : Separator) (name place seen : List ℕ) → IsUtf8 name → place ≡ written separator name → seen ≡ place
+    → has_levels (octet_of separator) name ≡ true → is_listed name ≡ true → is_own seen ≡ true → has_form separator name ≡ true
+form_is separator name place seen text told same levels listed own =
+    let its : is_own (written separator name) ≡ true = ap is_own (sym (same ∙ told)) ∙ own in
+    rw (is_utf8-from_IsUtf8 name text, levels, listed, its) refl
 
-pub form_is : (separator : Separator) (name place : List ℕ) → IsUtf8 name → has_levels (octet_of separator) name ≡ true → place ≡ written separator name
-    → nat_le (length place) 250 ≡ true → has_form separator name ≡ true
-form_is separator name place text levels told fits =
-    form_of_tests (is_utf8 name) (has_levels (octet_of separator) name) (nat_le (length (written separator name)) 250) (is_utf8-from_IsUtf8 name text) levels (ap (λ l. nat_le (length l) 250) (sym told) ∙ fits)
+-- what a name with a form is
+pub form_text : (separator : Separator) (name : List ℕ) → has_form separator name ≡ true → is_utf8 name ≡ true
+form_text separator name form = (and_parts (is_utf8 name) (has_levels (octet_of separator) name && (is_listed name && is_own (written separator name))) form).0
+
+form_tests : (separator : Separator) (name : List ℕ) → has_form separator name ≡ true → (has_levels (octet_of separator) name && (is_listed name && is_own (written separator name))) ≡ true
+form_tests separator name form = (and_parts (is_utf8 name) (has_levels (octet_of separator) name && (is_listed name && is_own (written separator name))) form).1
+
+pub form_levels : (separator : Separator) (name : List ℕ) → has_form separator name ≡ true → has_levels (octet_of separator) name ≡ true
+form_levels separator name form = (and_parts (has_levels (octet_of separator) name) (is_listed name && is_own (written separator name)) (form_tests separator name form)).0
+
+pub form_own : (separator : Separator) (name : List ℕ) → has_form separator name ≡ true → is_own (written separator name) ≡ true
+form_own separator name form =
+    let listed = is_listed name && is_own (written separator name) in
+    (and_parts (is_listed name) (is_own (written separator name)) (and_parts (has_levels (octet_of separator) name) listed (form_tests separator name form)).1).1
+
+pub own_short : (directory : List ℕ) → is_own directory ≡ true → nat_le (length directory) 250 ≡ true
+own_short directory own = (and_parts (nat_le (length directory) 250) (not (is_digest directory)) own).0
+
+pub own_no_digest : (directory : List ℕ) → is_own directory ≡ true → not (is_digest directory) ≡ true
+own_no_digest directory own = (and_parts (nat_le (length directory) 250) (not (is_digest directory)) own).1
 
 pub place_spelled : (form : Bool) (place spelt digest : List ℕ) → Some place ≡ cond form (Some spelt) None → place ≡ cond form spelt digest
 place_spelled true place spelt digest told = cc

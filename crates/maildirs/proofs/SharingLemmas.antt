@@ -1,9 +1,9 @@
 -- What is written tells the name: the characters come back from it, piece by piece.
-use Rattle.std.proofs.Common.{◌≡◌, ◌≤◌, ◌<◌, ◌+◌, ◌-◌, ◌*◌, ◌/◌, ◌%◌, ℕ, zero, suc, ◌==◌, nat_lt, nat_le, Bool, true, false, cond, ◌&&◌, not, List, [], ◌∷◌, ◌++◌, drop, length, codes, Option, Some, None, Ok, ◌⊎◌, inl, inr, refl, sym, ◌∙◌, ap, subst, append_assoc, arith}
+use Rattle.std.proofs.Common.{◌≡◌, ◌≤◌, ◌<◌, ◌+◌, ◌-◌, ◌*◌, ◌/◌, ◌%◌, ℕ, zero, suc, ◌==◌, nat_lt, nat_le, Bool, true, false, cond, ◌&&◌, not, List, [], ◌∷◌, ◌++◌, drop, codes, Option, Some, None, Ok, ◌⊎◌, inl, inr, refl, sym, ◌∙◌, ap, append_assoc, arith}
 use Rattle.std.proofs.Math.Utf8.{encodes, scalar, scalars, scalar_cases}
-use Rattle.std.proofs.lemmas.Bool.{and_parts, eqb-true, lt-leb, le-leb, le-ltb, lt-ltb, ltb-true, ltb-false}
-use Rattle.std.proofs.lemmas.Str.{encodes-chars, scalars-chars, chars_past_char, encode_ascii, IsUtf8-from_is_utf8}
-use Rattle.std.specs.Str.{chars, is_utf8, IsUtf8}
+use Rattle.std.proofs.lemmas.Bool.{and_parts, eqb-true, false≢true, lt-leb, le-leb, le-ltb, lt-ltb, ltb-true, ltb-false}
+use Rattle.std.proofs.lemmas.Str.{encodes-chars, scalars-chars, IsUtf8-from_is_utf8}
+use Rattle.std.specs.Str.{chars, IsUtf8}
 use Rattle.std.specs.List.{list_all, AllByRecursion}
 use Rattle.std.specs.Prelude.{slice_index}
 use Rattle.base64.specs.Rfc4648.{encode_symbols}
@@ -16,10 +16,11 @@ use Rattle.hex.proofs.HexLemmas.{decode_of-encode_lower}
 use Rattle.sha2.specs.Sha256.{sha256}
 use Rattle.octets.specs.Ascii.{is_printable}
 use Rattle.maildirs.specs.declared.separator.Separator.{Separator}
-use Rattle.maildirs.specs.Directory.{MayShare, digest_form, directory, folded, has_form, is_inbox}
+use Rattle.maildirs.specs.Directory.{MayShare, digest_form, directory, folded, has_form, is_digest, is_inbox}
 use Rattle.maildirs.specs.Levels.{has_levels}
-use Rattle.maildirs.specs.Spelling.{Piece, Printable, Run, before_pieces, high_first, modified_base64, modified_symbols, name_spelled, octet_of, piece_spelling, pieces_of, spelled, spellings, utf16_of, written}
-use Rattle.maildirs.proofs.KeptLemmas.{AreSmall, IsSound, AreSound, digest_small, modified_passes, pieces_sound}
+use Rattle.maildirs.specs.Spelling.{Piece, Printable, Run, before_pieces, cuts, high_first, modified_base64, modified_symbols, octet_of, piece_spelling, pieces_of, spelled, spellings, utf16_of, written}
+use Rattle.maildirs.proofs.KeptLemmas.{AreSmall, IsSound, AreSound, digest_is, digest_small, modified_passes, pieces_sound}
+use Rattle.maildirs.proofs.NameLemmas.{form_levels, form_own, form_text, own_no_digest}
 
 -- ---- base64 comes back
 
@@ -87,11 +88,10 @@ abbrev coded : List ℕ → Piece
 coded [] = Printable 38
 coded (symbol ∷ more) = Run (decoded (symbol ∷ more))
 
--- what stands behind `\`: of `\x` nothing that is written of a name
+-- what stands behind `\`
 abbrev read_escaped : List ℕ → Piece × List ℕ
 read_escaped [] = (Run [], [])
-read_escaped (octet ∷ rest) =
-    cond (octet == 120) (Run [], rest) (Printable (cond (octet == 55) 126 (cond (octet == 53) 92 (cond (slice_index rest 0 == 101) 46 47))), drop 1 rest)
+read_escaped (octet ∷ rest) = (Printable (cond (octet == 55) 126 (cond (octet == 53) 92 (cond (slice_index rest 0 == 101) 46 47))), drop 1 rest)
 
 -- the first piece of what is written, and the rest
 abbrev read : Separator → List ℕ → Option (Piece × List ℕ)
@@ -111,37 +111,54 @@ until_end : (text rest : List ℕ) → list_all (λ octet. not (octet == 45)) te
 until_end [] rest none = refl
 until_end (octet ∷ text) rest none = until_front (octet == 45) octet text rest none (until_end text rest)
 
-character_read : (separator : Separator) (character : ℕ) (rest : List ℕ) (cuts dot slash back ampersand : Bool)
-    → (character == octet_of separator) ≡ cuts → (character == 46) ≡ dot → (character == 47) ≡ slash → (character == 92) ≡ back → (character == 38) ≡ ampersand
-    → read separator (cond cuts (codes ".") (cond dot (codes "\\2e") (cond slash (codes "\\2f") (cond back (codes "\\5c") (cond ampersand (codes "&-") (character ∷ []))))) ++ rest)
+character_read : (separator : Separator) (begins : Bool) (character : ℕ) (rest : List ℕ) (cut dot slash back ampersand tilde : Bool)
+    → (character == octet_of separator) ≡ cut → (character == 46) ≡ dot → (character == 47) ≡ slash → (character == 92) ≡ back → (character == 38) ≡ ampersand
+    → (begins && character == 126) ≡ tilde
+    → read separator (cond cut (codes ".") (cond dot (codes "\\2e") (cond slash (codes "\\2f") (cond back (codes "\\5c") (cond ampersand (codes "&-") (cond tilde (codes "\\7e") (character ∷ [])))))) ++ rest)
     ≡ Some (Printable character, rest)
-character_read separator character rest true dot slash back ampersand is one two three four = ap (λ c. Some (Printable c, rest)) (sym (eqb-true character (octet_of separator) is))
-character_read separator character rest false true slash back ampersand is one two three four = ap (λ c. Some (Printable c, rest)) (sym (eqb-true character 46 one))
-character_read separator character rest false false true back ampersand is one two three four = ap (λ c. Some (Printable c, rest)) (sym (eqb-true character 47 two))
-character_read separator character rest false false false true ampersand is one two three four = ap (λ c. Some (Printable c, rest)) (sym (eqb-true character 92 three))
-character_read separator character rest false false false false true is one two three four = ap (λ c. Some (Printable c, rest)) (sym (eqb-true character 38 four))
-character_read separator character rest false false false false false is one two three four = rw (one, three, four) refl
+character_read separator begins character rest true dot slash back ampersand tilde is one two three four five = ap (λ c. Some (Printable c, rest)) (sym (eqb-true character (octet_of separator) is))
+character_read separator begins character rest false true slash back ampersand tilde is one two three four five = ap (λ c. Some (Printable c, rest)) (sym (eqb-true character 46 one))
+character_read separator begins character rest false false true back ampersand tilde is one two three four five = ap (λ c. Some (Printable c, rest)) (sym (eqb-true character 47 two))
+character_read separator begins character rest false false false true ampersand tilde is one two three four five = ap (λ c. Some (Printable c, rest)) (sym (eqb-true character 92 three))
+character_read separator begins character rest false false false false true tilde is one two three four five = ap (λ c. Some (Printable c, rest)) (sym (eqb-true character 38 four))
+character_read separator begins character rest false false false false false true is one two three four five =
+    ap (λ c. Some (Printable c, rest)) (sym (eqb-true character 126 (and_parts begins (character == 126) five).1))
+character_read separator begins character rest false false false false false false is one two three four five = rw (one, three, four) refl
 
 coded_back : (octets text : List ℕ) → IsSound (Run octets) → decoded text ≡ octets → coded text ≡ Run octets
 coded_back [] text sound is = absurd sound.1
 coded_back (octet ∷ more) [] sound is = absurd (let e : [] ≡ octet ∷ more = sym nothing_back ∙ is in cc)
 coded_back (octet ∷ more) (symbol ∷ others) sound is = ap Run is
 
-piece_read : (separator : Separator) (piece : Piece) (rest : List ℕ) → IsSound piece → read separator (piece_spelling separator piece ++ rest) ≡ Some (piece, rest)
-piece_read separator (Printable character) rest sound =
-    character_read separator character rest (character == octet_of separator) (character == 46) (character == 47) (character == 92) (character == 38) refl refl refl refl refl
-piece_read separator (Run octets) rest sound =
+piece_read : (separator : Separator) (begins : Bool) (piece : Piece) (rest : List ℕ) → IsSound piece → read separator (piece_spelling separator begins piece ++ rest) ≡ Some (piece, rest)
+piece_read separator begins (Printable character) rest sound =
+    character_read separator begins character rest (character == octet_of separator) (character == 46) (character == 47) (character == 92) (character == 38) (begins && character == 126) refl refl refl refl refl refl
+piece_read separator begins (Run octets) rest sound =
     let text = modified_base64 octets in
     let ends : until ((text ++ codes "-") ++ rest) ≡ (text, rest) = ap until (append_assoc text (codes "-") rest) ∙ until_end text rest (modified_passes (λ octet. not (octet == 45)) refl octets sound.0) in
     ap (λ (p : List ℕ × List ℕ). Some (coded p.0, p.1)) ends ∙ ap (λ piece. Some (piece, rest)) (coded_back octets text sound (base64_back octets sound.0))
 
-sound_all : (pieces : List Piece) → AreSound pieces → AllByRecursion IsSound pieces
-sound_all [] are = tt
-sound_all (piece ∷ more) are = (are.0, sound_all more are.1)
-
-pieces_alike : (separator : Separator) (one two : List Piece) → AreSound one → AreSound two → spellings separator one ≡ spellings separator two → one ≡ two
-pieces_alike separator one two first second =
-    alike IsSound (piece_spelling separator) (spellings separator) (read separator) refl (λ x more. refl) (λ x rest sound. piece_read separator x rest sound) one two (sound_all one first) (sound_all two second)
+pieces_alike : (separator : Separator) (begins : Bool) (one two : List Piece) → AreSound one → AreSound two
+    → spellings separator begins one ≡ spellings separator begins two → one ≡ two
+pieces_alike separator begins [] [] first second same = refl
+pieces_alike separator begins [] (piece ∷ more) first second same =
+    let e : ◌≡◌ {A = Option (Piece × List ℕ)} None (Some (piece, spellings separator (cuts separator piece) more)) =
+    ap (read separator) same ∙ piece_read separator begins piece (spellings separator (cuts separator piece) more) second.0 in
+    absurd cc
+pieces_alike separator begins (piece ∷ more) [] first second same =
+    let e : ◌≡◌ {A = Option (Piece × List ℕ)} None (Some (piece, spellings separator (cuts separator piece) more)) =
+    ap (read separator) (sym same) ∙ piece_read separator begins piece (spellings separator (cuts separator piece) more) first.0 in
+    absurd cc
+pieces_alike separator begins (piece ∷ more) (other ∷ others) first second same =
+    let behind = spellings separator (cuts separator piece) more in
+    let its = spellings separator (cuts separator other) others in
+    let e : ◌≡◌ {A = Option (Piece × List ℕ)} (Some (piece, behind)) (Some (other, its)) =
+    sym (piece_read separator begins piece behind first.0) ∙ ap (read separator) same ∙ piece_read separator begins other its second.0 in
+    let pair : ◌≡◌ {A = Piece × List ℕ} (piece, behind) (other, its) = cc in
+    let heads : piece ≡ other = ap (λ (p : Piece × List ℕ). p.0) pair in
+    let tails : spellings separator (cuts separator other) more ≡ its =
+    ap (λ one. spellings separator (cuts separator one) more) (sym heads) ∙ ap (λ (p : Piece × List ℕ). p.1) pair in
+    ap (λ one. one ∷ more) heads ∙ ap (λ l. other ∷ l) (pieces_alike separator (cuts separator other) more others first.1 second.1 tails)
 
 -- ---- one character is read
 
@@ -224,75 +241,30 @@ texts_alike one two first second same =
     let octets = sym (octets_all (chars one)) ∙ ap octets_of same ∙ octets_all (chars two) in
     sym (encodes-chars one first) ∙ ap encodes (characters_alike (chars one) (chars two) (scalars-chars one first) (scalars-chars two second) octets) ∙ encodes-chars two second
 
--- the first of the pieces, and what is written of the others
-abbrev front : Separator → List Piece → Option (Piece × List ℕ)
-front separator [] = None
-front separator (piece ∷ more) = Some (piece, spellings separator more)
-
-front_read_back : (separator : Separator) (pieces : List Piece) → AreSound pieces → read separator (spellings separator pieces) ≡ front separator pieces
-front_read_back separator [] are = refl
-front_read_back separator (piece ∷ more) are = piece_read separator piece (spellings separator more) are.0
-
-name_read_by : (separator : Separator) (tilde : Bool) (octet : ℕ) (rest : List ℕ) → (octet == 126) ≡ tilde → IsUtf8 (octet ∷ rest)
-    → read separator (cond tilde (codes "\\7e" ++ spelled separator rest) (spelled separator (octet ∷ rest))) ≡ front separator (pieces_of (chars (octet ∷ rest)))
-name_read_by separator false octet rest is text = front_read_back separator (pieces_of (chars (octet ∷ rest))) (pieces_sound (chars (octet ∷ rest)))
-name_read_by separator true octet rest is text =
-    let whole : IsUtf8 (126 ∷ rest) = subst (λ o. IsUtf8 (o ∷ rest)) (eqb-true octet 126 is) text in
-    let character : chars (126 ∷ rest) ≡ 126 ∷ chars rest = chars_past_char (126 ∷ rest) rest 126 whole (ap (λ l. l ++ rest) (sym (encode_ascii 126 (omega arith)))) in
-    sym (ap (λ o. front separator (pieces_of (chars (o ∷ rest)))) (eqb-true octet 126 is) ∙ ap (λ l. front separator (pieces_of l)) character)
-
-name_read : (separator : Separator) (name : List ℕ) → IsUtf8 name → read separator (name_spelled separator name) ≡ front separator (pieces_of (chars name))
-unfolding chars
-name_read separator [] text = refl
-name_read separator (octet ∷ rest) text = name_read_by separator (octet == 126) octet rest refl text
-
-fronts_alike : (separator : Separator) (one two : List Piece) → AreSound one → AreSound two → front separator one ≡ front separator two → one ≡ two
-fronts_alike separator [] [] first second same = refl
-fronts_alike separator [] (piece ∷ more) first second same = absurd cc
-fronts_alike separator (piece ∷ more) [] first second same = absurd cc
-fronts_alike separator (piece ∷ more) (other ∷ others) first second same =
-    let pair : ◌≡◌ {A = Piece × List ℕ} (piece, spellings separator more) (other, spellings separator others) = cc in
-    ap (λ (p : Piece × List ℕ). p.0 ∷ more) pair ∙ ap (λ l. other ∷ l) (pieces_alike separator more others first.1 second.1 (ap (λ (p : Piece × List ℕ). p.1) pair))
-
-names_alike : (separator : Separator) (one two : List ℕ) → IsUtf8 one → IsUtf8 two → name_spelled separator one ≡ name_spelled separator two → one ≡ two
+names_alike : (separator : Separator) (one two : List ℕ) → IsUtf8 one → IsUtf8 two → spelled separator one ≡ spelled separator two → one ≡ two
 names_alike separator one two first second same =
     texts_alike one two first second
-    (fronts_alike separator (pieces_of (chars one)) (pieces_of (chars two)) (pieces_sound (chars one)) (pieces_sound (chars two))
-    (sym (name_read separator one first) ∙ ap (read separator) same ∙ name_read separator two second))
+    (pieces_alike separator true (pieces_of (chars one)) (pieces_of (chars two)) (pieces_sound (chars one)) (pieces_sound (chars two)) same)
 
 -- ---- directories
-
-form_text : (separator : Separator) (name : List ℕ) → has_form separator name ≡ true → IsUtf8 name
-form_text separator name form = IsUtf8-from_is_utf8 name (and_parts (is_utf8 name) (has_levels (octet_of separator) name && nat_le (length (written separator name)) 250) form).0
-
-form_levels : (separator : Separator) (name : List ℕ) → has_form separator name ≡ true → has_levels (octet_of separator) name ≡ true
-form_levels separator name form =
-    let fits = nat_le (length (written separator name)) 250 in
-    (and_parts (has_levels (octet_of separator) name) fits (and_parts (is_utf8 name) (has_levels (octet_of separator) name && fits) form).1).0
 
 no_text_utf8 : IsUtf8 []
 no_text_utf8 = ([], (refl, refl))
 
 -- no name that has a form is written as INBOX is
 form_no_inbox : (separator : Separator) (name : List ℕ) → has_form separator name ≡ true → codes "." ≡ written separator name → ⊥
+unfolding chars
 form_no_inbox separator name form same =
-    let none : [] ≡ name_spelled separator name = cc in
-    let empty : [] ≡ name = names_alike separator [] name no_text_utf8 (form_text separator name form) none in
+    let none : [] ≡ spelled separator name = cc in
+    let empty : [] ≡ name = names_alike separator [] name no_text_utf8 (IsUtf8-from_is_utf8 name (form_text separator name form)) none in
     let levels : has_levels (octet_of separator) [] ≡ true = ap (has_levels (octet_of separator)) empty ∙ form_levels separator name form in
     cc
-
-no_sound_front : (separator : Separator) (pieces : List Piece) (rest : List ℕ) → AreSound pieces → ◌≡◌ {A = Option (Piece × List ℕ)} (Some (Run [], rest)) (front separator pieces) → ⊥
-no_sound_front separator [] rest are same = cc
-no_sound_front separator (piece ∷ more) rest are same =
-    let pair : ◌≡◌ {A = Piece × List ℕ} (Run [], rest) (piece, spellings separator more) = cc in
-    (subst IsSound (sym (ap (λ (p : Piece × List ℕ). p.0) pair)) are.0).1
 
 -- nor as a digest is
 form_no_digest : (separator : Separator) (name other : List ℕ) → has_form separator name ≡ true → digest_form other ≡ written separator name → ⊥
 form_no_digest separator name other form same =
-    let text = form_text separator name form in
-    let behind : codes "\\x" ++ encode_lower (sha256 other) ≡ name_spelled separator name = cc in
-    no_sound_front separator (pieces_of (chars name)) (encode_lower (sha256 other)) (pieces_sound (chars name)) (ap (read separator) behind ∙ name_read separator name text)
+    let own = own_no_digest (written separator name) (form_own separator name form) in
+    false≢true (ap not (sym (digest_is other)) ∙ ap (λ directory. not (is_digest directory)) same ∙ own)
 
 digests_alike : (one two : List ℕ) → digest_form one ≡ digest_form two → sha256 one ≡ sha256 two
 digests_alike one two same =
@@ -310,8 +282,8 @@ shared_by separator one two true false form false a b c d same = absurd cc
 shared_by separator one two false true true its a b c d same = absurd (form_no_inbox separator (folded separator one) c (sym same))
 shared_by separator one two false true false its a b c d same = absurd cc
 shared_by separator one two false false true true a b c d same =
-    let names : name_spelled separator (folded separator one) ≡ name_spelled separator (folded separator two) = cc in
-    inl (names_alike separator (folded separator one) (folded separator two) (form_text separator (folded separator one) c) (form_text separator (folded separator two) d) names)
+    let names : spelled separator (folded separator one) ≡ spelled separator (folded separator two) = cc in
+    inl (names_alike separator (folded separator one) (folded separator two) (IsUtf8-from_is_utf8 _ (form_text separator (folded separator one) c)) (IsUtf8-from_is_utf8 _ (form_text separator (folded separator two) d)) names)
 shared_by separator one two false false true false a b c d same = absurd (form_no_digest separator (folded separator one) (folded separator two) c (sym same))
 shared_by separator one two false false false true a b c d same = absurd (form_no_digest separator (folded separator two) (folded separator one) d same)
 shared_by separator one two false false false false a b c d same = inr (inr (c, d, digests_alike (folded separator one) (folded separator two) same))

@@ -1,10 +1,13 @@
 -- The directory of a folder in a Maildir.
-use Rattle.std.specs.Prelude.{◌≡◌, ◌⊎◌, ℕ, Bool, true, false, ◌==◌, ◌&&◌, nat_le, cond, List, [], ◌∷◌, ◌++◌, take, drop, length, codes}
+use Rattle.std.specs.Prelude.{◌≡◌, ◌⊎◌, ℕ, Bool, true, false, ◌==◌, ◌&&◌, ◌||◌, not, nat_le, cond, List, [], ◌∷◌, ◌++◌, take, drop, length, codes}
+use Rattle.std.specs.Int.{is_in_range}
+use Rattle.std.specs.List.{list_all, starts_with}
 use Rattle.std.specs.Str.{is_utf8, str_eq_ignore_ascii_case}
 use Rattle.sha2.specs.Sha256.{sha256}
 use Rattle.hex.specs.Hex.{encode_lower}
 use Rattle.maildirs.specs.declared.separator.Separator.{Separator}
 use Rattle.maildirs.specs.Levels.{has_levels}
+use Rattle.maildirs.specs.Listed.{is_listed}
 use Rattle.maildirs.specs.Spelling.{octet_of, written}
 
 -- INBOX in any ASCII case
@@ -24,13 +27,29 @@ is_below_inbox separator name = is_inbox (take 5 name) && begins_with (octet_of 
 abbrev pub folded : Separator → List ℕ → List ℕ
 folded separator name = cond (is_below_inbox separator name) (codes "INBOX" ++ drop 5 name) name
 
--- UTF-8 without an empty level, spelled by at most 250 octets
-abbrev pub has_form : Separator → List ℕ → Bool
-has_form separator name = is_utf8 name && (has_levels (octet_of separator) name && nat_le (length (written separator name)) 250)
+-- a hexadecimal digit in lower case
+abbrev pub is_lower_digit : ℕ → Bool
+is_lower_digit octet = is_in_range 48 57 octet || is_in_range 97 102 octet
 
--- `.\x` and the SHA-256 of the name in hexadecimal digits
+-- 64 hexadecimal digits in lower case, as a SHA-256 is written
+abbrev pub is_sha256 : List ℕ → Bool
+is_sha256 text = length text == 64 && list_all is_lower_digit text
+
+-- whether a directory is one that a digest may have: `.sha256-` and 64 such digits
+abbrev pub is_digest : List ℕ → Bool
+is_digest directory = starts_with (λ one two. one == two) directory (codes ".sha256-") && is_sha256 (drop 8 directory)
+
+-- whether a directory that spells a name is for that name: at most 250 octets, and none that a digest may have
+abbrev pub is_own : List ℕ → Bool
+is_own directory = nat_le (length directory) 250 && not (is_digest directory)
+
+-- a name that its directory spells: UTF-8, no empty level, listed as it is, with a directory of its own
+abbrev pub has_form : Separator → List ℕ → Bool
+has_form separator name = is_utf8 name && (has_levels (octet_of separator) name && (is_listed name && is_own (written separator name)))
+
+-- `.sha256-` and the SHA-256 of the name in hexadecimal digits
 abbrev pub digest_form : List ℕ → List ℕ
-digest_form name = codes ".\\x" ++ encode_lower (sha256 name)
+digest_form name = codes ".sha256-" ++ encode_lower (sha256 name)
 
 -- the directory of a name that isn't INBOX, as IMAP has it
 abbrev pub named : Separator → List ℕ → List ℕ

@@ -1,4 +1,5 @@
 pub mod Levels
+pub mod Listed
 pub mod Spelling
 pub mod Directory
 pub mod Inside

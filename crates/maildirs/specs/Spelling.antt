@@ -1,5 +1,5 @@
 -- How the characters of a name are written in a directory's name.
-use Rattle.std.specs.Prelude.{◌≡◌, ℕ, false, ◌==◌, cond, List, [], ◌∷◌, ◌++◌, codes}
+use Rattle.std.specs.Prelude.{◌≡◌, ℕ, Bool, true, false, ◌==◌, ◌&&◌, cond, List, [], ◌∷◌, ◌++◌, codes}
 use Rattle.std.specs.Int.{w16, to_be_bytes}
 use Rattle.std.specs.Char.Escape.{encode_utf16}
 use Rattle.std.specs.Str.{chars}
@@ -54,14 +54,16 @@ pieces_of [] = []
 pieces_of (character ∷ more) =
     cond (is_printable character) (Printable character ∷ pieces_of more) (before_pieces (utf16_of character) (pieces_of more))
 
--- a character from 32 to 126: the separator is `.`, the other one of `.` and `/`, and `\`, are escaped
-abbrev pub spelling : Separator → ℕ → List ℕ
-spelling separator character =
+-- a character from 32 to 126, told whether it begins a level: the separator is `.`; the other one of `.` and `/`, `\`, and a `~`
+-- that begins a level are escaped
+abbrev pub spelling : Separator → Bool → ℕ → List ℕ
+spelling separator begins character =
     cond (character == octet_of separator) (codes ".")
     (cond (character == 46) (codes "\\2e")
     (cond (character == 47) (codes "\\2f")
     (cond (character == 92) (codes "\\5c")
-    (cond (character == 38) (codes "&-") (character ∷ [])))))
+    (cond (character == 38) (codes "&-")
+    (cond (begins && character == 126) (codes "\\7e") (character ∷ []))))))
 
 -- a run in modified base64, between `&` and `-`
 abbrev pub shifted : List ℕ → List ℕ
@@ -72,26 +74,25 @@ abbrev pub run_spelled : List ℕ → List ℕ
 run_spelled [] = []
 run_spelled (octet ∷ more) = shifted (octet ∷ more)
 
--- a piece as it is written
-abbrev pub piece_spelling : Separator → Piece → List ℕ
-piece_spelling separator (Printable character) = spelling separator character
-piece_spelling separator (Run octets) = shifted octets
+-- a piece as it is written, told whether it begins a level
+abbrev pub piece_spelling : Separator → Bool → Piece → List ℕ
+piece_spelling separator begins (Printable character) = spelling separator begins character
+piece_spelling separator begins (Run octets) = shifted octets
 
--- pieces as they are written
-abbrev pub spellings : Separator → List Piece → List ℕ
-spellings separator [] = []
-spellings separator (piece ∷ more) = piece_spelling separator piece ++ spellings separator more
+-- whether a piece is the separator, so that what follows begins a level
+abbrev pub cuts : Separator → Piece → Bool
+cuts separator (Printable character) = character == octet_of separator
+cuts separator (Run octets) = false
 
--- a text as it is written
+-- pieces as they are written, told whether the first one begins a level
+abbrev pub spellings : Separator → Bool → List Piece → List ℕ
+spellings separator begins [] = []
+spellings separator begins (piece ∷ more) = piece_spelling separator begins piece ++ spellings separator (cuts separator piece) more
+
+-- a text of whole levels as it is written
 abbrev pub spelled : Separator → List ℕ → List ℕ
-spelled separator text = spellings separator (pieces_of (chars text))
-
--- a name as it is written: a `~` at its front is escaped
-abbrev pub name_spelled : Separator → List ℕ → List ℕ
-name_spelled separator [] = []
-name_spelled separator (octet ∷ rest) =
-    cond (octet == 126) (codes "\\7e" ++ spelled separator rest) (spelled separator (octet ∷ rest))
+spelled separator text = spellings separator true (pieces_of (chars text))
 
 -- the directory that spells a name
 abbrev pub written : Separator → List ℕ → List ℕ
-written separator name = codes "." ++ name_spelled separator name
+written separator name = codes "." ++ spelled separator name

@@ -1,9 +1,11 @@
 //! The directory of a folder.
 ghost use Rattle.std.specs.Prelude.{◌≡◌, if◌then◌else◌, IfOk};
-ghost use Rattle.maildirs.specs.Directory.{begins_with, digest_form, directory, folded, has_form, named};
+ghost use Rattle.std.specs.List.{list_all};
+ghost use Rattle.maildirs.specs.Directory.{begins_with, digest_form, directory, folded, has_form, is_digest, is_lower_digit, is_own, is_sha256, named};
 ghost use Rattle.maildirs.specs.Spelling.{octet_of, written};
 
 use crate::level::has_levels;
+use crate::listed::is_listed;
 use crate::separator::Separator;
 use crate::spelling::written;
 use octets::Octets;
@@ -13,11 +15,16 @@ use std::alloc::{AllocError, Global};
 /// How many octets a directory's name has at most.
 const MAX_DIRECTORY_LEN: usize = 250;
 
+/// How many hexadecimal digits a SHA-256 has.
+const DIGEST_DIGITS: usize = 64;
+
 /// The directory, within a user's Maildir, of the folder with this name, as Maildir++ has it: `.` for INBOX, and else
 /// one that begins with `.`, of 32 to 126 without `/`, and of at most 250 octets. A first level that is INBOX but for case
 /// is `INBOX`, since IMAP has one INBOX.
 ///
-/// A name that is empty or has an empty level, isn't UTF-8 or has a longer directory gets one by its digest. Time and memory are linear in the name.
+/// A name that is empty or has an empty level, isn't UTF-8 or has a longer directory gets one by its digest; so does one that Dovecot 2.3 doesn't
+/// list as it is, with NUL or a `\` before two hexadecimal digits of an octet over 127, and one whose directory a digest may have. Time and
+/// memory are linear in the name.
 pub fn directory_of(alloc: Global, name: &[u8], separator: Separator) -> Result<Octets, AllocError>
     ensures { IfOk result (λ place. place ≡ directory separator name.now) }
 {
@@ -77,24 +84,58 @@ fn spelled_form(
     let Ok(text) = str::from_utf8(name) else {
         return Ok(None);
     };
-    if !has_levels(name, separator.octet()) {
+    if !has_levels(name, separator.octet()) || !is_listed(name) {
         return Ok(None);
     }
     let place = Octets::from_vec(written(alloc, text, separator)?.into_bytes());
-    if place.len() > MAX_DIRECTORY_LEN {
+    if !is_own(place.as_slice()) {
         return Ok(None);
     }
     Ok(Some(place))
 }
 
-/// `.\x` and the name's SHA-256 in hexadecimal: 67 octets.
+/// Whether a directory that spells a name is for that name: not too long, and none that a digest may have.
+fn is_own(directory: &[u8]) -> bool
+    ensures { result ≡ is_own directory.now }
+{
+    directory.len() <= MAX_DIRECTORY_LEN && !is_digest(directory)
+}
+
+/// Whether a directory is `.sha256-` and 64 hexadecimal digits in lower case.
+fn is_digest(directory: &[u8]) -> bool
+    ensures { result ≡ is_digest directory.now }
+{
+    directory.starts_with(b".sha256-") && is_sha256(directory.split_at(8).1)
+}
+
+/// 64 hexadecimal digits in lower case.
+fn is_sha256(text: &[u8]) -> bool
+    ensures { result ≡ is_sha256 text.now }
+{
+    text.len() == DIGEST_DIGITS && are_lower_digits(text)
+}
+
+fn are_lower_digits(text: &[u8]) -> bool
+    ensures { result ≡ list_all is_lower_digit text.now }
+{
+    text.iter().all(|octet| is_lower_digit(*octet))
+}
+
+/// A hexadecimal digit in lower case.
+fn is_lower_digit(octet: u8) -> bool
+    ensures { result ≡ is_lower_digit octet }
+{
+    matches!(octet, b'0'..=b'9' | b'a'..=b'f')
+}
+
+/// `.sha256-` and the name's SHA-256 in hexadecimal: 72 octets.
 fn digest_form(alloc: Global, name: &[u8]) -> Result<Octets, AllocError>
     ensures { IfOk result (λ place. place ≡ digest_form name.now) }
 {
     let mut hasher = Sha256::new();
     hasher.update(name);
     let digest = hex::encode(alloc, hasher.finalize())?;
-    let mut place = Octets::from_slice(alloc, b".\\x")?;
+    let mut place = Octets::from_slice(alloc, b".sha256-")?;
     place.extend_from_slice(digest.as_bytes())?;
     Ok(place)
 }

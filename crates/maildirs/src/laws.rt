@@ -8,7 +8,7 @@ ghost use Rattle.maildirs.specs.Spelling.{octet_of, spelled};
 /// No directory lies outside of the Maildir, whatever the name.
 pub fn directories_inside()
     ensures inside { (separator : Separator) (name : List ℕ) → IsInside (directory separator name) }
-    ensures digest { (name : List ℕ) → length (digest_form name) ≡ 67 }
+    ensures digest { (name : List ℕ) → length (digest_form name) ≡ 72 }
 {}
 
 /// Two names have two directories, but for INBOX, or a first level INBOX, in letters of either case, and but for a collision of SHA-256.

@@ -4,6 +4,7 @@
 mod directory;
 pub mod laws;
 mod level;
+mod listed;
 mod separator;
 mod spelling;
 

@@ -1,5 +1,5 @@
 //! How the characters of a name are written in a directory's name.
-ghost use Rattle.std.specs.Prelude.{◌≡◌, ◌≢◌, ℕ, List, [], ◌∷◌, ◌++◌, IsTrue, IfOk, OnOk, MatchOption, string_bytes};
+ghost use Rattle.std.specs.Prelude.{◌≡◌, [], ◌++◌, IsTrue, IfOk, OnOk, string_bytes};
 ghost use Rattle.std.specs.Int.{w16, to_be_bytes};
 ghost use Rattle.octets.specs.Ascii.{is_printable};
 ghost use Rattle.maildirs.specs.Spelling.{IsModified, run_spelled, spelled, spelling, octet_of, utf16_of, written};
@@ -10,33 +10,17 @@ use base64::engine::GeneralPurpose;
 use base64::engine::general_purpose::NO_PAD;
 use std::alloc::{AllocError, Global};
 
-/// The directory of a name that is UTF-8: `.` and its characters as they are written, a `~` at the front apart.
+/// The directory of a name that is UTF-8: `.` and its characters as they are written.
 /// Time and memory are linear in the name.
 pub(crate) fn written(alloc: Global, name: &str, separator: Separator) -> Result<String, AllocError>
     ensures { IfOk result (λ directory. string_bytes directory ≡ written separator name.now) }
 {
     let mut directory = String::from_str(alloc, ".")?;
-    match after_tilde(name) {
-        Some(rest) => {
-            directory.push_str("\\7e")?;
-            push_characters(alloc, &mut directory, rest, separator)?;
-            Ok(directory)
-        }
-        None => {
-            push_characters(alloc, &mut directory, name, separator)?;
-            Ok(directory)
-        }
-    }
+    push_characters(alloc, &mut directory, name, separator)?;
+    Ok(directory)
 }
 
-/// What follows the `~` that begins the name, if one does.
-fn after_tilde(name: &str) -> Option<&str>
-    ensures { MatchOption result ((rest : List ℕ) → name.now ≢ 126 ∷ rest) (λ rest. name.now ≡ 126 ∷ rest.now) }
-{
-    name.strip_prefix('~')
-}
-
-/// Appends the characters of a text as they are written.
+/// Appends the characters of a text of whole levels as they are written.
 fn push_characters(
     alloc: Global,
     directory: &mut String,
@@ -47,12 +31,15 @@ fn push_characters(
 {
     let engine = modified_base64();
     let mut run = Vec::new(alloc);
+    let mut begins = true;
     for character in text.chars() {
         if is_printable(character) {
             push_run(&engine, directory, &mut run)?;
-            push_printable(directory, character, separator)?;
+            push_printable(directory, character, separator, begins)?;
+            begins = character == char::from(separator.octet());
         } else {
             push_units(&mut run, character)?;
+            begins = false;
         }
     }
     push_run(&engine, directory, &mut run)?;
@@ -94,14 +81,15 @@ fn push_run(
     Ok(())
 }
 
-/// Appends a character from 32 to 126 as it is written.
+/// Appends a character from 32 to 126 as it is written, told whether it begins a level.
 fn push_printable(
     directory: &mut String,
     character: char,
     separator: Separator,
+    begins: bool,
 ) -> Result<(), AllocError>
     requires { IsTrue (is_printable character) }
-    ensures { OnOk result (string_bytes directory.new ≡ string_bytes directory.old ++ spelling separator character) }
+    ensures { OnOk result (string_bytes directory.new ≡ string_bytes directory.old ++ spelling separator begins character) }
 {
     if character == char::from(separator.octet()) {
         return directory.push_str(".");
@@ -111,6 +99,7 @@ fn push_printable(
         '/' => directory.push_str("\\2f"),
         '\\' => directory.push_str("\\5c"),
         '&' => directory.push_str("&-"),
+        '~' if begins => directory.push_str("\\7e"),
         _ => directory.push(character),
     }
 }

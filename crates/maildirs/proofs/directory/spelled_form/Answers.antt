@@ -1,4 +1,4 @@
-use Rattle.std.proofs.Common.{◌≡◌, ◌≤◌, true, length, ap, sym, ◌∙◌, le-leb, refl, arith, rules}
+use Rattle.std.proofs.Common.{◌≡◌, true, ap, sym, ◌∙◌, refl, arith, rules}
 use Rattle.std.proofs.lemmas.Grind.{common_steps}
 use Rattle.maildirs.specs.Directory.{has_form}
 use Rattle.maildirs.specs.Levels.{has_levels}
@@ -11,9 +11,9 @@ returns-in_default c = rw (no_text c.args.separator c.args.name.now c.in_default
 
 pub returns : goal.returns
 returns c =
-    let levels : has_levels (octet_of c.args.separator) c.args.name.now ≡ true = ap (λ octet. has_levels octet c.args.name.now) (sym c.octet.ensures) ∙ sym c.if-not-has_levels.ensures in
     let told : c.from_vec-place.result ≡ written c.args.separator c.args.name.now =
     first_of (cc (c.from_vec-place.ensures, c.into_bytes.ensures.value, c.in_ok-written.ensures, ap (written c.args.separator) c.in-Ok.ensures.cases.0), search rules, grind (arith, common_steps)) in
-    let small : length c.from_vec-place.result ≤ 250 = omega (arith, c.len.ensures) in
-    let form : has_form c.args.separator c.args.name.now ≡ true = form_is c.args.separator c.args.name.now c.from_vec-place.result c.in-Ok.ensures.cases.1 levels told (le-leb _ _ small) in
+    let levels : has_levels (octet_of c.args.separator) c.args.name.now ≡ true = ap (λ octet. has_levels octet c.args.name.now) (sym c.octet.ensures) ∙ sym c.if-not-has_levels.ensures in
+    let form : has_form c.args.separator c.args.name.now ≡ true =
+    form_is c.args.separator c.args.name.now _ _ c.in-Ok.ensures.cases.1 told c.as_slice.ensures levels (sym c.if-not-is_listed.ensures) (sym c.if-not-is_own.ensures) in
     rw form (cc told)

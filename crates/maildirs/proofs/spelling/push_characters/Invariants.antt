@@ -3,4 +3,4 @@ use Rattle.maildirs.proofs.PieceLemmas.{IsOnTheWay}
 use Rattle.maildirs.proofs.spelling.push_characters.Given as goal
 
 abbrev pub invariant-loop-character : goal.invariant-loop-character
-invariant-loop-character l = IsOnTheWay l.separator (string_bytes l.initial.directory) (string_bytes l.directory) l.run.items l.yielded
+invariant-loop-character l = IsOnTheWay l.separator (string_bytes l.initial.directory) (string_bytes l.directory) l.run.items l.yielded l.begins
