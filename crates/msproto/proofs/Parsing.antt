@@ -1,26 +1,27 @@
 -- What a text spells is read from it.
-use Rattle.std.proofs.Common.{◌≡◌, ℕ, suc, ◌<◌, ◌^◌, inl, inr, Bool, true, false, not, ◌||◌, ◌==◌, List, [], ◌∷◌, ◌++◌, length, take, drop, Some, None, refl, sym, ap, ◌∙◌, subst, arith, append_assoc}
-use Rattle.std.specs.Prelude.{map, fold, nat_lt, nat_le}
+use Rattle.std.proofs.Common.{◌≡◌, ℕ, suc, ◌<◌, ◌^◌, inl, inr, Bool, true, false, not, ◌||◌, ◌==◌, List, [], ◌∷◌, ◌++◌, length, take, Option, Some, None, refl, sym, ap, ◌∙◌, subst, arith, append_assoc}
+use Rattle.std.specs.Prelude.{map, fold, nat_lt}
 use Rattle.std.specs.Char.{to_ascii_uppercase, is_ascii_digit}
-use Rattle.std.proofs.lemmas.Bool.{ne_eqb, eq-eqb, lt-ltb, le-leb, and_parts, or_parts, or_from, not-true, both_ways}
-use Rattle.std.proofs.lemmas.List.{take_at, drop_at, length-append}
+use Rattle.std.proofs.lemmas.Bool.{ne_eqb, eq-eqb, lt-ltb, and_parts, or_parts, or_from, not-true, both_ways}
+use Rattle.std.proofs.lemmas.List.{take_at, drop_at}
 use Rattle.octets.specs.Decimal.{with_digit}
 use Rattle.msproto.specs.declared.commands.Command.{Command}
 use Rattle.msproto.specs.declared.commands.Command.TheVariants.{Capability, Noop, Logout, Authenticate, Unauthenticate, HaveSpace, PutScript, CheckScript, ListScripts, SetActive, GetScript, DeleteScript, RenameScript, Response}
 use Rattle.msproto.specs.Arguments.{Argument, inside, AreDigits, IsNumeral, IsString, AreArguments}
 use Rattle.msproto.specs.Commands.{Form, Named, Alone, form_of, IsFormed, IsSpelling}
 use Rattle.msproto.specs.Machine.{Params, rows, params_in, verbs, verb_in}
-use Rattle.msproto.specs.Values.{with_octet, quoted_in, number_in, octets_in, literal_in, string_in, size_in, text_in, name_length, verb_command, command_in}
+use Rattle.msproto.specs.declared.verb.Verb.{Verb}
+use Rattle.msproto.specs.Values.{Read, with_octet, quoted_in, number_in, octets_in, literal_in, string_in, size_in, text_in, maybe_text_in, name_length, command_of, line_command, command_in}
 use Rattle.msproto.proofs.Runs.{fold_grows}
 use Rattle.msproto.proofs.Names.{Rows, lacks, rows_lack, params_step, filled, IsFilled}
 
 -- ---- strings
 
-quoted_back : (v rest : List ℕ) → quoted_in false (inside v ++ 34 ∷ rest) ≡ Some (v, rest)
+quoted_back : (v rest : List ℕ) → quoted_in false (inside v ++ 34 ∷ rest) ≡ (v, rest)
 quoted_back [] rest = refl
 quoted_back (x ∷ v) rest = go (x == 34 || x == 92) refl (quoted_back v rest)
   where
-    go : (b : Bool) → (x == 34 || x == 92) ≡ b → quoted_in false (inside v ++ 34 ∷ rest) ≡ Some (v, rest) → quoted_in false (inside (x ∷ v) ++ 34 ∷ rest) ≡ Some (x ∷ v, rest)
+    go : (b : Bool) → (x == 34 || x == 92) ≡ b → quoted_in false (inside v ++ 34 ∷ rest) ≡ (v, rest) → quoted_in false (inside (x ∷ v) ++ 34 ∷ rest) ≡ (x ∷ v, rest)
     go true e ih = rw e (ap (with_octet x) ih)
     go false e ih =
         let parts = or_parts (x == 34) (x == 92) e in
@@ -37,12 +38,10 @@ numeral_back n [] y u h lt stop = absurd h
 numeral_back n (d ∷ ds) y u h lt stop =
     number_back (d ∷ ds) 0 y u h.0 (omega (arith, h.2, lt)) stop ∙ ap (λ (m : ℕ). (m, y ∷ u)) h.2
 
-octets_back : (v rest : List ℕ) → octets_in (length v) (v ++ rest) ≡ Some (v, rest)
-octets_back v rest =
-    let fits : nat_le (length v) (length (v ++ rest)) ≡ true = le-leb _ _ (omega (arith, length-append v rest)) in
-    rw (fits, take_at v rest (length v) refl, drop_at v rest (length v) refl) refl
+octets_back : (v rest : List ℕ) → octets_in (length v) (v ++ rest) ≡ (v, rest)
+octets_back v rest = rw (take_at v rest (length v) refl, drop_at v rest (length v) refl) refl
 
-pub string_back : (v first rest : List ℕ) → IsString v first → string_in (first ++ rest) ≡ Some (v, rest)
+pub string_back : (v first rest : List ℕ) → IsString v first → string_in (first ++ rest) ≡ (v, rest)
 string_back v first rest (inl q) =
     ap (λ (t : List ℕ). string_in (t ++ rest)) q.written
     ∙ ap (quoted_in false) (append_assoc (inside v) (34 ∷ []) rest)
@@ -53,25 +52,33 @@ string_back v first rest (inr l) =
     ∙ ap literal_in (numeral_back (length v) l.digits 43 (125 ∷ 13 ∷ 10 ∷ (v ++ rest)) l.numeral l.short refl)
     ∙ octets_back v rest
 
-text_back : (v first rest t : List ℕ) → IsString v first → t ≡ 32 ∷ (first ++ rest) → text_in t ≡ Some (v, rest)
+text_back : (v first rest t : List ℕ) → IsString v first → t ≡ 32 ∷ (first ++ rest) → text_in t ≡ (v, rest)
 text_back v first rest t s e = ap text_in e ∙ string_back v first rest s
+
+maybe_back : (v first rest t : List ℕ) → IsString v first → t ≡ 32 ∷ (first ++ rest) → maybe_text_in t ≡ Some v
+maybe_back v first rest t s e = ap maybe_text_in e ∙ ap (λ (read : Read). Some read.0) (string_back v first rest s)
 
 -- ---- arguments
 
+-- what a row of verbs says of the command after its name
+abbrev of_verb : Option Verb → List ℕ → Option Command
+of_verb None rest = None
+of_verb (Some verb) rest = Some (command_of verb rest)
+
 -- what stands after a command's name gives the command
 abbrev IsRead : Form → Command → List ℕ → Type 0
-IsRead (Named word arguments) command rest = AreArguments arguments rest → verb_command (verb_in verbs word) rest ≡ Some command
+IsRead (Named word arguments) command rest = AreArguments arguments rest → of_verb (verb_in verbs word) rest ≡ Some command
 IsRead (Alone value) command rest = Unit {0}
 
 read_back : (c : Command) (rest : List ℕ) → IsRead (form_of c) c rest
 read_back Capability rest = λ h. refl
 read_back (Noop None) rest = λ h. rw h refl
-read_back (Noop (Some tag)) rest = λ h. let e = text_back tag h.0 h.1 rest h.2 h.4 in rw e refl
+read_back (Noop (Some tag)) rest = λ h. let e = maybe_back tag h.0 h.1 rest h.2 h.4 in rw e refl
 read_back Logout rest = λ h. refl
 read_back (Authenticate mechanism None) rest = λ h. let e = text_back mechanism h.0 h.1 rest h.2 h.4 in rw (e, h.3) refl
 read_back (Authenticate mechanism (Some response)) rest = λ h.
     let e = text_back mechanism h.0 h.1 rest h.2 h.4 in
-    let d = text_back response h.3.0 h.3.1 h.1 h.3.2 h.3.4 in
+    let d = maybe_back response h.3.0 h.3.1 h.1 h.3.2 h.3.4 in
     rw (e, d) refl
 read_back Unauthenticate rest = λ h. refl
 read_back (HaveSpace name size) rest = λ h.
@@ -132,23 +139,32 @@ arguments_end (a ∷ more) rest h = rw h.4 refl
 
 -- ---- commands
 
-formed_back : (pending : Bool) (form : Form) (c : Command) (text : List ℕ) → form ≡ form_of c → IsFilled form → ((rest : List ℕ) → IsRead form c rest) → IsFormed pending form text → command_in pending text ≡ Some c
+-- the command of a line, by what its verb and what stands after the name give
+line_back : (name rest text : List ℕ) (o : Option Verb) (c : Command) → text ≡ name ++ rest → name_length text ≡ length name → of_verb o rest ≡ Some c → line_command o text ≡ c
+line_back name rest text None c e stop back = absurd cc
+line_back name rest text (Some verb) c e stop back =
+    let same : command_of verb rest ≡ c = cc in
+    rw stop (rw e (rw (drop_at name rest (length name) refl) same))
+
+formed_back : (pending : Bool) (form : Form) (c : Command) (text : List ℕ) → form ≡ form_of c → IsFilled form → ((rest : List ℕ) → IsRead form c rest) → IsFormed pending form text → command_in pending text ≡ c
 formed_back false (Named word arguments) c text e f back h =
     let named : params_in rows (map to_ascii_uppercase h.name) ≡ Some f.0 = ap (params_in rows) h.named ∙ f.1 in
     let stop : name_length (h.name ++ h.rest) ≡ length h.name =
     name_back h.name h.rest (named_lacks_space (map to_ascii_uppercase h.name) f.0 named) (named_lacks_return (map to_ascii_uppercase h.name) f.0 named) (arguments_end arguments h.rest h.filled) in
-    ap (command_in false) h.written
-    ∙ ap (λ (n : ℕ). verb_command (verb_in verbs (map to_ascii_uppercase (take n (h.name ++ h.rest)))) (drop n (h.name ++ h.rest))) stop
-    ∙ ap (λ (t : List ℕ). verb_command (verb_in verbs (map to_ascii_uppercase t)) (drop (length h.name) (h.name ++ h.rest))) (take_at h.name h.rest (length h.name) refl)
-    ∙ ap (λ (t : List ℕ). verb_command (verb_in verbs (map to_ascii_uppercase h.name)) t) (drop_at h.name h.rest (length h.name) refl)
-    ∙ ap (λ (t : List ℕ). verb_command (verb_in verbs t) h.rest) h.named
-    ∙ back h.rest h.filled
+    let ends : name_length text ≡ length h.name = ap name_length h.written ∙ stop in
+    let word_is : map to_ascii_uppercase (take (name_length text) text) ≡ word =
+    ap (λ (n : ℕ). map to_ascii_uppercase (take n text)) ends
+    ∙ ap (λ (t : List ℕ). map to_ascii_uppercase (take (length h.name) t)) h.written
+    ∙ ap (map to_ascii_uppercase) (take_at h.name h.rest (length h.name) refl)
+    ∙ h.named in
+    ap (λ (w : List ℕ). line_command (verb_in verbs w) text) word_is
+    ∙ line_back h.name h.rest text (verb_in verbs word) c h.written ends (back h.rest h.filled)
 formed_back false (Alone value) c text e f back h = absurd h
 formed_back true (Named word arguments) c text e f back h = absurd h
 formed_back true (Alone value) (Response v) text e f back h =
     let same : value ≡ v = cc in
     let read = ap string_in h.written ∙ string_back value h.first (13 ∷ 10 ∷ []) h.string in
-    rw read (ap (λ (u : List ℕ). Some (Response u)) same)
+    rw read (ap (λ (u : List ℕ). Response u) same)
 formed_back true (Alone value) (Noop None) text e f back h = absurd cc
 formed_back true (Alone value) (Noop (Some tag)) text e f back h = absurd cc
 formed_back true (Alone value) (Authenticate mechanism None) text e f back h = absurd cc
@@ -156,5 +172,5 @@ formed_back true (Alone value) (Authenticate mechanism (Some response)) text e f
 formed_back true (Alone value) _ text e f back h = absurd cc
 
 -- the command of a spelling is read from it
-pub spelling_back : (pending : Bool) (c : Command) (text : List ℕ) → IsSpelling pending c text → command_in pending text ≡ Some c
+pub spelling_back : (pending : Bool) (c : Command) (text : List ℕ) → IsSpelling pending c text → command_in pending text ≡ c
 spelling_back pending c text h = formed_back pending (form_of c) c text refl (filled c) (read_back c) h

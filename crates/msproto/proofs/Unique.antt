@@ -1,6 +1,6 @@
 -- Each stream has one first item.
-use Rattle.std.proofs.Common.{◌≡◌, ℕ, ◌+◌, ◌≤◌, inl, inr, Bool, List, [], ◌∷◌, ◌++◌, length, take, Option, Some, None, Result, Ok, Err, refl, sym, ap, ◌∙◌, subst, arith, append_assoc}
-use Rattle.std.specs.Prelude.{IfOk}
+use Rattle.std.proofs.Common.{◌≡◌, ℕ, ◌+◌, ◌≤◌, inl, inr, Bool, List, [], ◌∷◌, ◌++◌, length, take, Result, Ok, Err, refl, sym, ap, ◌∙◌, subst, arith, append_assoc}
+use Rattle.std.specs.Prelude.{IfOk, OnErr, true}
 use Rattle.std.proofs.lemmas.Bool.{cases_order}
 use Rattle.std.proofs.lemmas.List.{take-append-le}
 use Rattle.msproto.specs.declared.commands.Command.{Command}
@@ -11,7 +11,7 @@ use Rattle.msproto.specs.declared.items.Reach.TheVariants as reach
 use Rattle.msproto.specs.Commands.{IsSpelling, IsCommand}
 use Rattle.msproto.specs.Items.{IsBadLine, IsTooBig, IsItem, NoItem, Reaches, Gives}
 use Rattle.msproto.specs.Scanning.{reach_of}
-use Rattle.msproto.specs.Values.{command_in, item_with, item_at, item_of}
+use Rattle.msproto.specs.Values.{command_in, has_string, item_at, item_of, takes_memory}
 use Rattle.msproto.proofs.Scans.{reaches, stays}
 use Rattle.msproto.proofs.Parsing.{spelling_back}
 
@@ -67,22 +67,13 @@ reach_is pending r stream h = one_reach pending r (reach_of pending stream) stre
 
 -- ---- with the command's value
 
--- a command that is read from a spelling is the one that it spells
-pub read_spells : (pending : Bool) (text : List ℕ) (c : Command) → IsCommand pending text → command_in pending text ≡ Some c → IsSpelling pending c text
-read_spells pending text c h e =
-    let same : h.0 ≡ c = (let both : Some h.0 ≡ Some c = sym (spelling_back pending h.0 text h.1) ∙ e in cc) in
-    subst (λ (d : Command). IsSpelling pending d text) same h.1
-
-pub some_read : (pending : Bool) (text : List ℕ) → IsCommand pending text → command_in pending text ≡ None → ⊥
-some_read pending text h e = let both : None ≡ Some h.0 = sym e ∙ spelling_back pending h.0 text h.1 in cc
-
-with_gives : (pending : Bool) (stream : List ℕ) (n : ℕ) (o : Option Command) → command_in pending (take n stream) ≡ o → Reaches pending (reach.Command n) stream → Gives pending (item_with o n) stream
-with_gives pending stream n None e h = absurd (some_read pending (take n stream) h.2 e)
-with_gives pending stream n (Some c) e h = (h, read_spells pending (take n stream) c h.2 e)
+-- what is read from a spelling is the command that it spells
+pub read_spells : (pending : Bool) (text : List ℕ) → IsCommand pending text → IsSpelling pending (command_in pending text) text
+read_spells pending text h = subst (λ (c : Command). IsSpelling pending c text) (sym (spelling_back pending h.0 text h.1)) h.1
 
 pub at_gives : (pending : Bool) (stream : List ℕ) (r : Reach) → Reaches pending r stream → Gives pending (item_at pending stream r) stream
 at_gives pending stream reach.Need h = h
-at_gives pending stream (reach.Command n) h = with_gives pending stream n (command_in pending (take n stream)) refl h
+at_gives pending stream (reach.Command n) h = (h, read_spells pending (take n stream) h.2)
 at_gives pending stream (reach.Bad n) h = h
 at_gives pending stream reach.TooBig h = h
 
@@ -92,7 +83,7 @@ gives pending stream = at_gives pending stream (reach_of pending stream) (reache
 gives_at : (pending : Bool) (i : Item) (stream : List ℕ) → Gives pending i stream → i ≡ item_of pending stream
 gives_at pending item.Need stream h = ap (item_at pending stream) (reach_is pending reach.Need stream h)
 gives_at pending (item.Command c n) stream h =
-    ap (λ (o : Option Command). item_with o n) (sym (spelling_back pending c (take n stream) h.1)) ∙ ap (item_at pending stream) (reach_is pending (reach.Command n) stream h.0)
+    ap (λ (d : Command). item.Command d n) (sym (spelling_back pending c (take n stream) h.1)) ∙ ap (item_at pending stream) (reach_is pending (reach.Command n) stream h.0)
 gives_at pending (item.Bad n) stream h = ap (item_at pending stream) (reach_is pending (reach.Bad n) stream h)
 gives_at pending item.TooBig stream h = ap (item_at pending stream) (reach_is pending reach.TooBig stream h)
 
@@ -110,3 +101,15 @@ item_stays_on pending item.TooBig stream more some h = stays pending reach.TooBi
 pub if_gives : {E : Type 0} (pending : Bool) (stream : List ℕ) (r : Result Item E) → IfOk r (λ i. i ≡ item_of pending stream) → IfOk r (λ i. Gives pending i stream)
 if_gives pending stream (Ok i) h = subst (λ (j : Item). Gives pending j stream) (sym h) (gives pending stream)
 if_gives pending stream (Err e) h = tt
+
+pub read_item : {E : Type 0} (pending : Bool) (stream : List ℕ) (used : ℕ) (r : Result Command E) → Reaches pending (reach.Command used) stream
+    → IfOk r (λ c. c ≡ command_in pending (take used stream)) → IfOk r (λ c. item_of pending stream ≡ item.Command c used)
+read_item pending stream used (Ok c) h is =
+    ap (item_at pending stream) (sym (reach_is pending (reach.Command used) stream h)) ∙ ap (λ (d : Command). item.Command d used) (sym is)
+read_item pending stream used (Err e) h is = tt
+
+pub read_lacks : {E : Type 0} (pending : Bool) (stream : List ℕ) (used : ℕ) (r : Result Command E) → Reaches pending (reach.Command used) stream
+    → OnErr r (has_string (command_in pending (take used stream)) ≡ true) → OnErr r (takes_memory (item_of pending stream) ≡ true)
+read_lacks pending stream used (Ok c) h has = tt
+read_lacks pending stream used (Err e) h has =
+    ap (λ (q : Reach). takes_memory (item_at pending stream q)) (sym (reach_is pending (reach.Command used) stream h)) ∙ has

@@ -2,7 +2,6 @@ pub mod Arguments
 pub mod Commands
 pub mod Items
 pub mod Machine
-pub mod ReadShown
 pub mod Replies
 pub mod Scanning
 pub mod Shown

@@ -1,5 +1,5 @@
 //! What comes first in a stream of octets.
-ghost use Rattle.std.specs.Prelude.{◌≡◌, ◌≢◌, ◌↔◌, ◌++◌, ℕ, Bool, true, List, IfOk};
+ghost use Rattle.std.specs.Prelude.{◌≡◌, ◌≢◌, ◌↔◌, ◌++◌, ℕ, Bool, true, List, IfOk, OnErr};
 ghost use Rattle.msproto.specs.declared.items.Item.{Item as ItemValue};
 ghost use Rattle.msproto.specs.declared.items.Item.TheVariants as item;
 ghost use Rattle.msproto.specs.declared.items.Item.TheVariants.{Need};
@@ -8,7 +8,7 @@ ghost use Rattle.msproto.specs.declared.items.Reach.TheVariants as reach;
 ghost use Rattle.msproto.specs.Items.{IsInLiteral, Reaches, Gives};
 ghost use Rattle.msproto.specs.Machine.{run, start, in_literal};
 ghost use Rattle.msproto.specs.Scanning.{reach_of};
-ghost use Rattle.msproto.specs.Values.{item_of, item_at as item_at_of};
+ghost use Rattle.msproto.specs.Values.{item_of, item_at as item_at_of, takes_memory};
 
 use crate::commands::Command;
 use crate::reading;
@@ -57,16 +57,17 @@ pub fn extent(buffer: &[u8], pending: bool) -> Reach
 /// What comes first, with the value of a command. While a challenge is pending the item is one string.
 ///
 /// Time is that of `extent`, and for a command linear in its octets besides. Takes memory for its strings alone, and
-/// lack of it is the only error.
+/// lack of it is the only error, where there is a string.
 pub fn first(alloc: Global, buffer: &[u8], pending: bool) -> Result<Item, AllocError>
     ensures value { IfOk result (λ item. item ≡ item_of pending buffer.now) }
     ensures item { IfOk result (λ item. Gives pending item buffer.now) }
+    ensures lacks { OnErr result (takes_memory (item_of pending buffer.now) ≡ true) }
 {
     item_at(alloc, buffer, pending, extent(buffer, pending))
 }
 
 /// The same where a scan has found what comes first: the octets are not scanned again, and of them only a command's are
-/// read, once, for its value.
+/// read, once, for its value. Lack of memory for a command's strings is the only error.
 pub fn item_at(
     alloc: Global,
     buffer: &[u8],
@@ -76,12 +77,13 @@ pub fn item_at(
     requires { Reaches pending reach buffer.now }
     ensures value { IfOk result (λ item. item ≡ item_of pending buffer.now) }
     ensures item { IfOk result (λ item. Gives pending item buffer.now) }
+    ensures lacks { OnErr result (takes_memory (item_of pending buffer.now) ≡ true) }
 {
     read_at(alloc, buffer, pending, reach)
 }
 
 /// The command that a scan has found first, in that many octets, which are read once. Takes memory for its strings alone,
-/// and lack of it is the only error.
+/// and lack of it is the only error, where there is a string.
 pub fn command_at(
     alloc: Global,
     buffer: &[u8],
@@ -89,17 +91,16 @@ pub fn command_at(
     used: usize,
 ) -> Result<Command, AllocError>
     requires { Reaches pending (reach.Command used) buffer.now }
-    ensures { IfOk result (λ command. item_of pending buffer.now ≡ item.Command command used) }
+    ensures value { IfOk result (λ command. item_of pending buffer.now ≡ item.Command command used) }
+    ensures lacks { OnErr result (takes_memory (item_of pending buffer.now) ≡ true) }
 {
-    let Some(command) = reading::command(alloc, &buffer[..used], pending)? else {
-        unreachable!();
-    };
-    Ok(command)
+    reading::command(alloc, &buffer[..used], pending)
 }
 
 fn read_at(alloc: Global, buffer: &[u8], pending: bool, reach: Reach) -> Result<Item, AllocError>
     requires { Reaches pending reach buffer.now }
-    ensures { IfOk result (λ item. item ≡ item_at_of pending buffer.now reach) }
+    ensures value { IfOk result (λ item. item ≡ item_at_of pending buffer.now reach) }
+    ensures lacks { OnErr result (takes_memory (item_of pending buffer.now) ≡ true) }
 {
     match reach {
         Reach::Need => Ok(Item::Need),

@@ -1,109 +1,85 @@
 //! The value of a command, read from the front of its text.
-ghost use Rattle.std.specs.Prelude.{◌≡◌, ℕ, ◌≤◌, Option, Some, None, IfOk, length, false};
+ghost use Rattle.std.specs.Prelude.{◌≡◌, ◌≤◌, IfOk, OnErr, is_some, length, true, false};
 ghost use Rattle.msproto.specs.Values as v;
-ghost use Rattle.msproto.specs.ReadShown.{shown};
 
 use crate::commands::Command;
 use crate::verb::Verb;
 use octets::Octets;
 use std::alloc::{AllocError, Global};
 
-/// The command that a text spells; a text that spells none gives some command or none. Each octet is read once,
-/// and a literal's text is copied in one piece.
-pub(crate) fn command(
-    alloc: Global,
-    text: &[u8],
-    pending: bool,
-) -> Result<Option<Command>, AllocError>
-    ensures { IfOk result (λ command. command ≡ v.command_in pending text.now) }
+/// The command that a text spells; a text that spells none gives some command. Each octet is read once, and a literal's
+/// text is copied in one piece. Lack of memory is the only error.
+pub(crate) fn command(alloc: Global, text: &[u8], pending: bool) -> Result<Command, AllocError>
+    ensures value { IfOk result (λ command. command ≡ v.command_in pending text.now) }
+    ensures lacks { OnErr result (v.has_string (v.command_in pending text.now) ≡ true) }
 {
     if pending {
-        return Ok(match string(alloc, text)? {
-            Some((value, _)) => Some(Command::Response(value)),
-            None => None,
-        });
+        return response(alloc, text);
     }
     let end = name_length(text);
-    let rest = &text[end..];
     match Verb::named(&text[..end]) {
-        Some(verb) => of_verb(alloc, verb, rest),
-        None => Ok(None),
+        Some(verb) => of_verb(alloc, verb, &text[end..]),
+        None => response(alloc, text),
     }
+}
+
+// A string alone.
+fn response(alloc: Global, text: &[u8]) -> Result<Command, AllocError>
+    ensures { IfOk result (λ command. command ≡ v.response_in text.now) }
+{
+    let (value, _) = string(alloc, text)?;
+    Ok(Command::Response(value))
 }
 
 // The command of a verb and what stands after it.
-fn of_verb(alloc: Global, verb: Verb, rest: &[u8]) -> Result<Option<Command>, AllocError>
-    ensures { IfOk result (λ command. command ≡ v.command_of verb rest.now) }
+fn of_verb(alloc: Global, verb: Verb, rest: &[u8]) -> Result<Command, AllocError>
+    ensures value { IfOk result (λ command. command ≡ v.command_of verb rest.now) }
+    ensures lacks { OnErr result (v.has_string (v.command_of verb rest.now) ≡ true) }
 {
-    match verb {
-        Verb::Capability => return Ok(Some(Command::Capability)),
-        Verb::ListScripts => return Ok(Some(Command::ListScripts)),
-        Verb::Logout => return Ok(Some(Command::Logout)),
-        Verb::Unauthenticate => return Ok(Some(Command::Unauthenticate)),
-        _ => {}
-    }
-    let Some((first, more)) = text(alloc, rest)? else {
-        return Ok(match verb {
-            Verb::Noop => Some(Command::Noop(None)),
-            _ => None,
-        });
-    };
-    with_text(alloc, verb, first, more)
-}
-
-// The command of a verb, its first text, and what stands after that.
-fn with_text(
-    alloc: Global,
-    verb: Verb,
-    first: Octets,
-    more: &[u8],
-) -> Result<Option<Command>, AllocError>
-    ensures { IfOk result (λ command. command ≡ v.command_with verb first more.now) }
-{
-    Ok(Some(match verb {
-        Verb::Authenticate => Command::Authenticate {
-            mechanism: first,
-            response: match text(alloc, more)? {
-                Some((response, _)) => Some(response),
-                None => None,
-            },
-        },
-        Verb::CheckScript => Command::CheckScript(first),
-        Verb::DeleteScript => Command::DeleteScript(first),
-        Verb::GetScript => Command::GetScript(first),
-        Verb::HaveSpace => Command::HaveSpace {
-            name: first,
-            size: size(more),
-        },
-        Verb::Noop => Command::Noop(Some(first)),
-        Verb::SetActive => Command::SetActive(first),
+    Ok(match verb {
+        Verb::Authenticate => authenticate(alloc, rest)?,
+        Verb::Capability => Command::Capability,
+        Verb::CheckScript => Command::CheckScript(one_text(alloc, rest)?),
+        Verb::DeleteScript => Command::DeleteScript(one_text(alloc, rest)?),
+        Verb::GetScript => Command::GetScript(one_text(alloc, rest)?),
+        Verb::HaveSpace => {
+            let (name, more) = text(alloc, rest)?;
+            let size = size(more);
+            Command::HaveSpace { name, size }
+        }
+        Verb::ListScripts => Command::ListScripts,
+        Verb::Logout => Command::Logout,
+        Verb::Noop => Command::Noop(maybe_text(alloc, rest)?),
         Verb::PutScript => {
-            let Some((script, _)) = text(alloc, more)? else {
-                return Ok(None);
-            };
-            Command::PutScript {
-                name: first,
-                script,
-            }
+            let (name, script) = two_texts(alloc, rest)?;
+            Command::PutScript { name, script }
         }
         Verb::RenameScript => {
-            let Some((new, _)) = text(alloc, more)? else {
-                return Ok(None);
-            };
-            Command::RenameScript { old: first, new }
+            let (old, new) = two_texts(alloc, rest)?;
+            Command::RenameScript { old, new }
         }
-        _ => return Ok(None),
-    }))
+        Verb::SetActive => Command::SetActive(one_text(alloc, rest)?),
+        Verb::Unauthenticate => Command::Unauthenticate,
+    })
+}
+
+// A login's mechanism and its first response, where there is one.
+fn authenticate(alloc: Global, rest: &[u8]) -> Result<Command, AllocError>
+    ensures { IfOk result (λ command. command ≡ v.authenticate_of (v.text_in rest.now)) }
+{
+    let (mechanism, more) = text(alloc, rest)?;
+    let response = maybe_text(alloc, more)?;
+    Ok(Command::Authenticate {
+        mechanism,
+        response,
+    })
 }
 
 // A number after a space.
 fn size(rest: &[u8]) -> u32
     ensures { result ≡ v.size_in rest.now }
 {
-    match rest.split_first() {
-        Some((_, digits)) => number(digits).0,
-        None => 0,
-    }
+    number(&rest[rest.len().min(1)..]).0
 }
 
 // How many octets stand before the first SP or CR.
@@ -123,19 +99,47 @@ fn name_length(text: &[u8]) -> usize
     count
 }
 
-// A string after a space, and what stands after it.
-fn text(alloc: Global, rest: &[u8]) -> Result<Option<(Octets, &[u8])>, AllocError>
-    ensures { IfOk result (λ read. shown read ≡ v.text_in rest.now) }
+// A string after a space.
+fn one_text(alloc: Global, rest: &[u8]) -> Result<Octets, AllocError>
+    ensures { IfOk result (λ value. value ≡ (v.text_in rest.now).0) }
+{
+    let (value, _) = text(alloc, rest)?;
+    Ok(value)
+}
+
+// Two strings, each after a space.
+fn two_texts(alloc: Global, rest: &[u8]) -> Result<(Octets, Octets), AllocError>
+    ensures { IfOk result (λ values. values ≡ v.texts_in rest.now) }
+{
+    let (first, more) = text(alloc, rest)?;
+    let second = one_text(alloc, more)?;
+    Ok((first, second))
+}
+
+// A string after a space, where one stands.
+fn maybe_text(alloc: Global, rest: &[u8]) -> Result<Option<Octets>, AllocError>
+    ensures value { IfOk result (λ value. value ≡ v.maybe_text_in rest.now) }
+    ensures lacks { OnErr result (is_some (v.maybe_text_in rest.now) ≡ true) }
 {
     match rest.split_first() {
-        Some((b' ', more)) => string(alloc, more),
+        Some((b' ', more)) => {
+            let (value, _) = string(alloc, more)?;
+            Ok(Some(value))
+        }
         _ => Ok(None),
     }
 }
 
+// A string after a space, and what stands after it.
+fn text(alloc: Global, rest: &[u8]) -> Result<(Octets, &[u8]), AllocError>
+    ensures { IfOk result (λ read. (read.0, read.1.now) ≡ v.text_in rest.now) }
+{
+    string(alloc, &rest[rest.len().min(1)..])
+}
+
 // A string, and what stands after it.
-fn string(alloc: Global, text: &[u8]) -> Result<Option<(Octets, &[u8])>, AllocError>
-    ensures { IfOk result (λ read. shown read ≡ v.string_in text.now) }
+fn string(alloc: Global, text: &[u8]) -> Result<(Octets, &[u8]), AllocError>
+    ensures { IfOk result (λ read. (read.0, read.1.now) ≡ v.string_in text.now) }
 {
     match text.split_first() {
         Some((b'"', rest)) => quoted(alloc, rest),
@@ -143,43 +147,40 @@ fn string(alloc: Global, text: &[u8]) -> Result<Option<(Octets, &[u8])>, AllocEr
             let (count, after) = number(rest);
             literal(alloc, count as usize, after)
         }
-        None => Ok(None),
+        None => Ok((Octets::new(alloc), text)),
     }
 }
 
 // A quoted string after its first mark, and what stands after its last.
-fn quoted(alloc: Global, text: &[u8]) -> Result<Option<(Octets, &[u8])>, AllocError>
-    ensures { IfOk result (λ read. shown read ≡ v.quoted_in false text.now) }
+fn quoted(alloc: Global, text: &[u8]) -> Result<(Octets, &[u8]), AllocError>
+    ensures { IfOk result (λ read. (read.0, read.1.now) ≡ v.quoted_in false text.now) }
 {
     let mut value = Octets::new(alloc);
     let mut escape = false;
     let mut rest = text;
     while let Some((octet, more)) = rest.split_first() {
+        rest = more;
         if escape {
             escape = false;
             value.push(*octet)?;
         } else if *octet == b'"' {
-            return Ok(Some((value, more)));
+            break;
         } else if *octet == b'\\' {
             escape = true;
         } else {
             value.push(*octet)?;
         }
-        rest = more;
     }
-    Ok(None)
+    Ok((value, rest))
 }
 
 // That many octets after the four that end a literal's head, and what stands after them.
-fn literal(alloc: Global, count: usize, text: &[u8]) -> Result<Option<(Octets, &[u8])>, AllocError>
-    ensures { IfOk result (λ read. shown read ≡ v.literal_in (count, text.now)) }
+fn literal(alloc: Global, count: usize, text: &[u8]) -> Result<(Octets, &[u8]), AllocError>
+    ensures { IfOk result (λ read. (read.0, read.1.now) ≡ v.literal_in (count, text.now)) }
 {
     let body = &text[text.len().min(4)..];
-    if count > body.len() {
-        return Ok(None);
-    }
-    let (value, rest) = body.split_at(count);
-    Ok(Some((Octets::from_slice(alloc, value)?, rest)))
+    let (value, rest) = body.split_at(count.min(body.len()));
+    Ok((Octets::from_slice(alloc, value)?, rest))
 }
 
 // The number in front, below 2^32, and what stands after it.

@@ -4,12 +4,10 @@ ghost use Rattle.msproto.specs.Arguments.{inside, escaped};
 ghost use Rattle.msproto.specs.Replies as s;
 
 use crate::replies::{Code, Line, Reply, Status};
+use crate::state::MAX_QUOTED;
 use octets::{Octets, write_decimal};
 use std::alloc::{AllocError, Global};
 use std::mem;
-
-/// The most octets between quotation marks (RFC 5804, section 4).
-const MAX_QUOTED: usize = 1024;
 
 /// Appends the answer's octets: strings are quoted where they fit, with `\` before each `"` and `\`, else literals.
 ///

@@ -6,8 +6,8 @@ ghost use Rattle.msproto.specs.Shown as s;
 
 use crate::verb::{Params, Verb};
 
-/// The longest quoted string, in octets between its marks (RFC 5804, section 4).
-const MAX_QUOTED: u32 = 1024;
+/// The longest quoted string, in octets between its marks, in what is read and in what is written (RFC 5804, section 4).
+pub(crate) const MAX_QUOTED: u32 = 1024;
 
 /// Where a line stands. Numbers are octets, or the number that was read so far.
 #[derive(Clone, Copy)]

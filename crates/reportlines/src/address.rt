@@ -1,5 +1,6 @@
 //! An address as a line shows it.
-ghost use Rattle.std.specs.Prelude.{◌≡◌, ◌++◌, OnOk};
+ghost use Rattle.std.specs.Prelude.{◌≡◌, ◌++◌, ◌<◌, OnOk, slice_index};
+ghost use Rattle.hex.specs.Hex.{lower_digits};
 ghost use Rattle.reportlines.specs.Addresses.{is_escaped as is_escaped_of, shown_address, shown_octet};
 
 use octets::Octets;
@@ -23,12 +24,15 @@ fn add_octet(text: &mut Octets, octet: u8) -> Result<(), AllocError>
     if !is_escaped(octet) {
         return text.push(octet);
     }
-    let mut digits = [0; 2];
-    let Ok(()) = hex::encode_to_slice([octet], &mut digits) else {
-        unreachable!();
-    };
-    text.push(b'\\')?;
-    text.extend_from_slice(&digits)
+    text.extend_from_slice(&[b'\\', digit(octet / 16), digit(octet % 16)])
+}
+
+/// The hexadecimal digit of a value up to 15, in lower case.
+fn digit(value: u8) -> u8
+    requires { value < 16 }
+    ensures { result ≡ slice_index lower_digits value }
+{
+    b"0123456789abcdef"[value as usize]
 }
 
 /// Whether an octet of an address would end the address or the line, or begins an escape. Octets over 127 don't.

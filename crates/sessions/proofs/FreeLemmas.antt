@@ -1,16 +1,13 @@
 -- Steps on commands that ask no store.
-use Rattle.std.proofs.Common.{◌≡◌, ℕ, Bool, true, false, not, List, ◌++◌, take, Option, Some, None, refl, sym, ap, ◌∙◌, subst, inl, inr}
+use Rattle.std.proofs.Common.{◌≡◌, ℕ, Bool, true, false, not, List, ◌++◌, take, refl, sym, ap, ◌∙◌, subst, inl, inr}
 use Rattle.std.proofs.lemmas.Bool.{false≢true, and_parts, not-true}
 use Rattle.msproto.specs.declared.commands.Command.{Command}
 use Rattle.msproto.specs.declared.commands.Command.TheVariants.{Capability, Noop, Logout, Authenticate, Unauthenticate, HaveSpace, PutScript, CheckScript, ListScripts, SetActive, GetScript, DeleteScript, RenameScript, Response}
 use Rattle.msproto.specs.declared.items.Item.TheVariants as item
 use Rattle.msproto.specs.declared.items.Reach.{Reach}
 use Rattle.msproto.specs.declared.items.Reach.TheVariants as reach
-use Rattle.msproto.specs.Items.{Reaches}
 use Rattle.msproto.specs.Replies.{spelled}
-use Rattle.msproto.specs.Values.{command_in, item_with, item_at}
-use Rattle.msproto.proofs.Scans.{reaches}
-use Rattle.msproto.proofs.Unique.{some_read}
+use Rattle.msproto.specs.Values.{command_in, item_at}
 use Rattle.mailstore.specs.Account.{Accounts}
 use Rattle.sessions.specs.declared.progress.Progress.{Progress}
 use Rattle.sessions.specs.declared.turn.Turn.{Turn}
@@ -30,27 +27,19 @@ command_first c h = by (reach_in c) refl (and_parts (not c.closed) (is_command (
     live : c.closed ≡ false
     live = not-true c.closed (and_parts (not c.closed) (is_command (reach_in c)) h).0
 
-    read : (n : ℕ) → reach_in c ≡ reach.Command n → (o : Option Command) → command_in c.pending (take n c.unread) ≡ o → (command : Command) × HasFirst c command
-    read n e None none =
-        let reached = subst (λ (r : Reach). Reaches c.pending r c.unread) e (reaches c.pending c.unread) in
-        absurd (some_read c.pending (take n c.unread) reached.2 none)
-    read n e (Some command) is =
-        (command, record { live = live; used = n; first = ap (item_at c.pending c.unread) e ∙ ap (λ (o : Option Command). item_with o n) is })
-
     by : (r : Reach) → reach_in c ≡ r → is_command r ≡ true → (command : Command) × HasFirst c command
     by reach.Need e h = absurd (false≢true h)
-    by (reach.Command n) e h = read n e (command_in c.pending (take n c.unread)) refl
+    by (reach.Command n) e h = (command_in c.pending (take n c.unread), record { live = live; used = n; first = ap (item_at c.pending c.unread) e })
     by (reach.Bad n) e h = absurd (false≢true h)
     by reach.TooBig e h = absurd (false≢true h)
 
 -- its reach
 pub from_item : (pending : Bool) (unread : List ℕ) (r : Reach) (command : Command) (used : ℕ) → item_at pending unread r ≡ item.Command command used → r ≡ reach.Command used
 from_item pending unread reach.Need command used e = let no : item.Need ≡ item.Command command used = e in cc
-from_item pending unread (reach.Command n) command used e = at (command_in pending (take n unread)) e
-  where
-    at : (o : Option Command) → item_with o n ≡ item.Command command used → reach.Command n ≡ reach.Command used
-    at None e = let no : item.Need ≡ item.Command command used = e in cc
-    at (Some x) e = let same : item.Command x n ≡ item.Command command used = e in let number : n ≡ used = cc in ap (λ (m : ℕ). reach.Command m) number
+from_item pending unread (reach.Command n) command used e =
+    let same : item.Command (command_in pending (take n unread)) n ≡ item.Command command used = e in
+    let number : n ≡ used = cc in
+    ap (λ (m : ℕ). reach.Command m) number
 from_item pending unread (reach.Bad n) command used e = let no : item.Bad n ≡ item.Command command used = e in cc
 from_item pending unread reach.TooBig command used e = let no : item.TooBig ≡ item.Command command used = e in cc
 

@@ -1,11 +1,7 @@
 //! What tests look at in the fields of a mail, kept from test to test.
-ghost use Rattle.std.specs.Prelude.{◌≡◌, IfOk, OnOk, Some};
+ghost use Rattle.std.specs.Prelude.{◌≡◌, IfOk};
 ghost use Rattle.std.specs.List.{list_any};
-ghost use Rattle.std.specs.Ordering.{nat_cmp};
-ghost use Rattle.std.specs.Cmp.Lexicographic.{slice_cmp};
-ghost use Rattle.std.specs.BTreeMap.{get};
 ghost use Rattle.octets.specs.Ascii.{lowered};
-ghost use Rattle.sieveexec.specs.Indexes.{AreKnown};
 
 use crate::mail::Mail;
 use octets::{Octets, lowered};
@@ -99,30 +95,12 @@ impl<'m, 'a, V: FieldValues> FieldCache<'m, 'a, V> {
         ensures kept { self.new ≡ self.old }
     {
         let key = lowered(alloc, name)?;
-        load(alloc, self.mail, &mut self.known, &key)?;
-        match self.known.get(&key) {
-            Some(values) => Ok(test.holds_of(values)),
-            None => unreachable!(),
+        if let Some(values) = self.known.get(&key) {
+            return Ok(test.holds_of(values));
         }
+        let values = V::read(alloc, self.mail, &key)?;
+        let holds = test.holds_of(&values);
+        self.known.insert(key, values)?;
+        Ok(holds)
     }
-}
-
-/// Reads the fields of a name in lower case, unless they are known.
-fn load<V: FieldValues>(
-    alloc: Global,
-    mail: &Mail<'_>,
-    known: &mut BTreeMap<Octets, V>,
-    key: &Octets,
-) -> Result<(), AllocError>
-    requires { AreKnown (V.keyed mail.now) known.old }
-    ensures kept { AreKnown (V.keyed mail.now) known.new }
-    ensures there { OnOk result (get (slice_cmp nat_cmp) known.new key.now ≡ Some (V.keyed mail.now key.now)) }
-{
-    if known.contains_key(key) {
-        return Ok(());
-    }
-    let values = V::read(alloc, mail, key)?;
-    let name = key.try_clone(alloc)?;
-    known.insert(name, values)?;
-    Ok(())
 }

@@ -1,4 +1,5 @@
--- Whether a response is sent: the first reason that stands against it, if any does (RFC 5230, 4.5 and 4.6; RFC 3834, 2).
+-- Whether a response is sent: the first reason that stands against it, if any does. RFC 5230, 4.6 and RFC 3834, 2: the sender and the mail
+-- (reasons 1 to 7); RFC 5230, 4.5: to whom it is addressed (8); 4.1 and 4.2: the period, and what is kept of earlier responses (9).
 use Rattle.std.specs.Prelude.{ℕ, Bool, true, not, ◌||◌, cond, List, [], ◌∷◌, codes, Option}
 use Rattle.std.specs.List.{list_any}
 use Rattle.addrparts.specs.declared.address.Addr.{Addr}

@@ -21,7 +21,7 @@ pub enum Reason {
     Bulk = 7,
     /// No address of the user stands among the recipients (RFC 5230, 4.5).
     NotAddressed = 8,
-    /// The sender got this response, and the period since then isn't over (RFC 5230, 4.1).
+    /// The sender got this response, and the period since then isn't over (RFC 5230: 4.1 on the period, 4.2 on what is kept).
     TooSoon = 9,
 }
 

@@ -8,7 +8,7 @@ use Rattle.msproto.proofs.items.item_at.Goals as goal
 pub returns-clause-value : goal.returns-clause-value
 returns-clause-value c =
     subst (λ (r : Reach). IfOk c.read_at.result (λ item. item ≡ item_at c.args.pending c.args.buffer.now r))
-    (reach_is c.args.pending c.args.reach c.args.buffer.now c.requires) c.read_at.ensures
+    (reach_is c.args.pending c.args.reach c.args.buffer.now c.requires) c.read_at.ensures.value
 
 pub returns-clause-item : goal.returns-clause-item
 returns-clause-item c = if_gives c.args.pending c.args.buffer.now c.read_at.result (returns-clause-value c)
