@@ -128,6 +128,14 @@ own_again user P Q a b e q is r = record {
   named = subst (λ o. IfErr o (λ f. (f ≡ NoUser) ⊎ IsTransient f)) (sym is) r.named;
 }
 
+-- the same rows, told otherwise
+pub own_told : {X : Type 0} (user : List ℕ) (P Q : X → Tables → Type 0) (a b : State) (r : Result X Refusal) → ((x : X) (own : Tables) → P x own → Q x own) → ReadsOwn user P a b r → ReadsOwn user Q a b r
+own_told {X} user P Q a b r tells h = record { found = λ clean tables held. told (rows_of user tables) r (h.found clean tables held); there = h.there; absent = h.absent; keeps = h.keeps; named = h.named }
+  where
+    told : (own : Tables) (o : Result X Refusal) → IfOk o (λ x. P x own) → IfOk o (λ x. Q x own)
+    told own (Err e) k = tt
+    told own (Ok x) k = tells x own k
+
 -- the same account, read through its rows
 pub own_reads : {X : Type 0} (user : List ℕ) (P : X → Tables → Type 0) (Q : X → Account → Type 0) (a b : State) (r : Result X Refusal) → ((x : X) (own : Tables) (account : Account) → IsShown user own account → P x own → Q x account)
     → ReadsOwn user P a b r → Reads user Q a b r

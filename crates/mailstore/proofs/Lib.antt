@@ -8,6 +8,7 @@ pub mod ReadLemmas
 pub mod KeepLemmas
 pub mod AfterLemmas
 pub mod KeyLemmas
+pub mod HeadLemmas
 pub mod KeyedLemmas
 pub mod EnterLemmas
 pub mod MapLemmas
@@ -17,6 +18,7 @@ pub mod TallyLemmas
 pub mod FolderLemmas
 pub mod FilingLemmas
 pub mod TakingLemmas
+pub mod NthLemmas
 pub mod FirstLemmas
 pub mod NumberLemmas
 pub mod OneLemmas

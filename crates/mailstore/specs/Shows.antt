@@ -1,5 +1,5 @@
 -- Which accounts the tables show, row by row.
-use Rattle.std.specs.Prelude.{◌≡◌, ℕ, ℤ, pos, List, [], ◌∷◌, filter, map, slice_get, Option, Some, None, option_map}
+use Rattle.std.specs.Prelude.{◌≡◌, ℕ, ℤ, pos, List, [], ◌∷◌, filter, map, take, drop, slice_get, Option, Some, None, option_map}
 use Rattle.std.specs.List.{find}
 use Rattle.std.specs.FinMap.{get}
 use Rattle.sqlite_value.specs.declared.value.Value.TheVariants.{Blob}
@@ -83,9 +83,19 @@ StillShows old new = HasCleanDisk new → (accounts : Accounts) → ShowsIn old.
 abbrev pub AreFilingRows : List ℕ → List Row → Tables → Type 0
 AreFilingRows user rows own = (a : Account) (s : IsShown user own a) → rows ≡ map filing_cells (map filing_of s.copies.entries)
 
+-- of a number as the database has it: the row is that of the folder's copy after that many, or there is none
+abbrev pub AreNthRows : List ℕ → List ℕ → ℤ → List Row → Tables → Type 0
+AreNthRows user folder count rows own =
+    (a : Account) (s : IsShown user own a) (n : ℕ) → count ≡ pos n → rows ≡ take 1 (drop n (map filing_cells (map filing_of (filter (is_in folder) s.copies.entries))))
+
 -- these are the copies that the user's rows show, in the order of their numbers
 abbrev pub AreFilings : List ℕ → List Filing → Tables → Type 0
 AreFilings user filings own = (a : Account) (s : IsShown user own a) → filings ≡ map filing_of s.copies.entries
+
+-- it is the folder's copy after that many that the user's rows show, or none
+abbrev pub IsNthFiling : List ℕ → List ℕ → ℤ → Option Filing → Tables → Type 0
+IsNthFiling user folder count filing own =
+    (a : Account) (s : IsShown user own a) (n : ℕ) → count ≡ pos n → filing ≡ option_map filing_of (slice_get (filter (is_in folder) s.copies.entries) n)
 
 -- the rows are the octets of the user's message with the number, where it has a row
 abbrev pub AreOctetRows : List ℕ → ℤ → List Row → Tables → Type 0
@@ -94,6 +104,11 @@ AreOctetRows user id rows own = rows ≡ map (λ r. column r bytes_column ∷ []
 -- the octets are those of the user's message with the number
 abbrev pub HasOctets : List ℕ → ℕ → List ℕ → Tables → Type 0
 HasOctets user id octets own = slice_get (map (λ r. column r bytes_column) (filter (has_key (message_key user (pos id))) (own message_tree))) 0 ≡ Some (Blob octets)
+
+-- it is the folder's message after that many, with the number of its copy, that the user's rows show, or none where they show none
+abbrev pub IsNthOf : List ℕ → List ℕ → ℤ → Option NumberedMessage → Tables → Type 0
+IsNthOf user folder count message own =
+    (a : Account) (s : IsShown user own a) (n : ℕ) → count ≡ pos n → message ≡ option_map numbered_of (slice_get (filter (is_in folder) s.copies.entries) n)
 
 -- it is the first message of the folder, with the number of its copy, that the user's rows show, or none where they show none
 abbrev pub IsFirstOf : List ℕ → List ℕ → Option NumberedMessage → Tables → Type 0

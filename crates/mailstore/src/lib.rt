@@ -6,6 +6,7 @@ mod cell;
 mod delivery;
 mod filing;
 mod folder;
+mod head;
 mod message;
 mod notice;
 mod profile;
@@ -19,6 +20,7 @@ pub mod store;
 mod taking;
 
 pub use folder::Folder;
+pub use head::Head;
 pub use mailtables::Kind;
 pub use notice::Notice;
 pub use profile::Profile;

@@ -7,7 +7,7 @@ ghost use Rattle.mailstore.specs.Taking.{AreTaking, is_other_copy};
 ghost use Rattle.mailstore.specs.CopyRows.{is_filed, HasFirst};
 ghost use Rattle.mailstore.specs.Promises.{Reads, ReadsOwn, WritesAccount};
 ghost use Rattle.mailstore.specs.Refusals.{IsTransient};
-ghost use Rattle.mailstore.specs.Shows.{IsFirstOf};
+ghost use Rattle.mailstore.specs.Shows.{IsFirstOf, IsNthOf};
 
 use crate::cell::number;
 use crate::filing::Filing;
@@ -70,27 +70,27 @@ fn taking_changes<'a>(
 }
 
 impl<S: Alter> Store<S> {
-    /// The first message of the folder with its number, as the user's rows have them; none where the folder is absent.
-    fn first_numbered(
+    /// The folder's message after that many with its number, as the user's rows have them; none where there are no more.
+    fn nth_numbered(
         &mut self,
         user: &[u8],
         folder: &[u8],
+        count: i64,
     ) -> Result<Option<NumberedMessage>, Refusal>
-        ensures { ReadsOwn user.now (IsFirstOf user.now folder.now) (state S.Store self.old) (state S.Store self.new) result }
+        ensures { ReadsOwn user.now (IsNthOf user.now folder.now count) (state S.Store self.old) (state S.Store self.new) result }
     {
-        let filings = self.filings(user)?;
-        let Some(first) = first_in(filings.as_slice(), folder) else {
+        let Some(filing) = self.nth_filing(user, folder, count)? else {
             return Ok(None);
         };
-        let message = self.message(user, first.id)?;
+        let message = self.message(user, filing.id)?;
         Ok(Some(NumberedMessage {
-            number: first.n,
+            number: filing.n,
             message,
         }))
     }
 
     /// The first message of the folder, which came before the others, with the number of its copy; none where the folder is
-    /// absent. No other message is read; memory is in proportion to it and to the user's copies.
+    /// absent. No other message and no other copy is read; memory is in proportion to it.
     pub fn first_message(
         &mut self,
         user: &[u8],
@@ -99,7 +99,7 @@ impl<S: Alter> Store<S> {
         ensures first { Reads user.now (λ first a. HasFirst first (messages_in a.folders folder.now)) (state S.Store self.old) (state S.Store self.new) result }
         ensures numbered { ReadsOwn user.now (IsFirstOf user.now folder.now) (state S.Store self.old) (state S.Store self.new) result }
     {
-        self.first_numbered(user, folder)
+        self.nth_numbered(user, folder, 0)
     }
 
     /// Takes the first message out of the folder, in one transaction: its copy goes, its row with the last copy of it, and
