@@ -1,5 +1,6 @@
 -- The first message of a folder, read by its number.
-use Rattle.std.proofs.Common.{◌≡◌, ◌==◌, ℕ, zero, suc, ℤ, pos, List, [], ◌∷◌, map, filter, find, slice_get, Option, Some, None, option_map, Ok, Result, IfOk, refl, sym, ap, ◌∙◌, subst, inl, inr, IsPermutation}
+use Rattle.std.proofs.Common.{◌≡◌, ◌==◌, ℕ, zero, suc, ℤ, pos, List, [], ◌∷◌, map, filter, find, slice_get, Option, Some, None, option_map, refl, sym, ap, ◌∙◌, subst, inl, inr, IsPermutation}
+use Rattle.std.proofs.lemmas.Option.{slice_get-map}
 use Rattle.sqlite_value.specs.declared.value.Value.TheVariants.{Int, Blob}
 use Rattle.sqlite_value.specs.Order.{Row, column}
 use Rattle.sqlite_sql.specs.Term.{col}
@@ -18,15 +19,13 @@ use Rattle.mailtables.specs.Schema.{mail_schema}
 use Rattle.mailstore.specs.Account.{Account, messages_in}
 use Rattle.mailtables.specs.MessageTable.{message, message_key, message_tree, bytes_column, select_message}
 use Rattle.mailstore.specs.MessageRows.{message_row}
-use Rattle.mailstore.specs.CopyRows.{Copy, message_of, is_in, filing_of, numbered_of, HasFirst}
+use Rattle.mailstore.specs.CopyRows.{Copy, message_of, is_in, filing_of, numbered_of, HasFirst, IsNthMessage}
 use Rattle.mailstore.specs.Shows.{rows_of, IsShown, IsNthFiling, AreOctetRows, HasOctets, IsFirstOf, IsNthOf}
-use Rattle.mailstore.specs.Promises.{FindsAmong}
 use Rattle.mailtables.proofs.SchemaFacts.{message_listed}
 use Rattle.mailtables.proofs.TextFacts.{by_two, select_message_is, select_message_plain}
 use Rattle.mailtables.proofs.StatementLemmas.{message_index, message_agrees}
 use Rattle.mailstore.proofs.AccountLemmas.{message_is}
 use Rattle.mailstore.proofs.KeyLemmas.{key_owned}
-use Rattle.mailstore.proofs.KeepLemmas.{keeps_ok}
 use Rattle.mailstore.proofs.NumberLemmas.{alone_at}
 use Rattle.mailstore.proofs.OrderLemmas.{messages_are}
 
@@ -45,11 +44,6 @@ pub octets_first : (octets : List ℕ) (rows all : List Row) → rows ≡ map (�
     → slice_get (map (λ r. column r bytes_column) all) 0 ≡ Some (Blob octets)
 octets_first octets rows [] are told = absurd (let no = told ∙ ap (λ l. option_map (λ (r : Row). column r 0) (slice_get l 0)) are in cc)
 octets_first octets rows (r ∷ all) are told = sym (told ∙ ap (λ l. option_map (λ (r : Row). column r 0) (slice_get l 0)) are)
-
--- an answer that is made of what was found, and a refusal
-module _ {X Y E F : Type 0} (user : List ℕ) (P : X → Tables → Type 0) (Q : Y → Tables → Type 0) (a b : State) (r : Result X E) (h : FindsAmong user P a b r) where
-  pub among_answer : (x : X) → r ≡ Ok x → (y : Y) → ((own : Tables) → P x own → Q y own) → FindsAmong {E = F} user Q a b (Ok y)
-  among_answer x was y made = record { found = λ clean tables held. made (rows_of user tables) (subst (λ o. IfOk o (λ z. P z (rows_of user tables))) was (h.found clean tables held)); keeps = keeps_ok a b r x (Ok y) was h.keeps }
 
 -- ---- the first of a folder
 
@@ -103,3 +97,12 @@ pub first_shows : (user folder : List ℕ) (first : Option NumberedMessage) (own
 first_shows user folder first own a s is =
     ap (option_map (λ m. m.message)) (is a s) ∙ mapped_twice (find (is_in folder) s.copies.entries) ∙ sym (first_shown (λ c. c.message) (is_in folder) s.copies.entries)
     ∙ sym (ap (λ l. slice_get l 0) (ap (λ m. messages_in m folder) s.copies.shown ∙ messages_are s.copies.entries folder))
+
+-- ---- the one after that many
+
+-- and it is the account's message there
+pub nth_shows : (user folder : List ℕ) (count : ℤ) (nth : Option NumberedMessage) (own : Tables) (a : Account) → IsShown user own a → IsNthOf user folder count nth own → IsNthMessage folder count (option_map (λ m. m.message) nth) a
+nth_shows user folder count nth own a s is n given =
+    let few = filter (is_in folder) s.copies.entries in
+    ap (option_map (λ (m : NumberedMessage). m.message)) (is a s n given) ∙ mapped_twice (slice_get few n) ∙ sym (slice_get-map (λ c. c.message) few n)
+    ∙ sym (ap (λ l. slice_get l n) (ap (λ m. messages_in m folder) s.copies.shown ∙ messages_are s.copies.entries folder))

@@ -16,9 +16,12 @@ pub mod ReplyLemmas
 pub mod DecodeLemmas
 pub mod TallyLemmas
 pub mod FolderLemmas
-pub mod FilingLemmas
+pub mod OwnLemmas
+pub mod AmongLemmas
+pub mod OtherLemmas
 pub mod TakingLemmas
 pub mod NthLemmas
+pub mod ListedLemmas
 pub mod FirstLemmas
 pub mod NumberLemmas
 pub mod OneLemmas

@@ -7,6 +7,7 @@ pub mod MessageRows
 pub mod NoticeRows
 pub mod Numbers
 pub mod Promises
+pub mod FolderNumbers
 pub mod HeadRows
 pub mod QueueRows
 pub mod Refusals

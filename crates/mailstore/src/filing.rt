@@ -1,16 +1,17 @@
-//! Which copies a user has, in which folders.
-ghost use Rattle.std.specs.Prelude.{◌≡◌, false};
+//! Where copies are: one of a folder, and another one of its message.
+ghost use Rattle.std.specs.Prelude.{◌≡◌, false, IfErr};
 ghost use Rattle.sqlite.specs.Held.{state};
-ghost use Rattle.mailstore.specs.Promises.{FindsAmong, ReadsOwn};
+ghost use Rattle.mailstore.specs.Promises.{FindsAmong};
 ghost use Rattle.mailtables.specs.Connection.{Queries};
-ghost use Rattle.mailstore.specs.Shows.{AreFilingRows, AreFilings, AreNthRows, IsNthFiling};
+ghost use Rattle.mailstore.specs.Refusals.{IsTransient};
+ghost use Rattle.mailstore.specs.Shows.{AreNthRows, AreOtherRows, IsNthFiling, IsShared};
 
-use crate::cell::text_at;
+use crate::cell::{number, text_at};
 use crate::refusal::Refusal;
-use crate::row::{FromRow, all_from_rows, first_from_row};
+use crate::row::{FromRow, first_from_row};
 use crate::store::Store;
 use mailtables::query;
-use octets::{List, Octets};
+use octets::Octets;
 use sqlite::{Alter, Connection, Error, Row, params};
 
 /// A copy in a folder, without its message.
@@ -22,18 +23,6 @@ pub struct Filing {
     pub n: u64,
     /// The number of its message.
     pub id: u64,
-}
-
-/// Where the user's copies are, in the order of their numbers.
-fn find_filings<S: Alter>(conn: &mut Connection<S>, owner: &[u8]) -> Result<Vec<Row>, Error>
-    requires { conn.old.in_transaction ≡ false }
-    ensures { Queries S.Store (FindsAmong owner.now (λ rows. AreFilingRows owner.now rows.items)) conn.old conn.new result }
-{
-    query(
-        conn,
-        "SELECT folder, n, id FROM copy WHERE owner = ?1 ORDER BY n",
-        params![owner],
-    )
 }
 
 /// Where the folder's copy after that many is, found by its key.
@@ -50,6 +39,23 @@ fn find_nth<S: Alter>(
         conn,
         "SELECT folder, n, id FROM copy WHERE owner = ?1 AND folder = ?2 ORDER BY n LIMIT 1 OFFSET ?3",
         params![owner, folder, count],
+    )
+}
+
+/// Another copy of the message with the number than this one, if there is one.
+fn find_other<S: Alter>(
+    conn: &mut Connection<S>,
+    owner: &[u8],
+    id: &i64,
+    n: &i64,
+) -> Result<Vec<Row>, Error>
+    requires { conn.old.in_transaction ≡ false }
+    ensures { Queries S.Store (FindsAmong owner.now (λ rows. AreOtherRows owner.now id.now n.now rows.items)) conn.old conn.new result }
+{
+    query(
+        conn,
+        "SELECT n FROM copy WHERE owner = ?1 AND id = ?2 AND n <> ?3 LIMIT 1",
+        params![owner, id, n],
     )
 }
 
@@ -71,40 +77,29 @@ impl FromRow for Filing {
 }
 
 impl<S: Alter> Store<S> {
-    /// The row of the folder's copy after that many, if there is one.
-    fn nth_rows(&mut self, user: &[u8], folder: &[u8], count: i64) -> Result<Vec<Row>, Refusal>
-        ensures { ReadsOwn user.now (λ rows. AreNthRows user.now folder.now count rows.items) (state S.Store self.old) (state S.Store self.new) result }
-    {
-        self.enter(user)?;
-        Ok(find_nth(&mut self.conn, user, folder, &count)?)
-    }
-
-    /// The folder's copy after that many, if there is one. No other copy is read.
-    pub(crate) fn nth_filing(
+    /// The folder's copy after that many, if there is one, of an account that was entered. The copies before it are passed
+    /// over, and those after it aren't read.
+    pub(crate) fn nth_filing_of(
         &mut self,
         user: &[u8],
         folder: &[u8],
         count: i64,
     ) -> Result<Option<Filing>, Refusal>
-        ensures { ReadsOwn user.now (IsNthFiling user.now folder.now count) (state S.Store self.old) (state S.Store self.new) result }
+        ensures finds { FindsAmong user.now (IsNthFiling user.now folder.now count) (state S.Store self.old) (state S.Store self.new) result }
+        ensures named { IfErr result IsTransient }
     {
-        let rows = self.nth_rows(user, folder, count)?;
+        let rows = find_nth(&mut self.conn, user, folder, &count)?;
         first_from_row(&rows)
     }
 
-    /// The rows of the user's copies, in the order of their numbers.
-    fn filing_rows(&mut self, user: &[u8]) -> Result<Vec<Row>, Refusal>
-        ensures { ReadsOwn user.now (λ rows. AreFilingRows user.now rows.items) (state S.Store self.old) (state S.Store self.new) result }
+    /// Whether another copy of the same message is there. At most one is read, and no message.
+    pub(crate) fn has_other_copy(&mut self, user: &[u8], copy: &Filing) -> Result<bool, Refusal>
+        ensures finds { FindsAmong user.now (IsShared user.now copy.now) (state S.Store self.old) (state S.Store self.new) result }
+        ensures named { IfErr result IsTransient }
     {
-        self.enter(user)?;
-        Ok(find_filings(&mut self.conn, user)?)
-    }
-
-    /// Where the user's copies are, in the order of their numbers. No message is read; memory is in proportion to the copies.
-    pub(crate) fn filings(&mut self, user: &[u8]) -> Result<List<Filing>, Refusal>
-        ensures { ReadsOwn user.now (AreFilings user.now) (state S.Store self.old) (state S.Store self.new) result }
-    {
-        let rows = self.filing_rows(user)?;
-        all_from_rows(self.alloc, &rows)
+        let id = number(copy.id)?;
+        let n = number(copy.n)?;
+        let rows = find_other(&mut self.conn, user, &id, &n)?;
+        Ok(!rows.is_empty())
     }
 }

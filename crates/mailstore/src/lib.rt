@@ -9,6 +9,7 @@ mod folder;
 mod head;
 mod message;
 mod notice;
+mod numbers;
 mod profile;
 mod queue;
 mod refusal;
