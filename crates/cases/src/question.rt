@@ -163,7 +163,7 @@ fn add_queue(
     out: &mut Octets,
     user: &[u8],
 ) -> Result<(), Refusal> {
-    let rows = store.queue(user)?;
+    let rows = store.queue_heads(user)?;
     let listing = of_queue(alloc, rows.as_slice())?;
     Ok(out.extend_from_slice(listing.as_slice())?)
 }

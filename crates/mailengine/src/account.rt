@@ -58,8 +58,8 @@ pub(crate) fn outgoing<S: Alter>(
     store.outgoing_of(user, id)
 }
 
-/// The first message of the user's folder, with its number; none where the folder is absent. Where the user's copies are is
-/// read, and the message: memory is in proportion to both.
+/// The first message of the user's folder, with its number; none where the folder is absent. No other is read: memory is in
+/// proportion to it.
 ///
 /// # Errors
 ///
@@ -72,5 +72,5 @@ pub fn first_message<S: Alter>(
     ensures { LooksUp user.now (λ first a. HasFirst first (messages_in a.folders folder.now)) (state S.Store store.old) (state S.Store store.new) result }
 {
     let _ = profile(store, user)?;
-    store.first_message(user, folder)
+    store.first_message_of(user, folder)
 }

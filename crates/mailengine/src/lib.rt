@@ -25,5 +25,5 @@ pub use mailstore::{Kind, Outgoing, Plan, Refusal, Report, VacationReport};
 pub use replay::{Ran, run};
 pub use sessions::Progress;
 pub use sieveexec::{Envelope, Failure, Outcome};
-pub use taking::{remove_first, take_mail, take_out};
+pub use taking::{take_mail, take_out};
 pub use user::add_user;

@@ -3,10 +3,7 @@ ghost use Rattle.std.specs.Prelude.{◌≡◌, OnOk, IfErr};
 ghost use Rattle.sqlite.specs.Held.{state};
 ghost use Rattle.sqlite.specs.State.{HasCleanDisk};
 ghost use Rattle.mailengine.specs.Hosts.{ActsTaking, ActsMailTaking, RefusesTaking};
-ghost use Rattle.mailstore.specs.Account.{takes_mail};
 ghost use Rattle.mailstore.specs.Connection.{IsSettled};
-ghost use Rattle.mailstore.specs.Promises.{WritesAccount};
-ghost use Rattle.mailstore.specs.Refusals.{IsTransient};
 
 use crate::account::{first_message, outgoing};
 use mailstore::{Outgoing, Refusal, Store};
@@ -36,7 +33,7 @@ pub fn take_out<S: Alter>(store: &mut Store<S>, user: &[u8], id: u64) -> Result<
 /// Takes the first message out of the user's folder, in one transaction, which is its last act. The folder goes with its last
 /// message. The message's number isn't used again.
 ///
-/// Where the user's copies are is read, and the message: memory is in proportion to both.
+/// The message is read, and no other: memory is in proportion to it.
 ///
 /// # Errors
 ///
@@ -51,27 +48,5 @@ pub fn take_mail<S: Alter>(store: &mut Store<S>, user: &[u8], folder: &[u8]) -> 
     let Some(_message) = first else {
         return Err(Refusal::NoRow);
     };
-    remove_first(store, user, folder)
-}
-
-/// Removes the first message of the user's folder, which [`first_message`] has found a moment ago, in one transaction. The folder
-/// goes with its last message. The message's number isn't used again. From a folder without messages nothing is removed.
-///
-/// Where the user's copies are is read, and no message.
-///
-/// # Errors
-///
-/// [`Refusal::Memory`], and [`Refusal::Store`], also where the user's account has gone since. The store then stays as it was.
-pub fn remove_first<S: Alter>(
-    store: &mut Store<S>,
-    user: &[u8],
-    folder: &[u8],
-) -> Result<(), Refusal>
-    ensures writes { WritesAccount user.now (takes_mail folder.now 1) (state S.Store store.old) (state S.Store store.new) result }
-    ensures named { IfErr result IsTransient }
-{
-    match store.take_mail(user, folder) {
-        Err(Refusal::NoUser) => Err(Refusal::Store),
-        done => done,
-    }
+    store.take_mail(user, folder)
 }

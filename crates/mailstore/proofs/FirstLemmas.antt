@@ -1,11 +1,12 @@
 -- The first message of a folder, read by its number.
-use Rattle.std.proofs.Common.{◌≡◌, ◌==◌, ℕ, ℤ, pos, List, [], ◌∷◌, map, filter, find, slice_get, Option, Some, None, option_map, Ok, Result, IfOk, refl, sym, ap, ◌∙◌, subst, inl, inr, IsPermutation}
+use Rattle.std.proofs.Common.{◌≡◌, ◌==◌, ℕ, zero, suc, ℤ, pos, List, [], ◌∷◌, map, filter, find, slice_get, Option, Some, None, option_map, refl, sym, ap, ◌∙◌, subst, inl, inr, IsPermutation}
+use Rattle.std.proofs.lemmas.Option.{slice_get-map}
 use Rattle.sqlite_value.specs.declared.value.Value.TheVariants.{Int, Blob}
 use Rattle.sqlite_value.specs.Order.{Row, column}
 use Rattle.sqlite_sql.specs.Term.{col}
 use Rattle.sqlite_rules.specs.Lists.{Has}
-use Rattle.sqlite_rules.proofs.ListLemmas.{all_has, has_found}
-use Rattle.sqlite_keyed.proofs.ListLemmas.{filter-map, filter_same, filter-filter, IsPermutation-filter}
+use Rattle.sqlite_rules.proofs.ListLemmas.{all_has, has_filtered}
+use Rattle.sqlite_keyed.proofs.ListLemmas.{filter-map, filter_same, filter-filter, slice_get-filter, IsPermutation-filter}
 use Rattle.sqlite.specs.State.{State, Shown}
 use Rattle.sqlite.proofs.Callers.{one_permutation}
 use Rattle.sqlrows.specs.Rows.{Tables, HoldsTables, has_key}
@@ -18,18 +19,15 @@ use Rattle.mailtables.specs.Schema.{mail_schema}
 use Rattle.mailstore.specs.Account.{Account, messages_in}
 use Rattle.mailtables.specs.MessageTable.{message, message_key, message_tree, bytes_column, select_message}
 use Rattle.mailstore.specs.MessageRows.{message_row}
-use Rattle.mailstore.specs.CopyRows.{Copy, message_of, is_in, is_filed, filing_of, numbered_of, HasFirst}
-use Rattle.mailstore.specs.Shows.{rows_of, IsShown, AreFilings, AreOctetRows, HasOctets, IsFirstOf}
-use Rattle.mailstore.specs.Promises.{FindsAmong}
+use Rattle.mailstore.specs.CopyRows.{Copy, message_of, is_in, filing_of, numbered_of, HasFirst, IsNthMessage}
+use Rattle.mailstore.specs.Shows.{rows_of, IsShown, IsNthFiling, AreOctetRows, HasOctets, IsFirstOf, IsNthOf}
 use Rattle.mailtables.proofs.SchemaFacts.{message_listed}
 use Rattle.mailtables.proofs.TextFacts.{by_two, select_message_is, select_message_plain}
 use Rattle.mailtables.proofs.StatementLemmas.{message_index, message_agrees}
 use Rattle.mailstore.proofs.AccountLemmas.{message_is}
 use Rattle.mailstore.proofs.KeyLemmas.{key_owned}
-use Rattle.mailstore.proofs.KeepLemmas.{keeps_ok}
 use Rattle.mailstore.proofs.NumberLemmas.{alone_at}
 use Rattle.mailstore.proofs.OrderLemmas.{messages_are}
-use Rattle.mailstore.proofs.TakingLemmas.{find_filed}
 
 -- ---- the octets of one message
 
@@ -47,11 +45,6 @@ pub octets_first : (octets : List ℕ) (rows all : List Row) → rows ≡ map (�
 octets_first octets rows [] are told = absurd (let no = told ∙ ap (λ l. option_map (λ (r : Row). column r 0) (slice_get l 0)) are in cc)
 octets_first octets rows (r ∷ all) are told = sym (told ∙ ap (λ l. option_map (λ (r : Row). column r 0) (slice_get l 0)) are)
 
--- an answer that is made of what was found, and a refusal
-module _ {X Y E F : Type 0} (user : List ℕ) (P : X → Tables → Type 0) (Q : Y → Tables → Type 0) (a b : State) (r : Result X E) (h : FindsAmong user P a b r) where
-  pub among_answer : (x : X) → r ≡ Ok x → (y : Y) → ((own : Tables) → P x own → Q y own) → FindsAmong {E = F} user Q a b (Ok y)
-  among_answer x was y made = record { found = λ clean tables held. made (rows_of user tables) (subst (λ o. IfOk o (λ z. P z (rows_of user tables))) was (h.found clean tables held)); keeps = keeps_ok a b r x (Ok y) was h.keeps }
-
 -- ---- the first of a folder
 
 -- a copy's message is the one row with its number
@@ -64,29 +57,36 @@ own_message user own a s c here =
     filter-map key (message_row user) messages ∙ ap (map (message_row user)) (filter_same _ (λ m. m.id == c.id) (λ m. message_is user c.id m) messages ∙ alone_at (λ m. m.id) (message_row user) messages s.copies.stored.rise (message_of c) there) in
     one_permutation (message_row user (message_of c)) _ (subst (λ l. IsPermutation l (filter key (own message_tree))) one (IsPermutation-filter key _ _ s.copies.stored.rows_are))
 
-module _ (user folder : List ℕ) (filings : List Filing) (own : Tables) (are : AreFilings user filings own) where
-  found_as : (a : Account) (s : IsShown user own a) → find (is_filed folder) filings ≡ option_map filing_of (find (is_in folder) s.copies.entries)
-  found_as a s = ap (find (is_filed folder)) (are a s) ∙ find_filed folder s.copies.entries
+has_nth : {X : Type 0} (xs : List X) (n : ℕ) (x : X) → slice_get xs n ≡ Some x → Has xs x
+has_nth [] n x is = absurd (let no = is in cc)
+has_nth (y ∷ xs) zero x is = let same : x ≡ y = cc in inl same
+has_nth (y ∷ xs) (suc n) x is = inr (has_nth xs n x is)
 
-  pub first_none : None ≡ find (is_filed folder) filings → IsFirstOf user folder None own
-  first_none none a s = go (find (is_in folder) s.copies.entries) (none ∙ found_as a s)
+module _ (user folder : List ℕ) (count : ℤ) (filing : Option Filing) (own : Tables) (is_nth : IsNthFiling user folder count filing own) where
+  pub nth_none : filing ≡ None → IsNthOf user folder count None own
+  nth_none none a s n given = go (slice_get (filter (is_in folder) s.copies.entries) n) (sym none ∙ is_nth a s n given)
     where
       go : (o : Option Copy) → None ≡ option_map filing_of o → None ≡ option_map numbered_of o
       go None e = refl
       go (Some c) e = absurd (let no = e in cc)
 
-  pub first_some : (first : Filing) (octets : List ℕ) → Some first ≡ find (is_filed folder) filings → HasOctets user first.id octets own → IsFirstOf user folder (Some (record { number = first.n; message = octets })) own
-  first_some first octets some has a s = go (find (is_in folder) s.copies.entries) refl (some ∙ found_as a s)
+  pub nth_some : (f : Filing) (octets : List ℕ) → filing ≡ Some f → HasOctets user f.id octets own → IsNthOf user folder count (Some (record { number = f.n; message = octets })) own
+  nth_some f octets some has a s n given = go (slice_get (filter (is_in folder) s.copies.entries) n) refl (sym some ∙ is_nth a s n given)
     where
-      go : (o : Option Copy) → find (is_in folder) s.copies.entries ≡ o → Some first ≡ option_map filing_of o → Some (record { number = first.n; message = octets }) ≡ option_map numbered_of o
+      go : (o : Option Copy) → slice_get (filter (is_in folder) s.copies.entries) n ≡ o → Some f ≡ option_map filing_of o → Some (record { number = f.n; message = octets }) ≡ option_map numbered_of o
       go None is e = absurd (let no = e in cc)
       go (Some c) is e =
-          let same : first ≡ filing_of c = cc in
-          let told = ap (λ (f : Filing). slice_get (map (λ r. column r bytes_column) (filter (has_key (message_key user (pos f.id))) (own message_tree))) 0) (sym same) ∙ has in
-          let row = ap (λ l. slice_get (map (λ (r : Row). column r bytes_column) l) 0) (own_message user own a s c (has_found (is_in folder) s.copies.entries c is).0) in
+          let same : f ≡ filing_of c = cc in
+          let told = ap (λ (g : Filing). slice_get (map (λ r. column r bytes_column) (filter (has_key (message_key user (pos g.id))) (own message_tree))) 0) (sym same) ∙ has in
+          let there : Has s.copies.entries c = (has_filtered (is_in folder) s.copies.entries c (has_nth (filter (is_in folder) s.copies.entries) n c is)).0 in
+          let row = ap (λ l. slice_get (map (λ (r : Row). column r bytes_column) l) 0) (own_message user own a s c there) in
           let both : Some (Blob c.message) ≡ Some (Blob octets) = sym row ∙ told in
           let text : octets ≡ c.message = cc in
           λ i. Some (record { number = (same i).n; message = text i })
+
+-- the one after none is the first
+pub nth_first : (user folder : List ℕ) (message : Option NumberedMessage) (own : Tables) → IsNthOf user folder (pos 0) message own → IsFirstOf user folder message own
+nth_first user folder message own is a s = is a s 0 refl ∙ ap (option_map numbered_of) (slice_get-filter (is_in folder) s.copies.entries)
 
 mapped_twice : (o : Option Copy) → option_map (λ m. m.message) (option_map numbered_of o) ≡ option_map (λ c. c.message) o
 mapped_twice None = refl
@@ -97,3 +97,12 @@ pub first_shows : (user folder : List ℕ) (first : Option NumberedMessage) (own
 first_shows user folder first own a s is =
     ap (option_map (λ m. m.message)) (is a s) ∙ mapped_twice (find (is_in folder) s.copies.entries) ∙ sym (first_shown (λ c. c.message) (is_in folder) s.copies.entries)
     ∙ sym (ap (λ l. slice_get l 0) (ap (λ m. messages_in m folder) s.copies.shown ∙ messages_are s.copies.entries folder))
+
+-- ---- the one after that many
+
+-- and it is the account's message there
+pub nth_shows : (user folder : List ℕ) (count : ℤ) (nth : Option NumberedMessage) (own : Tables) (a : Account) → IsShown user own a → IsNthOf user folder count nth own → IsNthMessage folder count (option_map (λ m. m.message) nth) a
+nth_shows user folder count nth own a s is n given =
+    let few = filter (is_in folder) s.copies.entries in
+    ap (option_map (λ (m : NumberedMessage). m.message)) (is a s n given) ∙ mapped_twice (slice_get few n) ∙ sym (slice_get-map (λ c. c.message) few n)
+    ∙ sym (ap (λ l. slice_get l n) (ap (λ m. messages_in m folder) s.copies.shown ∙ messages_are s.copies.entries folder))

@@ -8,6 +8,7 @@ pub mod ReadLemmas
 pub mod KeepLemmas
 pub mod AfterLemmas
 pub mod KeyLemmas
+pub mod HeadLemmas
 pub mod KeyedLemmas
 pub mod EnterLemmas
 pub mod MapLemmas
@@ -15,8 +16,12 @@ pub mod ReplyLemmas
 pub mod DecodeLemmas
 pub mod TallyLemmas
 pub mod FolderLemmas
-pub mod FilingLemmas
+pub mod OwnLemmas
+pub mod AmongLemmas
+pub mod OtherLemmas
 pub mod TakingLemmas
+pub mod NthLemmas
+pub mod ListedLemmas
 pub mod FirstLemmas
 pub mod NumberLemmas
 pub mod OneLemmas

@@ -1,7 +1,7 @@
 -- Examples of what tables show, and near misses.
-use Rattle.std.proofs.Common.{◌≡◌, ◌==◌, ℕ, pos, ◌<◌, ◌≤◌, false, cond, List, [], ◌∷◌, filter, map, length, codes, None, inl, inr, refl, sym, ap, ◌∙◌, arith}
+use Rattle.std.proofs.Common.{◌≡◌, ◌==◌, ℕ, pos, ◌<◌, ◌≤◌, false, cond, List, [], ◌∷◌, filter, map, length, codes, None, option_map, inl, inr, refl, sym, ap, ◌∙◌, arith}
 use Rattle.std.specs.FinMap.{empty, insert}
-use Rattle.std.specs.List.{AllByRecursion}
+use Rattle.std.specs.List.{AllByRecursion, find}
 use Rattle.std.proofs.lemmas.List.Elements.{recursion_from_All, All-from_recursion}
 use Rattle.std.proofs.lemmas.List.Sorted.{IsPermutation-refl, IsPermutation-append_comm, IsPermutation-sym, length_permutation, All-permutation}
 use Rattle.sqlite_value.specs.declared.value.Value.{Value}
@@ -23,11 +23,11 @@ use Rattle.mailstore.specs.NoticeRows.{notice_row}
 use Rattle.sqlite_rules.specs.Lists.{Has}
 use Rattle.mailstore.specs.Delivery.{copied}
 use Rattle.mailtables.specs.Changes.{copy_removed, message_removed}
-use Rattle.mailstore.specs.Taking.{mail_taken}
+use Rattle.mailstore.specs.Taking.{copy_taken}
 use Rattle.mailstore.specs.MessageRows.{Message, message_row}
 use Rattle.mailtables.specs.MessageTable.{message_cells, message_tree}
 use Rattle.mailtables.specs.CopyTable.{copy_tree, n_column, copy_cells}
-use Rattle.mailstore.specs.CopyRows.{Copy, copy_row, folders_from, message_of, HasCopy, AreKept, ShowsCopies, filing_of}
+use Rattle.mailstore.specs.CopyRows.{Copy, copy_row, folders_from, message_of, HasCopy, AreKept, ShowsCopies, is_in, leaving_of}
 use Rattle.mailstore.specs.Shows.{IsShown, IsAbsent, ShowsAccounts}
 use Rattle.mailstore.proofs.NumberLemmas.{numbered_none}
 use Rattle.mailstore.proofs.OpenLemmas.{version_itself}
@@ -116,20 +116,24 @@ a_row_a_folder = refl
 not_kept_unfiled : copied alice (codes "M1") 1 [] (λ tree. []) message_tree ≡ []
 not_kept_unfiled = refl
 
+-- the user's rows once the first copy has left the folder
+abbrev without_first : List ℕ → List Copy → Tables → Tables
+without_first folder copies = copy_taken alice folder (option_map (leaving_of copies) (find (is_in folder) copies))
+
 -- the first message of a folder is taken: of two copies of a message one goes, and its row stays
-row_stays : (own : Tables) → mail_taken alice (codes "lists") (filing_of first ∷ filing_of second ∷ []) own ≡ copy_removed alice (codes "lists") (pos 1) own
+row_stays : (own : Tables) → without_first (codes "lists") (first ∷ second ∷ []) own ≡ copy_removed alice (codes "lists") (pos 1) own
 row_stays own = refl
 
 -- with the last copy the message's row goes
-row_goes : (own : Tables) → mail_taken alice (codes "INBOX") (filing_of second ∷ []) own ≡ message_removed alice (pos 1) (copy_removed alice (codes "INBOX") (pos 2) own)
+row_goes : (own : Tables) → without_first (codes "INBOX") (second ∷ []) own ≡ message_removed alice (pos 1) (copy_removed alice (codes "INBOX") (pos 2) own)
 row_goes own = refl
 
 -- near miss: of two messages in the folder the first goes, and not the later one
-not_the_later : (own : Tables) → mail_taken alice (codes "INBOX") (filing_of first ∷ filing_of second ∷ filing_of third ∷ []) own ≡ copy_removed alice (codes "INBOX") (pos 2) own
+not_the_later : (own : Tables) → without_first (codes "INBOX") (first ∷ second ∷ third ∷ []) own ≡ copy_removed alice (codes "INBOX") (pos 2) own
 not_the_later own = refl
 
 -- near miss: from a folder that has none nothing goes
-none_to_take : (own : Tables) → mail_taken alice (codes "work") (filing_of first ∷ filing_of second ∷ []) own ≡ own
+none_to_take : (own : Tables) → without_first (codes "work") (first ∷ second ∷ []) own ≡ own
 none_to_take own = refl
 
 -- a message whose first copy is gone keeps that copy's number

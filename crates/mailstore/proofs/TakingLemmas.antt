@@ -2,7 +2,6 @@
 use Rattle.std.proofs.Common.{◌≡◌, ◌≢◌, ◌==◌, ◌&&◌, ◌<◌, ℕ, pos, Bool, true, false, not, cond, List, [], ◌∷◌, ◌++◌, drop, map, filter, find, fold, slice_get, Option, Some, None, IsSome, option_map, unwrap_or, refl, sym, ap, ◌∙◌, subst, inl, inr, is_eq, true≢false, eq-eqb, ne_eqb, eqb-true, arith}
 use Rattle.std.specs.List.{list_any}
 use Rattle.std.specs.FinMap.{empty, get, get-empty, get-insert, get-remove, same_map}
-use Rattle.std.specs.Cmp.Lexicographic.{texts_ties}
 use Rattle.std.proofs.lemmas.Bool.{cases_eq, and_parts, and_from, and_right, false_from_ne_true}
 use Rattle.std.proofs.lemmas.Cmp.{nat_list_cmp_total}
 use Rattle.sqlite_trees.specs.Tree.{IsAscending}
@@ -10,21 +9,20 @@ use Rattle.sqlite_sql.specs.declared.ops.CompareOp.TheVariants.{Eq}
 use Rattle.sqlite_rules.specs.Lists.{Has}
 use Rattle.sqlite_rules.proofs.ListLemmas.{all_has, all_from, some_has, has_filtered, has_kept, has_found}
 use Rattle.sqlite_keyed.specs.Lists.{delete_where}
-use Rattle.sqlite_keyed.proofs.ListLemmas.{all-filter, all_unmap, all_weaker, ascending-filter, filter_all, none_from_any, slice_get-filter}
+use Rattle.sqlite_keyed.proofs.ListLemmas.{all-filter, all_weaker, ascending-filter, filter_all, none_from_any, slice_get-filter}
 use Rattle.sqlite_typed.proofs.TestLemmas.{at_blobs, at_ints, last_term, then_term, same_bytes, bytes_eq_refl}
 use Rattle.sqlrows.specs.Rows.{Tables, has_key}
-use Rattle.sqlrows.proofs.AnswerLemmas.{has_unmap}
 use Rattle.sqlrows.proofs.ListLemmas.{equal_itself, filter_kept}
 use Rattle.mailtables.specs.declared.change.Change.{Change}
-use Rattle.mailstore.specs.declared.filing.Filing.{Filing}
+use Rattle.mailstore.specs.declared.taking.Leaving.{Leaving}
 use Rattle.mailstore.specs.Account.{bytes_cmp, Account, Accounts, Folders, with_user, in_place, messages_in, filed, holding, takes_mail}
 use Rattle.mailtables.specs.Changes.{made, copy_removed, message_removed}
-use Rattle.mailstore.specs.Taking.{is_other_copy, message_left, copy_taken, mail_taken, AreTaking}
-use Rattle.mailstore.specs.CopyRows.{Copy, copy_row, message_of, HasCopy, AreKept, folders_from, filing_of, is_filed, is_in}
+use Rattle.mailstore.specs.Taking.{message_left, copy_taken, AreTaking}
+use Rattle.mailstore.specs.CopyRows.{Copy, copy_row, message_of, HasCopy, AreKept, folders_from, filing_of, is_in, is_other_copy, leaving_of}
 use Rattle.mailtables.specs.CopyTable.{copy_key, copy_tree}
 use Rattle.mailstore.specs.MessageRows.{Message, message_row}
 use Rattle.mailtables.specs.MessageTable.{message_key, message_tree}
-use Rattle.mailstore.specs.Shows.{rows_of, IsShown, IsShownOrAbsent, ShowsAccounts, AreFilings}
+use Rattle.mailstore.specs.Shows.{rows_of, IsShown, IsShownOrAbsent, ShowsAccounts, IsLeaving}
 use Rattle.mailstore.specs.Promises.{HasUser}
 use Rattle.mailstore.proofs.AccountLemmas.{bytes_antisymmetric, message_is, same_numbers}
 use Rattle.mailstore.proofs.NumberLemmas.{alone_at, numbered_without}
@@ -158,24 +156,17 @@ module _ (folder : List ℕ) (copies : List Copy) (rise : IsAscending (λ c d. c
             let u = all_has (HasCopy copies) messages m k.used parts.0 in
             (u.0, stays u.0 u.1 (λ is. true≢false (sym parts.1 ∙ ap not (eq-eqb m.id c.id (sym u.2 ∙ ap (λ (x : Copy). x.id) (one_copy u.0 u.1 is))))), u.2)
 
--- ---- filings and copies
+-- ---- the other copies of its message
 
-pub find_filed : (folder : List ℕ) (copies : List Copy) → find (is_filed folder) (map filing_of copies) ≡ option_map filing_of (find (is_in folder) copies)
-find_filed folder [] = refl
-find_filed folder (c ∷ copies) =
-    rw (texts_ties c.folder folder)
-    (elim (is_in folder c) as (λ b. cond b (Some (filing_of c)) (find (is_filed folder) (map filing_of copies)) ≡ option_map filing_of (cond b (Some c) (find (is_in folder) copies))) [ true ↦ refl | false ↦ find_filed folder copies ])
-
-other_there : (c : Copy) (copies : List Copy) → list_any (is_other_copy (filing_of c)) (map filing_of copies) ≡ true → (d : Copy) × Has copies d × (d.id ≡ c.id) × (d.n ≢ c.n)
+other_there : (c : Copy) (copies : List Copy) → list_any (is_other_copy (filing_of c)) copies ≡ true → (d : Copy) × Has copies d × (d.id ≡ c.id) × (d.n ≢ c.n)
 other_there c copies h =
-    let f = some_has (is_other_copy (filing_of c)) (map filing_of copies) h in
-    let d = has_unmap filing_of copies f.0 f.1 in
-    let parts = and_parts (d.0.id == c.id) (not (d.0.n == c.n)) (ap (is_other_copy (filing_of c)) (sym d.2) ∙ f.2) in
-    (d.0, d.1, eqb-true d.0.id c.id parts.0, λ same. true≢false (sym parts.1 ∙ ap not (eq-eqb d.0.n c.n same)))
+    let f = some_has (is_other_copy (filing_of c)) copies h in
+    let parts = and_parts (f.0.id == c.id) (not (f.0.n == c.n)) f.2 in
+    (f.0, f.1, eqb-true f.0.id c.id parts.0, λ same. true≢false (sym parts.1 ∙ ap not (eq-eqb f.0.n c.n same)))
 
-other_none : (c : Copy) (copies : List Copy) → list_any (is_other_copy (filing_of c)) (map filing_of copies) ≡ false → (d : Copy) → Has copies d → d.id ≡ c.id → d.n ≡ c.n
+other_none : (c : Copy) (copies : List Copy) → list_any (is_other_copy (filing_of c)) copies ≡ false → (d : Copy) → Has copies d → d.id ≡ c.id → d.n ≡ c.n
 other_none c copies h d there same =
-    let none = all_has (λ x. is_other_copy (filing_of c) (filing_of x) ≡ false) copies d (all_unmap (λ f. is_other_copy (filing_of c) f ≡ false) filing_of copies (none_from_any (is_other_copy (filing_of c)) (map filing_of copies) h)) there in
+    let none = all_has (λ x. is_other_copy (filing_of c) x ≡ false) copies d (none_from_any (is_other_copy (filing_of c)) copies h) there in
     elim (cases_eq d.n c.n) [
       | inl is ↦ is
       | inr differ ↦ absurd (true≢false (sym (and_from (d.id == c.id) (not (d.n == c.n)) (eq-eqb d.id c.id same) (ap not (ne_eqb d.n c.n differ))) ∙ none))
@@ -203,9 +194,6 @@ none_split p copies is = go (filter p copies) refl
 module _ (user folder : List ℕ) (own : Tables) (a : Account) (s : IsShown user own a) where
   abbrev copies_are : List Copy
   copies_are = s.copies.entries
-
-  abbrev filings_are : List Filing
-  filings_are = map filing_of copies_are
 
   folders_left : (later rest : List Copy) (taken : List Copy) → filter (is_in folder) copies_are ≡ taken → drop 1 (map (λ c. c.message) taken) ≡ map (λ c. c.message) rest → filter (is_in folder) later ≡ rest
       → ((q : List ℕ) → is_eq (bytes_cmp q folder) ≡ false → filter (is_in q) later ≡ filter (is_in q) copies_are) → (takes_mail folder 1 a).folders ≡ folders_from later
@@ -248,7 +236,7 @@ module _ (user folder : List ℕ) (own : Tables) (a : Account) (s : IsShown user
         folders_left still split.0 (c ∷ split.0) split.1 refl (rest_left folder copies_are s.copies.numbered.rise c there.0 there.1 split.0 split.1) (others_left folder copies_are s.copies.numbered.rise c there.0 there.1)
 
     -- its message has another copy
-    copy_gone : list_any (is_other_copy (filing_of c)) filings_are ≡ true → IsShown user (copy_removed user folder (pos c.n) own) (takes_mail folder 1 a)
+    copy_gone : list_any (is_other_copy (filing_of c)) copies_are ≡ true → IsShown user (copy_removed user folder (pos c.n) own) (takes_mail folder 1 a)
     copy_gone some =
         let other = other_there c copies_are some in
         record {
@@ -270,7 +258,7 @@ module _ (user folder : List ℕ) (own : Tables) (a : Account) (s : IsShown user
         }
 
     -- its message goes with it
-    message_gone : list_any (is_other_copy (filing_of c)) filings_are ≡ false → IsShown user (message_removed user (pos c.id) (copy_removed user folder (pos c.n) own)) (takes_mail folder 1 a)
+    message_gone : list_any (is_other_copy (filing_of c)) copies_are ≡ false → IsShown user (message_removed user (pos c.id) (copy_removed user folder (pos c.n) own)) (takes_mail folder 1 a)
     message_gone none = record {
       next_copy = s.next_copy;
       next_notice = s.next_notice;
@@ -289,28 +277,28 @@ module _ (user folder : List ℕ) (own : Tables) (a : Account) (s : IsShown user
       };
     }
 
-    one_gone : (b : Bool) → list_any (is_other_copy (filing_of c)) filings_are ≡ b → IsShown user (message_left user (filing_of c) b (copy_removed user folder (pos c.n) own)) (takes_mail folder 1 a)
+    one_gone : (b : Bool) → list_any (is_other_copy (filing_of c)) copies_are ≡ b → IsShown user (message_left user (filing_of c) b (copy_removed user folder (pos c.n) own)) (takes_mail folder 1 a)
     one_gone true some = copy_gone some
     one_gone false none = message_gone none
 
   -- the rows that are left show the account without the message
-  pub mail_gone : IsShown user (mail_taken user folder filings_are own) (takes_mail folder 1 a)
-  mail_gone = subst (λ o. IsShown user (copy_taken user folder filings_are o own) (takes_mail folder 1 a)) (sym (find_filed folder copies_are)) (go (find (is_in folder) copies_are) refl)
+  pub mail_gone : (leaving : Option Leaving) → leaving ≡ option_map (leaving_of copies_are) (find (is_in folder) copies_are) → IsShown user (copy_taken user folder leaving own) (takes_mail folder 1 a)
+  mail_gone leaving told = subst (λ o. IsShown user (copy_taken user folder o own) (takes_mail folder 1 a)) (sym told) (go (find (is_in folder) copies_are) refl)
     where
-      go : (o : Option Copy) → find (is_in folder) copies_are ≡ o → IsShown user (copy_taken user folder filings_are (option_map filing_of o) own) (takes_mail folder 1 a)
+      go : (o : Option Copy) → find (is_in folder) copies_are ≡ o → IsShown user (copy_taken user folder (option_map (leaving_of copies_are) o) own) (takes_mail folder 1 a)
       go None is = none_taken is
-      go (Some c) is = one_gone c is (list_any (is_other_copy (filing_of c)) filings_are) refl
+      go (Some c) is = one_gone c is (list_any (is_other_copy (filing_of c)) copies_are) refl
 
 -- ---- the accounts
 
-pub mail_shows : (user folder : List ℕ) (filings : List Filing) (ds : List Change) → AreTaking user folder filings ds → (tables : Tables) (accounts : Accounts) → ShowsAccounts tables accounts → HasUser user accounts
-    → AreFilings user filings (rows_of user tables) → ShowsAccounts (made tables ds) (with_user accounts user (takes_mail folder 1))
-mail_shows user folder filings ds taking tables accounts shows has told = go (get accounts user) refl has
+pub mail_shows : (user folder : List ℕ) (leaving : Option Leaving) (ds : List Change) → AreTaking user folder leaving ds → (tables : Tables) (accounts : Accounts) → ShowsAccounts tables accounts → HasUser user accounts
+    → IsLeaving user folder leaving (rows_of user tables) → ShowsAccounts (made tables ds) (with_user accounts user (takes_mail folder 1))
+mail_shows user folder leaving ds taking tables accounts shows has told = go (get accounts user) refl has
   where
     go : (o : Option Account) → get accounts user ≡ o → IsSome o → ShowsAccounts (made tables ds) (in_place accounts user (takes_mail folder 1) (get accounts user))
     go None is some = absurd (let e = some in cc)
     go (Some a) is some =
         let own = rows_of user tables in
         let here = subst (IsShownOrAbsent user own) is (shows.users user) in
-        let gone = subst (λ l. IsShown user (mail_taken user folder l own) (takes_mail folder 1 a)) (sym (told a here)) (mail_gone user folder own a here) in
+        let gone = mail_gone user folder own a here leaving (told a here) in
         rw is (shows_after tables accounts user ds (takes_mail folder 1 a) taking.owned shows (subst (λ t. IsShown user t (takes_mail folder 1 a)) (sym (taking.makes own)) gone))

@@ -1,15 +1,15 @@
 -- What rows show of the copies of a user's messages, which are the folders, and what is read of them.
-use Rattle.std.specs.Prelude.{◌≡◌, ◌≤◌, Bool, ℕ, pos, List, [], ◌∷◌, fold, map, nat_eq, Option, option_map, slice_get}
-use Rattle.std.specs.List.{AllByRecursion}
+use Rattle.std.specs.Prelude.{◌≡◌, ◌≤◌, ◌==◌, ◌&&◌, Bool, not, ℕ, ℤ, pos, List, [], ◌∷◌, fold, map, Option, option_map, slice_get}
+use Rattle.std.specs.List.{AllByRecursion, list_any}
 use Rattle.std.specs.FinMap.{empty}
 use Rattle.std.specs.Ordering.{is_eq}
-use Rattle.std.specs.Cmp.Lexicographic.{pointwise}
 use Rattle.sqlite_value.specs.declared.value.Value.TheVariants.{Int, Blob}
 use Rattle.sqlite_value.specs.Order.{Row}
 use Rattle.sqlite_rules.specs.Lists.{Has}
 use Rattle.mailtables.specs.CopyTable.{copy_cells}
 use Rattle.mailstore.specs.Account.{bytes_cmp, Account, Folders, messages_in, filed}
 use Rattle.mailstore.specs.declared.filing.Filing.{Filing}
+use Rattle.mailstore.specs.declared.taking.Leaving.{Leaving}
 use Rattle.mailstore.specs.declared.taking.NumberedMessage.{NumberedMessage}
 use Rattle.mailstore.specs.Numbers.{AreNumbered}
 use Rattle.mailstore.specs.MessageRows.{Message, message_row}
@@ -66,9 +66,13 @@ filing_of c = record { folder = c.folder; n = c.n; id = c.id }
 abbrev pub filing_cells : Filing → Row
 filing_cells f = Blob f.folder ∷ Int (pos f.n) ∷ Int (pos f.id) ∷ []
 
--- it is in the folder of this name, octet by octet
-abbrev pub is_filed : List ℕ → Filing → Bool
-is_filed folder f = pointwise nat_eq f.folder folder
+-- it is another copy of the same message
+abbrev pub is_other_copy : Filing → Copy → Bool
+is_other_copy f c = c.id == f.id && not (c.n == f.n)
+
+-- a copy that leaves, among all of the user's
+abbrev pub leaving_of : List Copy → Copy → Leaving
+leaving_of copies c = record { copy = filing_of c; is_shared = list_any (is_other_copy (filing_of c)) copies }
 
 -- a copy's message, with the copy's number
 abbrev pub numbered_of : Copy → NumberedMessage
@@ -77,6 +81,10 @@ numbered_of c = record { number = c.n; message = c.message }
 -- it is the first of the messages, and none where there is none
 abbrev pub HasFirst : Option NumberedMessage → List (List ℕ) → Type 0
 HasFirst first messages = option_map (λ m. m.message) first ≡ slice_get messages 0
+
+-- of a number as the database has it: it is the message of the folder after that many, and none where there are no more
+abbrev pub IsNthMessage : List ℕ → ℤ → Option (List ℕ) → Account → Type 0
+IsNthMessage folder count message a = (n : ℕ) → count ≡ pos n → message ≡ slice_get (messages_in a.folders folder) n
 
 -- the rows are the messages of the folder, in the order in which they came
 abbrev pub AreMessageRows : List ℕ → List Row → Account → Type 0

@@ -7,6 +7,8 @@ pub mod MessageRows
 pub mod NoticeRows
 pub mod Numbers
 pub mod Promises
+pub mod FolderNumbers
+pub mod HeadRows
 pub mod QueueRows
 pub mod Refusals
 pub mod ReplyRows

@@ -1,6 +1,6 @@
 -- Which accounts the tables show, row by row.
-use Rattle.std.specs.Prelude.{◌≡◌, ℕ, ℤ, pos, List, [], ◌∷◌, filter, map, slice_get, Option, Some, None, option_map}
-use Rattle.std.specs.List.{find}
+use Rattle.std.specs.Prelude.{◌≡◌, ℕ, ℤ, pos, Bool, List, [], ◌∷◌, filter, length, map, take, drop, slice_get, Option, Some, None, option_map, if◌then◌else◌}
+use Rattle.std.specs.List.{find, list_any}
 use Rattle.std.specs.FinMap.{get}
 use Rattle.sqlite_value.specs.declared.value.Value.TheVariants.{Blob}
 use Rattle.sqlite_value.specs.Order.{Row, column}
@@ -23,7 +23,8 @@ use Rattle.mailtables.specs.NoticeTable.{notice_tree}
 use Rattle.mailstore.specs.NoticeRows.{ShowsNotices}
 use Rattle.mailtables.specs.MessageTable.{message_key, message_tree, bytes_column}
 use Rattle.mailtables.specs.CopyTable.{copy_tree}
-use Rattle.mailstore.specs.CopyRows.{ShowsCopies, is_in, filing_of, filing_cells, numbered_of}
+use Rattle.mailstore.specs.CopyRows.{ShowsCopies, is_in, is_other_copy, filing_of, filing_cells, leaving_of, numbered_of}
+use Rattle.mailstore.specs.declared.taking.Leaving.{Leaving}
 use Rattle.mailstore.specs.declared.taking.NumberedMessage.{NumberedMessage}
 use Rattle.mailstore.specs.declared.filing.Filing.{Filing}
 
@@ -79,13 +80,15 @@ StillShows old new = HasCleanDisk new → (accounts : Accounts) → ShowsIn old.
 
 -- ---- what is read of the copies
 
--- the rows are the copies that the user's rows show, in the order of their numbers
-abbrev pub AreFilingRows : List ℕ → List Row → Tables → Type 0
-AreFilingRows user rows own = (a : Account) (s : IsShown user own a) → rows ≡ map filing_cells (map filing_of s.copies.entries)
+-- of a number as the database has it: the row is that of the folder's copy after that many, or there is none
+abbrev pub AreNthRows : List ℕ → List ℕ → ℤ → List Row → Tables → Type 0
+AreNthRows user folder count rows own =
+    (a : Account) (s : IsShown user own a) (n : ℕ) → count ≡ pos n → rows ≡ take 1 (drop n (map filing_cells (map filing_of (filter (is_in folder) s.copies.entries))))
 
--- these are the copies that the user's rows show, in the order of their numbers
-abbrev pub AreFilings : List ℕ → List Filing → Tables → Type 0
-AreFilings user filings own = (a : Account) (s : IsShown user own a) → filings ≡ map filing_of s.copies.entries
+-- it is the folder's copy after that many that the user's rows show, or none
+abbrev pub IsNthFiling : List ℕ → List ℕ → ℤ → Option Filing → Tables → Type 0
+IsNthFiling user folder count filing own =
+    (a : Account) (s : IsShown user own a) (n : ℕ) → count ≡ pos n → filing ≡ option_map filing_of (slice_get (filter (is_in folder) s.copies.entries) n)
 
 -- the rows are the octets of the user's message with the number, where it has a row
 abbrev pub AreOctetRows : List ℕ → ℤ → List Row → Tables → Type 0
@@ -95,6 +98,24 @@ AreOctetRows user id rows own = rows ≡ map (λ r. column r bytes_column ∷ []
 abbrev pub HasOctets : List ℕ → ℕ → List ℕ → Tables → Type 0
 HasOctets user id octets own = slice_get (map (λ r. column r bytes_column) (filter (has_key (message_key user (pos id))) (own message_tree))) 0 ≡ Some (Blob octets)
 
+-- it is the folder's message after that many, with the number of its copy, that the user's rows show, or none where they show none
+abbrev pub IsNthOf : List ℕ → List ℕ → ℤ → Option NumberedMessage → Tables → Type 0
+IsNthOf user folder count message own =
+    (a : Account) (s : IsShown user own a) (n : ℕ) → count ≡ pos n → message ≡ option_map numbered_of (slice_get (filter (is_in folder) s.copies.entries) n)
+
 -- it is the first message of the folder, with the number of its copy, that the user's rows show, or none where they show none
 abbrev pub IsFirstOf : List ℕ → List ℕ → Option NumberedMessage → Tables → Type 0
 IsFirstOf user folder first own = (a : Account) (s : IsShown user own a) → first ≡ option_map numbered_of (find (is_in folder) s.copies.entries)
+
+-- of a copy whose numbers the database has as these: one row where another copy of its message is there, and none where there isn't
+abbrev pub AreOtherRows : List ℕ → ℤ → ℤ → List Row → Tables → Type 0
+AreOtherRows user id n rows own =
+    (a : Account) (s : IsShown user own a) (f : Filing) → id ≡ pos f.id → n ≡ pos f.n → length rows ≡ (if list_any (is_other_copy f) s.copies.entries then 1 else 0)
+
+-- whether the user's rows show another copy of the same message
+abbrev pub IsShared : List ℕ → Filing → Bool → Tables → Type 0
+IsShared user f shared own = (a : Account) (s : IsShown user own a) → shared ≡ list_any (is_other_copy f) s.copies.entries
+
+-- it is the first copy of the folder that the user's rows show, and whether they show another one of its message; none where they show none
+abbrev pub IsLeaving : List ℕ → List ℕ → Option Leaving → Tables → Type 0
+IsLeaving user folder leaving own = (a : Account) (s : IsShown user own a) → leaving ≡ option_map (leaving_of s.copies.entries) (find (is_in folder) s.copies.entries)

@@ -1,16 +1,17 @@
-//! Which copies a user has, in which folders.
-ghost use Rattle.std.specs.Prelude.{◌≡◌, false};
+//! Where copies are: one of a folder, and another one of its message.
+ghost use Rattle.std.specs.Prelude.{◌≡◌, false, IfErr};
 ghost use Rattle.sqlite.specs.Held.{state};
-ghost use Rattle.mailstore.specs.Promises.{FindsAmong, ReadsOwn};
+ghost use Rattle.mailstore.specs.Promises.{FindsAmong};
 ghost use Rattle.mailtables.specs.Connection.{Queries};
-ghost use Rattle.mailstore.specs.Shows.{AreFilingRows, AreFilings};
+ghost use Rattle.mailstore.specs.Refusals.{IsTransient};
+ghost use Rattle.mailstore.specs.Shows.{AreNthRows, AreOtherRows, IsNthFiling, IsShared};
 
-use crate::cell::text_at;
+use crate::cell::{number, text_at};
 use crate::refusal::Refusal;
-use crate::row::{FromRow, all_from_rows};
+use crate::row::{FromRow, first_from_row};
 use crate::store::Store;
 use mailtables::query;
-use octets::{List, Octets};
+use octets::Octets;
 use sqlite::{Alter, Connection, Error, Row, params};
 
 /// A copy in a folder, without its message.
@@ -24,15 +25,37 @@ pub struct Filing {
     pub id: u64,
 }
 
-/// Where the user's copies are, in the order of their numbers.
-fn find_filings<S: Alter>(conn: &mut Connection<S>, owner: &[u8]) -> Result<Vec<Row>, Error>
+/// Where the folder's copy after that many is, found by its key.
+fn find_nth<S: Alter>(
+    conn: &mut Connection<S>,
+    owner: &[u8],
+    folder: &[u8],
+    count: &i64,
+) -> Result<Vec<Row>, Error>
     requires { conn.old.in_transaction ≡ false }
-    ensures { Queries S.Store (FindsAmong owner.now (λ rows. AreFilingRows owner.now rows.items)) conn.old conn.new result }
+    ensures { Queries S.Store (FindsAmong owner.now (λ rows. AreNthRows owner.now folder.now count.now rows.items)) conn.old conn.new result }
 {
     query(
         conn,
-        "SELECT folder, n, id FROM copy WHERE owner = ?1 ORDER BY n",
-        params![owner],
+        "SELECT folder, n, id FROM copy WHERE owner = ?1 AND folder = ?2 ORDER BY n LIMIT 1 OFFSET ?3",
+        params![owner, folder, count],
+    )
+}
+
+/// Another copy of the message with the number than this one, if there is one.
+fn find_other<S: Alter>(
+    conn: &mut Connection<S>,
+    owner: &[u8],
+    id: &i64,
+    n: &i64,
+) -> Result<Vec<Row>, Error>
+    requires { conn.old.in_transaction ≡ false }
+    ensures { Queries S.Store (FindsAmong owner.now (λ rows. AreOtherRows owner.now id.now n.now rows.items)) conn.old conn.new result }
+{
+    query(
+        conn,
+        "SELECT n FROM copy WHERE owner = ?1 AND id = ?2 AND n <> ?3 LIMIT 1",
+        params![owner, id, n],
     )
 }
 
@@ -54,19 +77,29 @@ impl FromRow for Filing {
 }
 
 impl<S: Alter> Store<S> {
-    /// The rows of the user's copies, in the order of their numbers.
-    fn filing_rows(&mut self, user: &[u8]) -> Result<Vec<Row>, Refusal>
-        ensures { ReadsOwn user.now (λ rows. AreFilingRows user.now rows.items) (state S.Store self.old) (state S.Store self.new) result }
+    /// The folder's copy after that many, if there is one, of an account that was entered. The copies before it are passed
+    /// over, and those after it aren't read.
+    pub(crate) fn nth_filing_of(
+        &mut self,
+        user: &[u8],
+        folder: &[u8],
+        count: i64,
+    ) -> Result<Option<Filing>, Refusal>
+        ensures finds { FindsAmong user.now (IsNthFiling user.now folder.now count) (state S.Store self.old) (state S.Store self.new) result }
+        ensures named { IfErr result IsTransient }
     {
-        self.enter(user)?;
-        Ok(find_filings(&mut self.conn, user)?)
+        let rows = find_nth(&mut self.conn, user, folder, &count)?;
+        first_from_row(&rows)
     }
 
-    /// Where the user's copies are, in the order of their numbers. No message is read; memory is in proportion to the copies.
-    pub(crate) fn filings(&mut self, user: &[u8]) -> Result<List<Filing>, Refusal>
-        ensures { ReadsOwn user.now (AreFilings user.now) (state S.Store self.old) (state S.Store self.new) result }
+    /// Whether another copy of the same message is there. At most one is read, and no message.
+    pub(crate) fn has_other_copy(&mut self, user: &[u8], copy: &Filing) -> Result<bool, Refusal>
+        ensures finds { FindsAmong user.now (IsShared user.now copy.now) (state S.Store self.old) (state S.Store self.new) result }
+        ensures named { IfErr result IsTransient }
     {
-        let rows = self.filing_rows(user)?;
-        all_from_rows(self.alloc, &rows)
+        let id = number(copy.id)?;
+        let n = number(copy.n)?;
+        let rows = find_other(&mut self.conn, user, &id, &n)?;
+        Ok(!rows.is_empty())
     }
 }

@@ -1,7 +1,7 @@
 //! A user's folders.
-ghost use Rattle.std.specs.Prelude.{◌≡◌, ℕ, false, OnOk, List, map, IfOk, IfErr};
+ghost use Rattle.std.specs.Prelude.{◌≡◌, ℕ, false, OnOk, List, map, option_map, slice_get, IfOk, IfErr};
 ghost use Rattle.sqlite.specs.Held.{state};
-ghost use Rattle.mailstore.specs.CopyRows.{AreMessageRows};
+ghost use Rattle.mailstore.specs.CopyRows.{AreMessageRows, IsNthMessage};
 ghost use Rattle.mailstore.specs.Promises.{Finds, Reads, ReadsEntered};
 ghost use Rattle.mailtables.specs.Connection.{Queries};
 ghost use Rattle.mailstore.specs.Tally.{AreFolderRows, tallied, AreFolders, counted};
@@ -14,6 +14,7 @@ use crate::cell::text_at;
 use crate::refusal::Refusal;
 use crate::row::all_from_rows;
 use crate::store::Store;
+use crate::taking::NumberedMessage;
 use mailtables::query;
 use octets::{List, Octets, Texts};
 use sqlite::{Alter, Connection, Error, Row, params};
@@ -88,6 +89,27 @@ fn tally(alloc: Global, rows: &[Row]) -> Result<List<Folder>, Refusal>
     Ok(List::from_vec(all))
 }
 
+/// The message, without the number of its copy.
+fn without_number(numbered: Option<NumberedMessage>) -> Option<Octets>
+    ensures { result ≡ option_map (λ m. m.message) numbered }
+{
+    match numbered {
+        Some(NumberedMessage { number: _, message }) => Some(message),
+        None => None,
+    }
+}
+
+/// A copy of the message after that many, if there is one.
+fn cloned_at(alloc: Global, messages: &[Octets], at: u64) -> Result<Option<Octets>, Refusal>
+    ensures same { IfOk result (λ copy. copy ≡ slice_get messages.now at) }
+    ensures named { IfErr result IsTransient }
+{
+    match messages.get(at as usize) {
+        Some(message) => Ok(Some(message.try_clone(alloc)?)),
+        None => Ok(None),
+    }
+}
+
 impl<S: Alter> Store<S> {
     /// The messages of the folder, in the order in which they came; none where it is absent.
     pub fn folder(&mut self, user: &[u8], folder: &[u8]) -> Result<Texts, Refusal>
@@ -103,6 +125,62 @@ impl<S: Alter> Store<S> {
     {
         let rows = find_messages(&mut self.conn, user, folder)?;
         all_from_rows(self.alloc, &rows)
+    }
+
+    /// The message of the folder after that many, in the order in which they came; none where there are no more. No other
+    /// message is read: time is linear in it and in how many are before it, memory in it.
+    pub fn message_at(
+        &mut self,
+        user: &[u8],
+        folder: &[u8],
+        at: u64,
+    ) -> Result<Option<Octets>, Refusal>
+        ensures { Reads user.now (λ message a. message ≡ slice_get (messages_in a.folders folder.now) at) (state S.Store self.old) (state S.Store self.new) result }
+    {
+        self.enter(user)?;
+        self.message_at_of(user, folder, at)
+    }
+
+    /// The same of an account that was entered.
+    fn message_at_of(
+        &mut self,
+        user: &[u8],
+        folder: &[u8],
+        at: u64,
+    ) -> Result<Option<Octets>, Refusal>
+        ensures { ReadsEntered user.now (λ message a. message ≡ slice_get (messages_in a.folders folder.now) at) (state S.Store self.old) (state S.Store self.new) result }
+    {
+        match i64::try_from(at) {
+            Ok(count) => self.nth_message_of(user, folder, count),
+            // The database has no such number, which its contracts don't say: all messages are looked at.
+            Err(_) => self.message_among_of(user, folder, at),
+        }
+    }
+
+    /// The message after that many, found by the folder's key.
+    fn nth_message_of(
+        &mut self,
+        user: &[u8],
+        folder: &[u8],
+        count: i64,
+    ) -> Result<Option<Octets>, Refusal>
+        ensures { ReadsEntered user.now (IsNthMessage folder.now count) (state S.Store self.old) (state S.Store self.new) result }
+    {
+        let nth = self.nth_numbered_of(user, folder, count)?;
+        Ok(without_number(nth))
+    }
+
+    /// The message after that many, found among all of the folder's.
+    fn message_among_of(
+        &mut self,
+        user: &[u8],
+        folder: &[u8],
+        at: u64,
+    ) -> Result<Option<Octets>, Refusal>
+        ensures { ReadsEntered user.now (λ message a. message ≡ slice_get (messages_in a.folders folder.now) at) (state S.Store self.old) (state S.Store self.new) result }
+    {
+        let messages = self.folder_of(user, folder)?;
+        cloned_at(self.alloc, messages.as_slice(), at)
     }
 
     /// The user's folders in the order of the octets of their names, with how many messages they

@@ -6,8 +6,10 @@ mod cell;
 mod delivery;
 mod filing;
 mod folder;
+mod head;
 mod message;
 mod notice;
+mod numbers;
 mod profile;
 mod queue;
 mod refusal;
@@ -19,6 +21,7 @@ pub mod store;
 mod taking;
 
 pub use folder::Folder;
+pub use head::Head;
 pub use mailtables::Kind;
 pub use notice::Notice;
 pub use profile::Profile;

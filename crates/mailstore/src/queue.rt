@@ -93,7 +93,7 @@ fn find_outgoing<S: Alter>(
 }
 
 /// The kind whose number is in the cell; another number is refused.
-fn kind_at(row: &Row, at: usize) -> Result<Kind, Refusal>
+pub(crate) fn kind_at(row: &Row, at: usize) -> Result<Kind, Refusal>
     ensures ok { IfOk result (λ kind. column row.now at ≡ Int (pos (kind_number kind))) }
     ensures named { IfErr result IsTransient }
 {

@@ -1,13 +1,12 @@
 //! The first message of a folder: what it is, and how it leaves.
-ghost use Rattle.std.specs.Prelude.{◌≡◌, IfOk, IfErr, option_copied};
-ghost use Rattle.std.specs.List.{find, list_any};
+ghost use Rattle.std.specs.Prelude.{IfOk, IfErr};
 ghost use Rattle.sqlite.specs.Held.{state};
 ghost use Rattle.mailstore.specs.Account.{messages_in, takes_mail};
-ghost use Rattle.mailstore.specs.Taking.{AreTaking, is_other_copy};
-ghost use Rattle.mailstore.specs.CopyRows.{is_filed, HasFirst};
-ghost use Rattle.mailstore.specs.Promises.{Reads, ReadsOwn, WritesAccount};
+ghost use Rattle.mailstore.specs.Taking.{AreTaking};
+ghost use Rattle.mailstore.specs.CopyRows.{HasFirst};
+ghost use Rattle.mailstore.specs.Promises.{FindsAmong, Reads, ReadsEntered, ReadsOwn, WritesAccount};
 ghost use Rattle.mailstore.specs.Refusals.{IsTransient};
-ghost use Rattle.mailstore.specs.Shows.{IsFirstOf};
+ghost use Rattle.mailstore.specs.Shows.{IsFirstOf, IsLeaving, IsNthOf};
 
 use crate::cell::number;
 use crate::filing::Filing;
@@ -27,70 +26,66 @@ pub struct NumberedMessage {
     pub message: Octets,
 }
 
-/// The first copy in the folder, if there is one.
-fn first_in<'a>(filings: &'a [Filing], folder: &[u8]) -> Option<&'a Filing>
-    ensures { option_copied result ≡ find (is_filed folder.now) filings.now }
-{
-    filings.iter().find(|f| f.folder.as_slice() == folder)
+/// The copy that is to leave a folder.
+#[derive(Drop)]
+struct Leaving {
+    copy: Filing,
+    /// Whether another copy of its message is there, so that the message stays.
+    is_shared: bool,
 }
 
-/// Whether another copy of the same message is there.
-fn has_other_copy(filings: &[Filing], first: &Filing) -> bool
-    ensures { result ≡ list_any (is_other_copy first.now) filings.now }
-{
-    filings.iter().any(|f| f.id == first.id && f.n != first.n)
-}
-
-/// The changes that take the first message out of the folder of a user who has these copies; none where it has none.
+/// The changes that take the copy out of the user's folder; none where there is none.
 fn taking_changes<'a>(
     alloc: Global,
     user: &'a [u8],
     folder: &'a [u8],
-    filings: &[Filing],
+    leaving: &Option<Leaving>,
 ) -> Result<Vec<Change<'a>>, Refusal>
-    ensures taking { IfOk result (λ changes. AreTaking user.now folder.now filings.now changes.items) }
+    ensures taking { IfOk result (λ changes. AreTaking user.now folder.now leaving.now changes.items) }
     ensures named { IfErr result IsTransient }
 {
     let mut changes = Vec::new(alloc);
-    let Some(first) = first_in(filings, folder) else {
+    let Some(leaving) = leaving else {
         return Ok(changes);
     };
-    let n = number(first.n)?;
+    let n = number(leaving.copy.n)?;
     changes.push(Change::RemoveCopy {
         owner: user,
         folder,
         n,
     })?;
-    if has_other_copy(filings, first) {
+    if leaving.is_shared {
         return Ok(changes);
     }
-    let id = number(first.id)?;
+    let id = number(leaving.copy.id)?;
     changes.push(Change::RemoveMessage { owner: user, id })?;
     Ok(changes)
 }
 
 impl<S: Alter> Store<S> {
-    /// The first message of the folder with its number, as the user's rows have them; none where the folder is absent.
-    fn first_numbered(
+    /// The folder's message after that many with its number, as the user's rows have them; none where there are no more. Of an
+    /// account that was entered.
+    pub(crate) fn nth_numbered_of(
         &mut self,
         user: &[u8],
         folder: &[u8],
+        count: i64,
     ) -> Result<Option<NumberedMessage>, Refusal>
-        ensures { ReadsOwn user.now (IsFirstOf user.now folder.now) (state S.Store self.old) (state S.Store self.new) result }
+        ensures finds { FindsAmong user.now (IsNthOf user.now folder.now count) (state S.Store self.old) (state S.Store self.new) result }
+        ensures named { IfErr result IsTransient }
     {
-        let filings = self.filings(user)?;
-        let Some(first) = first_in(filings.as_slice(), folder) else {
+        let Some(filing) = self.nth_filing_of(user, folder, count)? else {
             return Ok(None);
         };
-        let message = self.message(user, first.id)?;
+        let message = self.message(user, filing.id)?;
         Ok(Some(NumberedMessage {
-            number: first.n,
+            number: filing.n,
             message,
         }))
     }
 
     /// The first message of the folder, which came before the others, with the number of its copy; none where the folder is
-    /// absent. No other message is read; memory is in proportion to it and to the user's copies.
+    /// absent. No other message and no other copy is read; memory is in proportion to it.
     pub fn first_message(
         &mut self,
         user: &[u8],
@@ -99,17 +94,48 @@ impl<S: Alter> Store<S> {
         ensures first { Reads user.now (λ first a. HasFirst first (messages_in a.folders folder.now)) (state S.Store self.old) (state S.Store self.new) result }
         ensures numbered { ReadsOwn user.now (IsFirstOf user.now folder.now) (state S.Store self.old) (state S.Store self.new) result }
     {
-        self.first_numbered(user, folder)
+        self.enter(user)?;
+        self.nth_numbered_of(user, folder, 0)
     }
 
-    /// Takes the first message out of the folder, in one transaction: its copy goes, its row with the last copy of it, and
-    /// the folder with its last message. The numbers are not used again. That the folder has a message is for the caller to
-    /// see: without one nothing changes.
-    pub fn take_mail(&mut self, user: &[u8], folder: &[u8]) -> Result<(), Refusal>
-        ensures { WritesAccount user.now (takes_mail folder.now 1) (state S.Store self.old) (state S.Store self.new) result }
+    /// The same of an account that was entered.
+    pub fn first_message_of(
+        &mut self,
+        user: &[u8],
+        folder: &[u8],
+    ) -> Result<Option<NumberedMessage>, Refusal>
+        ensures { ReadsEntered user.now (λ first a. HasFirst first (messages_in a.folders folder.now)) (state S.Store self.old) (state S.Store self.new) result }
     {
-        let filings = self.filings(user)?;
-        let changes = taking_changes(self.alloc, user, folder, filings.as_slice())?;
+        self.nth_numbered_of(user, folder, 0)
+    }
+
+    /// The folder's first copy, and whether another copy of its message is there; none where the folder is absent. Of an
+    /// account that was entered.
+    fn first_leaving_of(&mut self, user: &[u8], folder: &[u8]) -> Result<Option<Leaving>, Refusal>
+        ensures finds { FindsAmong user.now (IsLeaving user.now folder.now) (state S.Store self.old) (state S.Store self.new) result }
+        ensures named { IfErr result IsTransient }
+    {
+        let Some(copy) = self.nth_filing_of(user, folder, 0)? else {
+            return Ok(None);
+        };
+        let is_shared = self.has_other_copy(user, &copy)?;
+        Ok(Some(Leaving { copy, is_shared }))
+    }
+
+    /// Takes the first message out of the folder of a user whose account was entered, in one transaction: its copy goes, its
+    /// row with the last copy of it, and the folder with its last message. The numbers are not used again. That the folder has
+    /// a message is for the caller to see: without one nothing changes. The copy is found by its key, and no message and no
+    /// copy but another one of the same message is read.
+    ///
+    /// # Errors
+    ///
+    /// `Memory`, `Store`.
+    pub fn take_mail(&mut self, user: &[u8], folder: &[u8]) -> Result<(), Refusal>
+        ensures writes { WritesAccount user.now (takes_mail folder.now 1) (state S.Store self.old) (state S.Store self.new) result }
+        ensures named { IfErr result IsTransient }
+    {
+        let leaving = self.first_leaving_of(user, folder)?;
+        let changes = taking_changes(self.alloc, user, folder, &leaving)?;
         self.apply(&changes)
     }
 }

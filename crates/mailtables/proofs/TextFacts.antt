@@ -3,22 +3,23 @@ use Rattle.std.proofs.Common.{◌≡◌, pos, false, List, [], ◌∷◌, codes,
 use Rattle.sqlite_value.specs.declared.value.Value.TheVariants.{Null, Int, Text}
 use Rattle.sqlite_value.specs.declared.keys.Collation.TheVariants.{Binary}
 use Rattle.sqlite_value.specs.Keys.{ascending}
-use Rattle.sqlite_sql.specs.Term.{Term, lit, col, op2}
+use Rattle.sqlite_sql.specs.Term.{Term, lit, col, op1, op2}
 use Rattle.sqlite_sql.specs.declared.ops.BinaryOp.TheVariants.{Compare}
-use Rattle.sqlite_sql.specs.declared.ops.CompareOp.TheVariants.{Eq}
+use Rattle.sqlite_sql.specs.declared.ops.UnaryOp.TheVariants.{Length}
+use Rattle.sqlite_sql.specs.declared.ops.CompareOp.TheVariants.{Eq, Ne}
 use Rattle.sqlite_schema.specs.declared.command.Source.TheVariants.{Values}
 use Rattle.sqlite_schema.specs.declared.command.Command.TheVariants.{Insert, Update, Delete, Select}
 use Rattle.sqlite_tied.specs.Compute.{everything}
 use Rattle.sqlite.specs.Listing.{understood, reads_listing}
 use Rattle.sqlite.proofs.Callers.{IsPlain, command_of}
-use Rattle.sqlrows.specs.Forms.{equals, over, over_two}
+use Rattle.sqlrows.specs.Forms.{equals, over, over_two, first_over, nth_over}
 use Rattle.mailtables.specs.Schema.{mail_schema}
 use Rattle.mailtables.specs.MetaTable.{insert_version, select_version, meta_tree}
 use Rattle.mailtables.specs.AccountTable.{insert_account, update_active, update_counters, select_account, select_counters, account_tree}
 use Rattle.mailtables.specs.ScriptTable.{insert_script, delete_script, select_names, select_script, script_tree}
 use Rattle.mailtables.specs.MessageTable.{insert_message, delete_message, select_message, message_tree}
-use Rattle.mailtables.specs.CopyTable.{insert_copy, delete_copy, select_filings, select_folders, select_folder, copy_tree}
-use Rattle.mailtables.specs.QueueTable.{outgoing_tree, select_outgoing, select_queue, insert_outgoing, delete_outgoing}
+use Rattle.mailtables.specs.CopyTable.{insert_copy, delete_copy, select_filings, select_nth, select_numbers, select_other, select_folders, select_folder, copy_tree}
+use Rattle.mailtables.specs.QueueTable.{outgoing_tree, select_heads, select_outgoing, select_queue, insert_outgoing, delete_outgoing}
 use Rattle.mailtables.specs.NoticeTable.{notice_tree, select_notices, insert_notice}
 use Rattle.mailtables.specs.ReplyTable.{reply_tree, insert_reply, delete_reply, select_moment, select_replies}
 
@@ -309,3 +310,42 @@ select_filings_is = refl
 pub select_filings_plain : IsPlain (understood mail_schema select_filings) × (reads_listing mail_schema select_filings ≡ false)
 unfolding understood everything
 select_filings_plain = ((refl, refl), refl)
+
+pub select_nth_is : command_of (understood mail_schema select_nth) ≡ Select (nth_over (col 0 2) copy_tree by_two filings_shown ((col 1 3, ascending Binary) ∷ [])) (codes "folder" ∷ codes "n" ∷ codes "id" ∷ [])
+unfolding understood everything
+select_nth_is = refl
+
+pub select_nth_plain : IsPlain (understood mail_schema select_nth) × (reads_listing mail_schema select_nth ≡ false)
+unfolding understood everything
+select_nth_plain = ((refl, refl), refl)
+
+abbrev pub heads_shown : List Term
+heads_shown = col 1 2 ∷ col 1 3 ∷ col 1 4 ∷ col 1 5 ∷ op1 Length (col 1 6) ∷ []
+
+pub select_heads_is : command_of (understood mail_schema select_heads) ≡ Select (over outgoing_tree by_one heads_shown ((col 1 2, ascending Binary) ∷ [])) (codes "id" ∷ codes "kind" ∷ codes "sender" ∷ codes "target" ∷ codes "length(message)" ∷ [])
+unfolding understood everything
+select_heads_is = refl
+
+pub select_heads_plain : IsPlain (understood mail_schema select_heads) × (reads_listing mail_schema select_heads ≡ false)
+unfolding understood everything
+select_heads_plain = ((refl, refl), refl)
+
+pub select_numbers_is : command_of (understood mail_schema select_numbers) ≡ Select (over copy_tree by_two (col 1 3 ∷ []) ((col 1 3, ascending Binary) ∷ [])) (codes "n" ∷ [])
+unfolding understood everything
+select_numbers_is = refl
+
+pub select_numbers_plain : IsPlain (understood mail_schema select_numbers) × (reads_listing mail_schema select_numbers ≡ false)
+unfolding understood everything
+select_numbers_plain = ((refl, refl), refl)
+
+-- another one of the same message
+abbrev pub by_other : List Term
+by_other = equals 1 0 ∷ equals 4 1 ∷ op2 (Compare Ne Binary) (col 1 3) (col 0 2) ∷ []
+
+pub select_other_is : command_of (understood mail_schema select_other) ≡ Select (first_over copy_tree by_other (col 1 3 ∷ []) []) (codes "n" ∷ [])
+unfolding understood everything
+select_other_is = refl
+
+pub select_other_plain : IsPlain (understood mail_schema select_other) × (reads_listing mail_schema select_other ≡ false)
+unfolding understood everything
+select_other_plain = ((refl, refl), refl)

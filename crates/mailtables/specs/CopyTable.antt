@@ -50,6 +50,18 @@ delete_copy = codes "DELETE FROM copy WHERE owner = ?1 AND folder = ?2 AND n = ?
 abbrev pub select_filings : List ℕ
 select_filings = codes "SELECT folder, n, id FROM copy WHERE owner = ?1 ORDER BY n"
 
+-- one copy of a folder, after that many
+abbrev pub select_nth : List ℕ
+select_nth = codes "SELECT folder, n, id FROM copy WHERE owner = ?1 AND folder = ?2 ORDER BY n LIMIT 1 OFFSET ?3"
+
+-- the numbers of a folder's copies, in their order
+abbrev pub select_numbers : List ℕ
+select_numbers = codes "SELECT n FROM copy WHERE owner = ?1 AND folder = ?2 ORDER BY n"
+
+-- another copy of the same message, if there is one
+abbrev pub select_other : List ℕ
+select_other = codes "SELECT n FROM copy WHERE owner = ?1 AND id = ?2 AND n <> ?3 LIMIT 1"
+
 abbrev pub select_folders : List ℕ
 select_folders = codes "SELECT folder FROM copy WHERE owner = ?1 ORDER BY folder"
 

@@ -46,3 +46,7 @@ select_queue = codes "SELECT id, kind, sender, target, message FROM outgoing WHE
 -- one message by its number
 abbrev pub select_outgoing : List ℕ
 select_outgoing = codes "SELECT id, kind, sender, target, message FROM outgoing WHERE owner = ?1 AND id = ?2"
+
+-- the queue in the order of its numbers, with the lengths of its messages
+abbrev pub select_heads : List ℕ
+select_heads = codes "SELECT id, kind, sender, target, length(message) FROM outgoing WHERE owner = ?1 ORDER BY id"

@@ -38,11 +38,11 @@ delivery-reply : delivery_report (record { filed = []; sent = []; vacation = vac
 delivery-reply e = cc
 
 -- a message on its way out, and a reply, whose sender is empty
-queue-redirect : queue_line (record { id = 1; kind = Redirect; sender = codes "bob@example.net"; target = codes "c@example.com"; message = codes "Subject: hi\r\n\r\nx\r\n" }) ≡ codes "1 redirect <bob@example.net> <c@example.com> 18"
+queue-redirect : queue_line (record { id = 1; kind = Redirect; sender = codes "bob@example.net"; target = codes "c@example.com"; len = 18 }) ≡ codes "1 redirect <bob@example.net> <c@example.com> 18"
 unfolding Rattle.std.specs.Fmt.digits
 queue-redirect = refl
 
-queue-reply : queue_line (record { id = 12; kind = Reply; sender = []; target = codes "bob@example.net"; message = codes "x" }) ≡ codes "12 reply <> <bob@example.net> 1"
+queue-reply : queue_line (record { id = 12; kind = Reply; sender = []; target = codes "bob@example.net"; len = 1 }) ≡ codes "12 reply <> <bob@example.net> 1"
 unfolding Rattle.std.specs.Fmt.digits
 queue-reply = refl
 
@@ -56,13 +56,13 @@ other x y a b same = omega arith
 other_digit : (x y : ℕ) → x ≡ 99 → y ≡ 101 → x ≡ y → ⊥
 other_digit x y a b same = omega arith
 
-queue-order : queue_line (record { id = 1; kind = Redirect; sender = codes "a"; target = codes "b"; message = [] }) ≡ codes "1 redirect <b> <a> 0" → ⊥
+queue-order : queue_line (record { id = 1; kind = Redirect; sender = codes "a"; target = codes "b"; len = 0 }) ≡ codes "1 redirect <b> <a> 0" → ⊥
 unfolding Rattle.std.specs.Fmt.digits
 queue-order e = distinct 97 98 refl refl (ap (λ (l : List ℕ). get_or l 12 0) e)
 
 -- a sender whose quoted local part is `> <`: the line has five words all the same
 queue-escaped :
-    queue_line (record { id = 1; kind = Redirect; sender = codes "\"> <\"@evil.example"; target = codes "c@example.com"; message = codes "x" })
+    queue_line (record { id = 1; kind = Redirect; sender = codes "\"> <\"@evil.example"; target = codes "c@example.com"; len = 1 })
     ≡ codes "1 redirect <\"\\3e\\20\\3c\"@evil.example> <c@example.com> 1"
 unfolding Rattle.std.specs.Fmt.digits Rattle.hex.specs.Hex.encode_with
 queue-escaped = refl

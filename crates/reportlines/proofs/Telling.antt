@@ -1,5 +1,5 @@
 -- What a line of a queue tells is the row's: no part of it ends before its mark.
-use Rattle.std.proofs.Common.{◌≡◌, ℕ, zero, suc, ◌+◌, ◌/◌, ◌%◌, ◌<◌, ◌≤◌, ◌^◌, Bool, true, false, not, ◌||◌, ◌&&◌, ◌==◌, cond, List, [], ◌∷◌, ◌++◌, length, codes, decimal, Ok, refl, sym, ap, ◌∙◌, subst, arith, append_assoc, drop, get_or, map}
+use Rattle.std.proofs.Common.{◌≡◌, ℕ, zero, suc, ◌+◌, ◌/◌, ◌%◌, ◌<◌, ◌≤◌, ◌^◌, Bool, true, false, not, ◌||◌, ◌&&◌, ◌==◌, cond, List, [], ◌∷◌, ◌++◌, codes, decimal, Ok, refl, sym, ap, ap₂, ◌∙◌, subst, arith, append_assoc, drop, get_or, map}
 use Rattle.std.specs.Prelude.{nat_le}
 use Rattle.std.specs.List.{flat_map, list_all}
 use Rattle.std.proofs.lemmas.Bool.{and_parts, and_from, agree_below_at}
@@ -11,9 +11,9 @@ use Rattle.hex.proofs.HexLemmas.{decode_of-encode_lower}
 use Rattle.octets.specs.Ascii.{is_digit}
 use Rattle.mailtables.specs.declared.queue.Kind.{Kind}
 use Rattle.mailtables.specs.declared.queue.Kind.TheVariants.{Redirect, Reply}
-use Rattle.mailstore.specs.declared.queue.Outgoing.{Outgoing}
+use Rattle.mailstore.specs.declared.head.Head.{Head}
 use Rattle.reportlines.specs.Addresses.{is_escaped, may_stand, shown_address, shown_octet}
-use Rattle.reportlines.specs.Laws.{AreRows, IsRow, AllTellAlike, TellAlike}
+use Rattle.reportlines.specs.Laws.{AreRows, IsRow}
 use Rattle.reportlines.specs.Listings.{kind_word, queue_line, queue_listing}
 use Rattle.reportlines.specs.Reports.{with_end}
 
@@ -133,7 +133,7 @@ kind_told Redirect Reply r s e = absurd (distinct 100 112 refl refl (ap (λ (l :
 kind_told Reply Redirect r s e = absurd (distinct 100 112 refl refl (sym (ap (λ (l : List ℕ). get_or l 2 0) e)))
 kind_told Reply Reply r s e = (refl, cc)
 
-pub line_told : (one two : Outgoing) → IsRow one → IsRow two → queue_line one ≡ queue_line two → TellAlike one two
+pub line_told : (one two : Head) → IsRow one → IsRow two → queue_line one ≡ queue_line two → one ≡ two
 line_told one two fits too e =
     let numbers = cut is_digit 32 (decimal one.id) (decimal two.id) _ _ refl (digits-decimal one.id fits.id_fits) (digits-decimal two.id too.id_fits) e in
     let kinds = kind_told one.kind two.kind _ _ numbers.1 in
@@ -142,13 +142,11 @@ line_told one two fits too e =
     let opened_again = ap (λ (t : List ℕ). drop 2 t) senders.1 in
     let targets = cut may_stand 62 (shown_address one.target) (shown_address two.target) _ _ refl (address_stands one.target) (address_stands two.target) opened_again in
     let lengths = ap (λ (t : List ℕ). drop 1 t) targets.1 in
-    record {
-      id = decimal_injective one.id two.id fits.id_fits too.id_fits numbers.0;
-      kind = kinds.0;
-      sender = address_told one.sender two.sender senders.0;
-      target = address_told one.target two.target targets.0;
-      octets = decimal_injective (length one.message) (length two.message) fits.octets_fit too.octets_fit lengths;
-    }
+    let id = decimal_injective one.id two.id fits.id_fits too.id_fits numbers.0 in
+    let sender = address_told one.sender two.sender senders.0 in
+    let target = address_told one.target two.target targets.0 in
+    let len = decimal_injective one.len two.len fits.octets_fit too.octets_fit lengths in
+    λ i. record { id = id i; kind = kinds.0 i; sender = sender i; target = target i; len = len i }
 
 -- ---- listings
 
@@ -186,10 +184,10 @@ parts_go_on : (a b c d e : List ℕ) → list_all goes_on a ≡ true → list_al
 unfolding goes_on
 parts_go_on a b c d e one two three four five = simp (list_all-append, one, two, three, four, five)
 
-line_goes_on : (row : Outgoing) → IsRow row → list_all goes_on (queue_line row) ≡ true
+line_goes_on : (row : Head) → IsRow row → list_all goes_on (queue_line row) ≡ true
 line_goes_on row fits =
-    parts_go_on (decimal row.id) (kind_word row.kind) (shown_address row.sender) (shown_address row.target) (decimal (length row.message))
-    (number_goes_on row.id fits.id_fits) (kind_goes_on row.kind) (address_goes_on row.sender) (address_goes_on row.target) (number_goes_on (length row.message) fits.octets_fit)
+    parts_go_on (decimal row.id) (kind_word row.kind) (shown_address row.sender) (shown_address row.target) (decimal row.len)
+    (number_goes_on row.id fits.id_fits) (kind_goes_on row.kind) (address_goes_on row.sender) (address_goes_on row.target) (number_goes_on row.len fits.octets_fit)
 
 ended : (line rest : List ℕ) → with_end line ++ rest ≡ line ++ 10 ∷ rest
 ended line rest = append_assoc line (10 ∷ []) rest
@@ -202,11 +200,11 @@ ends : goes_on 10 ≡ false
 unfolding goes_on
 ends = refl
 
-pub listing_told : (one two : List Outgoing) → AreRows one → AreRows two → queue_listing one ≡ queue_listing two → AllTellAlike one two
-listing_told [] [] fits too e = tt
-listing_told [] (row ∷ more) fits too e = not_empty (queue_line row) (queue_listing more) e
-listing_told (row ∷ more) [] fits too e = not_empty (queue_line row) (queue_listing more) (sym e)
+pub listing_told : (one two : List Head) → AreRows one → AreRows two → queue_listing one ≡ queue_listing two → one ≡ two
+listing_told [] [] fits too e = refl
+listing_told [] (row ∷ more) fits too e = absurd (not_empty (queue_line row) (queue_listing more) e)
+listing_told (row ∷ more) [] fits too e = absurd (not_empty (queue_line row) (queue_listing more) (sym e))
 listing_told (row ∷ more) (other ∷ others) fits too e =
     let same = sym (ended (queue_line row) (queue_listing more)) ∙ e ∙ ended (queue_line other) (queue_listing others) in
     let parts = cut goes_on 10 (queue_line row) (queue_line other) (queue_listing more) (queue_listing others) ends (line_goes_on row fits.0) (line_goes_on other too.0) same in
-    (line_told row other fits.0 too.0 parts.0, listing_told more others fits.1 too.1 parts.1)
+    ap₂ (λ (x : Head) xs. x ∷ xs) (line_told row other fits.0 too.0 parts.0) (listing_told more others fits.1 too.1 parts.1)

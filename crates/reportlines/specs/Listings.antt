@@ -1,9 +1,9 @@
 -- What the program prints of a user's queue and notices: a line for each row.
-use Rattle.std.specs.Prelude.{ℕ, List, ◌++◌, codes, decimal, length, map}
+use Rattle.std.specs.Prelude.{ℕ, List, ◌++◌, codes, decimal, map}
 use Rattle.std.specs.List.{flat_map}
 use Rattle.mailtables.specs.declared.queue.Kind.{Kind}
 use Rattle.mailtables.specs.declared.queue.Kind.TheVariants.{Redirect, Reply}
-use Rattle.mailstore.specs.declared.queue.Outgoing.{Outgoing}
+use Rattle.mailstore.specs.declared.head.Head.{Head}
 use Rattle.mailstore.specs.declared.notice.Notice.{Notice}
 use Rattle.reportlines.specs.Addresses.{shown_address}
 use Rattle.reportlines.specs.Reports.{with_end}
@@ -14,15 +14,15 @@ kind_word Redirect = codes "redirect"
 kind_word Reply = codes "reply"
 
 -- the line of a message on its way out: number, kind, sender and target as lines show them in angle brackets, octets
-abbrev pub queue_line : Outgoing → List ℕ
-queue_line row = decimal row.id ++ (codes " " ++ (kind_word row.kind ++ (codes " <" ++ (shown_address row.sender ++ (codes "> <" ++ (shown_address row.target ++ (codes "> " ++ decimal (length row.message))))))))
+abbrev pub queue_line : Head → List ℕ
+queue_line row = decimal row.id ++ (codes " " ++ (kind_word row.kind ++ (codes " <" ++ (shown_address row.sender ++ (codes "> <" ++ (shown_address row.target ++ (codes "> " ++ decimal row.len)))))))
 
 -- the line of a notice: the moment in seconds since 1970, and the text
 abbrev pub notice_line : Notice → List ℕ
 notice_line notice = decimal notice.moment ++ (codes " " ++ notice.text)
 
 -- a queue, and a list of notices, in their order
-abbrev pub queue_listing : List Outgoing → List ℕ
+abbrev pub queue_listing : List Head → List ℕ
 queue_listing rows = flat_map with_end (map queue_line rows)
 
 abbrev pub notice_listing : List Notice → List ℕ

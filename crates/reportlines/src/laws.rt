@@ -7,7 +7,7 @@ pub fn addresses_stand()
 {}
 
 /// What `queue` prints tells each row's number, kind, sender and target, and how many octets its message has: rows that
-/// differ in one of these have different lines, and queues different listings.
+/// have the same line are the same, and queues that have the same listing are.
 pub fn queue_is_told()
     ensures line { LinesTell }
     ensures listing { ListingsTell }

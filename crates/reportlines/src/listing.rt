@@ -4,14 +4,14 @@ ghost use Rattle.reportlines.specs.Listings.{kind_word, notice_line, notice_list
 ghost use Rattle.reportlines.specs.Reports.{with_end};
 
 use crate::address::add_address;
-use mailstore::{Kind, Notice, Outgoing};
+use mailstore::{Kind, Notice, Head};
 use octets::{Octets, write_decimal};
 use std::alloc::{AllocError, Global};
 
 /// A line for each message on its way out, in order: `1 redirect <bob@example.net> <c@example.com> 18`, which are its
 /// number, its kind, its sender, its target and its octets. In an address an octet up to 32, 127, `<`, `>` or `\` is
 /// written `\` and two hexadecimal digits in lower case, so that a line has five words, and says the row.
-pub fn of_queue(alloc: Global, rows: &[Outgoing]) -> Result<Octets, AllocError>
+pub fn of_queue(alloc: Global, rows: &[Head]) -> Result<Octets, AllocError>
     ensures { IfOk result (λ text. text ≡ queue_listing rows.now) }
 {
     let mut text = Octets::new(alloc);
@@ -34,7 +34,7 @@ pub fn of_notices(alloc: Global, notices: &[Notice]) -> Result<Octets, AllocErro
 }
 
 /// Appends the line of a message on its way out.
-fn add_row(text: &mut Octets, row: &Outgoing) -> Result<(), AllocError>
+fn add_row(text: &mut Octets, row: &Head) -> Result<(), AllocError>
     ensures { OnOk result (text.new ≡ text.old ++ with_end (queue_line row.now)) }
 {
     write_decimal(text, row.id)?;
@@ -45,7 +45,7 @@ fn add_row(text: &mut Octets, row: &Outgoing) -> Result<(), AllocError>
     text.extend_from_slice(b"> <")?;
     add_address(text, row.target.as_slice())?;
     text.extend_from_slice(b"> ")?;
-    write_decimal(text, row.message.len() as u64)?;
+    write_decimal(text, row.len)?;
     text.push(b'\n')
 }
 

@@ -8,8 +8,8 @@ use crate::commands::taken;
 use crate::fault::Fault;
 use keepers::Keeper;
 use maildirs::Separator;
-use mailstore::{Folder, Notice, Outgoing, Refusal, Store};
-use octets::{List, Texts};
+use mailstore::{Folder, Head, Notice, Outgoing, Refusal, Store};
+use octets::{List, Octets};
 use sievedwords::Place;
 use sqlite::Alter;
 
@@ -31,11 +31,11 @@ pub struct FoldersOf<'a>(pub &'a str);
 #[derive(Clone, Copy)]
 pub struct DirectoriesOf<'a>(pub &'a str, pub Separator);
 
-/// The messages of the folder with the second name, of the user with the first one.
+/// The message with this number, from 1, of the folder with the second name, of the user with the first one.
 #[derive(Clone, Copy)]
-pub struct MessagesOf<'a>(pub &'a str, pub &'a str);
+pub struct MessageOf<'a>(pub &'a str, pub &'a str, pub u64);
 
-/// The messages on their way out of the user with this name.
+/// The messages on their way out of the user with this name, without their octets.
 #[derive(Clone, Copy)]
 pub struct QueueOf<'a>(pub &'a str);
 
@@ -63,19 +63,23 @@ impl AccountRead for DirectoriesOf<'_> {
     }
 }
 
-impl AccountRead for MessagesOf<'_> {
-    type Found = Texts;
+impl AccountRead for MessageOf<'_> {
+    type Found = Option<Octets>;
 
-    fn read<S: Alter>(&self, store: &mut Store<S>) -> Result<Texts, Refusal> {
-        store.folder(self.0.as_bytes(), self.1.as_bytes())
+    fn read<S: Alter>(&self, store: &mut Store<S>) -> Result<Option<Octets>, Refusal> {
+        let user = self.0.as_bytes();
+        match self.2.checked_sub(1) {
+            Some(at) => store.message_at(user, self.1.as_bytes(), at),
+            None => none_of(store, user),
+        }
     }
 }
 
 impl AccountRead for QueueOf<'_> {
-    type Found = List<Outgoing>;
+    type Found = List<Head>;
 
-    fn read<S: Alter>(&self, store: &mut Store<S>) -> Result<List<Outgoing>, Refusal> {
-        store.queue(self.0.as_bytes())
+    fn read<S: Alter>(&self, store: &mut Store<S>) -> Result<List<Head>, Refusal> {
+        store.queue_heads(self.0.as_bytes())
     }
 }
 
@@ -92,6 +96,16 @@ impl AccountRead for NoticesOf<'_> {
 
     fn read<S: Alter>(&self, store: &mut Store<S>) -> Result<List<Notice>, Refusal> {
         store.notices(self.0.as_bytes())
+    }
+}
+
+/// No message, of a user who has an account.
+fn none_of<S: Alter>(store: &mut Store<S>, user: &[u8]) -> Result<Option<Octets>, Refusal>
+    ensures { Keeps (state S.Store store.old) (state S.Store store.new) result }
+{
+    match store.enter(user) {
+        Ok(_) => Ok(None),
+        Err(refusal) => Err(refusal),
     }
 }
 

@@ -8,7 +8,7 @@ ghost use Rattle.mailengine.specs.declared.event.Event.TheVariants.{Deliver, Add
 ghost use Rattle.sievedrun.specs.Faults.{IsFailure};
 ghost use Rattle.sievedrun.specs.Promise.{Brings, LeavesAll, LeavesAfter, MayCome, LeavesNew, status_after};
 
-use crate::account_read::{MessagesOf, read_once};
+use crate::account_read::{MessageOf, read_once};
 use crate::fault::Fault;
 use crate::stream::{read_all, write_all};
 use crate::values::{decimal, envelope_of, first_line, moment_of, salt_of};
@@ -173,7 +173,7 @@ fn print_report<W: Write>(alloc: Global, report: &Report, output: &mut W) -> Res
     write_all(output, text.as_slice())
 }
 
-/// `show`: a message of a user's folder, by its number from 1.
+/// `show`: a message of a user's folder, by its number from 1. No other is read.
 pub fn run_show<W: Write, K: Keeper>(
     place: Place<'_>,
     user: &str,
@@ -186,15 +186,10 @@ pub fn run_show<W: Write, K: Keeper>(
     ensures leaves { IsTrue K.tells → LeavesAll (K.holds keeper.old) (K.holds keeper.new) }
 {
     let number = decimal(number)?;
-    let messages = read_once(place, &MessagesOf(user, folder), keeper)?;
-    let message = numbered(messages.as_slice(), number).ok_or(Fault::NoMessage)?;
-    write_all(output, message)
-}
-
-/// The message with this number, from 1.
-fn numbered(messages: &[Octets], number: u64) -> Option<&[u8]> {
-    let at = usize::try_from(number).ok()?.checked_sub(1)?;
-    Some(messages.get(at)?.as_slice())
+    let Some(message) = read_once(place, &MessageOf(user, folder, number), keeper)? else {
+        return Err(Fault::NoMessage);
+    };
+    write_all(output, message.as_slice())
 }
 
 /// The store at a place: the one that is there, or with `fresh` a new one.

@@ -9,7 +9,7 @@ use crate::fault::Fault;
 use crate::stream::write_all;
 use crate::values::decimal;
 use keepers::Keeper;
-use mailengine::{first_message, remove_first};
+use mailengine::first_message;
 use mailsinks::{MailSink, SinkError};
 use mailstore::{Refusal, Store};
 use octets::{Octets, write_decimal};
@@ -113,13 +113,13 @@ fn move_first<S: Alter, T: MailSink>(
     if let Err(error) = sink.keep(user, folder, first.number, first.message.as_slice()) {
         return Err(unkept(error));
     }
-    match remove_first(store, user, folder) {
+    match store.take_mail(user, folder) {
         Ok(()) => Ok(true),
-        Err(refusal) => Err(failure_of(refusal)),
+        Err(refusal) => Err(Fault::Refused(refusal)),
     }
 }
 
-/// Why a user or a message that was there a moment ago can't be read or removed.
+/// Why the folder of a user who was there a moment ago can't be read.
 fn failure_of(refusal: Refusal) -> Fault
     ensures { status_of result ≡ 75 }
 {
@@ -160,7 +160,7 @@ fn move_all<S: Alter, T: MailSink>(
 }
 
 /// Moves messages of the user's folder into the sink, the first ones first, until as many moved or none is left. Answers
-/// how many moved. Memory is in proportion to one message and to the user's copies.
+/// how many moved. Time is in proportion to the messages that move, memory to one of them.
 ///
 /// # Errors
 ///

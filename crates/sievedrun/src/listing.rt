@@ -7,7 +7,7 @@ use crate::fault::Fault;
 use crate::stream::write_all;
 use keepers::Keeper;
 use maildirs::{Separator, directory_of};
-use mailstore::{Folder, Notice, Outgoing};
+use mailstore::{Folder, Head, Notice};
 use octets::{List, Octets, write_decimal};
 use reportlines::{of_notices, of_queue};
 use sievedwords::Place;
@@ -33,7 +33,7 @@ impl Listing for DirectoriesOf<'_> {
 }
 
 impl Listing for QueueOf<'_> {
-    fn lines(&self, alloc: Global, found: &List<Outgoing>) -> Result<Octets, AllocError> {
+    fn lines(&self, alloc: Global, found: &List<Head>) -> Result<Octets, AllocError> {
         of_queue(alloc, found.as_slice())
     }
 }

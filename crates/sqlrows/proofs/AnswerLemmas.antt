@@ -1,6 +1,6 @@
 -- At most one row has a key, and what a query over one table or two finds.
 use Rattle.std.proofs.lemmas.List.{map-append}
-use Rattle.std.proofs.Common.{◌≡◌, ◌⊎◌, ℕ, ◌-◌, ◌^◌, ℤ, ◌<ℤ◌, nat_le, unwrap_or, int_eq, Bool, true, false, not, ◌&&◌, cond, List, [], ◌∷◌, ◌++◌, map, filter, flat_map, find, slice_get, None, option_map, refl, sym, ap, ap₂, ◌∙◌, subst, inl, inr, arith, IsPermutation, IsSorted}
+use Rattle.std.proofs.Common.{◌≡◌, ◌⊎◌, ℕ, ◌-◌, ◌^◌, ℤ, ◌<ℤ◌, nat_le, unwrap_or, int_eq, take, drop, pos, negsuc, Bool, true, false, not, ◌&&◌, cond, List, [], ◌∷◌, ◌++◌, map, filter, flat_map, find, slice_get, None, option_map, refl, sym, ap, ap₂, ◌∙◌, subst, inl, inr, arith, IsPermutation, IsSorted}
 use Rattle.std.specs.List.{list_all}
 use Rattle.std.proofs.lemmas.Int.{ints}
 use Rattle.std.proofs.lemmas.Bool.{and_from, not-true, not-false, both_ways, false_from_ne_true}
@@ -11,8 +11,8 @@ use Rattle.sqlite_value.specs.declared.keys.Key.{Key}
 use Rattle.sqlite_value.specs.Order.{Row}
 use Rattle.sqlite_trees.specs.Tree.{Trees, rowid}
 use Rattle.sqlite_sql.specs.declared.ops.CompareOp.TheVariants.{Ne}
-use Rattle.sqlite_sql.specs.Term.{Term, holds, eval_all, Env}
-use Rattle.sqlite_sql.specs.Query.{Query, IsAnswer, Output, output, output_cmp}
+use Rattle.sqlite_sql.specs.Term.{Term, lit, eval, holds, eval_all, Env}
+use Rattle.sqlite_sql.specs.Query.{Query, IsAnswer, Output, output, output_cmp, page, as_count, inner, end}
 use Rattle.sqlite_sql.specs.Program.{overlay}
 use Rattle.sqlite_schema.specs.declared.schema.Constraint.TheVariants.{Unique}
 use Rattle.sqlite_schema.specs.declared.schema.Table.{Table}
@@ -28,7 +28,7 @@ use Rattle.sqlite_keyed.proofs.ListLemmas.{map-map, filter-map, filter_none, map
 use Rattle.sqlite_keyed.proofs.KeyedLemmas.{same_int}
 use Rattle.sqlite_typed.proofs.TestLemmas.{at_ints}
 use Rattle.sqlite.proofs.Callers.{one_permutation}
-use Rattle.sqlrows.specs.Forms.{over, over_two}
+use Rattle.sqlrows.specs.Forms.{over, over_two, nth_over, limited_from}
 use Rattle.sqlrows.specs.Rows.{Entry, id_of, cells_of, stored, IsHeld, has_key}
 
 pub has_map : {X Y : Type 0} (f : X → Y) (xs : List X) (x : X) → Has xs x → Has (map f xs) (f x)
@@ -114,32 +114,51 @@ matches_are params terms p meets (e ∷ es) =
     [ true ↦ refl | false ↦ refl ])
 
 -- a query over one table, whose terms test the cells
-module _ (db : Trees) (tree : ℕ) (terms project : List Term) (order : List (Term × Key)) (params : Row) (cells : List Row) (h : IsHeld (db tree) cells) (p : Row → Bool)
+module _ (limit offset : Term) (db : Trees) (tree : ℕ) (terms project : List Term) (order : List (Term × Key)) (params : Row) (cells : List Row) (h : IsHeld (db tree) cells) (p : Row → Bool)
     (meets : (n : ℤ) (cells : Row) → list_all (holds (params ∷ (Int n ∷ cells) ∷ [])) terms ≡ p cells) where
   abbrev asked : Query
-  asked = (over tree terms project order).body
+  asked = (limited_from limit offset (inner tree end) terms project order).body
 
   outputs_are : (rows : List Row) → (a : IsAnswer asked (overlay db []) params rows) → a.kept ≡ map (λ e. output asked (slots params e)) (filter (λ e. p (cells_of e)) h.entries)
   outputs_are rows a =
       a.distinct ∙ ap (map (output asked)) (a.grouped ∙ ap (flat_map (λ r. cond (list_all (holds (params ∷ r ∷ [])) terms) ((params ∷ r ∷ []) ∷ []) [])) (same_tree db tree ∙ h.rows_are)
       ∙ matches_are params terms p meets h.entries) ∙ map-map (output asked) (slots params) _
 
-  -- where at most one row is found
-  pub entries_found : (rows : List Row) → IsAtMostOne (λ e. p (cells_of e)) h.entries → IsAnswer asked (overlay db []) params rows
-      → rows ≡ map (λ e. eval_all project (slots params e)) (filter (λ e. p (cells_of e)) h.entries)
-  entries_found rows one a =
-      let kept = outputs_are rows a in
-      let few = few_mapped (λ e. output asked (slots params e)) (λ e. p (cells_of e)) h.entries one in
-      let ordered = few_permutation _ a.ordered few (subst (λ k. IsPermutation k a.ordered) kept a.same) in
-      a.shown ∙ ap (map (λ (o : Output). o.1)) ordered ∙ map-map (λ (o : Output). o.1) (λ e. output asked (slots params e)) _
-
-  pub cells_in_order : (show : Row → Output) → ((n : ℤ) (cells : Row) → output asked (params ∷ (Int n ∷ cells) ∷ []) ≡ show cells) → (rows : List Row) → IsAnswer asked (overlay db []) params rows
-      → (ordered : List Output) × IsPermutation (map show (filter p cells)) ordered × IsSorted (output_cmp asked) ordered × (rows ≡ map (λ (o : Output). o.1) ordered)
-  cells_in_order show shows rows a =
+  cells_paged : (show : Row → Output) → ((n : ℤ) (cells : Row) → output asked (params ∷ (Int n ∷ cells) ∷ []) ≡ show cells) → (rows : List Row) → IsAnswer asked (overlay db []) params rows
+      → (ordered : List Output) × IsPermutation (map show (filter p cells)) ordered × IsSorted (output_cmp asked) ordered × (rows ≡ page asked params (map (λ (o : Output). o.1) ordered))
+  cells_paged show shows rows a =
       let kept = outputs_are rows a in
       let are : map (λ e. output asked (slots params e)) (filter (λ e. p (cells_of e)) h.entries) ≡ map show (filter p cells) =
       map_same _ (λ e. show (cells_of e)) (λ e. shows (id_of e) (cells_of e)) _ ∙ sym (map-map show cells_of _) ∙ ap (map show) (sym (filter-entries p h.entries)) ∙ sym (ap (λ l. map show (filter p l)) h.cells_are) in
       (a.ordered, subst (λ k. IsPermutation k a.ordered) (kept ∙ are) a.same, a.sorted, a.shown)
+
+module _ (db : Trees) (tree : ℕ) (terms project : List Term) (order : List (Term × Key)) (params : Row) (cells : List Row) (h : IsHeld (db tree) cells) (p : Row → Bool)
+    (meets : (n : ℤ) (cells : Row) → list_all (holds (params ∷ (Int n ∷ cells) ∷ [])) terms ≡ p cells) where
+  abbrev all_asked : Query
+  all_asked = (over tree terms project order).body
+
+  -- where at most one row is found
+  pub entries_found : (rows : List Row) → IsAtMostOne (λ e. p (cells_of e)) h.entries → IsAnswer all_asked (overlay db []) params rows
+      → rows ≡ map (λ e. eval_all project (slots params e)) (filter (λ e. p (cells_of e)) h.entries)
+  entries_found rows one a =
+      let kept = outputs_are (lit (Int (negsuc 0))) (lit (Int (pos 0))) db tree terms project order params cells h p meets rows a in
+      let few = few_mapped (λ e. output all_asked (slots params e)) (λ e. p (cells_of e)) h.entries one in
+      let ordered = few_permutation _ a.ordered few (subst (λ k. IsPermutation k a.ordered) kept a.same) in
+      a.shown ∙ ap (map (λ (o : Output). o.1)) ordered ∙ map-map (λ (o : Output). o.1) (λ e. output all_asked (slots params e)) _
+
+  pub cells_in_order : (show : Row → Output) → ((n : ℤ) (cells : Row) → output all_asked (params ∷ (Int n ∷ cells) ∷ []) ≡ show cells) → (rows : List Row) → IsAnswer all_asked (overlay db []) params rows
+      → (ordered : List Output) × IsPermutation (map show (filter p cells)) ordered × IsSorted (output_cmp all_asked) ordered × (rows ≡ map (λ (o : Output). o.1) ordered)
+  cells_in_order show shows rows a = cells_paged (lit (Int (negsuc 0))) (lit (Int (pos 0))) db tree terms project order params cells h p meets show shows rows a
+
+  -- one of them, after that many
+  module _ (offset : Term) where
+    abbrev nth_asked : Query
+    nth_asked = (nth_over offset tree terms project order).body
+
+    pub nth_in_order : (show : Row → Output) → ((n : ℤ) (cells : Row) → output nth_asked (params ∷ (Int n ∷ cells) ∷ []) ≡ show cells) → (rows : List Row) → IsAnswer nth_asked (overlay db []) params rows
+        → (ordered : List Output) × IsPermutation (map show (filter p cells)) ordered × IsSorted (output_cmp nth_asked) ordered
+        × (rows ≡ take 1 (drop (unwrap_or (as_count (eval offset (params ∷ []))) 0) (map (λ (o : Output). o.1) ordered)))
+    nth_in_order show shows rows a = cells_paged (lit (Int (pos 1))) offset db tree terms project order params cells h p meets show shows rows a
 
 -- a query over two tables: its terms test the cells of the first, and those of a row of each; a row of the first that passes has one row of the other
 module _ (db : Trees) (tree other : ℕ) (terms project : List Term) (order : List (Term × Key)) (params : Row) (cells others : List Row) (h : IsHeld (db tree) cells) (k : IsHeld (db other) others) (p : Row → Bool) (q : Row → Row → Bool)

@@ -1,8 +1,8 @@
 -- A query whose text is plain changes nothing, and gives an answer over the database.
-use Rattle.std.proofs.Common.{◌≡◌, ◌⊎◌, ℕ, false, List, [], sym, subst, inl, inr}
-use Rattle.sqlite_value.specs.declared.value.Value.TheVariants.{Null}
+use Rattle.std.proofs.Common.{◌≡◌, ◌⊎◌, ℕ, pos, negsuc, false, List, [], sym, subst, inl, inr}
+use Rattle.sqlite_value.specs.declared.value.Value.TheVariants.{Null, Int}
 use Rattle.sqlite_value.specs.Order.{Row}
-use Rattle.sqlite_sql.specs.Term.{Term}
+use Rattle.sqlite_sql.specs.Term.{Term, lit}
 use Rattle.sqlite_value.specs.declared.keys.Key.{Key}
 use Rattle.sqlite_sql.specs.Query.{IsAnswer}
 use Rattle.sqlite_sql.specs.Program.{overlay}
@@ -14,7 +14,7 @@ use Rattle.sqlite.specs.Listing.{understood, reads_listing}
 use Rattle.sqlite.specs.State.{State, Survives, Shown, ShowsRows, CommitsShowing, FailsToQuery, FailsToShow, IsNotRun, IsUnchanged, IsRolledBack}
 use Rattle.sqlite.proofs.StateLemmas.{survives_weaker}
 use Rattle.sqlite.proofs.Callers.{IsPlain, command_of, never_commits, reads_as}
-use Rattle.sqlrows.specs.Forms.{over, over_from}
+use Rattle.sqlrows.specs.Forms.{over, over_from, nth_over, limited_from}
 use Rattle.sqlite_sql.specs.Query.{Join, inner, end}
 
 module _ (schema : Schema) (sql : List ℕ) (params : Row) (old new : State) (has : old.now.schema ≡ schema) (plain : IsPlain (understood schema sql)) where
@@ -40,10 +40,19 @@ module _ (schema : Schema) (sql : List ℕ) (params : Row) (old new : State) (ha
       let bare = (subst IsPlain h.1.is plain_now).0 in
       inl (subst (FailsToShow old new sql h.0 (timed params h.0.formats h.1.now) e) bare h.2).3
 
+  pub answered_limited : (limit offset : Term) (from : Join) (terms project : List Term) (order : List (Term × Key)) (names : List (List ℕ)) → command_of (understood schema sql) ≡ Select (limited_from limit offset from terms project order) names
+      → reads_listing schema sql ≡ false → (rows : List Row) → Shown sql params old new rows → IsAnswer (limited_from limit offset from terms project order).body (overlay old.now.trees []) params rows
+  answered_limited limit offset from terms project order names is unlisted rows h = (reads_as sql params old new schema has (Select (limited_from limit offset from terms project order) names) is plain unlisted rows h).answer Null
+
   pub answered_from : (from : Join) (terms project : List Term) (order : List (Term × Key)) (names : List (List ℕ)) → command_of (understood schema sql) ≡ Select (over_from from terms project order) names
       → reads_listing schema sql ≡ false → (rows : List Row) → Shown sql params old new rows → IsAnswer (over_from from terms project order).body (overlay old.now.trees []) params rows
-  answered_from from terms project order names is unlisted rows h = (reads_as sql params old new schema has (Select (over_from from terms project order) names) is plain unlisted rows h).answer Null
+  answered_from = answered_limited (lit (Int (negsuc 0))) (lit (Int (pos 0)))
 
   pub answered : (tree : ℕ) (terms project : List Term) (order : List (Term × Key)) (names : List (List ℕ)) → command_of (understood schema sql) ≡ Select (over tree terms project order) names
       → reads_listing schema sql ≡ false → (rows : List Row) → Shown sql params old new rows → IsAnswer (over tree terms project order).body (overlay old.now.trees []) params rows
   answered tree = answered_from (inner tree end)
+
+  -- of one row of an answer, after that many
+  pub answered_nth : (offset : Term) (tree : ℕ) (terms project : List Term) (order : List (Term × Key)) (names : List (List ℕ)) → command_of (understood schema sql) ≡ Select (nth_over offset tree terms project order) names
+      → reads_listing schema sql ≡ false → (rows : List Row) → Shown sql params old new rows → IsAnswer (nth_over offset tree terms project order).body (overlay old.now.trees []) params rows
+  answered_nth offset tree = answered_limited (lit (Int (pos 1))) offset (inner tree end)

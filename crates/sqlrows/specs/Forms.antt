@@ -43,9 +43,9 @@ keyed name tree primary references columns = record {
 abbrev pub equals : ℕ → ℕ → Term
 equals place param = op2 (Compare Eq Binary) (col 1 place) (col 0 param)
 
--- a query over these tables: the terms of WHERE and of JOIN, what it shows, and the keys of ORDER BY
-abbrev pub over_from : Join → List Term → List Term → List (Term × Key) → Program
-over_from from filter project order = record {
+-- a query over these tables, with a LIMIT and an OFFSET: the terms of WHERE and of JOIN, what it shows, and the keys of ORDER BY
+abbrev pub limited_from : Term → Term → Join → List Term → List Term → List (Term × Key) → Program
+limited_from limit offset from filter project order = record {
   lets = [];
   body = record {
     from = from;
@@ -55,10 +55,14 @@ over_from from filter project order = record {
     distinct = false;
     collations = [];
     order = order;
-    limit = lit (Int (negsuc 0));
-    offset = lit (Int (pos 0));
+    limit = limit;
+    offset = offset;
   };
 }
+
+-- all rows of it
+abbrev pub over_from : Join → List Term → List Term → List (Term × Key) → Program
+over_from = limited_from (lit (Int (negsuc 0))) (lit (Int (pos 0)))
 
 -- over one table
 abbrev pub over : ℕ → List Term → List Term → List (Term × Key) → Program
@@ -67,3 +71,11 @@ over tree = over_from (inner tree end)
 -- over two, of which the first is the outer one
 abbrev pub over_two : ℕ → ℕ → List Term → List Term → List (Term × Key) → Program
 over_two tree other = over_from (inner tree (inner other end))
+
+-- one row of one over one table, after that many
+abbrev pub nth_over : Term → ℕ → List Term → List Term → List (Term × Key) → Program
+nth_over offset tree = limited_from (lit (Int (pos 1))) offset (inner tree end)
+
+-- the first row
+abbrev pub first_over : ℕ → List Term → List Term → List (Term × Key) → Program
+first_over = nth_over (lit (Int (pos 0)))

@@ -15,4 +15,4 @@ returns-in_default-clause-acts g c =
 pub returns-clause-acts : goal.returns-clause-acts
 returns-clause-acts g c =
     mail_written c.args.user.now c.args.folder.now (state g.S.Store c.args.store.now) (state g.S.Store c.first_message.new.store) c.first_message.result c.in_ok-first.first c.in_ok-first.was c.first_message.ensures c.in-Some._message c.in-Some.is
-    (state g.S.Store c.remove_first.new.store) c.remove_first.result c.remove_first.ensures.writes c.remove_first.ensures.named
+    (state g.S.Store c.take_mail.new.self) c.take_mail.result c.take_mail.ensures.writes c.take_mail.ensures.named

@@ -1,5 +1,5 @@
 -- The texts that were appended in turn are the line.
-use Rattle.std.proofs.Common.{◌≡◌, ℕ, List, [], ◌∷◌, ◌++◌, codes, append_assoc, decimal, length, rules}
+use Rattle.std.proofs.Common.{◌≡◌, ℕ, List, [], ◌∷◌, ◌++◌, codes, append_assoc, decimal, rules}
 use Rattle.std.proofs.lemmas.Result.{on_ok_weaker}
 use Rattle.reportlines.specs.Listings.{kind_word}
 use Rattle.reportlines.specs.Addresses.{shown_address}
@@ -16,6 +16,6 @@ returns c =
     let row = c.args.row.now in
     on_ok_weaker c.push.result
     (λ last. line_written c.args.text.now (decimal row.id) c.write_decimal.new.out c.extend_from_slice.new.self (kind_word row.kind) c.extend_from_slice-2.new.self c.extend_from_slice-3.new.self (shown_address row.sender)
-    c.add_address.new.text c.extend_from_slice-4.new.self (shown_address row.target) c.add_address-2.new.text c.extend_from_slice-5.new.self (decimal (length row.message)) c.write_decimal-2.new.out c.push.new.self
+    c.add_address.new.text c.extend_from_slice-4.new.self (shown_address row.target) c.add_address-2.new.text c.extend_from_slice-5.new.self (decimal row.len) c.write_decimal-2.new.out c.push.new.self
     (search rules) (search rules) (search rules) (search rules) (search rules) (search rules) (search rules) (search rules) (search rules) last)
     c.push.ensures.ok

@@ -3,6 +3,7 @@ use Rattle.std.proofs.Common.{[], ◌∷◌, ◌++◌, ◌∙◌, ap, subst}
 use Rattle.mailsinks.specs.Kept.{MayKeep}
 use Rattle.sqlite.specs.Held.{state}
 use Rattle.mailengine.proofs.MailTakingLemmas.{mail_written}
+use Rattle.sievedrun.specs.declared.fault.Fault.TheVariants.{Refused}
 use Rattle.sievedrun.proofs.LeaveLemmas.{grown_none}
 use Rattle.sievedrun.proofs.MoveLemmas.{not_read, none_read, not_kept, moved_one, not_taken}
 use Rattle.sievedrun.proofs.drain.move_first.Goals as goal
@@ -22,19 +23,19 @@ returns-in-Err-keep-clause-moves g c =
     not_kept c.args.user.now c.args.folder.now g.T.MailSink.tells (g.T.MailSink.kept c.args.sink.now) (g.T.MailSink.kept c.keep.new.self) (state g.S.Store c.args.store.now) (state g.S.Store c.first_message.new.store) c.first_message.result
     c.in-Ok.first c.in-Ok.is c.first_message.ensures.reads c.in-Some.first c.in-Some.is c.unkept.result (λ told. subst (λ m. MayKeep (g.T.MailSink.kept c.args.sink.now) m (g.T.MailSink.kept c.keep.new.self)) c.as_slice.ensures (c.in-Err-keep.ensures.refused told))
 
-pub returns-in-Ok-remove_first-clause-moves : goal.returns-in-Ok-remove_first-clause-moves
-returns-in-Ok-remove_first-clause-moves g c =
+pub returns-in-Ok-take_mail-clause-moves : goal.returns-in-Ok-take_mail-clause-moves
+returns-in-Ok-take_mail-clause-moves g c =
     moved_one c.args.user.now c.args.folder.now g.T.MailSink.tells (g.T.MailSink.kept c.args.sink.now) (g.T.MailSink.kept c.keep.new.self) (state g.S.Store c.args.store.now) (state g.S.Store c.first_message.new.store) c.first_message.result
-    c.in-Ok.first c.in-Ok.is c.first_message.ensures.reads c.in-Some.first c.in-Some.is (state g.S.Store c.remove_first.new.store) c.remove_first.result c.remove_first.ensures.writes
+    c.in-Ok.first c.in-Ok.is c.first_message.ensures.reads c.in-Some.first c.in-Some.is (state g.S.Store c.take_mail.new.self) c.take_mail.result c.take_mail.ensures.writes
     (mail_written c.args.user.now c.args.folder.now (state g.S.Store c.args.store.now) (state g.S.Store c.first_message.new.store) c.first_message.result c.in-Ok.first c.in-Ok.is c.first_message.ensures c.in-Some.first c.in-Some.is
-    (state g.S.Store c.remove_first.new.store) c.remove_first.result c.remove_first.ensures.writes c.remove_first.ensures.named)
-    (λ told. c.in_default-keep.ensures.kept told ∙ ap (λ m. g.T.MailSink.kept c.args.sink.now ++ m ∷ []) c.as_slice.ensures) c.in-Ok-remove_first.field-0 c.in-Ok-remove_first.is
+    (state g.S.Store c.take_mail.new.self) c.take_mail.result c.take_mail.ensures.writes c.take_mail.ensures.named)
+    (λ told. c.in_default-keep.ensures.kept told ∙ ap (λ m. g.T.MailSink.kept c.args.sink.now ++ m ∷ []) c.as_slice.ensures) c.in-Ok-take_mail.field-0 c.in-Ok-take_mail.is
 
 pub returns-clause-moves : goal.returns-clause-moves
 returns-clause-moves g c =
     not_taken c.args.user.now c.args.folder.now g.T.MailSink.tells (g.T.MailSink.kept c.args.sink.now) (g.T.MailSink.kept c.keep.new.self) (state g.S.Store c.args.store.now) (state g.S.Store c.first_message.new.store) c.first_message.result
-    c.in-Ok.first c.in-Ok.is c.first_message.ensures.reads c.in-Some.first c.in-Some.is (state g.S.Store c.remove_first.new.store) c.remove_first.result c.remove_first.ensures.writes
+    c.in-Ok.first c.in-Ok.is c.first_message.ensures.reads c.in-Some.first c.in-Some.is (state g.S.Store c.take_mail.new.self) c.take_mail.result c.take_mail.ensures.writes
     (mail_written c.args.user.now c.args.folder.now (state g.S.Store c.args.store.now) (state g.S.Store c.first_message.new.store) c.first_message.result c.in-Ok.first c.in-Ok.is c.first_message.ensures c.in-Some.first c.in-Some.is
-    (state g.S.Store c.remove_first.new.store) c.remove_first.result c.remove_first.ensures.writes c.remove_first.ensures.named)
-    (λ told. c.in_default-keep.ensures.kept told ∙ ap (λ m. g.T.MailSink.kept c.args.sink.now ++ m ∷ []) c.as_slice.ensures) c.in-Err-remove_first.refusal c.failure_of-in-Err-remove_first.result
-    c.in-Err-remove_first.is
+    (state g.S.Store c.take_mail.new.self) c.take_mail.result c.take_mail.ensures.writes c.take_mail.ensures.named)
+    (λ told. c.in_default-keep.ensures.kept told ∙ ap (λ m. g.T.MailSink.kept c.args.sink.now ++ m ∷ []) c.as_slice.ensures) c.in-Err-take_mail.refusal (Refused c.in-Err-take_mail.refusal)
+    c.in-Err-take_mail.is

@@ -1,0 +1,21 @@
+use Rattle.std.proofs.Common.{◌≡◌, Err, slice_get, rules}
+use Rattle.sqlite.specs.Held.{state}
+use Rattle.mailstore.specs.Account.{Account}
+use Rattle.mailstore.specs.AccountRows.{profile_of}
+use Rattle.mailstore.specs.declared.profile.Profile.{Profile}
+use Rattle.mailstore.specs.Account.{messages_in}
+use Rattle.mailstore.proofs.KeepLemmas.{reads_refused}
+use Rattle.mailstore.proofs.EnterLemmas.{enters}
+use Rattle.mailstore.proofs.store.Store.message_at.Goals as goal
+
+abbrev Known : Profile → Account → Type 0
+Known profile a = profile ≡ profile_of a
+
+pub returns-in_err-enter : goal.returns-in_err-enter
+returns-in_err-enter g c =
+    let is : c.from_residual.result ≡ Err c.in_err-enter.field-0.0 = search rules in
+    reads_refused c.args.user.now Known (λ message a. message ≡ slice_get (messages_in a.folders c.args.folder.now) c.args.at) (state g.S.Store c.args.self.now) (state g.S.Store c.enter.new.self) c.in_err-enter.field-0.0 c.from_residual.result is c.in_err-enter.ensures
+
+pub returns : goal.returns
+returns g c =
+    enters c.args.user.now Known (state g.S.Store c.args.self.now) (state g.S.Store c.enter.new.self) (state g.S.Store c.message_at_of.new.self) c.enter.result c.in_ok-enter.field-0 c.in_ok-enter.was c.enter.ensures (λ message a. message ≡ slice_get (messages_in a.folders c.args.folder.now) c.args.at) c.message_at_of.result c.message_at_of.ensures

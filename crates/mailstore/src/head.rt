@@ -1,0 +1,78 @@
+//! The queue without its messages.
+ghost use Rattle.std.specs.Prelude.{◌≡◌, false, map};
+ghost use Rattle.sqlite.specs.Held.{state};
+ghost use Rattle.mailtables.specs.Connection.{Queries};
+ghost use Rattle.mailstore.specs.Promises.{Finds, Reads, ReadsEntered};
+ghost use Rattle.mailstore.specs.HeadRows.{AreHeadRows, head_of};
+
+use crate::cell::text_at;
+use crate::queue::kind_at;
+use crate::refusal::Refusal;
+use crate::row::{FromRow, all_from_rows};
+use crate::store::Store;
+use mailtables::{Kind, query};
+use octets::{List, Octets};
+use sqlite::{Alter, Connection, Error, Row, params};
+
+/// A message on its way out, without its octets.
+#[derive(Debug, Drop)]
+pub struct Head {
+    /// The account's own number, from 1 on; it is never used again.
+    pub id: u64,
+    pub kind: Kind,
+    /// The envelope sender; empty for a reply.
+    pub sender: Octets,
+    pub target: Octets,
+    /// How many octets the message has.
+    pub len: u64,
+}
+
+/// The user's queue, in the order of its numbers, with the lengths of its messages.
+fn find_heads<S: Alter>(conn: &mut Connection<S>, owner: &[u8]) -> Result<Vec<Row>, Error>
+    requires { conn.old.in_transaction ≡ false }
+    ensures { Queries S.Store (Finds owner.now AreHeadRows) conn.old conn.new result }
+{
+    query(
+        conn,
+        "SELECT id, kind, sender, target, length(message) FROM outgoing WHERE owner = ?1 ORDER BY id",
+        params![owner],
+    )
+}
+
+impl FromRow for Head {
+    ghost use Rattle.mailstore.specs.FirstCells.{first_five};
+    ghost use Rattle.mailstore.specs.HeadRows.{head_cells};
+
+    ghost cells_of = { first_five };
+
+    ghost shows = { head_cells };
+
+    fn from_row(row: &Row) -> Result<Head, Refusal> {
+        Ok(Head {
+            id: row.get(0)?,
+            kind: kind_at(row, 1)?,
+            sender: text_at(row, 2)?,
+            target: text_at(row, 3)?,
+            len: row.get(4)?,
+        })
+    }
+}
+
+impl<S: Alter> Store<S> {
+    /// The user's messages on their way out, in the order of their numbers, without their octets. Time is linear in the
+    /// queue with its messages, memory in the queue without them.
+    pub fn queue_heads(&mut self, user: &[u8]) -> Result<List<Head>, Refusal>
+        ensures { Reads user.now (λ heads a. heads ≡ map head_of a.queue) (state S.Store self.old) (state S.Store self.new) result }
+    {
+        self.enter(user)?;
+        self.queue_heads_of(user)
+    }
+
+    /// The same of an account that was entered.
+    fn queue_heads_of(&mut self, user: &[u8]) -> Result<List<Head>, Refusal>
+        ensures { ReadsEntered user.now (λ heads a. heads ≡ map head_of a.queue) (state S.Store self.old) (state S.Store self.new) result }
+    {
+        let rows = find_heads(&mut self.conn, user)?;
+        all_from_rows(self.alloc, &rows)
+    }
+}

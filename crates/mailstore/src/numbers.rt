@@ -1,0 +1,65 @@
+//! The numbers of a folder's copies.
+ghost use Rattle.std.specs.Prelude.{◌≡◌, false, length, IfErr};
+ghost use Rattle.sqlite.specs.Held.{state};
+ghost use Rattle.mailtables.specs.Connection.{Queries};
+ghost use Rattle.mailstore.specs.Account.{messages_in};
+ghost use Rattle.mailstore.specs.FolderNumbers.{AreNumberRows, AreNumbersOf};
+ghost use Rattle.mailstore.specs.Promises.{FindsAmong, Reads, ReadsOwn};
+ghost use Rattle.mailstore.specs.Refusals.{IsTransient};
+
+use crate::refusal::Refusal;
+use crate::row::{FromRow, all_from_rows};
+use crate::store::Store;
+use mailtables::query;
+use octets::List;
+use sqlite::{Alter, Connection, Error, Row, params};
+
+/// The numbers of the folder's copies, in their order.
+fn find_numbers<S: Alter>(
+    conn: &mut Connection<S>,
+    owner: &[u8],
+    folder: &[u8],
+) -> Result<Vec<Row>, Error>
+    requires { conn.old.in_transaction ≡ false }
+    ensures { Queries S.Store (FindsAmong owner.now (λ rows. AreNumberRows owner.now folder.now rows.items)) conn.old conn.new result }
+{
+    query(
+        conn,
+        "SELECT n FROM copy WHERE owner = ?1 AND folder = ?2 ORDER BY n",
+        params![owner, folder],
+    )
+}
+
+impl FromRow for u64 {
+    ghost use Rattle.mailstore.specs.FirstCells.{first_one};
+    ghost use Rattle.mailstore.specs.FolderNumbers.{number_cells};
+
+    ghost cells_of = { first_one };
+
+    ghost shows = { number_cells };
+
+    fn from_row(row: &Row) -> Result<u64, Refusal> {
+        Ok(row.get(0)?)
+    }
+}
+
+impl<S: Alter> Store<S> {
+    /// The numbers of the folder's messages, in the order in which they came; none where it is absent. No message is read:
+    /// time and memory are linear in the answer.
+    pub fn numbers(&mut self, user: &[u8], folder: &[u8]) -> Result<List<u64>, Refusal>
+        ensures numbers { ReadsOwn user.now (AreNumbersOf user.now folder.now) (state S.Store self.old) (state S.Store self.new) result }
+        ensures count { Reads user.now (λ numbers a. length numbers ≡ length (messages_in a.folders folder.now)) (state S.Store self.old) (state S.Store self.new) result }
+    {
+        self.enter(user)?;
+        self.numbers_of(user, folder)
+    }
+
+    /// The same of an account that was entered.
+    fn numbers_of(&mut self, user: &[u8], folder: &[u8]) -> Result<List<u64>, Refusal>
+        ensures finds { FindsAmong user.now (AreNumbersOf user.now folder.now) (state S.Store self.old) (state S.Store self.new) result }
+        ensures named { IfErr result IsTransient }
+    {
+        let rows = find_numbers(&mut self.conn, user, folder)?;
+        all_from_rows(self.alloc, &rows)
+    }
+}
