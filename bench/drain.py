@@ -3,9 +3,10 @@
 
   bench/drain.py [--sieved SIEVED] [PART ..]       SIEVED: the program, crates/sieved/out/sieved where none is named
 
-The parts: moved, opens, life; without a word, all. It needs python3, and for some figures strace and the command `time`.
+The parts: moved, grows, opens, life; without a word, all. It needs python3, and for some figures strace and the command `time`.
 
   moved   100 and 1,000 messages of 8 kB drained in one run, on a disk (the folder for temporary files) and in memory (/dev/shm), with the syncs counted
+  grows   100, 1,000 and 10,000 messages drained in one run without `--most`, a message's time less the open's, in memory
   opens   `folders` of a user without messages: stores of 1, 10 and 100 MB, and with 1,000 and 10,000 remembered replies
   life    10 deliveries of 8 kB a second for five minutes, with a drain every 5 seconds and without one; the store lies in
           the folder for temporary files, so TMPDIR=/dev/shm takes the waits for a disk away
@@ -92,6 +93,23 @@ def moved(sieved):
                 print(f"| {count:,} messages of 8 kB, {place} | {took:.0f} | {calls:,} | {waited:.0f} | {most:.1f} |", flush=True)
 
 
+def grows(sieved):
+    print("| Drained in one run, in memory | ms | less an open | ms a message |\n|---|---:|---:|---:|")
+    for count in (100, 1_000, 10_000):
+        with tempfile.TemporaryDirectory(dir="/dev/shm") as folder:
+            store = Store(["alice", "bob"], sieved)
+            store.file = f"{folder}/mail.db"
+            store.run("init")
+            store.run("adduser", "--salt", "00" * 16, "alice", "alice@example.org", data=b"secret\n")
+            store.run("adduser", "--salt", "00" * 16, "bob", "bob@example.org", data=b"secret\n")
+            fill(store, count)
+            maildir(f"{folder}/mail")
+            opening = min(timed(store.words("folders", "bob")) for _ in range(3))
+            took = timed(drain(store, folder))
+            assert len(os.listdir(f"{folder}/mail/new")) == count
+            print(f"| {count:,} messages of 8 kB | {took:.0f} | {took - opening:.0f} | {(took - opening) / count:.2f} |", flush=True)
+
+
 def drain(store, folder):
     return store.words("drain", "--wait", "alice", "INBOX", f"{folder}/mail")
 
@@ -167,7 +185,7 @@ def life(sieved):
         Life(sieved, drains).live()
 
 
-PARTS = {"moved": moved, "opens": opens, "life": life}
+PARTS = {"moved": moved, "grows": grows, "opens": opens, "life": life}
 
 
 def main():
