@@ -23,7 +23,7 @@ DIGEST = re.compile(r"\.sha256-[0-9a-f]{64}")
 LEVELS = [b"INBOX", b"inbox", b"Inbox", b"iNBOX", b"Inboxes", b"a", b"~", b"~a", b"a~", b"&-", b"&APY-", b"\\2e", b"\\7e", b"\\c3", b"\\c3\\b6", b"\\00", b"\\41",
           b"\\x", b"cur", b"new", b"tmp", b" ", b"\xc3\xb6", b"dovecot", b"subscriptions", b"*", b"%", b"", b"..", b"\xf0\x9d\x84\x9e", b"\xff",
           b"sha256-" + b"0a" * 32, b"sha256-" + b"0A" * 32]
-CHARACTERS = "aAzZ059 .~&/\\-+,%*\"'#\0\n\r\x01\x7föß中é𝄞e\u0301\u2028\ufeff\uffff"
+CHARACTERS = "aAzZ059 .~&/\\-+,%*\"'#\n\r\x01\x7föß中é𝄞e\u0301\u2028\ufeff\uffff"
 
 
 def one_name(draw):

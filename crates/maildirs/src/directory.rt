@@ -105,7 +105,10 @@ fn is_own(directory: &[u8]) -> bool
 fn is_digest(directory: &[u8]) -> bool
     ensures { result ≡ is_digest directory.now }
 {
-    directory.starts_with(b".sha256-") && is_sha256(directory.split_at(8).1)
+    match directory.strip_prefix(b".sha256-") {
+        Some(digits) => is_sha256(digits),
+        None => false,
+    }
 }
 
 /// 64 hexadecimal digits in lower case.
