@@ -1,5 +1,5 @@
 //! What a keeper of a store promises.
-ghost use Rattle.std.specs.Prelude.{◌≡◌, Bool, false, Option, None, is_some, IsTrue, IfOk, IfErr, IfSome, OnOk, OnErr};
+ghost use Rattle.std.specs.Prelude.{◌≡◌, ⊤, Bool, false, Option, None, is_some, IsTrue, IfOk, IfErr, IfSome, OnOk, OnErr};
 ghost use Rattle.sqlite.specs.Effect.{Database};
 ghost use Rattle.sqlite.specs.Held as sqlite;
 ghost use Rattle.sqlite.specs.Held.{state};
@@ -53,6 +53,9 @@ pub trait Keeper {
     /// Why the store that was handed back last couldn't be closed, until that is asked for.
     ghost unclosed: { Self → Option Refusal };
 
+    /// What is so of a keeper that refused `lock` or `take`. Only their refusals say it, so who can say it of any keeper was refused.
+    ghost refuses: { Self → Type 0 } = { λ _. ⊤ };
+
     /// From now on a call of `lock` or `take` waits for a lock that another process has, or answers Busy.
     fn wait_for_lock(&mut self, waits: bool)
         ensures same { IsTrue tells → holds self.new ≡ holds self.old }
@@ -68,6 +71,7 @@ pub trait Keeper {
         ensures same { IsTrue tells → holds self.new ≡ holds self.old }
         ensures out { OnOk result (IsTrue (is_out self.new)) }
         ensures kept { OnErr result (is_out self.new ≡ is_out self.old) }
+        ensures denied { OnErr result (refuses self.old) }
         ensures closed { unclosed self.new ≡ unclosed self.old };
 
     /// Gives the lock back, under which no store is out.
@@ -88,6 +92,7 @@ pub trait Keeper {
         ensures refused { OnErr result (IsTrue tells → holds self.new ≡ holds self.old) }
         ensures out { OnOk result (IsTrue (is_out self.new)) }
         ensures kept { OnErr result (is_out self.new ≡ is_out self.old) }
+        ensures denied { OnErr result (refuses self.old) }
         ensures closed { unclosed self.new ≡ unclosed self.old };
 
     /// Takes the store back out of the place that it is given in, closes it, and gives the lock back. Where it can't be closed what was

@@ -1,6 +1,5 @@
 -- Steps over a store, from what their commands come to.
-use Rattle.std.proofs.Common.{◌≡◌, ◌⊎◌, ℕ, Bool, true, false, not, ◌&&◌, List, ◌++◌, Option, Some, Ok, Err, Result, OnOk, OnErr, refl, sym, ap, ◌∙◌, subst}
-use Rattle.std.proofs.lemmas.Bool.{false≢true}
+use Rattle.std.proofs.Common.{◌≡◌, ◌⊎◌, ℕ, Bool, true, false, not, ◌&&◌, List, ◌++◌, Option, Some, Ok, Err, Result, OnOk, OnErr, IfErr, refl, sym, ap, ◌∙◌, subst, inl, inr}
 use Rattle.sqlite.specs.State.{State, HasCleanDisk}
 use Rattle.sqlite.proofs.StateLemmas.{survives_weaker}
 use Rattle.msproto.specs.declared.commands.Command.{Command}
@@ -27,8 +26,9 @@ use Rattle.sessions.specs.declared.turn.Sequel.TheVariants.{Stay}
 use Rattle.sessions.specs.declared.turn.Turn.{Turn}
 use Rattle.sessions.specs.Acts.{HasAccounts, Carries, CrashLeaves, Acts, Glances, IsAnswered, Stays, StaysOpen}
 use Rattle.sessions.specs.Clients.{Client, item_in, reach_in, past, without_first}
-use Rattle.sessions.specs.Orders.{ObeysUser, ObeyedTo, MayObey, StepsTo, MayStep}
-use Rattle.sessions.specs.Steps.{IsStep, StepsOver, HasFirst, Asked, progress_of, is_free, asks_memory, may_lack}
+use Rattle.sessions.specs.Orders.{ObeysUser, ObeyedTo, MayObey, StepsTo, MayStep, MayRefuse}
+use Rattle.sessions.specs.Refusing.{WasRefused, was_refused}
+use Rattle.sessions.specs.Steps.{IsStep, StepsOver, HasFirst, Asked, progress_of, is_free, asks_store, asks_memory, may_lack, may_fail}
 use Rattle.sessions.specs.Sorts.{of_login, of_script, of_order}
 use Rattle.sessions.specs.Table.{is_about_scripts, is_early}
 use Rattle.sessions.specs.Turns.{IsTurn, FitsLogin, IsFreeTurn, followed, login_text, admitted_in}
@@ -138,6 +138,23 @@ refused_acts c d (Err e) before after a b none glances = acts_read a b (StepsTo 
 -- a command that comes first asks for memory
 pub command_lacks : (c : Client) (command : Command) → HasFirst c command → may_lack c ≡ true
 command_lacks c command has = ap (λ (b : Bool). not b && asks_memory (item_in c)) has.live ∙ ap asks_memory has.first
+
+-- a command that is answered over the store asks for memory, and the store
+lack_asked : (c : Client) (order : Order) → Asked c order → may_lack c ≡ true
+lack_asked c order asked = ap (λ (b : Bool). not b && asks_memory (item_in c)) asked.live ∙ ap asks_memory asked.first
+
+fail_asked : (c : Client) (order : Order) → Asked c order → may_fail c ≡ true
+fail_asked c order asked =
+    ap (λ (b : Bool). not b && asks_store c (item_in c)) asked.live
+    ∙ ap (asks_store c) asked.first
+    ∙ ap (λ (b : Bool). not b && not (is_free (of_order order))) asked.late
+    ∙ ap not asked.asks
+
+-- its refusal is one of a step
+pub asked_refused : (c : Client) (order : Order) → Asked c order → (r : Result Progress Refusal) → IfErr r IsTransient → OnErr r (WasRefused c)
+asked_refused c order asked (Ok progress) named = tt
+asked_refused c order asked (Err e) (inl is) = was_refused c e (subst (MayRefuse c) (sym is) (lack_asked c order asked))
+asked_refused c order asked (Err e) (inr is) = was_refused c e (subst (MayRefuse c) (sym is) (fail_asked c order asked))
 
 -- an order comes first, where its command does and the store is asked about it
 pub asked_by : (c : Client) (command : Command) (order : Order) → HasFirst c command → IsFreeTurn c.user command (Asks order) → Asked c order

@@ -7,6 +7,7 @@ pub mod Laws
 pub mod Limits
 pub mod Logins
 pub mod Orders
+pub mod Refusing
 pub mod Replies
 pub mod Scripts
 pub mod Sorts

@@ -9,6 +9,7 @@ ghost use Rattle.sessions.specs.Replies as r;
 ghost use Rattle.sqlite.specs.Held.{state};
 ghost use Rattle.sessions.specs.declared.sort.Order.TheVariants.{Login, Script};
 ghost use Rattle.sessions.specs.Orders.{ActsStep, StepsAsked, MayRefuse};
+ghost use Rattle.sessions.specs.Refusing.{WasRefused};
 ghost use Rattle.sessions.specs.Steps.{progress_of, Asked, StepsFirst, StepsFree, IfOver, IfCommand, IfAsks, IfMade, gives_command, has_command, may_lack};
 ghost use Rattle.sessions.specs.Turns.{followed};
 
@@ -223,6 +224,7 @@ impl Session {
         ensures asks { IfOk result (λ stepped. IfAsks stepped (self.new ≡ self.old)) }
         ensures err { OnErr result ((self.new ≡ self.old) × (out.new ≡ out.old)) }
         ensures lacks { OnErr result (may_lack self.old.client ≡ true) }
+        ensures refused { OnErr result (WasRefused self.old.client) }
     {
         let command = match self.step_over(out)? {
             First::Made(progress) => return Ok(Stepped::Made(progress)),
@@ -270,7 +272,8 @@ impl Session {
         out: &mut Octets,
     ) -> Result<Progress, Refusal>
         requires { Asked self.old.client order.now }
-        ensures { StepsAsked self.old self.new out.old out.new (state S.Store store.old) (state S.Store store.new) result }
+        ensures steps { StepsAsked self.old self.new out.old out.new (state S.Store store.old) (state S.Store store.new) result }
+        ensures refused { OnErr result (WasRefused self.old.client) }
     {
         match order {
             Order::Login(command) => self.step_login(store, command, out),

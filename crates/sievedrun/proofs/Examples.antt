@@ -9,6 +9,7 @@ use Rattle.mailstore.specs.Account.{no_accounts}
 use Rattle.sessions.specs.declared.progress.Progress.TheVariants.{Done}
 use Rattle.sessions.specs.Clients.{Client, new_client}
 use Rattle.sessions.specs.Replies.{done}
+use Rattle.sessions.specs.Refusing.{WasRefused}
 use Rattle.sievedrun.specs.Framing.{IsFramed}
 use Rattle.sievedrun.specs.Serving.{Round, Hears, Steps, GivesUp, Leads, came_in, said_in}
 
@@ -55,7 +56,7 @@ abbrev noop_rounds : List Round
 noop_rounds =
     hears (codes "NO") (after (codes "NO")) ∷ hears (codes "OP" ++ crlf) (after (codes "NOOP" ++ crlf)) ∷ record { came = []; said = codes "OK \"Done.\"" ++ crlf; accounts = no_accounts; client = new_client } ∷ []
 
-noop : Leads no_accounts new_client noop_rounds no_accounts new_client
+noop : Leads ⊥ no_accounts new_client noop_rounds no_accounts new_client
 unfolding machine_rows
 noop = (
   inl (record { waits = refl; short = lit≤ tt; silent = refl; joins = refl; same = refl }),
@@ -71,10 +72,16 @@ noop_came = refl
 noop_said : said_in noop_rounds ≡ codes "OK \"Done.\"" ++ crlf
 noop_said = refl
 
--- it may be given up; but nothing more is heard while it waits, and nothing is answered that isn't whole
-noop_given_up : GivesUp no_accounts (after (codes "NOOP" ++ crlf)) (record { came = []; said = codes "NO (TRYLATER) \"Try later.\"" ++ crlf; accounts = no_accounts; client = new_client })
+-- where a keeper denied its store it may be given up; where none did, only after its step was refused; but nothing more is heard while it waits, and nothing is answered that isn't whole
+noop_given_up : GivesUp (Unit {0}) no_accounts (after (codes "NOOP" ++ crlf)) (record { came = []; said = codes "NO (TRYLATER) \"Try later.\"" ++ crlf; accounts = no_accounts; client = new_client })
 unfolding machine_rows
-noop_given_up = record { ready = refl; none = refl; told = refl; drops = refl; same = refl }
+noop_given_up = record { ready = refl; none = refl; cause = inl tt; told = refl; drops = refl; same = refl }
+
+noop_without_cause : (r : Round) → GivesUp ⊥ no_accounts (after (codes "NOOP" ++ crlf)) r → WasRefused (after (codes "NOOP" ++ crlf))
+noop_without_cause r g = elim g.cause [
+  | inl none ↦ absurd none
+  | inr was ↦ was
+]
 
 noop_late : (r : Round) → Hears no_accounts (after (codes "NOOP" ++ crlf)) r → ⊥
 unfolding machine_rows

@@ -18,7 +18,7 @@ use Rattle.sessions.specs.Replies.{capabilities}
 use Rattle.msproto.specs.Machine.{rows}
 use Rattle.msproto.specs.Replies.{spelled}
 use Rattle.sievedrun.specs.declared.fault.Fault.{Fault}
-use Rattle.sievedrun.specs.Serving.{Round, IsRound, Leads, came_in, said_in, largest_piece, BeginsWith, Passes, Answered, Writes, Interrupted, WritesFirst, WritesAll, StepsOn, Served, BreaksOff}
+use Rattle.sievedrun.specs.Serving.{Round, HasDenied, Hinders, IsRound, Leads, came_in, said_in, largest_piece, BeginsWith, Passes, Answered, Writes, Interrupted, WritesFirst, StepsOn, Served, BreaksOff}
 use Rattle.sievedrun.specs.Streams.{AppendsFront}
 use Rattle.sievedrun.proofs.StreamLemmas.{nothing_read, nothing_written, read_on, written_on}
 
@@ -37,237 +37,246 @@ module _ (held new : Database) (taken given : State) (seen : taken.now ≡ held)
       let turn : carried.0 ≡ accounts = subst (λ x. StepsTo c d x before after accounts carried.0) is carried.1 in
       (same, silent, subst (λ db. Presents db accounts) (sym back) (subst (λ a. Presents given.now a) turn (carried.2 live)))
 
--- ---- rounds
+-- ---- why what comes first can't be answered
 
-pub leads_on : (accounts : Accounts) (c : Client) (rounds more : List Round) (mid : Accounts) (m : Client) (later : Accounts) (d : Client) → Leads accounts c rounds mid m → Leads mid m more later d → Leads accounts c (rounds ++ more) later d
-leads_on accounts c [] more mid m later d here next = subst (λ a. Leads a c more later d) here.0 (subst (λ x. Leads mid x more later d) here.1 next)
-leads_on accounts c (r ∷ rounds) more mid m later d here next = (here.0, leads_on r.accounts r.client rounds more mid m later d here.1 next)
+-- the keeper denied its store
+pub denied_by : {X E K : Type 0} (refuses : K → Type 0) (keeper : K) (r : Result X E) → OnErr r (refuses keeper) → OnErr r (HasDenied refuses)
+denied_by refuses keeper (Ok x) denied = tt
+denied_by refuses keeper (Err e) denied = (keeper, denied)
 
-pub passes_on : (accounts : Accounts) (c m d : Client) (rounds more : List Round) (mid new : Database) (p : Passes accounts c rounds m mid) → Passes p.later m more d new → Passes accounts c (rounds ++ more) d new
-passes_on accounts c m d rounds more mid new p q = record { later = q.later; leads = leads_on accounts c rounds more p.later m q.later d p.leads q.leads; shown = q.shown }
+-- where that is so of a keeper that refused
+module _ (Denied : Type 0) where
+  -- ---- rounds
 
-pub passes_none : (accounts : Accounts) (c : Client) (new : Database) → Presents new accounts → Passes accounts c [] c new
-passes_none accounts c new shown = record { later = accounts; leads = (refl, refl); shown = shown }
+  pub leads_on : (accounts : Accounts) (c : Client) (rounds more : List Round) (mid : Accounts) (m : Client) (later : Accounts) (d : Client) → Leads Denied accounts c rounds mid m → Leads Denied mid m more later d → Leads Denied accounts c (rounds ++ more) later d
+  leads_on accounts c [] more mid m later d here next = subst (λ a. Leads Denied a c more later d) here.0 (subst (λ x. Leads Denied mid x more later d) here.1 next)
+  leads_on accounts c (r ∷ rounds) more mid m later d here next = (here.0, leads_on r.accounts r.client rounds more mid m later d here.1 next)
 
-pub passes_one : (accounts : Accounts) (c : Client) (r : Round) (new : Database) → IsRound accounts c r → Presents new r.accounts → Passes accounts c (r ∷ []) r.client new
-passes_one accounts c r new round shown = record { later = r.accounts; leads = (round, (refl, refl)); shown = shown }
+  pub passes_on : (accounts : Accounts) (c m d : Client) (rounds more : List Round) (mid new : Database) (p : Passes Denied accounts c rounds m mid) → Passes Denied p.later m more d new → Passes Denied accounts c (rounds ++ more) d new
+  passes_on accounts c m d rounds more mid new p q = record { later = q.later; leads = leads_on accounts c rounds more p.later m q.later d p.leads q.leads; shown = q.shown }
 
--- ---- what is written
+  pub passes_none : (accounts : Accounts) (c : Client) (new : Database) → Presents new accounts → Passes Denied accounts c [] c new
+  passes_none accounts c new shown = record { later = accounts; leads = (refl, refl); shown = shown }
 
--- a front of a text after all of another
-pub front_on : (a b c : Option (List ℕ)) (first text : List ℕ) → Appends a b first → AppendsFront b c text → AppendsFront a c (first ++ text)
-front_on a b c first text before more = (length first + more.0, subst (Appends a c) (sym (take-append-add first text more.0)) (written_on a b c first (take more.0 text) before more.1))
+  pub passes_one : (accounts : Accounts) (c : Client) (r : Round) (new : Database) → IsRound Denied accounts c r → Presents new r.accounts → Passes Denied accounts c (r ∷ []) r.client new
+  passes_one accounts c r new round shown = record { later = r.accounts; leads = (round, (refl, refl)); shown = shown }
 
--- all of a text is a front of it
-pub front_all : (a b : Option (List ℕ)) (first text : List ℕ) → Appends a b first → AppendsFront a b (first ++ text)
-front_all a b first text before = (length first, subst (Appends a b) (sym (take-append_seam first text)) before)
+  -- ---- what is written
 
--- rounds in turn: all that came, and all that was said
-came_on : (rounds more : List Round) → came_in rounds ≡ [] → came_in more ≡ [] → came_in (rounds ++ more) ≡ []
-came_on rounds more first second = flat_map-append (λ (r : Round). r.came) rounds more ∙ ap (λ l. l ++ came_in more) first ∙ second
+  -- a front of a text after all of another
+  pub front_on : (a b c : Option (List ℕ)) (first text : List ℕ) → Appends a b first → AppendsFront b c text → AppendsFront a c (first ++ text)
+  front_on a b c first text before more = (length first + more.0, subst (Appends a c) (sym (take-append-add first text more.0)) (written_on a b c first (take more.0 text) before more.1))
 
-said_on : (rounds more : List Round) → said_in (rounds ++ more) ≡ said_in rounds ++ said_in more
-said_on rounds more = flat_map-append (λ (r : Round). r.said) rounds more
+  -- all of a text is a front of it
+  pub front_all : (a b : Option (List ℕ)) (first text : List ℕ) → Appends a b first → AppendsFront a b (first ++ text)
+  front_all a b first text before = (length first, subst (Appends a b) (sym (take-append_seam first text)) before)
 
--- ---- what was answered, and waits
+  -- rounds in turn: all that came, and all that was said
+  came_on : (rounds more : List Round) → came_in rounds ≡ [] → came_in more ≡ [] → came_in (rounds ++ more) ≡ []
+  came_on rounds more first second = flat_map-append (λ (r : Round). r.came) rounds more ∙ ap (λ l. l ++ came_in more) first ∙ second
 
-pub answered_none : (accounts : Accounts) (c : Client) (waits : List ℕ) (new : Database) → Presents new accounts → Answered accounts c waits waits c new
-answered_none accounts c waits new shown = record { rounds = []; passes = passes_none accounts c new shown; none = refl; joins = sym (append-nil waits) }
+  said_on : (rounds more : List Round) → said_in (rounds ++ more) ≡ said_in rounds ++ said_in more
+  said_on rounds more = flat_map-append (λ (r : Round). r.said) rounds more
 
-pub answered_on : (accounts : Accounts) (c m d : Client) (waits waits2 waits3 : List ℕ) (mid new : Database) → Answered accounts c waits waits2 m mid
-    → ((a : Accounts) → Presents mid a → Answered a m waits2 waits3 d new) → Answered accounts c waits waits3 d new
-answered_on accounts c m d waits waits2 waits3 mid new first then =
-    let second = then first.passes.later first.passes.shown in
-    record {
-      rounds = first.rounds ++ second.rounds;
-      passes = passes_on accounts c m d first.rounds second.rounds mid new first.passes second.passes;
-      none = came_on first.rounds second.rounds first.none second.none;
-      joins = second.joins ∙ ap (λ l. l ++ said_in second.rounds) first.joins ∙ append_assoc waits (said_in first.rounds) (said_in second.rounds) ∙ ap (λ l. waits ++ l) (sym (said_on first.rounds second.rounds));
-    }
+  -- ---- what was answered, and waits
 
--- a step answers what comes first
-pub first_stepped : (accounts : Accounts) (c d : Client) (waits waits2 : List ℕ) (new : Database) → is_ready c ≡ true → StepsOn accounts c waits waits2 d new true → Answered accounts c waits waits2 d new
-first_stepped accounts c d waits waits2 new ready step =
-    let r : Round = record { came = []; said = step.1; accounts = step.2; client = d } in
-    record {
-      rounds = r ∷ [];
-      passes = passes_one accounts c r new (inr (inl (record { ready = ready; none = refl; progress = step.0; step = step.4 }))) step.5;
-      none = refl;
-      joins = step.3 ∙ ap (λ l. waits ++ l) (sym (append-nil step.1));
-    }
+  pub answered_none : (accounts : Accounts) (c : Client) (waits : List ℕ) (new : Database) → Presents new accounts → Answered Denied accounts c waits waits c new
+  answered_none accounts c waits new shown = record { rounds = []; passes = passes_none accounts c new shown; none = refl; joins = sym (append-nil waits) }
 
--- or nothing changed
-pub step_answers : (accounts : Accounts) (c d : Client) (waits waits2 : List ℕ) (new : Database) (made : Bool) → is_ready c ≡ true → StepsOn accounts c waits waits2 d new made → Answered accounts c waits waits2 d new
-step_answers accounts c d waits waits2 new true ready step = first_stepped accounts c d waits waits2 new ready step
-step_answers accounts c d waits waits2 new false ready (same, silent, shown) =
-    subst (λ x. Answered accounts c waits waits2 x new) (sym same) (subst (λ w. Answered accounts c waits w c new) (sym silent) (answered_none accounts c waits new shown))
-
--- ---- what was answered and written
-
-pub writes_none : (accounts : Accounts) (c : Client) (out : Option (List ℕ)) (new : Database) → Presents new accounts → Writes accounts c out out c new
-writes_none accounts c out new shown = record { rounds = []; passes = passes_none accounts c new shown; none = refl; written = nothing_written out }
-
-pub writes_on : (accounts : Accounts) (c m d : Client) (out out2 out3 : Option (List ℕ)) (mid new : Database) → Writes accounts c out out2 m mid
-    → ((a : Accounts) → Presents mid a → Writes a m out2 out3 d new) → Writes accounts c out out3 d new
-writes_on accounts c m d out out2 out3 mid new first then =
-    let second = then first.passes.later first.passes.shown in
-    record {
-      rounds = first.rounds ++ second.rounds;
-      passes = passes_on accounts c m d first.rounds second.rounds mid new first.passes second.passes;
-      none = came_on first.rounds second.rounds first.none second.none;
-      written = subst (Appends out out3) (sym (said_on first.rounds second.rounds)) (written_on out out2 out3 (said_in first.rounds) (said_in second.rounds) first.written second.written);
-    }
-
-pub interrupted_on : (accounts : Accounts) (c m : Client) (out out2 out3 : Option (List ℕ)) (mid new : Database) → Writes accounts c out out2 m mid
-    → ((a : Accounts) → Presents mid a → Interrupted a m out2 out3 new) → Interrupted accounts c out out3 new
-interrupted_on accounts c m out out2 out3 mid new first then =
-    let second = then first.passes.later first.passes.shown in
-    record {
-      rounds = first.rounds ++ second.rounds;
-      client = second.client;
-      passes = passes_on accounts c m second.client first.rounds second.rounds mid new first.passes second.passes;
-      none = came_on first.rounds second.rounds first.none second.none;
-      written = subst (AppendsFront out out3) (sym (said_on first.rounds second.rounds)) (front_on out out2 out3 (said_in first.rounds) (said_in second.rounds) first.written second.written);
-    }
-
--- what was written counts as interrupted, where no more is
-pub interrupted_so : (accounts : Accounts) (c d : Client) (out out2 : Option (List ℕ)) (new : Database) → Writes accounts c out out2 d new → Interrupted accounts c out out2 new
-interrupted_so accounts c d out out2 new a = record {
-  rounds = a.rounds;
-  client = d;
-  passes = a.passes;
-  none = a.none;
-  written = subst (AppendsFront out out2) (append-nil (said_in a.rounds)) (front_all out out2 (said_in a.rounds) [] a.written);
-}
-
--- ---- what comes first
-
--- the answers are written, or that fails
-pub first_written : (accounts : Accounts) (c d : Client) (out out2 : Option (List ℕ)) (waits : List ℕ) (new : Database) → Answered accounts c [] waits d new
-    → (r : Result (Unit {0}) Fault) → OnOk r (Appends out out2 waits) → OnErr r (AppendsFront out out2 waits) → WritesFirst accounts c out out2 d new r
-first_written accounts c d out out2 waits new a (Ok done) whole broken = record { rounds = a.rounds; passes = a.passes; none = a.none; written = subst (Appends out out2) a.joins whole }
-first_written accounts c d out out2 waits new a (Err fault) whole broken = record { rounds = a.rounds; client = d; passes = a.passes; none = a.none; written = subst (AppendsFront out out2) a.joins broken }
-
--- it is given up, or that can't be written
-pub first_given_up : (accounts : Accounts) (c d : Client) (out out2 : Option (List ℕ)) (text : List ℕ) (new : Database) → is_ready c ≡ true → Presents new accounts → text ≡ text_given_up c → d ≡ client_given_up c
-    → (r : Result (Unit {0}) Fault) → OnOk r (Appends out out2 text) → OnErr r (AppendsFront out out2 text) → WritesFirst accounts c out out2 d new r
-first_given_up accounts c d out out2 text new ready shown told drops (Ok done) whole broken =
-    let r : Round = record { came = []; said = text; accounts = accounts; client = d } in
-    record {
-      rounds = r ∷ [];
-      passes = passes_one accounts c r new (inr (inr (record { ready = ready; none = refl; told = told; drops = drops; same = refl }))) shown;
-      none = refl;
-      written = subst (Appends out out2) (sym (append-nil text)) whole;
-    }
-first_given_up accounts c d out out2 text new ready shown told drops (Err fault) whole broken =
-    let r : Round = record { came = []; said = text; accounts = accounts; client = d } in
-    record {
-      rounds = r ∷ [];
-      client = d;
-      passes = passes_one accounts c r new (inr (inr (record { ready = ready; none = refl; told = told; drops = drops; same = refl }))) shown;
-      none = refl;
-      written = subst (AppendsFront out out2) (sym (append-nil text)) broken;
-    }
-
--- what comes first is answered, or breaks off, after what was answered
-pub first_on : (accounts : Accounts) (c m d : Client) (out out2 out3 : Option (List ℕ)) (mid new : Database) → Writes accounts c out out2 m mid
-    → (r : Result (Unit {0}) Fault) → ((a : Accounts) → Presents mid a → WritesFirst a m out2 out3 d new r) → WritesFirst accounts c out out3 d new r
-first_on accounts c m d out out2 out3 mid new first (Ok done) then = writes_on accounts c m d out out2 out3 mid new first then
-first_on accounts c m d out out2 out3 mid new first (Err fault) then = interrupted_on accounts c m out out2 out3 mid new first then
-
--- a step that asks no store answers it
-pub free_stepped : (c d : Client) (progress : Progress) (waits waits2 : List ℕ) (new : Database) → StepsOver c d progress waits waits2 → (accounts : Accounts) → Presents new accounts → StepsOn accounts c waits waits2 d new true
-free_stepped c d progress waits waits2 new over accounts shown = (progress, over.octets, accounts, over.written, over.step accounts, shown)
-
--- what was taken off a reader stood first
-pub begins_with : (old new : Option (List ℕ)) (text : List ℕ) → Consumes old new text → BeginsWith old text
-begins_with None new text took = tt
-begins_with (Some left) None text took = absurd took
-begins_with (Some left) (Some rest) text took = (rest, took)
-
--- ---- a whole session
-
--- the greeting is written
-pub served_first : (accounts : Accounts) (input out out2 : Option (List ℕ)) (c : Client) (greeting : List ℕ) (new : Database) → Presents new accounts → c ≡ new_client → greeting ≡ spelled (capabilities None) → Appends out out2 greeting
-    → Served accounts input input out out2 c new
-unfolding rows
-served_first accounts input out out2 c greeting new shown is told written = record {
-  rounds = [];
-  passes = subst (λ x. Passes accounts new_client [] x new) (sym is) (passes_none accounts new_client new shown);
-  read = nothing_read input;
-  written = subst (Appends out out2) (told ∙ sym (append-nil (spelled (capabilities None)))) written;
-  answered = subst (λ x. is_ready x ≡ false) (sym is) refl;
-}
-
--- a front of it is written, or none
-pub broken_first : (accounts : Accounts) (input out out2 : Option (List ℕ)) (greeting : List ℕ) (new : Database) → Presents new accounts → greeting ≡ spelled (capabilities None) → AppendsFront out out2 greeting → BreaksOff accounts input out out2 new
-broken_first accounts input out out2 greeting new shown told front = record {
-  rounds = [];
-  client = new_client;
-  passes = passes_none accounts new_client new shown;
-  read = begins_with input input [] (nothing_read input);
-  written = subst (AppendsFront out out2) (told ∙ sym (append-nil (spelled (capabilities None)))) front;
-}
-
--- nothing more comes of a session that was served so far
-pub broken_served : (accounts : Accounts) (in_old in_new out out2 : Option (List ℕ)) (c : Client) (new : Database) → Served accounts in_old in_new out out2 c new → BreaksOff accounts in_old out out2 new
-broken_served accounts in_old in_new out out2 c new s = record {
-  rounds = s.rounds;
-  client = c;
-  passes = s.passes;
-  read = begins_with in_old in_new (came_in s.rounds) s.read;
-  written = subst (AppendsFront out out2) (append-nil (spelled (capabilities None) ++ said_in s.rounds)) (front_all out out2 (spelled (capabilities None) ++ said_in s.rounds) [] s.written);
-}
-
--- the end of the input was read
-pub served_at_end : (accounts : Accounts) (in_old in_mid in_new out out2 : Option (List ℕ)) (c : Client) (new : Database) → Served accounts in_old in_mid out out2 c new → Consumes in_mid in_new [] → Served accounts in_old in_new out out2 c new
-served_at_end accounts in_old in_mid in_new out out2 c new s nothing = record {
-  rounds = s.rounds;
-  passes = s.passes;
-  read = subst (Consumes in_old in_new) (append-nil (came_in s.rounds)) (read_on in_old in_mid in_new (came_in s.rounds) [] s.read nothing);
-  written = s.written;
-  answered = s.answered;
-}
-
--- a piece came, and all that is whole was answered
-module _ (accounts : Accounts) (in_old in_mid in_new out out2 out3 : Option (List ℕ)) (piece : List ℕ) (c m d : Client) (mid new : Database) (s : Served accounts in_old in_mid out out2 c mid)
-    (took : Consumes in_mid in_new piece) (short : length piece ≤ largest_piece) (joins : m ≡ client_given piece c) where
-  abbrev heard : Round
-  heard = record { came = piece; said = []; accounts = s.passes.later; client = m }
-
-  came : Passes accounts new_client (s.rounds ++ heard ∷ []) m mid
-  came = passes_on accounts new_client c m s.rounds (heard ∷ []) mid mid s.passes (passes_one s.passes.later c heard mid (inl (record { waits = s.answered; short = short; silent = refl; joins = joins; same = refl })) s.passes.shown)
-
-  came_with : (more : List Round) → came_in more ≡ [] → came_in s.rounds ++ piece ≡ came_in ((s.rounds ++ heard ∷ []) ++ more)
-  came_with more none =
-      let outer = flat_map-append (λ (r : Round). r.came) (s.rounds ++ heard ∷ []) more in
-      let inner = flat_map-append (λ (r : Round). r.came) s.rounds (heard ∷ []) in
-      sym (outer ∙ ap (λ l. came_in (s.rounds ++ heard ∷ []) ++ l) none ∙ append-nil (came_in (s.rounds ++ heard ∷ [])) ∙ inner ∙ ap (λ l. came_in s.rounds ++ l) (append-nil piece))
-
-  said_with : (more : List Round) → (spelled (capabilities None) ++ said_in s.rounds) ++ said_in more ≡ spelled (capabilities None) ++ said_in ((s.rounds ++ heard ∷ []) ++ more)
-  said_with more =
-      let outer = flat_map-append (λ (r : Round). r.said) (s.rounds ++ heard ∷ []) more in
-      let inner = flat_map-append (λ (r : Round). r.said) s.rounds (heard ∷ []) in
-      append_assoc (spelled (capabilities None)) (said_in s.rounds) (said_in more) ∙ ap (λ l. spelled (capabilities None) ++ l) (sym (outer ∙ ap (λ l. l ++ said_in more) (inner ∙ append-nil (said_in s.rounds))))
-
-  pub served_on : ((a : Accounts) → Presents mid a → Writes a m out2 out3 d new × (is_ready d ≡ false)) → Served accounts in_old in_new out out3 d new
-  served_on then =
-      let (more, idle) = then came.later came.shown in
+  pub answered_on : (accounts : Accounts) (c m d : Client) (waits waits2 waits3 : List ℕ) (mid new : Database) → Answered Denied accounts c waits waits2 m mid
+      → ((a : Accounts) → Presents mid a → Answered Denied a m waits2 waits3 d new) → Answered Denied accounts c waits waits3 d new
+  answered_on accounts c m d waits waits2 waits3 mid new first then =
+      let second = then first.passes.later first.passes.shown in
       record {
-        rounds = (s.rounds ++ heard ∷ []) ++ more.rounds;
-        passes = passes_on accounts new_client m d (s.rounds ++ heard ∷ []) more.rounds mid new came more.passes;
-        read = subst (Consumes in_old in_new) (came_with more.rounds more.none) (read_on in_old in_mid in_new (came_in s.rounds) piece s.read took);
-        written = subst (Appends out out3) (said_with more.rounds) (written_on out out2 out3 (spelled (capabilities None) ++ said_in s.rounds) (said_in more.rounds) s.written more.written);
-        answered = idle;
+        rounds = first.rounds ++ second.rounds;
+        passes = passes_on accounts c m d first.rounds second.rounds mid new first.passes second.passes;
+        none = came_on first.rounds second.rounds first.none second.none;
+        joins = second.joins ∙ ap (λ l. l ++ said_in second.rounds) first.joins ∙ append_assoc waits (said_in first.rounds) (said_in second.rounds) ∙ ap (λ l. waits ++ l) (sym (said_on first.rounds second.rounds));
       }
 
-  pub broken_on : ((a : Accounts) → Presents mid a → Interrupted a m out2 out3 new) → BreaksOff accounts in_old out out3 new
-  broken_on then =
-      let more = then came.later came.shown in
+  -- a step answers what comes first
+  pub first_stepped : (accounts : Accounts) (c d : Client) (waits waits2 : List ℕ) (new : Database) → is_ready c ≡ true → StepsOn accounts c waits waits2 d new true → Answered Denied accounts c waits waits2 d new
+  first_stepped accounts c d waits waits2 new ready step =
+      let r : Round = record { came = []; said = step.1; accounts = step.2; client = d } in
       record {
-        rounds = (s.rounds ++ heard ∷ []) ++ more.rounds;
-        client = more.client;
-        passes = passes_on accounts new_client m more.client (s.rounds ++ heard ∷ []) more.rounds mid new came more.passes;
-        read = begins_with in_old in_new (came_in ((s.rounds ++ heard ∷ []) ++ more.rounds)) (subst (Consumes in_old in_new) (came_with more.rounds more.none) (read_on in_old in_mid in_new (came_in s.rounds) piece s.read took));
-        written = subst (AppendsFront out out3) (said_with more.rounds) (front_on out out2 out3 (spelled (capabilities None) ++ said_in s.rounds) (said_in more.rounds) s.written more.written);
+        rounds = r ∷ [];
+        passes = passes_one accounts c r new (inr (inl (record { ready = ready; none = refl; progress = step.0; step = step.4 }))) step.5;
+        none = refl;
+        joins = step.3 ∙ ap (λ l. waits ++ l) (sym (append-nil step.1));
       }
+
+  -- or nothing changed
+  pub step_answers : (accounts : Accounts) (c d : Client) (waits waits2 : List ℕ) (new : Database) (made : Bool) → is_ready c ≡ true → StepsOn accounts c waits waits2 d new made → Answered Denied accounts c waits waits2 d new
+  step_answers accounts c d waits waits2 new true ready step = first_stepped accounts c d waits waits2 new ready step
+  step_answers accounts c d waits waits2 new false ready (same, silent, shown) =
+      subst (λ x. Answered Denied accounts c waits waits2 x new) (sym same) (subst (λ w. Answered Denied accounts c waits w c new) (sym silent) (answered_none accounts c waits new shown))
+
+  -- ---- what was answered and written
+
+  pub writes_none : (accounts : Accounts) (c : Client) (out : Option (List ℕ)) (new : Database) → Presents new accounts → Writes Denied accounts c out out c new
+  writes_none accounts c out new shown = record { rounds = []; passes = passes_none accounts c new shown; none = refl; written = nothing_written out }
+
+  pub writes_on : (accounts : Accounts) (c m d : Client) (out out2 out3 : Option (List ℕ)) (mid new : Database) → Writes Denied accounts c out out2 m mid
+      → ((a : Accounts) → Presents mid a → Writes Denied a m out2 out3 d new) → Writes Denied accounts c out out3 d new
+  writes_on accounts c m d out out2 out3 mid new first then =
+      let second = then first.passes.later first.passes.shown in
+      record {
+        rounds = first.rounds ++ second.rounds;
+        passes = passes_on accounts c m d first.rounds second.rounds mid new first.passes second.passes;
+        none = came_on first.rounds second.rounds first.none second.none;
+        written = subst (Appends out out3) (sym (said_on first.rounds second.rounds)) (written_on out out2 out3 (said_in first.rounds) (said_in second.rounds) first.written second.written);
+      }
+
+  pub interrupted_on : (accounts : Accounts) (c m : Client) (out out2 out3 : Option (List ℕ)) (mid new : Database) → Writes Denied accounts c out out2 m mid
+      → ((a : Accounts) → Presents mid a → Interrupted Denied a m out2 out3 new) → Interrupted Denied accounts c out out3 new
+  interrupted_on accounts c m out out2 out3 mid new first then =
+      let second = then first.passes.later first.passes.shown in
+      record {
+        rounds = first.rounds ++ second.rounds;
+        client = second.client;
+        passes = passes_on accounts c m second.client first.rounds second.rounds mid new first.passes second.passes;
+        none = came_on first.rounds second.rounds first.none second.none;
+        written = subst (AppendsFront out out3) (sym (said_on first.rounds second.rounds)) (front_on out out2 out3 (said_in first.rounds) (said_in second.rounds) first.written second.written);
+      }
+
+  -- what was written counts as interrupted, where no more is
+  pub interrupted_so : (accounts : Accounts) (c d : Client) (out out2 : Option (List ℕ)) (new : Database) → Writes Denied accounts c out out2 d new → Interrupted Denied accounts c out out2 new
+  interrupted_so accounts c d out out2 new a = record {
+    rounds = a.rounds;
+    client = d;
+    passes = a.passes;
+    none = a.none;
+    written = subst (AppendsFront out out2) (append-nil (said_in a.rounds)) (front_all out out2 (said_in a.rounds) [] a.written);
+  }
+
+  -- ---- what comes first
+
+  -- the answers are written, or that fails
+  pub first_written : (accounts : Accounts) (c d : Client) (out out2 : Option (List ℕ)) (waits : List ℕ) (new : Database) → Answered Denied accounts c [] waits d new
+      → (r : Result (Unit {0}) Fault) → OnOk r (Appends out out2 waits) → OnErr r (AppendsFront out out2 waits) → WritesFirst Denied accounts c out out2 d new r
+  first_written accounts c d out out2 waits new a (Ok done) whole broken = record { rounds = a.rounds; passes = a.passes; none = a.none; written = subst (Appends out out2) a.joins whole }
+  first_written accounts c d out out2 waits new a (Err fault) whole broken = record { rounds = a.rounds; client = d; passes = a.passes; none = a.none; written = subst (AppendsFront out out2) a.joins broken }
+
+  -- it is given up, or that can't be written
+  pub first_given_up : (accounts : Accounts) (c d : Client) (out out2 : Option (List ℕ)) (text : List ℕ) (new : Database) → is_ready c ≡ true → Hinders Denied c → Presents new accounts → text ≡ text_given_up c → d ≡ client_given_up c
+      → (r : Result (Unit {0}) Fault) → OnOk r (Appends out out2 text) → OnErr r (AppendsFront out out2 text) → WritesFirst Denied accounts c out out2 d new r
+  first_given_up accounts c d out out2 text new ready cause shown told drops (Ok done) whole broken =
+      let r : Round = record { came = []; said = text; accounts = accounts; client = d } in
+      record {
+        rounds = r ∷ [];
+        passes = passes_one accounts c r new (inr (inr (record { ready = ready; none = refl; cause = cause; told = told; drops = drops; same = refl }))) shown;
+        none = refl;
+        written = subst (Appends out out2) (sym (append-nil text)) whole;
+      }
+  first_given_up accounts c d out out2 text new ready cause shown told drops (Err fault) whole broken =
+      let r : Round = record { came = []; said = text; accounts = accounts; client = d } in
+      record {
+        rounds = r ∷ [];
+        client = d;
+        passes = passes_one accounts c r new (inr (inr (record { ready = ready; none = refl; cause = cause; told = told; drops = drops; same = refl }))) shown;
+        none = refl;
+        written = subst (AppendsFront out out2) (sym (append-nil text)) broken;
+      }
+
+  -- what comes first is answered, or breaks off, after what was answered
+  pub first_on : (accounts : Accounts) (c m d : Client) (out out2 out3 : Option (List ℕ)) (mid new : Database) → Writes Denied accounts c out out2 m mid
+      → (r : Result (Unit {0}) Fault) → ((a : Accounts) → Presents mid a → WritesFirst Denied a m out2 out3 d new r) → WritesFirst Denied accounts c out out3 d new r
+  first_on accounts c m d out out2 out3 mid new first (Ok done) then = writes_on accounts c m d out out2 out3 mid new first then
+  first_on accounts c m d out out2 out3 mid new first (Err fault) then = interrupted_on accounts c m out out2 out3 mid new first then
+
+  -- a step that asks no store answers it
+  pub free_stepped : (c d : Client) (progress : Progress) (waits waits2 : List ℕ) (new : Database) → StepsOver c d progress waits waits2 → (accounts : Accounts) → Presents new accounts → StepsOn accounts c waits waits2 d new true
+  free_stepped c d progress waits waits2 new over accounts shown = (progress, over.octets, accounts, over.written, over.step accounts, shown)
+
+  -- what was taken off a reader stood first
+  pub begins_with : (old new : Option (List ℕ)) (text : List ℕ) → Consumes old new text → BeginsWith old text
+  begins_with None new text took = tt
+  begins_with (Some left) None text took = absurd took
+  begins_with (Some left) (Some rest) text took = (rest, took)
+
+  -- ---- a whole session
+
+  -- the greeting is written
+  pub served_first : (accounts : Accounts) (input out out2 : Option (List ℕ)) (c : Client) (greeting : List ℕ) (new : Database) → Presents new accounts → c ≡ new_client → greeting ≡ spelled (capabilities None) → Appends out out2 greeting
+      → Served Denied accounts input input out out2 c new
+  unfolding rows
+  served_first accounts input out out2 c greeting new shown is told written = record {
+    rounds = [];
+    passes = subst (λ x. Passes Denied accounts new_client [] x new) (sym is) (passes_none accounts new_client new shown);
+    read = nothing_read input;
+    written = subst (Appends out out2) (told ∙ sym (append-nil (spelled (capabilities None)))) written;
+    answered = subst (λ x. is_ready x ≡ false) (sym is) refl;
+  }
+
+  -- a front of it is written, or none
+  pub broken_first : (accounts : Accounts) (input out out2 : Option (List ℕ)) (greeting : List ℕ) (new : Database) → Presents new accounts → greeting ≡ spelled (capabilities None) → AppendsFront out out2 greeting → BreaksOff Denied accounts input out out2 new
+  broken_first accounts input out out2 greeting new shown told front = record {
+    rounds = [];
+    client = new_client;
+    passes = passes_none accounts new_client new shown;
+    read = begins_with input input [] (nothing_read input);
+    written = subst (AppendsFront out out2) (told ∙ sym (append-nil (spelled (capabilities None)))) front;
+  }
+
+  -- nothing more comes of a session that was served so far
+  pub broken_served : (accounts : Accounts) (in_old in_new out out2 : Option (List ℕ)) (c : Client) (new : Database) → Served Denied accounts in_old in_new out out2 c new → BreaksOff Denied accounts in_old out out2 new
+  broken_served accounts in_old in_new out out2 c new s = record {
+    rounds = s.rounds;
+    client = c;
+    passes = s.passes;
+    read = begins_with in_old in_new (came_in s.rounds) s.read;
+    written = subst (AppendsFront out out2) (append-nil (spelled (capabilities None) ++ said_in s.rounds)) (front_all out out2 (spelled (capabilities None) ++ said_in s.rounds) [] s.written);
+  }
+
+  -- the end of the input was read
+  pub served_at_end : (accounts : Accounts) (in_old in_mid in_new out out2 : Option (List ℕ)) (c : Client) (new : Database) → Served Denied accounts in_old in_mid out out2 c new → Consumes in_mid in_new [] → Served Denied accounts in_old in_new out out2 c new
+  served_at_end accounts in_old in_mid in_new out out2 c new s nothing = record {
+    rounds = s.rounds;
+    passes = s.passes;
+    read = subst (Consumes in_old in_new) (append-nil (came_in s.rounds)) (read_on in_old in_mid in_new (came_in s.rounds) [] s.read nothing);
+    written = s.written;
+    answered = s.answered;
+  }
+
+  -- a piece came, and all that is whole was answered
+  module _ (accounts : Accounts) (in_old in_mid in_new out out2 out3 : Option (List ℕ)) (piece : List ℕ) (c m d : Client) (mid new : Database) (s : Served Denied accounts in_old in_mid out out2 c mid)
+      (took : Consumes in_mid in_new piece) (short : length piece ≤ largest_piece) (joins : m ≡ client_given piece c) where
+    abbrev heard : Round
+    heard = record { came = piece; said = []; accounts = s.passes.later; client = m }
+
+    came : Passes Denied accounts new_client (s.rounds ++ heard ∷ []) m mid
+    came = passes_on accounts new_client c m s.rounds (heard ∷ []) mid mid s.passes (passes_one s.passes.later c heard mid (inl (record { waits = s.answered; short = short; silent = refl; joins = joins; same = refl })) s.passes.shown)
+
+    came_with : (more : List Round) → came_in more ≡ [] → came_in s.rounds ++ piece ≡ came_in ((s.rounds ++ heard ∷ []) ++ more)
+    came_with more none =
+        let outer = flat_map-append (λ (r : Round). r.came) (s.rounds ++ heard ∷ []) more in
+        let inner = flat_map-append (λ (r : Round). r.came) s.rounds (heard ∷ []) in
+        sym (outer ∙ ap (λ l. came_in (s.rounds ++ heard ∷ []) ++ l) none ∙ append-nil (came_in (s.rounds ++ heard ∷ [])) ∙ inner ∙ ap (λ l. came_in s.rounds ++ l) (append-nil piece))
+
+    said_with : (more : List Round) → (spelled (capabilities None) ++ said_in s.rounds) ++ said_in more ≡ spelled (capabilities None) ++ said_in ((s.rounds ++ heard ∷ []) ++ more)
+    said_with more =
+        let outer = flat_map-append (λ (r : Round). r.said) (s.rounds ++ heard ∷ []) more in
+        let inner = flat_map-append (λ (r : Round). r.said) s.rounds (heard ∷ []) in
+        append_assoc (spelled (capabilities None)) (said_in s.rounds) (said_in more) ∙ ap (λ l. spelled (capabilities None) ++ l) (sym (outer ∙ ap (λ l. l ++ said_in more) (inner ∙ append-nil (said_in s.rounds))))
+
+    pub served_on : ((a : Accounts) → Presents mid a → Writes Denied a m out2 out3 d new × (is_ready d ≡ false)) → Served Denied accounts in_old in_new out out3 d new
+    served_on then =
+        let (more, idle) = then came.later came.shown in
+        record {
+          rounds = (s.rounds ++ heard ∷ []) ++ more.rounds;
+          passes = passes_on accounts new_client m d (s.rounds ++ heard ∷ []) more.rounds mid new came more.passes;
+          read = subst (Consumes in_old in_new) (came_with more.rounds more.none) (read_on in_old in_mid in_new (came_in s.rounds) piece s.read took);
+          written = subst (Appends out out3) (said_with more.rounds) (written_on out out2 out3 (spelled (capabilities None) ++ said_in s.rounds) (said_in more.rounds) s.written more.written);
+          answered = idle;
+        }
+
+    pub broken_on : ((a : Accounts) → Presents mid a → Interrupted Denied a m out2 out3 new) → BreaksOff Denied accounts in_old out out3 new
+    broken_on then =
+        let more = then came.later came.shown in
+        record {
+          rounds = (s.rounds ++ heard ∷ []) ++ more.rounds;
+          client = more.client;
+          passes = passes_on accounts new_client m more.client (s.rounds ++ heard ∷ []) more.rounds mid new came more.passes;
+          read = begins_with in_old in_new (came_in ((s.rounds ++ heard ∷ []) ++ more.rounds)) (subst (Consumes in_old in_new) (came_with more.rounds more.none) (read_on in_old in_mid in_new (came_in s.rounds) piece s.read took));
+          written = subst (AppendsFront out out3) (said_with more.rounds) (front_on out out2 out3 (spelled (capabilities None) ++ said_in s.rounds) (said_in more.rounds) s.written more.written);
+        }

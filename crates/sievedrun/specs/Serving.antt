@@ -10,6 +10,7 @@ use Rattle.mailstore.specs.Shows.{Presents}
 use Rattle.sessions.specs.declared.progress.Progress.{Progress}
 use Rattle.sessions.specs.Clients.{Client, new_client, client_given, is_ready}
 use Rattle.sessions.specs.GivenUp.{text_given_up, client_given_up}
+use Rattle.sessions.specs.Refusing.{WasRefused}
 use Rattle.sessions.specs.Replies.{capabilities}
 use Rattle.sessions.specs.Steps.{IsStep}
 use Rattle.sievedrun.specs.declared.fault.Fault.{Fault}
@@ -41,21 +42,30 @@ pub record Steps (accounts : Accounts) (c : Client) (r : Round) : Type 0 where
   pub progress : Progress
   pub step : IsStep accounts c progress r.said r.client r.accounts
 
+-- a keeper refused the lock or its store: what is so of one that did is so of some keeper
+abbrev pub HasDenied : {K : Type 0} → (K → Type 0) → Type 0
+HasDenied refuses = (keeper : _) × refuses keeper
+
+-- why what comes first can't be answered: the lock or the store was denied, or its step was refused
+abbrev pub Hinders : Type 0 → Client → Type 0
+Hinders Denied c = Denied ⊎ WasRefused c
+
 -- what comes first can't be answered now, and was given up
-pub record GivesUp (accounts : Accounts) (c : Client) (r : Round) : Type 0 where
+pub record GivesUp (Denied : Type 0) (accounts : Accounts) (c : Client) (r : Round) : Type 0 where
   pub ready : is_ready c ≡ true
   pub none : r.came ≡ []
+  pub cause : Hinders Denied c
   pub told : r.said ≡ text_given_up c
   pub drops : r.client ≡ client_given_up c
   pub same : r.accounts ≡ accounts
 
-abbrev pub IsRound : Accounts → Client → Round → Type 0
-IsRound accounts c r = Hears accounts c r ⊎ (Steps accounts c r ⊎ GivesUp accounts c r)
+abbrev pub IsRound : Type 0 → Accounts → Client → Round → Type 0
+IsRound Denied accounts c r = Hears accounts c r ⊎ (Steps accounts c r ⊎ GivesUp Denied accounts c r)
 
 -- rounds in turn lead from accounts and a client to these
-abbrev pub Leads : Accounts → Client → List Round → Accounts → Client → Type 0
-Leads accounts c [] later d = (later ≡ accounts) × (d ≡ c)
-Leads accounts c (r ∷ rounds) later d = IsRound accounts c r × Leads r.accounts r.client rounds later d
+abbrev pub Leads : Type 0 → Accounts → Client → List Round → Accounts → Client → Type 0
+Leads Denied accounts c [] later d = (later ≡ accounts) × (d ≡ c)
+Leads Denied accounts c (r ∷ rounds) later d = IsRound Denied accounts c r × Leads Denied r.accounts r.client rounds later d
 
 -- all that came in the rounds, and all that was said
 abbrev pub came_in : List Round → List ℕ
@@ -70,42 +80,42 @@ BeginsWith None text = Unit {0}
 BeginsWith (Some left) text = (rest : List ℕ) × (left ≡ text ++ rest)
 
 -- rounds lead from accounts and a client to these, which the tables show
-pub record Passes (accounts : Accounts) (c : Client) (rounds : List Round) (d : Client) (new : Database) : Type 0 where
+pub record Passes (Denied : Type 0) (accounts : Accounts) (c : Client) (rounds : List Round) (d : Client) (new : Database) : Type 0 where
   pub later : Accounts
-  pub leads : Leads accounts c rounds later d
+  pub leads : Leads Denied accounts c rounds later d
   pub shown : Presents new later
 
 -- rounds in which nothing came led here: what waits to be written grew by what was said
-pub record Answered (accounts : Accounts) (c : Client) (waited waits : List ℕ) (d : Client) (new : Database) : Type 0 where
+pub record Answered (Denied : Type 0) (accounts : Accounts) (c : Client) (waited waits : List ℕ) (d : Client) (new : Database) : Type 0 where
   pub rounds : List Round
-  pub passes : Passes accounts c rounds d new
+  pub passes : Passes Denied accounts c rounds d new
   pub none : came_in rounds ≡ []
   pub joins : waits ≡ waited ++ said_in rounds
 
 -- the same, and what was said is written
-pub record Writes (accounts : Accounts) (c : Client) (out_old out_new : Option (List ℕ)) (d : Client) (new : Database) : Type 0 where
+pub record Writes (Denied : Type 0) (accounts : Accounts) (c : Client) (out_old out_new : Option (List ℕ)) (d : Client) (new : Database) : Type 0 where
   pub rounds : List Round
-  pub passes : Passes accounts c rounds d new
+  pub passes : Passes Denied accounts c rounds d new
   pub none : came_in rounds ≡ []
   pub written : Appends out_old out_new (said_in rounds)
 
 -- the same, where a write failed: a front is written
-pub record Interrupted (accounts : Accounts) (c : Client) (out_old out_new : Option (List ℕ)) (new : Database) : Type 0 where
+pub record Interrupted (Denied : Type 0) (accounts : Accounts) (c : Client) (out_old out_new : Option (List ℕ)) (new : Database) : Type 0 where
   pub rounds : List Round
   pub client : Client
-  pub passes : Passes accounts c rounds client new
+  pub passes : Passes Denied accounts c rounds client new
   pub none : came_in rounds ≡ []
   pub written : AppendsFront out_old out_new (said_in rounds)
 
 -- what comes first was answered and written, or a write failed
-abbrev pub WritesFirst : Accounts → Client → Option (List ℕ) → Option (List ℕ) → Client → Database → Result (Unit {0}) Fault → Type 0
-WritesFirst accounts c out_old out_new d new (Ok done) = Writes accounts c out_old out_new d new
-WritesFirst accounts c out_old out_new d new (Err fault) = Interrupted accounts c out_old out_new new
+abbrev pub WritesFirst : Type 0 → Accounts → Client → Option (List ℕ) → Option (List ℕ) → Client → Database → Result (Unit {0}) Fault → Type 0
+WritesFirst Denied accounts c out_old out_new d new (Ok done) = Writes Denied accounts c out_old out_new d new
+WritesFirst Denied accounts c out_old out_new d new (Err fault) = Interrupted Denied accounts c out_old out_new new
 
 -- all that is whole was answered and written, or a write failed
-abbrev pub WritesAll : Accounts → Client → Option (List ℕ) → Option (List ℕ) → Client → Database → Result (Unit {0}) Fault → Type 0
-WritesAll accounts c out_old out_new d new (Ok done) = Writes accounts c out_old out_new d new × (is_ready d ≡ false)
-WritesAll accounts c out_old out_new d new (Err fault) = Interrupted accounts c out_old out_new new
+abbrev pub WritesAll : Type 0 → Accounts → Client → Option (List ℕ) → Option (List ℕ) → Client → Database → Result (Unit {0}) Fault → Type 0
+WritesAll Denied accounts c out_old out_new d new (Ok done) = Writes Denied accounts c out_old out_new d new × (is_ready d ≡ false)
+WritesAll Denied accounts c out_old out_new d new (Err fault) = Interrupted Denied accounts c out_old out_new new
 
 -- what is seen: what an open store sees, or else what is held
 abbrev pub seen : {X : Type 0} → (X → Database) → Database → Option X → Database
@@ -118,38 +128,39 @@ StepsOn accounts c waited waits d new true = (progress : Progress) × (octets : 
 StepsOn accounts c waited waits d new false = (d ≡ c) × (waits ≡ waited) × Presents new accounts
 
 -- a session led here from the greeting on: all that came was read and all that was said is written, and nothing that came is left to be answered
-pub record Served (accounts : Accounts) (in_old in_new out_old out_new : Option (List ℕ)) (c : Client) (new : Database) : Type 0 where
+pub record Served (Denied : Type 0) (accounts : Accounts) (in_old in_new out_old out_new : Option (List ℕ)) (c : Client) (new : Database) : Type 0 where
   pub rounds : List Round
-  pub passes : Passes accounts new_client rounds c new
+  pub passes : Passes Denied accounts new_client rounds c new
   pub read : Consumes in_old in_new (came_in rounds)
   pub written : Appends out_old out_new (spelled (capabilities None) ++ said_in rounds)
   pub answered : is_ready c ≡ false
 
 -- the session ended: it is closed, or the input is at its end
-pub record Ends (accounts : Accounts) (in_old in_new out_old out_new : Option (List ℕ)) (new : Database) : Type 0 where
+pub record Ends (Denied : Type 0) (accounts : Accounts) (in_old in_new out_old out_new : Option (List ℕ)) (new : Database) : Type 0 where
   pub client : Client
-  pub served : Served accounts in_old in_new out_old out_new client new
+  pub served : Served Denied accounts in_old in_new out_old out_new client new
   pub over : (client.closed ≡ true) ⊎ IsAtEnd in_new
 
 -- the session broke off, for want of memory, or by a read or a write that failed: a front of what was said is written
-pub record BreaksOff (accounts : Accounts) (in_old out_old out_new : Option (List ℕ)) (new : Database) : Type 0 where
+pub record BreaksOff (Denied : Type 0) (accounts : Accounts) (in_old out_old out_new : Option (List ℕ)) (new : Database) : Type 0 where
   pub rounds : List Round
   pub client : Client
-  pub passes : Passes accounts new_client rounds client new
+  pub passes : Passes Denied accounts new_client rounds client new
   pub read : BeginsWith in_old (came_in rounds)
   pub written : AppendsFront out_old out_new (spelled (capabilities None) ++ said_in rounds)
 
 -- one whole session over accounts
-abbrev pub Converses : Accounts → Option (List ℕ) → Option (List ℕ) → Option (List ℕ) → Option (List ℕ) → Database → Result (Unit {0}) Fault → Type 0
-Converses accounts in_old in_new out_old out_new new (Ok done) = Ends accounts in_old in_new out_old out_new new
-Converses accounts in_old in_new out_old out_new new (Err fault) = BreaksOff accounts in_old out_old out_new new
+abbrev pub Converses : Type 0 → Accounts → Option (List ℕ) → Option (List ℕ) → Option (List ℕ) → Option (List ℕ) → Database → Result (Unit {0}) Fault → Type 0
+Converses Denied accounts in_old in_new out_old out_new new (Ok done) = Ends Denied accounts in_old in_new out_old out_new new
+Converses Denied accounts in_old in_new out_old out_new new (Err fault) = BreaksOff Denied accounts in_old out_old out_new new
 
 -- the same of tables: accounts that they showed were served; a database without tables stays so
-pub record Serves (in_old in_new out_old out_new : Option (List ℕ)) (old new : Database) (result : Result (Unit {0}) Fault) : Type 0 where
-  pub talks : (accounts : Accounts) → Presents old accounts → Converses accounts in_old in_new out_old out_new new result
+pub record Serves (Denied : Type 0) (in_old in_new out_old out_new : Option (List ℕ)) (old new : Database) (result : Result (Unit {0}) Fault) : Type 0 where
+  pub talks : (accounts : Accounts) → Presents old accounts → Converses Denied accounts in_old in_new out_old out_new new result
   pub none : old.schema ≡ no_schema → new.schema ≡ no_schema
 
--- the same of a reader, a writer and a keeper, by what is still to be read of the one, what was written to the other, and the tables of the third
-abbrev pub ServesBy : {A B C : Type 0} → (A → Option (List ℕ)) → A → A → (B → Option (List ℕ)) → B → B → (C → Database) → C → C → Result (Unit {0}) Fault → Type 0
-ServesBy remaining in_old in_new contents out_old out_new holds old new result =
-    Serves (remaining in_old) (remaining in_new) (contents out_old) (contents out_new) (holds old) (holds new) result
+-- the same of a reader, a writer and a keeper, by what is still to be read of the one, what was written to the other, and the tables of the third, which
+-- says by `refuses` that it refused
+abbrev pub ServesBy : {A B C : Type 0} → (A → Option (List ℕ)) → A → A → (B → Option (List ℕ)) → B → B → (C → Type 0) → (C → Database) → C → C → Result (Unit {0}) Fault → Type 0
+ServesBy remaining in_old in_new contents out_old out_new refuses holds old new result =
+    Serves (HasDenied refuses) (remaining in_old) (remaining in_new) (contents out_old) (contents out_new) (holds old) (holds new) result

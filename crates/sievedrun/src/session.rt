@@ -8,7 +8,7 @@ ghost use Rattle.sessions.specs.Clients.{is_ready};
 ghost use Rattle.sessions.specs.Steps.{Asked};
 ghost use Rattle.sievedrun.specs.declared.fault.Fault.{Fault};
 ghost use Rattle.sievedrun.specs.Promise.{status_after};
-ghost use Rattle.sievedrun.specs.Serving.{Answered, Converses, Served, ServesBy, StepsOn, WritesAll, WritesFirst, seen};
+ghost use Rattle.sievedrun.specs.Serving.{Answered, Converses, HasDenied, Hinders, Served, ServesBy, StepsOn, WritesAll, WritesFirst, seen};
 
 use crate::fault::{Fault, refuse};
 use crate::stream::{MAX_READS, read_at, write_all};
@@ -48,7 +48,7 @@ pub fn serve_one<R: Read, W: Write, K: Keeper>(
     keeper: &mut K,
 ) -> Result<(), Fault>
     ensures back { K.is_out keeper.old ≡ false → K.is_out keeper.new ≡ false }
-    ensures serves { IsTrue K.tells → ServesBy R.remaining input.old input.new W.contents output.old output.new K.holds keeper.old keeper.new result }
+    ensures serves { IsTrue K.tells → ServesBy R.remaining input.old input.new W.contents output.old output.new K.refuses K.holds keeper.old keeper.new result }
 {
     let mut faults = io::sink();
     serve_client(alloc, path, input, output, &mut faults, keeper)
@@ -65,7 +65,7 @@ pub fn serve_client<R: Read, W: Write, F: Write, K: Keeper>(
     keeper: &mut K,
 ) -> Result<(), Fault>
     ensures back { K.is_out keeper.old ≡ false → K.is_out keeper.new ≡ false }
-    ensures serves { IsTrue K.tells → ServesBy R.remaining input.old input.new W.contents output.old output.new K.holds keeper.old keeper.new result }
+    ensures serves { IsTrue K.tells → ServesBy R.remaining input.old input.new W.contents output.old output.new K.refuses K.holds keeper.old keeper.new result }
 {
     let mut greeting = Octets::new(alloc);
     let mut session = Session::new(alloc, &mut greeting)?;
@@ -84,7 +84,7 @@ pub fn run_session<R: Read, W: Write, F: Write, K: Keeper>(
 ) -> u8
     ensures back { K.is_out keeper.old ≡ false → K.is_out keeper.new ≡ false }
     ensures serves { IsTrue K.tells → (ending : Result (Unit {0}) Fault) × (result ≡ status_after ending)
-        × ServesBy R.remaining input.old input.new W.contents output.old output.new K.holds keeper.old keeper.new ending }
+        × ServesBy R.remaining input.old input.new W.contents output.old output.new K.refuses K.holds keeper.old keeper.new ending }
 {
     keeper.wait_for_lock(place.waits);
     match serve_client(alloc, place.path, input, output, faults, keeper) {
@@ -105,8 +105,8 @@ fn converse<R: Read, W: Write, F: Write, K: Keeper>(
 ) -> Result<(), Fault>
     ensures back { K.is_out keeper.old ≡ false → K.is_out keeper.new ≡ false }
     ensures serves { IsTrue K.tells → (accounts : Accounts) (first_in first_out : Option (List ℕ))
-        → Served accounts first_in (R.remaining input.old) first_out (W.contents output.old) session.old.client (K.holds keeper.old)
-        → Converses accounts first_in (R.remaining input.new) first_out (W.contents output.new) (K.holds keeper.new) result }
+        → Served (HasDenied K.refuses) accounts first_in (R.remaining input.old) first_out (W.contents output.old) session.old.client (K.holds keeper.old)
+        → Converses (HasDenied K.refuses) accounts first_in (R.remaining input.new) first_out (W.contents output.new) (K.holds keeper.new) result }
     ensures none { IsTrue K.tells → (K.holds keeper.old).schema ≡ no_schema → (K.holds keeper.new).schema ≡ no_schema }
 {
     let mut piece = [0u8; PIECE];
@@ -137,7 +137,8 @@ fn answer_all<W: Write, K: Keeper>(
 ) -> Result<(), Fault>
     ensures back { K.is_out keeper.old ≡ false → K.is_out keeper.new ≡ false }
     ensures answers { IsTrue K.tells → (accounts : Accounts) → Presents (K.holds keeper.old) accounts
-        → WritesAll accounts session.old.client (W.contents output.old) (W.contents output.new) session.new.client (K.holds keeper.new) result }
+        → WritesAll (HasDenied K.refuses) accounts session.old.client (W.contents output.old) (W.contents output.new) session.new.client
+        (K.holds keeper.new) result }
     ensures none { IsTrue K.tells → (K.holds keeper.old).schema ≡ no_schema → (K.holds keeper.new).schema ≡ no_schema }
 {
     for _ in 0..u64::MAX {
@@ -162,7 +163,8 @@ fn answer_some<W: Write, K: Keeper>(
     requires { is_ready session.old.client ≡ true }
     ensures back { K.is_out keeper.old ≡ false → K.is_out keeper.new ≡ false }
     ensures answers { IsTrue K.tells → (accounts : Accounts) → Presents (K.holds keeper.old) accounts
-        → WritesFirst accounts session.old.client (W.contents output.old) (W.contents output.new) session.new.client (K.holds keeper.new) result }
+        → WritesFirst (HasDenied K.refuses) accounts session.old.client (W.contents output.old) (W.contents output.new) session.new.client
+        (K.holds keeper.new) result }
     ensures none { IsTrue K.tells → (K.holds keeper.old).schema ≡ no_schema → (K.holds keeper.new).schema ≡ no_schema }
 {
     let mut answers = Octets::new(alloc);
@@ -186,8 +188,9 @@ fn answer_under_lock<K: Keeper>(
     requires { is_ready session.old.client ≡ true }
     ensures back { K.is_out keeper.old ≡ false → K.is_out keeper.new ≡ false }
     ensures answers { IsTrue K.tells → (accounts : Accounts) → Presents (K.holds keeper.old) accounts
-        → Answered accounts session.old.client answers.old answers.new session.new.client (K.holds keeper.new) }
+        → Answered (HasDenied K.refuses) accounts session.old.client answers.old answers.new session.new.client (K.holds keeper.new) }
     ensures stopped { result ≡ false → is_ready session.new.client ≡ true }
+    ensures cause { result ≡ false → Hinders (HasDenied K.refuses) session.new.client }
     ensures none { IsTrue K.tells → (K.holds keeper.old).schema ≡ no_schema → (K.holds keeper.new).schema ≡ no_schema }
     ensures asked { K.unclosed keeper.old ≡ None → K.unclosed keeper.new ≡ None }
 {
@@ -239,8 +242,10 @@ fn answer_ready<K: Keeper>(
     keeper: &mut K,
 ) -> Result<(), Held>
     ensures answers { IsTrue K.tells → (accounts : Accounts) → Presents (seen (λ s. (state K.S.Store s).now) (K.holds keeper.old) store.old) accounts
-        → Answered accounts session.old.client answers.old answers.new session.new.client (seen (λ s. (state K.S.Store s).now) (K.holds keeper.new) store.new) }
+        → Answered (HasDenied K.refuses) accounts session.old.client answers.old answers.new session.new.client
+        (seen (λ s. (state K.S.Store s).now) (K.holds keeper.new) store.new) }
     ensures stopped { OnErr result (is_ready session.new.client ≡ true) }
+    ensures cause { OnErr result (Hinders (HasDenied K.refuses) session.new.client) }
     ensures none { IsTrue K.tells → (K.holds keeper.old).schema ≡ no_schema → store.old ≡ None
         → (K.holds keeper.new ≡ K.holds keeper.old) × (store.new ≡ None) }
     ensures closed { K.unclosed keeper.new ≡ K.unclosed keeper.old }
@@ -267,6 +272,7 @@ fn answer_first<K: Keeper>(
         → StepsOn accounts session.old.client answers.old answers.new session.new.client
         (seen (λ s. (state K.S.Store s).now) (K.holds keeper.new) store.new) (is_ok result) }
     ensures same { OnErr result ((session.new ≡ session.old) × (answers.new ≡ answers.old)) }
+    ensures cause { OnErr result (Hinders (HasDenied K.refuses) session.new.client) }
     ensures none { IsTrue K.tells → (K.holds keeper.old).schema ≡ no_schema → store.old ≡ None
         → (K.holds keeper.new ≡ K.holds keeper.old) × (store.new ≡ None) }
     ensures closed { K.unclosed keeper.new ≡ K.unclosed keeper.old }
@@ -294,6 +300,7 @@ fn answer_over_store<K: Keeper>(
         → StepsOn accounts session.old.client answers.old answers.new session.new.client
         (seen (λ s. (state K.S.Store s).now) (K.holds keeper.new) store.new) (is_ok result) }
     ensures same { OnErr result ((session.new ≡ session.old) × (answers.new ≡ answers.old)) }
+    ensures cause { OnErr result (Hinders (HasDenied K.refuses) session.new.client) }
     ensures none { IsTrue K.tells → (K.holds keeper.old).schema ≡ no_schema → store.old ≡ None
         → (K.holds keeper.new ≡ K.holds keeper.old) × (store.new ≡ None) }
     ensures closed { K.unclosed keeper.new ≡ K.unclosed keeper.old }
@@ -316,6 +323,7 @@ fn open_store<K: Keeper>(
     ensures opened { IfOk result (λ taken. IsTrue K.tells → (state K.S.Store taken).now ≡ seen (λ s. (state K.S.Store s).now) (K.holds keeper.old) store.old) }
     ensures ours { OnOk result (IsTrue K.tells → store.old ≡ None → (K.holds keeper.old).schema ≡ mail_schema) }
     ensures refused { OnErr result ((IsTrue K.tells → K.holds keeper.new ≡ K.holds keeper.old) × (store.new ≡ store.old)) }
+    ensures denied { OnErr result (HasDenied K.refuses) }
     ensures closed { K.unclosed keeper.new ≡ K.unclosed keeper.old }
 {
     match store.take() {

@@ -25,7 +25,7 @@ returns-in-Asks-clause-acts g c =
     subst (λ (out : List ℕ). Acts (StepsTo c.args.self.now.client c.step_asked.new.self.client c.step_asked.result out c.step_asked.new.out) (MayStep c.args.self.now.client) (state g.S.Store c.args.store.now) (state g.S.Store c.step_asked.new.store) c.step_asked.result)
     asks.silent
     (subst (λ (k : Client). Acts (StepsTo k c.step_asked.new.self.client c.step_asked.result c.step_free.new.out c.step_asked.new.out) (MayStep k) (state g.S.Store c.args.store.now) (state g.S.Store c.step_asked.new.store) c.step_asked.result)
-    asks.stays c.step_asked.ensures.acts)
+    asks.stays c.step_asked.ensures.steps.acts)
 
 pub step_asked-requires : goal.step_asked-requires
 step_asked-requires g c =

@@ -1,9 +1,13 @@
-use Rattle.std.proofs.Common.{◌≡◌, ℕ, List, Option, sym, ap, subst}
+use Rattle.std.proofs.Common.{◌≡◌, ℕ, List, Option, true, sym, ap, subst, rules}
+use Rattle.mailstore.specs.declared.refusal.Refusal.TheVariants.{Memory}
 use Rattle.sessions.specs.Clients.{Client}
 use Rattle.sessions.specs.Counts.{SessionView}
-use Rattle.sessions.specs.Steps.{HasFirst}
+use Rattle.sessions.specs.Refusing.{was_refused}
+use Rattle.sessions.specs.Steps.{HasFirst, may_lack}
 use Rattle.sessions.specs.Turns.{IsTurnAlone}
+use Rattle.sessions.proofs.AskedLemmas.{command_lacks}
 use Rattle.sessions.proofs.FreeLemmas.{turn_over, free_turn_step}
+use Rattle.sessions.proofs.StepLemmas.{on_err}
 use Rattle.sessions.proofs.session.Session.step_free.Goals as goal
 
 pub returns-in_ok-progress-in-Made-2-clause-step : goal.returns-in_ok-progress-in-Made-2-clause-step
@@ -19,3 +23,18 @@ returns-in_ok-progress-in-Made-2-clause-step c =
     turn_over c.args.self.now.client first c.take_turn.new.self.client command here.used turn c.in_ok-progress-in-Made-2.progress c.args.out.now c.step_over.new.out c.take_turn.new.out
     (ap (λ (v : SessionView). v.client) kept.0) kept.1 here.first c.in_ok-progress-in-Made-2.ensures.session c.in_ok-progress-in-Made-2.ensures.goes_on c.in_ok-progress-in-Made-2.ensures.told
     (λ accounts. free_turn_step accounts first command here.used turn (here.live, here.first) (subst (λ (u : Option (List ℕ)). IsTurnAlone u command turn) (sym user) free))
+
+pub returns-in_err-progress-clause-refused : goal.returns-in_err-progress-clause-refused
+returns-in_err-progress-clause-refused c =
+    let lacks : may_lack c.args.self.now.client ≡ true = search rules in
+    on_err c.from_residual.result (was_refused c.args.self.now.client Memory lacks)
+
+pub returns-in_err-turn-clause-refused : goal.returns-in_err-turn-clause-refused
+returns-in_err-turn-clause-refused c =
+    let has = rw c.in-Command.is at c.in_ok-progress.ensures.step in
+    on_err c.from_residual-in_err-turn.result (was_refused c.args.self.now.client Memory (command_lacks c.args.self.now.client c.in-Command.command has))
+
+pub returns-in_err-progress-in-Made-2-clause-refused : goal.returns-in_err-progress-in-Made-2-clause-refused
+returns-in_err-progress-in-Made-2-clause-refused c =
+    let has = rw c.in-Command.is at c.in_ok-progress.ensures.step in
+    on_err c.from_residual-in_err-progress-in-Made-2.result (was_refused c.args.self.now.client Memory (command_lacks c.args.self.now.client c.in-Command.command has))
