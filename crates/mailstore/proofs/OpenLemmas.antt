@@ -8,16 +8,19 @@ use Rattle.sqlite_typed.proofs.TestLemmas.{at_texts, bytes_eq_refl}
 use Rattle.sqlite_trees.specs.Tree.{Trees}
 use Rattle.sqlite_keyed.proofs.ListLemmas.{filter-map, filter_same}
 use Rattle.sqlite_trees.specs.View.{doubt}
-use Rattle.sqlite_schema.specs.Rules.{equal, Fits}
+use Rattle.sqlite_schema.specs.declared.schema.Table.{Table}
+use Rattle.sqlite_schema.specs.Rules.{equal}
+use Rattle.sqlite_rules.specs.Lists.{Has}
+use Rattle.sqlite_rules.proofs.ListLemmas.{all_has}
 use Rattle.sqlite.specs.Effect.{Database}
-use Rattle.sqlite.specs.State.{State, HasCleanDisk}
-use Rattle.sqlrows.specs.Rows.{Entry, cells_of, stored, IsHeld, HoldsTables, has_key, has_key_from}
-use Rattle.mailtables.specs.Schema.{no_schema, mail_schema}
-use Rattle.mailtables.specs.Connection.{IsSettled, Leaves, Outlives}
+use Rattle.sqlite.specs.State.{State, HasCleanDisk, Survives}
+use Rattle.sqlrows.specs.Rows.{Entry, cells_of, stored, IsHeld, Tables, HoldsTables, has_key, has_key_from}
+use Rattle.mailtables.specs.Schema.{no_schema, the_tables, mail_schema, IsOurSchema}
+use Rattle.mailtables.specs.Connection.{IsSettled, Outlives}
 use Rattle.mailstore.specs.Account.{Accounts, bytes_cmp, no_accounts}
 use Rattle.mailtables.specs.MetaTable.{meta, version_key, version_row, version_rows, meta_tree}
-use Rattle.mailtables.specs.Ours.{IsOurs, MayCreate, only_version}
-use Rattle.mailstore.specs.Shows.{ShowsIn, Presents, rows_of, IsAbsent, IsShownOrAbsent, ShowsAccounts}
+use Rattle.mailtables.specs.Ours.{IsOurs, IsOpenedAs, MayCreate, MayOpen, only_version}
+use Rattle.mailstore.specs.Shows.{ShowsIn, Presents, HoldsOurs, Offers, OffersIn, OpensAs, CrashLeavesOpened, rows_of, IsAbsent, IsShownOrAbsent, ShowsAccounts}
 use Rattle.mailtables.proofs.SchemaFacts.{meta_listed}
 use Rattle.std.specs.FinMap.{get-empty}
 
@@ -46,22 +49,41 @@ outlives_made old new empty faults left = record {
   crash = λ clean db leaves. elim (left clean db leaves) [ inl before ↦ inl before | inr made ↦ let m = made empty in inr (m.0, presents_nobody m.0 m.1, m.2) ];
 }
 
--- a crash leaves what it left before, where it commits nothing
-pub leaves : (old new : State) → doubt old.is_clean ≤ doubt new.is_clean → (HasCleanDisk new → (db : Trees) → new.may_leave db → old.may_leave db ⊎ ⊥) → Leaves old new
-leaves old new faults left = record { faults = faults; alone = λ clean db may. elim (left clean db may) [ inl before ↦ before | inr none ↦ absurd none ] }
+-- either schema has the same tables
+held_each : (db : Database) (tables : Tables) → HoldsOurs db tables → (t : Table) → Has the_tables t → IsHeld (db.trees t.tree) (tables t.tree)
+held_each db tables (inl h) = h.each
+held_each db tables (inr h) = h.each
 
--- opened on trees that show accounts, a database of our schema shows them
-pub shows_again : (db new : Database) (accounts : Accounts) → db.schema ≡ mail_schema → new ≡ db → ShowsIn db.trees accounts → Presents new accounts
-shows_again db new accounts ours is p =
-    let held = p.1.1 in
-    let again : HoldsTables mail_schema db p.1.0 =
-    record { is = ours; fits = subst (Fits mail_schema) (sym p.2) held.fits; each = λ t listed. subst (λ (trees : Trees). IsHeld (trees t.tree) (p.1.0 t.tree)) (sym p.2) (held.each t listed) } in
-    (p.1.0, subst (λ d. HoldsTables mail_schema d p.1.0) (sym is) again, p.1.2)
+our_schema : (db : Database) (tables : Tables) → HoldsOurs db tables → IsOurSchema db.schema
+our_schema db tables (inl h) = inl h.is
+our_schema db tables (inr h) = inr h.is
 
--- a database that shows accounts is ours
-pub shown_ours : (db : Database) (accounts : Accounts) → Presents db accounts → IsOurs db
+-- opened on trees that offer accounts, a database shows them
+pub shows_again : (old new : Database) (accounts : Accounts) → IsOpenedAs old new → OffersIn old.trees accounts → Presents new accounts
+shows_again old new accounts opened p = (
+  p.1.0,
+  record {
+    is = opened.schema;
+    fits = opened.fits;
+    each = λ t listed. subst (λ rows. IsHeld rows (p.1.0 t.tree)) (sym (all_has (λ (x : Table). new.trees x.tree ≡ old.trees x.tree) the_tables t opened.rows listed ∙ ap (λ (trees : Trees). trees t.tree) p.2)) (held_each p.0 p.1.0 p.1.1 t listed);
+  },
+  p.1.2,
+)
+
+pub opens_as : (old new : Database) → IsOpenedAs old new → OpensAs old new
+opens_as old new opened = record { tables = opened; shown = λ accounts p. shows_again old new accounts opened (old, p, refl) }
+
+-- what a crash leaves of an open
+pub outlives_open : (old new : State) → Survives old new (MayOpen old) → Outlives (CrashLeavesOpened old) old new
+outlives_open old new s = record {
+  faults = s.clean;
+  crash = λ clean db may. elim (s.crash clean db may) [ inl before ↦ inl before | inr made ↦ inr (made.0, made.1, opens_as old.now made.1 made.2, made.3) ];
+}
+
+-- a database that offers accounts is ours
+pub shown_ours : (db : Database) (accounts : Accounts) → Offers db accounts → IsOurs db
 shown_ours db accounts p =
-    let held = p.1.each meta meta_listed in
+    let held = held_each db p.0 p.1 meta meta_listed in
     let kept = sym (filter-map (has_key version_key) cells_of held.entries) ∙ sym (ap (filter (has_key version_key)) held.cells_are) ∙ p.2.version in
     let found = ap (filter (has_key_from 1 version_key)) held.rows_are ∙ filter-map (has_key_from 1 version_key) stored held.entries
     ∙ ap (map stored) (filter_same _ (λ (e : Entry). has_key version_key (cells_of e)) (λ e. refl) held.entries) in
@@ -71,5 +93,5 @@ shown_ours db accounts p =
     go [] kept found = absurd (let none = kept in cc)
     go (e ∷ []) kept found =
         let is : cells_of e ≡ version_row = cc in
-        record { schema = p.1.is; row = stored e; only = found; says = ap (λ (c : Row). column c 1) is }
+        record { schema = our_schema db p.0 p.1; row = stored e; only = found; says = ap (λ (c : Row). column c 1) is }
     go (e ∷ f ∷ es) kept found = absurd (let two = kept in cc)

@@ -1,5 +1,5 @@
 -- Which accounts the tables show, row by row.
-use Rattle.std.specs.Prelude.{◌≡◌, ℕ, ℤ, pos, Bool, List, [], ◌∷◌, filter, length, map, take, drop, slice_get, Option, Some, None, option_map, if◌then◌else◌}
+use Rattle.std.specs.Prelude.{◌≡◌, ◌⊎◌, ℕ, ℤ, pos, Bool, List, [], ◌∷◌, filter, length, map, take, drop, slice_get, Option, Some, None, option_map, if◌then◌else◌}
 use Rattle.std.specs.List.{find, list_any}
 use Rattle.std.specs.FinMap.{get}
 use Rattle.sqlite_value.specs.declared.value.Value.TheVariants.{Blob}
@@ -8,7 +8,8 @@ use Rattle.sqlite_trees.specs.Tree.{Trees}
 use Rattle.sqlite.specs.Effect.{Database}
 use Rattle.sqlite.specs.State.{State, HasCleanDisk}
 use Rattle.sqlrows.specs.Rows.{Tables, HoldsTables, has_key}
-use Rattle.mailtables.specs.Schema.{mail_schema}
+use Rattle.mailtables.specs.Schema.{mail_schema, unindexed_schema}
+use Rattle.mailtables.specs.Ours.{IsOpenedAs}
 use Rattle.mailstore.specs.Account.{Account, Accounts}
 use Rattle.mailtables.specs.MetaTable.{meta_tree, version_key, version_row}
 use Rattle.mailtables.specs.AccountTable.{account_tree}
@@ -66,17 +67,38 @@ pub record ShowsAccounts (tables : Tables) (accounts : Accounts) : Type 0 where
 abbrev pub Presents : Database → Accounts → Type 0
 Presents db accounts = (tables : Tables) × HoldsTables mail_schema db tables × ShowsAccounts tables accounts
 
--- a database that shows no accounts, not even none at all
-abbrev pub PresentsNothing : Database → Type 0
-PresentsNothing db = (accounts : Accounts) → ¬ Presents db accounts
+-- a database of our tables has these rows: with the index of the copies by their messages or, made before there was one, without it
+abbrev pub HoldsOurs : Database → Tables → Type 0
+HoldsOurs db tables = HoldsTables mail_schema db tables ⊎ HoldsTables unindexed_schema db tables
+
+-- a database that `open` takes, whose tables show the accounts
+abbrev pub Offers : Database → Accounts → Type 0
+Offers db accounts = (tables : Tables) × HoldsOurs db tables × ShowsAccounts tables accounts
+
+-- a database that offers no accounts, not even none at all
+abbrev pub OffersNothing : Database → Type 0
+OffersNothing db = (accounts : Accounts) → ¬ Offers db accounts
 
 -- the trees are those of a database that shows the accounts
 abbrev pub ShowsIn : Trees → Accounts → Type 0
 ShowsIn trees accounts = (db : Database) × Presents db accounts × (trees ≡ db.trees)
 
--- whatever accounts the trees showed, they show
+-- the trees are those of a database that offers the accounts
+abbrev pub OffersIn : Trees → Accounts → Type 0
+OffersIn trees accounts = (db : Database) × Offers db accounts × (trees ≡ db.trees)
+
+-- whatever accounts the trees offered, they show
 abbrev pub StillShows : State → State → Type 0
-StillShows old new = HasCleanDisk new → (accounts : Accounts) → ShowsIn old.now.trees accounts → Presents new.now accounts
+StillShows old new = HasCleanDisk new → (accounts : Accounts) → OffersIn old.now.trees accounts → Presents new.now accounts
+
+-- what `open` makes of a database: it has our schema, in each table the rows that it had, and shows the accounts that it offered
+pub record OpensAs (old new : Database) : Type 0 where
+  pub tables : IsOpenedAs old new
+  pub shown : (accounts : Accounts) → Offers old accounts → Presents new accounts
+
+-- what a crash may leave of an open, beside what it left before: of a database without the index, what `open` makes of it
+abbrev pub CrashLeavesOpened : State → Trees → Type 0
+CrashLeavesOpened s trees = (s.now.schema ≡ unindexed_schema) × (db : Database) × OpensAs s.now db × (trees ≡ db.trees)
 
 -- ---- what is read of the copies
 

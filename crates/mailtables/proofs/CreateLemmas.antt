@@ -1,35 +1,37 @@
 -- What a CREATE TABLE makes of a schema without rows.
-use Rattle.std.proofs.Common.{◌≡◌, ℕ, true, false, IsTrue, List, [], ◌∷◌, map, None, Ok, Err, Result, OnOk, refl, sym, ap, ◌∙◌, subst, inl, inr}
+use Rattle.std.proofs.Common.{◌≡◌, ℕ, true, false, IsTrue, List, [], ◌∷◌, map, slice_get, None, Ok, Err, Result, OnOk, refl, sym, ap, ◌∙◌, subst, inl, inr}
 use Rattle.std.specs.List.{AllByRecursion}
 use Rattle.sqlite_value.specs.Order.{Row}
 use Rattle.sqlite_trees.specs.Tree.{Trees}
 use Rattle.sqlite_schema.specs.declared.schema.Table.{Table}
 use Rattle.sqlite_schema.specs.declared.schema.Schema.{Schema}
-use Rattle.sqlite_schema.specs.declared.command.Command.TheVariants.{CreateTable}
+use Rattle.sqlite_schema.specs.declared.command.Command.TheVariants.{CreateTable, CreateIndex}
 use Rattle.sqlite_schema.specs.Rules.{Fits}
 use Rattle.sqlite_rules.proofs.ListLemmas.{all_has, has_either}
 use Rattle.sqlite_rules.proofs.RuleLemmas.{fits_obeyed}
-use Rattle.sqlite_catalog.specs.Change.{created, next_tree}
+use Rattle.sqlite_catalog.specs.Change.{created, indexed, next_tree, KeepsRows}
 use Rattle.sqlite_resolve.specs.Compile.{table_defined_by}
 use Rattle.sqlite.specs.Effect.{Database}
-use Rattle.sqlite.specs.Does.{Tally, lacks_sequence}
+use Rattle.sqlite.specs.Does.{Tally, lacks_sequence, Defines, MakesIndex as IndexMade, AtPlace}
 use Rattle.sqlite.specs.Listing.{understood}
 use Rattle.sqlite.specs.declared.error.Error.{Error}
 use Rattle.sqlite.specs.declared.transaction.Transaction.{Transaction}
-use Rattle.sqlite.specs.State.{State, HasCleanDisk, Survives, Writes, Executes, KeepsCommit, Shows}
+use Rattle.sqlite.specs.State.{State, HasCleanDisk, Survives, Writes, Executes, KeepsCommit, Shows, mode_of}
 use Rattle.sqlite.specs.Held.{Held, state}
 use Rattle.sqlite_trees.specs.declared.store.Store.{Ghosts}
 use Rattle.sqlite.proofs.StateLemmas.{survives_then}
 use Rattle.sqlite.proofs.Callers.{IsPlain, command_of, statement_of, runs_as, survives_begin}
 use Rattle.sqlite.proofs.InsideLemmas.{keeps_then}
-use Rattle.sqlrows.specs.Rows.{Entry, IsHeld, HoldsTables, cells_of, stored, added}
+use Rattle.sqlrows.specs.Rows.{Entry, IsHeld, Tables, HoldsTables, cells_of, stored, added}
 use Rattle.sqlrows.proofs.StepLemmas.{went, same_value}
-use Rattle.mailtables.specs.Schema.{no_schema, mail_schema}
+use Rattle.mailtables.specs.Schema.{no_schema, the_tables, mail_schema, unindexed_schema}
 use Rattle.mailtables.specs.Connection.{no_rows, RunsInside, Makes, TurnsRows, TurnsSchema, ChangesRows, MakesTables}
 use Rattle.mailtables.specs.MetaTable.{version_row, meta_tree}
-use Rattle.mailtables.specs.Ours.{TurnsOurs, MakesOurs, MayCreate}
+use Rattle.mailtables.specs.CopyTable.{copy, copy_message, create_copy_message}
+use Rattle.mailtables.specs.Ours.{TurnsOurs, MakesOurs, MayCreate, IsOpenedAs, TurnsIndexed, MakesIndex, MayIndex}
 use Rattle.mailtables.proofs.ResultLemmas.{on_ok}
 use Rattle.mailtables.proofs.WriteLemmas.{MakesInside, clean_before}
+use Rattle.mailtables.proofs.SchemaFacts.{copy_message_defined, copy_message_creates, copy_message_added}
 
 no_entries : (rows : List Row) → IsHeld rows [] → rows ≡ []
 no_entries rows h = h.rows_are ∙ go h.entries h.cells_are
@@ -116,18 +118,59 @@ ours_then g a b c r x q ok tables version =
     inside_then g (TurnsSchema no_schema mail_schema) (TurnsRows (added meta_tree version_row)) TurnsOurs (λ old mid new first second blank. second no_rows (first (starts_empty old blank))) a b c r x q ok tables version
 
 -- and the commit
-module _ {X : Type 0} (old last : State) (r : Result X Error) (x : X) (ok : r ≡ Ok x) (inside : IsTrue old.in_transaction) (makes : MakesInside TurnsOurs old last r) where
-  ready : HasCleanDisk last → TurnsOurs old.now last.now
+module _ {X : Type 0} (Turned : Database → Database → Type 0) (old last : State) (r : Result X Error) (x : X) (ok : r ≡ Ok x) (inside : IsTrue old.in_transaction) (makes : MakesInside Turned old last r) where
+  pub ready : HasCleanDisk last → Turned old.now last.now
   ready clean = (on_ok r x ok _ (makes clean inside).1).0
 
   pub all_made : {Z : Type 0} (new : State) (done : Result Z Error) (P Q : Type 0) (R : Trees → Type 0) → Survives last new R → (HasCleanDisk new → OnOk done (IsTrue last.in_transaction × Shows last new last.now last.now false × P × Q))
-      → HasCleanDisk new → OnOk done (TurnsOurs old.now new.now)
+      → HasCleanDisk new → OnOk done (Turned old.now new.now)
   all_made new (Err e) P Q R s commit clean = tt
-  all_made new (Ok z) P Q R s commit clean = subst (TurnsOurs old.now) (sym (commit clean).1.now_is) (ready (clean_before last new R s clean))
+  all_made new (Ok z) P Q R s commit clean = subst (Turned old.now) (sym (commit clean).1.now_is) (ready (clean_before last new R s clean))
 
 -- what a crash leaves of the transaction and its commit
 pub creates_all : {S X : Type 0} (g : Ghosts S) (old : Held S) (last end : State) (r : Result X Error) (x : X) → r ≡ Ok x → MakesInside TurnsOurs (state g (record old { in_transaction = true })) last r
     → Survives (state g (record old { in_transaction = true })) last (λ _. ⊥) → Survives last end (λ db. db ≡ last.now.trees) → Survives (state g old) end (MayCreate (state g old))
 creates_all g old last end r x ok makes inside commit =
     survives_then (state g old) last end _ _ _ (λ _ db none. absurd none)
-    (λ clean db is blank. (last.now, ready (state g (record old { in_transaction = true })) last r x ok refl makes (clean_before last end _ commit clean) blank, is)) (survives_begin g old last _ inside) commit
+    (λ clean db is blank. (last.now, ready TurnsOurs (state g (record old { in_transaction = true })) last r x ok refl makes (clean_before last end _ commit clean) blank, is)) (survives_begin g old last _ inside) commit
+
+-- ---- the index of the copies by their messages
+
+pub makes_index : (old new : State) (count : ℕ) → Executes create_copy_message [] old new (Ok count) → TurnsIndexed old.now new.now
+makes_index old new count ran ours =
+    let w = subst (λ t. Writes old new None (CreateIndex 7) t [] count) copy_message_creates.1 (runs_as create_copy_message [] old new unindexed_schema ours (CreateIndex 7) copy_message_creates.0 copy_message_creates.2 count ran) in
+    let at_copy = subst (λ (s : Schema). AtPlace (λ t. Defines (mode_of old) (IndexMade create_copy_message old.now t)) (slice_get s.tables 7) (Ok (w.tally, new.now))) ours w.changed in
+    let all = went at_copy in
+    let made = all.1 in
+    let both : Ok made.index ≡ Ok (record copy_message { tree = 0 }) = sym made.defined ∙ copy_message_defined in
+    let same : made.index ≡ record copy_message { tree = 0 } = cc in
+    let is : all.0.schema ≡ mail_schema = made.is ∙ ap (λ s. indexed s copy made.index) ours ∙ ap (indexed unindexed_schema copy) same ∙ copy_message_added in
+    let now : new.now ≡ all.0 = ap (λ (p : Tally × Database). p.1) (same_value all.2) in
+    let next : new.now.schema ≡ mail_schema = ap (λ (d : Database). d.schema) now ∙ is in
+    record {
+      schema = next;
+      rows = subst (λ (d : Database). KeepsRows the_tables old.now.trees d.trees) (sym now) (subst (λ (s : Schema). KeepsRows s.tables old.now.trees all.0.trees) ours made.rows);
+      fits = subst (λ s. Fits s new.now.trees) next (fits_obeyed new.now.schema new.now.trees w.sound.obeys);
+    }
+
+-- all rows stay
+pub index_holds : (old new : Database) (tables : Tables) → IsOpenedAs old new → HoldsTables unindexed_schema old tables → HoldsTables mail_schema new tables
+index_holds old new tables gained h = record {
+  is = gained.schema;
+  fits = gained.fits;
+  each = λ t listed. subst (λ rows. IsHeld rows (tables t.tree)) (sym (all_has (λ (x : Table). new.trees x.tree ≡ old.trees x.tree) the_tables t gained.rows listed)) (h.each t listed);
+}
+
+-- the index is made where the tables hold nothing
+pub index_after : {S X Y : Type 0} (g : Ghosts S) (a b c : Transaction S) (s : Schema) (r : Result X Error) (x : X) (q : Result Y Error) → r ≡ Ok x → MakesTables g s unindexed_schema a b r → MakesIndex g b c q
+    → MakesTables g s mail_schema a c q
+index_after g a b c s r x q ok tables index =
+    inside_then g (TurnsSchema s unindexed_schema) TurnsIndexed (TurnsSchema s mail_schema)
+    (λ old mid new first second held. let h = first held in index_holds mid new no_rows (second h.is) h) a b c r x q ok tables index
+
+-- what a crash leaves of its transaction and the commit
+pub indexes_all : {S X : Type 0} (g : Ghosts S) (old : Held S) (last end : State) (r : Result X Error) (x : X) → r ≡ Ok x → MakesInside TurnsIndexed (state g (record old { in_transaction = true })) last r
+    → Survives (state g (record old { in_transaction = true })) last (λ _. ⊥) → Survives last end (λ db. db ≡ last.now.trees) → Survives (state g old) end (MayIndex (state g old))
+indexes_all g old last end r x ok makes inside commit =
+    survives_then (state g old) last end _ _ _ (λ _ db none. absurd none)
+    (λ clean db is ours. (last.now, ready TurnsIndexed (state g (record old { in_transaction = true })) last r x ok refl makes (clean_before last end _ commit clean) ours, is)) (survives_begin g old last _ inside) commit

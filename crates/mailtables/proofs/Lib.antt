@@ -6,4 +6,5 @@ pub mod ResultLemmas
 pub mod WriteLemmas
 pub mod CreateLemmas
 pub mod VersionLemmas
+pub mod OpeningLemmas
 mod OursExamples

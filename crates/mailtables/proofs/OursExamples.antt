@@ -1,5 +1,5 @@
 -- Examples of databases that are ours, and near misses.
-use Rattle.std.proofs.Common.{◌≡◌, ◌==◌, pos, cond, codes, List, [], ◌∷◌, length, None, true, false, Ok, refl, sym, ap, ◌∙◌, arith}
+use Rattle.std.proofs.Common.{◌≡◌, ◌==◌, pos, cond, codes, List, [], ◌∷◌, length, None, true, false, Ok, refl, sym, ap, ◌∙◌, inl, inr, arith}
 use Rattle.sqlite_value.specs.declared.value.Value.TheVariants.{Int, Text, Null}
 use Rattle.sqlite_value.specs.declared.keys.Collation.TheVariants.{Binary}
 use Rattle.sqlite_value.specs.Order.{Row, column, value_cmp}
@@ -14,7 +14,7 @@ use Rattle.sqlite_resolve.specs.Compile.{table_defined_by}
 use Rattle.sqlite_tied.specs.Compute.{everything}
 use Rattle.sqlite.specs.Effect.{Database}
 use Rattle.sqlite.specs.Listing.{understood}
-use Rattle.mailtables.specs.Schema.{no_schema, mail_schema}
+use Rattle.mailtables.specs.Schema.{no_schema, mail_schema, unindexed_schema, IsOurSchema}
 use Rattle.mailtables.specs.MetaTable.{meta_tree, stored_value_column, version_row}
 use Rattle.mailtables.specs.Connection.{has_our_name}
 use Rattle.mailtables.specs.Ours.{IsOurs}
@@ -28,7 +28,12 @@ says_2 = Int (pos 1) ∷ version_row
 
 ours : IsOurs (with_versions (says_2 ∷ []))
 unfolding binary value_cmp lib.Ieee.is_nan lib.Ieee.lt
-ours = record { schema = refl; row = says_2; only = refl; says = refl }
+ours = record { schema = inl refl; row = says_2; only = refl; says = refl }
+
+-- so is one without the index of the copies by their messages
+ours_unindexed : IsOurs (record (with_versions (says_2 ∷ [])) { schema = unindexed_schema })
+unfolding binary value_cmp lib.Ieee.is_nan lib.Ieee.lt
+ours_unindexed = record { schema = inr refl; row = says_2; only = refl; says = refl }
 
 -- near miss: no row of the version
 not_without_version : IsOurs (with_versions []) → ⊥
@@ -78,9 +83,13 @@ their_meta_defined : table_defined_by (codes "CREATE TABLE meta (x INTEGER)") �
 unfolding understood everything
 their_meta_defined = refl
 
+eight_tables : (schema : Schema) → IsOurSchema schema → length schema.tables ≡ 8
+eight_tables schema (inl is) = ap (λ (s : Schema). length s.tables) is
+eight_tables schema (inr is) = ap (λ (s : Schema). length s.tables) is
+
 not_their_meta : (db : Database) → db.schema ≡ created no_schema their_meta → IsOurs db → ⊥
 not_their_meta db theirs o =
-    let same : length (created no_schema their_meta).tables ≡ length mail_schema.tables = ap (λ (s : Schema). length s.tables) (sym theirs ∙ o.schema) in
+    let same : length (created no_schema their_meta).tables ≡ 8 = ap (λ (s : Schema). length s.tables) (sym theirs) ∙ eight_tables db.schema o.schema in
     omega (arith, same)
 
 -- `Store::create` leaves it alone by its name; a table `mail` has none of our names

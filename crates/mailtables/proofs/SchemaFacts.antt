@@ -5,15 +5,16 @@ use Rattle.sqlite_value.specs.Order.{Row}
 use Rattle.sqlite_value.specs.Keys.{plain}
 use Rattle.sqlite_schema.specs.declared.schema.Index.{Index}
 use Rattle.sqlite_schema.specs.declared.schema.Keys.TheVariants.{Enforced}
-use Rattle.sqlite_schema.specs.declared.command.Command.TheVariants.{CreateTable}
+use Rattle.sqlite_schema.specs.declared.command.Command.TheVariants.{CreateTable, CreateIndex}
 use Rattle.sqlite_schema.specs.Rules.{parent_key}
 use Rattle.sqlite_rules.specs.Lists.{Has}
 use Rattle.sqlite_rules.specs.Action.{works, work_by, pairs, deed_of}
-use Rattle.sqlite_resolve.specs.Compile.{table_defined_by}
+use Rattle.sqlite_catalog.specs.Change.{created, indexed}
+use Rattle.sqlite_resolve.specs.Compile.{table_defined_by, index_defined_by}
 use Rattle.sqlite_tied.specs.Compute.{everything}
 use Rattle.sqlite.specs.Listing.{understood}
 use Rattle.sqlite.proofs.Callers.{IsPlain, command_of, statement_of}
-use Rattle.mailtables.specs.Schema.{no_schema, the_indexes, mail_schema, schema_1, schema_2, schema_3, schema_4, schema_5, schema_6, schema_7}
+use Rattle.mailtables.specs.Schema.{no_schema, the_keys, mail_schema, unindexed_schema, schema_1, schema_2, schema_3, schema_4, schema_5, schema_6, schema_7}
 use Rattle.mailtables.specs.MetaTable.{meta, create_meta, meta_tree}
 use Rattle.mailtables.specs.AccountTable.{account, create_account, account_tree}
 use Rattle.mailtables.specs.ScriptTable.{script, create_script, script_tree}
@@ -21,7 +22,7 @@ use Rattle.mailtables.specs.QueueTable.{outgoing, create_outgoing, outgoing_tree
 use Rattle.mailtables.specs.ReplyTable.{reply, create_reply, reply_tree}
 use Rattle.mailtables.specs.NoticeTable.{notice, create_notice, notice_tree}
 use Rattle.mailtables.specs.MessageTable.{message, create_message, message_tree}
-use Rattle.mailtables.specs.CopyTable.{copy, create_copy, copy_tree}
+use Rattle.mailtables.specs.CopyTable.{copy, create_copy, copy_message, create_copy_message, copy_tree}
 
 -- where each table stands in the schema
 pub meta_listed : Has mail_schema.tables meta
@@ -117,6 +118,23 @@ pub notice_creates : (command_of (understood schema_5 create_notice) ≡ CreateT
 unfolding understood everything
 notice_creates = (refl, refl, (refl, refl))
 
+-- the index of the copies by their messages
+pub copy_message_defined : index_defined_by copy create_copy_message ≡ Ok (record copy_message { tree = 0 })
+unfolding understood everything
+copy_message_defined = refl
+
+pub copy_message_creates : (command_of (understood unindexed_schema create_copy_message) ≡ CreateIndex 7) × (statement_of create_copy_message (understood unindexed_schema create_copy_message) ≡ create_copy_message)
+    × IsPlain (understood unindexed_schema create_copy_message)
+unfolding understood everything
+copy_message_creates = (refl, refl, (refl, refl))
+
+pub copy_message_added : indexed unindexed_schema copy (record copy_message { tree = 0 }) ≡ mail_schema
+copy_message_added = refl
+
+pub all_created : created schema_7 (record copy { tree = 0 }) ≡ unindexed_schema
+unfolding everything
+all_created = refl
+
 abbrev index_named : List ℕ → ℕ → List ℕ → Index
 index_named name table places = record { name = name; tree = table + 1; table = table; columns = places; order = plain; is_unique = true }
 
@@ -127,6 +145,6 @@ named_indexes =
     ∷ index_named (codes "sqlite_autoindex_reply_1") reply_tree (1 ∷ 2 ∷ 3 ∷ []) ∷ index_named (codes "sqlite_autoindex_notice_1") notice_tree (1 ∷ 2 ∷ [])
     ∷ index_named (codes "sqlite_autoindex_message_1") message_tree (1 ∷ 2 ∷ []) ∷ index_named (codes "sqlite_autoindex_copy_1") copy_tree (1 ∷ 2 ∷ 3 ∷ []) ∷ []
 
-pub indexes_are : named_indexes ≡ the_indexes
+pub indexes_are : named_indexes ≡ the_keys
 unfolding everything
 indexes_are = refl

@@ -13,7 +13,7 @@ use Rattle.sqlite_tied.specs.Compute.{everything}
 use Rattle.sqlite.specs.Listing.{understood, reads_listing}
 use Rattle.sqlite.proofs.Callers.{IsPlain, command_of}
 use Rattle.sqlrows.specs.Forms.{equals, over, over_two, first_over, nth_over}
-use Rattle.mailtables.specs.Schema.{mail_schema}
+use Rattle.mailtables.specs.Schema.{mail_schema, unindexed_schema}
 use Rattle.mailtables.specs.MetaTable.{insert_version, select_version, meta_tree}
 use Rattle.mailtables.specs.AccountTable.{insert_account, update_active, update_counters, select_account, select_counters, account_tree}
 use Rattle.mailtables.specs.ScriptTable.{insert_script, delete_script, select_names, select_script, script_tree}
@@ -129,6 +129,15 @@ select_version_is = refl
 pub select_version_plain : IsPlain (understood mail_schema select_version) × (reads_listing mail_schema select_version ≡ false)
 unfolding understood everything
 select_version_plain = ((refl, refl), refl)
+
+-- under the schema without the index too
+pub select_version_is_unindexed : command_of (understood unindexed_schema select_version) ≡ Select (over meta_tree by_one (col 1 2 ∷ []) []) (codes "value" ∷ [])
+unfolding understood everything
+select_version_is_unindexed = refl
+
+pub select_version_plain_unindexed : IsPlain (understood unindexed_schema select_version) × (reads_listing unindexed_schema select_version ≡ false)
+unfolding understood everything
+select_version_plain_unindexed = ((refl, refl), refl)
 
 abbrev pub counters_shown : List Term
 counters_shown = col 1 7 ∷ col 1 8 ∷ col 1 9 ∷ []

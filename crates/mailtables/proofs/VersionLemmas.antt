@@ -1,5 +1,5 @@
 -- What the query for the version finds, and that it changes nothing.
-use Rattle.std.proofs.Common.{◌≡◌, ◌↔◌, ℕ, pos, Bool, true, false, cond, List, [], ◌∷◌, ◌++◌, map, filter, flat_map, length, Ok, Err, Result, Vec, IfOk, IfErr, OnOk, IsTrue, IsPermutation, refl, sym, ap, ◌∙◌, subst, inl, inr, arith}
+use Rattle.std.proofs.Common.{◌≡◌, ◌↔◌, ℕ, pos, Bool, true, false, cond, codes, List, [], ◌∷◌, ◌++◌, map, filter, flat_map, length, Ok, Err, Result, Vec, IfOk, IfErr, OnOk, IsTrue, IsPermutation, refl, sym, ap, ◌∙◌, subst, inl, inr, arith}
 use Rattle.std.specs.declared.alloc.Global.{Global}
 use Rattle.sqlite_value.specs.declared.value.Value.TheVariants.{Int}
 use Rattle.sqlite_value.specs.Order.{Row, column}
@@ -9,20 +9,22 @@ use Rattle.sqlite_sql.specs.Term.{col, holds, Env}
 use Rattle.sqlite_sql.specs.Query.{Query, IsAnswer, Output, output}
 use Rattle.sqlite_sql.specs.Program.{overlay}
 use Rattle.sqlite_trees.specs.Tree.{Trees}
+use Rattle.sqlite_schema.specs.declared.schema.Schema.{Schema}
+use Rattle.sqlite_schema.specs.declared.command.Command.TheVariants.{Select}
 use Rattle.sqlite.specs.Effect.{Database}
-use Rattle.sqlite.specs.Listing.{understood}
+use Rattle.sqlite.specs.Listing.{understood, reads_listing}
 use Rattle.sqlite.specs.declared.error.Error.{Error}
-use Rattle.sqlite.specs.State.{State, HasCleanDisk, Shown, FailsToQuery, IsUnchanged, IsRolledBack}
+use Rattle.sqlite.specs.State.{State, HasCleanDisk, Survives, Shown, FailsToQuery, IsUnchanged, IsRolledBack}
 use Rattle.sqlite_keyed.proofs.ListLemmas.{map-map}
-use Rattle.sqlite.proofs.Callers.{IsPlain, one_permutation}
+use Rattle.sqlite.proofs.Callers.{IsPlain, command_of, one_permutation}
 use Rattle.sqlrows.specs.Forms.{over}
 use Rattle.sqlrows.specs.Rows.{has_key_from}
 use Rattle.sqlrows.proofs.ReadLemmas.{shown_same, fails_same, answered, quiet}
-use Rattle.mailtables.specs.Schema.{mail_schema}
+use Rattle.mailtables.specs.Schema.{mail_schema, unindexed_schema, IsOurSchema}
 use Rattle.mailtables.specs.Connection.{StaysSame, SeesCommit, Asks, Answers}
 use Rattle.mailtables.specs.MetaTable.{select_version, version_key, version_rows, SaysTwo, meta_tree, stored_value_column, AreVersions}
 use Rattle.mailtables.specs.Ours.{IsOurs}
-use Rattle.mailtables.proofs.TextFacts.{by_one, select_version_is, select_version_plain}
+use Rattle.mailtables.proofs.TextFacts.{by_one, select_version_is, select_version_plain, select_version_is_unindexed, select_version_plain_unindexed}
 use Rattle.mailtables.proofs.ResultLemmas.{on_any, on_ok}
 
 pub same_unchanged : (old new : State) → IsUnchanged old new → StaysSame old new
@@ -33,15 +35,15 @@ pub same_undone : (old new : State) → (IsTrue old.is_open → old.now ≡ old.
 same_undone old new settled h = record { now_is = λ open_now. (h.undone open_now).0 ∙ sym (settled (h.was_open open_now)); committed_is = λ open_now. (h.undone open_now).1 }
 
 -- a query whose text is plain, where the tables are ours
-module _ (sql : List ℕ) (params : Row) (old new : State) (ours : old.now.schema ≡ mail_schema) (plain : IsPlain (understood mail_schema sql)) where
+module _ (schema : Schema) (sql : List ℕ) (params : Row) (old new : State) (ours : old.now.schema ≡ schema) (plain : IsPlain (understood schema sql)) where
   pub keeps_same : (r : Result (Vec Row Global) Error) → (IsTrue old.is_open → old.now ≡ old.committed) → (HasCleanDisk new → IfOk r (λ rows. Shown sql params old new rows.items))
       → (HasCleanDisk new → IfErr r (FailsToQuery sql params old new)) → HasCleanDisk new → StaysSame old new
-  keeps_same (Ok rows) settled ok err clean = same_unchanged old new (shown_same mail_schema sql params old new ours plain rows.items (ok clean))
-  keeps_same (Err e) settled ok err clean = elim (fails_same mail_schema sql params old new ours plain e (err clean)) [ inl same ↦ same_unchanged old new same | inr undone ↦ same_undone old new settled undone ]
+  keeps_same (Ok rows) settled ok err clean = same_unchanged old new (shown_same schema sql params old new ours plain rows.items (ok clean))
+  keeps_same (Err e) settled ok err clean = elim (fails_same schema sql params old new ours plain e (err clean)) [ inl same ↦ same_unchanged old new same | inr undone ↦ same_undone old new settled undone ]
 
   pub sees_commit : (r : Result (Vec Row Global) Error) → (IsTrue old.is_open → old.now ≡ old.committed) → (HasCleanDisk new → IfOk r (λ rows. Shown sql params old new rows.items)) → HasCleanDisk new → OnOk r (SeesCommit new)
   sees_commit (Ok rows) settled ok clean =
-      let shows = (shown_same mail_schema sql params old new ours plain rows.items (ok clean)).0 in
+      let shows = (shown_same schema sql params old new ours plain rows.items (ok clean)).0 in
       record { is_open = shows.is_open; same = shows.now_is ∙ settled shows.was_open ∙ sym shows.committed_is }
   sees_commit (Err e) settled ok clean = tt
 
@@ -66,11 +68,23 @@ numbers_are trees rows a =
     ap (map (λ (o : Output). o.1)) kept ∙ map-map (λ (o : Output). o.1) (output asked) (map slots (version_rows trees)) ∙ map-map _ slots (version_rows trees) in
     subst (λ l. IsPermutation l rows) shown (subst (λ l. IsPermutation (map (λ (o : Output). o.1) a.kept) l) (sym a.shown) (IsPermutation-map (λ (o : Output). o.1) a.kept a.ordered a.same))
 
-pub version_found : (old new : State) (rows : List Row) → old.now.schema ≡ mail_schema → Shown select_version version_key old new rows → IsPermutation (map (λ r. column r stored_value_column ∷ []) (version_rows old.now.trees)) rows
-version_found old new rows ours shown =
-    numbers_are old.now.trees rows (answered mail_schema select_version version_key old new ours select_version_plain.0 meta_tree by_one (col 1 2 ∷ []) [] _ select_version_is select_version_plain.1 rows shown)
+-- what the text of the query is understood as, under a schema
+pub record AsksVersion (schema : Schema) : Type 0 where
+  pub is : command_of (understood schema select_version) ≡ Select (over meta_tree by_one (col 1 2 ∷ []) []) (codes "value" ∷ [])
+  pub plain : IsPlain (understood schema select_version)
+  pub unlisted : reads_listing schema select_version ≡ false
 
-says_ours : (db : Database) (rows found : List Row) → db.schema ≡ mail_schema → version_rows db.trees ≡ found → IsPermutation (map (λ r. column r stored_value_column ∷ []) found) rows → SaysTwo rows ↔ IsOurs db
+asks_indexed : AsksVersion mail_schema
+asks_indexed = record { is = select_version_is; plain = select_version_plain.0; unlisted = select_version_plain.1 }
+
+asks_unindexed : AsksVersion unindexed_schema
+asks_unindexed = record { is = select_version_is_unindexed; plain = select_version_plain_unindexed.0; unlisted = select_version_plain_unindexed.1 }
+
+pub version_found : (schema : Schema) → AsksVersion schema → (old new : State) (rows : List Row) → old.now.schema ≡ schema → Shown select_version version_key old new rows → IsPermutation (map (λ r. column r stored_value_column ∷ []) (version_rows old.now.trees)) rows
+version_found schema asks old new rows ours shown =
+    numbers_are old.now.trees rows (answered schema select_version version_key old new ours asks.plain meta_tree by_one (col 1 2 ∷ []) [] _ asks.is asks.unlisted rows shown)
+
+says_ours : (db : Database) (rows found : List Row) → IsOurSchema db.schema → version_rows db.trees ≡ found → IsPermutation (map (λ r. column r stored_value_column ∷ []) found) rows → SaysTwo rows ↔ IsOurs db
 says_ours db rows [] ours are same = (
   λ one. absurd (let none = length_permutation _ _ (subst (IsPermutation []) one.1 same) in omega (arith, none)),
   λ h. absurd (let none = sym are ∙ h.only in cc),
@@ -93,23 +107,37 @@ pub row_says : (rows : List Row) (row : Row) → rows ≡ row ∷ [] → (r : Re
 row_says rows row are (Err e) said = tt
 row_says rows row are (Ok is) said = (λ e. (row, are, said.0 e), λ h. let same : row ∷ [] ≡ h.0 ∷ [] = sym are ∙ h.1 in let one : row ≡ h.0 = cc in said.1 (ap (λ (x : Row). column x 0) one ∙ h.2))
 
-pub version_says : (db : Database) (rows : List Row) → db.schema ≡ mail_schema → IsPermutation (map (λ r. column r stored_value_column ∷ []) (version_rows db.trees)) rows → (r : Result Bool Error) → IfOk r (λ is. IsTrue is ↔ SaysTwo rows)
+pub version_says : (db : Database) (rows : List Row) → IsOurSchema db.schema → IsPermutation (map (λ r. column r stored_value_column ∷ []) (version_rows db.trees)) rows → (r : Result Bool Error) → IfOk r (λ is. IsTrue is ↔ SaysTwo rows)
     → IfOk r (λ is. IsTrue is ↔ IsOurs db)
 version_says db rows ours same (Err e) said = tt
 version_says db rows ours same (Ok is) said = let both = says_ours db rows _ ours refl same in (λ e. both.0 (said.0 e), λ h. said.1 (both.1 h))
 
--- the query for the version
+-- the query for the version, under one schema
+module _ (schema : Schema) (asks : AsksVersion schema) (old new : State) (r : Result (Vec Row Global) Error) (asked : Answers select_version version_key old new r) (is : old.now.schema ≡ schema) where
+  rows_found : HasCleanDisk new → IfOk r (AreVersions old.now.trees)
+  rows_found clean = go r (asked.ok clean)
+    where
+      go : (o : Result (Vec Row Global) Error) → IfOk o (λ rows. Shown select_version version_key old new rows.items) → IfOk o (AreVersions old.now.trees)
+      go (Err e) shown = tt
+      go (Ok rows) shown = version_found schema asks old new rows.items is shown
+
+  stays_same : HasCleanDisk new → StaysSame old new
+  stays_same = keeps_same schema select_version version_key old new is asks.plain r asked.settled asked.ok asked.err
+
+  commit_seen : HasCleanDisk new → OnOk r (SeesCommit new)
+  commit_seen = sees_commit schema select_version version_key old new is asks.plain r asked.settled asked.ok
+
+  crash_leaves : Survives old new (λ _. ⊥)
+  crash_leaves = quiet schema select_version version_key old new is asks.plain asked.survives
+
+-- under either
 pub asks_version : (old new : State) (r : Result (Vec Row Global) Error) → Answers select_version version_key old new r → Asks (AreVersions old.now.trees) old new r
 asks_version old new r asked = record {
-  found = λ ours clean. found r ours (asked.ok clean);
-  same = λ ours. keeps_same select_version version_key old new ours select_version_plain.0 r asked.settled asked.ok asked.err;
-  live = λ ours. sees_commit select_version version_key old new ours select_version_plain.0 r asked.settled asked.ok;
-  crash = λ ours. quiet mail_schema select_version version_key old new ours select_version_plain.0 asked.survives;
+  found = λ ours. elim ours [ inl is ↦ rows_found mail_schema asks_indexed old new r asked is | inr is ↦ rows_found unindexed_schema asks_unindexed old new r asked is ];
+  same = λ ours. elim ours [ inl is ↦ stays_same mail_schema asks_indexed old new r asked is | inr is ↦ stays_same unindexed_schema asks_unindexed old new r asked is ];
+  live = λ ours. elim ours [ inl is ↦ commit_seen mail_schema asks_indexed old new r asked is | inr is ↦ commit_seen unindexed_schema asks_unindexed old new r asked is ];
+  crash = λ ours. elim ours [ inl is ↦ crash_leaves mail_schema asks_indexed old new r asked is | inr is ↦ crash_leaves unindexed_schema asks_unindexed old new r asked is ];
 }
-  where
-    found : (o : Result (Vec Row Global) Error) → old.now.schema ≡ mail_schema → IfOk o (λ rows. Shown select_version version_key old new rows.items) → IfOk o (AreVersions old.now.trees)
-    found (Err e) ours shown = tt
-    found (Ok rows) ours shown = version_found old new rows.items ours shown
 
 -- with a refusal as the answer
 pub asks_refused : {X Y E F : Type 0} {P : X → Type 0} {Q : Y → Type 0} (old new : State) (r : Result X E) (e : F) (q : Result Y F) → q ≡ Err e → Asks P old new r → Asks Q old new q

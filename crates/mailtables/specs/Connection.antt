@@ -13,7 +13,7 @@ use Rattle.sqlite.specs.Effect.{Database}
 use Rattle.sqlite.specs.Held.{Held, state}
 use Rattle.sqlite.specs.State.{State, HasCleanDisk, CommitsShowing, ExecutesInside, FailsToQuery, KeepsCommit, Shown, Shows, Survives}
 use Rattle.sqlrows.specs.Rows.{Tables, HoldsTables}
-use Rattle.mailtables.specs.Schema.{mail_schema}
+use Rattle.mailtables.specs.Schema.{mail_schema, IsOurSchema}
 
 -- no table has a row
 abbrev pub no_rows : Tables
@@ -99,9 +99,9 @@ pub record Answers (sql : List ℕ) (params : Row) (old new : State) (result : R
   pub err : HasCleanDisk new → IfErr result (FailsToQuery sql params old new)
   pub survives : Survives old new (CommitsShowing sql params old)
 
--- a query of a database of our schema, whatever its rows are: this holds of the answer; all stays as it was, and after Ok the last commit is seen
+-- a query of a database of our tables, with the index or without it, whatever its rows are: this holds of the answer; all stays as it was, and after Ok the last commit is seen
 pub record Asks {X E : Type 0} (P : X → Type 0) (old new : State) (result : Result X E) : Type 0 where
-  pub found : old.now.schema ≡ mail_schema → HasCleanDisk new → IfOk result P
-  pub same : old.now.schema ≡ mail_schema → HasCleanDisk new → StaysSame old new
-  pub live : old.now.schema ≡ mail_schema → HasCleanDisk new → OnOk result (SeesCommit new)
-  pub crash : old.now.schema ≡ mail_schema → Survives old new (λ _. ⊥)
+  pub found : IsOurSchema old.now.schema → HasCleanDisk new → IfOk result P
+  pub same : IsOurSchema old.now.schema → HasCleanDisk new → StaysSame old new
+  pub live : IsOurSchema old.now.schema → HasCleanDisk new → OnOk result (SeesCommit new)
+  pub crash : IsOurSchema old.now.schema → Survives old new (λ _. ⊥)

@@ -1,10 +1,12 @@
 -- The table of the copies of messages, which are the folders: a row says which message a folder has.
-use Rattle.std.specs.Prelude.{false, ℕ, ℤ, List, [], ◌∷◌, codes}
+use Rattle.std.specs.Prelude.{false, ℕ, ◌+◌, ℤ, List, [], ◌∷◌, codes}
 use Rattle.sqlite_schema.specs.declared.schema.Action.TheVariants.{NoAction}
 use Rattle.sqlite_schema.specs.declared.schema.Kind.TheVariants as kind
+use Rattle.sqlite_schema.specs.declared.schema.Index.{Index}
 use Rattle.sqlite_schema.specs.declared.schema.Reference.{Reference}
 use Rattle.sqlite_schema.specs.declared.schema.Table.{Table}
 use Rattle.sqlite_value.specs.declared.value.Value.TheVariants.{Int, Blob}
+use Rattle.sqlite_value.specs.Keys.{plain}
 use Rattle.sqlite_value.specs.Order.{Row}
 use Rattle.sqlrows.specs.Forms.{needed, keyed}
 use Rattle.mailtables.specs.AccountTable.{account_reference}
@@ -34,11 +36,18 @@ abbrev pub copy : Table
 copy = keyed (codes "copy") copy_tree (1 ∷ 2 ∷ 3 ∷ []) to_message
     (needed (codes "owner") kind.Blob ∷ needed (codes "folder") kind.Blob ∷ needed (codes "n") kind.Integer ∷ needed (codes "id") kind.Integer ∷ [])
 
+-- the index of the copies by their messages, whose tree is the one after the last table's two
+abbrev pub copy_message : Index
+copy_message = record { name = codes "copy_message"; tree = copy_tree + 2; table = copy_tree; columns = 1 ∷ 4 ∷ []; order = plain; is_unique = false }
+
 -- ---- its statements
 
 abbrev pub create_copy : List ℕ
 create_copy =
     codes "CREATE TABLE copy (owner BLOB NOT NULL REFERENCES account (name), folder BLOB NOT NULL, n INTEGER NOT NULL, id INTEGER NOT NULL, PRIMARY KEY (owner, folder, n), FOREIGN KEY (owner, id) REFERENCES message (owner, id)) STRICT"
+
+abbrev pub create_copy_message : List ℕ
+create_copy_message = codes "CREATE INDEX copy_message ON copy (owner, id)"
 
 abbrev pub insert_copy : List ℕ
 insert_copy = codes "INSERT INTO copy (owner, folder, n, id) VALUES (?1, ?2, ?3, ?4)"

@@ -1,5 +1,5 @@
 -- The tables of version 2, as the texts of their CREATE statements define them.
-use Rattle.std.specs.Prelude.{◌≡◌, ◌+◌, true, false, None, List, [], ◌∷◌, ◌++◌}
+use Rattle.std.specs.Prelude.{◌≡◌, ◌⊎◌, ◌+◌, true, false, None, List, [], ◌∷◌, ◌++◌}
 use Rattle.sqlite_schema.specs.declared.schema.Column.{Column}
 use Rattle.sqlite_schema.specs.declared.schema.Index.{Index}
 use Rattle.sqlite_schema.specs.declared.schema.Reference.{Reference}
@@ -20,7 +20,7 @@ use Rattle.mailtables.specs.QueueTable.{outgoing_tree, outgoing}
 use Rattle.mailtables.specs.ReplyTable.{reply_tree, reply}
 use Rattle.mailtables.specs.NoticeTable.{notice_tree, notice}
 use Rattle.mailtables.specs.MessageTable.{message_tree, message}
-use Rattle.mailtables.specs.CopyTable.{copy_tree, copy, to_message}
+use Rattle.mailtables.specs.CopyTable.{copy_tree, copy, copy_message, to_message}
 
 abbrev pub the_tables : List Table
 the_tables = meta ∷ account ∷ script ∷ outgoing ∷ reply ∷ notice ∷ message ∷ copy ∷ []
@@ -29,14 +29,26 @@ abbrev pub no_schema : Schema
 no_schema = record { tables = []; indexes = []; views = [] }
 
 -- the index of each table's key: its tree is the one after the table's
-abbrev pub the_indexes : List Index
-the_indexes =
+abbrev pub the_keys : List Index
+the_keys =
     automatics meta 0 (meta_tree + 1) meta.uniques ++ automatics account 0 (account_tree + 1) account.uniques ++ automatics script 0 (script_tree + 1) script.uniques
     ++ automatics outgoing 0 (outgoing_tree + 1) outgoing.uniques ++ automatics reply 0 (reply_tree + 1) reply.uniques ++ automatics notice 0 (notice_tree + 1) notice.uniques
     ++ automatics message 0 (message_tree + 1) message.uniques ++ automatics copy 0 (copy_tree + 1) copy.uniques
 
+-- these, and the index of the copies by their messages
+abbrev pub the_indexes : List Index
+the_indexes = the_keys ++ copy_message ∷ []
+
 abbrev pub mail_schema : Schema
 mail_schema = record { tables = the_tables; indexes = the_indexes; views = [] }
+
+-- the schema of a store that was made before there was the index of the copies by their messages: all else is the same
+abbrev pub unindexed_schema : Schema
+unindexed_schema = record { tables = the_tables; indexes = the_keys; views = [] }
+
+-- our tables, with that index or without it
+abbrev pub IsOurSchema : Schema → Type 0
+IsOurSchema schema = (schema ≡ mail_schema) ⊎ (schema ≡ unindexed_schema)
 
 -- the schema once the first tables are made
 abbrev pub schema_1 : Schema

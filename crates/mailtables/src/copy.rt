@@ -1,20 +1,29 @@
 //! The table of the copies of messages, which are the folders.
 ghost use Rattle.mailtables.specs.Changes.{copy_added, copy_removed};
 ghost use Rattle.mailtables.specs.Connection.{ChangesRows, MakesTables};
-ghost use Rattle.mailtables.specs.Schema.{mail_schema, schema_7};
+ghost use Rattle.mailtables.specs.Ours.{MakesIndex};
+ghost use Rattle.mailtables.specs.Schema.{unindexed_schema, schema_7};
 
 use crate::statement::execute;
 use sqlite::{Alter, Error, Transaction, params};
 
 /// Makes the table `copy`, inside a transaction.
 pub(crate) fn make_copy<S: Alter>(tx: &mut Transaction<'_, S>) -> Result<(), Error>
-    ensures { MakesTables S.Store schema_7 mail_schema tx.old tx.new result }
+    ensures { MakesTables S.Store schema_7 unindexed_schema tx.old tx.new result }
 {
     execute(
         tx,
         "CREATE TABLE copy (owner BLOB NOT NULL REFERENCES account (name), folder BLOB NOT NULL, n INTEGER NOT NULL, id INTEGER NOT NULL, PRIMARY KEY (owner, folder, n), FOREIGN KEY (owner, id) REFERENCES message (owner, id)) STRICT",
         &[],
     )
+}
+
+/// Makes the index of the copies by their messages, by which SQLite asks whether a message that goes is still referred to.
+/// Inside a transaction. Takes time and memory in proportion to the copies.
+pub(crate) fn make_copy_message<S: Alter>(tx: &mut Transaction<'_, S>) -> Result<(), Error>
+    ensures { MakesIndex S.Store tx.old tx.new result }
+{
+    execute(tx, "CREATE INDEX copy_message ON copy (owner, id)", &[])
 }
 
 /// A copy in a folder, with its number, of the message with the number `id`, which is there. Inside a transaction.

@@ -18,5 +18,4 @@ pub use change::{Change, make_all};
 pub use queue::Kind;
 pub use schema::is_ours;
 pub use statement::query;
-pub use table::{is_blank, is_taken, make_tables};
-pub use version::has_version;
+pub use table::{is_blank, is_taken, make_tables, open_tables};

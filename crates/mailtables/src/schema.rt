@@ -1,5 +1,6 @@
 //! Whether the tables of a database are ours: those that the texts of `table.rt` make, and no others.
-ghost use Rattle.std.specs.Prelude.{◌≡◌, ◌↔◌, true, [], ◌∷◌, map, IsTrue};
+ghost use Rattle.std.specs.Prelude.{◌≡◌, ◌⊎◌, ◌↔◌, true, [], ◌∷◌, map, codes, is_some, IsTrue};
+ghost use Rattle.sqlite_schema.specs.Names.{index_named};
 ghost use Rattle.sqlite_value.specs.Keys.{plain};
 ghost use Rattle.sqlrows.specs.Forms.{needed, maybe, keyed};
 ghost use Rattle.mailtables.specs.Schema as spec;
@@ -370,8 +371,9 @@ fn are_indexes(mut indexes: &[Index], mut forms: &[KeyForm<'_>]) -> bool
     indexes.is_empty()
 }
 
+/// Whether these are the indexes of the tables' keys.
 fn are_keys(indexes: &[Index]) -> bool
-    ensures { IsTrue result ↔ (indexes.now ≡ spec.the_indexes) }
+    ensures { IsTrue result ↔ (indexes.now ≡ spec.the_keys) }
 {
     let forms = [
         key_of(b"sqlite_autoindex_meta_1", 1, 0, &[1]),
@@ -386,11 +388,47 @@ fn are_keys(indexes: &[Index]) -> bool
     are_indexes(indexes, &forms)
 }
 
-/// Whether these are our tables and indexes, and nothing else.
+/// Whether this is the index of the copies by their messages.
+fn is_copy_message(index: &Index) -> bool
+    ensures { IsTrue result ↔ (index.now ≡ copy_table.copy_message) }
+{
+    index.name.as_slice() == b"copy_message".as_slice()
+        && index.tree == 16
+        && index.table == 14
+        && index.columns.as_slice() == [1, 4].as_slice()
+        && index.order == Order::PLAIN
+        && !index.is_unique
+}
+
+/// Whether these are the indexes of the tables' keys and the one of the copies by their messages.
+fn are_all(indexes: &[Index]) -> bool
+    ensures { IsTrue result ↔ (indexes.now ≡ spec.the_indexes) }
+{
+    let [keys @ .., last] = indexes else {
+        return false;
+    };
+    are_keys(keys) && is_copy_message(last)
+}
+
+/// Whether these are the indexes of the tables' keys, with the one of the copies by their messages or without it.
+fn are_indexes_of_ours(indexes: &[Index]) -> bool
+    ensures { IsTrue result ↔ (indexes.now ≡ spec.the_indexes) ⊎ (indexes.now ≡ spec.the_keys) }
+{
+    are_all(indexes) || are_keys(indexes)
+}
+
+/// Whether these are our tables and indexes, and nothing else. The index of the copies by their messages may be absent.
 pub fn is_ours(schema: &Schema) -> bool
-    ensures { IsTrue result ↔ (schema.now ≡ spec.mail_schema) }
+    ensures { IsTrue result ↔ spec.IsOurSchema schema.now }
 {
     are_tables(schema.tables.as_slice())
-        && are_keys(schema.indexes.as_slice())
+        && are_indexes_of_ours(schema.indexes.as_slice())
         && schema.views.is_empty()
+}
+
+/// Whether an index has the name of that of the copies by their messages, ASCII case ignored.
+pub(crate) fn has_copy_message(schema: &Schema) -> bool
+    ensures { result ≡ is_some (index_named schema.now (codes "copy_message")) }
+{
+    schema.index_named(b"copy_message").is_some()
 }

@@ -47,7 +47,7 @@ fn find_version<S: Alter>(conn: &mut Connection<S>) -> Result<Vec<Row>, Error>
 }
 
 /// Whether the row of the version is there once, and says 2.
-pub fn has_version<S: Alter>(conn: &mut Connection<S>) -> Result<bool, Error>
+pub(crate) fn has_version<S: Alter>(conn: &mut Connection<S>) -> Result<bool, Error>
     requires { conn.old.in_transaction ≡ false }
     ensures { Queries S.Store (Asks (λ is. IsTrue is ↔ IsOurs (state S.Store conn.old).now)) conn.old conn.new result }
 {
