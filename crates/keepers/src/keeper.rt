@@ -9,7 +9,8 @@ ghost use Rattle.mailstore.specs.Connection.{StaysSame};
 ghost use Rattle.mailstore.specs.Account.{no_accounts};
 ghost use Rattle.mailstore.specs.declared.refusal.Refusal.{Refusal};
 ghost use Rattle.mailstore.specs.Refusals.{IsTransient};
-ghost use Rattle.mailstore.specs.Shows.{Presents};
+ghost use Rattle.mailstore.specs.Ours.{IsOurs};
+ghost use Rattle.mailstore.specs.Shows.{Presents, OpensAs};
 ghost use Rattle.keepers.specs.Taken.{IsTaken};
 
 use mailstore::{Refusal, Store};
@@ -136,8 +137,10 @@ pub(crate) fn store_of<S: Alter + Drop>(
     conn: Connection<S>,
     fresh: bool,
 ) -> Result<Store<S>, (Refusal, Connection<S>, Option<ErrorCode>)>
-    ensures opened { IfOk result (λ store. HasCleanDisk (state S.Store store) → fresh ≡ false → StaysSame (state S.Store conn) (state S.Store store)) }
-    ensures ours { IfOk result (λ store. HasCleanDisk (state S.Store store) → fresh ≡ false → conn.schema ≡ mail_schema) }
+    ensures opened { IfOk result (λ store. HasCleanDisk (state S.Store store) → fresh ≡ false → OpensAs (state S.Store conn).now (state S.Store store).now) }
+    ensures same { IfOk result (λ store. HasCleanDisk (state S.Store store) → fresh ≡ false → conn.schema ≡ mail_schema
+        → StaysSame (state S.Store conn) (state S.Store store)) }
+    ensures ours { IfOk result (λ store. HasCleanDisk (state S.Store store) → fresh ≡ false → IsOurs (state S.Store conn).now) }
     ensures made { IfOk result (λ store. HasCleanDisk (state S.Store store) → IsTrue fresh → Presents (state S.Store store).now no_accounts) }
     ensures blank { IfOk result (λ store. IsTrue fresh → conn.schema ≡ no_schema) }
     ensures refused { IfErr result (λ e. HasCleanDisk (state S.Store e.1) → StaysSame (state S.Store conn) (state S.Store e.1)) }

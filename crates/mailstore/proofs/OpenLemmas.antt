@@ -1,6 +1,6 @@
 -- What a database shows that was made, or opened.
 use Rattle.std.proofs.Common.{◌≡◌, ◌≤◌, ◌⊎◌, ℕ, true, false, ◌&&◌, cond, codes, List, [], ◌∷◌, map, filter, refl, sym, ap, ◌∙◌, subst, inl, inr}
-use Rattle.sqlite_value.specs.declared.value.Value.TheVariants.{Int, Text}
+use Rattle.sqlite_value.specs.declared.value.Value.TheVariants.{Text}
 use Rattle.sqlite_value.specs.Order.{Row, column}
 use Rattle.sqlite_value.specs.declared.keys.Collation.TheVariants.{Binary}
 use Rattle.sqlite_sql.specs.declared.ops.CompareOp.TheVariants.{Eq}
@@ -18,7 +18,7 @@ use Rattle.sqlrows.specs.Rows.{Entry, cells_of, stored, IsHeld, Tables, HoldsTab
 use Rattle.mailtables.specs.Schema.{no_schema, the_tables, mail_schema, IsOurSchema}
 use Rattle.mailtables.specs.Connection.{IsSettled, Outlives}
 use Rattle.mailstore.specs.Account.{Accounts, bytes_cmp, no_accounts}
-use Rattle.mailtables.specs.MetaTable.{meta, version_key, version_row, version_rows, meta_tree}
+use Rattle.mailtables.specs.MetaTable.{meta, version_key, version_row, version_rows}
 use Rattle.mailtables.specs.Ours.{IsOurs, IsOpenedAs, MayCreate, MayOpen, only_version}
 use Rattle.mailstore.specs.Shows.{ShowsIn, Presents, HoldsOurs, Offers, OffersIn, OpensAs, CrashLeavesOpened, rows_of, IsAbsent, IsShownOrAbsent, ShowsAccounts}
 use Rattle.mailtables.proofs.SchemaFacts.{meta_listed}

@@ -105,7 +105,8 @@ impl<S: Alter> Store<S> {
         ensures opened { IfOk result (λ store. HasCleanDisk (state S.Store store) → OpensAs (state S.Store conn).now (state S.Store store).now) }
         ensures ours { IfOk result (λ store. HasCleanDisk (state S.Store store) → IsOurs (state S.Store conn).now) }
         ensures settled { IfOk result (λ store. HasCleanDisk (state S.Store store) → IsSettled (state S.Store store)) }
-        ensures same { IfOk result (λ store. HasCleanDisk (state S.Store store) → conn.schema ≡ mail_schema → StaysSame (state S.Store conn) (state S.Store store)) }
+        ensures same { IfOk result (λ store. HasCleanDisk (state S.Store store) → conn.schema ≡ mail_schema
+            → StaysSame (state S.Store conn) (state S.Store store)) }
         ensures crash { IfOk result (λ store. Outlives (CrashLeavesOpened (state S.Store conn)) (state S.Store conn) (state S.Store store)) }
         ensures not_ours { IfErr result (λ e. HasCleanDisk (state S.Store e.1) → e.0 ≡ Refusal.NotOurs → ¬ IsOurs (state S.Store conn).now) }
         ensures not_shown { IfErr result (λ e. HasCleanDisk (state S.Store e.1) → e.0 ≡ Refusal.NotOurs → OffersNothing (state S.Store conn).now) }
