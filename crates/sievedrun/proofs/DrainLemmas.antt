@@ -6,7 +6,7 @@ use Rattle.sqlite.specs.Effect.{Database}
 use Rattle.sqlite.specs.State.{State, HasCleanDisk}
 use Rattle.mailstore.specs.Account.{Accounts}
 use Rattle.mailstore.specs.Promises.{IsFree}
-use Rattle.mailstore.specs.Schema.{mail_schema}
+use Rattle.mailstore.specs.Schema.{mail_schema, IsOurSchema}
 use Rattle.mailstore.specs.Shows.{Presents}
 use Rattle.mailengine.specs.declared.event.Event.TheVariants.{TakeMail}
 use Rattle.mailengine.specs.declared.answer.Answer.TheVariants.{MailTaken}
@@ -38,11 +38,11 @@ turned_wider Became Wider old new wider moves = record {
 
 module _ (user folder : List ℕ) (Grew : List (List ℕ) → Type 0) where
   -- a store was taken, messages were moved, and it was handed back
-  pub moves_turned : (answers_ok : Bool) (Became : Accounts → Accounts → Type 0) (held new : Database) (taken given : State) → taken.now ≡ held → held.schema ≡ mail_schema → HasCleanDisk given → IsTrue given.is_open → new ≡ given.now
+  pub moves_turned : (answers_ok : Bool) (Became : Accounts → Accounts → Type 0) (held new : Database) (taken given : State) → (held.schema ≡ mail_schema → taken.now ≡ held) → IsOurSchema held.schema → HasCleanDisk given → IsTrue given.is_open → new ≡ given.now
       → MovesMail user folder Grew answers_ok Became taken given → TurnsTables Became held new
   moves_turned answers_ok Became held new taken given seen ours clean live back moves = record {
     accounts = λ accounts p.
-        let h = moves.carries clean accounts (λ _. subst (λ db. Presents db accounts) (sym seen) p) in
+        let h = moves.carries clean accounts (λ _. subst (λ db. Presents db accounts) (sym (seen p.1.is)) p) in
         (h.0, h.1, subst (λ db. Presents db h.0) (sym back) (h.2 live));
     none = λ blank. absurd (ours_not_none held ours blank);
   }
@@ -57,7 +57,7 @@ module _ (user folder : List ℕ) (Grew : List (List ℕ) → Type 0) where
 
 -- a store was taken for the word, drained, and handed back
 pub drained_turned : (asked : Draining) (user folder : List ℕ) → user ≡ asked.user.now → folder ≡ asked.folder.now → (tells : Bool) (had has : List (List ℕ)) (most : ℕ) (q r : Result ℕ Fault) → q ≡ r → (held new : Database)
-    (taken given : State) → taken.now ≡ held → held.schema ≡ mail_schema → HasCleanDisk given → IsTrue given.is_open → new ≡ given.now → Drains user folder tells had has most q taken given → MovesTables asked tells had has most r held new
+    (taken given : State) → (held.schema ≡ mail_schema → taken.now ≡ held) → IsOurSchema held.schema → HasCleanDisk given → IsTrue given.is_open → new ≡ given.now → Drains user folder tells had has most q taken given → MovesTables asked tells had has most r held new
 drained_turned asked user folder user_is folder_is tells had has most q r same held new taken given seen ours clean live back moves =
     let Grew = GrowsBy tells had has in
     let Became : Accounts → Accounts → Type 0 = λ accounts later. Drained user folder Grew most q accounts later × (q ≡ Err no_user → IsFree user accounts) in

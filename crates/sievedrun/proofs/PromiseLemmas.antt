@@ -4,7 +4,7 @@ use Rattle.sqlite_schema.specs.declared.schema.Schema.{Schema}
 use Rattle.sqlite.specs.Effect.{Database}
 use Rattle.sqlite.specs.State.{State, HasCleanDisk}
 use Rattle.mailstore.specs.Account.{Accounts, no_accounts}
-use Rattle.mailstore.specs.Schema.{no_schema, mail_schema}
+use Rattle.mailstore.specs.Schema.{no_schema, mail_schema, IsOurSchema}
 use Rattle.mailstore.specs.Shows.{Presents}
 use Rattle.mailstore.specs.Connection.{StaysSame}
 use Rattle.mailstore.specs.Promises.{HasOurTables, Keeps}
@@ -36,12 +36,13 @@ leaves_wider Changed Wider Made More old new wider more leaves = record {
 }
 
 -- our tables are some tables
-pub ours_not_none : (db : Database) → db.schema ≡ mail_schema → db.schema ≡ no_schema → ⊥
-ours_not_none db ours none = let e = ap (λ (s : Schema). s.tables) (sym ours ∙ none) in cc
+pub ours_not_none : (db : Database) → IsOurSchema db.schema → db.schema ≡ no_schema → ⊥
+ours_not_none db (inl ours) none = let e = ap (λ (s : Schema). s.tables) (sym ours ∙ none) in cc
+ours_not_none db (inr ours) none = let e = ap (λ (s : Schema). s.tables) (sym ours ∙ none) in cc
 
 -- a database without tables shows no accounts, not even none
 pub none_shows_none : (db : Database) (accounts : Accounts) → db.schema ≡ no_schema → Presents db accounts → ⊥
-none_shows_none db accounts none p = ours_not_none db p.1.is none
+none_shows_none db accounts none p = ours_not_none db (inl p.1.is) none
 
 -- where no table was, a store without accounts was made
 pub leaves_new : (held seen new : Database) → Presents seen no_accounts → held.schema ≡ no_schema → new ≡ seen → LeavesNew held new
@@ -67,10 +68,10 @@ pub taken_next : (user : List ℕ) (id : ℕ) (row : Outgoing) (accounts later :
 taken_next user id row accounts later (inl turned) = inl (later, turned, refl)
 taken_next user id row accounts later (inr refused) = absurd (let no = refused.2 in cc)
 
--- a store that saw what was held, and was handed back, open and over a disk that keeps what is written
-module _ (held new : Database) (taken given : State) (seen : taken.now ≡ held) (ours : held.schema ≡ mail_schema) (clean : HasCleanDisk given) (live : IsTrue given.is_open) (back : new ≡ given.now) where
+-- a store that saw what was held, where that had our schema, and was handed back, open and over a disk that keeps what is written
+module _ (held new : Database) (taken given : State) (seen : held.schema ≡ mail_schema → taken.now ≡ held) (ours : IsOurSchema held.schema) (clean : HasCleanDisk given) (live : IsTrue given.is_open) (back : new ≡ given.now) where
   stood : (accounts : Accounts) → Presents held accounts → Presents taken.now accounts
-  stood accounts p = subst (λ db. Presents db accounts) (sym seen) p
+  stood accounts p = subst (λ db. Presents db accounts) (sym (seen p.1.is)) p
 
   told : (accounts : Accounts) → Presents given.now accounts → Presents new accounts
   told accounts p = subst (λ db. Presents db accounts) (sym back) p

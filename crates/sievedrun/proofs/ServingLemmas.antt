@@ -6,6 +6,7 @@ use Rattle.std.specs.Io.KnownBytes.{Appends, Consumes}
 use Rattle.sqlite.specs.Effect.{Database}
 use Rattle.sqlite.specs.State.{State, HasCleanDisk}
 use Rattle.mailstore.specs.Account.{Accounts}
+use Rattle.mailstore.specs.Schema.{mail_schema}
 use Rattle.mailstore.specs.Shows.{Presents}
 use Rattle.mailstore.specs.declared.refusal.Refusal.{Refusal}
 use Rattle.sessions.specs.declared.progress.Progress.{Progress}
@@ -22,18 +23,18 @@ use Rattle.sievedrun.specs.Serving.{Round, HasDenied, Hinders, IsRound, Leads, c
 use Rattle.sievedrun.specs.Streams.{AppendsFront}
 use Rattle.sievedrun.proofs.StreamLemmas.{nothing_read, nothing_written, read_on, written_on}
 
--- ---- a step over a store that saw what was held, and was handed back, open and over a disk that keeps what is written
+-- ---- a step over a store that saw what was held, where that had our schema, and was handed back, open and over a disk that keeps what is written
 
-module _ (held new : Database) (taken given : State) (seen : taken.now ≡ held) (clean : HasCleanDisk given) (live : IsTrue given.is_open) (back : new ≡ given.now) (c d : Client) (before after : List ℕ) where
+module _ (held new : Database) (taken given : State) (seen : held.schema ≡ mail_schema → taken.now ≡ held) (clean : HasCleanDisk given) (live : IsTrue given.is_open) (back : new ≡ given.now) (c d : Client) (before after : List ℕ) where
   pub step_made : (progress : Progress) (r : Result Progress Refusal) → r ≡ Ok progress → Carries (StepsTo c d r before after) taken given → (accounts : Accounts) → Presents held accounts → StepsOn accounts c before after d new true
   step_made progress r is carries accounts shown =
-      let carried = carries clean accounts (λ _. subst (λ db. Presents db accounts) (sym seen) shown) in
+      let carried = carries clean accounts (λ _. subst (λ db. Presents db accounts) (sym (seen shown.1.is)) shown) in
       let turn = subst (λ x. StepsTo c d x before after accounts carried.0) is carried.1 in
       (progress, turn.0, carried.0, turn.1, turn.2, subst (λ db. Presents db carried.0) (sym back) (carried.2 live))
 
   pub step_refused : (refusal : Refusal) (r : Result Progress Refusal) → r ≡ Err refusal → Carries (StepsTo c d r before after) taken given → d ≡ c → after ≡ before → (accounts : Accounts) → Presents held accounts → StepsOn accounts c before after d new false
   step_refused refusal r is carries same silent accounts shown =
-      let carried = carries clean accounts (λ _. subst (λ db. Presents db accounts) (sym seen) shown) in
+      let carried = carries clean accounts (λ _. subst (λ db. Presents db accounts) (sym (seen shown.1.is)) shown) in
       let turn : carried.0 ≡ accounts = subst (λ x. StepsTo c d x before after accounts carried.0) is carried.1 in
       (same, silent, subst (λ db. Presents db accounts) (sym back) (subst (λ a. Presents given.now a) turn (carried.2 live)))
 

@@ -6,6 +6,7 @@ use Rattle.sqlite.specs.Effect.{Database}
 use Rattle.msproto.specs.Replies.{spelled}
 use Rattle.mailstore.specs.Account.{Accounts}
 use Rattle.mailstore.specs.Schema.{no_schema}
+use Rattle.mailstore.specs.Schema.{mail_schema}
 use Rattle.mailstore.specs.Shows.{Presents}
 use Rattle.sessions.specs.declared.progress.Progress.{Progress}
 use Rattle.sessions.specs.Clients.{Client, new_client, client_given, is_ready}
@@ -121,6 +122,10 @@ WritesAll Denied accounts c out_old out_new d new (Err fault) = Interrupted Deni
 abbrev pub seen : {X : Type 0} → (X → Database) → Database → Option X → Database
 seen sees held None = held
 seen sees held (Some store) = sees store
+
+-- an open store sees what was seen, where that had our schema; where it lacked the index of the copies, what `open` made of it
+abbrev pub IsAsSeen : Database → Database → Type 0
+IsAsSeen before now = before.schema ≡ mail_schema → now ≡ before
 
 -- a step was made of the session, whose answer waits after what waited; or nothing changed
 abbrev pub StepsOn : Accounts → Client → List ℕ → List ℕ → Client → Database → Bool → Type 0

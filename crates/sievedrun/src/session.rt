@@ -2,13 +2,13 @@
 ghost use Rattle.std.specs.Prelude.{◌≡◌, ℕ, List, Option, None, Result, is_ok, false, true, IsTrue, IfOk, OnOk, OnErr};
 ghost use Rattle.sqlite.specs.Held.{state};
 ghost use Rattle.mailstore.specs.Account.{Accounts};
-ghost use Rattle.mailstore.specs.Schema.{mail_schema, no_schema};
+ghost use Rattle.mailstore.specs.Schema.{IsOurSchema, no_schema};
 ghost use Rattle.mailstore.specs.Shows.{Presents};
 ghost use Rattle.sessions.specs.Clients.{is_ready};
 ghost use Rattle.sessions.specs.Steps.{Asked};
 ghost use Rattle.sievedrun.specs.declared.fault.Fault.{Fault};
 ghost use Rattle.sievedrun.specs.Promise.{status_after};
-ghost use Rattle.sievedrun.specs.Serving.{Answered, Converses, HasDenied, Hinders, Served, ServesBy, StepsOn, WritesAll, WritesFirst, seen};
+ghost use Rattle.sievedrun.specs.Serving.{Answered, Converses, HasDenied, Hinders, IsAsSeen, Served, ServesBy, StepsOn, WritesAll, WritesFirst, seen};
 
 use crate::fault::{Fault, refuse};
 use crate::stream::{MAX_READS, read_at, write_all};
@@ -320,8 +320,9 @@ fn open_store<K: Keeper>(
     store: &mut Option<Store<K::S>>,
     keeper: &mut K,
 ) -> Result<Store<K::S>, Held>
-    ensures opened { IfOk result (λ taken. IsTrue K.tells → (state K.S.Store taken).now ≡ seen (λ s. (state K.S.Store s).now) (K.holds keeper.old) store.old) }
-    ensures ours { OnOk result (IsTrue K.tells → store.old ≡ None → (K.holds keeper.old).schema ≡ mail_schema) }
+    ensures opened { IfOk result (λ taken. IsTrue K.tells
+        → IsAsSeen (seen (λ s. (state K.S.Store s).now) (K.holds keeper.old) store.old) (state K.S.Store taken).now) }
+    ensures ours { OnOk result (IsTrue K.tells → store.old ≡ None → IsOurSchema (K.holds keeper.old).schema) }
     ensures refused { OnErr result ((IsTrue K.tells → K.holds keeper.new ≡ K.holds keeper.old) × (store.new ≡ store.old)) }
     ensures denied { OnErr result (HasDenied K.refuses) }
     ensures closed { K.unclosed keeper.new ≡ K.unclosed keeper.old }

@@ -11,13 +11,13 @@ pub returns-in_err-added-clause-leaves : goal.returns-in_err-added-clause-leaves
 returns-in_err-added-clause-leaves g c tells =
     let got = c.in_ok-store.ensures.taken tells in
     let sure = g.met.K.Keeper.sure c.add_user-added.new.store tells in
-    event_refused (g.K.Keeper.holds c.args.keeper.now) (g.K.Keeper.holds c.hand_back.new.self) (state g.K.S.Store c.in_ok-store.store) (state g.K.S.Store c.add_user-added.new.store) got.0 got.1 sure.0 sure.1 (c.hand_back.ensures.held tells)
+    event_refused (g.K.Keeper.holds c.args.keeper.now) (g.K.Keeper.holds c.hand_back.new.self) (state g.K.S.Store c.in_ok-store.store) (state g.K.S.Store c.add_user-added.new.store) got.1 got.2.schema sure.0 sure.1 (c.hand_back.ensures.held tells)
     (ShowsAfter (IsOne (λ event. event ≡ AddUser c.args.name.now c.args.address.now c.args.salt c.args.password.now)) (status_after c.from_residual-in_err-added.result)) (λ _. ⊥) c.in_err-added.ensures.acts.same
 
 pub returns-clause-leaves : goal.returns-clause-leaves
 returns-clause-leaves g c tells =
     let got = c.in_ok-store.ensures.taken tells in
     let sure = g.met.K.Keeper.sure c.add_user-added.new.store tells in
-    event_made (g.K.Keeper.holds c.args.keeper.now) (g.K.Keeper.holds c.hand_back.new.self) (state g.K.S.Store c.in_ok-store.store) (state g.K.S.Store c.add_user-added.new.store) got.0 got.1 sure.0 sure.1 (c.hand_back.ensures.held tells)
+    event_made (g.K.Keeper.holds c.args.keeper.now) (g.K.Keeper.holds c.hand_back.new.self) (state g.K.S.Store c.in_ok-store.store) (state g.K.S.Store c.add_user-added.new.store) got.1 got.2.schema sure.0 sure.1 (c.hand_back.ensures.held tells)
     (λ event. event ≡ AddUser c.args.name.now c.args.address.now c.args.salt c.args.password.now) 0 (AddUser c.args.name.now c.args.address.now c.args.salt c.args.password.now) Added _ c.in_ok-added.ensures.acts.carries
     (added_next c.args.name.now c.args.address.now c.args.salt c.args.password.now) refl (inl refl)
