@@ -21,10 +21,15 @@ pub mod AmongLemmas
 pub mod OtherLemmas
 pub mod TakingLemmas
 pub mod NthLemmas
+pub mod LeastLemmas
+pub mod AllLemmas
+pub mod PlaceLemmas
+pub mod NextLemmas
 pub mod ListedLemmas
 pub mod FirstLemmas
 pub mod NumberLemmas
 pub mod OneLemmas
 pub mod OpenLemmas
 pub mod ShowExamples
+pub mod NextExamples
 pub mod AccountExamples

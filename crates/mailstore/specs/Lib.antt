@@ -4,6 +4,7 @@ pub mod CopyRows
 pub mod Delivery
 pub mod FirstCells
 pub mod MessageRows
+pub mod Next
 pub mod NoticeRows
 pub mod Numbers
 pub mod Promises

@@ -1,12 +1,13 @@
 -- What each text is understood as, under the schema.
-use Rattle.std.proofs.Common.{◌≡◌, pos, false, List, [], ◌∷◌, codes, refl}
+use Rattle.std.proofs.Common.{◌≡◌, ℕ, pos, false, List, [], ◌∷◌, codes, refl}
 use Rattle.sqlite_value.specs.declared.value.Value.TheVariants.{Null, Int, Text}
 use Rattle.sqlite_value.specs.declared.keys.Collation.TheVariants.{Binary}
+use Rattle.sqlite_value.specs.declared.keys.Key.{Key}
 use Rattle.sqlite_value.specs.Keys.{ascending}
 use Rattle.sqlite_sql.specs.Term.{Term, lit, col, op1, op2}
 use Rattle.sqlite_sql.specs.declared.ops.BinaryOp.TheVariants.{Compare}
 use Rattle.sqlite_sql.specs.declared.ops.UnaryOp.TheVariants.{Length}
-use Rattle.sqlite_sql.specs.declared.ops.CompareOp.TheVariants.{Eq, Ne}
+use Rattle.sqlite_sql.specs.declared.ops.CompareOp.TheVariants.{Eq, Ne, Gt}
 use Rattle.sqlite_schema.specs.declared.command.Source.TheVariants.{Values}
 use Rattle.sqlite_schema.specs.declared.command.Command.TheVariants.{Insert, Update, Delete, Select}
 use Rattle.sqlite_tied.specs.Compute.{everything}
@@ -18,8 +19,8 @@ use Rattle.mailtables.specs.MetaTable.{insert_version, select_version, meta_tree
 use Rattle.mailtables.specs.AccountTable.{insert_account, update_active, update_counters, select_account, select_counters, account_tree}
 use Rattle.mailtables.specs.ScriptTable.{insert_script, delete_script, select_names, select_script, script_tree}
 use Rattle.mailtables.specs.MessageTable.{insert_message, delete_message, select_message, message_tree}
-use Rattle.mailtables.specs.CopyTable.{insert_copy, delete_copy, select_filings, select_nth, select_numbers, select_other, select_folders, select_folder, copy_tree}
-use Rattle.mailtables.specs.QueueTable.{outgoing_tree, select_heads, select_outgoing, select_queue, insert_outgoing, delete_outgoing}
+use Rattle.mailtables.specs.CopyTable.{insert_copy, delete_copy, select_later_number, select_later_folder, select_later_owner, select_nth, select_numbers, select_other, select_folders, select_folder, copy_tree}
+use Rattle.mailtables.specs.QueueTable.{outgoing_tree, select_heads, select_later_id, select_later_queue, select_outgoing, select_queue, insert_outgoing, delete_outgoing}
 use Rattle.mailtables.specs.NoticeTable.{notice_tree, select_notices, insert_notice}
 use Rattle.mailtables.specs.ReplyTable.{reply_tree, insert_reply, delete_reply, select_moment, select_replies}
 
@@ -312,14 +313,6 @@ select_message_plain = ((refl, refl), refl)
 abbrev pub filings_shown : List Term
 filings_shown = col 1 2 ∷ col 1 3 ∷ col 1 4 ∷ []
 
-pub select_filings_is : command_of (understood mail_schema select_filings) ≡ Select (over copy_tree by_one filings_shown ((col 1 3, ascending Binary) ∷ [])) (codes "folder" ∷ codes "n" ∷ codes "id" ∷ [])
-unfolding understood everything
-select_filings_is = refl
-
-pub select_filings_plain : IsPlain (understood mail_schema select_filings) × (reads_listing mail_schema select_filings ≡ false)
-unfolding understood everything
-select_filings_plain = ((refl, refl), refl)
-
 pub select_nth_is : command_of (understood mail_schema select_nth) ≡ Select (nth_over (col 0 2) copy_tree by_two filings_shown ((col 1 3, ascending Binary) ∷ [])) (codes "folder" ∷ codes "n" ∷ codes "id" ∷ [])
 unfolding understood everything
 select_nth_is = refl
@@ -358,3 +351,59 @@ select_other_is = refl
 pub select_other_plain : IsPlain (understood mail_schema select_other) × (reads_listing mail_schema select_other ≡ false)
 unfolding understood everything
 select_other_plain = ((refl, refl), refl)
+
+-- a column is greater than what is asked with
+abbrev pub exceeds : ℕ → ℕ → Term
+exceeds place param = op2 (Compare Gt Binary) (col 1 place) (col 0 param)
+
+abbrev pub place_shown : List Term
+place_shown = col 1 1 ∷ col 1 2 ∷ col 1 3 ∷ []
+
+abbrev pub by_place : List (Term × Key)
+by_place = (col 1 1, ascending Binary) ∷ (col 1 2, ascending Binary) ∷ (col 1 3, ascending Binary) ∷ []
+
+abbrev pub queued_shown : List Term
+queued_shown = col 1 1 ∷ col 1 2 ∷ []
+
+abbrev pub by_queued : List (Term × Key)
+by_queued = (col 1 1, ascending Binary) ∷ (col 1 2, ascending Binary) ∷ []
+
+pub select_later_number_is : command_of (understood mail_schema select_later_number) ≡ Select (first_over copy_tree (equals 1 0 ∷ equals 2 1 ∷ exceeds 3 2 ∷ []) place_shown by_place) (codes "owner" ∷ codes "folder" ∷ codes "n" ∷ [])
+unfolding understood everything
+select_later_number_is = refl
+
+pub select_later_number_plain : IsPlain (understood mail_schema select_later_number) × (reads_listing mail_schema select_later_number ≡ false)
+unfolding understood everything
+select_later_number_plain = ((refl, refl), refl)
+
+pub select_later_folder_is : command_of (understood mail_schema select_later_folder) ≡ Select (first_over copy_tree (equals 1 0 ∷ exceeds 2 1 ∷ []) place_shown by_place) (codes "owner" ∷ codes "folder" ∷ codes "n" ∷ [])
+unfolding understood everything
+select_later_folder_is = refl
+
+pub select_later_folder_plain : IsPlain (understood mail_schema select_later_folder) × (reads_listing mail_schema select_later_folder ≡ false)
+unfolding understood everything
+select_later_folder_plain = ((refl, refl), refl)
+
+pub select_later_owner_is : command_of (understood mail_schema select_later_owner) ≡ Select (first_over copy_tree (exceeds 1 0 ∷ []) place_shown by_place) (codes "owner" ∷ codes "folder" ∷ codes "n" ∷ [])
+unfolding understood everything
+select_later_owner_is = refl
+
+pub select_later_owner_plain : IsPlain (understood mail_schema select_later_owner) × (reads_listing mail_schema select_later_owner ≡ false)
+unfolding understood everything
+select_later_owner_plain = ((refl, refl), refl)
+
+pub select_later_id_is : command_of (understood mail_schema select_later_id) ≡ Select (first_over outgoing_tree (equals 1 0 ∷ exceeds 2 1 ∷ []) queued_shown by_queued) (codes "owner" ∷ codes "id" ∷ [])
+unfolding understood everything
+select_later_id_is = refl
+
+pub select_later_id_plain : IsPlain (understood mail_schema select_later_id) × (reads_listing mail_schema select_later_id ≡ false)
+unfolding understood everything
+select_later_id_plain = ((refl, refl), refl)
+
+pub select_later_queue_is : command_of (understood mail_schema select_later_queue) ≡ Select (first_over outgoing_tree (exceeds 1 0 ∷ []) queued_shown by_queued) (codes "owner" ∷ codes "id" ∷ [])
+unfolding understood everything
+select_later_queue_is = refl
+
+pub select_later_queue_plain : IsPlain (understood mail_schema select_later_queue) × (reads_listing mail_schema select_later_queue ≡ false)
+unfolding understood everything
+select_later_queue_plain = ((refl, refl), refl)

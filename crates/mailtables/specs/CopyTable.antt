@@ -55,10 +55,6 @@ insert_copy = codes "INSERT INTO copy (owner, folder, n, id) VALUES (?1, ?2, ?3,
 abbrev pub delete_copy : List ℕ
 delete_copy = codes "DELETE FROM copy WHERE owner = ?1 AND folder = ?2 AND n = ?3"
 
--- a user's copies go out in the order of their numbers
-abbrev pub select_filings : List ℕ
-select_filings = codes "SELECT folder, n, id FROM copy WHERE owner = ?1 ORDER BY n"
-
 -- one copy of a folder, after that many
 abbrev pub select_nth : List ℕ
 select_nth = codes "SELECT folder, n, id FROM copy WHERE owner = ?1 AND folder = ?2 ORDER BY n LIMIT 1 OFFSET ?3"
@@ -70,6 +66,16 @@ select_numbers = codes "SELECT n FROM copy WHERE owner = ?1 AND folder = ?2 ORDE
 -- another copy of the same message, if there is one
 abbrev pub select_other : List ℕ
 select_other = codes "SELECT n FROM copy WHERE owner = ?1 AND id = ?2 AND n <> ?3 LIMIT 1"
+
+-- where the first copy is with a higher number in the folder; in a later folder of the user; of a later user
+abbrev pub select_later_number : List ℕ
+select_later_number = codes "SELECT owner, folder, n FROM copy WHERE owner = ?1 AND folder = ?2 AND n > ?3 ORDER BY owner, folder, n LIMIT 1"
+
+abbrev pub select_later_folder : List ℕ
+select_later_folder = codes "SELECT owner, folder, n FROM copy WHERE owner = ?1 AND folder > ?2 ORDER BY owner, folder, n LIMIT 1"
+
+abbrev pub select_later_owner : List ℕ
+select_later_owner = codes "SELECT owner, folder, n FROM copy WHERE owner > ?1 ORDER BY owner, folder, n LIMIT 1"
 
 abbrev pub select_folders : List ℕ
 select_folders = codes "SELECT folder FROM copy WHERE owner = ?1 ORDER BY folder"

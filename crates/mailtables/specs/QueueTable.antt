@@ -50,3 +50,10 @@ select_outgoing = codes "SELECT id, kind, sender, target, message FROM outgoing 
 -- the queue in the order of its numbers, with the lengths of its messages
 abbrev pub select_heads : List ℕ
 select_heads = codes "SELECT id, kind, sender, target, length(message) FROM outgoing WHERE owner = ?1 ORDER BY id"
+
+-- the first row with a higher number in the user's queue; of a later user
+abbrev pub select_later_id : List ℕ
+select_later_id = codes "SELECT owner, id FROM outgoing WHERE owner = ?1 AND id > ?2 ORDER BY owner, id LIMIT 1"
+
+abbrev pub select_later_queue : List ℕ
+select_later_queue = codes "SELECT owner, id FROM outgoing WHERE owner > ?1 ORDER BY owner, id LIMIT 1"

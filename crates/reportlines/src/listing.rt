@@ -4,7 +4,7 @@ ghost use Rattle.reportlines.specs.Listings.{kind_word, notice_line, notice_list
 ghost use Rattle.reportlines.specs.Reports.{with_end};
 
 use crate::address::add_address;
-use mailstore::{Kind, Notice, Head};
+use mailstore::{Head, Kind, Notice};
 use octets::{Octets, write_decimal};
 use std::alloc::{AllocError, Global};
 

@@ -1,5 +1,6 @@
 pub mod CellLemmas
 pub mod AnswerLemmas
+pub mod FirstRowLemmas
 pub mod StepLemmas
 pub mod ReadLemmas
 pub mod ColumnLemmas

@@ -1,0 +1,21 @@
+use Rattle.std.proofs.Common.{◌≡◌, OnOk, Vec, rules}
+use Rattle.std.specs.declared.alloc.Global.{Global}
+use Rattle.sqlite.specs.Held.{state}
+use Rattle.sqlite_value.specs.Order.{Row}
+use Rattle.mailstore.specs.FirstCells.{first_three}
+use Rattle.mailstore.specs.Next.{filed_cells, filed_cmp, IsFiled, ShowFiled, LeastFiled, IsLaterFolder}
+use Rattle.mailstore.proofs.AllLemmas.{all_made, all_failed}
+use Rattle.mailstore.proofs.LeastLemmas.{shown_least}
+use Rattle.mailstore.proofs.store.Store.filed_in_later.Goals as goal
+
+pub returns-in_err-rows-clause-finds : goal.returns-in_err-rows-clause-finds
+returns-in_err-rows-clause-finds g c =
+    let same : c.self.inside.conn ≡ c.args.self.now = search rules in
+    let none : OnOk c.from_residual.result ⊥ = search rules in
+    all_failed (λ (rows : Vec Row Global). ShowFiled (IsLaterFolder c.args.user.now c.args.folder.now) rows.items) (LeastFiled (IsLaterFolder c.args.user.now c.args.folder.now)) (state g.S.Store c.args.self.now) (state g.S.Store c.find_later_folder.new.conn) c.find_later_folder.result (rw same at c.find_later_folder.ensures.finds) c.from_residual.result none
+
+pub returns-clause-finds : goal.returns-clause-finds
+returns-clause-finds g c =
+    let same : c.self.inside.conn ≡ c.args.self.now = search rules in
+    all_made (λ (rows : Vec Row Global). ShowFiled (IsLaterFolder c.args.user.now c.args.folder.now) rows.items) (LeastFiled (IsLaterFolder c.args.user.now c.args.folder.now)) (state g.S.Store c.args.self.now) (state g.S.Store c.find_later_folder.new.conn) c.find_later_folder.result (rw same at c.find_later_folder.ensures.finds) c.in_ok-rows.rows c.in_ok-rows.was c.first_from_row.result
+    (λ tables shown. shown_least filed_cells first_three filed_cmp (IsFiled tables) (IsLaterFolder c.args.user.now c.args.folder.now) c.first_from_row.result c.deref.result.now c.in_ok-rows.rows.items c.deref.ensures.value (shown) c.first_from_row.ensures.ok)

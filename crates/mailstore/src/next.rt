@@ -1,0 +1,235 @@
+//! What comes next over all users, for who moves mail on or sends it. No message is read.
+ghost use Rattle.std.specs.Prelude.{◌≡◌, ◌⊎◌, false, IfErr};
+ghost use Rattle.sqlite.specs.Held.{state};
+ghost use Rattle.mailtables.specs.Connection.{Queries};
+ghost use Rattle.mailstore.specs.Next.{FindsAll, IsNextFiled, IsNextQueued, LeastFiled, LeastQueued, ShowFiled, ShowQueued};
+ghost use Rattle.mailstore.specs.Next.{IsLaterNumber, IsLaterFolder, IsLaterOwner, IsLaterId, IsLaterQueue, ShowLaterNumber, ShowLaterId};
+ghost use Rattle.mailstore.specs.Refusals.{IsTransient};
+
+use crate::cell::{number, text_at};
+use crate::refusal::Refusal;
+use crate::row::{FromRow, first_from_row};
+use crate::store::Store;
+use mailtables::query;
+use octets::Octets;
+use sqlite::{Alter, Connection, Error, Row, params};
+
+/// Where a message is.
+#[derive(Debug, Drop)]
+pub struct Filed {
+    pub user: Octets,
+    pub folder: Octets,
+    /// The number of its copy in the account.
+    pub number: u64,
+}
+
+/// Where a row of a queue is.
+#[derive(Debug, Drop)]
+pub struct Queued {
+    pub user: Octets,
+    /// The row's number in the account.
+    pub id: u64,
+}
+
+/// The first copy of the folder with a higher number.
+fn find_later_number<S: Alter>(
+    conn: &mut Connection<S>,
+    owner: &[u8],
+    folder: &[u8],
+    n: &i64,
+) -> Result<Vec<Row>, Error>
+    requires { conn.old.in_transaction ≡ false }
+    ensures { Queries S.Store (FindsAll (λ rows. ShowLaterNumber owner.now folder.now n.now rows.items)) conn.old conn.new result }
+{
+    query(
+        conn,
+        "SELECT owner, folder, n FROM copy WHERE owner = ?1 AND folder = ?2 AND n > ?3 ORDER BY owner, folder, n LIMIT 1",
+        params![owner, folder, n],
+    )
+}
+
+/// The first copy in a later folder of the user.
+fn find_later_folder<S: Alter>(
+    conn: &mut Connection<S>,
+    owner: &[u8],
+    folder: &[u8],
+) -> Result<Vec<Row>, Error>
+    requires { conn.old.in_transaction ≡ false }
+    ensures { Queries S.Store (FindsAll (λ rows. ShowFiled (IsLaterFolder owner.now folder.now) rows.items)) conn.old conn.new result }
+{
+    query(
+        conn,
+        "SELECT owner, folder, n FROM copy WHERE owner = ?1 AND folder > ?2 ORDER BY owner, folder, n LIMIT 1",
+        params![owner, folder],
+    )
+}
+
+/// The first copy of a later user.
+fn find_later_owner<S: Alter>(conn: &mut Connection<S>, owner: &[u8]) -> Result<Vec<Row>, Error>
+    requires { conn.old.in_transaction ≡ false }
+    ensures { Queries S.Store (FindsAll (λ rows. ShowFiled (IsLaterOwner owner.now) rows.items)) conn.old conn.new result }
+{
+    query(
+        conn,
+        "SELECT owner, folder, n FROM copy WHERE owner > ?1 ORDER BY owner, folder, n LIMIT 1",
+        params![owner],
+    )
+}
+
+/// The first row of the user's queue with a higher number.
+fn find_later_id<S: Alter>(
+    conn: &mut Connection<S>,
+    owner: &[u8],
+    id: &i64,
+) -> Result<Vec<Row>, Error>
+    requires { conn.old.in_transaction ≡ false }
+    ensures { Queries S.Store (FindsAll (λ rows. ShowLaterId owner.now id.now rows.items)) conn.old conn.new result }
+{
+    query(
+        conn,
+        "SELECT owner, id FROM outgoing WHERE owner = ?1 AND id > ?2 ORDER BY owner, id LIMIT 1",
+        params![owner, id],
+    )
+}
+
+/// The first row of the queue of a later user.
+fn find_later_queue<S: Alter>(conn: &mut Connection<S>, owner: &[u8]) -> Result<Vec<Row>, Error>
+    requires { conn.old.in_transaction ≡ false }
+    ensures { Queries S.Store (FindsAll (λ rows. ShowQueued (IsLaterQueue owner.now) rows.items)) conn.old conn.new result }
+{
+    query(
+        conn,
+        "SELECT owner, id FROM outgoing WHERE owner > ?1 ORDER BY owner, id LIMIT 1",
+        params![owner],
+    )
+}
+
+impl FromRow for Filed {
+    ghost use Rattle.mailstore.specs.FirstCells.{first_three};
+    ghost use Rattle.mailstore.specs.Next.{filed_cells};
+
+    ghost cells_of = { first_three };
+
+    ghost shows = { filed_cells };
+
+    fn from_row(row: &Row) -> Result<Filed, Refusal> {
+        Ok(Filed {
+            user: text_at(row, 0)?,
+            folder: text_at(row, 1)?,
+            number: row.get(2)?,
+        })
+    }
+}
+
+impl FromRow for Queued {
+    ghost use Rattle.mailstore.specs.FirstCells.{first_two};
+    ghost use Rattle.mailstore.specs.Next.{queued_cells};
+
+    ghost cells_of = { first_two };
+
+    ghost shows = { queued_cells };
+
+    fn from_row(row: &Row) -> Result<Queued, Refusal> {
+        Ok(Queued {
+            user: text_at(row, 0)?,
+            id: row.get(1)?,
+        })
+    }
+}
+
+impl<S: Alter> Store<S> {
+    /// The first message after this place, in the order of the octets of the users, the octets of the folders and the numbers,
+    /// whether or not the place is there. No message is read: three rows are found by their keys, at most.
+    ///
+    /// # Errors
+    ///
+    /// `Memory`, and `Store`, also for a number past 2^63 - 1, which the store never gives.
+    pub fn next_filed(&mut self, start: &Filed) -> Result<Option<Filed>, Refusal>
+        ensures next { FindsAll (IsNextFiled start.now) (state S.Store self.old) (state S.Store self.new) result }
+        ensures named { IfErr result IsTransient }
+    {
+        match self.later_filed(start)? {
+            Some(filed) => Ok(Some(filed)),
+            None => self.filed_of_later(start.user.as_slice()),
+        }
+    }
+
+    /// The first row of a queue after this one, in the order of the octets of the users and the numbers, whether or not there is
+    /// this one. No message is read: two rows are found by their keys, at most.
+    ///
+    /// # Errors
+    ///
+    /// `Memory`, and `Store`, also for a number past 2^63 - 1, which the store never gives.
+    pub fn next_queued(&mut self, start: &Queued) -> Result<Option<Queued>, Refusal>
+        ensures next { FindsAll (IsNextQueued start.now) (state S.Store self.old) (state S.Store self.new) result }
+        ensures named { IfErr result IsTransient }
+    {
+        match self.later_queued(start)? {
+            Some(queued) => Ok(Some(queued)),
+            None => self.queued_of_later(start.user.as_slice()),
+        }
+    }
+
+    /// The first message of the same user after this place.
+    fn later_filed(&mut self, start: &Filed) -> Result<Option<Filed>, Refusal>
+        ensures finds { FindsAll (LeastFiled (λ f. IsLaterNumber start.now.user start.now.folder start.now.number f ⊎ IsLaterFolder start.now.user start.now.folder f)) (state S.Store self.old) (state S.Store self.new) result }
+        ensures named { IfErr result IsTransient }
+    {
+        match self.filed_in_same(start)? {
+            Some(filed) => Ok(Some(filed)),
+            None => self.filed_in_later(start.user.as_slice(), start.folder.as_slice()),
+        }
+    }
+
+    /// The first message of the same folder after this place.
+    fn filed_in_same(&mut self, start: &Filed) -> Result<Option<Filed>, Refusal>
+        ensures finds { FindsAll (LeastFiled (IsLaterNumber start.now.user start.now.folder start.now.number)) (state S.Store self.old) (state S.Store self.new) result }
+        ensures named { IfErr result IsTransient }
+    {
+        let n = number(start.number)?;
+        let rows = find_later_number(
+            &mut self.conn,
+            start.user.as_slice(),
+            start.folder.as_slice(),
+            &n,
+        )?;
+        first_from_row(&rows)
+    }
+
+    /// The first message in a later folder of the user.
+    fn filed_in_later(&mut self, user: &[u8], folder: &[u8]) -> Result<Option<Filed>, Refusal>
+        ensures finds { FindsAll (LeastFiled (IsLaterFolder user.now folder.now)) (state S.Store self.old) (state S.Store self.new) result }
+        ensures named { IfErr result IsTransient }
+    {
+        let rows = find_later_folder(&mut self.conn, user, folder)?;
+        first_from_row(&rows)
+    }
+
+    /// The first message of a later user.
+    fn filed_of_later(&mut self, user: &[u8]) -> Result<Option<Filed>, Refusal>
+        ensures finds { FindsAll (LeastFiled (IsLaterOwner user.now)) (state S.Store self.old) (state S.Store self.new) result }
+        ensures named { IfErr result IsTransient }
+    {
+        let rows = find_later_owner(&mut self.conn, user)?;
+        first_from_row(&rows)
+    }
+
+    /// The first row of the same queue after this one.
+    fn later_queued(&mut self, start: &Queued) -> Result<Option<Queued>, Refusal>
+        ensures finds { FindsAll (LeastQueued (IsLaterId start.now.user start.now.id)) (state S.Store self.old) (state S.Store self.new) result }
+        ensures named { IfErr result IsTransient }
+    {
+        let id = number(start.id)?;
+        let rows = find_later_id(&mut self.conn, start.user.as_slice(), &id)?;
+        first_from_row(&rows)
+    }
+
+    /// The first row of the queue of a later user.
+    fn queued_of_later(&mut self, user: &[u8]) -> Result<Option<Queued>, Refusal>
+        ensures finds { FindsAll (LeastQueued (IsLaterQueue user.now)) (state S.Store self.old) (state S.Store self.new) result }
+        ensures named { IfErr result IsTransient }
+    {
+        let rows = find_later_queue(&mut self.conn, user)?;
+        first_from_row(&rows)
+    }
+}
