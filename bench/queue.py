@@ -4,7 +4,7 @@
   bench/queue.py [SIEVED ..]       SIEVED: the program, crates/sieved/out/sieved where none is named; several stand side by side
 
 Queues of 100, 1,000 and 10,000 rows of 8 kB, in memory (/dev/shm): `queue`, one row by its number, the first row taken off, each less
-`notices` of a user without anything, which is an open and a close; the least of 5 runs. It needs python3, and for memory the command `time`.
+`notices` of a user without anything, which is an open and a close; the least of 15 runs. It needs python3, and for memory the command `time`.
 """
 import os, shutil, sqlite3, subprocess, sys, tempfile, time
 from contextlib import closing
@@ -14,7 +14,7 @@ sys.path.insert(0, f"{HERE}/../tests")
 from managesieve import SIEVED, Store
 
 MESSAGE = b"From: bob@example.net\r\nTo: alice@example.org\r\nSubject: Lunch\r\n\r\n" + (b"x" * 76 + b"\r\n") * 104
-RUNS = 5
+RUNS = 15
 
 
 def filled(sieved, folder, rows):
