@@ -14,7 +14,7 @@ use Rattle.vacreply.proofs.ReplyLaws.{one_reply}
 use Rattle.mailstore.specs.Account.{Account}
 use Rattle.mailstore.specs.declared.report.Report.{Report}
 use Rattle.deliverplan.specs.Views.{last_reply}
-use Rattle.deliverplan.specs.Delivered.{Disposition, Acts, Tells, DisposesIf, disposition_of, is_looping, Response, Sent, Follows, Responds, acts, responds, report_of, CarriesOut, DeliversAs, Delivers}
+use Rattle.deliverplan.specs.Delivered.{Disposition, Acts, Tells, DisposesIf, disposition_of, is_looping, Response, Sent, latest, Follows, Responds, acts, responds, report_of, CarriesOut, DeliversAs, Delivers}
 
 -- a message comes to one disposition
 one_disposition : (looping : Bool) (text : Option (List ℕ)) (mail : MailSpec) (one two : Disposition)
@@ -28,23 +28,23 @@ one_disposition false (Some text) mail one two (inr (none, is)) (inl (tree, mean
 one_disposition false (Some text) mail one two (inr (none, is)) (inr (nothing, was)) = is ∙ sym was
 
 -- one response follows from a decision
-one_follows : (own : Addr) (moment : ℕ) (mail : MailSpec) (args : VacArgs) (decision : Decision) (one two : Response)
-    → Follows own moment mail args decision one → Follows own moment mail args decision two → one ≡ two
-one_follows own moment mail args D.Send one two (reply, (is, here)) (other, (was, there)) =
-    here ∙ (ap (λ r. Sent (key_of (handle_of args)) r) (one_reply args mail own moment reply other is was) ∙ sym there)
-one_follows own moment mail args (D.Quiet reason) one two is was = is ∙ sym was
+one_follows : (own : Addr) (moment : ℕ) (mail : MailSpec) (args : VacArgs) (last : Option ℕ) (decision : Decision) (one two : Response)
+    → Follows own moment mail args last decision one → Follows own moment mail args last decision two → one ≡ two
+one_follows own moment mail args last D.Send one two (reply, (is, here)) (other, (was, there)) =
+    here ∙ (ap (λ r. Sent (key_of (handle_of args)) r (latest last moment)) (one_reply args mail own moment reply other is was) ∙ sym there)
+one_follows own moment mail args last (D.Quiet reason) one two is was = is ∙ sym was
 
 one_response : (own : Addr) (moment : ℕ) (mail : MailSpec) (last : List ℕ → Option ℕ) (reply : Option VacArgs) (one two : Response)
     → Responds own moment mail last reply one → Responds own moment mail last reply two → one ≡ two
 one_response own moment mail last None one two is was = is ∙ sym was
 one_response own moment mail last (Some args) one two is was =
-    one_follows own moment mail args (decision_of args mail own (last (key_of (handle_of args))) moment) one two is was
+    one_follows own moment mail args (last (key_of (handle_of args))) (decision_of args mail own (last (key_of (handle_of args))) moment) one two is was
 
 one_carried : (own : Addr) (moment : ℕ) (mail : MailSpec) (deeds : Actions) (a : Account) (one two : Report) (after other : Account)
     → CarriesOut own moment mail deeds a one after → CarriesOut own moment mail deeds a two other → (one ≡ two) × (after ≡ other)
 one_carried own moment mail deeds a one two after other is was =
     let same = one_response own moment mail (last_reply a mail.from) deeds.reply is.response was.response is.is_response was.is_response in
-    (is.reported ∙ (ap (report_of deeds) same ∙ sym was.reported), is.changed ∙ (ap (λ x. responds mail moment x (acts mail deeds a)) same ∙ sym was.changed))
+    (is.reported ∙ (ap (report_of deeds) same ∙ sym was.reported), is.changed ∙ (ap (λ x. responds mail x (acts mail deeds a)) same ∙ sym was.changed))
 
 one_delivered : (own : Addr) (moment : ℕ) (mail : MailSpec) (disposition : Disposition) (a : Account) (one two : Report) (after other : Account)
     → DeliversAs own moment mail disposition a one after → DeliversAs own moment mail disposition a two other → (one ≡ two) × (after ≡ other)

@@ -12,7 +12,7 @@ use Rattle.mailstore.specs.Account.{Account, files_copies, notes, remembers}
 use Rattle.mailtables.specs.declared.queue.Kind.TheVariants.{Redirect, Reply}
 use Rattle.mailstore.specs.declared.report.VacationReport.TheVariants as V
 use Rattle.deliverplan.specs.Views.{moment_under}
-use Rattle.deliverplan.specs.Delivered.{Acts, Tells, Disposes, disposition_of, invalid_text, is_looping, is_received, kept, loop_text, Silent, Quiet, Sent, Responds, responds, redirects, report_of, notice_report, Delivers}
+use Rattle.deliverplan.specs.Delivered.{Acts, Tells, Disposes, disposition_of, invalid_text, is_looping, is_received, kept, loop_text, Silent, Quiet, Sent, latest, Responds, responds, redirects, report_of, notice_report, Delivers}
 use Rattle.deliverplan.proofs.DeliveryLaws.{one_delivery}
 
 abbrev alice : Addr
@@ -32,7 +32,7 @@ abbrev mail_with : List ℕ → List FieldText → MailSpec
 mail_with sender fields = record { fields = fields; from = sender; to = codes "alice@example.org"; size = 1; octets = 65 ∷ [] }
 
 abbrev away : VacArgs
-away = record { days = None; subject = None; from = None; addresses = []; mime = false; handle = None; reason = codes "Away." }
+away = record { days = None; seconds = None; subject = None; from = None; addresses = []; mime = false; handle = None; reason = codes "Away." }
 
 -- ---- what becomes of a message
 
@@ -68,8 +68,8 @@ failures = (refl, refl)
 null_sender : Responds alice 5 (mail_with [] []) (λ key. None) (Some away) (Quiet R.NullSender)
 null_sender = refl
 
-null_sender_answered : (key reply : List ℕ) → Responds alice 5 (mail_with [] []) (λ key. None) (Some away) (Sent key reply) → ⊥
-null_sender_answered key reply is = cc
+null_sender_answered : (key reply : List ℕ) (moment : ℕ) → Responds alice 5 (mail_with [] []) (λ key. None) (Some away) (Sent key reply moment) → ⊥
+null_sender_answered key reply moment is = cc
 
 -- without `vacation` there is no reason either
 no_vacation : (own : Addr) (mail : MailSpec) → Responds own 5 mail (λ key. None) None (Quiet R.NullSender) → ⊥
@@ -89,15 +89,19 @@ two_redirects : (a : Account) → (redirects (mail_with bob []) (alice ∷ carol
 two_redirects a = refl
 
 -- a response goes out from the empty sender
-reply_row : (a : Account) → (responds (mail_with bob []) 5 (Sent (codes "k") (codes "r")) a).queue
+reply_row : (a : Account) → (responds (mail_with bob []) (Sent (codes "k") (codes "r") 5) a).queue
     ≡ a.queue ++ record { id = a.next_out; kind = Reply; sender = []; target = bob; message = codes "r" } ∷ []
 reply_row a = refl
 
 -- its moment is kept for the sender in lower case; where none is sent, nothing changes
-reply_moment : (a : Account) → (responds (mail_with bob []) 5 (Sent (codes "k") (codes "r")) a).replies ≡ (remembers (codes "k") (codes "bob@example.net") 5 a).replies
+reply_moment : (a : Account) → (responds (mail_with bob []) (Sent (codes "k") (codes "r") 5) a).replies ≡ (remembers (codes "k") (codes "bob@example.net") 5 a).replies
 reply_moment a = refl
 
-quiet_changes_nothing : (a : Account) → responds (mail_with bob []) 5 (Quiet R.TooSoon) a ≡ a
+-- what is kept is the later one of two moments, whichever comes first
+kept_is_latest : (latest (Some 1700000000) 1699999999 ≡ 1700000000) × (latest (Some 1700000000) 1700000001 ≡ 1700000001) × (latest None 5 ≡ 5)
+kept_is_latest = (refl, refl, refl)
+
+quiet_changes_nothing : (a : Account) → responds (mail_with bob []) (Quiet R.TooSoon) a ≡ a
 quiet_changes_nothing a = refl
 
 -- ---- what is reported

@@ -21,20 +21,20 @@ sent_on : (mail : MailSpec) (targets : List Addr) (a : Account) → sends_on mai
 sent_on mail targets a = fold-map (λ b target. queues kind.Redirect mail.from target mail.octets b) spelling a targets
 
 -- what is sent on and replied does what the deeds and the response do
-done : (mail : MailSpec) (moment : ℕ) (deeds : Actions) (response : Response) (a : Account)
-    → replies_if_any mail.from moment (reply_of response) (sends_on mail.from mail.octets (map spelling deeds.sent) (files_copies deeds.filed mail.octets a))
-    ≡ responds mail moment response (acts mail deeds a)
-done mail moment deeds Silent a = sent_on mail deeds.sent (files_copies deeds.filed mail.octets a)
-done mail moment deeds (Quiet reason) a = sent_on mail deeds.sent (files_copies deeds.filed mail.octets a)
-done mail moment deeds (Sent key reply) a =
-    ap (replies_if_any mail.from moment (reply_of (Sent key reply))) (sent_on mail deeds.sent (files_copies deeds.filed mail.octets a))
+done : (mail : MailSpec) (deeds : Actions) (response : Response) (a : Account)
+    → replies_if_any mail.from (reply_of response) (sends_on mail.from mail.octets (map spelling deeds.sent) (files_copies deeds.filed mail.octets a))
+    ≡ responds mail response (acts mail deeds a)
+done mail deeds Silent a = sent_on mail deeds.sent (files_copies deeds.filed mail.octets a)
+done mail deeds (Quiet reason) a = sent_on mail deeds.sent (files_copies deeds.filed mail.octets a)
+done mail deeds (Sent key reply last) a =
+    ap (replies_if_any mail.from (reply_of (Sent key reply last))) (sent_on mail deeds.sent (files_copies deeds.filed mail.octets a))
 
 -- a response where the same moments are kept
 responds_along : (own : Addr) (moment : ℕ) (mail : MailSpec) (last other : List ℕ → Option ℕ) (reply : Option VacArgs) (response : Response)
     → ((key : List ℕ) → last key ≡ other key) → Responds own moment mail last reply response → Responds own moment mail other reply response
 responds_along own moment mail last other None response same is = is
 responds_along own moment mail last other (Some args) response same is =
-    let P : Option ℕ → Type 0 = λ kept. Follows own moment mail args (decision_of args mail own kept moment) response in
+    let P : Option ℕ → Type 0 = λ kept. Follows own moment mail args kept (decision_of args mail own kept moment) response in
     subst P (same (key_of (handle_of args))) is
 
 pub acting : (view : View) (moment : ℕ) (mail : MailSpec) (deeds : Actions) (plan : Plan) (a : Account)
@@ -45,7 +45,7 @@ acting view moment mail deeds plan a is of =
       response = is.response;
       is_response = responds_along view.address moment mail (moment_under view.replies) (last_reply a mail.from) deeds.reply is.response of.replies is.is_response;
       reported = is.report;
-      changed = rw (is.report, is.reply, is.sender, is.message, is.at) (done mail moment deeds is.response a);
+      changed = rw (is.report, is.reply, is.sender, is.message) (done mail deeds is.response a);
     }
 
 pub telling : (moment : ℕ) (mail : MailSpec) (text : List ℕ) (plan : Plan) (a : Account)

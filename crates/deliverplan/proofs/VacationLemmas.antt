@@ -10,27 +10,29 @@ use Rattle.vacreply.specs.declared.reason.Decision.{Decision}
 use Rattle.vacreply.specs.declared.reason.Decision.TheVariants as D
 use Rattle.mailstore.specs.declared.report.VacationReport.TheVariants as V
 use Rattle.deliverplan.specs.declared.vacation.VacationPlan.{VacationPlan}
-use Rattle.deliverplan.specs.Delivered.{Response, Quiet, Sent, Responds, Follows}
+use Rattle.deliverplan.specs.Delivered.{Response, Quiet, Sent, latest, Responds, Follows}
 use Rattle.deliverplan.specs.Plans.{SendsReply, IsVacationPlan, unsent_plan}
 
 module _ (own : Addr) (moment : ℕ) (mail : MailSpec) (last : List ℕ → Option ℕ) (reply : Option VacArgs) (args : VacArgs) (there : reply ≡ Some args) where
   -- a response that follows from the decision that was made on the mail as it was read, with what is kept under the key
   follows : (read : MailSpec) (key : List ℕ) (kept : Option ℕ) (decision : Decision) (response : Response)
       → read ≡ mail → key ≡ key_of (handle_of args) → kept ≡ last key → decision ≡ decision_of args read own kept moment
-      → Follows own moment mail args decision response → Responds own moment mail last reply response
+      → Follows own moment mail args kept decision response → Responds own moment mail last reply response
   follows read key kept decision response same known found decided is =
-      let P : Decision → Type 0 = λ d. Follows own moment mail args d response in
+      let there_kept : kept ≡ last (key_of (handle_of args)) = found ∙ ap last known in
+      let P : Decision → Type 0 = λ d. Follows own moment mail args kept d response in
+      let R : Option ℕ → Type 0 = λ k. Follows own moment mail args k (decision_of args mail own k moment) response in
       let Q : Option VacArgs → Type 0 = λ r. Responds own moment mail last r response in
-      let now = decided ∙ (ap (λ m. decision_of args m own kept moment) same ∙ ap (λ k. decision_of args mail own k moment) (found ∙ ap last known)) in
-      subst Q (sym there) (subst P now is)
+      let now : decision ≡ decision_of args mail own kept moment = decided ∙ ap (λ m. decision_of args m own kept moment) same in
+      subst Q (sym there) (subst R there_kept (subst P now is))
 
   pub sending : (read : MailSpec) (key : List ℕ) (kept : Option ℕ) (plan : VacationPlan)
       → read ≡ mail → key ≡ key_of (handle_of args) → kept ≡ last key → D.Send ≡ decision_of args read own kept moment
-      → SendsReply own moment mail args key plan → IsVacationPlan own moment mail last reply plan
+      → SendsReply own moment mail args key kept plan → IsVacationPlan own moment mail last reply plan
   sending read key kept plan same known found decided is =
       record {
-        response = Sent key is.octets;
-        is_response = follows read key kept D.Send (Sent key is.octets) same known found decided (is.octets, (is.is_reply, ap (λ k. Sent k is.octets) known));
+        response = Sent key is.octets (latest kept moment);
+        is_response = follows read key kept D.Send (Sent key is.octets (latest kept moment)) same known found decided (is.octets, (is.is_reply, ap (λ k. Sent k is.octets (latest kept moment)) known));
         vacation = is.vacation;
         sent = is.sent;
       }

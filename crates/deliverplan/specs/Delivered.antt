@@ -1,5 +1,5 @@
 -- What a delivery makes of an account, and what it reports (RFC 5228, 2.10; RFC 5230).
-use Rattle.std.specs.Prelude.{◌≡◌, ℕ, ◌⊎◌, nat_lt, Bool, true, false, List, [], ◌∷◌, map, codes, count_by, Option, None, Some}
+use Rattle.std.specs.Prelude.{◌≡◌, ℕ, ◌⊎◌, max, nat_lt, Bool, true, false, List, [], ◌∷◌, map, codes, count_by, Option, None, Some}
 use Rattle.std.specs.List.{fold}
 use Rattle.mailhead.specs.Fields.{FieldText}
 use Rattle.addrparts.specs.declared.address.Addr.{Addr}
@@ -82,23 +82,29 @@ Disposes text mail disposition = DisposesIf (is_looping mail) text mail disposit
 
 -- ---- the response to the sender
 
--- no `vacation` was executed; a reason stands against a response; or a response with these octets is sent, known by this key
+-- no `vacation` was executed; a reason stands against a response; or a response with these octets is sent, known by this key, and
+-- this moment is kept
 pub data Response : Type 0 where
   Silent : Response
   Quiet : Reason → Response
-  Sent : List ℕ → List ℕ → Response
+  Sent : (key octets : List ℕ) → (kept : ℕ) → Response
 
--- what is answered where the decision on a response is made
-abbrev pub Follows : Addr → ℕ → MailSpec → VacArgs → Decision → Response → Type 0
-Follows own moment mail args D.Send response =
-    (reply : List ℕ) × (IsReply args mail own moment reply × (response ≡ Sent (key_of (handle_of args)) reply))
-Follows own moment mail args (D.Quiet reason) response = response ≡ Quiet reason
+-- the later one of this moment and the one that is kept, if one is: a moment that is kept never goes back
+abbrev pub latest : Option ℕ → ℕ → ℕ
+latest None moment = moment
+latest (Some last) moment = max last moment
+
+-- what is answered where the decision on a response is made; last is the moment that is kept under its key
+abbrev pub Follows : Addr → ℕ → MailSpec → VacArgs → Option ℕ → Decision → Response → Type 0
+Follows own moment mail args last D.Send response =
+    (reply : List ℕ) × (IsReply args mail own moment reply × (response ≡ Sent (key_of (handle_of args)) reply (latest last moment)))
+Follows own moment mail args last (D.Quiet reason) response = response ≡ Quiet reason
 
 -- what the sender is answered by the user with this address at this moment; last gives the moment that is kept under a key
 abbrev pub Responds : Addr → ℕ → MailSpec → (List ℕ → Option ℕ) → Option VacArgs → Response → Type 0
 Responds own moment mail last None response = response ≡ Silent
 Responds own moment mail last (Some args) response =
-    Follows own moment mail args (decision_of args mail own (last (key_of (handle_of args))) moment) response
+    Follows own moment mail args (last (key_of (handle_of args))) (decision_of args mail own (last (key_of (handle_of args))) moment) response
 
 -- ---- the account afterwards
 
@@ -110,18 +116,18 @@ redirects mail targets a = fold (λ b target. queues kind.Redirect mail.from (sp
 abbrev pub acts : MailSpec → Actions → Account → Account
 acts mail deeds a = redirects mail deeds.sent (files_copies deeds.filed mail.octets a)
 
--- a response is queued for the sender, and its moment is kept; nothing is kept of one that isn't sent
-abbrev pub responds : MailSpec → ℕ → Response → Account → Account
-responds mail moment Silent a = a
-responds mail moment (Quiet reason) a = a
-responds mail moment (Sent key reply) a = remembers key mail.from moment (queues kind.Reply [] mail.from reply a)
+-- a response is queued for the sender, and a moment is kept; nothing is kept of one that isn't sent
+abbrev pub responds : MailSpec → Response → Account → Account
+responds mail Silent a = a
+responds mail (Quiet reason) a = a
+responds mail (Sent key reply kept) a = remembers key mail.from kept (queues kind.Reply [] mail.from reply a)
 
 -- ---- what is reported
 
 abbrev pub vacation_report : Response → VacationReport
 vacation_report Silent = V.None
 vacation_report (Quiet reason) = V.Quiet (number_of reason)
-vacation_report (Sent key reply) = V.Sent
+vacation_report (Sent key reply kept) = V.Sent
 
 abbrev pub report_of : Actions → Response → Report
 report_of deeds response = record { filed = deeds.filed; sent = map spelling deeds.sent; vacation = vacation_report response; notice = None }
@@ -136,7 +142,7 @@ pub record CarriesOut (own : Addr) (moment : ℕ) (mail : MailSpec) (deeds : Act
   pub response : Response
   pub is_response : Responds own moment mail (last_reply a mail.from) deeds.reply response
   pub reported : report ≡ report_of deeds response
-  pub changed : a2 ≡ responds mail moment response (acts mail deeds a)
+  pub changed : a2 ≡ responds mail response (acts mail deeds a)
 
 -- the message joins INBOX, and a notice the others; nothing is sent
 pub record LeavesNotice (moment : ℕ) (mail : MailSpec) (text : List ℕ) (a : Account) (report : Report) (a2 : Account) : Type 0 where

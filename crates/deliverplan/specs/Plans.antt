@@ -9,13 +9,13 @@ use Rattle.mailstore.specs.declared.report.VacationReply.{VacationReply}
 use Rattle.mailstore.specs.declared.report.Plan.{Plan}
 use Rattle.mailstore.specs.declared.report.VacationReport.{VacationReport}
 use Rattle.deliverplan.specs.declared.vacation.VacationPlan.{VacationPlan}
-use Rattle.deliverplan.specs.Delivered.{Response, Silent, Quiet, Sent, Responds, vacation_report, report_of, notice_report}
+use Rattle.deliverplan.specs.Delivered.{Response, Silent, Quiet, Sent, latest, Responds, vacation_report, report_of, notice_report}
 
 -- what is queued and remembered of a response, if one is sent
 abbrev pub reply_of : Response → Option VacationReply
 reply_of Silent = None
 reply_of (Quiet reason) = None
-reply_of (Sent key reply) = Some (record { handle = key; message = reply })
+reply_of (Sent key reply kept) = Some (record { handle = key; message = reply; moment = kept })
 
 -- what is to be done about `vacation`
 pub record IsVacationPlan (own : Addr) (moment : ℕ) (mail : MailSpec) (last : List ℕ → Option ℕ) (reply : Option VacArgs) (plan : VacationPlan) : Type 0 where
@@ -24,12 +24,12 @@ pub record IsVacationPlan (own : Addr) (moment : ℕ) (mail : MailSpec) (last : 
   pub vacation : plan.vacation ≡ vacation_report response
   pub sent : plan.reply ≡ reply_of response
 
--- a response with this key is sent
-pub record SendsReply (own : Addr) (moment : ℕ) (mail : MailSpec) (args : VacArgs) (key : List ℕ) (plan : VacationPlan) : Type 0 where
+-- a response with this key is sent; last is the moment that is kept under it
+pub record SendsReply (own : Addr) (moment : ℕ) (mail : MailSpec) (args : VacArgs) (key : List ℕ) (last : Option ℕ) (plan : VacationPlan) : Type 0 where
   pub octets : List ℕ
   pub is_reply : IsReply args mail own moment octets
-  pub vacation : plan.vacation ≡ vacation_report (Sent key octets)
-  pub sent : plan.reply ≡ reply_of (Sent key octets)
+  pub vacation : plan.vacation ≡ vacation_report (Sent key octets (latest last moment))
+  pub sent : plan.reply ≡ reply_of (Sent key octets (latest last moment))
 
 -- no response is sent, and nothing is kept
 abbrev pub unsent_plan : VacationReport → VacationPlan

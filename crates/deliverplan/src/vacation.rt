@@ -1,6 +1,7 @@
 //! What is done about `vacation` (RFC 5230).
 ghost use Rattle.std.specs.Prelude.{◌≡◌, ◌≤◌, IfOk, option_copied};
 ghost use Rattle.deliverplan.specs.Plans.{IsVacationPlan, SendsReply, unsent_plan};
+ghost use Rattle.deliverplan.specs.Delivered as delivered;
 ghost use Rattle.deliverplan.specs.Views.{moment_under};
 
 use crate::view::View;
@@ -45,7 +46,7 @@ pub(crate) fn plan_vacation(
     let last = view.moment_under(key.as_slice());
     let addressed = AddressedMail::read(alloc, mail)?;
     match decide(args, &addressed, &view.address, last, moment) {
-        Decision::Send => send(alloc, view, mail, moment, args, key),
+        Decision::Send => send(alloc, view, mail, moment, args, key, last),
         Decision::Quiet(reason) => Ok(unsent(VacationReport::Quiet(reason.number()))),
     }
 }
@@ -60,7 +61,7 @@ fn unsent(vacation: VacationReport) -> VacationPlan
     }
 }
 
-/// The response with this key is sent.
+/// The response with this key is sent. `last` is the moment that is kept under the key, if one is.
 fn send(
     alloc: Global,
     view: &View,
@@ -68,14 +69,28 @@ fn send(
     moment: u64,
     args: &VacArgs,
     key: Octets,
+    last: Option<u64>,
 ) -> Result<VacationPlan, AllocError>
     requires { moment ≤ MAX_MOMENT }
-    ensures { IfOk result (SendsReply view.now.address moment mail.now args.now key) }
+    ensures { IfOk result (SendsReply view.now.address moment mail.now args.now key last) }
 {
     let message = reply_bytes(alloc, args, mail, &view.address, moment)?;
-    let handle = key;
     Ok(VacationPlan {
         vacation: VacationReport::Sent,
-        reply: Some(VacationReply { handle, message }),
+        reply: Some(VacationReply {
+            handle: key,
+            message,
+            moment: latest(last, moment),
+        }),
     })
+}
+
+/// The later one of this moment and the one that is kept, if one is.
+fn latest(last: Option<u64>, moment: u64) -> u64
+    ensures { result ≡ delivered.latest last moment }
+{
+    match last {
+        Some(last) => last.max(moment),
+        None => moment,
+    }
 }

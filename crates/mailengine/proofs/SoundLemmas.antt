@@ -243,14 +243,14 @@ redirects_sound mail [] a own = own
 redirects_sound mail (target ∷ more) a own =
     redirects_sound mail more (queues kind.Redirect mail.from (spelling target) mail.octets a) (record { address = own.address; scripts = own.scripts; few = own.few; active = own.active; filled = own.filled })
 
-responds_sound : (mail : MailSpec) (moment : ℕ) (response : Response) (a : Account) → IsSound a → IsSound (responds mail moment response a)
-responds_sound mail moment Silent a own = own
-responds_sound mail moment (Quiet reason) a own = own
-responds_sound mail moment (Sent key octets) a own = record { address = own.address; scripts = own.scripts; few = own.few; active = own.active; filled = own.filled }
+responds_sound : (mail : MailSpec) (response : Response) (a : Account) → IsSound a → IsSound (responds mail response a)
+responds_sound mail Silent a own = own
+responds_sound mail (Quiet reason) a own = own
+responds_sound mail (Sent key octets kept) a own = record { address = own.address; scripts = own.scripts; few = own.few; active = own.active; filled = own.filled }
 
 delivers_sound : (addr : Addr) (moment : ℕ) (mail : MailSpec) (disposition : Disposition) (a a2 : Account) (report : Report) → IsSound a → DeliversAs addr moment mail disposition a report a2 → IsSound a2
 delivers_sound addr moment mail (Acts deeds) a a2 report own is =
-    subst IsSound (sym is.changed) (responds_sound mail moment is.response (acts mail deeds a) (redirects_sound mail deeds.sent (files_copies deeds.filed mail.octets a) (sound_filed a own mail.octets deeds.filed)))
+    subst IsSound (sym is.changed) (responds_sound mail is.response (acts mail deeds a) (redirects_sound mail deeds.sent (files_copies deeds.filed mail.octets a) (sound_filed a own mail.octets deeds.filed)))
 delivers_sound addr moment mail (Tells text) a a2 report own is =
     let kept = sound_filed a own mail.octets (inbox ∷ []) in
     subst IsSound (sym is.changed) (record { address = kept.address; scripts = kept.scripts; few = kept.few; active = kept.active; filled = kept.filled })

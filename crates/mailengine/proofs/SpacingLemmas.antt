@@ -1,5 +1,5 @@
 -- Answers to one sender under one handle are spaced by their periods.
-use Rattle.std.proofs.Common.{◌≡◌, ℕ, ◌+◌, ◌≤◌, Bool, true, false, cond, List, [], ◌∷◌, ◌++◌, Option, Some, None, option_map, refl, sym, ◌∙◌, ap, subst, inl, inr, arith}
+use Rattle.std.proofs.Common.{◌≡◌, ℕ, ◌+◌, ◌<◌, ◌≤◌, Bool, true, false, cond, List, [], ◌∷◌, ◌++◌, Option, Some, None, option_map, refl, sym, ◌∙◌, ap, subst, inl, inr, arith}
 use Rattle.std.specs.declared.cmp.Ordering.{Ordering}
 use Rattle.std.specs.declared.cmp.Ordering.TheVariants.{Less, Equal, Greater}
 use Rattle.std.specs.FinMap.{get, get-insert}
@@ -33,7 +33,7 @@ use Rattle.mailstore.specs.declared.report.VacationReport.TheVariants as V
 use Rattle.mailstore.specs.declared.refusal.Refusal.{Refusal}
 use Rattle.sessions.specs.Scripts.{carried_out, obeyed}
 use Rattle.deliverplan.specs.Views.{last_reply}
-use Rattle.deliverplan.specs.Delivered.{Disposition, Acts, Tells, Response, Silent, Quiet, Sent, Follows, Responds, acts, redirects, responds, vacation_report, DeliversAs}
+use Rattle.deliverplan.specs.Delivered.{Disposition, Acts, Tells, Response, Silent, Quiet, Sent, latest, Follows, Responds, acts, redirects, responds, vacation_report, DeliversAs}
 use Rattle.mailengine.specs.declared.event.Event.{Event}
 use Rattle.mailengine.specs.declared.event.Event.TheVariants.{Open, Give, Step, GiveUp, Close, Deliver, AddUser, TakeOut, TakeMail}
 use Rattle.mailengine.specs.declared.answer.Answer.{Answer}
@@ -71,7 +71,7 @@ no_sooner_then (Some x) (Some y) (Some z) ab bc = omega arith
 past_before : (a b : Option ℕ) (period moment : ℕ) → IsNoSooner a b → IsPast b period moment → IsPast a period moment
 past_before None b period moment ab is = tt
 past_before (Some x) None period moment ab is = absurd ab
-past_before (Some x) (Some y) period moment ab is = omega arith
+past_before (Some x) (Some y) period moment ab is = λ some. let later = is some in omega (arith, later, ab)
 
 at_least_after : (a b : Option ℕ) (moment : ℕ) → IsNoSooner a b → IsAtLeast a moment → IsAtLeast b moment
 at_least_after None b moment ab is = absurd is
@@ -109,7 +109,7 @@ send_is_past args mail own last moment sends = by last timely
 
     by : (o : Option ℕ) → is_early args o moment ≡ false → IsPast o (period_of args) moment
     by None is = tt
-    by (Some x) is = grind (arith, nat_tests)
+    by (Some x) is = λ some. grind (arith, nat_tests, some)
 
 -- redirects leave what is remembered
 redirects_keep : (mail : MailSpec) (targets : List Addr) (a : Account) → (redirects mail targets a).replies ≡ a.replies
@@ -125,22 +125,42 @@ remembered : (a : Account) (handle sender : List ℕ) (moment : ℕ) (thread : T
     ≡ cond (is_eq (reply_cmp (key_of thread.handle, thread.sender) (handle, lowered sender))) (Some moment) (kept_in (Some a) thread)
 remembered a handle sender moment thread = get-insert reply_total a.replies (handle, lowered sender) moment (key_of thread.handle, thread.sender)
 
--- what is known of a response: one that is sent has the key of the handle, and comes a period after the moment that is kept
-sent_is : (own : Addr) (moment : ℕ) (mail : MailSpec) (last : List ℕ → Option ℕ) (reply : Option VacArgs) (key octets : List ℕ) → Responds own moment mail last reply (Sent key octets)
-    → (args : VacArgs) × (reply ≡ Some args) × (key ≡ key_of (handle_of args)) × IsPast (last (key_of (handle_of args))) (period_of args) moment
-sent_is own moment mail last None key octets is = absurd (let never : Sent key octets ≡ Silent = is in cc)
-sent_is own moment mail last (Some args) key octets is = go (decision_of args mail own (last (key_of (handle_of args))) moment) refl is
-  where
-    go : (d : Decision) → decision_of args mail own (last (key_of (handle_of args))) moment ≡ d → Follows own moment mail args d (Sent key octets)
-        → (other : VacArgs) × (Some args ≡ Some other) × (key ≡ key_of (handle_of other)) × IsPast (last (key_of (handle_of other))) (period_of other) moment
-    go D.Send sends follows =
-        let same : key ≡ key_of (handle_of args) = let told : Sent key octets ≡ Sent (key_of (handle_of args)) follows.0 = follows.1.1 in cc in
-        (args, refl, same, send_is_past args mail own (last (key_of (handle_of args))) moment sends)
-    go (D.Quiet reason) quiet follows = absurd (let never : Sent key octets ≡ Quiet reason = follows in cc)
+-- what is known of a response: one that is sent has the key of the handle, comes a period after the moment that is kept, and the later
+-- one of the two moments is kept
+record IsKnown (moment : ℕ) (last : List ℕ → Option ℕ) (reply : Option VacArgs) (key : List ℕ) (next : ℕ) : Type 0 where
+  args : VacArgs
+  there : reply ≡ Some args
+  keyed : key ≡ key_of (handle_of args)
+  past : IsPast (last (key_of (handle_of args))) (period_of args) moment
+  later : next ≡ latest (last key) moment
 
-past_is_sooner : (o : Option ℕ) (period moment : ℕ) → IsPast o period moment → IsNoSooner o (Some moment)
-past_is_sooner None period moment is = tt
-past_is_sooner (Some x) period moment is = omega arith
+sent_is : (own : Addr) (moment : ℕ) (mail : MailSpec) (last : List ℕ → Option ℕ) (reply : Option VacArgs) (key octets : List ℕ) (next : ℕ) → Responds own moment mail last reply (Sent key octets next)
+    → IsKnown moment last reply key next
+sent_is own moment mail last None key octets next is = absurd (let never : Sent key octets next ≡ Silent = is in cc)
+sent_is own moment mail last (Some args) key octets next is = go (decision_of args mail own (last (key_of (handle_of args))) moment) refl is
+  where
+    go : (d : Decision) → decision_of args mail own (last (key_of (handle_of args))) moment ≡ d → Follows own moment mail args (last (key_of (handle_of args))) d (Sent key octets next) → IsKnown moment last (Some args) key next
+    go D.Send sends follows =
+        let told : Sent key octets next ≡ Sent (key_of (handle_of args)) follows.0 (latest (last (key_of (handle_of args))) moment) = follows.1.1 in
+        let same : key ≡ key_of (handle_of args) = cc in
+        let after : next ≡ latest (last (key_of (handle_of args))) moment = cc in
+        record {
+          args = args;
+          there = refl;
+          keyed = same;
+          past = send_is_past args mail own (last (key_of (handle_of args))) moment sends;
+          later = after ∙ ap (λ k. latest (last k) moment) (sym same);
+        }
+    go (D.Quiet reason) quiet follows = absurd (let never : Sent key octets next ≡ Quiet reason = follows in cc)
+
+-- a later moment is kept: never an earlier one than before, nor than this one
+latest_is_no_sooner : (o : Option ℕ) (moment : ℕ) → IsNoSooner o (Some (latest o moment))
+latest_is_no_sooner None moment = tt
+latest_is_no_sooner (Some x) moment = omega arith
+
+latest_is_at_least : (o : Option ℕ) (moment : ℕ) → moment ≤ latest o moment
+latest_is_at_least None moment = omega arith
+latest_is_at_least (Some x) moment = omega arith
 
 reply_eq_refl : (key sender : List ℕ) → is_eq (reply_cmp (key, sender) (key, sender)) ≡ true
 reply_eq_refl key sender = ap (λ o. is_eq (ordering_then o (bytes_cmp sender sender))) (tied_is (bytes_cmp key key) (bytes_eq_refl key)) ∙ bytes_eq_refl sender
@@ -158,24 +178,26 @@ same_place thread key is = go (reply_cmp (place thread) key) refl is
     go Greater at same = absurd (let never : false ≡ true = same in cc)
 
 -- the account after a response to the sender that was sent
-abbrev answered : MailSpec → ℕ → List ℕ → List ℕ → Account → Account
-answered mail moment key octets a = remembers key mail.from moment (queues kind.Reply [] mail.from octets a)
+abbrev answered : MailSpec → (key octets : List ℕ) → (next : ℕ) → Account → Account
+answered mail key octets next a = remembers key mail.from next (queues kind.Reply [] mail.from octets a)
 
-answered_keeps : (mail : MailSpec) (moment period : ℕ) (key octets : List ℕ) (a b : Account) (thread : Thread) → b.replies ≡ a.replies → IsPast (last_reply a mail.from key) period moment
-    → IsNoSooner (kept_in (Some a) thread) (kept_in (Some (answered mail moment key octets b)) thread)
-answered_keeps mail moment period key octets a b thread same past = subst (λ o. IsNoSooner (kept_in (Some a) thread) o) (sym (remembered (queues kind.Reply [] mail.from octets b) key mail.from moment thread)) (go (is_eq (reply_cmp (place thread) (key, lowered mail.from))) refl)
+answered_keeps : (mail : MailSpec) (moment next : ℕ) (key octets : List ℕ) (a b : Account) (thread : Thread) → b.replies ≡ a.replies → next ≡ latest (last_reply a mail.from key) moment
+    → IsNoSooner (kept_in (Some a) thread) (kept_in (Some (answered mail key octets next b)) thread)
+answered_keeps mail moment next key octets a b thread same later = subst (λ o. IsNoSooner (kept_in (Some a) thread) o) (sym (remembered (queues kind.Reply [] mail.from octets b) key mail.from next thread)) (go (is_eq (reply_cmp (place thread) (key, lowered mail.from))) refl)
   where
-    go : (t : Bool) → is_eq (reply_cmp (place thread) (key, lowered mail.from)) ≡ t → IsNoSooner (kept_in (Some a) thread) (cond t (Some moment) (get b.replies (place thread)))
-    go true is = subst (λ k. IsNoSooner (get a.replies k) (Some moment)) (sym (same_place thread (key, lowered mail.from) is)) (past_is_sooner (last_reply a mail.from key) period moment past)
+    go : (t : Bool) → is_eq (reply_cmp (place thread) (key, lowered mail.from)) ≡ t → IsNoSooner (kept_in (Some a) thread) (cond t (Some next) (get b.replies (place thread)))
+    go true is =
+        subst (λ n. IsNoSooner (get a.replies (place thread)) (Some n)) (sym later)
+        (subst (λ k. IsNoSooner (get a.replies k) (Some (latest (last_reply a mail.from key) moment))) (sym (same_place thread (key, lowered mail.from) is)) (latest_is_no_sooner (last_reply a mail.from key) moment))
     go false is = no_sooner_is (get a.replies (place thread)) (get b.replies (place thread)) (ap (λ m. get m (place thread)) same)
 
 responds_keeps : (own : Addr) (moment : ℕ) (mail : MailSpec) (deeds : Actions) (a : Account) (response : Response) (thread : Thread) → Responds own moment mail (last_reply a mail.from) deeds.reply response
-    → IsNoSooner (kept_in (Some a) thread) (kept_in (Some (responds mail moment response (acts mail deeds a))) thread)
+    → IsNoSooner (kept_in (Some a) thread) (kept_in (Some (responds mail response (acts mail deeds a))) thread)
 responds_keeps own moment mail deeds a Silent thread is = no_sooner_is (kept_in (Some a) thread) _ (ap (λ m. get m (place thread)) (acts_keep mail deeds a))
 responds_keeps own moment mail deeds a (Quiet reason) thread is = no_sooner_is (kept_in (Some a) thread) _ (ap (λ m. get m (place thread)) (acts_keep mail deeds a))
-responds_keeps own moment mail deeds a (Sent key octets) thread is =
-    let known = sent_is own moment mail (last_reply a mail.from) deeds.reply key octets is in
-    answered_keeps mail moment (period_of known.0) key octets a (acts mail deeds a) thread (acts_keep mail deeds a) (subst (λ k. IsPast (last_reply a mail.from k) (period_of known.0) moment) (sym known.2) known.3)
+responds_keeps own moment mail deeds a (Sent key octets next) thread is =
+    let known = sent_is own moment mail (last_reply a mail.from) deeds.reply key octets next is in
+    answered_keeps mail moment next key octets a (acts mail deeds a) thread (acts_keep mail deeds a) known.later
 
 delivers_keeps : (own : Addr) (moment : ℕ) (mail : MailSpec) (disposition : Disposition) (a a2 : Account) (report : Report) (thread : Thread) → DeliversAs own moment mail disposition a report a2
     → IsNoSooner (kept_in (Some a) thread) (kept_in (Some a2) thread)
@@ -273,21 +295,22 @@ IsOneFor start end [] = Unit {0}
 IsOneFor start end (entry ∷ []) = IsPast (kept_in start entry.thread) entry.period entry.moment × IsAtLeast (kept_in end entry.thread) entry.moment
 IsOneFor start end (entry ∷ (other ∷ more)) = ⊥
 
-remembered_now : (mail : MailSpec) (moment : ℕ) (key octets user : List ℕ) (args : VacArgs) (b : Account) → key ≡ key_of (handle_of args)
-    → IsAtLeast (kept_in (Some (answered mail moment key octets b)) (entry_of user mail.from moment args).thread) moment
-remembered_now mail moment key octets user args b same =
-    subst (λ o. IsAtLeast o moment) (sym (remembered (queues kind.Reply [] mail.from octets b) key mail.from moment (entry_of user mail.from moment args).thread ∙ ap (λ t. cond t (Some moment) (get b.replies (key_of (handle_of args), lowered mail.from))) itself)) (omega arith)
+remembered_now : (mail : MailSpec) (moment next : ℕ) (key octets user : List ℕ) (args : VacArgs) (b : Account) → key ≡ key_of (handle_of args) → moment ≤ next
+    → IsAtLeast (kept_in (Some (answered mail key octets next b)) (entry_of user mail.from moment args).thread) moment
+remembered_now mail moment next key octets user args b same after =
+    subst (λ o. IsAtLeast o moment) (sym (remembered (queues kind.Reply [] mail.from octets b) key mail.from next (entry_of user mail.from moment args).thread ∙ ap (λ t. cond t (Some next) (get b.replies (key_of (handle_of args), lowered mail.from))) itself)) after
   where
     itself : is_eq (reply_cmp (key_of (handle_of args), lowered mail.from) (key, lowered mail.from)) ≡ true
     itself = ap (λ k. is_eq (reply_cmp (key_of (handle_of args), lowered mail.from) (k, lowered mail.from))) same ∙ reply_eq_refl (key_of (handle_of args)) (lowered mail.from)
 
 carried_one : (own : Addr) (user : List ℕ) (moment : ℕ) (mail : MailSpec) (deeds : Actions) (a : Account) (response : Response) → Responds own moment mail (last_reply a mail.from) deeds.reply response
-    → IsOneFor (Some a) (Some (responds mail moment response (acts mail deeds a))) (entries_if (vacation_report response) user mail.from moment deeds.reply)
+    → IsOneFor (Some a) (Some (responds mail response (acts mail deeds a))) (entries_if (vacation_report response) user mail.from moment deeds.reply)
 carried_one own user moment mail deeds a Silent is = tt
 carried_one own user moment mail deeds a (Quiet reason) is = tt
-carried_one own user moment mail deeds a (Sent key octets) is =
-    let known = sent_is own moment mail (last_reply a mail.from) deeds.reply key octets is in
-    subst (λ r. IsOneFor (Some a) (Some (answered mail moment key octets (acts mail deeds a))) (entries_if V.Sent user mail.from moment r)) (sym known.1) (known.3, remembered_now mail moment key octets user known.0 (acts mail deeds a) known.2)
+carried_one own user moment mail deeds a (Sent key octets next) is =
+    let known = sent_is own moment mail (last_reply a mail.from) deeds.reply key octets next is in
+    let after : moment ≤ next = subst (λ n. moment ≤ n) (sym known.later) (latest_is_at_least (last_reply a mail.from key) moment) in
+    subst (λ r. IsOneFor (Some a) (Some (answered mail key octets next (acts mail deeds a))) (entries_if V.Sent user mail.from moment r)) (sym known.there) (known.past, remembered_now mail moment next key octets user known.args (acts mail deeds a) known.keyed after)
 
 delivered_one : (own : Addr) (user : List ℕ) (moment : ℕ) (mail : MailSpec) (disposition : Disposition) (a a2 : Account) (report : Report) → DeliversAs own moment mail disposition a report a2
     → IsOneFor (Some a) (Some a2) (entries_if report.vacation user mail.from moment (vacation_in disposition))
@@ -348,9 +371,9 @@ follow_kept : (later : Accounts) (entry : Entry) (entries : List Entry) → IsAt
 follow_kept later entry [] held come = tt
 follow_kept later entry (next ∷ more) held come = (λ same. go (kept later next.thread) (subst (λ t. IsAtLeast (kept later t) entry.moment) same held) come.0, follow_kept later entry more held come.1)
   where
-    go : (o : Option ℕ) → IsAtLeast o entry.moment → IsPast o next.period next.moment → entry.moment + next.period ≤ next.moment
-    go None held past = absurd held
-    go (Some last) held past = omega arith
+    go : (o : Option ℕ) → IsAtLeast o entry.moment → IsPast o next.period next.moment → 0 < next.period → entry.moment + next.period ≤ next.moment
+    go None held past some = absurd held
+    go (Some last) held past some = let later = past some in omega (arith, later, held)
 
 -- an event, and the events after it
 spacing_then : (start mid end : Accounts) (one more : List Entry) → ((thread : Thread) → IsNoSooner (kept start thread) (kept mid thread)) → ((thread : Thread) → IsNoSooner (kept mid thread) (kept end thread))

@@ -1,5 +1,5 @@
 -- When a user answers one sender again under one handle: at least the later answer's period later (RFC 5230, 4.2).
-use Rattle.std.specs.Prelude.{◌≡◌, ℕ, ◌+◌, ◌≤◌, List, [], ◌∷◌, ◌++◌, Option, Some, None}
+use Rattle.std.specs.Prelude.{◌≡◌, ℕ, ◌+◌, ◌<◌, ◌≤◌, List, [], ◌∷◌, ◌++◌, Option, Some, None}
 use mathlib.Core.Logic.{inl, inr}
 use Rattle.std.specs.FinMap.{get}
 use Rattle.octets.specs.Ascii.{lowered}
@@ -89,22 +89,22 @@ kept_in (Some a) thread = get a.replies (key_of thread.handle, thread.sender)
 abbrev pub kept : Accounts → Thread → Option ℕ
 kept accounts thread = kept_in (get accounts thread.user) thread
 
--- a moment is at least a period later than the one that is kept, if one is
+-- a moment is at least a period later than the one that is kept, if one is; a period of 0 asks nothing
 abbrev pub IsPast : Option ℕ → ℕ → ℕ → Type 0
 IsPast None period moment = Unit {0}
-IsPast (Some last) period moment = last + period ≤ moment
+IsPast (Some last) period moment = 0 < period → last + period ≤ moment
 
 -- each entry is its period later than what the accounts keep
 abbrev pub ComeAfter : Accounts → List Entry → Type 0
 ComeAfter accounts [] = Unit {0}
 ComeAfter accounts (entry ∷ more) = IsPast (kept accounts entry.thread) entry.period entry.moment × ComeAfter accounts more
 
--- each of these is its period later than the entry, where it goes to the same
+-- each of these is its period later than the entry, where it goes to the same and has a period
 abbrev pub Follow : Entry → List Entry → Type 0
 Follow entry [] = Unit {0}
-Follow entry (later ∷ more) = (entry.thread ≡ later.thread → entry.moment + later.period ≤ later.moment) × Follow entry more
+Follow entry (later ∷ more) = (entry.thread ≡ later.thread → 0 < later.period → entry.moment + later.period ≤ later.moment) × Follow entry more
 
--- any two entries that go to the same are spaced by the later one's period
+-- any two entries that go to the same are spaced by the later one's period, where it has one
 abbrev pub AreSpaced : List Entry → Type 0
 AreSpaced [] = Unit {0}
 AreSpaced (entry ∷ more) = Follow entry more × AreSpaced more

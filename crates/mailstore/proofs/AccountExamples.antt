@@ -64,9 +64,9 @@ two_redirects a none first = rw (none, first) refl
 
 -- a reply goes to the sender, from the empty sender, with its own octets
 abbrev reply : VacationReply
-reply = record { handle = two; message = codes "Away" }
+reply = record { handle = two; message = codes "Away"; moment = 5 }
 
-one_reply : (a : Account) → a.queue ≡ [] → a.next_out ≡ 7 → (replies_if_any one 0 (Some reply) a).queue ≡ record { id = 7; kind = Reply; sender = []; target = one; message = codes "Away" } ∷ []
+one_reply : (a : Account) → a.queue ≡ [] → a.next_out ≡ 7 → (replies_if_any one (Some reply) a).queue ≡ record { id = 7; kind = Reply; sender = []; target = one; message = codes "Away" } ∷ []
 one_reply a none first = rw (none, first) refl
 
 -- near miss: nothing is remembered and no notice is left where the plan has none

@@ -104,14 +104,14 @@ redirects_more user sender message targets n i x target a b c d k within is numb
 pub are_delivery : (user sender : List ℕ) (c : Counters) (plan : Plan) (ds1 kept ds2 ds3 queued ds4 ds5 : List Change) → sender ≡ lowered plan.sender.now → Extends user (counters_raised user c plan) [] ds1
     → Extends user (message_kept user plan.message.now c.copy plan.report.filed) ds1 kept → Extends user (copies_added user c.copy c.copy plan.report.filed) kept ds2
     → Extends user (sent_on user plan.sender.now plan.message.now c.out plan.report.sent) ds2 ds3 → Extends user (reply_queued user plan.sender.now (c.out + length plan.report.sent) plan.reply) ds3 queued
-    → Extends user (reply_put user sender plan.moment plan.reply) queued ds4 → Extends user (noticed user c.notice plan.moment plan.report.notice) ds4 ds5 → AreDelivery user c plan ds5
+    → Extends user (reply_put user sender plan.reply) queued ds4 → Extends user (noticed user c.notice plan.moment plan.report.notice) ds4 ds5 → AreDelivery user c plan ds5
 are_delivery user sender c plan ds1 kept ds2 ds3 queued ds4 ds5 is one message copies three reply four five =
     let two = extends_then user (message_kept user plan.message.now c.copy plan.report.filed) (copies_added user c.copy c.copy plan.report.filed) ds1 kept ds2 message copies in
     let first = extends_then user (counters_raised user c plan) (copied user plan.message.now c.copy plan.report.filed) [] ds1 ds2 one two in
     let second = extends_then user _ (sent_on user plan.sender.now plan.message.now c.out plan.report.sent) [] ds2 ds3 first three in
     let answered = extends_then user _ (reply_queued user plan.sender.now (c.out + length plan.report.sent) plan.reply) [] ds3 queued second reply in
-    let put = subst (λ s. Extends user (reply_put user s plan.moment plan.reply) queued ds4) is four in
-    let third = extends_then user _ (reply_put user (lowered plan.sender.now) plan.moment plan.reply) [] queued ds4 answered put in
+    let put = subst (λ s. Extends user (reply_put user s plan.reply) queued ds4) is four in
+    let third = extends_then user _ (reply_put user (lowered plan.sender.now) plan.reply) [] queued ds4 answered put in
     let all = extends_then user _ (noticed user c.notice plan.moment plan.report.notice) [] ds4 ds5 third five in
     record { owned = all.owned tt; makes = all.makes }
 
@@ -268,16 +268,16 @@ module _ (user : List ℕ) (last : Counters) where
       (queued (record { id = a.next_out; kind = kind.Redirect; sender = sender; target = target; message = message }) copy notice own a refl s)
 
   -- the reply joins the queue and is remembered
-  reply_joined : (sender : List ℕ) (moment : ℕ) (reply : Option VacationReply) (copy notice : ℕ) (own : Tables) (a : Account) → IsShownBelow user last copy notice a own
-      → IsShownBelow user last copy notice (replies_if_any sender moment reply a) (reply_put user (lowered sender) moment reply (reply_queued user sender a.next_out reply own))
-  reply_joined sender moment None copy notice own a s = s
-  reply_joined sender moment (Some reply) copy notice own a s =
+  reply_joined : (sender : List ℕ) (reply : Option VacationReply) (copy notice : ℕ) (own : Tables) (a : Account) → IsShownBelow user last copy notice a own
+      → IsShownBelow user last copy notice (replies_if_any sender reply a) (reply_put user (lowered sender) reply (reply_queued user sender a.next_out reply own))
+  reply_joined sender None copy notice own a s = s
+  reply_joined sender (Some reply) copy notice own a s =
       let q = queued (record { id = a.next_out; kind = kind.Reply; sender = []; target = sender; message = reply.message }) copy notice own a refl s in
       record {
         account_is = q.account_is;
         scripts = q.scripts;
         queue = q.queue;
-        replies = replies_put user (own reply_tree) a.replies s.replies (reply.handle, lowered sender) moment;
+        replies = replies_put user (own reply_tree) a.replies s.replies (reply.handle, lowered sender) reply.moment;
         notices = q.notices;
         copies = q.copies;
       }
@@ -307,9 +307,9 @@ sent_out : (sender message : List ℕ) (targets : List (List ℕ)) (a : Account)
 sent_out sender message [] a = omega arith
 sent_out sender message (target ∷ targets) a = let more = sent_out sender message targets (queues kind.Redirect sender target message a) in omega (arith, more)
 
-replied_out : (sender : List ℕ) (moment : ℕ) (reply : Option VacationReply) (a : Account) → (replies_if_any sender moment reply a).next_out ≡ a.next_out + count_of reply
-replied_out sender moment None a = omega arith
-replied_out sender moment (Some reply) a = omega arith
+replied_out : (sender : List ℕ) (reply : Option VacationReply) (a : Account) → (replies_if_any sender reply a).next_out ≡ a.next_out + count_of reply
+replied_out sender None a = omega arith
+replied_out sender (Some reply) a = omega arith
 
 noted_out : (moment : ℕ) (text : Option (List ℕ)) (a : Account) → (notes_if_any moment text a).next_out ≡ a.next_out
 noted_out moment None a = refl
@@ -322,17 +322,17 @@ own_delivered user c plan own a s counts =
     let up = raised user last c own a s counts in
     let filed = files_copies plan.report.filed plan.message.now a in
     let sent = sends_on plan.sender.now plan.message.now plan.report.sent filed in
-    let kept = replies_if_any plan.sender.now plan.moment plan.reply sent in
+    let kept = replies_if_any plan.sender.now plan.reply sent in
     let copies = copies_joined user last plan.message.now plan.report.filed c.copy c.notice _ a up.0 in
     let redirects = redirects_joined user last plan.sender.now plan.message.now plan.report.sent last.copy c.notice _ filed copies in
-    let reply = reply_joined user last plan.sender.now plan.moment plan.reply last.copy c.notice _ sent redirects in
+    let reply = reply_joined user last plan.sender.now plan.reply last.copy c.notice _ sent redirects in
     let sent_is = sent_out plan.sender.now plan.message.now plan.report.sent filed in
     let next : sent.next_out ≡ c.out + length plan.report.sent = sent_is ∙ ap (λ n. n + length plan.report.sent) up.1 in
-    let rows = λ (first after : ℕ). reply_put user (lowered plan.sender.now) plan.moment plan.reply (reply_queued user plan.sender.now after plan.reply
+    let rows = λ (first after : ℕ). reply_put user (lowered plan.sender.now) plan.reply (reply_queued user plan.sender.now after plan.reply
     (sent_on user plan.sender.now plan.message.now first plan.report.sent (copied user plan.message.now c.copy plan.report.filed (counters_raised user c plan own)))) in
     let numbered = subst (λ n. IsShownBelow user last last.copy c.notice kept (rows c.out n)) next (subst (λ n. IsShownBelow user last last.copy c.notice kept (rows n sent.next_out)) up.1 reply) in
     let all = notice_joined user last plan.moment plan.report.notice last.copy c.notice _ kept numbered in
-    let replied = replied_out plan.sender.now plan.moment plan.reply sent in
+    let replied = replied_out plan.sender.now plan.reply sent in
     let out : kept.next_out ≡ last.out = omega (arith, replied, next) in
     lowered_last user last last.copy last.notice _ _ all refl (noted_out plan.moment plan.report.notice kept ∙ out) refl
 
@@ -357,9 +357,9 @@ queued_beside : (user sender : List ℕ) (n : ℕ) (reply : Option VacationReply
 queued_beside user sender n None own = refl
 queued_beside user sender n (Some reply) own = refl
 
-reply_beside : (user sender : List ℕ) (moment : ℕ) (reply : Option VacationReply) (own : Tables) → reply_put user sender moment reply own message_tree ≡ own message_tree
-reply_beside user sender moment None own = refl
-reply_beside user sender moment (Some reply) own = refl
+reply_beside : (user sender : List ℕ) (reply : Option VacationReply) (own : Tables) → reply_put user sender reply own message_tree ≡ own message_tree
+reply_beside user sender None own = refl
+reply_beside user sender (Some reply) own = refl
 
 notice_beside : (user : List ℕ) (n moment : ℕ) (text : Option (List ℕ)) (own : Tables) → noticed user n moment text own message_tree ≡ own message_tree
 notice_beside user n moment None own = refl
@@ -377,8 +377,8 @@ delivered_once user c plan own =
     let sent = sent_on user plan.sender.now plan.message.now c.out plan.report.sent filed in
     let after = c.out + length plan.report.sent in
     let queued = reply_queued user plan.sender.now after plan.reply sent in
-    let replied = reply_put user (lowered plan.sender.now) plan.moment plan.reply queued in
-    notice_beside user c.notice plan.moment plan.report.notice replied ∙ reply_beside user (lowered plan.sender.now) plan.moment plan.reply queued ∙ queued_beside user plan.sender.now after plan.reply sent
+    let replied = reply_put user (lowered plan.sender.now) plan.reply queued in
+    notice_beside user c.notice plan.moment plan.report.notice replied ∙ reply_beside user (lowered plan.sender.now) plan.reply queued ∙ queued_beside user plan.sender.now after plan.reply sent
     ∙ turn_beside (λ n target. redirect_added user plan.sender.now plan.message.now (pos n) target) (λ n target own. refl) plan.report.sent c.out filed
     ∙ turn_beside (λ n folder. copy_added user folder (pos n) (pos c.copy)) (λ n folder own. refl) plan.report.filed c.copy kept ∙ message_gained user plan.message.now plan.report.filed c.copy up
 

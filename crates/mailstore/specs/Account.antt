@@ -152,9 +152,9 @@ abbrev pub sends_on : List ℕ → List ℕ → List (List ℕ) → Account → 
 sends_on sender message targets a = fold (λ b target. queues kind.Redirect sender target message b) a targets
 
 -- a reply of its own octets joins the queue for the sender, from the empty sender, and its moment is kept under its handle
-abbrev pub replies_if_any : List ℕ → ℕ → Option VacationReply → Account → Account
-replies_if_any sender moment None a = a
-replies_if_any sender moment (Some reply) a = remembers reply.handle sender moment (queues kind.Reply [] sender reply.message a)
+abbrev pub replies_if_any : List ℕ → Option VacationReply → Account → Account
+replies_if_any sender None a = a
+replies_if_any sender (Some reply) a = remembers reply.handle sender reply.moment (queues kind.Reply [] sender reply.message a)
 
 abbrev pub notes_if_any : ℕ → Option (List ℕ) → Account → Account
 notes_if_any moment None a = a
@@ -164,7 +164,7 @@ notes_if_any moment (Some text) a = notes moment text a
 abbrev pub delivers : Plan → Account → Account
 delivers plan a =
     notes_if_any plan.moment plan.report.notice
-    (replies_if_any plan.sender.now plan.moment plan.reply (sends_on plan.sender.now plan.message.now plan.report.sent (files_copies plan.report.filed plan.message.now a)))
+    (replies_if_any plan.sender.now plan.reply (sends_on plan.sender.now plan.message.now plan.report.sent (files_copies plan.report.filed plan.message.now a)))
 
 -- ---- accounts by name
 

@@ -41,9 +41,9 @@ reply_queued user sender n None own = own
 reply_queued user sender n (Some reply) own = outgoing_added user (pos n) kind.Reply [] sender reply.message own
 
 -- its moment takes the place of one under the same handle for the same sender, in lower case
-abbrev pub reply_put : List ℕ → List ℕ → ℕ → Option VacationReply → Tables → Tables
-reply_put user sender moment None own = own
-reply_put user sender moment (Some reply) own = reply_added user reply.handle sender (pos moment) (reply_removed user reply.handle sender own)
+abbrev pub reply_put : List ℕ → List ℕ → Option VacationReply → Tables → Tables
+reply_put user sender None own = own
+reply_put user sender (Some reply) own = reply_added user reply.handle sender (pos reply.moment) (reply_removed user reply.handle sender own)
 
 abbrev pub noticed : List ℕ → ℕ → ℕ → Option (List ℕ) → Tables → Tables
 noticed user n moment None own = own
@@ -63,7 +63,7 @@ counters_raised user c plan =
 abbrev pub delivered : List ℕ → Counters → Plan → Tables → Tables
 delivered user c plan own =
     noticed user c.notice plan.moment plan.report.notice
-    (reply_put user (lowered plan.sender.now) plan.moment plan.reply
+    (reply_put user (lowered plan.sender.now) plan.reply
     (reply_queued user plan.sender.now (c.out + length plan.report.sent) plan.reply
     (sent_on user plan.sender.now plan.message.now c.out plan.report.sent
     (copied user plan.message.now c.copy plan.report.filed

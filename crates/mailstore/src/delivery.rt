@@ -174,9 +174,8 @@ fn push_moment<'a>(
     user: &'a [u8],
     sender: &'a [u8],
     reply: Option<&'a VacationReply>,
-    moment: u64,
 ) -> Result<(), Refusal>
-    ensures put { OnOk result (Extends user.now (reply_put user.now sender.now moment (option_copied reply.entry)) changes.old.items changes.new.items) }
+    ensures put { OnOk result (Extends user.now (reply_put user.now sender.now (option_copied reply.entry)) changes.old.items changes.new.items) }
     ensures named { IfErr result IsTransient }
 {
     let Some(reply) = reply else {
@@ -192,7 +191,7 @@ fn push_moment<'a>(
         owner: user,
         handle,
         sender,
-        moment: number(moment)?,
+        moment: number(reply.moment)?,
     })?;
     Ok(())
 }
@@ -247,7 +246,7 @@ fn delivery_changes<'a>(
     push_redirects(&mut changes, user, sender, message, sent, counters.out)?;
     let reply = reply.as_ref();
     push_reply(&mut changes, user, sender, reply, counters.out, sent.len())?;
-    push_moment(&mut changes, user, folded, reply, *moment)?;
+    push_moment(&mut changes, user, folded, reply)?;
     let notice = report.notice.as_ref();
     push_notice(&mut changes, user, counters.notice, *moment, notice)?;
     Ok(changes)

@@ -31,6 +31,8 @@ pub struct VacationReply {
     pub handle: Octets,
     /// The reply's own octets. It goes to the sender of the message, from the empty sender (RFC 5230, section 5.1).
     pub message: Octets,
+    /// The moment that is kept, in seconds since 1970-01-01 UTC: the delivery's, or a later one that was kept already.
+    pub moment: u64,
 }
 
 /// What a delivery is to write: what its report tells of folders, addresses and a notice, and the reply. The message and its
@@ -40,7 +42,7 @@ pub struct Plan<'a> {
     pub message: &'a [u8],
     /// The sender of the envelope, as received: a redirect has it (RFC 5228, section 4.2), and a reply goes there.
     pub sender: &'a [u8],
-    /// The moment of the delivery, in seconds since 1970-01-01 UTC. A notice has it, and a reply is remembered by it.
+    /// The moment of the delivery, in seconds since 1970-01-01 UTC. A notice has it.
     pub moment: u64,
     /// The message joins each folder that is told as filed, in order: a name that stands twice gets two copies. It joins the
     /// queue for each address that is told as sent, in order, and the user is left the notice.

@@ -22,6 +22,7 @@ pub(crate) fn copied_args(alloc: Global, args: &VacArgs) -> Result<VacArgs, Allo
 {
     Ok(VacArgs {
         days: args.days,
+        seconds: args.seconds,
         subject: copied_text(alloc, &args.subject)?,
         from: copied_from(alloc, &args.from)?,
         addresses: copied_addresses(alloc, args.addresses.as_slice())?,

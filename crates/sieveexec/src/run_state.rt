@@ -12,7 +12,7 @@ use crate::copies::{copied_address, copied_args};
 use crate::outcome::{Failure, Outcome};
 use addrparts::Addr;
 use octets::{List, Octets, Texts};
-use sievesyntax::{Action, VacArgs};
+use sievesyntax::{Action, FileInto, Redirect, VacArgs};
 use std::alloc::{AllocError, Global};
 use std::collections::BTreeSet;
 
@@ -59,13 +59,15 @@ impl RunState {
         ensures { IfOk result (λ failed. flow_of failed (run_state_of self.new) ≡ performed action.now (run_state_of self.old)) }
     {
         match action {
-            Action::Keep => self.file_into(alloc, INBOX),
+            Action::Keep => self.file_into(alloc, INBOX, false),
             Action::Discard => {
                 self.cancelled = true;
                 Ok(None)
             }
-            Action::FileInto(name) => self.file_into(alloc, mailbox_named(name.as_slice())),
-            Action::Redirect(target) => self.send_to(alloc, target),
+            Action::FileInto(FileInto { mailbox, copy }) => {
+                self.file_into(alloc, mailbox_named(mailbox.as_slice()), *copy)
+            }
+            Action::Redirect(Redirect { target, copy }) => self.send_to(alloc, target, *copy),
             Action::Vacation(reply) => self.reply_by(alloc, reply.args()),
         }
     }
@@ -94,16 +96,26 @@ impl RunState {
         without_repeats(alloc, self.named.as_slice())
     }
 
-    fn file_into(&mut self, alloc: Global, mailbox: &[u8]) -> Result<Option<Failure>, AllocError>
-        ensures { IfOk result (λ failed. flow_of failed (run_state_of self.new) ≡ flow_of None (filed_into mailbox.now (run_state_of self.old))) }
+    fn file_into(
+        &mut self,
+        alloc: Global,
+        mailbox: &[u8],
+        copy: bool,
+    ) -> Result<Option<Failure>, AllocError>
+        ensures { IfOk result (λ failed. flow_of failed (run_state_of self.new) ≡ flow_of None (filed_into mailbox.now copy (run_state_of self.old))) }
     {
         self.named.push(Octets::from_slice(alloc, mailbox)?)?;
-        self.cancelled = true;
+        self.cancelled = self.cancelled || !copy;
         Ok(None)
     }
 
-    fn send_to(&mut self, alloc: Global, target: &Addr) -> Result<Option<Failure>, AllocError>
-        ensures { IfOk result (λ failed. flow_of failed (run_state_of self.new) ≡ sent_to target.now (run_state_of self.old)) }
+    fn send_to(
+        &mut self,
+        alloc: Global,
+        target: &Addr,
+        copy: bool,
+    ) -> Result<Option<Failure>, AllocError>
+        ensures { IfOk result (λ failed. flow_of failed (run_state_of self.new) ≡ sent_to target.now copy (run_state_of self.old)) }
     {
         if !has_address(self.sent.as_slice(), target) {
             if self.sent.as_slice().len() >= MAX_TARGETS {
@@ -111,7 +123,7 @@ impl RunState {
             }
             self.sent.push(copied_address(alloc, target)?)?;
         }
-        self.cancelled = true;
+        self.cancelled = self.cancelled || !copy;
         Ok(None)
     }
 

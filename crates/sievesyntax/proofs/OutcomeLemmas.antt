@@ -13,7 +13,7 @@ use Rattle.sievesyntax.specs.declared.tree.action.Action.{Action}
 use Rattle.sievesyntax.specs.declared.tree.action.Action.TheVariants.{Keep, Discard, FileInto, Redirect, Vacation}
 use Rattle.sievesyntax.specs.declared.tree.checks.Check.{Check}
 use Rattle.sievesyntax.specs.declared.tree.vacation.VacArgs.{VacArgs}
-use Rattle.sievesyntax.specs.RunState.{RunState, at_first, max_targets, TwoVacations, TooManyRedirects, Flow, Going, Stopped, Failed, and_then, inbox, mailbox_named, with_mailbox, filed_into, same_target, sent_to, replied_by, performed}
+use Rattle.sievesyntax.specs.RunState.{RunState, at_first, max_targets, TwoVacations, TooManyRedirects, Flow, Going, Stopped, Failed, and_then, inbox, mailbox_named, with_mailbox, cancelled_after, filed_into, same_target, sent_to, replied_by, performed}
 use Rattle.sievesyntax.specs.Meaning.{ended, outcome}
 use Rattle.sievesyntax.specs.Trace.{actions_run, in_turn, KeepsImplicitly, OnDone, NamesWithoutRepeats, FilesIntoInboxAlone}
 use Rattle.sievesyntax.specs.Tree.{Commands}
@@ -67,14 +67,14 @@ mailbox_once filed mailbox once = step (list_any (λ there. pointwise nat_eq the
     step true is = once
     step false is = IsDistinct-push nat_list_eq_equiv filed mailbox once (turned nat_list_eq_equiv mailbox filed ∙ is)
 
-files : (mailbox : List ℕ) (state : RunState) → IsOrderly state → IsOrderly (filed_into mailbox state)
-files mailbox state so = record { mailboxes = mailbox_once state.filed mailbox so.mailboxes; addresses = so.addresses; few = so.few }
+files : (mailbox : List ℕ) (copy : Bool) (state : RunState) → IsOrderly state → IsOrderly (filed_into mailbox copy state)
+files mailbox copy state so = record { mailboxes = mailbox_once state.filed mailbox so.mailboxes; addresses = so.addresses; few = so.few }
 
-sends : (target : Addr) (state : RunState) → IsOrderly state → OnState IsOrderly (sent_to target state)
-sends target state so = step (list_any (λ there. same_target there target) state.sent) (nat_lt (length state.sent) max_targets) refl refl
+sends : (target : Addr) (copy : Bool) (state : RunState) → IsOrderly state → OnState IsOrderly (sent_to target copy state)
+sends target copy state so = step (list_any (λ there. same_target there target) state.sent) (nat_lt (length state.sent) max_targets) refl refl
   where
     step : (there room : Bool) → list_any (λ there. same_target there target) state.sent ≡ there → nat_lt (length state.sent) max_targets ≡ room
-        → OnState IsOrderly (cond there (Going (record state { cancelled = true })) (cond room (Going (record state { sent = state.sent ++ target ∷ []; cancelled = true })) (Failed TooManyRedirects)))
+        → OnState IsOrderly (cond there (Going (record state { cancelled = cancelled_after copy state })) (cond room (Going (record state { sent = state.sent ++ target ∷ []; cancelled = cancelled_after copy state })) (Failed TooManyRedirects)))
     step true room is free = record { mailboxes = so.mailboxes; addresses = so.addresses; few = so.few }
     step false false is free = tt
     step false true is free =
@@ -97,10 +97,10 @@ replies args state so = step state.reply
     step (Some _) = tt
 
 orderly : (action : Action) (state : RunState) → Unit {0} → IsOrderly state → OnState IsOrderly (performed action state)
-orderly Keep state may so = files inbox state so
+orderly Keep state may so = files inbox false state so
 orderly Discard state may so = record { mailboxes = so.mailboxes; addresses = so.addresses; few = so.few }
-orderly (FileInto name) state may so = files (mailbox_named name) state so
-orderly (Redirect target) state may so = sends target state so
+orderly (FileInto filing) state may so = files (mailbox_named filing.mailbox) filing.copy state so
+orderly (Redirect redirect) state may so = sends redirect.target redirect.copy state so
 orderly (Vacation args) state may so = replies args state so
 
 in_the_end : (state : RunState) → IsOrderly state → OnDone NamesWithoutRepeats (ended (Going state))

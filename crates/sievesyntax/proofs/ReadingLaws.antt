@@ -15,7 +15,7 @@ use Rattle.sievesyntax.specs.Chains.{Chain}
 use Rattle.sievesyntax.specs.Lexemes.{Lexeme, keyword, text, mark}
 use Rattle.sievesyntax.specs.Grammar.{Braced, IsPastBranches, Tested, IsStatement, IsCommand, IsChoice, AreBranches, AreCommands, ReadsScript}
 use Rattle.sievesyntax.specs.Steps.{IsStop}
-use Rattle.sievesyntax.specs.Table.{IsText, IsList, IsRedirect, IsRow, IsPlainTest, IsPlainCommand}
+use Rattle.sievesyntax.specs.Table.{IsList, IsRow, IsPlainTest, IsPlainCommand}
 use Rattle.sievesyntax.specs.Tags.{IsAllowed, IsPlain as IsPositional, IsSplit, IsCall}
 use Rattle.sievesyntax.specs.Tests.{Headed, Marked, IsPlain, IsTest, AreTests, AreMoreTests, ReadsTest}
 use Rattle.sievesyntax.specs.Tree.{TestTree, yes, no, looks, not_of, all_of, any_of, Tests, no_tests, test, CommandTree, require, choose, stop, act, Branches, no_branches, branch, Commands, no_commands, command}
@@ -24,7 +24,7 @@ use Rattle.sievesyntax.proofs.ArgumentLemmas.{IsMarked, end_none}
 use Rattle.sievesyntax.proofs.TagLemmas.{tag_value_only, plain_none}
 use Rattle.sievesyntax.proofs.TestLemmas.{is_plain}
 use Rattle.sievesyntax.proofs.TableLemmas.{size_same, header_same, address_same, envelope_same}
-use Rattle.sievesyntax.proofs.VacationLemmas.{names_only, vacation_same}
+use Rattle.sievesyntax.proofs.VacationLemmas.{file_into_same, redirect_same, vacation_same}
 
 -- things one after another, up to where they are done, are one list
 module _ {X L : Type 0} (one : X → List L → List L → Type 0) (done : List L → Type 0)
@@ -90,14 +90,8 @@ call_same allowed Says one args x y a b =
     let same = split_same allowed args a.tag_values b.tag_values a.positional b.positional a.split_tags b.split_tags in
     one b.tag_values b.positional x y (subst (λ p. Says b.tag_values p x) same.1 (subst (λ s. Says s a.positional x) same.0 a.says)) b.says
 
-text_same : (args : List Argument) (x y : List ℕ) → IsText args x → IsText args y → x ≡ y
-text_same = call_same _ _ (λ tag_values positional x y a b. some_is x y (sym a ∙ b))
-
 list_same : (args : List Argument) (x y : List (List ℕ)) → IsList args x → IsList args y → x ≡ y
 list_same = call_same _ _ (λ tag_values positional x y a b. some_is x y (sym a ∙ b))
-
-redirect_same : (args : List Argument) (x y : Addr) → IsRedirect args x → IsRedirect args y → x ≡ y
-redirect_same args x y a b = names_only b.text x y (subst (λ t. Names t x) (text_same args a.text b.text a.is_text b.is_text) a.names) b.names
 
 row_same : {X T : Type 0} (Is : List Argument → X → Type 0) (make : X → T) (args : List Argument) → ((x y : X) → Is args x → Is args y → x ≡ y) → (t u : T) → IsRow Is make args t → IsRow Is make args u → t ≡ u
 row_same Is make args one t u a b = a.tree_is ∙ (ap make (one a.value b.value a.is b.is) ∙ sym b.tree_is)
@@ -118,8 +112,8 @@ plain_command_same W.Require args t u a b = row_same _ _ args (list_same args) t
 plain_command_same W.Stop args t u a b = a.tree_is ∙ sym b.tree_is
 plain_command_same W.Keep args t u a b = a.tree_is ∙ sym b.tree_is
 plain_command_same W.Discard args t u a b = a.tree_is ∙ sym b.tree_is
-plain_command_same W.FileInto args t u a b = row_same _ _ args (text_same args) t u a b
-plain_command_same W.Redirect args t u a b = row_same _ _ args (redirect_same args) t u a b
+plain_command_same W.FileInto args t u a b = row_same _ _ args (call_same _ _ file_into_same args) t u a b
+plain_command_same W.Redirect args t u a b = row_same _ _ args (call_same _ _ redirect_same args) t u a b
 plain_command_same W.Vacation args t u a b = row_same _ _ args (call_same _ _ vacation_same args) t u a b
 plain_command_same _ args t u a b = absurd a
 

@@ -11,7 +11,10 @@ use Rattle.sievesyntax.specs.declared.tree.vacation.ReplyFrom.{ReplyFrom}
 use Rattle.sievesyntax.specs.declared.parser.argument.Argument.{Argument}
 use Rattle.sievesyntax.specs.declared.table.tag_group.TagValue.{TagValue}
 use Rattle.sievesyntax.specs.TagValues.{from_in, addresses_in}
-use Rattle.sievesyntax.specs.Table.{IsText, IsRedirect}
+use Rattle.sievesyntax.specs.declared.tree.action.FileInto.{FileInto}
+use Rattle.sievesyntax.specs.declared.tree.action.Redirect.{Redirect}
+use Rattle.sievesyntax.specs.Positional.{one_text}
+use Rattle.sievesyntax.specs.Table.{SaysFileInto, SaysRedirect}
 use Rattle.sievesyntax.specs.Vacations.{Names, IsReplyFrom, IsGivenFrom, AreNamed, AddsNamed, SaysVacation}
 
 -- a text names one address with one display
@@ -81,28 +84,39 @@ given_from_only (Some text) (Some one) (Some two) are also = ap Some (reply_from
 pub vacation_same : (tag_values : List TagValue) (positional : List Argument) (x y : VacArgs) → SaysVacation tag_values positional x → SaysVacation tag_values positional y → x ≡ y
 vacation_same tag_values positional x y a b =
     let days : x.days ≡ y.days = a.days ∙ sym b.days in
+    let seconds : x.seconds ≡ y.seconds = a.seconds ∙ sym b.seconds in
     let subject : x.subject ≡ y.subject = a.subject ∙ sym b.subject in
     let from : x.from ≡ y.from = given_from_only (from_in tag_values) y.from x.from b.from a.from in
     let addresses : x.addresses ≡ y.addresses = named_only (addresses_in tag_values) y.addresses x.addresses b.addresses a.addresses in
     let mime : x.mime ≡ y.mime = a.mime ∙ sym b.mime in
     let handle : x.handle ≡ y.handle = a.handle ∙ sym b.handle in
     let reason = some_is x.reason y.reason (sym a.reason ∙ b.reason) in
-    λ i. record { days = days i; subject = subject i; from = from i; addresses = addresses i; mime = mime i; handle = handle i; reason = reason i }
+    λ i. record { days = days i; seconds = seconds i; subject = subject i; from = from i; addresses = addresses i; mime = mime i; handle = handle i; reason = reason i }
 
--- the address of a `redirect`
-module _ (args : List Argument) where
-  pub redirect_no_text : ((x : List ℕ) → IsText args x → ⊥) → (y : Addr) → IsRedirect args y → ⊥
-  redirect_no_text none y is = none is.text is.is_text
+-- the arguments of `redirect`
+module _ (tag_values : List TagValue) (positional : List Argument) where
+  pub redirect_same : (x y : Redirect) → SaysRedirect tag_values positional x → SaysRedirect tag_values positional y → x ≡ y
+  redirect_same x y a b =
+      let text : a.text ≡ b.text = some_is a.text b.text (sym a.is_text ∙ b.is_text) in
+      let target : x.target ≡ y.target = names_only b.text x.target y.target (subst (λ t. Names t x.target) text a.names) b.names in
+      let copy : x.copy ≡ y.copy = a.copy ∙ sym b.copy in
+      λ i. record { target = target i; copy = copy i }
 
-  module _ (text : List ℕ) (only : (x : List ℕ) → IsText args x → x ≡ text) where
-    pub redirect_no_address : ((d : List ℕ) (a : Addr) → IsOutbound text d a → ⊥) → (y : Addr) → IsRedirect args y → ⊥
-    redirect_no_address none y is = none is.names.0 y (subst (λ t. IsOutbound t is.names.0 y) (only is.text is.is_text) is.names.1)
+  pub redirect_no_text : one_text positional ≡ None → (y : Redirect) → SaysRedirect tag_values positional y → ⊥
+  redirect_no_text none y is = let e : None ≡ Some is.text = sym none ∙ is.is_text in absurd (cc e)
 
-    pub redirect_found : IsText args text → (d : List ℕ) (a : Addr) → IsOutbound text d a → IsRedirect args a × ((y : Addr) → IsRedirect args y → y ≡ a)
-    redirect_found there d a names = (
-      record { text = text; is_text = there; names = (d, names) },
-      λ y is. names_only text y a (is.names.0, subst (λ t. IsOutbound t is.names.0 y) (only is.text is.is_text) is.names.1) (d, names),
-    )
+  pub redirect_no_address : (text : List ℕ) → one_text positional ≡ Some text → ((d : List ℕ) (a : Addr) → IsOutbound text d a → ⊥) → (y : Redirect) → SaysRedirect tag_values positional y → ⊥
+  redirect_no_address text is_text none y is = none is.names.0 y.target (subst (λ t. IsOutbound t is.names.0 y.target) (some_is is.text text (sym is.is_text ∙ is_text)) is.names.1)
+
+  -- the arguments of `fileinto`
+  pub file_into_same : (x y : FileInto) → SaysFileInto tag_values positional x → SaysFileInto tag_values positional y → x ≡ y
+  file_into_same x y a b =
+      let mailbox : x.mailbox ≡ y.mailbox = some_is x.mailbox y.mailbox (sym a.mailbox ∙ b.mailbox) in
+      let copy : x.copy ≡ y.copy = a.copy ∙ sym b.copy in
+      λ i. record { mailbox = mailbox i; copy = copy i }
+
+  pub file_into_no_text : one_text positional ≡ None → (y : FileInto) → SaysFileInto tag_values positional y → ⊥
+  file_into_no_text none y is = let e : None ≡ Some y.mailbox = sym none ∙ is.mailbox in absurd (cc e)
 
 -- the value of a `:from` that is given
 pub given_some : (o : Option (List ℕ)) (text : List ℕ) → Some text ≡ o → (r : ReplyFrom) → IsReplyFrom text r → IsGivenFrom o (Some r)

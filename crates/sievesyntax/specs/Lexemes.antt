@@ -54,12 +54,14 @@ tag_of name =
     (cond (same_name name (codes "localpart")) T.LocalPart
     (cond (same_name name (codes "domain")) T.Domain
     (cond (same_name name (codes "days")) T.Days
+    (cond (same_name name (codes "seconds")) T.Seconds
     (cond (same_name name (codes "subject")) T.Subject
     (cond (same_name name (codes "from")) T.From
     (cond (same_name name (codes "addresses")) T.Addresses
     (cond (same_name name (codes "mime")) T.Mime
     (cond (same_name name (codes "handle")) T.Handle
-    T.Other))))))))))))))
+    (cond (same_name name (codes "copy")) T.Copy
+    T.Other))))))))))))))))
 
 -- a word of the grammar (RFC 5228, 8.2)
 pub data Lexeme : Type 0 where

@@ -51,9 +51,13 @@ mailbox_named name = cond (pointwise nat_eq (lowered name) (codes "inbox")) inbo
 abbrev pub with_mailbox : List (List ℕ) → List ℕ → List (List ℕ)
 with_mailbox filed mailbox = cond (list_any (λ there. pointwise nat_eq there mailbox) filed) filed (filed ++ mailbox ∷ [])
 
--- filed into a mailbox, which cancels the implicit keep
-abbrev pub filed_into : List ℕ → RunState → RunState
-filed_into mailbox so_far = record so_far { filed = with_mailbox so_far.filed mailbox; cancelled = true }
+-- whether the implicit keep is cancelled after an action that cancels it, unless it has `:copy` (RFC 3894, 3)
+abbrev pub cancelled_after : (copy : Bool) → RunState → Bool
+cancelled_after copy so_far = cond copy so_far.cancelled true
+
+-- filed into a mailbox
+abbrev pub filed_into : List ℕ → (copy : Bool) → RunState → RunState
+filed_into mailbox copy so_far = record so_far { filed = with_mailbox so_far.filed mailbox; cancelled = cancelled_after copy so_far }
 
 -- the same local part and the same domain, by octets
 abbrev pub same_target : Addr → Addr → Bool
@@ -63,11 +67,11 @@ same_target a b = pointwise nat_eq a.local b.local && pointwise nat_eq a.domain 
 abbrev pub max_targets : ℕ
 max_targets = 16
 
--- sent to an address, which cancels the implicit keep: to the same one once, and to no more than may be
-abbrev pub sent_to : Addr → RunState → Flow
-sent_to target so_far =
-    cond (list_any (λ there. same_target there target) so_far.sent) (Going (record so_far { cancelled = true }))
-    (cond (nat_lt (length so_far.sent) max_targets) (Going (record so_far { sent = so_far.sent ++ target ∷ []; cancelled = true }))
+-- sent to an address: to the same one once, and to no more than may be
+abbrev pub sent_to : Addr → (copy : Bool) → RunState → Flow
+sent_to target copy so_far =
+    cond (list_any (λ there. same_target there target) so_far.sent) (Going (record so_far { cancelled = cancelled_after copy so_far }))
+    (cond (nat_lt (length so_far.sent) max_targets) (Going (record so_far { sent = so_far.sent ++ target ∷ []; cancelled = cancelled_after copy so_far }))
     (Failed TooManyRedirects))
 
 -- an answer to the sender, the only one; the implicit keep stays (RFC 5230, 4.7)
@@ -77,10 +81,10 @@ replied_by args so_far = elim so_far.reply [
   | Some _ ↦ Failed TwoVacations
 ]
 
--- what an action does (RFC 5228, 4; RFC 5230)
+-- what an action does (RFC 5228, 4; RFC 3894; RFC 5230)
 abbrev pub performed : Action → RunState → Flow
-performed Keep so_far = Going (filed_into inbox so_far)
+performed Keep so_far = Going (filed_into inbox false so_far)
 performed Discard so_far = Going (record so_far { cancelled = true })
-performed (FileInto name) so_far = Going (filed_into (mailbox_named name) so_far)
-performed (Redirect target) so_far = sent_to target so_far
+performed (FileInto filing) so_far = Going (filed_into (mailbox_named filing.mailbox) filing.copy so_far)
+performed (Redirect redirect) so_far = sent_to redirect.target redirect.copy so_far
 performed (Vacation args) so_far = replied_by args so_far

@@ -103,6 +103,8 @@ granted_too granted names = record {
   fileinto = granted.fileinto || (granted_by names).fileinto;
   envelope = granted.envelope || (granted_by names).envelope;
   vacation = granted.vacation || (granted_by names).vacation;
+  copy = granted.copy || (granted_by names).copy;
+  seconds = granted.seconds || (granted_by names).seconds;
 }
 
 -- requires at the front, up to another command or the end

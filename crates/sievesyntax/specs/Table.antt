@@ -3,7 +3,6 @@ use Rattle.std.specs.Prelude.{◌≡◌, ℕ, Bool, true, ◌||◌, List, [], �
 use Rattle.std.specs.List.{list_all, list_any}
 use Rattle.sievesyntax.specs.declared.table.keyword.Keyword.{Keyword}
 use Rattle.sievesyntax.specs.declared.table.keyword.Keyword.TheVariants as W
-use Rattle.addrparts.specs.declared.address.Addr.{Addr}
 use Rattle.sievesyntax.specs.declared.tree.checks.Size.{Size}
 use Rattle.sievesyntax.specs.declared.tree.checks.Header.{Header}
 use Rattle.sievesyntax.specs.declared.tree.checks.Address.{Address}
@@ -11,13 +10,15 @@ use Rattle.sievesyntax.specs.declared.tree.checks.EnvelopeTest.{EnvelopeTest}
 use Rattle.sievesyntax.specs.declared.tree.checks.EnvelopeParts.{EnvelopeParts}
 use Rattle.sievesyntax.specs.declared.tree.checks.Check.TheVariants as C
 use Rattle.sievesyntax.specs.declared.tree.action.Action.TheVariants as D
+use Rattle.sievesyntax.specs.declared.tree.action.FileInto.{FileInto}
+use Rattle.sievesyntax.specs.declared.tree.action.Redirect.{Redirect}
 use Rattle.sievesyntax.specs.declared.parser.argument.Argument.{Argument}
 use Rattle.sievesyntax.specs.declared.table.tag_group.TagValue.{TagValue}
 use Rattle.sievesyntax.specs.declared.table.tag_group.TagGroup.TheVariants as P
 use Rattle.sievesyntax.specs.Lexemes.{same_name}
 use Rattle.sievesyntax.specs.Tags.{IsCall}
 use Rattle.sievesyntax.specs.Positional.{one_number, one_text, one_list, two_lists}
-use Rattle.sievesyntax.specs.TagValues.{bound_in, comparator_in, matching_in, part_in}
+use Rattle.sievesyntax.specs.TagValues.{bound_in, comparator_in, matching_in, part_in, copy_in}
 use Rattle.sievesyntax.specs.Vacations.{Names, IsVacation}
 use Rattle.sievesyntax.specs.Tree.{TestTree, yes, no, looks, CommandTree, require, stop, act}
 
@@ -76,15 +77,23 @@ IsEnvelope = IsCall (P.Comparator ∷ (P.Part ∷ (P.Matching ∷ []))) SaysEnve
 abbrev pub IsList : List Argument → List (List ℕ) → Type 0
 IsList = IsCall [] (λ tag_values positional texts. one_list positional ≡ Some texts)
 
--- fileinto <mailbox: string> (RFC 5228, 4.1)
-abbrev pub IsText : List Argument → List ℕ → Type 0
-IsText = IsCall [] (λ tag_values positional text. one_text positional ≡ Some text)
+-- fileinto [":copy"] <mailbox: string> (RFC 5228, 4.1; RFC 3894, 3.1)
+pub record SaysFileInto (tag_values : List TagValue) (positional : List Argument) (filing : FileInto) : Type 0 where
+  pub mailbox : one_text positional ≡ Some filing.mailbox
+  pub copy : filing.copy ≡ copy_in tag_values
 
--- redirect <address: string> (RFC 5228, 4.2)
-pub record IsRedirect (args : List Argument) (target : Addr) : Type 0 where
+abbrev pub IsFileInto : List Argument → FileInto → Type 0
+IsFileInto = IsCall (P.Copy ∷ []) SaysFileInto
+
+-- redirect [":copy"] <address: string> (RFC 5228, 4.2; RFC 3894, 3.2)
+pub record SaysRedirect (tag_values : List TagValue) (positional : List Argument) (redirect : Redirect) : Type 0 where
   pub text : List ℕ
-  pub is_text : IsText args text
-  pub names : Names text target
+  pub is_text : one_text positional ≡ Some text
+  pub names : Names text redirect.target
+  pub copy : redirect.copy ≡ copy_in tag_values
+
+abbrev pub IsRedirect : List Argument → Redirect → Type 0
+IsRedirect = IsCall (P.Copy ∷ []) SaysRedirect
 
 -- ---- the rows
 
@@ -116,7 +125,7 @@ IsPlainCommand W.Require = IsRow IsList require
 IsPlainCommand W.Stop = IsBare stop
 IsPlainCommand W.Keep = IsBare (act D.Keep)
 IsPlainCommand W.Discard = IsBare (act D.Discard)
-IsPlainCommand W.FileInto = IsRow IsText (λ mailbox. act (D.FileInto mailbox))
-IsPlainCommand W.Redirect = IsRow IsRedirect (λ target. act (D.Redirect target))
+IsPlainCommand W.FileInto = IsRow IsFileInto (λ filing. act (D.FileInto filing))
+IsPlainCommand W.Redirect = IsRow IsRedirect (λ redirect. act (D.Redirect redirect))
 IsPlainCommand W.Vacation = IsRow IsVacation (λ vacation. act (D.Vacation vacation))
 IsPlainCommand _ = λ args command. ⊥

@@ -40,6 +40,12 @@ days_in [] = None
 days_in (S.Days days ∷ _) = Some days
 days_in (_ ∷ more) = days_in more
 
+-- its seconds, if they are given
+abbrev pub seconds_in : List TagValue → Option ℕ
+seconds_in [] = None
+seconds_in (S.Seconds seconds ∷ _) = Some seconds
+seconds_in (_ ∷ more) = seconds_in more
+
 -- its subject, if one is given
 abbrev pub subject_in : List TagValue → Option (List ℕ)
 subject_in [] = None
@@ -69,3 +75,9 @@ abbrev pub handle_in : List TagValue → Option (List ℕ)
 handle_in [] = None
 handle_in (S.Handle handle ∷ _) = Some handle
 handle_in (_ ∷ more) = handle_in more
+
+-- whether the implicit keep isn't cancelled (RFC 3894)
+abbrev pub copy_in : List TagValue → Bool
+copy_in [] = false
+copy_in (S.Copy ∷ _) = true
+copy_in (_ ∷ more) = copy_in more

@@ -54,11 +54,13 @@ IsTagValue (S.Comparator collation) from to = from ≡ A.Tag T.Comparator ∷ (A
 IsTagValue (S.Matching matching) from to = from ≡ A.Tag (matching_tag matching) ∷ to
 IsTagValue (S.Part part) from to = from ≡ A.Tag (part_tag part) ∷ to
 IsTagValue (S.Days days) from to = from ≡ A.Tag T.Days ∷ (A.Number days ∷ to)
+IsTagValue (S.Seconds seconds) from to = from ≡ A.Tag T.Seconds ∷ (A.Number seconds ∷ to)
 IsTagValue (S.Subject subject) from to = from ≡ A.Tag T.Subject ∷ (A.Text subject ∷ to)
 IsTagValue (S.From text) from to = from ≡ A.Tag T.From ∷ (A.Text text ∷ to)
 IsTagValue (S.Addresses texts) from to = (value : Argument) × ((from ≡ A.Tag T.Addresses ∷ (value ∷ to)) × (strings_of value ≡ Some texts))
 IsTagValue S.Mime from to = from ≡ A.Tag T.Mime ∷ to
 IsTagValue (S.Handle handle) from to = from ≡ A.Tag T.Handle ∷ (A.Text handle ∷ to)
+IsTagValue S.Copy from to = from ≡ A.Tag T.Copy ∷ to
 
 -- the group of a tag: tags that exclude each other are one group
 abbrev pub group_of : TagValue → TagGroup
@@ -66,12 +68,14 @@ group_of (S.Bound _) = P.Bound
 group_of (S.Comparator _) = P.Comparator
 group_of (S.Matching _) = P.Matching
 group_of (S.Part _) = P.Part
-group_of (S.Days _) = P.Days
+group_of (S.Days _) = P.Period
+group_of (S.Seconds _) = P.Period
 group_of (S.Subject _) = P.Subject
 group_of (S.From _) = P.From
 group_of (S.Addresses _) = P.Addresses
 group_of S.Mime = P.Mime
 group_of (S.Handle _) = P.Handle
+group_of S.Copy = P.Copy
 
 -- no group stands twice
 abbrev pub AreApart : List TagGroup → Type 0

@@ -10,7 +10,7 @@ use Rattle.sievesyntax.specs.declared.table.tag_group.TagGroup.{TagGroup}
 use Rattle.sievesyntax.specs.declared.table.tag_group.TagGroup.TheVariants as P
 use Rattle.sievesyntax.specs.Tags.{IsCall}
 use Rattle.sievesyntax.specs.Positional.{one_text}
-use Rattle.sievesyntax.specs.TagValues.{days_in, subject_in, from_in, addresses_in, mime_in, handle_in}
+use Rattle.sievesyntax.specs.TagValues.{days_in, seconds_in, subject_in, from_in, addresses_in, mime_in, handle_in}
 
 -- the text names this address
 abbrev pub Names : List ℕ → Addr → Type 0
@@ -44,6 +44,7 @@ AddsNamed text old new =
 -- what the tags of a `vacation` and its positional arguments say: the reason is one string without brackets
 pub record SaysVacation (tag_values : List TagValue) (positional : List Argument) (args : VacArgs) : Type 0 where
   pub days : args.days ≡ days_in tag_values
+  pub seconds : args.seconds ≡ seconds_in tag_values
   pub subject : args.subject ≡ subject_in tag_values
   pub from : IsGivenFrom (from_in tag_values) args.from
   pub addresses : AreNamed (addresses_in tag_values) args.addresses
@@ -53,9 +54,9 @@ pub record SaysVacation (tag_values : List TagValue) (positional : List Argument
 
 -- the tags of a `vacation`
 abbrev pub vacation_groups : List TagGroup
-vacation_groups = P.Days ∷ (P.Subject ∷ (P.From ∷ (P.Addresses ∷ (P.Mime ∷ (P.Handle ∷ [])))))
+vacation_groups = P.Period ∷ (P.Subject ∷ (P.From ∷ (P.Addresses ∷ (P.Mime ∷ (P.Handle ∷ [])))))
 
--- vacation [":days" number] [":subject" string] [":from" string] [":addresses" string-list] [":mime"]
--- [":handle" string], reason: string (RFC 5230, 4)
+-- vacation [":days" number / ":seconds" number] [":subject" string] [":from" string] [":addresses" string-list] [":mime"]
+-- [":handle" string], reason: string (RFC 5230, 4; RFC 6131, 2)
 abbrev pub IsVacation : List Argument → VacArgs → Type 0
 IsVacation = IsCall vacation_groups SaysVacation

@@ -1,5 +1,5 @@
 -- What a tree may be besides what the grammar asks.
-use Rattle.std.specs.Prelude.{◌≡◌, ◌≢◌, ◌≤◌, ◌||◌, ℕ, Bool, true, List, [], ◌++◌, codes, length, All, nat_eq}
+use Rattle.std.specs.Prelude.{◌≡◌, ◌≢◌, ◌≤◌, ◌||◌, ℕ, Bool, true, is_some, List, [], ◌++◌, codes, length, All, nat_eq}
 use Rattle.std.specs.List.{list_any}
 use Rattle.std.specs.Cmp.Lexicographic.{pointwise}
 use Rattle.sievesyntax.specs.declared.tree.action.Action.{Action}
@@ -27,7 +27,9 @@ is_capability name =
     || (is_named (codes "envelope") name
     || (is_named (codes "vacation") name
     || (is_named (codes "comparator-i;octet") name
-    || is_named (codes "comparator-i;ascii-casemap") name)))
+    || (is_named (codes "comparator-i;ascii-casemap") name
+    || (is_named (codes "copy") name
+    || is_named (codes "vacation-seconds") name)))))
 
 abbrev pub IsCapability : List ℕ → Type 0
 IsCapability name = is_capability name ≡ true
@@ -38,15 +40,25 @@ granted_by names = record {
   fileinto = list_any (is_named (codes "fileinto")) names;
   envelope = list_any (is_named (codes "envelope")) names;
   vacation = list_any (is_named (codes "vacation")) names;
+  copy = list_any (is_named (codes "copy")) names;
+  seconds = list_any (is_named (codes "vacation-seconds")) names;
 }
+
+-- `vacation` may be used: `vacation-seconds` stands for it too (RFC 6131, 2)
+abbrev pub may_answer : Capabilities → Bool
+may_answer granted = granted.vacation || granted.seconds
+
+-- what is used is granted
+abbrev pub Permits : (granted used : Bool) → Type 0
+Permits granted used = used ≡ true → granted ≡ true
 
 -- an action that may stand where this is granted
 abbrev pub MayAct : Capabilities → Action → Type 0
 MayAct granted Keep = Unit {0}
 MayAct granted Discard = Unit {0}
-MayAct granted (FileInto mailbox) = (granted.fileinto ≡ true) × IsMailbox mailbox
-MayAct granted (Redirect target) = Unit {0}
-MayAct granted (Vacation args) = (granted.vacation ≡ true) × IsReason args
+MayAct granted (FileInto filing) = (granted.fileinto ≡ true) × Permits granted.copy filing.copy × IsMailbox filing.mailbox
+MayAct granted (Redirect redirect) = Permits granted.copy redirect.copy
+MayAct granted (Vacation args) = (may_answer granted ≡ true) × Permits granted.seconds (is_some args.seconds) × IsReason args
 
 -- a test of the message that may stand where this is granted
 abbrev pub MayCheck : Capabilities → Check → Type 0

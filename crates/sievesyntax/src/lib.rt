@@ -10,7 +10,7 @@ mod tree;
 
 pub use script::{Script, check};
 pub use sievelex::{FaultKind, ScriptError, ScriptFault};
-pub use tree::action::Action;
+pub use tree::action::{Action, FileInto, Redirect};
 pub use tree::checks::{
     Address, AddressPart, Bound, Check, Collation, EnvelopeParts, EnvelopeTest, Header, Matching,
     Size,

@@ -17,7 +17,7 @@ abbrev aliens : Addr
 aliens = record { local = codes "a"; domain = codes "b" }
 
 abbrev plain : Option ℕ → VacArgs
-plain days = record { days = days; subject = None; from = None; addresses = aliens ∷ []; mime = false; handle = None; reason = codes "Away." }
+plain days = record { days = days; seconds = None; subject = None; from = None; addresses = aliens ∷ []; mime = false; handle = None; reason = codes "Away." }
 
 abbrev mail_from : List ℕ → List FieldText → MailSpec
 mail_from sender fields = record { fields = fields; from = sender; to = codes "Al@Example.org"; size = 0; octets = [] }

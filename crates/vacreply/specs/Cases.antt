@@ -84,11 +84,19 @@ recipients_in field = cond (is_one_of recipient_fields field.name) (map all_of (
 abbrev pub recipients_of : MailSpec → List (List ℕ)
 recipients_of mail = flat_map recipients_in mail.fields
 
--- for that many seconds a sender gets no second response: 1 to 365 days, without `:days` 7 (RFC 5230, 4.1)
-abbrev pub period_of : VacArgs → ℕ
-period_of args = max 1 (min 365 (unwrap_or args.days 7)) * 86400
+-- 1 to 365 days, without `:days` 7 (RFC 5230, 4.1)
+abbrev pub days_period : Option ℕ → ℕ
+days_period days = max 1 (min 365 (unwrap_or days 7)) * 86400
 
--- a moment is kept, and this one comes before its period is over
+-- for that many seconds a sender gets no second response: `:seconds` where they are given, 365 days at most (RFC 6131, 2), else the
+-- days
+abbrev pub period_of : VacArgs → ℕ
+period_of args = elim args.seconds [
+  | None ↦ days_period args.days
+  | Some seconds ↦ min 31536000 seconds
+]
+
+-- a moment is kept, and this one comes before its period is over; a period of 0 is over at once
 abbrev pub is_early : VacArgs → Option ℕ → ℕ → Bool
 is_early args None moment = false
-is_early args (Some kept) moment = nat_lt moment (kept + period_of args)
+is_early args (Some kept) moment = nat_lt 0 (period_of args) && nat_lt moment (kept + period_of args)

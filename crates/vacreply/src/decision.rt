@@ -1,5 +1,5 @@
 //! Whether a response is sent.
-ghost use Rattle.std.specs.Prelude.{◌≡◌, ◌*◌, max, min, unwrap_or};
+ghost use Rattle.std.specs.Prelude.{◌≡◌};
 ghost use Rattle.std.specs.List.{list_any};
 ghost use Rattle.vacreply.specs.Cases as cases;
 ghost use Rattle.vacreply.specs.Reasons.{decision_of};
@@ -19,6 +19,9 @@ const DEFAULT_DAYS: u64 = 7;
 
 /// How many days a period has at most, as RFC 5230, 4.1, lets a site say; at least it has one.
 const MAX_DAYS: u64 = 365;
+
+/// How many seconds a period has at most, as RFC 6131, 2, lets a site say.
+const MAX_SECONDS: u64 = MAX_DAYS * DAY_LEN;
 
 /// Whether a response to this mail is sent, of the user with this address, at this moment; quiet for the first reason that
 /// stands against it.
@@ -84,12 +87,23 @@ fn is_early(args: &VacArgs, last: Option<u64>, moment: u64) -> bool
     let Some(kept) = last else {
         return false;
     };
-    moment < kept || moment - kept < period(args.days)
+    let period = period(args);
+    period > 0 && (moment < kept || moment - kept < period)
 }
 
 /// How many seconds a period has.
-fn period(days: Option<u64>) -> u64
-    ensures { result ≡ max 1 (min 365 (unwrap_or days 7)) * 86400 }
+fn period(args: &VacArgs) -> u64
+    ensures { result ≡ cases.period_of args.now }
+{
+    match args.seconds {
+        Some(seconds) => seconds.min(MAX_SECONDS),
+        None => days_period(args.days),
+    }
+}
+
+/// How many seconds so many days have.
+fn days_period(days: Option<u64>) -> u64
+    ensures { result ≡ cases.days_period days }
 {
     days.unwrap_or(DEFAULT_DAYS).min(MAX_DAYS).max(1) * DAY_LEN
 }

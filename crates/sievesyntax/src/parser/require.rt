@@ -51,6 +51,8 @@ fn read_requires(
         fileinto: false,
         envelope: false,
         vacation: false,
+        copy: false,
+        seconds: false,
     };
     'found: while take_require(reader) {
         let names = read_names(alloc, reader)?;

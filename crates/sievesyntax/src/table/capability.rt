@@ -19,6 +19,19 @@ pub struct Capabilities {
     pub envelope: bool,
     /// `vacation` (RFC 5230).
     pub vacation: bool,
+    /// `copy` (RFC 3894).
+    pub copy: bool,
+    /// `vacation-seconds` (RFC 6131).
+    pub seconds: bool,
+}
+
+impl Capabilities {
+    /// Whether `vacation` may be used: `vacation-seconds` stands for it too (RFC 6131, 2).
+    pub(crate) fn may_answer(&self) -> bool
+        ensures { result ≡ spec.may_answer self.now }
+    {
+        self.vacation || self.seconds
+    }
 }
 
 /// What is granted with these capabilities besides.
@@ -34,6 +47,8 @@ pub(crate) fn grant(granted: Capabilities, names: &[Octets]) -> Result<Capabilit
         fileinto: granted.fileinto || is_there(names, b"fileinto"),
         envelope: granted.envelope || is_there(names, b"envelope"),
         vacation: granted.vacation || is_there(names, b"vacation"),
+        copy: granted.copy || is_there(names, b"copy"),
+        seconds: granted.seconds || is_there(names, b"vacation-seconds"),
     })
 }
 
@@ -58,4 +73,6 @@ fn is_capability(name: &[u8]) -> bool
         || name == b"vacation".as_slice()
         || name == b"comparator-i;octet".as_slice()
         || name == b"comparator-i;ascii-casemap".as_slice()
+        || name == b"copy".as_slice()
+        || name == b"vacation-seconds".as_slice()
 }

@@ -1,25 +1,25 @@
 //! The table of commands without a block: what may stand after each name (RFC 5228, 3 and 4; RFC 5230).
-ghost use Rattle.std.specs.Prelude.{◌≡◌, ◌↔◌, IsTrue, IfOk};
+ghost use Rattle.std.specs.Prelude.{◌≡◌, ◌↔◌, IsTrue, IfOk, OnOk};
 ghost use Rattle.sievesyntax.specs.Parsing.{IfFault, FindsFit};
-ghost use Rattle.sievesyntax.specs.Reasons.{IsReason};
 ghost use Rattle.sievesyntax.specs.Tree.{CommandTree};
 ghost use Rattle.sievesyntax.specs.View.{command_view};
-ghost use Rattle.sievesyntax.specs.Table.{IsPlainCommand, IsText};
+ghost use Rattle.sievesyntax.specs.Table.{IsPlainCommand, IsFileInto, IsRedirect};
 ghost use Rattle.sievesyntax.specs.Vacations.{IsVacation};
-ghost use Rattle.sievesyntax.specs.Valid.{IsMailbox, MayStand};
+ghost use Rattle.sievesyntax.specs.Valid.{IsMailbox, Permits, MayAct, MayStand};
+ghost use Rattle.sievesyntax.specs.declared.tree.action.Action.TheVariants as D;
 
 use crate::error::ReadError;
 use crate::parser::argument::Argument;
 use crate::table::capability::Capabilities;
+use crate::table::file_into::read_file_into;
 use crate::table::keyword::Keyword;
-use crate::table::positional::{no_arguments, read_text};
+use crate::table::positional::no_arguments;
 use crate::table::reason::check_reason;
 use crate::table::redirect::read_redirect;
 use crate::table::vacation_arguments::read_vacation;
-use crate::tree::action::Action;
+use crate::tree::action::{Action, FileInto, Redirect};
 use crate::tree::command::Command;
 use crate::tree::vacation::Vacation;
-use octets::Octets;
 use sievelex::FaultKind;
 use std::alloc::Global;
 
@@ -53,22 +53,21 @@ pub(crate) fn plain_command(
             no_arguments(args)?;
             Ok(Command::Act(Action::Discard))
         }
-        // Syntax: fileinto <mailbox: string>, where `fileinto` is required (RFC 5228, 4.1)
+        // Syntax: fileinto [":copy"] <mailbox: string>, where `fileinto` is required, and `copy` with it (RFC 5228, 4.1; RFC 3894)
         Keyword::FileInto => {
-            if !granted.fileinto {
-                return Err(ReadError::Fault(FaultKind::NotRequired));
-            }
-            Ok(Command::Act(Action::FileInto(read_mailbox(alloc, args)?)))
+            let filing = permitted_filing(alloc, args, granted)?;
+            Ok(Command::Act(Action::FileInto(filing)))
         }
-        // Syntax: redirect <address: string> (RFC 5228, 4.2)
-        Keyword::Redirect => Ok(Command::Act(Action::Redirect(read_redirect(alloc, args)?))),
-        // Syntax: vacation [":days" number] [":subject" string] [":from" string] [":addresses" string-list] [":mime"]
-        // [":handle" string] <reason: string>, where `vacation` is required (RFC 5230, 4)
+        // Syntax: redirect [":copy"] <address: string>, where `copy` is required with it (RFC 5228, 4.2; RFC 3894)
+        Keyword::Redirect => {
+            let redirect = permitted_redirect(alloc, args, granted)?;
+            Ok(Command::Act(Action::Redirect(redirect)))
+        }
+        // Syntax: vacation [":days" number / ":seconds" number] [":subject" string] [":from" string] [":addresses" string-list] [":mime"]
+        // [":handle" string] <reason: string>, where `vacation` is required, and `vacation-seconds` with its tag (RFC 5230, 4; RFC 6131)
         Keyword::Vacation => {
-            if !granted.vacation {
-                return Err(ReadError::Fault(FaultKind::NotRequired));
-            }
-            Ok(Command::Act(Action::Vacation(read_reply(alloc, args)?)))
+            let vacation = permitted_vacation(alloc, args, granted)?;
+            Ok(Command::Act(Action::Vacation(vacation)))
         }
         Keyword::Require => Err(ReadError::Fault(FaultKind::LateRequire)),
         Keyword::Elsif => Err(ReadError::Fault(FaultKind::StrayElse)),
@@ -77,24 +76,60 @@ pub(crate) fn plain_command(
     }
 }
 
-/// The mailbox of `fileinto`.
-fn read_mailbox(alloc: Global, args: &[Argument]) -> Result<Octets, ReadError>
-    ensures { FindsFit (IsText args.now) IsMailbox result }
+/// The arguments of `fileinto`, where it may stand.
+fn permitted_filing(
+    alloc: Global,
+    args: &[Argument],
+    granted: Capabilities,
+) -> Result<FileInto, ReadError>
+    ensures { FindsFit (IsFileInto args.now) (λ filing. MayAct granted (D.FileInto filing)) result }
 {
-    let mailbox = read_text(alloc, args)?;
-    if !is_mailbox(mailbox.as_slice()) {
+    require(granted.fileinto, true)?;
+    let filing = read_file_into(alloc, args)?;
+    require(granted.copy, filing.copy)?;
+    if !is_mailbox(filing.mailbox.as_slice()) {
         return Err(ReadError::Fault(FaultKind::BadMailbox));
     }
-    Ok(mailbox)
+    Ok(filing)
 }
 
-/// The arguments of `vacation`, with a reason that may stand.
-fn read_reply(alloc: Global, args: &[Argument]) -> Result<Vacation, ReadError>
-    ensures { FindsFit (IsVacation args.now) IsReason result }
+/// The arguments of `redirect`, where it may stand.
+fn permitted_redirect(
+    alloc: Global,
+    args: &[Argument],
+    granted: Capabilities,
+) -> Result<Redirect, ReadError>
+    ensures { FindsFit (IsRedirect args.now) (λ redirect. MayAct granted (D.Redirect redirect)) result }
 {
+    let redirect = read_redirect(alloc, args)?;
+    require(granted.copy, redirect.copy)?;
+    Ok(redirect)
+}
+
+/// The arguments of `vacation`, where it may stand.
+fn permitted_vacation(
+    alloc: Global,
+    args: &[Argument],
+    granted: Capabilities,
+) -> Result<Vacation, ReadError>
+    ensures { FindsFit (IsVacation args.now) (λ vacation. MayAct granted (D.Vacation vacation)) result }
+{
+    require(granted.may_answer(), true)?;
     let vacation = read_vacation(alloc, args)?;
+    require(granted.seconds, vacation.seconds.is_some())?;
     check_reason(&vacation)?;
     Ok(Vacation::new(alloc, vacation)?)
+}
+
+/// A fault where something is used that isn't granted.
+fn require(is_granted: bool, is_used: bool) -> Result<(), ReadError>
+    ensures granted { OnOk result (Permits is_granted is_used) }
+    ensures fault { IfFault result (Permits is_granted is_used → ⊥) }
+{
+    if is_used && !is_granted {
+        return Err(ReadError::Fault(FaultKind::NotRequired));
+    }
+    Ok(())
 }
 
 /// A mailbox's name has 1 to 255 octets, none below 32 and none 127.

@@ -1,6 +1,7 @@
 //! The table of the language: a file for each of its tables, or for what one element of it takes.
 pub mod capability;
 pub mod command;
+pub mod file_into;
 pub mod keyword;
 pub mod positional;
 pub mod reason;

@@ -2,7 +2,7 @@
 ghost use Rattle.std.specs.Prelude.{◌≡◌, ℕ, List, [], IfOk, OnOk, Some, None};
 ghost use Rattle.sievesyntax.specs.Parsing.{IfFault, Finds};
 ghost use Rattle.sievesyntax.specs.Positional.{one_number, one_text, one_list, two_lists};
-ghost use Rattle.sievesyntax.specs.Table.{IsList, IsText};
+ghost use Rattle.sievesyntax.specs.Table.{IsList};
 
 use crate::error::ReadError;
 use crate::parser::argument::Argument;
@@ -44,14 +44,6 @@ pub(crate) fn text(alloc: Global, args: &[Argument]) -> Result<Octets, ReadError
         [Argument::Text(string)] => Ok(string.try_clone(alloc)?),
         _ => Err(ReadError::Fault(count_fault(args, 1))),
     }
-}
-
-/// One string without brackets, and no tags.
-pub(crate) fn read_text(alloc: Global, args: &[Argument]) -> Result<Octets, ReadError>
-    ensures { Finds (IsText args.now) result }
-{
-    let (_tag_values, positional) = split_tags(alloc, args, &[])?;
-    text(alloc, positional)
 }
 
 /// One list of strings.

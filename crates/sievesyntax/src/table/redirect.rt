@@ -1,25 +1,42 @@
-//! The addresses that a script names (RFC 5228, 2.4.2.3), and the argument of `redirect`.
+//! The addresses that a script names (RFC 5228, 2.4.2.3), and the arguments of `redirect`.
 ghost use Rattle.std.specs.Prelude.{ℕ, List, IfOk};
 ghost use Rattle.addrparts.specs.declared.address.Addr.{Addr};
 ghost use Rattle.addrparts.specs.Outbound.{IsOutbound};
 ghost use Rattle.sievesyntax.specs.Parsing.{IfFault, Finds};
-ghost use Rattle.sievesyntax.specs.Table.{IsRedirect};
+ghost use Rattle.sievesyntax.specs.Table.{IsRedirect, SaysRedirect};
 
 use crate::error::ReadError;
 use crate::parser::argument::Argument;
-use crate::table::positional::read_text;
+use crate::table::positional::text;
+use crate::table::tag_group::{TagGroup, TagValue, split_tags};
+use crate::table::tag_values::given_copy;
+use crate::tree::action::Redirect;
 use addrparts::{Addr, sieve_address};
 use octets::Octets;
 use sievelex::FaultKind;
 use std::alloc::Global;
 
-/// The address of `redirect`.
-pub(crate) fn read_redirect(alloc: Global, args: &[Argument]) -> Result<Addr, ReadError>
+/// The arguments of `redirect`.
+pub(crate) fn read_redirect(alloc: Global, args: &[Argument]) -> Result<Redirect, ReadError>
     ensures { Finds (IsRedirect args.now) result }
 {
-    let text = read_text(alloc, args)?;
-    let (_display, address) = outbound(alloc, text.as_slice())?;
-    Ok(address)
+    let (tag_values, positional) = split_tags(alloc, args, &[TagGroup::Copy])?;
+    redirect_from(alloc, tag_values.as_slice(), positional)
+}
+
+fn redirect_from(
+    alloc: Global,
+    tag_values: &[TagValue],
+    positional: &[Argument],
+) -> Result<Redirect, ReadError>
+    ensures { Finds (SaysRedirect tag_values.now positional.now) result }
+{
+    let text = text(alloc, positional)?;
+    let (_display, target) = outbound(alloc, text.as_slice())?;
+    Ok(Redirect {
+        target,
+        copy: given_copy(tag_values),
+    })
 }
 
 /// The display and the address that a text names.

@@ -17,11 +17,13 @@ pub enum Tag {
     LocalPart,
     Domain,
     Days,
+    Seconds,
     Subject,
     From,
     Addresses,
     Mime,
     Handle,
+    Copy,
     /// A tag of no command and no test.
     Other,
 }
@@ -50,6 +52,8 @@ pub(crate) fn tag_named(name: &[u8]) -> Tag
         Tag::Domain
     } else if is_name(name, b"days") {
         Tag::Days
+    } else if is_name(name, b"seconds") {
+        Tag::Seconds
     } else if is_name(name, b"subject") {
         Tag::Subject
     } else if is_name(name, b"from") {
@@ -60,6 +64,8 @@ pub(crate) fn tag_named(name: &[u8]) -> Tag
         Tag::Mime
     } else if is_name(name, b"handle") {
         Tag::Handle
+    } else if is_name(name, b"copy") {
+        Tag::Copy
     } else {
         Tag::Other
     }

@@ -27,6 +27,8 @@ pub enum TagValue {
     Part(AddressPart),
     /// `:days`.
     Days(u64),
+    /// `:seconds`.
+    Seconds(u64),
     /// `:subject`.
     Subject(Octets),
     /// `:from`.
@@ -37,6 +39,8 @@ pub enum TagValue {
     Mime,
     /// `:handle`.
     Handle(Octets),
+    /// `:copy`.
+    Copy,
 }
 
 /// What a tag settles. Tags that exclude each other settle one thing.
@@ -46,12 +50,13 @@ pub enum TagGroup {
     Comparator,
     Matching,
     Part,
-    Days,
+    Period,
     Subject,
     From,
     Addresses,
     Mime,
     Handle,
+    Copy,
 }
 
 impl TagValue {
@@ -63,12 +68,14 @@ impl TagValue {
             TagValue::Comparator(_) => TagGroup::Comparator,
             TagValue::Matching(_) => TagGroup::Matching,
             TagValue::Part(_) => TagGroup::Part,
-            TagValue::Days(_) => TagGroup::Days,
+            TagValue::Days(_) => TagGroup::Period,
+            TagValue::Seconds(_) => TagGroup::Period,
             TagValue::Subject(_) => TagGroup::Subject,
             TagValue::From(_) => TagGroup::From,
             TagValue::Addresses(_) => TagGroup::Addresses,
             TagValue::Mime => TagGroup::Mime,
             TagValue::Handle(_) => TagGroup::Handle,
+            TagValue::Copy => TagGroup::Copy,
         }
     }
 }
@@ -146,6 +153,7 @@ fn tag_value_at<'a>(
         Tag::LocalPart => Ok((TagValue::Part(AddressPart::LocalPart), args)),
         Tag::Domain => Ok((TagValue::Part(AddressPart::Domain), args)),
         Tag::Mime => Ok((TagValue::Mime, args)),
+        Tag::Copy => Ok((TagValue::Copy, args)),
         Tag::Comparator => {
             let (collation, rest) = collation_at(args)?;
             Ok((TagValue::Comparator(collation), rest))
@@ -153,6 +161,10 @@ fn tag_value_at<'a>(
         Tag::Days => {
             let (days, rest) = number_at(args)?;
             Ok((TagValue::Days(days), rest))
+        }
+        Tag::Seconds => {
+            let (seconds, rest) = number_at(args)?;
+            Ok((TagValue::Seconds(seconds), rest))
         }
         Tag::Subject => {
             let (subject, rest) = text_at(alloc, args)?;

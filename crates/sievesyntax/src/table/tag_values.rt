@@ -1,6 +1,6 @@
 //! What the tags of a command or a test say: the value that is given, or its default.
 ghost use Rattle.std.specs.Prelude.{◌≡◌, IfOk};
-ghost use Rattle.sievesyntax.specs.TagValues.{bound_in, comparator_in, matching_in, part_in, days_in, subject_in, mime_in, handle_in};
+ghost use Rattle.sievesyntax.specs.TagValues.{bound_in, comparator_in, matching_in, part_in, days_in, seconds_in, subject_in, mime_in, handle_in, copy_in};
 
 use crate::table::tag_group::TagValue;
 use crate::tree::checks::{AddressPart, Bound, Collation, Matching};
@@ -67,6 +67,18 @@ pub(crate) fn given_days(tag_values: &[TagValue]) -> Option<u64>
     None
 }
 
+/// Its seconds, if they are given.
+pub(crate) fn given_seconds(tag_values: &[TagValue]) -> Option<u64>
+    ensures { result ≡ seconds_in tag_values.now }
+{
+    for tag_value in tag_values {
+        if let TagValue::Seconds(seconds) = tag_value {
+            return Some(*seconds);
+        }
+    }
+    None
+}
+
 /// Whether its reason is a MIME entity.
 pub(crate) fn given_mime(tag_values: &[TagValue]) -> bool
     ensures { result ≡ mime_in tag_values.now }
@@ -107,4 +119,16 @@ pub(crate) fn given_handle(
         }
     }
     Ok(None)
+}
+
+/// Whether the implicit keep isn't cancelled.
+pub(crate) fn given_copy(tag_values: &[TagValue]) -> bool
+    ensures { result ≡ copy_in tag_values.now }
+{
+    for tag_value in tag_values {
+        if let TagValue::Copy = tag_value {
+            return true;
+        }
+    }
+    false
 }

@@ -11,7 +11,9 @@ use crate::parser::argument::Argument;
 use crate::table::positional::text;
 use crate::table::redirect::outbound;
 use crate::table::tag_group::{TagGroup, TagValue, split_tags};
-use crate::table::tag_values::{given_days, given_handle, given_mime, given_subject};
+use crate::table::tag_values::{
+    given_days, given_handle, given_mime, given_seconds, given_subject,
+};
 use crate::tree::vacation::{ReplyFrom, VacArgs};
 use addrparts::{Addr, sieve_address};
 use octets::{List, Octets};
@@ -22,7 +24,7 @@ pub(crate) fn read_vacation(alloc: Global, args: &[Argument]) -> Result<VacArgs,
     ensures { Finds (IsVacation args.now) result }
 {
     let allowed = &[
-        TagGroup::Days,
+        TagGroup::Period,
         TagGroup::Subject,
         TagGroup::From,
         TagGroup::Addresses,
@@ -46,6 +48,7 @@ fn vacation_from(
     let (subject, handle) = given_texts(alloc, tag_values)?;
     Ok(VacArgs {
         days: given_days(tag_values),
+        seconds: given_seconds(tag_values),
         subject,
         from,
         addresses,

@@ -10,10 +10,28 @@ pub enum Action {
     Keep,
     /// `discard`: cancel the implicit keep (RFC 5228, 4.4).
     Discard,
-    /// `fileinto`, with the mailbox as it was written: 1 to 255 octets, none below 32 and none 127 (RFC 5228, 4.1).
-    FileInto(Octets),
-    /// `redirect`, with the address that the message is sent to (RFC 5228, 4.2).
-    Redirect(Addr),
+    /// `fileinto` (RFC 5228, 4.1).
+    FileInto(FileInto),
+    /// `redirect` (RFC 5228, 4.2).
+    Redirect(Redirect),
     /// `vacation`: answer the sender (RFC 5230).
     Vacation(Vacation),
+}
+
+/// The arguments of `fileinto`.
+#[derive(Drop)]
+pub struct FileInto {
+    /// The mailbox as it was written: 1 to 255 octets, none below 32 and none 127.
+    pub mailbox: Octets,
+    /// `:copy`: the implicit keep isn't cancelled (RFC 3894, 3.1).
+    pub copy: bool,
+}
+
+/// The arguments of `redirect`.
+#[derive(Drop)]
+pub struct Redirect {
+    /// The address that the message is sent to.
+    pub target: Addr,
+    /// `:copy`: the implicit keep isn't cancelled (RFC 3894, 3.2).
+    pub copy: bool,
 }

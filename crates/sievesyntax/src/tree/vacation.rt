@@ -44,6 +44,8 @@ impl Vacation {
 pub struct VacArgs {
     /// `:days`: for how many days the same sender gets no second answer, in any range (RFC 5230, 4.1).
     pub days: Option<u64>,
+    /// `:seconds`: for how many seconds, in place of `:days`, in any range (RFC 6131).
+    pub seconds: Option<u64>,
     /// `:subject` (RFC 5230, 4.3).
     pub subject: Option<Octets>,
     /// `:from` (RFC 5230, 4.3).

@@ -11,7 +11,7 @@ returns-in-Send c =
     let last = moment_under c.args.view.now.replies in
     let there : option_copied c.args.reply ≡ Some c.in-Some.args.now = ap option_copied c.in-Some.is in
     IfOk-weaker c.send.result
-    (SendsReply c.args.view.now.address c.args.moment c.args.mail.now c.in-Some.args.now c.in_ok-key.key)
+    (SendsReply c.args.view.now.address c.args.moment c.args.mail.now c.in-Some.args.now c.in_ok-key.key c.moment_under-last.result)
     (IsVacationPlan c.args.view.now.address c.args.moment c.args.mail.now last (option_copied c.args.reply))
     (λ plan is.
     sending c.args.view.now.address c.args.moment c.args.mail.now last (option_copied c.args.reply) c.in-Some.args.now there

@@ -23,5 +23,5 @@ returns-clause-delivery c is =
     (subst (λ names. Extends user (copies_added user counters.copy counters.copy names) kept ds2) c.as_slice-folders.ensures c.in_ok-push_copies.ensures.copied)
     (subst (λ targets. Extends user (sent_on user plan.sender.now plan.message.now counters.out targets) ds2 ds3) c.as_slice-sent.ensures c.in_ok-push_redirects.ensures.sent)
     (subst (λ targets. Extends user (reply_queued user plan.sender.now (counters.out + length targets) plan.reply) ds3 queued) c.as_slice-sent.ensures reply)
-    (subst (λ one. Extends user (reply_put user folded plan.moment one) queued ds4) c.as_ref-reply.ensures.value c.in_ok-push_moment.ensures.put)
+    (subst (λ one. Extends user (reply_put user folded one) queued ds4) c.as_ref-reply.ensures.value c.in_ok-push_moment.ensures.put)
     (subst (λ text. Extends user (noticed user counters.notice plan.moment text) ds4 ds5) c.as_ref-notice.ensures.value c.in_ok-push_notice.ensures.noticed)

@@ -1,12 +1,11 @@
 use Rattle.std.proofs.Common.{refl, subst}
 use Rattle.std.proofs.lemmas.Result.{err_from_is_err_and}
 use Rattle.sievesyntax.specs.declared.tree.action.Action.TheVariants as D
-use Rattle.sievesyntax.specs.Reasons.{IsReason}
-use Rattle.sievesyntax.specs.Table.{IsText, IsRedirect}
+use Rattle.sievesyntax.specs.Table.{IsFileInto, IsRedirect}
 use Rattle.sievesyntax.specs.Tree.{stop, act}
 use Rattle.sievesyntax.specs.Vacations.{IsVacation}
-use Rattle.sievesyntax.specs.Valid.{IsMailbox, MayStand}
-use Rattle.sievesyntax.proofs.TableLemmas.{row_only, row_fault, fit_fault, bare_fault}
+use Rattle.sievesyntax.specs.Valid.{MayAct, MayStand}
+use Rattle.sievesyntax.proofs.TableLemmas.{row_only, fit_fault, bare_fault}
 use Rattle.sievesyntax.proofs.ViewLemmas.{view-Stop, view-Act}
 use Rattle.sievesyntax.proofs.table.command.plain_command.Goals as goal
 
@@ -46,47 +45,41 @@ returns-in_ok-no_arguments-in-Discard-clause-found c = rw (view-Act, c.in-Discar
 pub returns-in_ok-no_arguments-in-Discard-clause-only : goal.returns-in_ok-no_arguments-in-Discard-clause-only
 returns-in_ok-no_arguments-in-Discard-clause-only c = rw (view-Act, c.in-Discard.is) (λ other row. row.tree_is)
 
-pub returns-in_err-read_mailbox-in-FileInto-clause-fault : goal.returns-in_err-read_mailbox-in-FileInto-clause-fault
-returns-in_err-read_mailbox-in-FileInto-clause-fault c =
-    let h = c.in_err-read_mailbox-in-FileInto.ensures in
-    let p = err_from_is_err_and c.from_residual-in_err-read_mailbox-in-FileInto.result c.from_residual-in_err-read_mailbox-in-FileInto.ensures.1 in
-    rw (p.1, p.2, c.in-FileInto.is) (fit_fault IsText (λ x. act (D.FileInto x)) _ (MayStand c.args.granted) IsMailbox (λ x may. may.1) _ h)
+pub returns-in_err-filing-in-FileInto-clause-fault : goal.returns-in_err-filing-in-FileInto-clause-fault
+returns-in_err-filing-in-FileInto-clause-fault c =
+    let h = c.in_err-filing-in-FileInto.ensures in
+    let p = err_from_is_err_and c.from_residual-in_err-filing-in-FileInto.result c.from_residual-in_err-filing-in-FileInto.ensures.1 in
+    rw (p.1, p.2, c.in-FileInto.is) (fit_fault IsFileInto (λ x. act (D.FileInto x)) _ (MayStand c.args.granted) (λ x. MayAct c.args.granted (D.FileInto x)) (λ x may. may) _ h)
 
-pub returns-in_ok-read_mailbox-in-FileInto-clause-found : goal.returns-in_ok-read_mailbox-in-FileInto-clause-found
-returns-in_ok-read_mailbox-in-FileInto-clause-found c = rw (view-Act, c.in-FileInto.is) (record { value = _; is = c.in_ok-read_mailbox-in-FileInto.ensures.0; tree_is = refl }, (c.if-not-granted.false, c.in_ok-read_mailbox-in-FileInto.ensures.1))
+pub returns-in_ok-filing-in-FileInto-clause-found : goal.returns-in_ok-filing-in-FileInto-clause-found
+returns-in_ok-filing-in-FileInto-clause-found c = rw (view-Act, c.in-FileInto.is) (record { value = _; is = c.in_ok-filing-in-FileInto.ensures.0; tree_is = refl }, c.in_ok-filing-in-FileInto.ensures.1)
 
-pub returns-in_ok-read_mailbox-in-FileInto-clause-only : goal.returns-in_ok-read_mailbox-in-FileInto-clause-only
-returns-in_ok-read_mailbox-in-FileInto-clause-only c = rw (view-Act, c.in-FileInto.is) (row_only IsText (λ x. act (D.FileInto x)) _ (MayStand c.args.granted) _ c.in_ok-read_mailbox-in-FileInto.ensures.2)
+pub returns-in_ok-filing-in-FileInto-clause-only : goal.returns-in_ok-filing-in-FileInto-clause-only
+returns-in_ok-filing-in-FileInto-clause-only c = rw (view-Act, c.in-FileInto.is) (row_only IsFileInto (λ x. act (D.FileInto x)) _ (MayStand c.args.granted) _ c.in_ok-filing-in-FileInto.ensures.2)
 
-pub returns-in_err-read_redirect-in-Redirect-clause-fault : goal.returns-in_err-read_redirect-in-Redirect-clause-fault
-returns-in_err-read_redirect-in-Redirect-clause-fault c =
-    let h = c.in_err-read_redirect-in-Redirect.ensures in
-    let p = err_from_is_err_and c.from_residual-in_err-read_redirect-in-Redirect.result c.from_residual-in_err-read_redirect-in-Redirect.ensures.1 in
-    rw (p.1, p.2, c.in-Redirect.is) (row_fault IsRedirect (λ x. act (D.Redirect x)) _ (MayStand c.args.granted) _ h)
+pub returns-in_err-redirect-in-Redirect-clause-fault : goal.returns-in_err-redirect-in-Redirect-clause-fault
+returns-in_err-redirect-in-Redirect-clause-fault c =
+    let h = c.in_err-redirect-in-Redirect.ensures in
+    let p = err_from_is_err_and c.from_residual-in_err-redirect-in-Redirect.result c.from_residual-in_err-redirect-in-Redirect.ensures.1 in
+    rw (p.1, p.2, c.in-Redirect.is) (fit_fault IsRedirect (λ x. act (D.Redirect x)) _ (MayStand c.args.granted) (λ x. MayAct c.args.granted (D.Redirect x)) (λ x may. may) _ h)
 
-pub returns-in_ok-read_redirect-in-Redirect-clause-found : goal.returns-in_ok-read_redirect-in-Redirect-clause-found
-returns-in_ok-read_redirect-in-Redirect-clause-found c = rw (view-Act, c.in-Redirect.is) (record { value = _; is = c.in_ok-read_redirect-in-Redirect.ensures.0; tree_is = refl }, tt)
+pub returns-in_ok-redirect-in-Redirect-clause-found : goal.returns-in_ok-redirect-in-Redirect-clause-found
+returns-in_ok-redirect-in-Redirect-clause-found c = rw (view-Act, c.in-Redirect.is) (record { value = _; is = c.in_ok-redirect-in-Redirect.ensures.0; tree_is = refl }, c.in_ok-redirect-in-Redirect.ensures.1)
 
-pub returns-in_ok-read_redirect-in-Redirect-clause-only : goal.returns-in_ok-read_redirect-in-Redirect-clause-only
-returns-in_ok-read_redirect-in-Redirect-clause-only c = rw (view-Act, c.in-Redirect.is) (row_only IsRedirect (λ x. act (D.Redirect x)) _ (MayStand c.args.granted) _ c.in_ok-read_redirect-in-Redirect.ensures.1)
+pub returns-in_ok-redirect-in-Redirect-clause-only : goal.returns-in_ok-redirect-in-Redirect-clause-only
+returns-in_ok-redirect-in-Redirect-clause-only c = rw (view-Act, c.in-Redirect.is) (row_only IsRedirect (λ x. act (D.Redirect x)) _ (MayStand c.args.granted) _ c.in_ok-redirect-in-Redirect.ensures.2)
 
-pub returns-in_err-read_reply-in-Vacation-clause-fault : goal.returns-in_err-read_reply-in-Vacation-clause-fault
-returns-in_err-read_reply-in-Vacation-clause-fault c =
-    let h = c.in_err-read_reply-in-Vacation.ensures in
-    let p = err_from_is_err_and c.from_residual-in_err-read_reply-in-Vacation.result c.from_residual-in_err-read_reply-in-Vacation.ensures.1 in
-    rw (p.1, p.2, c.in-Vacation.is) (fit_fault IsVacation (λ x. act (D.Vacation x)) _ (MayStand c.args.granted) IsReason (λ x may. may.1) _ h)
+pub returns-in_err-vacation-in-Vacation-clause-fault : goal.returns-in_err-vacation-in-Vacation-clause-fault
+returns-in_err-vacation-in-Vacation-clause-fault c =
+    let h = c.in_err-vacation-in-Vacation.ensures in
+    let p = err_from_is_err_and c.from_residual-in_err-vacation-in-Vacation.result c.from_residual-in_err-vacation-in-Vacation.ensures.1 in
+    rw (p.1, p.2, c.in-Vacation.is) (fit_fault IsVacation (λ x. act (D.Vacation x)) _ (MayStand c.args.granted) (λ x. MayAct c.args.granted (D.Vacation x)) (λ x may. may) _ h)
 
-pub returns-in_ok-read_reply-in-Vacation-clause-found : goal.returns-in_ok-read_reply-in-Vacation-clause-found
-returns-in_ok-read_reply-in-Vacation-clause-found c = rw (view-Act, c.in-Vacation.is) (record { value = _; is = c.in_ok-read_reply-in-Vacation.ensures.0; tree_is = refl }, (c.if-not-granted-2.false, c.in_ok-read_reply-in-Vacation.ensures.1))
+pub returns-in_ok-vacation-in-Vacation-clause-found : goal.returns-in_ok-vacation-in-Vacation-clause-found
+returns-in_ok-vacation-in-Vacation-clause-found c = rw (view-Act, c.in-Vacation.is) (record { value = _; is = c.in_ok-vacation-in-Vacation.ensures.0; tree_is = refl }, c.in_ok-vacation-in-Vacation.ensures.1)
 
-pub returns-in_ok-read_reply-in-Vacation-clause-only : goal.returns-in_ok-read_reply-in-Vacation-clause-only
-returns-in_ok-read_reply-in-Vacation-clause-only c = rw (view-Act, c.in-Vacation.is) (row_only IsVacation (λ x. act (D.Vacation x)) _ (MayStand c.args.granted) _ c.in_ok-read_reply-in-Vacation.ensures.2)
-
-pub returns-then-not-granted-clause-fault : goal.returns-then-not-granted-clause-fault
-returns-then-not-granted-clause-fault c = rw c.in-FileInto.is (λ other row may. let stands : MayStand c.args.granted (act (D.FileInto row.value)) = subst (MayStand c.args.granted) row.tree_is may in let granted = stands.0 in cc)
-
-pub returns-then-not-granted-2-clause-fault : goal.returns-then-not-granted-2-clause-fault
-returns-then-not-granted-2-clause-fault c = rw c.in-Vacation.is (λ other row may. let stands : MayStand c.args.granted (act (D.Vacation row.value)) = subst (MayStand c.args.granted) row.tree_is may in let granted = stands.0 in cc)
+pub returns-in_ok-vacation-in-Vacation-clause-only : goal.returns-in_ok-vacation-in-Vacation-clause-only
+returns-in_ok-vacation-in-Vacation-clause-only c = rw (view-Act, c.in-Vacation.is) (row_only IsVacation (λ x. act (D.Vacation x)) _ (MayStand c.args.granted) _ c.in_ok-vacation-in-Vacation.ensures.2)
 
 pub returns-in-Require-clause-fault : goal.returns-in-Require-clause-fault
 returns-in-Require-clause-fault c = rw c.in-Require.is (λ other row may. subst (MayStand c.args.granted) row.tree_is may)

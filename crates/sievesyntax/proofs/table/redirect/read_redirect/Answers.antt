@@ -1,22 +1,5 @@
-use Rattle.std.proofs.lemmas.Result.{err_from_is_err_and}
-use Rattle.sievesyntax.proofs.FaultLemmas.{fault_on}
-use Rattle.sievesyntax.proofs.VacationLemmas.{redirect_no_text, redirect_no_address, redirect_found}
+use Rattle.sievesyntax.proofs.TableLemmas.{call_finds}
 use Rattle.sievesyntax.proofs.table.redirect.read_redirect.Goals as goal
 
-pub returns-in_err-text : goal.returns-in_err-text
-returns-in_err-text c =
-    let p = err_from_is_err_and c.from_residual.result c.from_residual.ensures.1 in
-    rw (p.1, p.2) (fault_on _ _ _ (redirect_no_text _) c.in_err-text.ensures)
-
-pub returns-in_err-_display : goal.returns-in_err-_display
-returns-in_err-_display c =
-    let h = c.in_ok-text.ensures in
-    let e = rw c.as_slice.ensures at c.in_err-_display.ensures.fault in
-    let p = err_from_is_err_and c.from_residual-in_err-_display.result c.from_residual-in_err-_display.ensures.1 in
-    rw (p.1, p.2) (fault_on _ _ _ (redirect_no_address _ _ h.1) e)
-
 pub returns : goal.returns
-returns c =
-    let h = c.in_ok-text.ensures in
-    let found = rw c.as_slice.ensures at c.in_ok-_display.ensures.found in
-    redirect_found _ _ h.1 h.0 _ _ found
+returns c = let h = c.in_ok-tag_values.ensures in call_finds _ _ _ _ _ h.only h.found _ (rw c.as_slice.ensures.value at c.redirect_from.ensures)

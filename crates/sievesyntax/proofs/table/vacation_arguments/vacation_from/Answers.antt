@@ -5,6 +5,7 @@ use Rattle.sievesyntax.proofs.table.vacation_arguments.vacation_from.Goals as go
 pub returns : goal.returns
 returns c = finds_one _ (vacation_same _ _) _ (record {
   days = c.given_days.ensures;
+  seconds = c.given_seconds.ensures;
   subject = c.in_ok-subject.ensures.subject;
   from = c.in_ok-from.ensures.found;
   addresses = c.in_ok-addresses.ensures;

@@ -1,0 +1,30 @@
+use Rattle.std.proofs.Common.{true}
+use Rattle.std.proofs.lemmas.Result.{err_from_is_err_and}
+use Rattle.sievelex.specs.declared.fault.FaultKind.TheVariants.{BadMailbox}
+use Rattle.sievesyntax.specs.declared.error.ReadError.TheVariants.{Fault}
+use Rattle.sievesyntax.specs.declared.tree.action.Action.TheVariants as D
+use Rattle.sievesyntax.specs.declared.tree.action.FileInto.{FileInto}
+use Rattle.sievesyntax.specs.Table.{IsFileInto}
+use Rattle.sievesyntax.specs.Valid.{Permits, MayAct}
+use Rattle.sievesyntax.proofs.FaultLemmas.{fault_on, none_fits, one_unfit}
+use Rattle.sievesyntax.proofs.table.command.permitted_filing.Goals as goal
+
+pub returns-in_err-require : goal.returns-in_err-require
+returns-in_err-require c =
+    let p = err_from_is_err_and c.from_residual.result c.from_residual.ensures.1 in
+    rw (p.1, p.2) (fault_on _ (Permits c.args.granted.fileinto true → ⊥) ((x : FileInto) → IsFileInto c.args.args.now x → MayAct c.args.granted (D.FileInto x) → ⊥) (λ bad x is fit. bad (λ used. fit.0)) c.in_err-require.ensures.fault)
+
+pub returns-in_err-filing : goal.returns-in_err-filing
+returns-in_err-filing c =
+    let p = err_from_is_err_and c.from_residual-in_err-filing.result c.from_residual-in_err-filing.ensures.1 in
+    rw (p.1, p.2) (none_fits (IsFileInto c.args.args.now) (λ x. MayAct c.args.granted (D.FileInto x)) _ c.in_err-filing.ensures)
+
+pub returns-in_err-require-2 : goal.returns-in_err-require-2
+returns-in_err-require-2 c =
+    let p = err_from_is_err_and c.from_residual-in_err-require-2.result c.from_residual-in_err-require-2.ensures.1 in
+    rw (p.1, p.2) (one_unfit (IsFileInto c.args.args.now) (λ x. MayAct c.args.granted (D.FileInto x)) _ c.in_ok-filing.ensures.1 _ (fault_on _ (Permits c.args.granted.copy c.in_ok-filing.filing.copy → ⊥) (MayAct c.args.granted (D.FileInto c.in_ok-filing.filing) → ⊥) (λ bad fit. bad fit.1) c.in_err-require-2.ensures.fault))
+
+pub returns-then-not-is_mailbox : goal.returns-then-not-is_mailbox
+returns-then-not-is_mailbox c =
+    let bad = rw c.as_slice.ensures at c.if-not-is_mailbox.ensures in
+    one_unfit (IsFileInto c.args.args.now) (λ x. MayAct c.args.granted (D.FileInto x)) _ c.in_ok-filing.ensures.1 (Fault BadMailbox) (λ fit. let no = bad.1 fit.2 in cc)

@@ -1,0 +1,13 @@
+use Rattle.std.proofs.lemmas.Result.{err_from_is_err_and}
+use Rattle.sievesyntax.proofs.FaultLemmas.{fault_on}
+use Rattle.sievesyntax.proofs.TableLemmas.{finds_one}
+use Rattle.sievesyntax.proofs.VacationLemmas.{file_into_same, file_into_no_text}
+use Rattle.sievesyntax.proofs.table.file_into.file_into_from.Goals as goal
+
+pub returns-in_err-mailbox : goal.returns-in_err-mailbox
+returns-in_err-mailbox c =
+    let p = err_from_is_err_and c.from_residual.result c.from_residual.ensures.1 in
+    rw (p.1, p.2) (fault_on _ _ _ (file_into_no_text _ _) c.in_err-mailbox.ensures.fault)
+
+pub returns : goal.returns
+returns c = finds_one _ (file_into_same _ _) _ (record { mailbox = c.in_ok-mailbox.ensures.found; copy = c.given_copy.ensures })

@@ -1,0 +1,33 @@
+//! The arguments of `fileinto` (RFC 5228, 4.1; RFC 3894).
+ghost use Rattle.sievesyntax.specs.Parsing.{Finds};
+ghost use Rattle.sievesyntax.specs.Table.{IsFileInto, SaysFileInto};
+
+use crate::error::ReadError;
+use crate::parser::argument::Argument;
+use crate::table::positional::text;
+use crate::table::tag_group::{TagGroup, TagValue, split_tags};
+use crate::table::tag_values::given_copy;
+use crate::tree::action::FileInto;
+use std::alloc::Global;
+
+/// The arguments of `fileinto`.
+pub(crate) fn read_file_into(alloc: Global, args: &[Argument]) -> Result<FileInto, ReadError>
+    ensures { Finds (IsFileInto args.now) result }
+{
+    let (tag_values, positional) = split_tags(alloc, args, &[TagGroup::Copy])?;
+    file_into_from(alloc, tag_values.as_slice(), positional)
+}
+
+fn file_into_from(
+    alloc: Global,
+    tag_values: &[TagValue],
+    positional: &[Argument],
+) -> Result<FileInto, ReadError>
+    ensures { Finds (SaysFileInto tag_values.now positional.now) result }
+{
+    let mailbox = text(alloc, positional)?;
+    Ok(FileInto {
+        mailbox,
+        copy: given_copy(tag_values),
+    })
+}
