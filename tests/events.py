@@ -217,7 +217,7 @@ class Model:
     def script_command(self, acc, word, *args):
         scripts, absent = acc["scripts"], ['NO (NONEXISTENT) "No such script."']
         if word == "havespace":
-            return ['OK "Done."'] if args[1] <= 65536 else ['NO (QUOTA/MAXSIZE) "Script too large."']
+            return ['OK "Done."'] if args[1] <= 262_144 else ['NO (QUOTA/MAXSIZE) "Script too large."']
         if word in ("putscript", "checkscript"):
             name, script = args
             if name == "":
@@ -284,7 +284,7 @@ def chosen_unit(rng, user):
     login, some = ("authenticate", (user, PASSWORDS[user])), rng.choice(["a", "b", "main"])
     return rng.choice([
         login, login, login, ("authenticate", (user, "wrong")), ("authenticate", None), ("noop",), ("noop", "t"), ("capability",), ("wrong",),
-        ("unauthenticate",), ("logout",), ("havespace", some, rng.choice([10, 65536, 65537])), ("listscripts",), ("getscript", some),
+        ("unauthenticate",), ("logout",), ("havespace", some, rng.choice([10, 262_144, 262_145])), ("listscripts",), ("getscript", some),
         ("setactive", some), ("setactive", some), ("setactive", some), ("setactive", ""), ("deletescript", some),
         ("renamescript", some, rng.choice(["a", "b", "c", ""])), ("checkscript", "x", rng.choice([*WRONG, *SCRIPTS])),
         ("putscript", rng.choice(["a", ""]), rng.choice([*WRONG])),

@@ -158,11 +158,11 @@ absent_deleted_not : RepliesTo fresh (DeleteScript (codes "x")) done → ⊥
 absent_deleted_not (inl h) = not_there (codes "x") h.0
 absent_deleted_not (inr h) = false≢true (sym (ap (λ (r : Reply). is_ok r.word) h.1))
 
--- 65,537 octets are too many, and 65,536 aren't
-space_too_large : RepliesTo fresh (HaveSpace (codes "e") 65537) too_large
+-- 262,145 octets are too many, and 262,144 aren't
+space_too_large : RepliesTo fresh (HaveSpace (codes "e") 262145) too_large
 space_too_large = inl (name_right, inr ((λ le. omega (arith, le)), refl))
 
-space_fits : RepliesTo fresh (HaveSpace (codes "e") 65536) too_large → ⊥
+space_fits : RepliesTo fresh (HaveSpace (codes "e") 262144) too_large → ⊥
 space_fits (inl (named, inl (small, inl h))) = false≢true (ap (λ (r : Reply). is_ok r.word) h.1)
 space_fits (inl (named, inl (small, inr h))) = let no : Some MaxSize ≡ Some MaxScripts = ap (λ (r : Reply). r.code) h.1 in cc
 space_fits (inl (named, inr h)) = h.0 (omega arith)

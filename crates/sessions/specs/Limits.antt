@@ -5,7 +5,7 @@ use Rattle.std.specs.Str.{IsUtf8, chars}
 
 -- how many octets a script may have
 abbrev pub script_limit : ℕ
-script_limit = 65536
+script_limit = 262144
 
 -- how many scripts a user may have
 abbrev pub scripts_limit : ℕ

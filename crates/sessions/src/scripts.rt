@@ -21,7 +21,7 @@ use sievesyntax::check;
 use std::alloc::{AllocError, Global};
 
 /// The most octets of a script: this project's own limit.
-pub const MAX_SCRIPT: usize = 65_536;
+pub const MAX_SCRIPT: usize = 262_144;
 
 /// The most scripts of a user: this project's own limit.
 pub const MAX_SCRIPTS: usize = 32;
