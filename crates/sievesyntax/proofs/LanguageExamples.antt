@@ -1,5 +1,5 @@
 -- Examples of the language before and of the one that is: texts that mean a tree in both, and near misses.
-use Rattle.std.proofs.Common.{◌≡◌, ◌+◌, ◌<◌, ℕ, zero, suc, Bool, true, false, List, [], ◌∷◌, length, take, get_or, Some, None, refl, ap, sym, subst, arith, lit<, lit≤}
+use Rattle.std.proofs.Common.{◌≡◌, ◌+◌, ◌<◌, ℕ, zero, suc, Bool, true, false, List, [], ◌∷◌, length, take, get_or, Option, Some, None, refl, ap, sym, subst, arith, lit<, lit≤}
 use Rattle.std.specs.Prelude.{codes, All}
 use Rattle.addrparts.specs.declared.address.Addr.{Addr}
 use Rattle.addrparts.specs.Outbound.{IsOutbound}
@@ -20,21 +20,25 @@ use Rattle.sievelex.proofs.Strings.{string_found}
 use Rattle.sievelex.proofs.Marks.{mark_found}
 use Rattle.sievelex.proofs.Next.{IsAhead, next_found}
 use Rattle.sievelex.proofs.TokenLaws.{tokens_only}
+use Rattle.sievesyntax.specs.declared.table.keyword.Keyword.{Keyword}
 use Rattle.sievesyntax.specs.declared.table.keyword.Keyword.TheVariants as W
 use Rattle.sievesyntax.specs.declared.table.tag.Tag.TheVariants as T
 use Rattle.sievesyntax.specs.declared.table.tag_group.TagGroup.TheVariants as P
 use Rattle.sievesyntax.specs.declared.table.tag_group.TagValue.TheVariants as S
+use Rattle.sievesyntax.specs.declared.parser.argument.Argument.{Argument}
 use Rattle.sievesyntax.specs.declared.parser.argument.Argument.TheVariants as A
+use Rattle.sievesyntax.specs.Arguments.{AreArguments}
+use Rattle.sievesyntax.specs.Table.{IsPlainCommand}
 use Rattle.sievesyntax.specs.declared.tree.action.Action.TheVariants as D
 use Rattle.sievesyntax.specs.declared.tree.checks.Check.{Check}
 use Rattle.sievesyntax.specs.declared.tree.vacation.VacArgs.{VacArgs}
 use Rattle.sievesyntax.specs.Before.{outcome_in, IsOfBefore, EachIn}
-use Rattle.sievesyntax.specs.Grammar.{IsStatement, ReadsScript}
+use Rattle.sievesyntax.specs.Grammar.{IsStatement, IsCommand, ReadsScript}
 use Rattle.sievesyntax.specs.Languages.{lexeme_in, lexemes_in, is_capability_before, today, before}
-use Rattle.sievesyntax.specs.Lexemes.{Lexeme, keyword, tag, number, text, mark}
+use Rattle.sievesyntax.specs.Lexemes.{Lexeme, keyword, tag, number, text, mark, lexemes_of}
 use Rattle.sievesyntax.specs.Meaning.{Done}
 use Rattle.sievesyntax.specs.Means.{MeansIn, Means}
-use Rattle.sievesyntax.specs.Tree.{require, act, Commands, no_commands, command}
+use Rattle.sievesyntax.specs.Tree.{CommandTree, require, act, Commands, no_commands, command}
 use Rattle.sievesyntax.specs.Valid.{is_capability, IsValidIn}
 use Rattle.sievesyntax.proofs.LanguageLaws.{still_means}
 use Rattle.sievesyntax.proofs.LanguageLemmas.{AreKnownLexemes, script_known}
@@ -52,6 +56,10 @@ seconds_before = (refl, refl)
 days_before : lexeme_in before (C.Tag (codes "days")) ≡ tag T.Days
 days_before = refl
 
+-- at today's language each token is seen as it is
+lexemes_today : (contents : List Content) → lexemes_in today contents ≡ lexemes_of contents
+lexemes_today contents = refl
+
 -- ---- outcomes
 
 abbrev target : Addr
@@ -63,6 +71,12 @@ filing copy = command (act (D.FileInto (record { mailbox = codes "x"; copy = cop
 abbrev redirecting : Bool → Commands
 redirecting copy = command (act (D.Redirect (record { target = target; copy = copy }))) no_commands
 
+abbrev answer : Option ℕ → VacArgs
+answer seconds = record { days = None; seconds = seconds; subject = None; from = None; addresses = []; mime = false; handle = None; reason = codes "x" }
+
+abbrev answering : Option ℕ → Commands
+answering seconds = command (act (D.Vacation (answer seconds))) no_commands
+
 -- a filing cancelled the implicit keep, whatever it says, and a `vacation` didn't
 filed_before : (truth : Check → Bool) (copy : Bool) → outcome_in before truth (filing copy) ≡ Done (record { filed = codes "x" ∷ []; sent = []; reply = None })
 filed_before truth copy = refl
@@ -73,15 +87,18 @@ filed_today truth = refl
 sent_before : (truth : Check → Bool) (copy : Bool) → outcome_in before truth (redirecting copy) ≡ Done (record { filed = []; sent = target ∷ []; reply = None })
 sent_before truth copy = refl
 
-answered_before : (truth : Check → Bool) (args : VacArgs) → outcome_in before truth (command (act (D.Vacation args)) no_commands) ≡ Done (record { filed = codes "INBOX" ∷ []; sent = []; reply = Some args })
-answered_before truth args = refl
+answered_before : (truth : Check → Bool) (seconds : Option ℕ) → outcome_in before truth (answering seconds) ≡ Done (record { filed = codes "INBOX" ∷ []; sent = []; reply = Some (answer seconds) })
+answered_before truth seconds = refl
 
--- a tree without `:copy`, and one with it
-plain : EachIn IsOfBefore (filing false)
-plain = (refl, tt)
+-- trees of the language before, one with `:copy` and one with seconds
+of_before : EachIn IsOfBefore (filing false) × EachIn IsOfBefore (answering None)
+of_before = ((refl, tt), (refl, tt))
 
-not_plain : EachIn IsOfBefore (filing true) → ⊥
-not_plain each = let e : true ≡ false = each.0 in absurd (cc e)
+no_copy : EachIn IsOfBefore (filing true) → ⊥
+no_copy each = let e : true ≡ false = each.0 in absurd (cc e)
+
+no_seconds : EachIn IsOfBefore (answering (Some 0)) → ⊥
+no_seconds each = let e : Some 0 ≡ None = each.0 in absurd (cc e)
 
 -- ---- texts
 
@@ -106,19 +123,30 @@ one_known knows name is (suc k) d within = absurd (omega (arith, within))
 none_known : (knows : List ℕ → Bool) → All (λ x. knows x ≡ true) []
 none_known knows k d within = absurd (omega (arith, within))
 
--- `require` and one name
-requires : (name : List ℕ) (to : List Lexeme) → IsStatement (require (name ∷ [])) W.Require (text name ∷ (mark K.Semicolon ∷ to)) to
-requires name to = (
-  A.Text name ∷ [],
-  (
-    record { spelled = (mark K.Semicolon ∷ to, (refl, refl)); all = tt },
-    record {
-      value = name ∷ [];
-      is = record { tag_values = []; positional = A.Text name ∷ []; split_tags = record { written = refl; plain = tt; once = tt }; says = refl };
-      tree_is = refl;
-    },
-  ),
-)
+-- a script of one command
+alone : (tree : CommandTree) (name : Keyword) (after : List Lexeme) → IsCommand tree name after [] → ReadsScript (command tree no_commands) (keyword name ∷ after)
+alone tree name after is = ([], ((name, (after, (refl, is))), refl))
+
+-- a word whose arguments end at a semicolon, which is the last of the script
+ending : (name : Keyword) (args : List Argument) (after : List Lexeme) (tree : CommandTree) → AreArguments args after (mark K.Semicolon ∷ []) → IsPlainCommand name args tree → IsStatement tree name after []
+ending name args after tree spelled is = (args, (spelled, is))
+
+-- `require` of one name, and more
+after_require : (capability : List ℕ) (more : Commands) (from : List Lexeme) → ReadsScript more from → ReadsScript (command (require (capability ∷ [])) more) (keyword W.Require ∷ (text capability ∷ (mark K.Semicolon ∷ from)))
+after_require capability more from reads = (from, ((W.Require, (text capability ∷ (mark K.Semicolon ∷ from), (refl, requires))), reads))
+  where
+    requires : IsStatement (require (capability ∷ [])) W.Require (text capability ∷ (mark K.Semicolon ∷ from)) from
+    requires = (
+      A.Text capability ∷ [],
+      (
+        record { spelled = (mark K.Semicolon ∷ from, (refl, refl)); all = tt },
+        record {
+          value = capability ∷ [];
+          is = record { tag_values = []; positional = A.Text capability ∷ []; split_tags = record { written = refl; plain = tt; once = tt }; says = refl };
+          tree_is = refl;
+        },
+      ),
+    )
 
 names_target : IsOutbound (codes "c@d") [] target
 unfolding outbound pieces
@@ -154,37 +182,18 @@ redirects_before : MeansIn before redirect (redirecting false)
 redirects_before = record {
   tokens = redirect_tokens;
   spelled = redirect_spelled;
-  read = (
-    [],
-    (
-      (
-        W.Redirect,
-        (
-          text (codes "c@d") ∷ (mark K.Semicolon ∷ []),
-          (
-            refl,
-            (
-              A.Text (codes "c@d") ∷ [],
-              (
-                record { spelled = (mark K.Semicolon ∷ [], (refl, refl)); all = tt },
-                record {
-                  value = record { target = target; copy = false };
-                  is = record {
-                    tag_values = [];
-                    positional = A.Text (codes "c@d") ∷ [];
-                    split_tags = record { written = refl; plain = tt; once = tt };
-                    says = record { text = codes "c@d"; is_text = refl; names = ([], names_target); copy = refl };
-                  };
-                  tree_is = refl;
-                },
-              ),
-            ),
-          ),
-        ),
-      ),
-      refl,
-    ),
-  );
+  read = alone (act (D.Redirect (record { target = target; copy = false }))) W.Redirect (text (codes "c@d") ∷ (mark K.Semicolon ∷ [])) (ending W.Redirect (A.Text (codes "c@d") ∷ []) (text (codes "c@d") ∷ (mark K.Semicolon ∷ [])) _
+      (record { spelled = (mark K.Semicolon ∷ [], (refl, refl)); all = tt })
+      (record {
+        value = record { target = target; copy = false };
+        is = record {
+          tag_values = [];
+          positional = A.Text (codes "c@d") ∷ [];
+          split_tags = record { written = refl; plain = tt; once = tt };
+          says = record { text = codes "c@d"; is_text = refl; names = ([], names_target); copy = refl };
+        };
+        tree_is = refl;
+      }));
   valid = record { known = none_known is_capability_before; stand = (λ is. absurd (cc is), tt); shallow = lit≤ tt };
 }
 
@@ -221,7 +230,7 @@ capable_today : Means capable (command (require (codes "copy" ∷ [])) no_comman
 capable_today = record {
   tokens = capable_tokens;
   spelled = capable_spelled;
-  read = ([], ((W.Require, (text (codes "copy") ∷ (mark K.Semicolon ∷ []), (refl, requires (codes "copy") []))), refl));
+  read = after_require (codes "copy") no_commands [] refl;
   valid = record { known = one_known is_capability (codes "copy") refl; stand = tt; shallow = lit≤ tt };
 }
 
@@ -283,48 +292,23 @@ copies_today : Means copying (command (require (codes "copy" ∷ [])) (redirecti
 copies_today = record {
   tokens = copying_tokens;
   spelled = copying_spelled;
-  read = (
-    keyword W.Redirect ∷ copied_lexemes,
-    (
-      (W.Require, (text (codes "copy") ∷ (mark K.Semicolon ∷ (keyword W.Redirect ∷ copied_lexemes)), (refl, requires (codes "copy") (keyword W.Redirect ∷ copied_lexemes)))),
-      (
-        [],
-        (
-          (
-            W.Redirect,
-            (
-              copied_lexemes,
-              (
-                refl,
-                (
-                  A.Tag T.Copy ∷ (A.Text (codes "c@d") ∷ []),
-                  (
-                    record { spelled = (text (codes "c@d") ∷ (mark K.Semicolon ∷ []), (refl, (mark K.Semicolon ∷ [], (refl, refl)))); all = tt },
-                    record {
-                      value = record { target = target; copy = true };
-                      is = record {
-                        tag_values = S.Copy ∷ [];
-                        positional = A.Text (codes "c@d") ∷ [];
-                        split_tags = record { written = (A.Text (codes "c@d") ∷ [], ((refl, first_there P.Copy []), refl)); plain = tt; once = (λ none. none_there P.Copy none, tt) };
-                        says = record { text = codes "c@d"; is_text = refl; names = ([], names_target); copy = refl };
-                      };
-                      tree_is = refl;
-                    },
-                  ),
-                ),
-              ),
-            ),
-          ),
-          refl,
-        ),
-      ),
-    ),
-  );
+  read = after_require (codes "copy") (redirecting true) (keyword W.Redirect ∷ copied) (alone (act (D.Redirect (record { target = target; copy = true }))) W.Redirect copied (ending W.Redirect (A.Tag T.Copy ∷ (A.Text (codes "c@d") ∷ [])) copied _
+      (record { spelled = (text (codes "c@d") ∷ (mark K.Semicolon ∷ []), (refl, (mark K.Semicolon ∷ [], (refl, refl)))); all = tt })
+      (record {
+        value = record { target = target; copy = true };
+        is = record {
+          tag_values = S.Copy ∷ [];
+          positional = A.Text (codes "c@d") ∷ [];
+          split_tags = record { written = (A.Text (codes "c@d") ∷ [], ((refl, first_there P.Copy []), refl)); plain = tt; once = (λ none. none_there P.Copy none, tt) };
+          says = record { text = codes "c@d"; is_text = refl; names = ([], names_target); copy = refl };
+        };
+        tree_is = refl;
+      })));
   valid = record { known = one_known is_capability (codes "copy") refl; stand = (λ is. refl, tt); shallow = lit≤ tt };
 }
   where
-    copied_lexemes : List Lexeme
-    copied_lexemes = tag T.Copy ∷ (text (codes "c@d") ∷ (mark K.Semicolon ∷ []))
+    copied : List Lexeme
+    copied = tag T.Copy ∷ (text (codes "c@d") ∷ (mark K.Semicolon ∷ []))
 
 copies_before : (tree : Commands) → MeansIn before copying tree → ⊥
 copies_before tree means = (known_before copying copying_tokens copying_spelled tree means).1.1.1.1.0
@@ -374,59 +358,31 @@ seconds_spelled = record {
   );
 }
 
-abbrev answer : VacArgs
-answer = record { days = None; seconds = Some 0; subject = None; from = None; addresses = []; mime = false; handle = None; reason = codes "x" }
-
 -- it means to answer each message, and meant nothing
-answers_today : Means seconds (command (require (codes "vacation-seconds" ∷ [])) (command (act (D.Vacation answer)) no_commands))
+answers_today : Means seconds (command (require (codes "vacation-seconds" ∷ [])) (answering (Some 0)))
 answers_today = record {
   tokens = seconds_tokens;
   spelled = seconds_spelled;
-  read = (
-    keyword W.Vacation ∷ answer_lexemes,
-    (
-      (W.Require, (text (codes "vacation-seconds") ∷ (mark K.Semicolon ∷ (keyword W.Vacation ∷ answer_lexemes)), (refl, requires (codes "vacation-seconds") (keyword W.Vacation ∷ answer_lexemes)))),
-      (
-        [],
-        (
-          (
-            W.Vacation,
-            (
-              answer_lexemes,
-              (
-                refl,
-                (
-                  A.Tag T.Seconds ∷ (A.Number 0 ∷ (A.Text (codes "x") ∷ [])),
-                  (
-                    record {
-                      spelled = (number 0 ∷ (text (codes "x") ∷ (mark K.Semicolon ∷ [])), (refl, (text (codes "x") ∷ (mark K.Semicolon ∷ []), (refl, (mark K.Semicolon ∷ [], (refl, refl))))));
-                      all = tt;
-                    },
-                    record {
-                      value = answer;
-                      is = record {
-                        tag_values = S.Seconds 0 ∷ [];
-                        positional = A.Text (codes "x") ∷ [];
-                        split_tags = record { written = (A.Text (codes "x") ∷ [], ((refl, first_there P.Period (P.Subject ∷ (P.From ∷ (P.Addresses ∷ (P.Mime ∷ (P.Handle ∷ [])))))), refl)); plain = tt; once = (λ none. none_there P.Period none, tt) };
-                        says = record { days = refl; seconds = refl; subject = refl; from = tt; addresses = refl; mime = refl; handle = refl; reason = refl };
-                      };
-                      tree_is = refl;
-                    },
-                  ),
-                ),
-              ),
-            ),
-          ),
-          refl,
-        ),
-      ),
-    ),
-  );
+  read = after_require (codes "vacation-seconds") (answering (Some 0)) (keyword W.Vacation ∷ answered) (alone (act (D.Vacation (answer (Some 0)))) W.Vacation answered (ending W.Vacation (A.Tag T.Seconds ∷ (A.Number 0 ∷ (A.Text (codes "x") ∷ []))) answered _
+      (record {
+        spelled = (number 0 ∷ (text (codes "x") ∷ (mark K.Semicolon ∷ [])), (refl, (text (codes "x") ∷ (mark K.Semicolon ∷ []), (refl, (mark K.Semicolon ∷ [], (refl, refl))))));
+        all = tt;
+      })
+      (record {
+        value = answer (Some 0);
+        is = record {
+          tag_values = S.Seconds 0 ∷ [];
+          positional = A.Text (codes "x") ∷ [];
+          split_tags = record { written = (A.Text (codes "x") ∷ [], ((refl, first_there P.Period (P.Subject ∷ (P.From ∷ (P.Addresses ∷ (P.Mime ∷ (P.Handle ∷ [])))))), refl)); plain = tt; once = (λ none. none_there P.Period none, tt) };
+          says = record { days = refl; seconds = refl; subject = refl; from = tt; addresses = refl; mime = refl; handle = refl; reason = refl };
+        };
+        tree_is = refl;
+      })));
   valid = record { known = one_known is_capability (codes "vacation-seconds") refl; stand = ((refl, λ is. refl, record { narrow = refl; entity = λ is. absurd (cc is) }), tt); shallow = lit≤ tt };
 }
   where
-    answer_lexemes : List Lexeme
-    answer_lexemes = tag T.Seconds ∷ (number 0 ∷ (text (codes "x") ∷ (mark K.Semicolon ∷ [])))
+    answered : List Lexeme
+    answered = tag T.Seconds ∷ (number 0 ∷ (text (codes "x") ∷ (mark K.Semicolon ∷ [])))
 
 answers_before : (tree : Commands) → MeansIn before seconds tree → ⊥
 answers_before tree means = (known_before seconds seconds_tokens seconds_spelled tree means).1.1.1.1.0
