@@ -18,3 +18,6 @@ pub mod ScriptExamples
 pub mod TraceLemmas
 pub mod OutcomeLemmas
 pub mod EntityLemmas
+pub mod LanguageLemmas
+pub mod LanguageLaws
+pub mod LanguageExamples

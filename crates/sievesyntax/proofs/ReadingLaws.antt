@@ -1,7 +1,6 @@
 -- Lexemes are read as one tree at most.
 use Rattle.std.proofs.Common.{◌≡◌, ℕ, List, [], ◌∷◌, refl, sym, ap, ◌∙◌, subst, inl, inr}
 use Rattle.octets.proofs.Lists.{some_is}
-use Rattle.addrparts.specs.declared.address.Addr.{Addr}
 use Rattle.sievelex.specs.declared.token.Mark.{Mark}
 use Rattle.sievelex.specs.declared.token.Mark.TheVariants as K
 use Rattle.sievesyntax.specs.declared.table.keyword.Keyword.{Keyword}
@@ -19,7 +18,6 @@ use Rattle.sievesyntax.specs.Table.{IsList, IsRow, IsPlainTest, IsPlainCommand}
 use Rattle.sievesyntax.specs.Tags.{IsAllowed, IsPlain as IsPositional, IsSplit, IsCall}
 use Rattle.sievesyntax.specs.Tests.{Headed, Marked, IsPlain, IsTest, AreTests, AreMoreTests, ReadsTest}
 use Rattle.sievesyntax.specs.Tree.{TestTree, yes, no, looks, not_of, all_of, any_of, Tests, no_tests, test, CommandTree, require, choose, stop, act, Branches, no_branches, branch, Commands, no_commands, command}
-use Rattle.sievesyntax.specs.Vacations.{Names}
 use Rattle.sievesyntax.proofs.ArgumentLemmas.{IsMarked, end_none}
 use Rattle.sievesyntax.proofs.TagLemmas.{tag_value_only, plain_none}
 use Rattle.sievesyntax.proofs.TestLemmas.{is_plain}

@@ -16,5 +16,7 @@ pub mod Tree
 pub mod Valid
 pub mod View
 pub mod Meaning
+pub mod Languages
 pub mod Means
 pub mod Trace
+pub mod Before

@@ -3,14 +3,18 @@ use Rattle.std.specs.Prelude.{ℕ, List}
 use Rattle.sievelex.specs.declared.token.Token.{Token}
 use Rattle.sievelex.specs.Spelling.{Spells}
 use Rattle.sievelex.specs.Contents.{contents_of}
-use Rattle.sievesyntax.specs.Lexemes.{lexemes_of}
+use Rattle.sievesyntax.specs.Languages.{Language, lexemes_in, today}
 use Rattle.sievesyntax.specs.Tree.{Commands}
 use Rattle.sievesyntax.specs.Grammar.{ReadsScript}
-use Rattle.sievesyntax.specs.Valid.{IsValid}
+use Rattle.sievesyntax.specs.Valid.{IsValidIn}
 
--- some tokens spell the text, read as this tree, and the tree is valid
-pub record Means (text : List ℕ) (tree : Commands) : Type 0 where
+-- some tokens spell the text, read in this language as this tree, and the tree is valid with what its `require` knows
+pub record MeansIn (language : Language) (text : List ℕ) (tree : Commands) : Type 0 where
   pub tokens : List Token
   pub spelled : Spells text tokens
-  pub read : ReadsScript tree (lexemes_of (contents_of tokens))
-  pub valid : IsValid tree
+  pub read : ReadsScript tree (lexemes_in language (contents_of tokens))
+  pub valid : IsValidIn language.knows tree
+
+-- what a text means in the language as it is
+abbrev pub Means : List ℕ → Commands → Type 0
+Means = MeansIn today

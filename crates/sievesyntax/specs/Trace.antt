@@ -39,10 +39,14 @@ abbrev mutual
 abbrev pub actions_run : (Check → Bool) → Commands → List Action
 actions_run truth commands = (runs_all truth commands).0
 
--- actions in turn, up to one that fails
+-- actions in turn, up to one that fails, where this says what one does
+abbrev pub in_turn_by : (Action → RunState → Flow) → List Action → RunState → Flow
+in_turn_by performs [] state = Going state
+in_turn_by performs (action ∷ more) state = and_then (performs action state) (in_turn_by performs more)
+
+-- the same with what each does
 abbrev pub in_turn : List Action → RunState → Flow
-in_turn [] state = Going state
-in_turn (action ∷ more) state = and_then (performed action state) (in_turn more)
+in_turn = in_turn_by performed
 
 -- an action that leaves the implicit keep and sends the message nowhere
 abbrev pub KeepsImplicitly : Action → Type 0

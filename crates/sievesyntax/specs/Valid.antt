@@ -126,10 +126,14 @@ after_requires no_commands = no_commands
 after_requires (command (require names) more) = after_requires more
 after_requires (command first more) = command first more
 
--- a valid script: `require` stands before every other command and names what is known, an extension is
--- used where it is required alone, blocks stand no deeper than they may, and no more test lists and, counted
--- apart, `not`s enclose a test than may
-pub record IsValid (commands : Commands) : Type 0 where
-  pub known : All IsCapability (required commands)
+-- a valid script, where `require` knows these names: `require` stands before every other command and names what is
+-- known, an extension is used where it is required alone, blocks stand no deeper than they may, and no more test lists
+-- and, counted apart, `not`s enclose a test than may
+pub record IsValidIn (knows : List ℕ → Bool) (commands : Commands) : Type 0 where
+  pub known : All (λ name. knows name ≡ true) (required commands)
   pub stand : MayAllStand (granted_by (required commands)) (after_requires commands)
   pub shallow : depth commands ≤ max_blocks
+
+-- a valid script
+abbrev pub IsValid : Commands → Type 0
+IsValid = IsValidIn is_capability

@@ -1,8 +1,10 @@
 //! Laws of the definitions, each the contract of a function that does nothing.
 ghost use Rattle.std.specs.Prelude.{◌≡◌, ◌↔◌, ℕ, Bool, true, List, All};
 ghost use Rattle.sievesyntax.specs.declared.tree.checks.Check.{Check};
+ghost use Rattle.sievesyntax.specs.Before.{outcome_in, StillMeans};
+ghost use Rattle.sievesyntax.specs.Languages.{today, before};
 ghost use Rattle.sievesyntax.specs.Meaning.{ended, outcome};
-ghost use Rattle.sievesyntax.specs.Means.{Means};
+ghost use Rattle.sievesyntax.specs.Means.{MeansIn, Means};
 ghost use Rattle.sievesyntax.specs.Reasons.{is_entity, IsEntity};
 ghost use Rattle.sievesyntax.specs.RunState.{at_first};
 ghost use Rattle.sievesyntax.specs.Trace.{actions_run, in_turn, KeepsImplicitly, OnDone, NamesWithoutRepeats, FilesIntoInboxAlone};
@@ -33,4 +35,11 @@ pub fn implicit_keep()
 /// The reason of a `vacation` with `:mime` is taken exactly where it is a MIME entity (RFC 5230, 4.4).
 pub fn entity_of_a_reason()
     ensures { (text : List ℕ) → (is_entity text ≡ true) ↔ IsEntity text }
+{}
+
+/// A text that meant a tree before `:copy` (RFC 3894) and `:seconds` (RFC 6131) means the same tree now. The tree has neither, and
+/// on every mail it comes to what it came to before, when each filing and each redirect cancelled the implicit keep.
+pub fn scripts_of_before()
+    ensures still { (text : List ℕ) (tree : Commands) → MeansIn before text tree → StillMeans text tree }
+    ensures today { (truth : Check → Bool) (tree : Commands) → outcome truth tree ≡ outcome_in today truth tree }
 {}

@@ -1,0 +1,388 @@
+-- Examples of the language before and of the one that is: texts that mean a tree in both, and near misses.
+use Rattle.std.proofs.Common.{◌≡◌, ◌+◌, ◌<◌, ℕ, zero, suc, Bool, true, false, List, [], ◌∷◌, length, take, get_or, Option, Some, None, refl, ap, sym, subst, arith, lit<, lit≤}
+use Rattle.std.specs.Prelude.{codes, All}
+use Rattle.addrparts.specs.declared.address.Addr.{Addr}
+use Rattle.addrparts.specs.Outbound.{IsOutbound}
+use Rattle.addrparts.specs.Reading.{outbound, pieces}
+use Rattle.addrparts.proofs.Outbounds.{outbound-is}
+use Rattle.sievelex.specs.declared.token.Content.{Content}
+use Rattle.sievelex.specs.declared.token.Content.TheVariants as C
+use Rattle.sievelex.specs.declared.token.Mark.TheVariants as K
+use Rattle.sievelex.specs.declared.token.Token.{Token}
+use Rattle.sievelex.specs.Contents.{contents_of}
+use Rattle.sievelex.specs.Space.{IsTail}
+use Rattle.sievelex.specs.Spelling.{IsNext, Spells}
+use Rattle.sievelex.specs.Text.{line_ends}
+use Rattle.sievelex.proofs.Best.{IsFound}
+use Rattle.sievelex.proofs.Named.{identifier_found, tag_found}
+use Rattle.sievelex.proofs.Numbered.{number_found}
+use Rattle.sievelex.proofs.Strings.{string_found}
+use Rattle.sievelex.proofs.Marks.{mark_found}
+use Rattle.sievelex.proofs.Next.{IsAhead, next_found}
+use Rattle.sievelex.proofs.TokenLaws.{tokens_only}
+use Rattle.sievesyntax.specs.declared.table.keyword.Keyword.{Keyword}
+use Rattle.sievesyntax.specs.declared.table.keyword.Keyword.TheVariants as W
+use Rattle.sievesyntax.specs.declared.table.tag.Tag.TheVariants as T
+use Rattle.sievesyntax.specs.declared.table.tag_group.TagGroup.TheVariants as P
+use Rattle.sievesyntax.specs.declared.table.tag_group.TagValue.TheVariants as S
+use Rattle.sievesyntax.specs.declared.parser.argument.Argument.{Argument}
+use Rattle.sievesyntax.specs.declared.parser.argument.Argument.TheVariants as A
+use Rattle.sievesyntax.specs.Arguments.{AreArguments}
+use Rattle.sievesyntax.specs.Table.{IsPlainCommand}
+use Rattle.sievesyntax.specs.declared.tree.action.Action.TheVariants as D
+use Rattle.sievesyntax.specs.declared.tree.checks.Check.{Check}
+use Rattle.sievesyntax.specs.declared.tree.vacation.VacArgs.{VacArgs}
+use Rattle.sievesyntax.specs.Before.{outcome_in, IsOfBefore, EachIn}
+use Rattle.sievesyntax.specs.Grammar.{IsStatement, IsCommand, ReadsScript}
+use Rattle.sievesyntax.specs.Languages.{lexeme_in, lexemes_in, is_capability_before, today, before}
+use Rattle.sievesyntax.specs.Lexemes.{Lexeme, keyword, tag, number, text, mark, lexemes_of}
+use Rattle.sievesyntax.specs.Meaning.{Done}
+use Rattle.sievesyntax.specs.Means.{MeansIn, Means}
+use Rattle.sievesyntax.specs.Tree.{CommandTree, require, act, Commands, no_commands, command}
+use Rattle.sievesyntax.specs.Valid.{is_capability, IsValidIn}
+use Rattle.sievesyntax.proofs.LanguageLaws.{still_means}
+use Rattle.sievesyntax.proofs.LanguageLemmas.{AreKnownLexemes, script_known}
+use Rattle.sievesyntax.proofs.MeansLaws.{means_only}
+use Rattle.sievesyntax.proofs.ScriptExamples.{plain_text}
+use Rattle.sievesyntax.proofs.TagLemmas.{none_there, first_there}
+
+-- `:copy` and `:seconds` were no tags that the grammar knew; `:days` was one
+copy_before : (lexeme_in before (C.Tag (codes "Copy")) ≡ tag T.Other) × (lexeme_in today (C.Tag (codes "Copy")) ≡ tag T.Copy)
+copy_before = (refl, refl)
+
+seconds_before : (lexeme_in before (C.Tag (codes "seconds")) ≡ tag T.Other) × (lexeme_in today (C.Tag (codes "seconds")) ≡ tag T.Seconds)
+seconds_before = (refl, refl)
+
+days_before : lexeme_in before (C.Tag (codes "days")) ≡ tag T.Days
+days_before = refl
+
+-- at today's language each token is seen as it is
+lexemes_today : (contents : List Content) → lexemes_in today contents ≡ lexemes_of contents
+lexemes_today contents = refl
+
+-- ---- outcomes
+
+abbrev target : Addr
+target = record { local = codes "c"; domain = codes "d" }
+
+abbrev filing : Bool → Commands
+filing copy = command (act (D.FileInto (record { mailbox = codes "x"; copy = copy }))) no_commands
+
+abbrev redirecting : Bool → Commands
+redirecting copy = command (act (D.Redirect (record { target = target; copy = copy }))) no_commands
+
+abbrev answer : Option ℕ → VacArgs
+answer seconds = record { days = None; seconds = seconds; subject = None; from = None; addresses = []; mime = false; handle = None; reason = codes "x" }
+
+abbrev answering : Option ℕ → Commands
+answering seconds = command (act (D.Vacation (answer seconds))) no_commands
+
+-- a filing cancelled the implicit keep, whatever it says, and a `vacation` didn't
+filed_before : (truth : Check → Bool) (copy : Bool) → outcome_in before truth (filing copy) ≡ Done (record { filed = codes "x" ∷ []; sent = []; reply = None })
+filed_before truth copy = refl
+
+filed_today : (truth : Check → Bool) → outcome_in today truth (filing true) ≡ Done (record { filed = codes "x" ∷ (codes "INBOX" ∷ []); sent = []; reply = None })
+filed_today truth = refl
+
+sent_before : (truth : Check → Bool) (copy : Bool) → outcome_in before truth (redirecting copy) ≡ Done (record { filed = []; sent = target ∷ []; reply = None })
+sent_before truth copy = refl
+
+answered_before : (truth : Check → Bool) (seconds : Option ℕ) → outcome_in before truth (answering seconds) ≡ Done (record { filed = codes "INBOX" ∷ []; sent = []; reply = Some (answer seconds) })
+answered_before truth seconds = refl
+
+-- trees of the language before, one with `:copy` and one with seconds
+of_before : EachIn IsOfBefore (filing false) × EachIn IsOfBefore (answering None)
+of_before = ((refl, tt), (refl, tt))
+
+no_copy : EachIn IsOfBefore (filing true) → ⊥
+no_copy each = let e : true ≡ false = each.0 in absurd (cc e)
+
+no_seconds : EachIn IsOfBefore (answering (Some 0)) → ⊥
+no_seconds each = let e : Some 0 ≡ None = each.0 in absurd (cc e)
+
+-- ---- texts
+
+-- a token on the first line
+abbrev on_line : Content → ℕ → ℕ → Token
+on_line content start end = record { content = content; start = start; end = end; line = 1 }
+
+-- the token that stands ahead there
+next : (whole octets : List ℕ) (at start len : ℕ) (content : Content) → IsAhead whole at start octets → 0 < length octets → 1 ≡ 1 + line_ends (take start whole)
+    → IsFound octets (record { content = content; len = len }) → IsNext whole at (on_line content start (start + len))
+next whole octets at start len content ahead some line found =
+    next_found whole octets at start 1 (record { content = content; len = len }) ahead (λ e. omega arith) line found.0
+
+nothing : IsTail []
+nothing = record { pieces = []; last = []; each = tt; comment = tt; spelled = refl }
+
+-- what `require` knows: a name alone, and no name
+one_known : (knows : List ℕ → Bool) (name : List ℕ) → knows name ≡ true → All (λ x. knows x ≡ true) (name ∷ [])
+one_known knows name is zero d within = is
+one_known knows name is (suc k) d within = absurd (omega (arith, within))
+
+none_known : (knows : List ℕ → Bool) → All (λ x. knows x ≡ true) []
+none_known knows k d within = absurd (omega (arith, within))
+
+-- a script of one command
+alone : (tree : CommandTree) (name : Keyword) (after : List Lexeme) → IsCommand tree name after [] → ReadsScript (command tree no_commands) (keyword name ∷ after)
+alone tree name after is = ([], ((name, (after, (refl, is))), refl))
+
+-- a word whose arguments end at a semicolon, which is the last of the script
+ending : (name : Keyword) (args : List Argument) (after : List Lexeme) (tree : CommandTree) → AreArguments args after (mark K.Semicolon ∷ []) → IsPlainCommand name args tree → IsStatement tree name after []
+ending name args after tree spelled is = (args, (spelled, is))
+
+-- `require` of one name, and more
+after_require : (capability : List ℕ) (more : Commands) (from : List Lexeme) → ReadsScript more from → ReadsScript (command (require (capability ∷ [])) more) (keyword W.Require ∷ (text capability ∷ (mark K.Semicolon ∷ from)))
+after_require capability more from reads = (from, ((W.Require, (text capability ∷ (mark K.Semicolon ∷ from), (refl, requires))), reads))
+  where
+    requires : IsStatement (require (capability ∷ [])) W.Require (text capability ∷ (mark K.Semicolon ∷ from)) from
+    requires = (
+      A.Text capability ∷ [],
+      (
+        record { spelled = (mark K.Semicolon ∷ from, (refl, refl)); all = tt },
+        record {
+          value = capability ∷ [];
+          is = record { tag_values = []; positional = A.Text capability ∷ []; split_tags = record { written = refl; plain = tt; once = tt }; says = refl };
+          tree_is = refl;
+        },
+      ),
+    )
+
+names_target : IsOutbound (codes "c@d") [] target
+unfolding outbound pieces
+names_target = outbound-is (codes "c@d") [] target refl
+
+-- `redirect "c@d";`
+abbrev redirect : List ℕ
+redirect = codes "redirect \"c@d\";"
+
+abbrev redirect_tokens : List Token
+redirect_tokens =
+    on_line (C.Identifier (codes "redirect")) 0 8
+    ∷ (on_line (C.Text (codes "c@d")) 9 14
+    ∷ (on_line (C.Mark K.Semicolon) 14 15 ∷ []))
+
+redirect_spelled : Spells redirect redirect_tokens
+redirect_spelled = record {
+  written = plain_text redirect refl refl;
+  spelled = (
+    next redirect (codes "redirect \"c@d\";") 0 0 8 (C.Identifier (codes "redirect")) (record { order = lit≤ tt; inside = lit≤ tt; octets_are = refl; skipped = refl }) (lit< tt) refl (identifier_found (codes "redirect \"c@d\";") (codes "redirect") (codes " \"c@d\";") (codes "redirect") 8 refl refl refl refl refl refl (λ t. let e : 114 ≡ 116 = ap (λ s. get_or s 0 0) t.0 in omega arith)),
+    (
+      next redirect (codes "\"c@d\";") 8 9 5 (C.Text (codes "c@d")) (record { order = lit≤ tt; inside = lit≤ tt; octets_are = refl; skipped = refl }) (lit< tt) refl (string_found (codes "c@d\";") (codes "c@d") 4 (lit≤ tt) refl),
+      (
+        next redirect (codes ";") 14 14 1 (C.Mark K.Semicolon) (record { order = lit≤ tt; inside = lit≤ tt; octets_are = refl; skipped = refl }) (lit< tt) refl (mark_found (codes ";") 59 [] K.Semicolon refl refl),
+        nothing,
+      ),
+    ),
+  );
+}
+
+-- it meant to redirect to c@d, and means it still
+redirects_before : MeansIn before redirect (redirecting false)
+redirects_before = record {
+  tokens = redirect_tokens;
+  spelled = redirect_spelled;
+  read = alone (act (D.Redirect (record { target = target; copy = false }))) W.Redirect (text (codes "c@d") ∷ (mark K.Semicolon ∷ [])) (ending W.Redirect (A.Text (codes "c@d") ∷ []) (text (codes "c@d") ∷ (mark K.Semicolon ∷ [])) _
+      (record { spelled = (mark K.Semicolon ∷ [], (refl, refl)); all = tt })
+      (record {
+        value = record { target = target; copy = false };
+        is = record {
+          tag_values = [];
+          positional = A.Text (codes "c@d") ∷ [];
+          split_tags = record { written = refl; plain = tt; once = tt };
+          says = record { text = codes "c@d"; is_text = refl; names = ([], names_target); copy = refl };
+        };
+        tree_is = refl;
+      }));
+  valid = record { known = none_known is_capability_before; stand = (λ is. absurd (cc is), tt); shallow = lit≤ tt };
+}
+
+redirects_still : Means redirect (redirecting false)
+redirects_still = (still_means redirect (redirecting false) redirects_before).means
+
+-- `require "copy";`
+abbrev capable : List ℕ
+capable = codes "require \"copy\";"
+
+abbrev capable_tokens : List Token
+capable_tokens =
+    on_line (C.Identifier (codes "require")) 0 7
+    ∷ (on_line (C.Text (codes "copy")) 8 14
+    ∷ (on_line (C.Mark K.Semicolon) 14 15 ∷ []))
+
+capable_spelled : Spells capable capable_tokens
+capable_spelled = record {
+  written = plain_text capable refl refl;
+  spelled = (
+    next capable (codes "require \"copy\";") 0 0 7 (C.Identifier (codes "require")) (record { order = lit≤ tt; inside = lit≤ tt; octets_are = refl; skipped = refl }) (lit< tt) refl (identifier_found (codes "require \"copy\";") (codes "require") (codes " \"copy\";") (codes "require") 7 refl refl refl refl refl refl (λ t. let e : 114 ≡ 116 = ap (λ s. get_or s 0 0) t.0 in omega arith)),
+    (
+      next capable (codes "\"copy\";") 7 8 6 (C.Text (codes "copy")) (record { order = lit≤ tt; inside = lit≤ tt; octets_are = refl; skipped = refl }) (lit< tt) refl (string_found (codes "copy\";") (codes "copy") 5 (lit≤ tt) refl),
+      (
+        next capable (codes ";") 14 14 1 (C.Mark K.Semicolon) (record { order = lit≤ tt; inside = lit≤ tt; octets_are = refl; skipped = refl }) (lit< tt) refl (mark_found (codes ";") 59 [] K.Semicolon refl refl),
+        nothing,
+      ),
+    ),
+  );
+}
+
+-- it means a tree, and meant none: `copy` wasn't known
+capable_today : Means capable (command (require (codes "copy" ∷ [])) no_commands)
+capable_today = record {
+  tokens = capable_tokens;
+  spelled = capable_spelled;
+  read = after_require (codes "copy") no_commands [] refl;
+  valid = record { known = one_known is_capability (codes "copy") refl; stand = tt; shallow = lit≤ tt };
+}
+
+capable_before : (tree : Commands) → MeansIn before capable tree → ⊥
+capable_before tree means =
+    let same : command (require (codes "copy" ∷ [])) no_commands ≡ tree = means_only capable _ tree capable_today (still_means capable tree means).means in
+    let bad : false ≡ true = (subst (IsValidIn is_capability_before) (sym same) means.valid).known 0 [] (lit< tt) in
+    absurd (cc bad)
+
+-- `require "copy"; redirect :copy "c@d";`
+abbrev copying : List ℕ
+copying = codes "require \"copy\"; redirect :copy \"c@d\";"
+
+abbrev copying_tokens : List Token
+copying_tokens =
+    on_line (C.Identifier (codes "require")) 0 7
+    ∷ (on_line (C.Text (codes "copy")) 8 14
+    ∷ (on_line (C.Mark K.Semicolon) 14 15
+    ∷ (on_line (C.Identifier (codes "redirect")) 16 24
+    ∷ (on_line (C.Tag (codes "copy")) 25 30
+    ∷ (on_line (C.Text (codes "c@d")) 31 36
+    ∷ (on_line (C.Mark K.Semicolon) 36 37 ∷ []))))))
+
+copying_spelled : Spells copying copying_tokens
+copying_spelled = record {
+  written = plain_text copying refl refl;
+  spelled = (
+    next copying (codes "require \"copy\"; redirect :copy \"c@d\";") 0 0 7 (C.Identifier (codes "require")) (record { order = lit≤ tt; inside = lit≤ tt; octets_are = refl; skipped = refl }) (lit< tt) refl (identifier_found (codes "require \"copy\"; redirect :copy \"c@d\";") (codes "require") (codes " \"copy\"; redirect :copy \"c@d\";") (codes "require") 7 refl refl refl refl refl refl (λ t. let e : 114 ≡ 116 = ap (λ s. get_or s 0 0) t.0 in omega arith)),
+    (
+      next copying (codes "\"copy\"; redirect :copy \"c@d\";") 7 8 6 (C.Text (codes "copy")) (record { order = lit≤ tt; inside = lit≤ tt; octets_are = refl; skipped = refl }) (lit< tt) refl (string_found (codes "copy\"; redirect :copy \"c@d\";") (codes "copy") 5 (lit≤ tt) refl),
+      (
+        next copying (codes "; redirect :copy \"c@d\";") 14 14 1 (C.Mark K.Semicolon) (record { order = lit≤ tt; inside = lit≤ tt; octets_are = refl; skipped = refl }) (lit< tt) refl (mark_found (codes "; redirect :copy \"c@d\";") 59 (codes " redirect :copy \"c@d\";") K.Semicolon refl refl),
+        (
+          next copying (codes "redirect :copy \"c@d\";") 15 16 8 (C.Identifier (codes "redirect")) (record { order = lit≤ tt; inside = lit≤ tt; octets_are = refl; skipped = refl }) (lit< tt) refl (identifier_found (codes "redirect :copy \"c@d\";") (codes "redirect") (codes " :copy \"c@d\";") (codes "redirect") 8 refl refl refl refl refl refl (λ t. let e : 114 ≡ 116 = ap (λ s. get_or s 0 0) t.0 in omega arith)),
+          (
+            next copying (codes ":copy \"c@d\";") 24 25 5 (C.Tag (codes "copy")) (record { order = lit≤ tt; inside = lit≤ tt; octets_are = refl; skipped = refl }) (lit< tt) refl (tag_found (codes "copy \"c@d\";") (codes "copy") (codes "copy") 4 refl refl refl refl refl),
+            (
+              next copying (codes "\"c@d\";") 30 31 5 (C.Text (codes "c@d")) (record { order = lit≤ tt; inside = lit≤ tt; octets_are = refl; skipped = refl }) (lit< tt) refl (string_found (codes "c@d\";") (codes "c@d") 4 (lit≤ tt) refl),
+              (
+                next copying (codes ";") 36 36 1 (C.Mark K.Semicolon) (record { order = lit≤ tt; inside = lit≤ tt; octets_are = refl; skipped = refl }) (lit< tt) refl (mark_found (codes ";") 59 [] K.Semicolon refl refl),
+                nothing,
+              ),
+            ),
+          ),
+        ),
+      ),
+    ),
+  );
+}
+
+-- where a text of these tokens meant a tree before, there was no tag among them that the grammar didn't know
+known_before : (written : List ℕ) (tokens : List Token) → Spells written tokens → (tree : Commands) → MeansIn before written tree → AreKnownLexemes (lexemes_in before (contents_of tokens))
+known_before written tokens spelled tree means =
+    let P : List Token → Type 0 = λ ts. ReadsScript tree (lexemes_in before (contents_of ts)) in
+    script_known tree (lexemes_in before (contents_of tokens)) (subst P (sym (tokens_only written tokens means.tokens spelled means.spelled)) means.read)
+
+-- it means to redirect and to keep the message, and meant nothing: `:copy` was no tag of the grammar
+copies_today : Means copying (command (require (codes "copy" ∷ [])) (redirecting true))
+copies_today = record {
+  tokens = copying_tokens;
+  spelled = copying_spelled;
+  read = after_require (codes "copy") (redirecting true) (keyword W.Redirect ∷ copied) (alone (act (D.Redirect (record { target = target; copy = true }))) W.Redirect copied (ending W.Redirect (A.Tag T.Copy ∷ (A.Text (codes "c@d") ∷ [])) copied _
+      (record { spelled = (text (codes "c@d") ∷ (mark K.Semicolon ∷ []), (refl, (mark K.Semicolon ∷ [], (refl, refl)))); all = tt })
+      (record {
+        value = record { target = target; copy = true };
+        is = record {
+          tag_values = S.Copy ∷ [];
+          positional = A.Text (codes "c@d") ∷ [];
+          split_tags = record { written = (A.Text (codes "c@d") ∷ [], ((refl, first_there P.Copy []), refl)); plain = tt; once = (λ none. none_there P.Copy none, tt) };
+          says = record { text = codes "c@d"; is_text = refl; names = ([], names_target); copy = refl };
+        };
+        tree_is = refl;
+      })));
+  valid = record { known = one_known is_capability (codes "copy") refl; stand = (λ is. refl, tt); shallow = lit≤ tt };
+}
+  where
+    copied : List Lexeme
+    copied = tag T.Copy ∷ (text (codes "c@d") ∷ (mark K.Semicolon ∷ []))
+
+copies_before : (tree : Commands) → MeansIn before copying tree → ⊥
+copies_before tree means = (known_before copying copying_tokens copying_spelled tree means).1.1.1.1.0
+
+-- `require "vacation-seconds"; vacation :seconds 0 "x";`
+abbrev seconds : List ℕ
+seconds = codes "require \"vacation-seconds\"; vacation :seconds 0 \"x\";"
+
+abbrev seconds_tokens : List Token
+seconds_tokens =
+    on_line (C.Identifier (codes "require")) 0 7
+    ∷ (on_line (C.Text (codes "vacation-seconds")) 8 26
+    ∷ (on_line (C.Mark K.Semicolon) 26 27
+    ∷ (on_line (C.Identifier (codes "vacation")) 28 36
+    ∷ (on_line (C.Tag (codes "seconds")) 37 45
+    ∷ (on_line (C.Number 0) 46 47
+    ∷ (on_line (C.Text (codes "x")) 48 51
+    ∷ (on_line (C.Mark K.Semicolon) 51 52 ∷ [])))))))
+
+seconds_spelled : Spells seconds seconds_tokens
+seconds_spelled = record {
+  written = plain_text seconds refl refl;
+  spelled = (
+    next seconds (codes "require \"vacation-seconds\"; vacation :seconds 0 \"x\";") 0 0 7 (C.Identifier (codes "require")) (record { order = lit≤ tt; inside = lit≤ tt; octets_are = refl; skipped = refl }) (lit< tt) refl (identifier_found (codes "require \"vacation-seconds\"; vacation :seconds 0 \"x\";") (codes "require") (codes " \"vacation-seconds\"; vacation :seconds 0 \"x\";") (codes "require") 7 refl refl refl refl refl refl (λ t. let e : 114 ≡ 116 = ap (λ s. get_or s 0 0) t.0 in omega arith)),
+    (
+      next seconds (codes "\"vacation-seconds\"; vacation :seconds 0 \"x\";") 7 8 18 (C.Text (codes "vacation-seconds")) (record { order = lit≤ tt; inside = lit≤ tt; octets_are = refl; skipped = refl }) (lit< tt) refl (string_found (codes "vacation-seconds\"; vacation :seconds 0 \"x\";") (codes "vacation-seconds") 17 (lit≤ tt) refl),
+      (
+        next seconds (codes "; vacation :seconds 0 \"x\";") 26 26 1 (C.Mark K.Semicolon) (record { order = lit≤ tt; inside = lit≤ tt; octets_are = refl; skipped = refl }) (lit< tt) refl (mark_found (codes "; vacation :seconds 0 \"x\";") 59 (codes " vacation :seconds 0 \"x\";") K.Semicolon refl refl),
+        (
+          next seconds (codes "vacation :seconds 0 \"x\";") 27 28 8 (C.Identifier (codes "vacation")) (record { order = lit≤ tt; inside = lit≤ tt; octets_are = refl; skipped = refl }) (lit< tt) refl (identifier_found (codes "vacation :seconds 0 \"x\";") (codes "vacation") (codes " :seconds 0 \"x\";") (codes "vacation") 8 refl refl refl refl refl refl (λ t. let e : 118 ≡ 116 = ap (λ s. get_or s 0 0) t.0 in omega arith)),
+          (
+            next seconds (codes ":seconds 0 \"x\";") 36 37 8 (C.Tag (codes "seconds")) (record { order = lit≤ tt; inside = lit≤ tt; octets_are = refl; skipped = refl }) (lit< tt) refl (tag_found (codes "seconds 0 \"x\";") (codes "seconds") (codes "seconds") 7 refl refl refl refl refl),
+            (
+              next seconds (codes "0 \"x\";") 45 46 1 (C.Number 0) (record { order = lit≤ tt; inside = lit≤ tt; octets_are = refl; skipped = refl }) (lit< tt) refl (number_found (codes "0 \"x\";") (codes "0") (codes " \"x\";") 1 0 1 0 refl refl refl refl refl refl (lit≤ tt) refl refl (lit< tt)),
+              (
+                next seconds (codes "\"x\";") 47 48 3 (C.Text (codes "x")) (record { order = lit≤ tt; inside = lit≤ tt; octets_are = refl; skipped = refl }) (lit< tt) refl (string_found (codes "x\";") (codes "x") 2 (lit≤ tt) refl),
+                (
+                  next seconds (codes ";") 51 51 1 (C.Mark K.Semicolon) (record { order = lit≤ tt; inside = lit≤ tt; octets_are = refl; skipped = refl }) (lit< tt) refl (mark_found (codes ";") 59 [] K.Semicolon refl refl),
+                  nothing,
+                ),
+              ),
+            ),
+          ),
+        ),
+      ),
+    ),
+  );
+}
+
+-- it means to answer each message, and meant nothing
+answers_today : Means seconds (command (require (codes "vacation-seconds" ∷ [])) (answering (Some 0)))
+answers_today = record {
+  tokens = seconds_tokens;
+  spelled = seconds_spelled;
+  read = after_require (codes "vacation-seconds") (answering (Some 0)) (keyword W.Vacation ∷ answered) (alone (act (D.Vacation (answer (Some 0)))) W.Vacation answered (ending W.Vacation (A.Tag T.Seconds ∷ (A.Number 0 ∷ (A.Text (codes "x") ∷ []))) answered _
+      (record {
+        spelled = (number 0 ∷ (text (codes "x") ∷ (mark K.Semicolon ∷ [])), (refl, (text (codes "x") ∷ (mark K.Semicolon ∷ []), (refl, (mark K.Semicolon ∷ [], (refl, refl))))));
+        all = tt;
+      })
+      (record {
+        value = answer (Some 0);
+        is = record {
+          tag_values = S.Seconds 0 ∷ [];
+          positional = A.Text (codes "x") ∷ [];
+          split_tags = record { written = (A.Text (codes "x") ∷ [], ((refl, first_there P.Period (P.Subject ∷ (P.From ∷ (P.Addresses ∷ (P.Mime ∷ (P.Handle ∷ [])))))), refl)); plain = tt; once = (λ none. none_there P.Period none, tt) };
+          says = record { days = refl; seconds = refl; subject = refl; from = tt; addresses = refl; mime = refl; handle = refl; reason = refl };
+        };
+        tree_is = refl;
+      })));
+  valid = record { known = one_known is_capability (codes "vacation-seconds") refl; stand = ((refl, λ is. refl, record { narrow = refl; entity = λ is. absurd (cc is) }), tt); shallow = lit≤ tt };
+}
+  where
+    answered : List Lexeme
+    answered = tag T.Seconds ∷ (number 0 ∷ (text (codes "x") ∷ (mark K.Semicolon ∷ [])))
+
+answers_before : (tree : Commands) → MeansIn before seconds tree → ⊥
+answers_before tree means = (known_before seconds seconds_tokens seconds_spelled tree means).1.1.1.1.0

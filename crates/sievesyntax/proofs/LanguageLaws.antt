@@ -1,0 +1,270 @@
+-- A text of the language before keeps its meaning.
+use Rattle.std.proofs.Common.{◌≡◌, ◌||◌, ℕ, suc, Bool, true, false, cond, List, [], ◌∷◌, ◌++◌, length, Option, Some, None, refl, sym, ap, ◌∙◌, arith}
+use Rattle.std.specs.Prelude.{All, slice_index_or, codes, is_some, nat_eq, nat_lt, not}
+use Rattle.std.specs.List.{list_any}
+use Rattle.std.specs.Cmp.Lexicographic.{pointwise}
+use Rattle.std.proofs.lemmas.Cmp.{nat_list_eq_equiv}
+use Rattle.addrparts.specs.declared.address.Addr.{Addr}
+use Rattle.sievelex.specs.Contents.{contents_of}
+use Rattle.sievesyntax.specs.declared.table.capability.Capabilities.{Capabilities}
+use Rattle.sievesyntax.specs.declared.tree.action.Action.{Action}
+use Rattle.sievesyntax.specs.declared.tree.action.Action.TheVariants.{Keep, Discard, FileInto, Redirect, Vacation}
+use Rattle.sievesyntax.specs.declared.tree.checks.Check.{Check}
+use Rattle.sievesyntax.specs.declared.tree.vacation.VacArgs.{VacArgs}
+use Rattle.sievesyntax.specs.Before.{with_cancelled, performed_in, outcome_in, IsOfBefore, EachAction, EachInBranches, EachIn, StillMeans}
+use Rattle.sievesyntax.specs.Languages.{Language, is_capability_before, today, before}
+use Rattle.sievesyntax.specs.Meaning.{holds, ended, outcome}
+use Rattle.sievesyntax.specs.Means.{MeansIn}
+use Rattle.sievesyntax.specs.RunState.{RunState, at_first, max_targets, TwoVacations, Flow, Going, Stopped, Failed, and_then, cancelled_after, same_target, sent_to, replied_by, performed}
+use Rattle.sievesyntax.specs.Trace.{Trace, then_runs, runs, runs_branch, runs_all, actions_run, in_turn_by, in_turn}
+use Rattle.sievesyntax.specs.Tree.{CommandTree, require, choose, stop, act, Branches, no_branches, branch, Commands, no_commands, command}
+use Rattle.sievesyntax.specs.Valid.{is_named, is_capability, granted_by, MayAct, MayStand, MayBranch, MayAllStand, required, after_requires, IsValid, IsValidIn}
+use Rattle.sievesyntax.proofs.LanguageLemmas.{read_today}
+use Rattle.sievesyntax.proofs.TraceLemmas.{outcome_in_turn}
+
+-- ---- what `require` knew
+
+either : (P : Type 0) (a b : Bool) → (a ≡ true → P) → (b ≡ true → P) → (a || b) ≡ true → P
+either P true b one two is = one refl
+either P false b one two is = two is
+
+-- a name that is one is no other
+apart : (one other name : List ℕ) → pointwise nat_eq one other ≡ false → is_named one name ≡ true → is_named other name ≡ false
+apart one other name differ is = nat_list_eq_equiv.congr name one other is ∙ differ
+
+-- what holds of the five names holds of each that was known
+module _ (P : List ℕ → Type 0) (name : List ℕ)
+    (fileinto : is_named (codes "fileinto") name ≡ true → P name) (envelope : is_named (codes "envelope") name ≡ true → P name) (vacation : is_named (codes "vacation") name ≡ true → P name)
+    (octet : is_named (codes "comparator-i;octet") name ≡ true → P name) (casemap : is_named (codes "comparator-i;ascii-casemap") name ≡ true → P name) where
+  each_before : is_capability_before name ≡ true → P name
+  each_before = either (P name) _ _ fileinto (either (P name) _ _ envelope (either (P name) _ _ vacation (either (P name) _ _ octet casemap)))
+
+no_copy : (name : List ℕ) → is_capability_before name ≡ true → is_named (codes "copy") name ≡ false
+no_copy name = each_before (λ n. is_named (codes "copy") n ≡ false) name
+    (apart (codes "fileinto") (codes "copy") name refl) (apart (codes "envelope") (codes "copy") name refl) (apart (codes "vacation") (codes "copy") name refl)
+    (apart (codes "comparator-i;octet") (codes "copy") name refl) (apart (codes "comparator-i;ascii-casemap") (codes "copy") name refl)
+
+no_seconds : (name : List ℕ) → is_capability_before name ≡ true → is_named (codes "vacation-seconds") name ≡ false
+no_seconds name = each_before (λ n. is_named (codes "vacation-seconds") n ≡ false) name
+    (apart (codes "fileinto") (codes "vacation-seconds") name refl) (apart (codes "envelope") (codes "vacation-seconds") name refl) (apart (codes "vacation") (codes "vacation-seconds") name refl)
+    (apart (codes "comparator-i;octet") (codes "vacation-seconds") name refl) (apart (codes "comparator-i;ascii-casemap") (codes "vacation-seconds") name refl)
+
+or_true : (a : Bool) → (a || true) ≡ true
+or_true true = refl
+or_true false = refl
+
+five_of_seven : (a b c d e f g : Bool) → (a || (b || (c || (d || e)))) ≡ true → (a || (b || (c || (d || (e || (f || g)))))) ≡ true
+five_of_seven true b c d e f g is = refl
+five_of_seven false true c d e f g is = refl
+five_of_seven false false true d e f g is = refl
+five_of_seven false false false true e f g is = refl
+five_of_seven false false false false true f g is = refl
+five_of_seven false false false false false f g is = absurd (cc is)
+
+-- what was known is known
+still_known : (name : List ℕ) → is_capability_before name ≡ true → is_capability name ≡ true
+still_known name =
+    five_of_seven (is_named (codes "fileinto") name) (is_named (codes "envelope") name) (is_named (codes "vacation") name) (is_named (codes "comparator-i;octet") name) (is_named (codes "comparator-i;ascii-casemap") name)
+    (is_named (codes "copy") name) (is_named (codes "vacation-seconds") name)
+
+-- what follows of each name follows of all
+of_all : (P Q : List ℕ → Type 0) → ((name : List ℕ) → P name → Q name) → (names : List (List ℕ)) → All P names → All Q names
+of_all P Q each names all = λ k d within. each (slice_index_or names k d) (all k d within)
+
+-- names none of which is this one
+none_named : (word : List ℕ) (names : List (List ℕ)) → All (λ name. is_named word name ≡ false) names → list_any (is_named word) names ≡ false
+none_named word [] all = refl
+none_named word (name ∷ more) all = λ i. all 0 name (omega arith) i || none_named word more (λ k other within. all (suc k) other (omega arith)) i
+
+-- ---- trees that were valid have nothing new
+
+not_true : (b : Bool) → (b ≡ true → ⊥) → b ≡ false
+not_true true none = absurd (none refl)
+not_true false none = refl
+
+none_given : (seconds : Option ℕ) → (is_some seconds ≡ true → ⊥) → seconds ≡ None
+none_given None none = refl
+none_given (Some n) none = absurd (none refl)
+
+-- what isn't granted isn't used
+unused : (granted used : Bool) → granted ≡ false → (used ≡ true → granted ≡ true) → used ≡ true → ⊥
+unused granted used none permits is = let bad : false ≡ true = sym none ∙ permits is in absurd (cc bad)
+
+-- where neither `copy` nor `vacation-seconds` is granted
+module _ (granted : Capabilities) (copy : granted.copy ≡ false) (seconds : granted.seconds ≡ false) where
+  plain_action : (action : Action) → MayAct granted action → IsOfBefore action
+  plain_action Keep may = tt
+  plain_action Discard may = tt
+  plain_action (FileInto filing) may = not_true filing.copy (unused granted.copy filing.copy copy may.1)
+  plain_action (Redirect redirect) may = not_true redirect.copy (unused granted.copy redirect.copy copy may)
+  plain_action (Vacation args) may = none_given args.seconds (unused granted.seconds (is_some args.seconds) seconds may.1)
+
+  mutual
+    plain_command : (tree : CommandTree) → MayStand granted tree → EachAction IsOfBefore tree
+    plain_command (require names) may = tt
+    plain_command (choose branches) may = plain_branches branches may
+    plain_command stop may = tt
+    plain_command (act action) may = plain_action action may
+
+    plain_branches : (branches : Branches) → MayBranch granted branches → EachInBranches IsOfBefore branches
+    plain_branches no_branches may = tt
+    plain_branches (branch condition block more) may = (plain_commands block may.1.0, plain_branches more may.1.1)
+
+    plain_commands : (commands : Commands) → MayAllStand granted commands → EachIn IsOfBefore commands
+    plain_commands no_commands may = tt
+    plain_commands (command first more) may = (plain_command first may.0, plain_commands more may.1)
+
+-- each action in a tree stands after its requires
+after_plain : (tree : Commands) → EachIn IsOfBefore (after_requires tree) → EachIn IsOfBefore tree
+after_plain no_commands each = each
+after_plain (command (require names) more) each = (tt, after_plain more each)
+after_plain (command (choose choice) more) each = each
+after_plain (command stop more) each = each
+after_plain (command (act action) more) each = each
+
+valid_plain : (tree : Commands) → IsValidIn is_capability_before tree → EachIn IsOfBefore tree
+valid_plain tree valid =
+    let names = required tree in
+    let copy = none_named (codes "copy") names (of_all _ _ no_copy names valid.known) in
+    let seconds = none_named (codes "vacation-seconds") names (of_all _ _ no_seconds names valid.known) in
+    after_plain tree (plain_commands (granted_by names) copy seconds (after_requires tree) valid.stand)
+
+-- ---- the outcome
+
+-- whether the implicit keep is cancelled after an action
+abbrev cancelled_by : Action → RunState → Bool
+cancelled_by Keep state = true
+cancelled_by Discard state = true
+cancelled_by (FileInto filing) state = cancelled_after filing.copy state
+cancelled_by (Redirect redirect) state = cancelled_after redirect.copy state
+cancelled_by (Vacation args) state = state.cancelled
+
+picked : (cancelled a b : Bool) (one two three : Flow) → with_cancelled cancelled one ≡ one → with_cancelled cancelled two ≡ two → with_cancelled cancelled three ≡ three
+    → with_cancelled cancelled (cond a one (cond b two three)) ≡ cond a one (cond b two three)
+picked cancelled true b one two three p q r = p
+picked cancelled false true one two three p q r = q
+picked cancelled false false one two three p q r = r
+
+sent_cancelled : (target : Addr) (copy : Bool) (state : RunState) → with_cancelled (cancelled_after copy state) (sent_to target copy state) ≡ sent_to target copy state
+sent_cancelled target copy state =
+    picked (cancelled_after copy state) (list_any (λ there. same_target there target) state.sent) (nat_lt (length state.sent) max_targets) _ _ _ refl refl refl
+
+replied_cancelled : (args : VacArgs) (state : RunState) → with_cancelled state.cancelled (replied_by args state) ≡ replied_by args state
+replied_cancelled args state = step state.reply
+  where
+    step : (reply : Option VacArgs) → with_cancelled state.cancelled (elim reply [ None ↦ Going (record state { reply = Some args }) | Some _ ↦ Failed TwoVacations ])
+        ≡ (elim reply [ None ↦ Going (record state { reply = Some args }) | Some _ ↦ Failed TwoVacations ])
+    step None = refl
+    step (Some _) = refl
+
+cancelled_is : (action : Action) (state : RunState) → with_cancelled (cancelled_by action state) (performed action state) ≡ performed action state
+cancelled_is Keep state = refl
+cancelled_is Discard state = refl
+cancelled_is (FileInto filing) state = refl
+cancelled_is (Redirect redirect) state = sent_cancelled redirect.target redirect.copy state
+cancelled_is (Vacation args) state = replied_cancelled args state
+
+or_false : (a : Bool) → (a || false) ≡ a
+or_false true = refl
+or_false false = refl
+
+copy_cancels : (copy was : Bool) → (was || not copy) ≡ cond copy was true
+copy_cancels true was = or_false was
+copy_cancels false was = or_true was
+
+-- what cancels today and what cancelled before come to the same where there is no `:copy`
+cancels_now : (action : Action) (state : RunState) → (state.cancelled || today.cancels action) ≡ cancelled_by action state
+cancels_now Keep state = or_true state.cancelled
+cancels_now Discard state = or_true state.cancelled
+cancels_now (FileInto filing) state = copy_cancels filing.copy state.cancelled
+cancels_now (Redirect redirect) state = copy_cancels redirect.copy state.cancelled
+cancels_now (Vacation args) state = or_false state.cancelled
+
+plain_cancels : (copy was : Bool) → copy ≡ false → (was || true) ≡ cond copy was true
+plain_cancels true was e = absurd (cc e)
+plain_cancels false was e = or_true was
+
+cancelled_then : (action : Action) (state : RunState) → IsOfBefore action → (state.cancelled || before.cancels action) ≡ cancelled_by action state
+cancelled_then Keep state plain = or_true state.cancelled
+cancelled_then Discard state plain = or_true state.cancelled
+cancelled_then (FileInto filing) state plain = plain_cancels filing.copy state.cancelled plain
+cancelled_then (Redirect redirect) state plain = plain_cancels redirect.copy state.cancelled plain
+cancelled_then (Vacation args) state plain = or_false state.cancelled
+
+-- each of these actions is so
+abbrev Every : (Action → Type 0) → List Action → Type 0
+Every P [] = Unit {0}
+Every P (action ∷ more) = P action × Every P more
+
+-- actions that do the same in a language come to the same there
+module _ (language : Language) (P : Action → Type 0)
+    (same : (action : Action) (state : RunState) → P action → (state.cancelled || language.cancels action) ≡ cancelled_by action state) where
+  in_turn_same : (actions : List Action) → Every P actions → (state : RunState) → in_turn actions state ≡ in_turn_by (performed_in language) actions state
+  in_turn_same [] every state = refl
+  in_turn_same (action ∷ more) every state =
+      step (performed action state) (in_turn_same more every.1)
+      ∙ ap (λ flow. and_then flow (in_turn_by (performed_in language) more)) (sym (ap (λ b. with_cancelled b (performed action state)) (same action state every.0) ∙ cancelled_is action state))
+    where
+      step : (flow : Flow) → ((next : RunState) → in_turn more next ≡ in_turn_by (performed_in language) more next) → and_then flow (in_turn more) ≡ and_then flow (in_turn_by (performed_in language) more)
+      step (Going next) later = later next
+      step (Stopped next) later = refl
+      step (Failed failure) later = refl
+
+  outcome_same : (truth : Check → Bool) (tree : Commands) → Every P (actions_run truth tree) → outcome truth tree ≡ outcome_in language truth tree
+  outcome_same truth tree every = outcome_in_turn truth tree ∙ ap ended (in_turn_same (actions_run truth tree) every at_first)
+
+-- what is so of each action in a tree is so of those that are run
+module _ (P : Action → Type 0) where
+  every_append : (xs ys : List Action) → Every P xs → Every P ys → Every P (xs ++ ys)
+  every_append [] ys one two = two
+  every_append (x ∷ xs) ys one two = (one.0, every_append xs ys one.1 two)
+
+  then_every : (one two : Trace) → Every P one.0 → Every P two.0 → Every P (then_runs one two).0
+  then_every (actions, true) two a b = a
+  then_every (actions, false) two a b = every_append actions two.0 a b
+
+  pick_every : (b : Bool) (one two : Trace) → Every P one.0 → Every P two.0 → Every P (cond b one two).0
+  pick_every true one two x y = x
+  pick_every false one two x y = y
+
+  mutual
+    command_runs : (truth : Check → Bool) (tree : CommandTree) → EachAction P tree → Every P (runs truth tree).0
+    command_runs truth (require names) each = tt
+    command_runs truth (choose branches) each = branches_run truth branches each
+    command_runs truth stop each = tt
+    command_runs truth (act action) each = (each, tt)
+
+    branches_run : (truth : Check → Bool) (branches : Branches) → EachInBranches P branches → Every P (runs_branch truth branches).0
+    branches_run truth no_branches each = tt
+    branches_run truth (branch condition block more) each =
+        pick_every (holds truth condition) (runs_all truth block) (runs_branch truth more) (commands_run truth block each.0) (branches_run truth more each.1)
+
+    commands_run : (truth : Check → Bool) (commands : Commands) → EachIn P commands → Every P (runs_all truth commands).0
+    commands_run truth no_commands each = tt
+    commands_run truth (command first more) each = then_every (runs truth first) (runs_all truth more) (command_runs truth first each.0) (commands_run truth more each.1)
+
+-- ---- the law
+
+pub todays_outcome : (truth : Check → Bool) (tree : Commands) → outcome truth tree ≡ outcome_in today truth tree
+todays_outcome truth tree = outcome_same today (λ action. Unit {0}) (λ action state any. cancels_now action state) truth tree (all (actions_run truth tree))
+  where
+    all : (actions : List Action) → Every (λ action. Unit {0}) actions
+    all [] = tt
+    all (action ∷ more) = (tt, all more)
+
+still_valid : (tree : Commands) → IsValidIn is_capability_before tree → IsValid tree
+still_valid tree valid = record { known = of_all _ _ still_known (required tree) valid.known; stand = valid.stand; shallow = valid.shallow }
+
+pub still_means : (text : List ℕ) (tree : Commands) → MeansIn before text tree → StillMeans text tree
+still_means text tree means =
+    let plain = valid_plain tree means.valid in
+    record {
+      means = record {
+        tokens = means.tokens;
+        spelled = means.spelled;
+        read = read_today before (contents_of means.tokens) tree means.read;
+        valid = still_valid tree means.valid;
+      };
+      actions = plain;
+      same = λ truth. outcome_same before IsOfBefore cancelled_then truth tree (commands_run IsOfBefore truth tree plain);
+    }

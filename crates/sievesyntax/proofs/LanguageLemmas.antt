@@ -1,0 +1,255 @@
+-- What is read in a language has no tag that the language hasn't.
+use Rattle.std.proofs.Common.{◌≡◌, ℕ, Bool, true, false, cond, List, [], ◌∷◌, Option, Some, None, refl, sym, ap, subst, inl, inr}
+use Rattle.sievelex.specs.declared.token.Content.{Content}
+use Rattle.sievelex.specs.declared.token.Content.TheVariants as C
+use Rattle.sievelex.specs.declared.token.Mark.TheVariants as K
+use Rattle.sievesyntax.specs.declared.table.keyword.Keyword.{Keyword}
+use Rattle.sievesyntax.specs.declared.table.keyword.Keyword.TheVariants as W
+use Rattle.sievesyntax.specs.declared.table.tag.Tag.{Tag}
+use Rattle.sievesyntax.specs.declared.table.tag.Tag.TheVariants as T
+use Rattle.sievesyntax.specs.declared.tree.checks.Bound.TheVariants as B
+use Rattle.sievesyntax.specs.declared.tree.checks.Matching.TheVariants as M
+use Rattle.sievesyntax.specs.declared.tree.checks.AddressPart.TheVariants as H
+use Rattle.sievesyntax.specs.declared.parser.argument.Argument.{Argument}
+use Rattle.sievesyntax.specs.declared.parser.argument.Argument.TheVariants as A
+use Rattle.sievesyntax.specs.declared.table.tag_group.TagValue.{TagValue}
+use Rattle.sievesyntax.specs.declared.table.tag_group.TagValue.TheVariants as S
+use Rattle.sievesyntax.specs.declared.table.tag_group.TagGroup.{TagGroup}
+use Rattle.sievesyntax.specs.Arguments.{IsOther, AreStrings, IsArgument}
+use Rattle.sievesyntax.specs.Chains.{Chain}
+use Rattle.sievesyntax.specs.Grammar.{Braced, Tested, IsStatement, IsCommand, IsChoice, AreBranches, AreCommands, ReadsScript}
+use Rattle.sievesyntax.specs.Languages.{Language, lexeme_in, lexemes_in}
+use Rattle.sievesyntax.specs.Lexemes.{tag_of, Lexeme, keyword, tag, number, text, mark, lexeme_of, lexemes_of}
+use Rattle.sievesyntax.specs.Positional.{pair, one_number, one_text, one_list, two_lists}
+use Rattle.sievesyntax.specs.Table.{IsRow, IsPlainTest, IsPlainCommand}
+use Rattle.sievesyntax.specs.Tags.{strings_of, IsTagValue, IsAllowed, IsCall}
+use Rattle.sievesyntax.specs.Tests.{IsPlain, IsTest, AreTests, AreMoreTests}
+use Rattle.sievesyntax.specs.Tree.{TestTree, yes, no, looks, not_of, all_of, any_of, Tests, no_tests, test, CommandTree, require, choose, stop, act, Branches, no_branches, branch, Commands, no_commands, command}
+
+-- a tag that the grammar knows
+abbrev IsTag : Tag → Type 0
+IsTag T.Other = ⊥
+IsTag _ = Unit {0}
+
+-- an argument, and arguments in a row, without any other tag
+abbrev IsKnown : Argument → Type 0
+IsKnown (A.Tag t) = IsTag t
+IsKnown _ = Unit {0}
+
+abbrev AreKnown : List Argument → Type 0
+AreKnown [] = Unit {0}
+AreKnown (first ∷ more) = IsKnown first × AreKnown more
+
+-- the same of lexemes
+abbrev IsKnownLexeme : Lexeme → Type 0
+IsKnownLexeme (tag t) = IsTag t
+IsKnownLexeme _ = Unit {0}
+
+abbrev pub AreKnownLexemes : List Lexeme → Type 0
+AreKnownLexemes [] = Unit {0}
+AreKnownLexemes (first ∷ more) = IsKnownLexeme first × AreKnownLexemes more
+
+-- ---- arguments that say something
+
+strings_known : (value : Argument) (texts : List (List ℕ)) → strings_of value ≡ Some texts → IsKnown value
+strings_known (A.Tag t) texts e = absurd (cc e)
+strings_known (A.Number n) texts e = tt
+strings_known (A.Text string) texts e = tt
+strings_known (A.Strings strings) texts e = tt
+
+first_known : (a : Argument) (from to : List Argument) → from ≡ a ∷ to → IsKnown a → AreKnown to → AreKnown from
+first_known a from to e known so = subst AreKnown (sym e) (known, so)
+
+-- each tag that the table has is one that the grammar knows
+tag_value_known : (s : TagValue) (from to : List Argument) → IsTagValue s from to → AreKnown to → AreKnown from
+tag_value_known (S.Bound B.Over) from to e so = first_known _ from to e tt so
+tag_value_known (S.Bound B.Under) from to e so = first_known _ from to e tt so
+tag_value_known (S.Comparator collation) from to e so = first_known _ from _ e tt (tt, so)
+tag_value_known (S.Matching M.Is) from to e so = first_known _ from to e tt so
+tag_value_known (S.Matching M.Contains) from to e so = first_known _ from to e tt so
+tag_value_known (S.Matching M.Matches) from to e so = first_known _ from to e tt so
+tag_value_known (S.Part H.All) from to e so = first_known _ from to e tt so
+tag_value_known (S.Part H.LocalPart) from to e so = first_known _ from to e tt so
+tag_value_known (S.Part H.Domain) from to e so = first_known _ from to e tt so
+tag_value_known (S.Days days) from to e so = first_known _ from _ e tt (tt, so)
+tag_value_known (S.Seconds seconds) from to e so = first_known _ from _ e tt (tt, so)
+tag_value_known (S.Subject subject) from to e so = first_known _ from _ e tt (tt, so)
+tag_value_known (S.From written) from to e so = first_known _ from _ e tt (tt, so)
+tag_value_known (S.Addresses texts) from to (value, (e, strings)) so = first_known _ from _ e tt (strings_known value texts strings, so)
+tag_value_known S.Mime from to e so = first_known _ from to e tt so
+tag_value_known (S.Handle handle) from to e so = first_known _ from _ e tt (tt, so)
+tag_value_known S.Copy from to e so = first_known _ from to e tt so
+
+tag_values_known : (allowed : List TagGroup) (tag_values : List TagValue) (from to : List Argument) → Chain (IsAllowed allowed) tag_values from to → AreKnown to → AreKnown from
+tag_values_known allowed [] from to e so = subst AreKnown (sym e) so
+tag_values_known allowed (s ∷ more) from to (middle, (first, others)) so = tag_value_known s from middle first.0 (tag_values_known allowed more middle to others so)
+
+-- positional arguments
+number_known : (args : List Argument) (n : ℕ) → one_number args ≡ Some n → AreKnown args
+number_known [] n e = tt
+number_known (A.Tag t ∷ more) n e = absurd (cc e)
+number_known (A.Number m ∷ []) n e = (tt, tt)
+number_known (A.Number m ∷ (_ ∷ _)) n e = absurd (cc e)
+number_known (A.Text string ∷ more) n e = absurd (cc e)
+number_known (A.Strings strings ∷ more) n e = absurd (cc e)
+
+text_known : (args : List Argument) (string : List ℕ) → one_text args ≡ Some string → AreKnown args
+text_known [] string e = tt
+text_known (A.Tag t ∷ more) string e = absurd (cc e)
+text_known (A.Number m ∷ more) string e = absurd (cc e)
+text_known (A.Text other ∷ []) string e = (tt, tt)
+text_known (A.Text other ∷ (_ ∷ _)) string e = absurd (cc e)
+text_known (A.Strings strings ∷ more) string e = absurd (cc e)
+
+list_known : (args : List Argument) (texts : List (List ℕ)) → one_list args ≡ Some texts → AreKnown args
+list_known [] texts e = tt
+list_known (value ∷ []) texts e = (strings_known value texts e, tt)
+list_known (value ∷ (_ ∷ _)) texts e = absurd (cc e)
+
+lists_known : (args : List Argument) (texts : List (List ℕ) × List (List ℕ)) → two_lists args ≡ Some texts → AreKnown args
+lists_known [] texts e = tt
+lists_known (first ∷ []) texts e = absurd (cc e)
+lists_known (first ∷ (second ∷ [])) texts e = step (strings_of first) (strings_of second) refl refl e
+  where
+    step : (one two : Option (List (List ℕ))) → strings_of first ≡ one → strings_of second ≡ two → pair one two ≡ Some texts → AreKnown (first ∷ (second ∷ []))
+    step (Some one) (Some two) p q e = (strings_known first one p, (strings_known second two q, tt))
+    step (Some one) None p q e = absurd (cc e)
+    step None two p q e = absurd (cc e)
+lists_known (first ∷ (second ∷ (_ ∷ _))) texts e = absurd (cc e)
+
+-- the rows of the table
+row_known : {X T : Type 0} (allowed : List TagGroup) (Says : List TagValue → List Argument → X → Type 0) (make : X → T) → ((tag_values : List TagValue) (positional : List Argument) (x : X) → Says tag_values positional x → AreKnown positional)
+    → (args : List Argument) (tree : T) → IsRow (IsCall allowed Says) make args tree → AreKnown args
+row_known allowed Says make says args tree row =
+    let call = row.is in
+    tag_values_known allowed call.tag_values args call.positional call.split_tags.written (says call.tag_values call.positional row.value call.says)
+
+none_known : (args : List Argument) → args ≡ [] → AreKnown args
+none_known args e = subst AreKnown (sym e) tt
+
+test_known : (name : Keyword) (args : List Argument) (tree : TestTree) → IsPlainTest name args tree → AreKnown args
+test_known W.True args tree is = none_known args is.none
+test_known W.False args tree is = none_known args is.none
+test_known W.Size args tree is = row_known _ _ _ (λ s p size says. number_known p size.limit says.limit) args tree is
+test_known W.Exists args tree is = row_known _ _ _ (λ s p fields says. list_known p fields says) args tree is
+test_known W.Header args tree is = row_known _ _ _ (λ s p header says. lists_known p (header.fields, header.keys) says.lists) args tree is
+test_known W.Address args tree is = row_known _ _ _ (λ s p address says. lists_known p (address.fields, address.keys) says.lists) args tree is
+test_known W.Envelope args tree is = row_known _ _ _ (λ s p envelope says. lists_known p (says.names, envelope.keys) says.lists) args tree is
+test_known _ args tree is = absurd is
+
+command_known : (name : Keyword) (args : List Argument) (tree : CommandTree) → IsPlainCommand name args tree → AreKnown args
+command_known W.Require args tree is = row_known _ _ _ (λ s p names says. list_known p names says) args tree is
+command_known W.Stop args tree is = none_known args is.none
+command_known W.Keep args tree is = none_known args is.none
+command_known W.Discard args tree is = none_known args is.none
+command_known W.FileInto args tree is = row_known _ _ _ (λ s p filing says. text_known p filing.mailbox says.mailbox) args tree is
+command_known W.Redirect args tree is = row_known _ _ _ (λ s p redirect says. text_known p says.text says.is_text) args tree is
+command_known W.Vacation args tree is = row_known _ _ _ (λ s p vacation says. text_known p vacation.reason says.reason) args tree is
+command_known _ args tree is = absurd is
+
+-- ---- lexemes that are read: where those after it are known, so are those of it
+
+first_read : (l : Lexeme) (from to : List Lexeme) → from ≡ l ∷ to → IsKnownLexeme l → AreKnownLexemes to → AreKnownLexemes from
+first_read l from to e known so = subst AreKnownLexemes (sym e) (known, so)
+
+others_read : (strings : List (List ℕ)) (from to : List Lexeme) → Chain IsOther strings from to → AreKnownLexemes to → AreKnownLexemes from
+others_read [] from to e so = subst AreKnownLexemes (sym e) so
+others_read (string ∷ more) from to (middle, (e, others)) so = first_read _ from _ e tt (tt, others_read more middle to others so)
+
+strings_read : (strings : List (List ℕ)) (from to : List Lexeme) → AreStrings strings from to → AreKnownLexemes to → AreKnownLexemes from
+strings_read [] from to is so = absurd is
+strings_read (string ∷ more) from to (rest, (e, others)) so = first_read _ from rest e tt (others_read more rest (mark K.CloseBracket ∷ to) others (tt, so))
+
+argument_read : (a : Argument) (from to : List Lexeme) → IsArgument a from to → IsKnown a → AreKnownLexemes to → AreKnownLexemes from
+argument_read (A.Tag t) from to e known so = first_read (tag t) from to e known so
+argument_read (A.Number n) from to e known so = first_read (number n) from to e tt so
+argument_read (A.Text string) from to e known so = first_read (text string) from to e tt so
+argument_read (A.Strings strings) from to (rest, (e, others)) known so = first_read _ from rest e tt (strings_read strings rest to others so)
+
+spelled_read : (args : List Argument) (from to : List Lexeme) → Chain IsArgument args from to → AreKnown args → AreKnownLexemes to → AreKnownLexemes from
+spelled_read [] from to e known so = subst AreKnownLexemes (sym e) so
+spelled_read (a ∷ more) from to (middle, (first, others)) known so = argument_read a from middle first known.0 (spelled_read more middle to others known.1 so)
+
+-- tests
+plain_read : (tree : TestTree) (name : Keyword) (after to : List Lexeme) → IsPlain tree name after to → AreKnownLexemes to → AreKnownLexemes after
+plain_read tree name after to (args, (spelled, is)) so = spelled_read args after to spelled.spelled (test_known name args tree is) so
+
+mutual
+  test_read : (tree : TestTree) (name : Keyword) (after to : List Lexeme) → IsTest tree name after to → AreKnownLexemes to → AreKnownLexemes after
+  test_read yes name after to is so = plain_read yes name after to is so
+  test_read no name after to is so = plain_read no name after to is so
+  test_read (looks check) name after to is so = plain_read (looks check) name after to is so
+  test_read (not_of inner) name after to (named, (other, (rest, (e, is)))) so = first_read (keyword other) after rest e tt (test_read inner other rest to is so)
+  test_read (all_of inner) name after to (named, (inside, (e, is))) so = first_read (mark K.OpenParen) after inside e tt (tests_read inner inside to is so)
+  test_read (any_of inner) name after to (named, (inside, (e, is))) so = first_read (mark K.OpenParen) after inside e tt (tests_read inner inside to is so)
+
+  tests_read : (tests : Tests) (from to : List Lexeme) → AreTests tests from to → AreKnownLexemes to → AreKnownLexemes from
+  tests_read no_tests from to is so = absurd is
+  tests_read (test first more) from to (middle, ((name, (after, (e, is))), others)) so =
+      first_read (keyword name) from after e tt (test_read first name after middle is (more_read more middle to others so))
+
+  more_read : (tests : Tests) (from to : List Lexeme) → AreMoreTests tests from to → AreKnownLexemes to → AreKnownLexemes from
+  more_read no_tests from to e so = first_read (mark K.CloseParen) from to e tt so
+  more_read (test first more) from to (start, (comma, (middle, ((name, (after, (e, is))), others)))) so =
+      first_read (mark K.Comma) from start comma tt (first_read (keyword name) start after e tt (test_read first name after middle is (more_read more middle to others so)))
+
+-- blocks, and what stands before them
+module _ (P : List Lexeme → List Lexeme → Type 0) (inner : (from to : List Lexeme) → P from to → AreKnownLexemes to → AreKnownLexemes from) where
+  braced_read : (from to : List Lexeme) → Braced P from to → AreKnownLexemes to → AreKnownLexemes from
+  braced_read from to (inside, (e, is)) so = first_read (mark K.OpenBrace) from inside e tt (inner inside (mark K.CloseBrace ∷ to) is (tt, so))
+
+  tested_read : (condition : TestTree) (from to : List Lexeme) → Tested condition P from to → AreKnownLexemes to → AreKnownLexemes from
+  tested_read condition from to (start, ((name, (after, (e, is))), block)) so = first_read (keyword name) from after e tt (test_read condition name after start is (braced_read start to block so))
+
+statement_read : (tree : CommandTree) (name : Keyword) (after to : List Lexeme) → IsStatement tree name after to → AreKnownLexemes to → AreKnownLexemes after
+statement_read tree name after to (args, (spelled, is)) so = spelled_read args after (mark K.Semicolon ∷ to) spelled.spelled (command_known name args tree is) (tt, so)
+
+mutual
+  command_read : (tree : CommandTree) (name : Keyword) (after to : List Lexeme) → IsCommand tree name after to → AreKnownLexemes to → AreKnownLexemes after
+  command_read (require names) name after to is so = statement_read (require names) name after to is so
+  command_read (choose branches) name after to is so = choice_read branches name after to is so
+  command_read stop name after to is so = statement_read stop name after to is so
+  command_read (act action) name after to is so = statement_read (act action) name after to is so
+
+  choice_read : (branches : Branches) (name : Keyword) (after to : List Lexeme) → IsChoice branches name after to → AreKnownLexemes to → AreKnownLexemes after
+  choice_read no_branches name after to is so = absurd is
+  choice_read (branch condition block more) name after to (named, (next, (first, others))) so =
+      tested_read (AreCommands block) (λ l m is known. commands_read block l m is known) condition after next first (branches_read more next to others so)
+
+  branches_read : (branches : Branches) (from to : List Lexeme) → AreBranches branches from to → AreKnownLexemes to → AreKnownLexemes from
+  branches_read no_branches from to is so = subst AreKnownLexemes (sym is.0) so
+  branches_read (branch condition block more) from to (inl (after, (e, (next, (first, others))))) so =
+      first_read (keyword W.Elsif) from after e tt (tested_read (AreCommands block) (λ l m is known. commands_read block l m is known) condition after next first (branches_read more next to others so))
+  branches_read (branch condition block more) from to (inr (after, (e, (braced, others)))) so =
+      first_read (keyword W.Else) from after e tt (braced_read (AreCommands block) (λ l m is known. commands_read block l m is known) after to braced so)
+
+  commands_read : (commands : Commands) (from to : List Lexeme) → AreCommands commands from to → AreKnownLexemes to → AreKnownLexemes from
+  commands_read no_commands from to e so = subst AreKnownLexemes (sym e) so
+  commands_read (command first more) from to (middle, ((name, (after, (e, is))), others)) so =
+      first_read (keyword name) from after e tt (command_read first name after middle is (commands_read more middle to others so))
+
+-- a script that is read has none but tags that the grammar knows
+pub script_known : (tree : Commands) (lexemes : List Lexeme) → ReadsScript tree lexemes → AreKnownLexemes lexemes
+script_known tree lexemes read = commands_read tree lexemes [] read tt
+
+-- ---- a language and all that the grammar knows
+
+tag_same : (has : Bool) (t : Tag) → IsTag (cond has t T.Other) → cond has t T.Other ≡ t
+tag_same true t known = refl
+tag_same false t known = absurd known
+
+lexeme_same : (language : Language) (content : Content) → IsKnownLexeme (lexeme_in language content) → lexeme_in language content ≡ lexeme_of content
+lexeme_same language (C.Identifier name) known = refl
+lexeme_same language (C.Tag name) known = ap tag (tag_same (language.has (tag_of name)) (tag_of name) known)
+lexeme_same language (C.Number n) known = refl
+lexeme_same language (C.Text value) known = refl
+lexeme_same language (C.Mark m) known = refl
+
+lexemes_same : (language : Language) (contents : List Content) → AreKnownLexemes (lexemes_in language contents) → lexemes_in language contents ≡ lexemes_of contents
+lexemes_same language [] known = refl
+lexemes_same language (content ∷ more) known = λ i. lexeme_same language content known.0 i ∷ lexemes_same language more known.1 i
+
+-- what is read in a language is read in the whole one
+pub read_today : (language : Language) (contents : List Content) (tree : Commands) → ReadsScript tree (lexemes_in language contents) → ReadsScript tree (lexemes_of contents)
+read_today language contents tree read =
+    subst (ReadsScript tree) (lexemes_same language contents (script_known tree (lexemes_in language contents) read)) read

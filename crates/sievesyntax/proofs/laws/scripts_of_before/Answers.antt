@@ -1,0 +1,5 @@
+use Rattle.sievesyntax.proofs.LanguageLaws.{still_means, todays_outcome}
+use Rattle.sievesyntax.proofs.laws.scripts_of_before.Goals as goal
+
+pub returns : goal.returns
+returns c = record { still = still_means; today = todays_outcome }

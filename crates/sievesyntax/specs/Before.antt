@@ -1,0 +1,55 @@
+-- What a script comes to in a language, and that the scripts of the language before keep their meaning.
+use Rattle.std.specs.Prelude.{◌≡◌, ℕ, Bool, false, ◌||◌, List, None}
+use Rattle.sievesyntax.specs.declared.tree.action.Action.{Action}
+use Rattle.sievesyntax.specs.declared.tree.action.Action.TheVariants.{Keep, Discard, FileInto, Redirect, Vacation}
+use Rattle.sievesyntax.specs.declared.tree.checks.Check.{Check}
+use Rattle.sievesyntax.specs.Languages.{Language, before}
+use Rattle.sievesyntax.specs.Means.{Means}
+use Rattle.sievesyntax.specs.Meaning.{Outcome, ended, outcome}
+use Rattle.sievesyntax.specs.RunState.{RunState, at_first, Flow, Going, Stopped, Failed, performed}
+use Rattle.sievesyntax.specs.Trace.{actions_run, in_turn_by}
+use Rattle.sievesyntax.specs.Tree.{CommandTree, require, choose, stop, act, Branches, no_branches, branch, Commands, no_commands, command}
+
+-- the same run with the implicit keep cancelled or not
+abbrev pub with_cancelled : Bool → Flow → Flow
+with_cancelled cancelled (Going so_far) = Going (record so_far { cancelled = cancelled })
+with_cancelled cancelled (Stopped so_far) = Stopped (record so_far { cancelled = cancelled })
+with_cancelled cancelled (Failed failure) = Failed failure
+
+-- what an action does in a language: the implicit keep is cancelled where it was, or where the action cancels it there
+abbrev pub performed_in : Language → Action → RunState → Flow
+performed_in language action so_far = with_cancelled (so_far.cancelled || language.cancels action) (performed action so_far)
+
+-- the outcome of a script in a language: what the actions that it runs come to there, in turn
+abbrev pub outcome_in : Language → (Check → Bool) → Commands → Outcome
+outcome_in language truth tree = ended (in_turn_by (performed_in language) (actions_run truth tree) at_first)
+
+-- an action that the language before had: without `:copy` and without seconds
+abbrev pub IsOfBefore : Action → Type 0
+IsOfBefore Keep = Unit {0}
+IsOfBefore Discard = Unit {0}
+IsOfBefore (FileInto filing) = filing.copy ≡ false
+IsOfBefore (Redirect redirect) = redirect.copy ≡ false
+IsOfBefore (Vacation args) = args.seconds ≡ None
+
+-- each action in a tree is so
+abbrev mutual
+  pub EachAction : (Action → Type 0) → CommandTree → Type 0
+  EachAction P (require names) = Unit {0}
+  EachAction P (choose branches) = EachInBranches P branches
+  EachAction P stop = Unit {0}
+  EachAction P (act action) = P action
+
+  pub EachInBranches : (Action → Type 0) → Branches → Type 0
+  EachInBranches P no_branches = Unit {0}
+  EachInBranches P (branch condition block more) = EachIn P block × EachInBranches P more
+
+  pub EachIn : (Action → Type 0) → Commands → Type 0
+  EachIn P no_commands = Unit {0}
+  EachIn P (command first more) = EachAction P first × EachIn P more
+
+-- the text means this tree, which has neither `:copy` nor seconds, and on every mail it comes to what it came to before
+pub record StillMeans (text : List ℕ) (tree : Commands) : Type 0 where
+  pub means : Means text tree
+  pub actions : EachIn IsOfBefore tree
+  pub same : (truth : Check → Bool) → outcome truth tree ≡ outcome_in before truth tree

@@ -1,0 +1,85 @@
+-- Languages: what a text may say and require, and what its actions cancel. The grammar is one for all of them.
+use Rattle.std.specs.Prelude.{ℕ, Bool, true, false, cond, not, ◌||◌, List, map, codes}
+use Rattle.sievelex.specs.declared.token.Content.{Content}
+use Rattle.sievelex.specs.declared.token.Content.TheVariants as C
+use Rattle.sievesyntax.specs.declared.table.tag.Tag.{Tag}
+use Rattle.sievesyntax.specs.declared.table.tag.Tag.TheVariants as T
+use Rattle.sievesyntax.specs.declared.tree.action.Action.{Action}
+use Rattle.sievesyntax.specs.declared.tree.action.Action.TheVariants as D
+use Rattle.sievesyntax.specs.Lexemes.{keyword_of, tag_of, Lexeme, keyword, tag, number, text, mark}
+use Rattle.sievesyntax.specs.Valid.{is_named, is_capability}
+
+-- which tags a language has, which capabilities its `require` knows, and which actions cancel the implicit keep in it
+pub record Language : Type 0 where
+  pub has : Tag → Bool
+  pub knows : List ℕ → Bool
+  pub cancels : Action → Bool
+
+-- a tag that the language hasn't is none that the grammar knows
+abbrev pub tag_in : Language → Tag → Tag
+tag_in language t = cond (language.has t) t T.Other
+
+-- what the grammar sees of a token in a language
+abbrev pub lexeme_in : Language → Content → Lexeme
+lexeme_in language (C.Identifier name) = keyword (keyword_of name)
+lexeme_in language (C.Tag name) = tag (tag_in language (tag_of name))
+lexeme_in language (C.Number n) = number n
+lexeme_in language (C.Text value) = text value
+lexeme_in language (C.Mark m) = mark m
+
+-- the same of tokens in a row
+abbrev pub lexemes_in : Language → List Content → List Lexeme
+lexemes_in language contents = map (lexeme_in language) contents
+
+-- ---- the language as it is
+
+-- all but `vacation` cancel the implicit keep (RFC 5228, 2.10.2; RFC 5230, 4.7), and no `:copy` does (RFC 3894, 3)
+abbrev pub cancels_today : Action → Bool
+cancels_today D.Keep = true
+cancels_today D.Discard = true
+cancels_today (D.FileInto filing) = not filing.copy
+cancels_today (D.Redirect redirect) = not redirect.copy
+cancels_today (D.Vacation args) = false
+
+-- all tags, and all capabilities
+abbrev pub today : Language
+today = record { has = λ t. true; knows = is_capability; cancels = cancels_today }
+
+-- ---- the language before `:copy` (RFC 3894) and `:seconds` (RFC 6131)
+
+abbrev pub is_tag_before : Tag → Bool
+is_tag_before T.Over = true
+is_tag_before T.Under = true
+is_tag_before T.Comparator = true
+is_tag_before T.Is = true
+is_tag_before T.Contains = true
+is_tag_before T.Matches = true
+is_tag_before T.All = true
+is_tag_before T.LocalPart = true
+is_tag_before T.Domain = true
+is_tag_before T.Days = true
+is_tag_before T.Subject = true
+is_tag_before T.From = true
+is_tag_before T.Addresses = true
+is_tag_before T.Mime = true
+is_tag_before T.Handle = true
+is_tag_before _ = false
+
+abbrev pub is_capability_before : List ℕ → Bool
+is_capability_before name =
+    is_named (codes "fileinto") name
+    || (is_named (codes "envelope") name
+    || (is_named (codes "vacation") name
+    || (is_named (codes "comparator-i;octet") name
+    || is_named (codes "comparator-i;ascii-casemap") name)))
+
+-- all but `vacation` cancelled the implicit keep (RFC 5228, 2.10.2)
+abbrev pub cancels_before : Action → Bool
+cancels_before D.Keep = true
+cancels_before D.Discard = true
+cancels_before (D.FileInto filing) = true
+cancels_before (D.Redirect redirect) = true
+cancels_before (D.Vacation args) = false
+
+abbrev pub before : Language
+before = record { has = is_tag_before; knows = is_capability_before; cancels = cancels_before }
