@@ -14,8 +14,8 @@ use Rattle.sqlite_sql.specs.declared.ops.CompareOp.TheVariants.{Eq}
 use Rattle.sqlite_keyed.specs.Lists.{update_where, delete_where}
 use Rattle.sqlite_keyed.proofs.ListLemmas.{filter-map, filter_same}
 use Rattle.sqlite_typed.proofs.TestLemmas.{at_blobs, at_ints, last_term, then_term}
-use Rattle.sqlrows.specs.Rows.{Tables, has_key, added, removed, set_in}
-use Rattle.sqlrows.proofs.ListLemmas.{owner_key, pair_key, equal_itself}
+use Rattle.mailtables.specs.Rows.{Tables, has_key, added, removed, set_in}
+use Rattle.mailtables.proofs.ListLemmas.{owner_key, pair_key, equal_itself}
 use Rattle.mailstore.specs.declared.queue.Outgoing.{Outgoing}
 use Rattle.mailtables.specs.Cells.{or_null}
 use Rattle.mailstore.specs.Account.{bytes_cmp, reply_cmp, Account, Replies, new_account, keeps_script, activates, deletes_script, renames_script, moved, other_name, takes_out}

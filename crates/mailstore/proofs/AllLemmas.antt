@@ -8,7 +8,7 @@ use Rattle.sqlite.specs.declared.error.Error.{Error}
 use Rattle.sqlite.specs.Held.{Held, state}
 use Rattle.sqlite.specs.State.{State, HasCleanDisk, Shown}
 use Rattle.sqlite.proofs.Callers.{IsPlain}
-use Rattle.sqlrows.specs.Rows.{Tables, HoldsTables}
+use Rattle.mailtables.specs.Rows.{Tables, HoldsTables}
 use Rattle.mailtables.specs.Schema.{mail_schema}
 use Rattle.mailtables.specs.Connection.{Queries, Answers}
 use Rattle.mailtables.proofs.WriteLemmas.{clean_before}

@@ -2,7 +2,7 @@
 use Rattle.std.proofs.Common.{◌≡◌, ℕ, List, Ok, Err, Result, IfOk, IfErr, IfSome, OnOk, Option, Some, None, subst}
 use Rattle.std.specs.FinMap.{get}
 use Rattle.sqlite.specs.State.{State}
-use Rattle.sqlrows.specs.Rows.{Tables}
+use Rattle.mailtables.specs.Rows.{Tables}
 use Rattle.mailtables.proofs.WriteLemmas.{clean_before}
 use Rattle.mailstore.specs.declared.refusal.Refusal.{Refusal}
 use Rattle.mailstore.specs.Account.{Account}

@@ -6,7 +6,7 @@ use Rattle.std.specs.FinMap.{get, insert}
 use Rattle.sqlite.specs.Effect.{Database}
 use Rattle.sqlite.specs.State.{State, Survives}
 use Rattle.sqlite.proofs.StateLemmas.{survives_weaker}
-use Rattle.sqlrows.specs.Rows.{Tables, HoldsTables}
+use Rattle.mailtables.specs.Rows.{Tables, HoldsTables}
 use Rattle.mailtables.specs.declared.change.Change.{Change}
 use Rattle.mailtables.specs.declared.change.Change.TheVariants.{AddAccount, SetActive, AddScript, RemoveScript, RemoveOutgoing}
 use Rattle.mailstore.specs.declared.refusal.Refusal.{Refusal}

@@ -6,8 +6,8 @@ use Rattle.std.proofs.lemmas.List.{map-append, take_more, length-take}
 use Rattle.sqlite_value.specs.declared.value.Value.TheVariants.{Int}
 use Rattle.sqlite_keyed.proofs.ListLemmas.{all-append, all_weaker}
 use Rattle.sqlite_keyed.specs.Lists.{update_where}
-use Rattle.sqlrows.specs.Rows.{Tables, HoldsTables, has_key, added}
-use Rattle.sqlrows.proofs.ListLemmas.{owner_key, equal_itself}
+use Rattle.mailtables.specs.Rows.{Tables, HoldsTables, has_key, added}
+use Rattle.mailtables.proofs.ListLemmas.{owner_key, equal_itself}
 use Rattle.octets.specs.Ascii.{lowered}
 use Rattle.mailstore.specs.declared.account.Counters.{Counters}
 use Rattle.mailtables.specs.declared.change.Change.{Change}

@@ -9,10 +9,10 @@ use Rattle.sqlite_rules.proofs.ListLemmas.{all_has, has_filtered}
 use Rattle.sqlite_keyed.proofs.ListLemmas.{filter-map, filter_same, filter-filter, slice_get-filter, IsPermutation-filter}
 use Rattle.sqlite.specs.State.{State, Shown}
 use Rattle.sqlite.proofs.Callers.{one_permutation}
-use Rattle.sqlrows.specs.Rows.{Tables, HoldsTables, has_key}
-use Rattle.sqlrows.proofs.AnswerLemmas.{cells_by_key, first_shown}
-use Rattle.sqlrows.proofs.ReadLemmas.{answered}
-use Rattle.sqlrows.proofs.ListLemmas.{owner_key}
+use Rattle.mailtables.specs.Rows.{Tables, HoldsTables, has_key}
+use Rattle.mailtables.proofs.AnswerLemmas.{cells_by_key, first_shown}
+use Rattle.mailtables.proofs.ReadLemmas.{answered}
+use Rattle.mailtables.proofs.ListLemmas.{owner_key}
 use Rattle.mailstore.specs.declared.filing.Filing.{Filing}
 use Rattle.mailstore.specs.declared.taking.NumberedMessage.{NumberedMessage}
 use Rattle.mailtables.specs.Schema.{mail_schema}

@@ -18,11 +18,11 @@ use Rattle.sqlite_sql.proofs.QueryLemmas.{output_cmp_total}
 use Rattle.sqlite_keyed.proofs.ListLemmas.{map-map, map_back, ascending_from_map, ascending_weaker, all-map}
 use Rattle.sqlite_typed.proofs.TestLemmas.{last_key}
 use Rattle.sqlite.specs.State.{State, Shown}
-use Rattle.sqlrows.specs.Forms.{over}
-use Rattle.sqlrows.specs.Rows.{has_key}
-use Rattle.sqlrows.proofs.AnswerLemmas.{cells_in_order}
-use Rattle.sqlrows.proofs.ReadLemmas.{answered}
-use Rattle.sqlrows.proofs.ListLemmas.{owner_key}
+use Rattle.mailtables.specs.Forms.{over}
+use Rattle.mailtables.specs.Rows.{has_key}
+use Rattle.mailtables.proofs.AnswerLemmas.{cells_in_order}
+use Rattle.mailtables.proofs.ReadLemmas.{answered}
+use Rattle.mailtables.proofs.ListLemmas.{owner_key}
 use Rattle.mailtables.specs.Schema.{mail_schema}
 use Rattle.mailstore.specs.Account.{bytes_cmp, Account, Accounts}
 use Rattle.mailtables.specs.CopyTable.{copy, select_folders, copy_tree}

@@ -18,11 +18,11 @@ use Rattle.sqlite_keyed.proofs.KeyedLemmas.{Less-from_lt}
 use Rattle.sqlite_keyed.proofs.SortLemmas.{sorted_unique}
 use Rattle.sqlite_typed.proofs.TestLemmas.{last_key}
 use Rattle.sqlite.specs.State.{State, Shown}
-use Rattle.sqlrows.specs.Forms.{over}
-use Rattle.sqlrows.specs.Rows.{has_key}
-use Rattle.sqlrows.proofs.AnswerLemmas.{cells_in_order}
-use Rattle.sqlrows.proofs.ReadLemmas.{answered}
-use Rattle.sqlrows.proofs.ListLemmas.{owner_key}
+use Rattle.mailtables.specs.Forms.{over}
+use Rattle.mailtables.specs.Rows.{has_key}
+use Rattle.mailtables.proofs.AnswerLemmas.{cells_in_order}
+use Rattle.mailtables.proofs.ReadLemmas.{answered}
+use Rattle.mailtables.proofs.ListLemmas.{owner_key}
 use Rattle.mailtables.specs.Schema.{mail_schema}
 use Rattle.mailtables.specs.declared.queue.Kind.{Kind}
 use Rattle.mailtables.specs.declared.queue.Kind.TheVariants.{Redirect, Reply}

@@ -10,10 +10,10 @@ use Rattle.sqlite_rules.proofs.ListLemmas.{has_found}
 use Rattle.sqlite_keyed.proofs.ListLemmas.{map-map, filter-map, filter_same, filter-filter, slice_get-filter, IsPermutation-filter}
 use Rattle.sqlite.specs.State.{State, Shown}
 use Rattle.sqlite.proofs.Callers.{one_permutation}
-use Rattle.sqlrows.specs.Rows.{Tables, has_key}
-use Rattle.sqlrows.proofs.AnswerLemmas.{cells_by_key}
-use Rattle.sqlrows.proofs.ReadLemmas.{answered}
-use Rattle.sqlrows.proofs.ListLemmas.{owner_key}
+use Rattle.mailtables.specs.Rows.{Tables, has_key}
+use Rattle.mailtables.proofs.AnswerLemmas.{cells_by_key}
+use Rattle.mailtables.proofs.ReadLemmas.{answered}
+use Rattle.mailtables.proofs.ListLemmas.{owner_key}
 use Rattle.mailstore.specs.declared.queue.Outgoing.{Outgoing}
 use Rattle.mailtables.specs.Schema.{mail_schema}
 use Rattle.mailtables.specs.QueueTable.{outgoing, outgoing_tree, queue_key, select_outgoing}

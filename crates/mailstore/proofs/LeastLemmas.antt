@@ -5,8 +5,8 @@ use Rattle.std.specs.Ordering.{ordering_reverse}
 use Rattle.sqlite_value.specs.Order.{Row}
 use Rattle.sqlite_rules.specs.Lists.{Has}
 use Rattle.sqlite_sql.specs.Query.{Output}
-use Rattle.sqlrows.proofs.AnswerLemmas.{has_map, has_unmap}
-use Rattle.sqlrows.proofs.FirstRowLemmas.{ShowsFirst}
+use Rattle.mailtables.proofs.AnswerLemmas.{has_map, has_unmap}
+use Rattle.mailtables.proofs.FirstRowLemmas.{ShowsFirst}
 use Rattle.mailstore.specs.Next.{IsLeast, ShowLeast}
 
 -- ---- of a row that is shown

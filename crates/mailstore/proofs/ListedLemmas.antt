@@ -16,11 +16,11 @@ use Rattle.sqlite_keyed.proofs.KeyedLemmas.{Less-from_lt}
 use Rattle.sqlite_keyed.proofs.SortLemmas.{sorted_unique}
 use Rattle.sqlite_typed.proofs.TestLemmas.{last_key}
 use Rattle.sqlite.specs.State.{State, Shown}
-use Rattle.sqlrows.specs.Forms.{over}
-use Rattle.sqlrows.specs.Rows.{Tables, HoldsTables, has_key}
-use Rattle.sqlrows.proofs.AnswerLemmas.{cells_in_order}
-use Rattle.sqlrows.proofs.ReadLemmas.{answered}
-use Rattle.sqlrows.proofs.ListLemmas.{pair_key}
+use Rattle.mailtables.specs.Forms.{over}
+use Rattle.mailtables.specs.Rows.{Tables, HoldsTables, has_key}
+use Rattle.mailtables.proofs.AnswerLemmas.{cells_in_order}
+use Rattle.mailtables.proofs.ReadLemmas.{answered}
+use Rattle.mailtables.proofs.ListLemmas.{pair_key}
 use Rattle.mailtables.specs.Schema.{mail_schema}
 use Rattle.mailtables.specs.CopyTable.{copy, copy_tree, select_numbers}
 use Rattle.mailtables.proofs.SchemaFacts.{copy_listed}

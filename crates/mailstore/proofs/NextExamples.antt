@@ -1,6 +1,6 @@
 -- What comes next, by example, and near misses.
 use Rattle.std.proofs.Common.{◌≡◌, ℕ, pos, List, [], ◌∷◌, codes, Some, None, refl, inl, inr, Less}
-use Rattle.sqlrows.specs.Rows.{Tables}
+use Rattle.mailtables.specs.Rows.{Tables}
 use Rattle.mailtables.specs.CopyTable.{copy_cells}
 use Rattle.mailstore.specs.declared.next.Filed.{Filed}
 use Rattle.mailstore.specs.declared.next.Queued.{Queued}

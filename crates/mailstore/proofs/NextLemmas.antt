@@ -15,10 +15,10 @@ use Rattle.sqlite_sql.specs.Query.{Query, Output, output_cmp}
 use Rattle.sqlite_sql.specs.declared.ops.CompareOp.TheVariants.{Eq, Gt}
 use Rattle.sqlite_typed.proofs.TestLemmas.{at_blobs, at_ints, last_term, then_term, last_key, then_key, same_bytes, bytes_eq_refl}
 use Rattle.sqlite.specs.State.{State, Shown, HasCleanDisk}
-use Rattle.sqlrows.specs.Forms.{equals, first_over}
-use Rattle.sqlrows.specs.Rows.{Tables, HoldsTables}
-use Rattle.sqlrows.proofs.FirstRowLemmas.{first_row}
-use Rattle.sqlrows.proofs.ReadLemmas.{answered_nth}
+use Rattle.mailtables.specs.Forms.{equals, first_over}
+use Rattle.mailtables.specs.Rows.{Tables, HoldsTables}
+use Rattle.mailtables.proofs.FirstRowLemmas.{first_row}
+use Rattle.mailtables.proofs.ReadLemmas.{answered_nth}
 use Rattle.mailtables.specs.Schema.{mail_schema}
 use Rattle.mailtables.specs.CopyTable.{copy, copy_tree, select_later_number, select_later_folder, select_later_owner}
 use Rattle.mailtables.specs.QueueTable.{outgoing, outgoing_tree, select_later_id, select_later_queue}

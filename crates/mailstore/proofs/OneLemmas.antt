@@ -8,7 +8,7 @@ use Rattle.sqlite_value.specs.Order.{Row, bytes, column}
 use Rattle.sqlite_schema.specs.declared.schema.Table.{Table}
 use Rattle.sqlite_rules.specs.Lists.{Has}
 use Rattle.sqlite.specs.Effect.{Database}
-use Rattle.sqlrows.specs.Rows.{Entry, cells_of, stored, IsHeld, Tables, HoldsTables, has_key}
+use Rattle.mailtables.specs.Rows.{Entry, cells_of, stored, IsHeld, Tables, HoldsTables, has_key}
 use Rattle.mailtables.specs.declared.queue.Kind.{Kind}
 use Rattle.mailtables.specs.declared.queue.Kind.TheVariants.{Redirect, Reply}
 use Rattle.mailstore.specs.declared.queue.Outgoing.{Outgoing}

@@ -14,7 +14,7 @@ use Rattle.sqlite_rules.specs.Lists.{Has}
 use Rattle.sqlite_rules.proofs.ListLemmas.{all_has}
 use Rattle.sqlite.specs.Effect.{Database}
 use Rattle.sqlite.specs.State.{State, HasCleanDisk, Survives}
-use Rattle.sqlrows.specs.Rows.{Entry, cells_of, stored, IsHeld, Tables, HoldsTables, has_key, has_key_from}
+use Rattle.mailtables.specs.Rows.{Entry, cells_of, stored, IsHeld, Tables, HoldsTables, has_key, has_key_from}
 use Rattle.mailtables.specs.Schema.{no_schema, the_tables, mail_schema, IsOurSchema}
 use Rattle.mailtables.specs.Connection.{IsSettled, Outlives}
 use Rattle.mailstore.specs.Account.{Accounts, bytes_cmp, no_accounts}

@@ -19,11 +19,11 @@ use Rattle.sqlite_keyed.proofs.KeyedLemmas.{Less-from_lt}
 use Rattle.sqlite_keyed.proofs.SortLemmas.{sorted_unique}
 use Rattle.sqlite_typed.proofs.TestLemmas.{last_key, same_bytes, bytes_eq_refl}
 use Rattle.sqlite.specs.State.{State, Shown}
-use Rattle.sqlrows.specs.Forms.{over, over_two}
-use Rattle.sqlrows.specs.Rows.{Tables, HoldsTables, has_key}
-use Rattle.sqlrows.proofs.AnswerLemmas.{cells_in_order, cells_joined}
-use Rattle.sqlrows.proofs.ReadLemmas.{answered, answered_from}
-use Rattle.sqlrows.proofs.ListLemmas.{owner_key, pair_key, pair_owned}
+use Rattle.mailtables.specs.Forms.{over, over_two}
+use Rattle.mailtables.specs.Rows.{Tables, HoldsTables, has_key}
+use Rattle.mailtables.proofs.AnswerLemmas.{cells_in_order, cells_joined}
+use Rattle.mailtables.proofs.ReadLemmas.{answered, answered_from}
+use Rattle.mailtables.proofs.ListLemmas.{owner_key, pair_key, pair_owned}
 use Rattle.mailstore.specs.declared.queue.Outgoing.{Outgoing}
 use Rattle.mailstore.specs.declared.notice.Notice.{Notice}
 use Rattle.mailtables.specs.QueueTable.{outgoing, outgoing_tree, select_queue}

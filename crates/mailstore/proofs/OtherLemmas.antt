@@ -14,10 +14,10 @@ use Rattle.sqlite_schema.specs.Rules.{equal}
 use Rattle.sqlite_keyed.proofs.ListLemmas.{filter-map, filter_same, filter-filter, slice_get-filter, IsPermutation-filter}
 use Rattle.sqlite_typed.proofs.TestLemmas.{at_ints, last_term, then_term}
 use Rattle.sqlite.specs.State.{State, Shown}
-use Rattle.sqlrows.specs.Rows.{Tables, HoldsTables, has_key}
-use Rattle.sqlrows.proofs.AnswerLemmas.{nth_in_order}
-use Rattle.sqlrows.proofs.ReadLemmas.{answered_nth}
-use Rattle.sqlrows.proofs.ListLemmas.{equal_itself, owner_key}
+use Rattle.mailtables.specs.Rows.{Tables, HoldsTables, has_key}
+use Rattle.mailtables.proofs.AnswerLemmas.{nth_in_order}
+use Rattle.mailtables.proofs.ReadLemmas.{answered_nth}
+use Rattle.mailtables.proofs.ListLemmas.{equal_itself, owner_key}
 use Rattle.mailtables.specs.Schema.{mail_schema}
 use Rattle.mailtables.specs.CopyTable.{copy, copy_tree, select_other}
 use Rattle.mailtables.proofs.SchemaFacts.{copy_listed}

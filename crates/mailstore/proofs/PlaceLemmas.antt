@@ -3,7 +3,7 @@ use Rattle.std.proofs.Common.{◌≡◌, ◌⊎◌, ◌<◌, ℕ, List, Option, 
 use Rattle.std.specs.Ordering.{nat_cmp, ordering_reverse, ordering_then}
 use Rattle.std.proofs.lemmas.Cmp.{nat_list_cmp_total, tied_itself}
 use Rattle.sqlite_typed.proofs.TestLemmas.{same_bytes}
-use Rattle.sqlrows.specs.Rows.{Tables}
+use Rattle.mailtables.specs.Rows.{Tables}
 use Rattle.mailstore.specs.declared.next.Filed.{Filed}
 use Rattle.mailstore.specs.declared.next.Queued.{Queued}
 use Rattle.mailstore.specs.Account.{bytes_cmp}

@@ -10,10 +10,10 @@ use Rattle.sqlite.specs.declared.error.Error.{Error}
 use Rattle.sqlite.specs.State.{State, HasCleanDisk, Survives, CommitsShowing, Shown, ShowsRows, FailsToQuery, FailsToShow, IsNotRun}
 use Rattle.sqlite.proofs.Callers.{IsPlain, never_commits}
 use Rattle.sqlite.proofs.StateLemmas.{survives_weaker}
-use Rattle.sqlrows.specs.Rows.{Tables, HoldsTables, has_key}
-use Rattle.sqlrows.proofs.AnswerLemmas.{cells_by_key}
-use Rattle.sqlrows.proofs.ReadLemmas.{shown_same, fails_same, answered}
-use Rattle.sqlrows.proofs.ListLemmas.{owner_key, pair_key}
+use Rattle.mailtables.specs.Rows.{Tables, HoldsTables, has_key}
+use Rattle.mailtables.proofs.AnswerLemmas.{cells_by_key}
+use Rattle.mailtables.proofs.ReadLemmas.{shown_same, fails_same, answered}
+use Rattle.mailtables.proofs.ListLemmas.{owner_key, pair_key}
 use Rattle.mailtables.specs.Schema.{mail_schema}
 use Rattle.mailtables.specs.Connection.{StaysSame}
 use Rattle.mailtables.specs.AccountTable.{account, select_account, select_counters, account_tree}

@@ -7,8 +7,8 @@ use Rattle.sqlite_value.specs.Order.{Row, column}
 use Rattle.sqlite_keyed.proofs.ListLemmas.{map-map, filter-map, filter_same}
 use Rattle.sqlite.specs.Effect.{Database}
 use Rattle.sqlite.specs.State.{State, Shown}
-use Rattle.sqlrows.specs.Rows.{Tables, has_key}
-use Rattle.sqlrows.proofs.ListLemmas.{owner_key, pair_key}
+use Rattle.mailtables.specs.Rows.{Tables, has_key}
+use Rattle.mailtables.proofs.ListLemmas.{owner_key, pair_key}
 use Rattle.mailstore.specs.FirstCells.{first_three}
 use Rattle.mailstore.specs.declared.account.Counters.{Counters}
 use Rattle.mailstore.specs.declared.refusal.Refusal.{Refusal}

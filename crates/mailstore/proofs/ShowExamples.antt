@@ -12,7 +12,7 @@ use Rattle.sqlite_typed.proofs.TestLemmas.{at_texts}
 use Rattle.sqlite_schema.specs.Rules.{equal}
 use Rattle.sqlite_value.specs.Order.{Row, column}
 use Rattle.sqlite_trees.specs.Tree.{IsAscending}
-use Rattle.sqlrows.specs.Rows.{Tables, has_key}
+use Rattle.mailtables.specs.Rows.{Tables, has_key}
 use Rattle.mailstore.specs.Account.{Account, Accounts, messages_in}
 use Rattle.mailtables.specs.MetaTable.{meta_tree, version_key, version_row}
 use Rattle.mailtables.specs.AccountTable.{account_tree}

@@ -8,8 +8,8 @@ use Rattle.sqlite_value.specs.declared.value.Value.TheVariants.{Blob, Int}
 use Rattle.sqlite_value.specs.Order.{Row}
 use Rattle.sqlite_trees.specs.Tree.{with_tree}
 use Rattle.sqlite_keyed.specs.Lists.{update_where, delete_where}
-use Rattle.sqlrows.specs.Rows.{Tables, has_key}
-use Rattle.sqlrows.proofs.ListLemmas.{owner_key, pair_key, owned_by, owners_apart, pair_apart, filter_pushed, filter_beside, filter_kept, filter_unset}
+use Rattle.mailtables.specs.Rows.{Tables, has_key}
+use Rattle.mailtables.proofs.ListLemmas.{owner_key, pair_key, owned_by, owners_apart, pair_apart, filter_pushed, filter_beside, filter_kept, filter_unset}
 use Rattle.mailtables.specs.declared.change.Change.{Change}
 use Rattle.mailtables.specs.declared.change.Change.TheVariants.{AddAccount, SetActive, SetCounters, AddScript, RemoveScript, AddMessage, RemoveMessage, AddCopy, RemoveCopy, AddOutgoing, RemoveOutgoing, AddReply, RemoveReply, AddNotice}
 use Rattle.mailtables.specs.Cells.{or_null, contents}

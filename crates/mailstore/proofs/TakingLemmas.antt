@@ -11,8 +11,8 @@ use Rattle.sqlite_rules.proofs.ListLemmas.{all_has, all_from, some_has, has_filt
 use Rattle.sqlite_keyed.specs.Lists.{delete_where}
 use Rattle.sqlite_keyed.proofs.ListLemmas.{all-filter, all_weaker, ascending-filter, filter_all, none_from_any, slice_get-filter}
 use Rattle.sqlite_typed.proofs.TestLemmas.{at_blobs, at_ints, last_term, then_term, same_bytes, bytes_eq_refl}
-use Rattle.sqlrows.specs.Rows.{Tables, has_key}
-use Rattle.sqlrows.proofs.ListLemmas.{equal_itself, filter_kept}
+use Rattle.mailtables.specs.Rows.{Tables, has_key}
+use Rattle.mailtables.proofs.ListLemmas.{equal_itself, filter_kept}
 use Rattle.mailtables.specs.declared.change.Change.{Change}
 use Rattle.mailstore.specs.declared.taking.Leaving.{Leaving}
 use Rattle.mailstore.specs.Account.{bytes_cmp, Account, Accounts, Folders, with_user, in_place, messages_in, filed, holding, takes_mail}

@@ -1,6 +1,6 @@
 -- What the row changes of a delivery make of the tables.
 use Rattle.std.specs.Prelude.{◌≡◌, ◌+◌, ℕ, suc, ℤ, pos, Option, Some, None, List, [], ◌∷◌, length}
-use Rattle.sqlrows.specs.Rows.{Tables}
+use Rattle.mailtables.specs.Rows.{Tables}
 use Rattle.mailtables.specs.declared.change.Change.{Change}
 use Rattle.octets.specs.Ascii.{lowered}
 use Rattle.mailtables.specs.declared.queue.Kind.TheVariants as kind

@@ -2,7 +2,7 @@
 use Rattle.std.specs.Prelude.{◌≡◌, ℕ, pos, List, [], ◌∷◌, filter, map}
 use Rattle.sqlite_value.specs.declared.value.Value.TheVariants.{Int}
 use Rattle.sqlite_value.specs.Order.{Row}
-use Rattle.sqlrows.specs.Rows.{Tables}
+use Rattle.mailtables.specs.Rows.{Tables}
 use Rattle.mailstore.specs.Account.{Account}
 use Rattle.mailstore.specs.CopyRows.{Copy, is_in}
 use Rattle.mailstore.specs.Shows.{IsShown}

@@ -7,7 +7,7 @@ use Rattle.sqlite_value.specs.Order.{Row, column}
 use Rattle.sqlite_trees.specs.Tree.{Trees}
 use Rattle.sqlite.specs.Effect.{Database}
 use Rattle.sqlite.specs.State.{State, HasCleanDisk}
-use Rattle.sqlrows.specs.Rows.{Tables, HoldsTables, has_key}
+use Rattle.mailtables.specs.Rows.{Tables, HoldsTables, has_key}
 use Rattle.mailtables.specs.Schema.{mail_schema, unindexed_schema}
 use Rattle.mailtables.specs.Ours.{IsOpenedAs}
 use Rattle.mailstore.specs.Account.{Account, Accounts}

@@ -1,6 +1,6 @@
 -- What the row changes make of the tables that take a folder's first message.
 use Rattle.std.specs.Prelude.{◌≡◌, ℕ, pos, Bool, true, false, Option, Some, None, List}
-use Rattle.sqlrows.specs.Rows.{Tables}
+use Rattle.mailtables.specs.Rows.{Tables}
 use Rattle.mailtables.specs.declared.change.Change.{Change}
 use Rattle.mailstore.specs.declared.filing.Filing.{Filing}
 use Rattle.mailstore.specs.declared.taking.Leaving.{Leaving}

@@ -22,8 +22,8 @@ use Rattle.sqlite_trees.specs.declared.store.Store.{Ghosts}
 use Rattle.sqlite.proofs.StateLemmas.{survives_then}
 use Rattle.sqlite.proofs.Callers.{IsPlain, command_of, statement_of, runs_as, survives_begin}
 use Rattle.sqlite.proofs.InsideLemmas.{keeps_then}
-use Rattle.sqlrows.specs.Rows.{Entry, IsHeld, Tables, HoldsTables, cells_of, stored, added}
-use Rattle.sqlrows.proofs.StepLemmas.{went, same_value}
+use Rattle.mailtables.specs.Rows.{Entry, IsHeld, Tables, HoldsTables, cells_of, stored, added}
+use Rattle.mailtables.proofs.StepLemmas.{went, same_value}
 use Rattle.mailtables.specs.Schema.{no_schema, the_tables, mail_schema, unindexed_schema}
 use Rattle.mailtables.specs.Connection.{no_rows, RunsInside, Makes, TurnsRows, TurnsSchema, ChangesRows, MakesTables}
 use Rattle.mailtables.specs.MetaTable.{version_row, meta_tree}

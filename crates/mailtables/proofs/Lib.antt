@@ -1,3 +1,10 @@
+pub mod CellLemmas
+pub mod AnswerLemmas
+pub mod FirstRowLemmas
+pub mod StepLemmas
+pub mod ReadLemmas
+pub mod ColumnLemmas
+pub mod ListLemmas
 pub mod SchemaFacts
 pub mod TextFacts
 pub mod SchemaLemmas

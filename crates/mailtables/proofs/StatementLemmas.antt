@@ -13,12 +13,12 @@ use Rattle.sqlite_rules.specs.Cast.{cast, cast_all}
 use Rattle.sqlite_catalog.specs.Listing.{automatic}
 use Rattle.sqlite.specs.State.{State, Executes}
 use Rattle.sqlite.specs.Values.{bound_value, or_null as bound_or_null}
-use Rattle.sqlrows.specs.Forms.{needed}
-use Rattle.sqlrows.specs.Rows.{Tables, HoldsTables, has_key, added, removed, set_in}
-use Rattle.sqlrows.proofs.CellLemmas.{cast_int}
-use Rattle.sqlrows.proofs.ListLemmas.{owner_key, pair_key}
-use Rattle.sqlrows.proofs.StepLemmas.{on_insert, on_update, on_delete, insert_holds, update_holds, delete_holds}
-use Rattle.sqlrows.proofs.ColumnLemmas.{column_is_of, cast_integer}
+use Rattle.mailtables.specs.Forms.{needed}
+use Rattle.mailtables.specs.Rows.{Tables, HoldsTables, has_key, added, removed, set_in}
+use Rattle.mailtables.proofs.CellLemmas.{cast_int}
+use Rattle.mailtables.proofs.ListLemmas.{owner_key, pair_key}
+use Rattle.mailtables.proofs.StepLemmas.{on_insert, on_update, on_delete, insert_holds, update_holds, delete_holds}
+use Rattle.mailtables.proofs.ColumnLemmas.{column_is_of, cast_integer}
 use Rattle.mailtables.specs.Schema.{mail_schema}
 use Rattle.mailtables.specs.Connection.{TurnsRows}
 use Rattle.mailtables.specs.Cells.{or_null, contents}

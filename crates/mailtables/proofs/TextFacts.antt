@@ -13,7 +13,7 @@ use Rattle.sqlite_schema.specs.declared.command.Command.TheVariants.{Insert, Upd
 use Rattle.sqlite_tied.specs.Compute.{everything}
 use Rattle.sqlite.specs.Listing.{understood, reads_listing}
 use Rattle.sqlite.proofs.Callers.{IsPlain, command_of}
-use Rattle.sqlrows.specs.Forms.{equals, over, over_two, first_over, nth_over}
+use Rattle.mailtables.specs.Forms.{equals, over, over_two, first_over, nth_over}
 use Rattle.mailtables.specs.Schema.{mail_schema, unindexed_schema}
 use Rattle.mailtables.specs.MetaTable.{insert_version, select_version, meta_tree}
 use Rattle.mailtables.specs.AccountTable.{insert_account, update_active, update_counters, select_account, select_counters, account_tree}

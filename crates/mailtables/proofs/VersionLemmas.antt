@@ -17,9 +17,9 @@ use Rattle.sqlite.specs.declared.error.Error.{Error}
 use Rattle.sqlite.specs.State.{State, HasCleanDisk, Survives, Shown, FailsToQuery, IsUnchanged, IsRolledBack}
 use Rattle.sqlite_keyed.proofs.ListLemmas.{map-map}
 use Rattle.sqlite.proofs.Callers.{IsPlain, command_of, one_permutation}
-use Rattle.sqlrows.specs.Forms.{over}
-use Rattle.sqlrows.specs.Rows.{has_key_from}
-use Rattle.sqlrows.proofs.ReadLemmas.{shown_same, fails_same, answered, quiet}
+use Rattle.mailtables.specs.Forms.{over}
+use Rattle.mailtables.specs.Rows.{has_key_from}
+use Rattle.mailtables.proofs.ReadLemmas.{shown_same, fails_same, answered, quiet}
 use Rattle.mailtables.specs.Schema.{mail_schema, unindexed_schema, IsOurSchema}
 use Rattle.mailtables.specs.Connection.{StaysSame, SeesCommit, Asks, Answers}
 use Rattle.mailtables.specs.MetaTable.{select_version, version_key, version_rows, SaysTwo, meta_tree, stored_value_column, AreVersions}

@@ -12,7 +12,7 @@ use Rattle.sqlite.specs.State.{State, HasCleanDisk, Executes, KeepsCommit, Survi
 use Rattle.sqlite.proofs.InsideLemmas.{inside_keeps, keeps_then}
 use Rattle.sqlite.proofs.StateLemmas.{survives_then}
 use Rattle.sqlite.proofs.Callers.{survives_begin}
-use Rattle.sqlrows.specs.Rows.{Tables, HoldsTables}
+use Rattle.mailtables.specs.Rows.{Tables, HoldsTables}
 use Rattle.mailtables.specs.declared.change.Change.{Change}
 use Rattle.mailtables.specs.Schema.{mail_schema}
 use Rattle.mailtables.specs.Connection.{RunsInside, RunsText, RunsStatement, Makes, TurnsRows}

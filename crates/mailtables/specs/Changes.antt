@@ -5,7 +5,7 @@ use Rattle.sqlite_value.specs.declared.value.Value.TheVariants.{Blob}
 use Rattle.sqlite_trees.specs.Tree.{Trees}
 use Rattle.sqlite.specs.Effect.{Database}
 use Rattle.sqlite.specs.State.{State, HasCleanDisk}
-use Rattle.sqlrows.specs.Rows.{Tables, HoldsTables, added, removed, set_in}
+use Rattle.mailtables.specs.Rows.{Tables, HoldsTables, added, removed, set_in}
 use Rattle.mailtables.specs.declared.change.Change.{Change}
 use Rattle.mailtables.specs.declared.change.Change.TheVariants.{AddAccount, SetActive, SetCounters, AddScript, RemoveScript, AddMessage, RemoveMessage, AddCopy, RemoveCopy, AddOutgoing, RemoveOutgoing, AddReply, RemoveReply, AddNotice}
 use Rattle.mailtables.specs.Schema.{mail_schema}

@@ -12,7 +12,7 @@ use Rattle.sqlite.specs.declared.transaction.Transaction.{Transaction}
 use Rattle.sqlite.specs.Effect.{Database}
 use Rattle.sqlite.specs.Held.{Held, state}
 use Rattle.sqlite.specs.State.{State, HasCleanDisk, CommitsShowing, ExecutesInside, FailsToQuery, KeepsCommit, Shown, Shows, Survives}
-use Rattle.sqlrows.specs.Rows.{Tables, HoldsTables}
+use Rattle.mailtables.specs.Rows.{Tables, HoldsTables}
 use Rattle.mailtables.specs.Schema.{mail_schema, IsOurSchema}
 
 -- no table has a row

@@ -3,11 +3,13 @@ pub mod Cells
 pub mod Changes
 pub mod Connection
 pub mod CopyTable
+pub mod Forms
 pub mod MessageTable
 pub mod MetaTable
 pub mod NoticeTable
 pub mod Ours
 pub mod QueueTable
 pub mod ReplyTable
+pub mod Rows
 pub mod Schema
 pub mod ScriptTable

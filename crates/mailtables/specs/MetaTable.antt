@@ -6,8 +6,8 @@ use Rattle.sqlite_schema.specs.declared.schema.Table.{Table}
 use Rattle.sqlite_value.specs.declared.value.Value.TheVariants as value
 use Rattle.sqlite_value.specs.Order.{Row, column}
 use Rattle.sqlite_trees.specs.Tree.{Trees}
-use Rattle.sqlrows.specs.Forms.{needed, keyed}
-use Rattle.sqlrows.specs.Rows.{has_key_from}
+use Rattle.mailtables.specs.Forms.{needed, keyed}
+use Rattle.mailtables.specs.Rows.{has_key_from}
 
 abbrev pub meta_tree : ℕ
 meta_tree = 0

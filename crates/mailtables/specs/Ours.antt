@@ -8,7 +8,7 @@ use Rattle.sqlite.specs.declared.error.Error.{Error}
 use Rattle.sqlite.specs.declared.transaction.Transaction.{Transaction}
 use Rattle.sqlite.specs.Effect.{Database}
 use Rattle.sqlite.specs.State.{State, HasCleanDisk, Survives}
-use Rattle.sqlrows.specs.Rows.{Tables, HoldsTables, added}
+use Rattle.mailtables.specs.Rows.{Tables, HoldsTables, added}
 use Rattle.sqlite_schema.specs.Rules.{Fits}
 use Rattle.sqlite_catalog.specs.Change.{KeepsRows}
 use Rattle.mailtables.specs.Schema.{no_schema, the_tables, mail_schema, unindexed_schema, IsOurSchema}

@@ -2,7 +2,7 @@
 ghost use Rattle.std.specs.Prelude.{◌≡◌, ◌⊎◌, ◌↔◌, true, [], ◌∷◌, map, codes, is_some, IsTrue};
 ghost use Rattle.sqlite_schema.specs.Names.{index_named};
 ghost use Rattle.sqlite_value.specs.Keys.{plain};
-ghost use Rattle.sqlrows.specs.Forms.{needed, maybe, keyed};
+ghost use Rattle.mailtables.specs.Forms.{needed, maybe, keyed};
 ghost use Rattle.mailtables.specs.Schema as spec;
 ghost use Rattle.mailtables.specs.MetaTable as meta_table;
 ghost use Rattle.mailtables.specs.AccountTable as account_table;

@@ -4,7 +4,7 @@ ghost use Rattle.sqlite.specs.Held.{state};
 ghost use Rattle.mailtables.specs.Ours.{IsOurs};
 ghost use Rattle.mailtables.specs.MetaTable.{AreVersions, version_row, meta_tree, SaysTwo};
 ghost use Rattle.mailtables.specs.Connection.{Asks, Queries, ChangesRows, MakesTables};
-ghost use Rattle.sqlrows.specs.Rows.{added};
+ghost use Rattle.mailtables.specs.Rows.{added};
 ghost use Rattle.mailtables.specs.Schema.{no_schema, schema_1};
 ghost use Rattle.sqlite_value.specs.declared.value.Value.TheVariants.{Int};
 ghost use Rattle.sqlite_value.specs.Order.{column};

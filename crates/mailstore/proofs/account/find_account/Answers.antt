@@ -1,4 +1,4 @@
-use Rattle.sqlrows.proofs.ListLemmas.{owner_key}
+use Rattle.mailtables.proofs.ListLemmas.{owner_key}
 use Rattle.mailtables.specs.AccountTable.{account_tree, select_account}
 use Rattle.mailstore.specs.AccountRows.{shown_account}
 use Rattle.mailtables.proofs.TextFacts.{select_account_plain}

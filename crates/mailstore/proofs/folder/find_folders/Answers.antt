@@ -1,4 +1,4 @@
-use Rattle.sqlrows.proofs.ListLemmas.{owner_key}
+use Rattle.mailtables.proofs.ListLemmas.{owner_key}
 use Rattle.mailtables.specs.CopyTable.{select_folders}
 use Rattle.mailstore.specs.Tally.{AreFolderRows}
 use Rattle.mailtables.proofs.TextFacts.{select_folders_plain}

@@ -1,4 +1,4 @@
-use Rattle.sqlrows.proofs.ListLemmas.{pair_key}
+use Rattle.mailtables.proofs.ListLemmas.{pair_key}
 use Rattle.mailtables.specs.CopyTable.{select_folder}
 use Rattle.mailstore.specs.CopyRows.{AreMessageRows}
 use Rattle.mailtables.proofs.TextFacts.{select_folder_plain}

@@ -1,4 +1,4 @@
-use Rattle.sqlrows.proofs.ListLemmas.{owner_key}
+use Rattle.mailtables.proofs.ListLemmas.{owner_key}
 use Rattle.mailtables.specs.QueueTable.{select_heads}
 use Rattle.mailstore.specs.HeadRows.{AreHeadRows}
 use Rattle.mailtables.proofs.TextFacts.{select_heads_plain}

@@ -1,4 +1,4 @@
-use Rattle.sqlrows.proofs.ListLemmas.{owner_key}
+use Rattle.mailtables.proofs.ListLemmas.{owner_key}
 use Rattle.mailtables.specs.NoticeTable.{select_notices}
 use Rattle.mailstore.specs.NoticeRows.{AreNoticeRows}
 use Rattle.mailtables.proofs.TextFacts.{select_notices_plain}

@@ -1,4 +1,4 @@
-use Rattle.sqlrows.proofs.ListLemmas.{pair_key}
+use Rattle.mailtables.proofs.ListLemmas.{pair_key}
 use Rattle.mailtables.specs.CopyTable.{select_numbers}
 use Rattle.mailstore.specs.FolderNumbers.{AreNumberRows}
 use Rattle.mailtables.proofs.TextFacts.{select_numbers_plain}

@@ -1,4 +1,4 @@
-use Rattle.sqlrows.proofs.ListLemmas.{owner_key}
+use Rattle.mailtables.proofs.ListLemmas.{owner_key}
 use Rattle.mailtables.specs.QueueTable.{select_queue}
 use Rattle.mailstore.specs.QueueRows.{AreQueueRows}
 use Rattle.mailtables.proofs.TextFacts.{select_queue_plain}

@@ -1,4 +1,4 @@
-use Rattle.sqlrows.proofs.ListLemmas.{pair_key}
+use Rattle.mailtables.proofs.ListLemmas.{pair_key}
 use Rattle.mailtables.specs.ReplyTable.{select_replies}
 use Rattle.mailstore.specs.ReplyRows.{AreReplyRows}
 use Rattle.mailtables.proofs.TextFacts.{select_replies_plain}

@@ -1,4 +1,4 @@
-use Rattle.sqlrows.proofs.ListLemmas.{owner_key}
+use Rattle.mailtables.proofs.ListLemmas.{owner_key}
 use Rattle.mailtables.specs.ScriptTable.{select_names}
 use Rattle.mailstore.specs.ScriptRows.{AreNameRows}
 use Rattle.mailtables.proofs.TextFacts.{select_names_plain}

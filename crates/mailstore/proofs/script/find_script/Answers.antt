@@ -1,4 +1,4 @@
-use Rattle.sqlrows.proofs.ListLemmas.{pair_key}
+use Rattle.mailtables.proofs.ListLemmas.{pair_key}
 use Rattle.mailtables.specs.ScriptTable.{select_script}
 use Rattle.mailstore.specs.ScriptRows.{HasTextRow}
 use Rattle.mailtables.proofs.TextFacts.{select_script_plain}

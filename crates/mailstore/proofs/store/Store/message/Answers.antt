@@ -3,7 +3,7 @@ use Rattle.std.specs.declared.alloc.Global.{Global}
 use Rattle.sqlite.specs.Held.{state}
 use Rattle.sqlite_value.specs.declared.value.Value.TheVariants.{Blob}
 use Rattle.sqlite_value.specs.Order.{Row, column}
-use Rattle.sqlrows.specs.Rows.{has_key}
+use Rattle.mailtables.specs.Rows.{has_key}
 use Rattle.mailtables.specs.MessageTable.{message_key, message_tree}
 use Rattle.mailstore.specs.Shows.{AreOctetRows, HasOctets}
 use Rattle.mailstore.proofs.AmongLemmas.{among_made}

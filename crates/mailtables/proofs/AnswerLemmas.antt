@@ -28,8 +28,8 @@ use Rattle.sqlite_keyed.proofs.ListLemmas.{map-map, filter-map, filter_none, map
 use Rattle.sqlite_keyed.proofs.KeyedLemmas.{same_int}
 use Rattle.sqlite_typed.proofs.TestLemmas.{at_ints}
 use Rattle.sqlite.proofs.Callers.{one_permutation}
-use Rattle.sqlrows.specs.Forms.{over, over_two, nth_over, limited_from}
-use Rattle.sqlrows.specs.Rows.{Entry, id_of, cells_of, stored, IsHeld, has_key}
+use Rattle.mailtables.specs.Forms.{over, over_two, nth_over, limited_from}
+use Rattle.mailtables.specs.Rows.{Entry, id_of, cells_of, stored, IsHeld, has_key}
 
 pub has_map : {X Y : Type 0} (f : X → Y) (xs : List X) (x : X) → Has xs x → Has (map f xs) (f x)
 has_map f [] x h = absurd h

@@ -36,10 +36,10 @@ use Rattle.sqlite.specs.declared.run.Mode.{Mode}
 use Rattle.sqlite.specs.Listing.{understood}
 use Rattle.sqlite.specs.State.{State, mode_of, Executes}
 use Rattle.sqlite.proofs.Callers.{IsPlain, command_of, statement_of, runs_as, one_step}
-use Rattle.sqlrows.specs.Forms.{keyed, over}
-use Rattle.sqlrows.specs.Rows.{Entry, id_of, cells_of, stored, IsHeld, Tables, HoldsTables, has_key, added, removed, set_in}
-use Rattle.sqlrows.proofs.CellLemmas.{cast_null, cast_int, changed, held_insert, held_delete, held_update}
-use Rattle.sqlrows.proofs.AnswerLemmas.{has_map, found_by_key}
+use Rattle.mailtables.specs.Forms.{keyed, over}
+use Rattle.mailtables.specs.Rows.{Entry, id_of, cells_of, stored, IsHeld, Tables, HoldsTables, has_key, added, removed, set_in}
+use Rattle.mailtables.proofs.CellLemmas.{cast_null, cast_int, changed, held_insert, held_delete, held_update}
+use Rattle.mailtables.proofs.AnswerLemmas.{has_map, found_by_key}
 
 -- a part that gave a value did not stop on the way
 pub went : {B E R : Type 0} {b : B} {Stops : E → Type 0} → ((stop : E) × Stops stop × (Ok b ≡ Err stop)) ⊎ R → R
