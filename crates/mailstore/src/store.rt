@@ -1,13 +1,12 @@
 //! The store of accounts.
 ghost use Rattle.std.specs.Prelude.{◌≡◌, ◌⊎◌, false, IsTrue, IfOk, IfErr, OnOk, OnErr};
-ghost use Rattle.sqlite_trees.specs.Tree.{Trees};
 ghost use Rattle.sqlite.specs.Held.{state};
 ghost use Rattle.sqlite.specs.State.{HasCleanDisk, Survives};
 ghost use Rattle.mailtables.specs.Schema.{no_schema, mail_schema};
 ghost use Rattle.mailtables.specs.Connection.{IsSettled, StaysSame, Outlives, has_our_name};
 ghost use Rattle.mailstore.specs.Account.{no_accounts};
 ghost use Rattle.mailstore.specs.Refusals.{IsTransient, IsMemoryBy, code_in};
-ghost use Rattle.mailstore.specs.Shows.{Presents, ShowsIn, StillShows, OffersNothing, OpensAs, CrashLeavesOpened};
+ghost use Rattle.mailstore.specs.Shows.{Presents, ShowsIn, StillShows, OffersNothing, OnlyLeaves, OpensAs, CrashLeavesOpened};
 ghost use Rattle.mailtables.specs.Changes.{CrashLeavesTables, MakesAll};
 ghost use Rattle.mailtables.specs.Ours.{IsOurs};
 
@@ -62,7 +61,7 @@ impl<S: Alter> Store<S> {
     ) -> Result<Store<S>, (Refusal, Connection<S>, Option<ErrorCode>)>
         ensures made { IfOk result (λ store. HasCleanDisk (state S.Store store) → Presents (state S.Store store).now no_accounts) }
         ensures settled { IfOk result (λ store. HasCleanDisk (state S.Store store) → IsSettled (state S.Store store)) }
-        ensures left { IfOk result (λ store. HasCleanDisk (state S.Store store) → (db : Trees) → (state S.Store store).may_leave db → ShowsIn db no_accounts) }
+        ensures left { IfOk result (λ store. OnlyLeaves (λ trees. ShowsIn trees no_accounts) (state S.Store store)) }
         ensures empty { OnOk result (conn.schema ≡ no_schema) }
         ensures taken { conn.in_transaction ≡ false → IsTrue (has_our_name conn.schema) → IfErr result (λ e. e.0 ≡ Refusal.NotOurs) × OnOk result ⊥ }
         ensures not_ours { IfErr result (λ e. e.0 ≡ Refusal.NotOurs → IsTrue (has_our_name conn.schema)) }
