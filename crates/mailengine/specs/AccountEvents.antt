@@ -40,7 +40,8 @@ pub record DeliversTo (moment : ℕ) (envelope : Envelope) (message : List ℕ) 
   pub delivers : Delivers own moment (mail_of message envelope) (active_text a) a report a2
 
 -- a delivery to the user: the account is as after it, and no other changes
-pub record DeliversUser (accounts : Accounts) (user : List ℕ) (moment : ℕ) (envelope : Envelope) (message : List ℕ) (a : Account) (answer : Answer) (later : Accounts) : Type 0 where
+pub record DeliversUser (accounts : Accounts) (user : List ℕ) (moment : ℕ) (envelope : Envelope) (message : List ℕ)
+    (a : Account) (answer : Answer) (later : Accounts) : Type 0 where
   pub report : Report
   pub account : Account
   pub delivers : DeliversTo moment envelope message a report account
@@ -58,7 +59,8 @@ DeliversUnder (Some refusal) accounts user moment envelope message answer later 
 DeliversUnder None accounts user moment envelope message answer later = DeliversIn accounts user moment envelope message (get accounts user) answer later
 
 abbrev pub Delivery : Accounts → List ℕ → Envelope → List ℕ → ℕ → Answer → Accounts → Type 0
-Delivery accounts user envelope message moment answer later = DeliversUnder (limit_refusal envelope message moment) accounts user moment envelope message answer later
+Delivery accounts user envelope message moment answer later =
+    DeliversUnder (limit_refusal envelope message moment) accounts user moment envelope message answer later
 
 -- ---- a new user
 
@@ -78,7 +80,8 @@ AddsUnder accounts name address salt password (Some a) answer later = Refuses Us
 
 abbrev pub Addition : Accounts → List ℕ → List ℕ → List ℕ → List ℕ → Answer → Accounts → Type 0
 Addition accounts name address salt password answer later =
-    Where (IsNewUser name address password) (AddsUnder accounts name address salt password (get accounts name) answer later) (Refuses BadUser accounts answer later)
+    Where (IsNewUser name address password) (AddsUnder accounts name address salt password (get accounts name) answer later)
+    (Refuses BadUser accounts answer later)
 
 -- ---- a row taken out of the queue
 

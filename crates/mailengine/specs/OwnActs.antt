@@ -126,8 +126,10 @@ TakesMailAloneIn (Some a) folder answer later = TakesFirstAlone a folder (messag
 abbrev pub ActsAlone : List ℕ → Option Account → Act → Option Account → Type 0
 ActsAlone user account (Commands command octets) later = CommandsAlone account command octets later
 ActsAlone user account (LogsIn password succeeds) later = LogsInAlone account password succeeds later
-ActsAlone user account (Receives envelope message moment answer) later = ReceivesIn (limit_refusal envelope message moment) account envelope message moment answer later
-ActsAlone user account (Joins address salt password answer) later = Where (IsNewUser user address password) (JoinsIn account address salt password answer later) (Refuses BadUser account answer later)
+ActsAlone user account (Receives envelope message moment answer) later =
+    ReceivesIn (limit_refusal envelope message moment) account envelope message moment answer later
+ActsAlone user account (Joins address salt password answer) later =
+    Where (IsNewUser user address password) (JoinsIn account address salt password answer later) (Refuses BadUser account answer later)
 ActsAlone user account (TakesOut id answer) later = TakesAloneIn account id answer later
 ActsAlone user account (TakesMail folder answer) later = TakesMailAloneIn account folder answer later
 
@@ -164,7 +166,8 @@ text_acts user (Some text) octets = login_acts user (login_of text) octets
 
 -- a command that needs a login is an act of the user who is logged in; another one may be a login
 abbrev pub command_acts : List ℕ → Client → Command → List ℕ → List Act
-command_acts user c command octets = cond (needs_login command) (when_of user c.user (Commands command octets)) (text_acts user (login_text c.user command) octets)
+command_acts user c command octets =
+    cond (needs_login command) (when_of user c.user (Commands command octets)) (text_acts user (login_text c.user command) octets)
 
 abbrev pub item_acts : List ℕ → Client → Item → List ℕ → List Act
 item_acts user c (item.Command command used) octets = command_acts user c command octets

@@ -37,7 +37,8 @@ pub record Entry : Type 0 where
 -- ---- what a run sends
 
 abbrev pub entry_of : List ℕ → List ℕ → ℕ → VacArgs → Entry
-entry_of user sender moment args = record { thread = record { user = user; handle = handle_of args; sender = lowered sender }; moment = moment; period = period_of args }
+entry_of user sender moment args =
+    record { thread = record { user = user; handle = handle_of args; sender = lowered sender }; moment = moment; period = period_of args }
 
 -- the entry of a `vacation` that was executed, where the report says that an answer was sent
 abbrev pub entries_if : VacationReport → List ℕ → List ℕ → ℕ → Option VacArgs → List Entry
@@ -50,21 +51,25 @@ vacation_in (Acts deeds) = deeds.reply
 vacation_in (Tells text) = None
 
 -- of a delivery to the user's account, as it stands
-abbrev pub sent_to : List ℕ → (moment : ℕ) (envelope : Envelope) (message : List ℕ) (a : Account) (report : Report) (a2 : Account) → DeliversTo moment envelope message a report a2 → List Entry
+abbrev pub sent_to : List ℕ → (moment : ℕ) (envelope : Envelope) (message : List ℕ) (a : Account) (report : Report) (a2 : Account)
+    → DeliversTo moment envelope message a report a2 → List Entry
 sent_to user moment envelope message a report a2 made = entries_if report.vacation user envelope.from moment (vacation_in made.delivers.disposition)
 
-abbrev pub sent_in : (accounts : Accounts) (user : List ℕ) (moment : ℕ) (envelope : Envelope) (message : List ℕ) (account : Option Account) (answer : Answer) (later : Accounts)
+abbrev pub sent_in : (accounts : Accounts) (user : List ℕ) (moment : ℕ) (envelope : Envelope) (message : List ℕ)
+    (account : Option Account) (answer : Answer) (later : Accounts)
     → DeliversIn accounts user moment envelope message account answer later → List Entry
 sent_in accounts user moment envelope message None answer later made = []
 sent_in accounts user moment envelope message (Some a) answer later made = sent_to user moment envelope message a made.report made.account made.delivers
 
-abbrev pub sent_under : (refusal : Option Refusal) (accounts : Accounts) (user : List ℕ) (moment : ℕ) (envelope : Envelope) (message : List ℕ) (answer : Answer) (later : Accounts)
+abbrev pub sent_under : (refusal : Option Refusal) (accounts : Accounts) (user : List ℕ) (moment : ℕ) (envelope : Envelope)
+    (message : List ℕ) (answer : Answer) (later : Accounts)
     → DeliversUnder refusal accounts user moment envelope message answer later → List Entry
 sent_under (Some refusal) accounts user moment envelope message answer later made = []
 sent_under None accounts user moment envelope message answer later made = sent_in accounts user moment envelope message (get accounts user) answer later made
 
 abbrev pub sent_by : (w : World) (event : Event) (answer : Answer) (next : World) → Happens w event answer next → List Entry
-sent_by w (Deliver user envelope message moment) answer next made = sent_under (limit_refusal envelope message moment) w.accounts user moment envelope message answer made.0 made.1
+sent_by w (Deliver user envelope message moment) answer next made =
+    sent_under (limit_refusal envelope message moment) w.accounts user moment envelope message answer made.0 made.1
 sent_by w event answer next made = []
 
 -- of one event; one that is refused sends nothing

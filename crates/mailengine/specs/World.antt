@@ -76,9 +76,11 @@ with_accounts w row answer next = (later : Accounts) × row answer later × (nex
 -- what the machine answers to an event, and how it is afterwards
 abbrev pub Happens : World → Event → Answer → World → Type 0
 Happens w (Open s) answer next = Opens w s (get w.sessions s) answer next
-Happens w (Give s piece) answer next = InSession w (get w.sessions s) (λ c. Becomes (Out (progress_of c) []) (with_session s (client_given piece c) w)) answer next
+Happens w (Give s piece) answer next =
+    InSession w (get w.sessions s) (λ c. Becomes (Out (progress_of c) []) (with_session s (client_given piece c) w)) answer next
 Happens w (Step s) answer next = InSession w (get w.sessions s) (Steps w s) answer next
-Happens w (GiveUp s) answer next = InSession w (get w.sessions s) (λ c. Becomes (Out (progress_given_up c) (text_given_up c)) (with_session s (client_given_up c) w)) answer next
+Happens w (GiveUp s) answer next =
+    InSession w (get w.sessions s) (λ c. Becomes (Out (progress_given_up c) (text_given_up c)) (with_session s (client_given_up c) w)) answer next
 Happens w (Close s) answer next = InSession w (get w.sessions s) (λ c. Becomes (Out progress.Close []) (without_session s w)) answer next
 Happens w (Deliver user envelope message moment) answer next = with_accounts w (Delivery w.accounts user envelope message moment) answer next
 Happens w (AddUser name address salt password) answer next = with_accounts w (Addition w.accounts name address salt password) answer next

@@ -2,8 +2,10 @@
 ghost use Rattle.std.specs.Prelude.{◌≡◌};
 ghost use Rattle.sqlite.specs.Held.{state};
 ghost use Rattle.mailstore.specs.AccountRows.{profile_of};
-ghost use Rattle.mailstore.specs.CopyRows.{HasFirst};
-ghost use Rattle.mailstore.specs.Account.{messages_in, row_with};
+ghost use Rattle.mailstore.specs.CopyRows.{IsFirstIn};
+ghost use Rattle.mailstore.specs.Account.{row_with};
+ghost use Rattle.mailstore.specs.Promises.{ReadsOwn};
+ghost use Rattle.mailstore.specs.Shows.{IsFirstOf};
 ghost use Rattle.mailengine.specs.Lookups.{LooksUp, IsActiveScript};
 
 use mailstore::{NumberedMessage, Outgoing, Profile, Refusal, Store};
@@ -69,7 +71,8 @@ pub fn first_message<S: Alter>(
     user: &[u8],
     folder: &[u8],
 ) -> Result<Option<NumberedMessage>, Refusal>
-    ensures { LooksUp user.now (λ first a. HasFirst first (messages_in a.folders folder.now)) (state S.Store store.old) (state S.Store store.new) result }
+    ensures first { LooksUp user.now (IsFirstIn folder.now) (state S.Store store.old) (state S.Store store.new) result }
+    ensures numbered { ReadsOwn user.now (IsFirstOf user.now folder.now) (state S.Store store.old) (state S.Store store.new) result }
 {
     let _ = profile(store, user)?;
     store.first_message_of(user, folder)

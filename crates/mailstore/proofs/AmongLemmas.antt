@@ -34,6 +34,14 @@ module _ {X Y Z E F G : Type 0} (user : List ℕ) (P : X → Tables → Type 0) 
   pub among_late : (end : Result Z G) → OnOk end ⊥ → FindsAmong user R a c end
   among_late end none = record { found = λ clean tables h. none_if end (λ z. R z (rows_of user tables)) none; keeps = keeps_failed a c q end none (keeps_then a b c r x was q early.keeps late.keeps) }
 
+-- the same rows, told otherwise
+pub among_told : {X E : Type 0} (user : List ℕ) (P Q : X → Tables → Type 0) (a b : State) (r : Result X E) → ((x : X) (own : Tables) → P x own → Q x own) → FindsAmong user P a b r → FindsAmong user Q a b r
+among_told {X} {E} user P Q a b r tells h = record { found = λ clean tables held. told (rows_of user tables) r (h.found clean tables held); keeps = h.keeps }
+  where
+    told : (own : Tables) (o : Result X E) → IfOk o (λ x. P x own) → IfOk o (λ x. Q x own)
+    told own (Err e) k = tt
+    told own (Ok x) k = tells x own k
+
 -- what the user's rows tell of the account
 pub among_reads : {X : Type 0} (user : List ℕ) (P : X → Tables → Type 0) (Q : X → Account → Type 0) (a b : State) (r : Result X Refusal) → ((x : X) (own : Tables) (account : Account) → IsShown user own account → P x own → Q x account)
     → IfErr r IsTransient → FindsAmong user P a b r → ReadsEntered user Q a b r

@@ -118,7 +118,10 @@ deletes_script name a = record a { scripts = remove a.scripts name }
 
 -- a message joins the queue, with the account's next number
 abbrev pub queues : Kind → List ℕ → List ℕ → List ℕ → Account → Account
-queues kind sender target message a = record a { queue = a.queue ++ record { id = a.next_out; kind = kind; sender = sender; target = target; message = message } ∷ []; next_out = suc a.next_out }
+queues kind sender target message a = record a {
+  queue = a.queue ++ record { id = a.next_out; kind = kind; sender = sender; target = target; message = message } ∷ [];
+  next_out = suc a.next_out;
+}
 
 -- the row of the queue with the number, if there is one
 abbrev pub row_with : ℕ → List Outgoing → Option Outgoing
@@ -164,7 +167,8 @@ notes_if_any moment (Some text) a = notes moment text a
 abbrev pub delivers : Plan → Account → Account
 delivers plan a =
     notes_if_any plan.moment plan.report.notice
-    (replies_if_any plan.sender.now plan.reply (sends_on plan.sender.now plan.message.now plan.report.sent (files_copies plan.report.filed plan.message.now a)))
+    (replies_if_any plan.sender.now plan.reply
+    (sends_on plan.sender.now plan.message.now plan.report.sent (files_copies plan.report.filed plan.message.now a)))
 
 -- ---- accounts by name
 

@@ -13,13 +13,16 @@ use Rattle.mailstore.specs.Account.{Account}
 -- the row of an account; the counters of copies and of notices no account tells
 abbrev pub account_row : List ℕ → Account → ℕ → ℕ → Row
 account_row user a next_copy next_notice =
-    Blob user ∷ Blob a.address ∷ Blob a.password.salt ∷ Int (pos a.password.rounds) ∷ Blob a.password.digest ∷ or_null a.active ∷ Int (pos next_copy) ∷ Int (pos a.next_out) ∷ Int (pos next_notice) ∷ []
+    Blob user ∷ Blob a.address ∷ Blob a.password.salt ∷ Int (pos a.password.rounds) ∷ Blob a.password.digest ∷ or_null a.active
+    ∷ Int (pos next_copy) ∷ Int (pos a.next_out) ∷ Int (pos next_notice) ∷ []
 
 -- ---- what is read of them
 
 -- what the query for an account shows of a row
 abbrev pub shown_account : Row → Row
-shown_account cells = column cells address_column ∷ column cells salt_column ∷ column cells rounds_column ∷ column cells digest_column ∷ column cells active_column ∷ []
+shown_account cells =
+    column cells address_column ∷ column cells salt_column ∷ column cells rounds_column ∷ column cells digest_column
+    ∷ column cells active_column ∷ []
 
 -- what the query for the counters shows of a row
 abbrev pub shown_counters : Row → Row
@@ -37,12 +40,18 @@ profile_row a = Blob a.address ∷ Blob a.password.salt ∷ Int (pos a.password.
 abbrev pub profile_of : Account → Profile
 profile_of a = record { address = a.address; salt = a.password.salt; rounds = a.password.rounds; digest = a.password.digest; active = a.active }
 
--- the profile is what the row shows, and there is one where there is a row
+-- the profile is what the row shows
+abbrev pub IsProfileIn : Profile → Row → Type 0
+IsProfileIn p row =
+    (column row 0 ≡ Blob p.address) × (column row 1 ≡ Blob p.salt) × (column row 2 ≡ Int (pos p.rounds)) × (column row 3 ≡ Blob p.digest)
+    × (column row 4 ≡ or_null p.active)
+
+-- the same, and there is one where there is a row
 abbrev pub IsRead : Option Profile → Option Row → Type 0
 IsRead None None = Unit {0}
 IsRead None (Some row) = ⊥
 IsRead (Some p) None = ⊥
-IsRead (Some p) (Some row) = (column row 0 ≡ Blob p.address) × (column row 1 ≡ Blob p.salt) × (column row 2 ≡ Int (pos p.rounds)) × (column row 3 ≡ Blob p.digest) × (column row 4 ≡ or_null p.active)
+IsRead (Some p) (Some row) = IsProfileIn p row
 
 -- the first of the rows has these counters
 abbrev pub Counts : List Row → Counters → Type 0

@@ -1,5 +1,5 @@
 -- What rows show of the copies of a user's messages, which are the folders, and what is read of them.
-use Rattle.std.specs.Prelude.{◌≡◌, ◌≤◌, ◌==◌, ◌&&◌, Bool, not, ℕ, ℤ, pos, List, [], ◌∷◌, fold, map, Option, option_map, slice_get}
+use Rattle.std.specs.Prelude.{◌≡◌, ◌≤◌, ◌==◌, ◌&&◌, Bool, not, ℕ, ℤ, pos, List, [], ◌∷◌, filter, fold, map, Option, option_map, slice_get}
 use Rattle.std.specs.List.{AllByRecursion, list_any}
 use Rattle.std.specs.FinMap.{empty}
 use Rattle.std.specs.Ordering.{is_eq}
@@ -56,6 +56,10 @@ pub record ShowsCopies (user : List ℕ) (rows message_rows : List Row) (folders
 abbrev pub is_in : List ℕ → Copy → Bool
 is_in folder c = is_eq (bytes_cmp c.folder folder)
 
+-- those in the folder, in their order
+abbrev pub copies_in : List ℕ → List Copy → List Copy
+copies_in folder copies = filter (is_in folder) copies
+
 -- ---- what is read of them
 
 -- where a copy is, its number and its message's
@@ -82,9 +86,21 @@ numbered_of c = record { number = c.n; message = c.message }
 abbrev pub HasFirst : Option NumberedMessage → List (List ℕ) → Type 0
 HasFirst first messages = option_map (λ m. m.message) first ≡ slice_get messages 0
 
--- of a number as the database has it: it is the message of the folder after that many, and none where there are no more
+-- it is the first message of the account's folder, and none where the folder is absent
+abbrev pub IsFirstIn : List ℕ → Option NumberedMessage → Account → Type 0
+IsFirstIn folder first a = HasFirst first (messages_in a.folders folder)
+
+-- these are the messages of the folder, in the order in which they came
+abbrev pub AreMessagesOf : List ℕ → List (List ℕ) → Account → Type 0
+AreMessagesOf folder messages a = messages ≡ messages_in a.folders folder
+
+-- it is the message of the folder after that many, and none where there are no more
+abbrev pub IsMessageAt : List ℕ → ℕ → Option (List ℕ) → Account → Type 0
+IsMessageAt folder at message a = message ≡ slice_get (messages_in a.folders folder) at
+
+-- the same of a number as the database has it
 abbrev pub IsNthMessage : List ℕ → ℤ → Option (List ℕ) → Account → Type 0
-IsNthMessage folder count message a = (n : ℕ) → count ≡ pos n → message ≡ slice_get (messages_in a.folders folder) n
+IsNthMessage folder count message a = (n : ℕ) → count ≡ pos n → IsMessageAt folder n message a
 
 -- the rows are the messages of the folder, in the order in which they came
 abbrev pub AreMessageRows : List ℕ → List Row → Account → Type 0

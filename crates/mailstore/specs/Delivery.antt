@@ -1,5 +1,5 @@
 -- What the row changes of a delivery make of the tables.
-use Rattle.std.specs.Prelude.{◌≡◌, ◌+◌, ℕ, suc, ℤ, pos, Option, Some, None, List, [], ◌∷◌, length}
+use Rattle.std.specs.Prelude.{◌≡◌, ◌+◌, ℕ, suc, ℤ, pos, Option, Some, None, List, [], ◌∷◌, length, Result, OnOk}
 use Rattle.mailtables.specs.Rows.{Tables}
 use Rattle.mailtables.specs.declared.change.Change.{Change}
 use Rattle.octets.specs.Ascii.{lowered}
@@ -7,7 +7,12 @@ use Rattle.mailtables.specs.declared.queue.Kind.TheVariants as kind
 use Rattle.mailstore.specs.declared.account.Counters.{Counters}
 use Rattle.mailstore.specs.declared.report.VacationReply.{VacationReply}
 use Rattle.mailstore.specs.declared.report.Plan.{Plan}
-use Rattle.mailtables.specs.Changes.{AreOf, message_added, copy_added, outgoing_added, reply_added, reply_removed, notice_added, counters_set, made}
+use Rattle.mailstore.specs.declared.refusal.Refusal.{Refusal}
+use Rattle.mailtables.specs.Changes.{AreOf, Extends, message_added, copy_added, outgoing_added, reply_added, reply_removed, notice_added, counters_set, made}
+
+-- after Ok the changes are longer, by some that make this of the user's rows
+abbrev pub Pushes : {X : Type 0} → List ℕ → (Tables → Tables) → List Change → List Change → Result X Refusal → Type 0
+Pushes user change old new result = OnOk result (Extends user change old new)
 
 -- one change after another, numbered from n on
 abbrev pub in_turn : {X : Type 0} → (ℕ → X → Tables → Tables) → ℕ → List X → Tables → Tables
@@ -57,7 +62,8 @@ count_of (Some x) = 1
 -- the counters go up past all that joins
 abbrev pub counters_raised : List ℕ → Counters → Plan → Tables → Tables
 counters_raised user c plan =
-    counters_set user (pos (c.copy + length plan.report.filed)) (pos (c.out + (length plan.report.sent + count_of plan.reply))) (pos (c.notice + count_of plan.report.notice))
+    counters_set user (pos (c.copy + length plan.report.filed)) (pos (c.out + (length plan.report.sent + count_of plan.reply)))
+    (pos (c.notice + count_of plan.report.notice))
 
 -- what a delivery makes of the user's rows, whose counters were these
 abbrev pub delivered : List ℕ → Counters → Plan → Tables → Tables

@@ -7,19 +7,18 @@ use Rattle.sqlite_value.specs.declared.value.Value.TheVariants.{Int, Blob}
 use Rattle.sqlite_value.specs.Order.{Row}
 use Rattle.sqlite_rules.specs.Lists.{Has}
 use Rattle.sqlite.specs.State.{State, HasCleanDisk}
-use Rattle.mailtables.specs.Rows.{Tables, HoldsTables}
-use Rattle.mailtables.specs.Schema.{mail_schema}
+use Rattle.mailtables.specs.Rows.{Tables}
 use Rattle.mailtables.specs.CopyTable.{copy_tree}
 use Rattle.mailtables.specs.QueueTable.{outgoing_tree}
 use Rattle.mailstore.specs.declared.next.Filed.{Filed}
 use Rattle.mailstore.specs.declared.next.Queued.{Queued}
 use Rattle.mailstore.specs.Account.{bytes_cmp}
 use Rattle.mailstore.specs.FirstCells.{first_two, first_three}
-use Rattle.mailstore.specs.Promises.{Keeps}
+use Rattle.mailstore.specs.Promises.{Keeps, OverTables}
 
 -- a read over all users: this holds of what it finds and of all rows
 pub record FindsAll {X E : Type 0} (Part : X → Tables → Type 0) (old new : State) (result : Result X E) : Type 0 where
-  pub found : HasCleanDisk new → (tables : Tables) → HoldsTables mail_schema old.now tables → IfOk result (λ x. Part x tables)
+  pub found : HasCleanDisk new → OverTables old (λ tables. IfOk result (λ x. Part x tables))
   pub keeps : Keeps old new result
 
 -- ---- where messages and rows are, and in which order
@@ -69,6 +68,13 @@ IsLaterNumber user folder n f = (f.user ≡ user) × (f.folder ≡ folder) × (n
 
 abbrev pub IsLaterFolder : List ℕ → List ℕ → Filed → Type 0
 IsLaterFolder user folder f = (f.user ≡ user) × (bytes_cmp folder f.folder ≡ Less)
+
+-- after this place in its folder; after it among the messages of its user
+abbrev pub IsLaterInFolder : Filed → Filed → Type 0
+IsLaterInFolder start = IsLaterNumber start.user start.folder start.number
+
+abbrev pub IsLaterOfUser : Filed → Filed → Type 0
+IsLaterOfUser start f = IsLaterInFolder start f ⊎ IsLaterFolder start.user start.folder f
 
 abbrev pub IsLaterOwner : List ℕ → Filed → Type 0
 IsLaterOwner user f = bytes_cmp user f.user ≡ Less

@@ -21,7 +21,7 @@ use Rattle.mailstore.specs.AccountRows.{Counts, profile_of}
 use Rattle.mailstore.specs.ScriptRows.{IsRenaming}
 use Rattle.mailtables.specs.MessageTable.{message_tree}
 use Rattle.mailstore.specs.MessageRows.{GainsOnce}
-use Rattle.mailstore.specs.Shows.{rows_of, Presents}
+use Rattle.mailstore.specs.Shows.{rows_of, Presents, ShowsIn}
 
 -- a database of our tables
 abbrev pub HasOurTables : Database → Type 0
@@ -39,6 +39,16 @@ IsFree user accounts = get accounts user ≡ None
 abbrev pub OfUser : Accounts → List ℕ → (Account → Type 0) → Type 0
 OfUser accounts user P = (a : Account) × (get accounts user ≡ Some a) × P a
 
+-- ---- what is said over our tables
+
+-- whatever rows our tables had, this holds of them
+abbrev pub OverTables : State → (Tables → Type 0) → Type 0
+OverTables old P = (tables : Tables) → HoldsTables mail_schema old.now tables → P tables
+
+-- whatever accounts the tables showed, this holds of them
+abbrev pub OverAccounts : State → (Accounts → Type 0) → Type 0
+OverAccounts old P = (accounts : Accounts) → Presents old.now accounts → P accounts
+
 -- ---- reads
 
 -- reads keep all, whatever they answer: over our tables what is seen stays; after Ok the connection is open, and one that a fault of the disk has shut stays shut; a crash leaves what it left before
@@ -50,60 +60,64 @@ pub record Keeps {X E : Type 0} (old new : State) (result : Result X E) : Type 0
 
 -- a query for the user's rows in one table: it shows this of each
 pub record FindsOwn {E : Type 0} (user : List ℕ) (tree : ℕ) (show : Row → Row) (old new : State) (result : Result (Vec Row Global) E) : Type 0 where
-  pub found : HasCleanDisk new → (tables : Tables) → HoldsTables mail_schema old.now tables → IfOk result (λ rows. rows.items ≡ map show (rows_of user tables tree))
+  pub found : HasCleanDisk new → OverTables old (λ tables. IfOk result (λ rows. rows.items ≡ map show (rows_of user tables tree)))
   pub keeps : Keeps old new result
 
 -- a query for rows of one user: this holds of them and of the user's account, if there is one
 pub record Finds {E : Type 0} (user : List ℕ) (Part : List Row → Account → Type 0) (old new : State) (result : Result (Vec Row Global) E) : Type 0 where
-  pub found : HasCleanDisk new → (accounts : Accounts) → Presents old.now accounts → IfOk result (λ rows. IfSome (get accounts user) (Part rows.items))
+  pub found : HasCleanDisk new → OverAccounts old (λ accounts. IfOk result (λ rows. IfSome (get accounts user) (Part rows.items)))
   pub keeps : Keeps old new result
 
 -- a read of one user's account: this holds of the answer and the account; NoUser is answered only where there is no account, and no other refusal but those that may come without visible cause
 pub record Reads {X : Type 0} (user : List ℕ) (Part : X → Account → Type 0) (old new : State) (result : Result X Refusal) : Type 0 where
-  pub found : HasCleanDisk new → (accounts : Accounts) → Presents old.now accounts → IfOk result (λ x. OfUser accounts user (Part x))
-  pub absent : HasCleanDisk new → (accounts : Accounts) → Presents old.now accounts → IfErr result (λ e. e ≡ NoUser → IsFree user accounts)
+  pub found : HasCleanDisk new → OverAccounts old (λ accounts. IfOk result (λ x. OfUser accounts user (Part x)))
+  pub absent : HasCleanDisk new → OverAccounts old (λ accounts. IfErr result (λ e. e ≡ NoUser → IsFree user accounts))
   pub keeps : Keeps old new result
   pub named : IfErr result (λ e. (e ≡ NoUser) ⊎ IsTransient e)
 
 -- a read of an account that was entered, so no test for it: this holds of the answer and of the account, if there is one; it is refused without visible cause alone
 pub record ReadsEntered {X : Type 0} (user : List ℕ) (Part : X → Account → Type 0) (old new : State) (result : Result X Refusal) : Type 0 where
-  pub found : HasCleanDisk new → (accounts : Accounts) → Presents old.now accounts → IfOk result (λ x. IfSome (get accounts user) (Part x))
+  pub found : HasCleanDisk new → OverAccounts old (λ accounts. IfOk result (λ x. IfSome (get accounts user) (Part x)))
   pub keeps : Keeps old new result
   pub named : IfErr result IsTransient
 
 -- the read of the counters in the row of the user's account
 pub record ReadsCounters (user : List ℕ) (old new : State) (result : Result Counters Refusal) : Type 0 where
-  pub found : HasCleanDisk new → (tables : Tables) → HoldsTables mail_schema old.now tables → IfOk result (Counts (rows_of user tables account_tree))
-  pub absent : HasCleanDisk new → (tables : Tables) → HoldsTables mail_schema old.now tables → IfErr result (λ e. e ≡ NoUser → rows_of user tables account_tree ≡ [])
+  pub found : HasCleanDisk new → OverTables old (λ tables. IfOk result (Counts (rows_of user tables account_tree)))
+  pub absent : HasCleanDisk new → OverTables old (λ tables. IfErr result (λ e. e ≡ NoUser → rows_of user tables account_tree ≡ []))
   pub keeps : Keeps old new result
   pub named : IfErr result (λ e. (e ≡ NoUser) ⊎ IsTransient e)
 
 -- a query for one user: this holds of what it finds and of all rows that the user has
 pub record FindsAmong {X E : Type 0} (user : List ℕ) (Part : X → Tables → Type 0) (old new : State) (result : Result X E) : Type 0 where
-  pub found : HasCleanDisk new → (tables : Tables) → HoldsTables mail_schema old.now tables → IfOk result (λ x. Part x (rows_of user tables))
+  pub found : HasCleanDisk new → OverTables old (λ tables. IfOk result (λ x. Part x (rows_of user tables)))
   pub keeps : Keeps old new result
 
 -- a read of one user's rows: this holds of the answer and of all that the user has, and the user has an account; NoUser is answered only where there is no account
 pub record ReadsOwn {X : Type 0} (user : List ℕ) (Part : X → Tables → Type 0) (old new : State) (result : Result X Refusal) : Type 0 where
-  pub found : HasCleanDisk new → (tables : Tables) → HoldsTables mail_schema old.now tables → IfOk result (λ x. Part x (rows_of user tables))
-  pub there : HasCleanDisk new → (accounts : Accounts) → Presents old.now accounts → OnOk result (HasUser user accounts)
-  pub absent : HasCleanDisk new → (accounts : Accounts) → Presents old.now accounts → IfErr result (λ e. e ≡ NoUser → IsFree user accounts)
+  pub found : HasCleanDisk new → OverTables old (λ tables. IfOk result (λ x. Part x (rows_of user tables)))
+  pub there : HasCleanDisk new → OverAccounts old (λ accounts. OnOk result (HasUser user accounts))
+  pub absent : HasCleanDisk new → OverAccounts old (λ accounts. IfErr result (λ e. e ≡ NoUser → IsFree user accounts))
   pub keeps : Keeps old new result
   pub named : IfErr result (λ e. (e ≡ NoUser) ⊎ IsTransient e)
 
 -- the read of what the store keeps of an account; it answers none without an account
 pub record ReadsProfile (user : List ℕ) (old new : State) (result : Result (Option Profile) Refusal) : Type 0 where
-  pub found : HasCleanDisk new → (accounts : Accounts) → Presents old.now accounts → IfOk result (λ profile. profile ≡ option_map profile_of (get accounts user))
+  pub found : HasCleanDisk new → OverAccounts old (λ accounts. IfOk result (λ profile. profile ≡ option_map profile_of (get accounts user)))
   pub keeps : Keeps old new result
   pub named : IfErr result IsTransient
 
 -- ---- writes
 
+-- the database of our tables has the plan's message once more than these rows
+abbrev pub HasStoredOnce : List ℕ → Plan → List Row → Database → Type 0
+HasStoredOnce user plan rows db =
+    (after : Tables) × HoldsTables mail_schema db after × GainsOnce user plan.message.now plan.report.filed rows (after message_tree)
+
 -- after Ok the table of messages has the plan's message once more
 abbrev pub StoresOnce : {X E : Type 0} → List ℕ → Plan → State → State → Result X E → Type 0
 StoresOnce user plan old new result =
-    HasCleanDisk new → (tables : Tables) → HoldsTables mail_schema old.now tables
-    → OnOk result ((after : Tables) × HoldsTables mail_schema new.now after × GainsOnce user plan.message.now plan.report.filed (tables message_tree) (after message_tree))
+    HasCleanDisk new → OverTables old (λ tables. OnOk result (HasStoredOnce user plan (tables message_tree) new.now))
 
 -- where the old tables show accounts that fit, the new ones show them with the change
 abbrev pub Turns : (Accounts → Type 0) → (Accounts → Accounts) → Database → Database → Type 0
@@ -111,7 +125,7 @@ Turns Fit change old new = (accounts : Accounts) → Presents old accounts → F
 
 -- what a crash may leave of a write shows the accounts with the change
 abbrev pub CrashLeavesAccounts : (Accounts → Type 0) → (Accounts → Accounts) → State → Trees → Type 0
-CrashLeavesAccounts Fit change s trees = (accounts : Accounts) → Presents s.now accounts → Fit accounts → (after : Database) × Presents after (change accounts) × (trees ≡ after.trees)
+CrashLeavesAccounts Fit change s trees = (accounts : Accounts) → Presents s.now accounts → Fit accounts → ShowsIn trees (change accounts)
 
 -- a write in one transaction: after Ok the change is made of accounts that fit, and the connection is settled; after a refusal all is as before; a crash leaves what it left before, or the accounts with the change
 pub record Writes {X : Type 0} (Fit : Accounts → Type 0) (change : Accounts → Accounts) (old new : State) (result : Result X Refusal) : Type 0 where
@@ -138,6 +152,6 @@ pub record WritesAccount {X : Type 0} (user : List ℕ) (change : Account → Ac
   pub made : HasCleanDisk new → OnOk result (Turns (HasUser user) (λ all. with_user all user change) old.now new.now)
   pub settled : HasCleanDisk new → OnOk result (IsSettled new)
   pub same : HasCleanDisk new → HasOurTables old.now → OnErr result (StaysSame old new)
-  pub absent : HasCleanDisk new → (accounts : Accounts) → Presents old.now accounts → IfErr result (λ e. e ≡ NoUser → IsFree user accounts)
+  pub absent : HasCleanDisk new → OverAccounts old (λ accounts. IfErr result (λ e. e ≡ NoUser → IsFree user accounts))
   pub crash : Survives old new (CrashLeavesAccounts (HasUser user) (λ all. with_user all user change) old)
   pub named : IfErr result (λ e. (e ≡ NoUser) ⊎ IsTransient e)

@@ -1,5 +1,5 @@
 -- Which refusals a call may give.
-use Rattle.std.specs.Prelude.{◌≡◌, ◌↔◌, ◌⊎◌, Option, Some, None}
+use Rattle.std.specs.Prelude.{◌≡◌, ◌≢◌, ◌↔◌, ◌⊎◌, Option, Some, None}
 use Rattle.sqlite.specs.declared.error.Error.{Error}
 use Rattle.sqlite.specs.declared.error.Error.TheVariants.{SqliteFailure}
 use Rattle.sqlite.specs.declared.error.ErrorCode.{ErrorCode}
@@ -19,3 +19,12 @@ code_in _ = None
 -- the refusal is lack of memory exactly where SQLite says so
 abbrev pub IsMemoryBy : Option ErrorCode → Refusal → Type 0
 IsMemoryBy code e = (e ≡ Memory) ↔ (code ≡ Some OutOfMemory)
+
+-- what may be kept of a refusal as Store, or none: SQLite doesn't say that memory ran out, which is a refusal as Memory
+abbrev pub IsStoreCause : Option ErrorCode → Type 0
+IsStoreCause cause = cause ≢ Some OutOfMemory
+
+-- what is kept of a refused write: what SQLite said of it, and none where it said that memory ran out
+pub record IsCauseIn (said cause : Option ErrorCode) : Type 0 where
+  pub store : IsStoreCause said → cause ≡ said
+  pub memory : said ≡ Some OutOfMemory → cause ≡ None

@@ -24,7 +24,7 @@ use Rattle.mailtables.specs.NoticeTable.{notice_tree}
 use Rattle.mailstore.specs.NoticeRows.{ShowsNotices}
 use Rattle.mailtables.specs.MessageTable.{message_key, message_tree, bytes_column}
 use Rattle.mailtables.specs.CopyTable.{copy_tree}
-use Rattle.mailstore.specs.CopyRows.{ShowsCopies, is_in, is_other_copy, filing_of, filing_cells, leaving_of, numbered_of}
+use Rattle.mailstore.specs.CopyRows.{Copy, ShowsCopies, is_in, copies_in, is_other_copy, filing_of, filing_cells, leaving_of, numbered_of}
 use Rattle.mailstore.specs.declared.taking.Leaving.{Leaving}
 use Rattle.mailstore.specs.declared.taking.NumberedMessage.{NumberedMessage}
 use Rattle.mailstore.specs.declared.filing.Filing.{Filing}
@@ -87,9 +87,16 @@ ShowsIn trees accounts = (db : Database) × Presents db accounts × (trees ≡ d
 abbrev pub OffersIn : Trees → Accounts → Type 0
 OffersIn trees accounts = (db : Database) × Offers db accounts × (trees ≡ db.trees)
 
+-- whatever a crash leaves, this holds of it
+abbrev pub OnlyLeaves : (Trees → Type 0) → State → Type 0
+OnlyLeaves P s = HasCleanDisk s → (trees : Trees) → s.may_leave trees → P trees
+
 -- whatever accounts the trees offered, they show
 abbrev pub StillShows : State → State → Type 0
 StillShows old new = HasCleanDisk new → (accounts : Accounts) → OffersIn old.now.trees accounts → Presents new.now accounts
+
+-- ---- a database that is opened: `IsOpenedAs` (mailtables) tells what becomes of its tables, `OpensAs` of the accounts too; of what a crash
+-- leaves of it `MayOpen` (mailtables) and `CrashLeavesOpened` tell the same; `Opens` (mailtables) is all that `open_tables` promises
 
 -- what `open` makes of a database: it has our schema, in each table the rows that it had, and shows the accounts that it offered
 pub record OpensAs (old new : Database) : Type 0 where
@@ -102,42 +109,50 @@ CrashLeavesOpened s trees = (s.now.schema ≡ unindexed_schema) × (db : Databas
 
 -- ---- what is read of the copies
 
+-- of the copies that the user's rows show, whatever else they show, this holds
+abbrev pub OfCopies : List ℕ → Tables → (List Copy → Type 0) → Type 0
+OfCopies user own P = (a : Account) (s : IsShown user own a) → P s.copies.entries
+
 -- of a number as the database has it: the row is that of the folder's copy after that many, or there is none
 abbrev pub AreNthRows : List ℕ → List ℕ → ℤ → List Row → Tables → Type 0
 AreNthRows user folder count rows own =
-    (a : Account) (s : IsShown user own a) (n : ℕ) → count ≡ pos n → rows ≡ take 1 (drop n (map filing_cells (map filing_of (filter (is_in folder) s.copies.entries))))
+    OfCopies user own (λ copies. (n : ℕ) → count ≡ pos n → rows ≡ take 1 (drop n (map filing_cells (map filing_of (copies_in folder copies)))))
 
 -- it is the folder's copy after that many that the user's rows show, or none
 abbrev pub IsNthFiling : List ℕ → List ℕ → ℤ → Option Filing → Tables → Type 0
 IsNthFiling user folder count filing own =
-    (a : Account) (s : IsShown user own a) (n : ℕ) → count ≡ pos n → filing ≡ option_map filing_of (slice_get (filter (is_in folder) s.copies.entries) n)
+    OfCopies user own (λ copies. (n : ℕ) → count ≡ pos n → filing ≡ option_map filing_of (slice_get (copies_in folder copies) n))
+
+-- the rows of the user's message with the number
+abbrev pub message_rows : List ℕ → ℤ → Tables → List Row
+message_rows user id own = filter (has_key (message_key user id)) (own message_tree)
 
 -- the rows are the octets of the user's message with the number, where it has a row
 abbrev pub AreOctetRows : List ℕ → ℤ → List Row → Tables → Type 0
-AreOctetRows user id rows own = rows ≡ map (λ r. column r bytes_column ∷ []) (filter (has_key (message_key user id)) (own message_tree))
+AreOctetRows user id rows own = rows ≡ map (λ r. column r bytes_column ∷ []) (message_rows user id own)
 
 -- the octets are those of the user's message with the number
 abbrev pub HasOctets : List ℕ → ℕ → List ℕ → Tables → Type 0
-HasOctets user id octets own = slice_get (map (λ r. column r bytes_column) (filter (has_key (message_key user (pos id))) (own message_tree))) 0 ≡ Some (Blob octets)
+HasOctets user id octets own = slice_get (map (λ r. column r bytes_column) (message_rows user (pos id) own)) 0 ≡ Some (Blob octets)
 
 -- it is the folder's message after that many, with the number of its copy, that the user's rows show, or none where they show none
 abbrev pub IsNthOf : List ℕ → List ℕ → ℤ → Option NumberedMessage → Tables → Type 0
 IsNthOf user folder count message own =
-    (a : Account) (s : IsShown user own a) (n : ℕ) → count ≡ pos n → message ≡ option_map numbered_of (slice_get (filter (is_in folder) s.copies.entries) n)
+    OfCopies user own (λ copies. (n : ℕ) → count ≡ pos n → message ≡ option_map numbered_of (slice_get (copies_in folder copies) n))
 
 -- it is the first message of the folder, with the number of its copy, that the user's rows show, or none where they show none
 abbrev pub IsFirstOf : List ℕ → List ℕ → Option NumberedMessage → Tables → Type 0
-IsFirstOf user folder first own = (a : Account) (s : IsShown user own a) → first ≡ option_map numbered_of (find (is_in folder) s.copies.entries)
+IsFirstOf user folder first own = OfCopies user own (λ copies. first ≡ option_map numbered_of (find (is_in folder) copies))
 
 -- of a copy whose numbers the database has as these: one row where another copy of its message is there, and none where there isn't
 abbrev pub AreOtherRows : List ℕ → ℤ → ℤ → List Row → Tables → Type 0
 AreOtherRows user id n rows own =
-    (a : Account) (s : IsShown user own a) (f : Filing) → id ≡ pos f.id → n ≡ pos f.n → length rows ≡ (if list_any (is_other_copy f) s.copies.entries then 1 else 0)
+    OfCopies user own (λ copies. (f : Filing) → id ≡ pos f.id → n ≡ pos f.n → length rows ≡ (if list_any (is_other_copy f) copies then 1 else 0))
 
 -- whether the user's rows show another copy of the same message
 abbrev pub IsShared : List ℕ → Filing → Bool → Tables → Type 0
-IsShared user f shared own = (a : Account) (s : IsShown user own a) → shared ≡ list_any (is_other_copy f) s.copies.entries
+IsShared user f shared own = OfCopies user own (λ copies. shared ≡ list_any (is_other_copy f) copies)
 
 -- it is the first copy of the folder that the user's rows show, and whether they show another one of its message; none where they show none
 abbrev pub IsLeaving : List ℕ → List ℕ → Option Leaving → Tables → Type 0
-IsLeaving user folder leaving own = (a : Account) (s : IsShown user own a) → leaving ≡ option_map (leaving_of s.copies.entries) (find (is_in folder) s.copies.entries)
+IsLeaving user folder leaving own = OfCopies user own (λ copies. leaving ≡ option_map (leaving_of copies) (find (is_in folder) copies))

@@ -1,5 +1,5 @@
 //! The texts and numbers in the cells of rows.
-ghost use Rattle.std.specs.Prelude.{◌≡◌, pos, ◌<◌, ◌^◌, option_map, slice_get, IfOk, IfErr};
+ghost use Rattle.std.specs.Prelude.{◌≡◌, pos, ◌<◌, ◌≤◌, ◌^◌, option_map, slice_get, IfOk, IfErr};
 ghost use Rattle.mailtables.specs.Cells.{or_null};
 ghost use Rattle.mailstore.specs.Refusals.{IsTransient};
 ghost use Rattle.sqlite_value.specs.declared.value.Value.TheVariants.{Blob};
@@ -60,6 +60,7 @@ pub fn number(n: u64) -> Result<i64, Refusal>
     ensures same { IfOk result (λ i. i ≡ pos n) }
     ensures fits { IfOk result (λ _. n < 2 ^ 63) }
     ensures named { IfErr result IsTransient }
+    ensures past { IfErr result (λ e. (e ≡ Refusal.Store) × (2 ^ 63 ≤ n)) }
 {
     match i64::try_from(n) {
         Ok(i) => Ok(i),

@@ -1,9 +1,9 @@
 //! What a delivery writes.
-ghost use Rattle.std.specs.Prelude.{◌≡◌, pos, IfOk, IfErr, OnOk, ◌+◌, option_copied};
+ghost use Rattle.std.specs.Prelude.{◌≡◌, pos, IfOk, IfErr, ◌+◌, option_copied};
 ghost use Rattle.sqlite.specs.Held.{state};
 ghost use Rattle.mailstore.specs.Promises.{WritesAccount, StoresOnce};
-ghost use Rattle.mailstore.specs.Delivery.{AreDelivery, message_kept, copies_added, redirect_added, sent_on, reply_queued, reply_put, noticed, counters_raised, count_of};
-ghost use Rattle.mailtables.specs.Changes.{Extends, MakesOwn};
+ghost use Rattle.mailstore.specs.Delivery.{AreDelivery, Pushes, message_kept, copies_added, redirect_added, sent_on, reply_queued, reply_put, noticed, counters_raised, count_of};
+ghost use Rattle.mailtables.specs.Changes.{MakesOwn};
 ghost use Rattle.octets.specs.Ascii.{lowered};
 ghost use Rattle.mailstore.specs.Account.{delivers};
 ghost use Rattle.mailstore.specs.Refusals.{IsTransient};
@@ -36,7 +36,7 @@ fn push_counters<'a>(
     plan: &Plan<'_>,
     counters: Counters,
 ) -> Result<(), Refusal>
-    ensures raised { OnOk result (Extends user.now (counters_raised user.now counters plan.now) changes.old.items changes.new.items) }
+    ensures raised { Pushes user.now (counters_raised user.now counters plan.now) changes.old.items changes.new.items result }
     ensures named { IfErr result IsTransient }
 {
     let report = &plan.report;
@@ -68,7 +68,7 @@ fn push_message<'a>(
     folders: &[Octets],
     next: u64,
 ) -> Result<(), Refusal>
-    ensures kept { OnOk result (Extends user.now (message_kept user.now message.now next folders.now) changes.old.items changes.new.items) }
+    ensures kept { Pushes user.now (message_kept user.now message.now next folders.now) changes.old.items changes.new.items result }
     ensures named { IfErr result IsTransient }
 {
     if folders.is_empty() {
@@ -89,7 +89,7 @@ fn push_copies<'a>(
     folders: &'a [Octets],
     next: u64,
 ) -> Result<(), Refusal>
-    ensures copied { OnOk result (Extends user.now (copies_added user.now next next folders.now) changes.old.items changes.new.items) }
+    ensures copied { Pushes user.now (copies_added user.now next next folders.now) changes.old.items changes.new.items result }
     ensures named { IfErr result IsTransient }
 {
     for (i, folder) in folders.iter().enumerate() {
@@ -132,7 +132,7 @@ fn push_redirects<'a>(
     targets: &'a [Octets],
     next: u64,
 ) -> Result<(), Refusal>
-    ensures sent { OnOk result (Extends user.now (sent_on user.now sender.now message.now next targets.now) changes.old.items changes.new.items) }
+    ensures sent { Pushes user.now (sent_on user.now sender.now message.now next targets.now) changes.old.items changes.new.items result }
     ensures named { IfErr result IsTransient }
 {
     for (i, target) in targets.iter().enumerate() {
@@ -151,7 +151,7 @@ fn push_reply<'a>(
     next: u64,
     sent: usize,
 ) -> Result<(), Refusal>
-    ensures queued { OnOk result (Extends user.now (reply_queued user.now sender.now (next + sent) (option_copied reply.entry)) changes.old.items changes.new.items) }
+    ensures queued { Pushes user.now (reply_queued user.now sender.now (next + sent) (option_copied reply.entry)) changes.old.items changes.new.items result }
     ensures named { IfErr result IsTransient }
 {
     let Some(reply) = reply else {
@@ -175,7 +175,7 @@ fn push_moment<'a>(
     sender: &'a [u8],
     reply: Option<&'a VacationReply>,
 ) -> Result<(), Refusal>
-    ensures put { OnOk result (Extends user.now (reply_put user.now sender.now (option_copied reply.entry)) changes.old.items changes.new.items) }
+    ensures put { Pushes user.now (reply_put user.now sender.now (option_copied reply.entry)) changes.old.items changes.new.items result }
     ensures named { IfErr result IsTransient }
 {
     let Some(reply) = reply else {
@@ -204,7 +204,7 @@ fn push_notice<'a>(
     moment: u64,
     notice: Option<&'a Octets>,
 ) -> Result<(), Refusal>
-    ensures noticed { OnOk result (Extends user.now (noticed user.now next moment (option_copied notice.entry)) changes.old.items changes.new.items) }
+    ensures noticed { Pushes user.now (noticed user.now next moment (option_copied notice.entry)) changes.old.items changes.new.items result }
     ensures named { IfErr result IsTransient }
 {
     let Some(text) = notice else {

@@ -1,11 +1,10 @@
 //! A user's folders.
 ghost use Rattle.std.specs.Prelude.{◌≡◌, ℕ, false, OnOk, List, map, option_map, slice_get, IfOk, IfErr};
 ghost use Rattle.sqlite.specs.Held.{state};
-ghost use Rattle.mailstore.specs.CopyRows.{AreMessageRows, IsNthMessage};
+ghost use Rattle.mailstore.specs.CopyRows.{AreMessageRows, AreMessagesOf, IsMessageAt, IsNthMessage};
 ghost use Rattle.mailstore.specs.Promises.{Finds, Reads, ReadsEntered};
 ghost use Rattle.mailtables.specs.Connection.{Queries};
 ghost use Rattle.mailstore.specs.Tally.{AreFolderRows, tallied, AreFolders, counted};
-ghost use Rattle.mailstore.specs.Account.{messages_in};
 ghost use Rattle.mailstore.specs.Refusals.{IsTransient};
 ghost use Rattle.sqlite_value.specs.declared.value.Value.TheVariants.{Blob};
 ghost use Rattle.sqlite_value.specs.Order.{column};
@@ -113,7 +112,7 @@ fn cloned_at(alloc: Global, messages: &[Octets], at: u64) -> Result<Option<Octet
 impl<S: Alter> Store<S> {
     /// The messages of the folder, in the order in which they came; none where it is absent.
     pub fn folder(&mut self, user: &[u8], folder: &[u8]) -> Result<Texts, Refusal>
-        ensures { Reads user.now (λ messages a. messages ≡ messages_in a.folders folder.now) (state S.Store self.old) (state S.Store self.new) result }
+        ensures { Reads user.now (AreMessagesOf folder.now) (state S.Store self.old) (state S.Store self.new) result }
     {
         self.enter(user)?;
         self.folder_of(user, folder)
@@ -121,7 +120,7 @@ impl<S: Alter> Store<S> {
 
     /// The same of an account that was entered.
     fn folder_of(&mut self, user: &[u8], folder: &[u8]) -> Result<Texts, Refusal>
-        ensures { ReadsEntered user.now (λ messages a. messages ≡ messages_in a.folders folder.now) (state S.Store self.old) (state S.Store self.new) result }
+        ensures { ReadsEntered user.now (AreMessagesOf folder.now) (state S.Store self.old) (state S.Store self.new) result }
     {
         let rows = find_messages(&mut self.conn, user, folder)?;
         all_from_rows(self.alloc, &rows)
@@ -135,7 +134,7 @@ impl<S: Alter> Store<S> {
         folder: &[u8],
         at: u64,
     ) -> Result<Option<Octets>, Refusal>
-        ensures { Reads user.now (λ message a. message ≡ slice_get (messages_in a.folders folder.now) at) (state S.Store self.old) (state S.Store self.new) result }
+        ensures { Reads user.now (IsMessageAt folder.now at) (state S.Store self.old) (state S.Store self.new) result }
     {
         self.enter(user)?;
         self.message_at_of(user, folder, at)
@@ -148,7 +147,7 @@ impl<S: Alter> Store<S> {
         folder: &[u8],
         at: u64,
     ) -> Result<Option<Octets>, Refusal>
-        ensures { ReadsEntered user.now (λ message a. message ≡ slice_get (messages_in a.folders folder.now) at) (state S.Store self.old) (state S.Store self.new) result }
+        ensures { ReadsEntered user.now (IsMessageAt folder.now at) (state S.Store self.old) (state S.Store self.new) result }
     {
         match i64::try_from(at) {
             Ok(count) => self.nth_message_of(user, folder, count),
@@ -177,7 +176,7 @@ impl<S: Alter> Store<S> {
         folder: &[u8],
         at: u64,
     ) -> Result<Option<Octets>, Refusal>
-        ensures { ReadsEntered user.now (λ message a. message ≡ slice_get (messages_in a.folders folder.now) at) (state S.Store self.old) (state S.Store self.new) result }
+        ensures { ReadsEntered user.now (IsMessageAt folder.now at) (state S.Store self.old) (state S.Store self.new) result }
     {
         let messages = self.folder_of(user, folder)?;
         cloned_at(self.alloc, messages.as_slice(), at)

@@ -1,9 +1,9 @@
 //! What comes next over all users, for who moves mail on or sends it. No message is read.
-ghost use Rattle.std.specs.Prelude.{◌≡◌, ◌⊎◌, false, IfErr};
+ghost use Rattle.std.specs.Prelude.{◌≡◌, ◌≤◌, ◌^◌, false, Err, IfErr};
 ghost use Rattle.sqlite.specs.Held.{state};
 ghost use Rattle.mailtables.specs.Connection.{Queries};
 ghost use Rattle.mailstore.specs.Next.{FindsAll, IsNextFiled, IsNextQueued, LeastFiled, LeastQueued, ShowFiled, ShowQueued};
-ghost use Rattle.mailstore.specs.Next.{IsLaterNumber, IsLaterFolder, IsLaterOwner, IsLaterId, IsLaterQueue, ShowLaterNumber, ShowLaterId};
+ghost use Rattle.mailstore.specs.Next.{IsLaterInFolder, IsLaterOfUser, IsLaterFolder, IsLaterOwner, IsLaterId, IsLaterQueue, ShowLaterNumber, ShowLaterId};
 ghost use Rattle.mailstore.specs.Refusals.{IsTransient};
 
 use crate::cell::{number, text_at};
@@ -143,10 +143,12 @@ impl<S: Alter> Store<S> {
     ///
     /// # Errors
     ///
-    /// `Memory`, and `Store`, also for a number past 2^63 - 1, which the store never gives.
+    /// `Memory`, and `Store`: always for a number from 2^63 on, which the database can't have (`past`), and for any other only
+    /// where the store failed.
     pub fn next_filed(&mut self, start: &Filed) -> Result<Option<Filed>, Refusal>
         ensures next { FindsAll (IsNextFiled start.now) (state S.Store self.old) (state S.Store self.new) result }
         ensures named { IfErr result IsTransient }
+        ensures past { 2 ^ 63 ≤ start.now.number → result ≡ Err Refusal.Store }
     {
         match self.later_filed(start)? {
             Some(filed) => Ok(Some(filed)),
@@ -159,10 +161,12 @@ impl<S: Alter> Store<S> {
     ///
     /// # Errors
     ///
-    /// `Memory`, and `Store`, also for a number past 2^63 - 1, which the store never gives.
+    /// `Memory`, and `Store`: always for a number from 2^63 on, which the database can't have (`past`), and for any other only
+    /// where the store failed.
     pub fn next_queued(&mut self, start: &Queued) -> Result<Option<Queued>, Refusal>
         ensures next { FindsAll (IsNextQueued start.now) (state S.Store self.old) (state S.Store self.new) result }
         ensures named { IfErr result IsTransient }
+        ensures past { 2 ^ 63 ≤ start.now.id → result ≡ Err Refusal.Store }
     {
         match self.later_queued(start)? {
             Some(queued) => Ok(Some(queued)),
@@ -172,8 +176,9 @@ impl<S: Alter> Store<S> {
 
     /// The first message of the same user after this place.
     fn later_filed(&mut self, start: &Filed) -> Result<Option<Filed>, Refusal>
-        ensures finds { FindsAll (LeastFiled (λ f. IsLaterNumber start.now.user start.now.folder start.now.number f ⊎ IsLaterFolder start.now.user start.now.folder f)) (state S.Store self.old) (state S.Store self.new) result }
+        ensures finds { FindsAll (LeastFiled (IsLaterOfUser start.now)) (state S.Store self.old) (state S.Store self.new) result }
         ensures named { IfErr result IsTransient }
+        ensures past { 2 ^ 63 ≤ start.now.number → result ≡ Err Refusal.Store }
     {
         match self.filed_in_same(start)? {
             Some(filed) => Ok(Some(filed)),
@@ -183,8 +188,9 @@ impl<S: Alter> Store<S> {
 
     /// The first message of the same folder after this place.
     fn filed_in_same(&mut self, start: &Filed) -> Result<Option<Filed>, Refusal>
-        ensures finds { FindsAll (LeastFiled (IsLaterNumber start.now.user start.now.folder start.now.number)) (state S.Store self.old) (state S.Store self.new) result }
+        ensures finds { FindsAll (LeastFiled (IsLaterInFolder start.now)) (state S.Store self.old) (state S.Store self.new) result }
         ensures named { IfErr result IsTransient }
+        ensures past { 2 ^ 63 ≤ start.now.number → result ≡ Err Refusal.Store }
     {
         let n = number(start.number)?;
         let rows = find_later_number(
@@ -218,6 +224,7 @@ impl<S: Alter> Store<S> {
     fn later_queued(&mut self, start: &Queued) -> Result<Option<Queued>, Refusal>
         ensures finds { FindsAll (LeastQueued (IsLaterId start.now.user start.now.id)) (state S.Store self.old) (state S.Store self.new) result }
         ensures named { IfErr result IsTransient }
+        ensures past { 2 ^ 63 ≤ start.now.id → result ≡ Err Refusal.Store }
     {
         let id = number(start.id)?;
         let rows = find_later_id(&mut self.conn, start.user.as_slice(), &id)?;

@@ -1,9 +1,8 @@
 //! The numbers of a folder's copies.
-ghost use Rattle.std.specs.Prelude.{◌≡◌, false, length, IfErr};
+ghost use Rattle.std.specs.Prelude.{◌≡◌, false, IfErr};
 ghost use Rattle.sqlite.specs.Held.{state};
 ghost use Rattle.mailtables.specs.Connection.{Queries};
-ghost use Rattle.mailstore.specs.Account.{messages_in};
-ghost use Rattle.mailstore.specs.FolderNumbers.{AreNumberRows, AreNumbersOf};
+ghost use Rattle.mailstore.specs.FolderNumbers.{AreAsMany, AreNumberRows, AreNumbersOf};
 ghost use Rattle.mailstore.specs.Promises.{FindsAmong, Reads, ReadsOwn};
 ghost use Rattle.mailstore.specs.Refusals.{IsTransient};
 
@@ -48,7 +47,7 @@ impl<S: Alter> Store<S> {
     /// time and memory are linear in the answer.
     pub fn numbers(&mut self, user: &[u8], folder: &[u8]) -> Result<List<u64>, Refusal>
         ensures numbers { ReadsOwn user.now (AreNumbersOf user.now folder.now) (state S.Store self.old) (state S.Store self.new) result }
-        ensures count { Reads user.now (λ numbers a. length numbers ≡ length (messages_in a.folders folder.now)) (state S.Store self.old) (state S.Store self.new) result }
+        ensures count { Reads user.now (AreAsMany folder.now) (state S.Store self.old) (state S.Store self.new) result }
     {
         self.enter(user)?;
         self.numbers_of(user, folder)

@@ -1,13 +1,12 @@
 //! The store of accounts.
 ghost use Rattle.std.specs.Prelude.{◌≡◌, ◌⊎◌, false, IsTrue, IfOk, IfErr, OnOk, OnErr};
-ghost use Rattle.sqlite_trees.specs.Tree.{Trees};
 ghost use Rattle.sqlite.specs.Held.{state};
 ghost use Rattle.sqlite.specs.State.{HasCleanDisk, Survives};
 ghost use Rattle.mailtables.specs.Schema.{no_schema, mail_schema};
 ghost use Rattle.mailtables.specs.Connection.{IsSettled, StaysSame, Outlives, has_our_name};
 ghost use Rattle.mailstore.specs.Account.{no_accounts};
-ghost use Rattle.mailstore.specs.Refusals.{IsTransient, IsMemoryBy, code_in};
-ghost use Rattle.mailstore.specs.Shows.{Presents, ShowsIn, StillShows, OffersNothing, OpensAs, CrashLeavesOpened};
+ghost use Rattle.mailstore.specs.Refusals.{IsTransient, IsMemoryBy, IsStoreCause, IsCauseIn, code_in};
+ghost use Rattle.mailstore.specs.Shows.{Presents, ShowsIn, StillShows, OffersNothing, OnlyLeaves, OpensAs, CrashLeavesOpened};
 ghost use Rattle.mailtables.specs.Changes.{CrashLeavesTables, MakesAll};
 ghost use Rattle.mailtables.specs.Ours.{IsOurs};
 
@@ -31,6 +30,7 @@ pub struct Store<S: Alter> {
 impl<S: Alter> Model for Store<S> {
     ghost use Rattle.std.specs.Prelude.{◌≡◌, false, None};
     ghost use Rattle.sqlite.specs.Held.{Held, held_code};
+    ghost use Rattle.mailstore.specs.Refusals.{IsStoreCause};
 
     ghost Value = { Held S };
 
@@ -38,7 +38,7 @@ impl<S: Alter> Model for Store<S> {
 
     ghost view = { λ s. s.conn };
 
-    ghost invariant = { λ s. (s.conn.in_transaction ≡ false) × (s.conn.step_limit ≡ None) };
+    ghost invariant = { λ s. (s.conn.in_transaction ≡ false) × (s.conn.step_limit ≡ None) × IsStoreCause s.cause };
 }
 
 impl<S: Alter + Drop> Drop for Store<S> {
@@ -62,7 +62,7 @@ impl<S: Alter> Store<S> {
     ) -> Result<Store<S>, (Refusal, Connection<S>, Option<ErrorCode>)>
         ensures made { IfOk result (λ store. HasCleanDisk (state S.Store store) → Presents (state S.Store store).now no_accounts) }
         ensures settled { IfOk result (λ store. HasCleanDisk (state S.Store store) → IsSettled (state S.Store store)) }
-        ensures left { IfOk result (λ store. HasCleanDisk (state S.Store store) → (db : Trees) → (state S.Store store).may_leave db → ShowsIn db no_accounts) }
+        ensures left { IfOk result (λ store. OnlyLeaves (λ trees. ShowsIn trees no_accounts) (state S.Store store)) }
         ensures empty { OnOk result (conn.schema ≡ no_schema) }
         ensures taken { conn.in_transaction ≡ false → IsTrue (has_our_name conn.schema) → IfErr result (λ e. e.0 ≡ Refusal.NotOurs) × OnOk result ⊥ }
         ensures not_ours { IfErr result (λ e. e.0 ≡ Refusal.NotOurs → IsTrue (has_our_name conn.schema)) }
@@ -142,14 +142,18 @@ impl<S: Alter> Store<S> {
         ensures named { IfErr result IsTransient }
     {
         if let Err(error) = make_all(&mut self.conn, changes) {
-            self.cause = code_of(&error);
+            self.cause = cause_of(&error);
             return Err(Refusal::from(error));
         }
+        self.cause = None;
         Ok(())
     }
 
-    /// What SQLite said of the last write that was refused as `Store`, if there was one.
-    pub fn cause(&self) -> Option<ErrorCode> {
+    /// What SQLite said of the last write, where that was refused as `Store`. None after any other one, and where SQLite said
+    /// nothing of it. Only that it never says that memory ran out is in a clause: contracts see the connection alone.
+    pub fn cause(&self) -> Option<ErrorCode>
+        ensures { IsStoreCause result }
+    {
         self.cause
     }
 
@@ -163,6 +167,16 @@ impl<S: Alter> Store<S> {
             cause: _,
         } = self;
         conn
+    }
+}
+
+/// What SQLite says of a failure that is answered as `Store`; none of one that is answered as `Memory`.
+fn cause_of(error: &Error) -> Option<ErrorCode>
+    ensures { IsCauseIn (code_in error.now) result }
+{
+    match error {
+        Error::SqliteFailure(ErrorCode::OutOfMemory) => None,
+        _ => code_of(error),
     }
 }
 

@@ -1,9 +1,9 @@
 //! The first message of a folder: what it is, and how it leaves.
 ghost use Rattle.std.specs.Prelude.{IfOk, IfErr};
 ghost use Rattle.sqlite.specs.Held.{state};
-ghost use Rattle.mailstore.specs.Account.{messages_in, takes_mail};
+ghost use Rattle.mailstore.specs.Account.{takes_mail};
 ghost use Rattle.mailstore.specs.Taking.{AreTaking};
-ghost use Rattle.mailstore.specs.CopyRows.{HasFirst};
+ghost use Rattle.mailstore.specs.CopyRows.{IsFirstIn};
 ghost use Rattle.mailstore.specs.Promises.{FindsAmong, Reads, ReadsEntered, ReadsOwn, WritesAccount};
 ghost use Rattle.mailstore.specs.Refusals.{IsTransient};
 ghost use Rattle.mailstore.specs.Shows.{IsFirstOf, IsLeaving, IsNthOf};
@@ -91,7 +91,7 @@ impl<S: Alter> Store<S> {
         user: &[u8],
         folder: &[u8],
     ) -> Result<Option<NumberedMessage>, Refusal>
-        ensures first { Reads user.now (λ first a. HasFirst first (messages_in a.folders folder.now)) (state S.Store self.old) (state S.Store self.new) result }
+        ensures first { Reads user.now (IsFirstIn folder.now) (state S.Store self.old) (state S.Store self.new) result }
         ensures numbered { ReadsOwn user.now (IsFirstOf user.now folder.now) (state S.Store self.old) (state S.Store self.new) result }
     {
         self.enter(user)?;
@@ -104,7 +104,8 @@ impl<S: Alter> Store<S> {
         user: &[u8],
         folder: &[u8],
     ) -> Result<Option<NumberedMessage>, Refusal>
-        ensures { ReadsEntered user.now (λ first a. HasFirst first (messages_in a.folders folder.now)) (state S.Store self.old) (state S.Store self.new) result }
+        ensures first { ReadsEntered user.now (IsFirstIn folder.now) (state S.Store self.old) (state S.Store self.new) result }
+        ensures numbered { FindsAmong user.now (IsFirstOf user.now folder.now) (state S.Store self.old) (state S.Store self.new) result }
     {
         self.nth_numbered_of(user, folder, 0)
     }

@@ -27,13 +27,15 @@ EarlySteps =
 -- one that isn't about scripts makes the step of its turn, and no account changes
 abbrev pub TurnSteps : Type 0
 TurnSteps =
-    (accounts : Accounts) (c : Client) (command : Command) (used : ℕ) (turn : Turn) → ComesFirst c command used → is_early c command ≡ false → is_about_scripts command ≡ false
+    (accounts : Accounts) (c : Client) (command : Command) (used : ℕ) (turn : Turn)
+    → ComesFirst c command used → is_early c command ≡ false → is_about_scripts command ≡ false
     → RepliesTaken accounts (past used c) command turn.reply → taken_client accounts command (past used c) ≡ followed turn.sequel (past used c)
     → IsStep accounts c (progress_of (followed turn.sequel (past used c))) (octets_of.spelled turn.reply) (followed turn.sequel (past used c)) accounts
 
 -- one about scripts makes the step of its reply: the account of the user who is logged in changes where the word is OK, and no other
 abbrev pub ScriptSteps : Type 0
 ScriptSteps =
-    (accounts : Accounts) (c : Client) (command : Command) (used : ℕ) (user : List ℕ) (a : Account) (reply : Reply) → ComesFirst c command used → is_about_scripts command ≡ true
+    (accounts : Accounts) (c : Client) (command : Command) (used : ℕ) (user : List ℕ) (a : Account) (reply : Reply)
+    → ComesFirst c command used → is_about_scripts command ≡ true
     → c.user ≡ Some user → get accounts user ≡ Some a → RepliesTo a command reply
     → IsStep accounts c Done (octets_of.spelled reply) (past used c) (with_user accounts user (obeyed command reply.word))

@@ -27,7 +27,8 @@ pub record ObeysUser (user : List ℕ) (command : Command) (reply : Reply) (acco
 
 -- what the call wrote between two outputs is such a reply; after a refusal no account changed
 abbrev pub ObeyedTo : {X : Type 0} → List ℕ → Command → Result X Refusal → List ℕ → List ℕ → Accounts → Accounts → Type 0
-ObeyedTo user command (Ok x) before after accounts later = (reply : Reply) × (after ≡ before ++ octets_of.spelled reply) × ObeysUser user command reply accounts later
+ObeyedTo user command (Ok x) before after accounts later =
+    (reply : Reply) × (after ≡ before ++ octets_of.spelled reply) × ObeysUser user command reply accounts later
 ObeyedTo user command (Err refusal) before after accounts later = later ≡ accounts
 
 -- what the accounts may turn into by the command

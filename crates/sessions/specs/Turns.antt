@@ -1,8 +1,9 @@
 -- What a command that isn't about scripts comes to, decided from what the session and the login have.
-use Rattle.std.specs.Prelude.{◌≡◌, ◌⊎◌, ℕ, true, false, cond, ◌&&◌, is_none, List, Option, Some, None}
+use Rattle.std.specs.Prelude.{◌≡◌, ◌⊎◌, ℕ, Bool, true, false, cond, ◌&&◌, is_none, is_some, List, Option, Some, None}
 use Rattle.msproto.specs.declared.commands.Command.{Command}
 use Rattle.msproto.specs.declared.commands.Command.TheVariants.{Authenticate, Response}
 use Rattle.saslplain.specs.declared.password.Record.{Record}
+use Rattle.saslplain.specs.Parts.{login_of}
 use Rattle.mailstore.specs.Account.{Accounts, Password}
 use Rattle.sessions.specs.declared.free.FreeTurn.{FreeTurn}
 use Rattle.sessions.specs.declared.free.FreeTurn.TheVariants.{Made, Asks}
@@ -52,6 +53,11 @@ abbrev pub login_text : Option (List ℕ) → Command → Option (List ℕ)
 login_text user (Authenticate mechanism (Some text)) = cond (is_none user && is_plain mechanism) (Some text) None
 login_text user (Response text) = cond (is_star text) None (Some text)
 login_text user _ = None
+
+-- whether there is such a text, and it says a login
+abbrev pub says_login : Option (List ℕ) → Bool
+says_login None = false
+says_login (Some text) = is_some (login_of text)
 
 -- the user whom it logs in
 abbrev pub admitted_in : Accounts → Option (List ℕ) → Option (List ℕ)

@@ -1,5 +1,5 @@
 //! What a session reads of its user's account, and what it writes there.
-ghost use Rattle.std.specs.Prelude.{◌≡◌, ◌⊎◌, take, Some, OnErr, IfErr};
+ghost use Rattle.std.specs.Prelude.{◌≡◌, ◌≢◌, ◌⊎◌, false, take, Some, OnErr, IfErr};
 ghost use Rattle.sqlite.specs.Held.{state};
 ghost use Rattle.mailstore.specs.declared.refusal.Refusal.TheVariants.{NoUser};
 ghost use Rattle.mailstore.specs.Promises.{Reads, WritesAccount};
@@ -11,7 +11,7 @@ ghost use Rattle.sessions.specs.Logins.{admitted_by};
 ghost use Rattle.sessions.specs.Orders.{ActsCommand};
 ghost use Rattle.sessions.specs.Replies.{value_of};
 ghost use Rattle.sessions.specs.Sorts.{of_script};
-ghost use Rattle.sessions.specs.Turns.{admitted_in};
+ghost use Rattle.sessions.specs.Turns.{admitted_in, says_login};
 
 use crate::decision::{Change, Decision};
 use crate::login::{has_password, spend_rounds};
@@ -58,13 +58,16 @@ pub(crate) fn execute<S: Alter>(
     Ok(())
 }
 
-/// The user whom the text logs in, if there is a text and it logs someone in. Where it says no login no store is asked.
+/// The user whom the text logs in, if there is a text and it logs someone in. Where it says no login no store is asked, and lack
+/// of memory is the only refusal.
 pub(crate) fn admitted<S: Alter>(
     alloc: Global,
     store: &mut Store<S>,
     text: Option<&[u8]>,
 ) -> Result<Option<Octets>, Refusal>
-    ensures { ReadsAccounts (λ who accounts. admitted_in accounts (value_of text.entry) ≡ who) (state S.Store store.old) (state S.Store store.new) result }
+    ensures reads { ReadsAccounts (λ who accounts. admitted_in accounts (value_of text.entry) ≡ who) (state S.Store store.old) (state S.Store store.new) result }
+    ensures unasked { says_login (value_of text.entry) ≡ false → store.new ≡ store.old }
+    ensures refused { says_login (value_of text.entry) ≡ false → IfErr result (λ e. e ≡ Refusal.Memory) }
 {
     let Some(text) = text else {
         return Ok(None);
@@ -101,9 +104,12 @@ fn record_of(profile: Profile) -> Record
     }
 }
 
-/// A refusal as a step has it: of a user who is logged in and has no account no answer is right.
+/// A refusal as a step has it: lack of memory stays, any other is `Store`. Of a user who is logged in and has no account no
+/// answer is right.
 pub(crate) fn in_a_step(refusal: Refusal) -> Refusal
-    ensures { IsTransient result }
+    ensures named { IsTransient result }
+    ensures memory { refusal ≡ Refusal.Memory → result ≡ Refusal.Memory }
+    ensures store { refusal ≢ Refusal.Memory → result ≡ Refusal.Store }
 {
     match refusal {
         Refusal::Memory => Refusal::Memory,

@@ -10,7 +10,7 @@ ghost use Rattle.sqlite.specs.Held.{state};
 ghost use Rattle.sessions.specs.declared.sort.Order.TheVariants.{Login, Script};
 ghost use Rattle.sessions.specs.Orders.{ActsStep, StepsAsked, MayRefuse};
 ghost use Rattle.sessions.specs.Refusing.{WasRefused};
-ghost use Rattle.sessions.specs.Steps.{progress_of, Asked, StepsFirst, StepsFree, IfOver, IfCommand, IfAsks, IfMade, gives_command, has_command, may_lack};
+ghost use Rattle.sessions.specs.Steps.{progress_of, Asked, StepsFirst, StepsFree, IfOver, IfCommand, IfAsks, IfMade, gives_command, has_command, may_lack, may_fail};
 ghost use Rattle.sessions.specs.Turns.{followed};
 
 use crate::account::{admitted, execute, in_a_step};
@@ -240,8 +240,8 @@ impl Session {
     }
 
     /// A step over a store: the first item is taken off and answered, as `step_free` does it, or what its command needs of
-    /// the accounts is read, the answer joins the output, and what the answer says is written. A user who is logged in
-    /// and has no account any more is refused as `Store`.
+    /// the accounts is read, the answer joins the output, and what the answer says is written. Where no store is asked it
+    /// stays untouched. A user who is logged in and has no account any more gets no answer: that is refused as `Store`.
     ///
     /// Memory and Store are the only refusals, each only where it may come; the session, the output and the store are then
     /// as before. Time is linear in the octets of the item and in the names of the user's scripts, besides `check` for a
@@ -256,6 +256,7 @@ impl Session {
         ensures scans { OnOk result (self.new.scanned ≡ scanned_in_step self.old) }
         ensures err { OnErr result ((self.new ≡ self.old) × (out.new ≡ out.old)) }
         ensures named { IfErr result (MayRefuse self.old.client) }
+        ensures unasked { may_fail self.old.client ≡ false → store.new ≡ store.old }
     {
         match self.step_free(out)? {
             Stepped::Made(progress) => Ok(progress),
@@ -273,6 +274,7 @@ impl Session {
     ) -> Result<Progress, Refusal>
         requires { Asked self.old.client order.now }
         ensures steps { StepsAsked self.old self.new out.old out.new (state S.Store store.old) (state S.Store store.new) result }
+        ensures named { IfErr result (MayRefuse self.old.client) }
         ensures refused { OnErr result (WasRefused self.old.client) }
     {
         match order {

@@ -1,13 +1,28 @@
-use Rattle.std.proofs.Common.{◌≡◌}
+use Rattle.std.proofs.Common.{◌≡◌, Err, rules}
 use Rattle.sqlite.specs.Held.{state}
 use Rattle.mailstore.specs.Account.{Account, messages_in}
 use Rattle.mailstore.specs.AccountRows.{profile_of}
 use Rattle.mailstore.specs.CopyRows.{HasFirst}
 use Rattle.mailstore.specs.declared.profile.Profile.{Profile}
+use Rattle.mailstore.proofs.OwnLemmas.{own_enters, own_refused}
+use Rattle.mailstore.specs.Shows.{IsFirstOf}
 use Rattle.mailengine.proofs.LookupLemmas.{looks_enters}
 use Rattle.mailengine.proofs.account.first_message.Goals as goal
 
-pub returns : goal.returns
-returns g c =
-    looks_enters c.args.user.now (λ (profile : Profile) (account : Account). profile ≡ profile_of account) (λ first account. HasFirst first (messages_in account.folders c.args.folder.now)) (state g.S.Store c.args.store.now)
-    (state g.S.Store c.profile.new.store) (state g.S.Store c.first_message_of.new.self) c.profile.result c.in_ok-profile.field-0 c.in_ok-profile.was c.profile.ensures c.first_message_of.result c.first_message_of.ensures
+abbrev Known : Profile → Account → Type 0
+Known profile a = profile ≡ profile_of a
+
+pub returns-clause-first : goal.returns-clause-first
+returns-clause-first g c =
+    looks_enters c.args.user.now Known (λ first account. HasFirst first (messages_in account.folders c.args.folder.now)) (state g.S.Store c.args.store.now)
+    (state g.S.Store c.profile.new.store) (state g.S.Store c.first_message_of.new.self) c.profile.result c.in_ok-profile.field-0 c.in_ok-profile.was c.profile.ensures c.first_message_of.result c.first_message_of.ensures.first
+
+pub returns-in_err-profile-clause-numbered : goal.returns-in_err-profile-clause-numbered
+returns-in_err-profile-clause-numbered g c =
+    let is : c.from_residual.result ≡ Err c.in_err-profile.field-0.0 = search rules in
+    own_refused c.args.user.now Known (IsFirstOf c.args.user.now c.args.folder.now) (state g.S.Store c.args.store.now) (state g.S.Store c.profile.new.store) c.in_err-profile.field-0.0 c.from_residual.result is c.in_err-profile.ensures.reads
+
+pub returns-clause-numbered : goal.returns-clause-numbered
+returns-clause-numbered g c =
+    own_enters c.args.user.now Known (IsFirstOf c.args.user.now c.args.folder.now) (state g.S.Store c.args.store.now) (state g.S.Store c.profile.new.store) (state g.S.Store c.first_message_of.new.self) c.profile.result c.in_ok-profile.field-0 c.in_ok-profile.was c.profile.ensures.reads
+    c.first_message_of.result c.first_message_of.ensures.first.named c.first_message_of.ensures.numbered

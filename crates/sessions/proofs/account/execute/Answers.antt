@@ -28,7 +28,7 @@ returns-in_default-clause-acts g c =
 pub returns-in-Err-clause-acts : goal.returns-in-Err-clause-acts
 returns-in-Err-clause-acts g c =
     obeys_undone c.args.user.now (of_script c.args.command.now) (state g.S.Store c.args.store.now) (state g.S.Store c.decision_on.new.store) c.decision_on.result c.in_ok-reply.field-0 c.in_ok-reply.was c.decision_on.ensures
-    (state g.S.Store c.make.new.store) c.in-Some.change c.in-Some.is c.make.result c.make.ensures c.args.out.now c.shorten.new.out c.in-Err.refusal c.in_a_step.result c.in-Err.is c.in_a_step.ensures
+    (state g.S.Store c.make.new.store) c.in-Some.change c.in-Some.is c.make.result c.make.ensures c.args.out.now c.shorten.new.out c.in-Err.refusal c.in_a_step.result c.in-Err.is c.in_a_step.ensures.named
 
 pub returns-clause-acts : goal.returns-clause-acts
 returns-clause-acts g c =

@@ -12,7 +12,7 @@ returns-in_err-who g c =
     let none : OnOk c.from_residual.result ⊥ = search rules in
     record {
       acts =
-          refused_acts c.args.self.now.client c.args.self.now.client c.from_residual.result c.args.out.now c.args.out.now (state g.S.Store c.args.store.now) (state g.S.Store c.admitted.new.store) none c.admitted.ensures.glances;
+          refused_acts c.args.self.now.client c.args.self.now.client c.from_residual.result c.args.out.now c.args.out.now (state g.S.Store c.args.store.now) (state g.S.Store c.admitted.new.store) none c.admitted.ensures.reads.glances;
       counts = search rules;
       scans = search rules;
       err = search rules;
@@ -24,7 +24,7 @@ returns-in_err-turn g c =
     let none : OnOk c.from_residual-in_err-turn.result ⊥ = search rules in
     record {
       acts =
-          refused_acts c.args.self.now.client c.args.self.now.client c.from_residual-in_err-turn.result c.args.out.now c.args.out.now (state g.S.Store c.args.store.now) (state g.S.Store c.admitted.new.store) none c.admitted.ensures.glances;
+          refused_acts c.args.self.now.client c.args.self.now.client c.from_residual-in_err-turn.result c.args.out.now c.args.out.now (state g.S.Store c.args.store.now) (state g.S.Store c.admitted.new.store) none c.admitted.ensures.reads.glances;
       counts = search rules;
       scans = search rules;
       err = search rules;
@@ -36,7 +36,7 @@ returns-in_err-progress g c =
     let none : OnOk c.from_residual-in_err-progress.result ⊥ = search rules in
     record {
       acts =
-          refused_acts c.args.self.now.client c.take_turn.new.self.client c.from_residual-in_err-progress.result c.args.out.now c.take_turn.new.out (state g.S.Store c.args.store.now) (state g.S.Store c.admitted.new.store) none c.admitted.ensures.glances;
+          refused_acts c.args.self.now.client c.take_turn.new.self.client c.from_residual-in_err-progress.result c.args.out.now c.take_turn.new.out (state g.S.Store c.args.store.now) (state g.S.Store c.admitted.new.store) none c.admitted.ensures.reads.glances;
       counts = search rules;
       scans = search rules;
       err = search rules;
@@ -51,8 +51,8 @@ returns g c =
     record {
       acts =
           login_answered c.args.self.now.client (Login c.args.command.now) c.requires (state g.S.Store c.args.store.now) (state g.S.Store c.admitted.new.store) c.take_turn.new.self.client c.in_ok-who.who c.in_ok-turn.turn c.in_ok-progress.progress
-          c.args.out.now c.take_turn.new.out (login_other c.args.command.now) c.in_ok-who.ensures.live c.admitted.ensures.glances
-          (λ clean accounts shown. ap (λ o. admitted_in accounts o) (ap (λ o. login_text o (of_login c.args.command.now)) (sym user) ∙ sym c.login_text.ensures) ∙ c.in_ok-who.ensures.found clean accounts shown)
+          c.args.out.now c.take_turn.new.out (login_other c.args.command.now) c.in_ok-who.ensures.reads.live c.admitted.ensures.reads.glances
+          (λ clean accounts shown. ap (λ o. admitted_in accounts o) (ap (λ o. login_text o (of_login c.args.command.now)) (sym user) ∙ sym c.login_text.ensures) ∙ c.in_ok-who.ensures.reads.found clean accounts shown)
           (subst (λ f. IsTurn (FitsLogin c.args.self.now.client.user f (of_login c.args.command.now) c.in_ok-who.who) (of_login c.args.command.now) c.in_ok-turn.turn) failures
           (subst (λ o. IsTurn (FitsLogin o c.self.inside.failures (of_login c.args.command.now) c.in_ok-who.who) (of_login c.args.command.now) c.in_ok-turn.turn) user turn))
           c.in_ok-progress.ensures.told c.in_ok-progress.ensures.session c.in_ok-progress.ensures.goes_on;

@@ -10,7 +10,7 @@ returns-in-Err g c =
     record {
       acts =
           scripts_refused c.args.self.now.client (Script c.args.user.now c.args.command.now) c.requires c.as_slice.result.now is (about_scripts c.args.command.now) (state g.S.Store c.args.store.now) (state g.S.Store c.execute.new.store) c.in-Err.refusal c.in_a_step.result
-          c.args.out.now c.execute.new.out c.in_a_step.ensures c.in-Err.ensures.acts;
+          c.args.out.now c.execute.new.out c.in_a_step.ensures.named c.in-Err.ensures.acts;
       counts = search rules;
       scans = search rules;
       err = search rules;
