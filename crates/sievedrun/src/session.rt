@@ -1,5 +1,6 @@
 //! One client's session over a reader and a writer, and a store that is taken for the commands that came together.
-ghost use Rattle.std.specs.Prelude.{◌≡◌, ℕ, List, Option, None, Result, is_ok, false, true, IsTrue, IfOk, OnOk, OnErr};
+ghost use Rattle.std.specs.Prelude.{◌≡◌, ◌≢◌, ℕ, List, Option, Some, None, Result, is_ok, is_some, false, true, IsTrue, IfOk, IfSome, OnOk, OnErr};
+ghost use Rattle.keepers.specs.declared.keeper.Held.TheVariants.{Busy};
 ghost use Rattle.sqlite.specs.Held.{state};
 ghost use Rattle.mailstore.specs.Account.{Accounts};
 ghost use Rattle.mailstore.specs.Schema.{IsOurSchema, no_schema};
@@ -223,6 +224,7 @@ fn answer_under_lock<K: Keeper>(
 /// it stays.
 fn give_back<K: Keeper>(store: Option<Store<K::S>>, keeper: &mut K) -> Option<Refusal>
     ensures held { IsTrue K.tells → K.holds keeper.new ≡ seen (λ s. (state K.S.Store s).now) (K.holds keeper.old) store }
+    ensures told { IfSome store (λ given. K.closes keeper.old given result) }
     ensures back { K.is_out keeper.new ≡ false }
     ensures asked { K.unclosed keeper.old ≡ None → K.unclosed keeper.new ≡ None }
 {
@@ -340,14 +342,24 @@ fn open_store<K: Keeper>(
 }
 
 /// Notes why no store is given out, but for one that another process has.
-fn note_held<K: Keeper>(trouble: &mut FirstTrouble, held: Held, keeper: &K) {
+fn note_held<K: Keeper>(trouble: &mut FirstTrouble, held: Held, keeper: &K)
+    ensures busy { held ≡ Busy → trouble.new ≡ trouble.old }
+    ensures noted { held ≢ Busy → IsTrue (is_some trouble.new.trouble) }
+    ensures told { trouble.new.is_told ≡ trouble.old.is_told }
+{
     if let Held::Refused(refusal) = held {
         note_refusal(trouble, Some(refusal), keeper);
     }
 }
 
 /// Notes what a store refused, if anything.
-fn note_refusal<K: Keeper>(trouble: &mut FirstTrouble, refusal: Option<Refusal>, keeper: &K) {
+fn note_refusal<K: Keeper>(trouble: &mut FirstTrouble, refusal: Option<Refusal>, keeper: &K)
+    ensures none { refusal ≡ None → trouble.new ≡ trouble.old }
+    ensures noted { IfSome refusal (λ refusal. IsTrue (is_some trouble.new.trouble)) }
+    ensures first { trouble.old.trouble ≡ None → IfSome refusal (λ refusal. IfSome trouble.new.trouble (λ t. t.fault ≡ Fault.Refused refusal)) }
+    ensures later { IfSome trouble.old.trouble (λ first. trouble.new.trouble ≡ Some first) }
+    ensures told { trouble.new.is_told ≡ trouble.old.is_told }
+{
     if let Some(refusal) = refusal {
         trouble.note(Trouble::of_store(Fault::Refused(refusal), keeper));
     }
