@@ -3,7 +3,8 @@ mod DrainLemmas
 pub mod FramingLemmas
 mod LeaveLemmas
 mod MoveLemmas
-mod PromiseLemmas
+mod WordExamples
+mod WordLemmas
 mod ServingLemmas
 pub mod StreamLemmas
 pub mod Examples

@@ -1,5 +1,6 @@
 -- Messages that go from a folder into a sink.
-use Rattle.std.specs.Prelude.{◌≡◌, ◌⊎◌, ℕ, suc, ◌<◌, ◌≤◌, Bool, true, false, List, [], ◌++◌, take, replicate, Option, Some, None, Result, Ok, Err, is_ok, IsTrue, option_copied}
+use Rattle.std.specs.Prelude.{◌≡◌, ◌⊎◌, ℕ, suc, ◌<◌, ◌≤◌, Bool, true, false, List, [], ◌++◌, codes, decimal, take, replicate, Option, Some, None, Result, Ok, Err, is_ok, IfErr, IsTrue, option_copied}
+use Rattle.std.specs.Io.KnownBytes.{Appends}
 use Rattle.std.specs.FinMap.{get}
 use Rattle.octets.specs.Decimal.{Writes}
 use Rattle.sqlite.specs.Effect.{Database}
@@ -13,9 +14,13 @@ use Rattle.mailengine.specs.declared.event.Event.TheVariants.{TakeMail}
 use Rattle.mailengine.specs.declared.answer.Answer.TheVariants.{MailTaken}
 use Rattle.mailengine.specs.World.{Runs}
 use Rattle.sievedrun.specs.declared.drain.Draining.{Draining}
+use Rattle.reportlines.specs.Reports.{with_end}
 use Rattle.sievedrun.specs.declared.fault.Fault.{Fault}
-use Rattle.sievedrun.specs.Faults.{no_user, status_of}
+use Rattle.sievedrun.specs.declared.fault.Fault.TheVariants.{NoMaildir}
+use Rattle.sievedrun.specs.Faults.{no_user, status_of, IsHindered}
 use Rattle.sievedrun.specs.Promise.{world_of}
+use Rattle.sievedrun.specs.Streams.{AppendsFront}
+use Rattle.sievedrun.specs.Values.{HasNoNumber}
 
 -- the messages of an account's folder; none where there is no account
 abbrev pub mail_of : Option Account → List ℕ → List (List ℕ)
@@ -115,20 +120,27 @@ abbrev pub IsMost : Option (List ℕ) → ℕ → Type 0
 IsMost None most = most ≡ 18446744073709551615
 IsMost (Some digits) most = Writes digits most
 
--- after Ok it did what it was asked for; after a fault the messages that moved stay so
-abbrev pub WordDrained : Draining → (List (List ℕ) → Type 0) → Result (Unit {0}) Fault → Accounts → Accounts → Type 0
-WordDrained asked Grew (Ok done) accounts later = (most : ℕ) × (count : ℕ) × IsMost (option_copied asked.most) most × Drained asked.user.now asked.folder.now Grew most (Ok count) accounts later
-WordDrained asked Grew (Err fault) accounts later = BrokeOff asked.user.now asked.folder.now Grew fault accounts later
+-- what is printed of it
+abbrev pub drained_line : ℕ → List ℕ
+drained_line count = with_end (codes "drained " ++ decimal count)
 
--- over tables: a store of theirs was drained
-abbrev pub MovesTables : Draining → Bool → List (List ℕ) → List (List ℕ) → ℕ → Result ℕ Fault → Database → Database → Type 0
-MovesTables asked tells had has most result = TurnsTables (Drained asked.user.now asked.folder.now (GrowsBy tells had has) most result)
+-- why a folder isn't drained to its end: no account has the name; the place for the messages is no Maildir; or the word is kept from it
+abbrev pub StopsDraining : Type 0 → Type 0 → List ℕ → Fault → Accounts → Type 0
+StopsDraining Wrong Denied user fault accounts = IsHindered Wrong Denied fault ⊎ (fault ≡ NoMaildir) ⊎ ((fault ≡ no_user) × IsFree user accounts)
 
--- and the word was done
-abbrev pub HasDrained : Draining → Bool → List (List ℕ) → List (List ℕ) → Result (Unit {0}) Fault → Database → Database → Type 0
-HasDrained asked tells had has result = TurnsTables (WordDrained asked (GrowsBy tells had has) result)
+-- over tables: a store of theirs was drained, and where it wasn't to its end the cause is told
+abbrev pub MovesTables : Type 0 → Draining → Bool → List (List ℕ) → List (List ℕ) → ℕ → Result ℕ Fault → Database → Database → Type 0
+MovesTables Denied asked tells had has most result =
+    TurnsTables (λ accounts later. Drained asked.user.now asked.folder.now (GrowsBy tells had has) most result accounts later × IfErr result (λ fault. StopsDraining ⊥ Denied asked.user.now fault accounts))
 
--- whatever the word: the sink is as it was, or messages of one folder moved into it
-abbrev pub KeepsMail : Bool → List (List ℕ) → List (List ℕ) → Database → Database → Type 0
-KeepsMail tells had has old new =
-    GrowsBy tells had has [] ⊎ ((user : List ℕ) × (folder : List ℕ) × TurnsTables (λ accounts later. (count : ℕ) × StoppedShort user folder (GrowsBy tells had has) count accounts later) old new)
+-- after Ok the word did what it was asked for, and printed how many messages moved; after a fault those that moved stay so, a front of that is
+-- printed, and the cause is told
+abbrev pub WordDrained : Type 0 → Draining → (List (List ℕ) → Type 0) → Option (List ℕ) → Option (List ℕ) → Result (Unit {0}) Fault → Accounts → Accounts → Type 0
+WordDrained Denied asked Grew old new (Ok done) accounts later =
+    (most : ℕ) × (count : ℕ) × IsMost (option_copied asked.most) most × Drained asked.user.now asked.folder.now Grew most (Ok count) accounts later × Appends old new (drained_line count)
+WordDrained Denied asked Grew old new (Err fault) accounts later =
+    (broke : BrokeOff asked.user.now asked.folder.now Grew fault accounts later) × AppendsFront old new (drained_line broke.0) × StopsDraining (HasNoNumber (option_copied asked.most)) Denied asked.user.now fault accounts
+
+-- and over tables
+abbrev pub HasDrained : Type 0 → Draining → Bool → List (List ℕ) → List (List ℕ) → Option (List ℕ) → Option (List ℕ) → Result (Unit {0}) Fault → Database → Database → Type 0
+HasDrained Denied asked tells had has old new result = TurnsTables (WordDrained Denied asked (GrowsBy tells had has) old new result)

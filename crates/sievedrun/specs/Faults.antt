@@ -1,5 +1,5 @@
 -- What the program says where it gives no answer.
-use Rattle.std.specs.Prelude.{◌≡◌, ◌⊎◌, ℕ, List, [], ◌∷◌, ◌++◌, codes}
+use Rattle.std.specs.Prelude.{◌≡◌, ◌≢◌, ◌⊎◌, ℕ, List, [], ◌∷◌, ◌++◌, codes}
 use Rattle.mailstore.specs.declared.refusal.Refusal.TheVariants as refusal
 use Rattle.keepers.specs.declared.keeper.Held.{Held}
 use Rattle.keepers.specs.declared.keeper.Held.TheVariants as held
@@ -82,3 +82,12 @@ abbrev pub IsUnanswered : Type 0 → Fault → Type 0
 IsUnanswered no_input (Refused refusal.Memory) = Unit {0}
 IsUnanswered no_input BadInput = no_input
 IsUnanswered no_input _ = ⊥
+
+-- it comes without a cause that is seen: memory was refused, the store failed, a read or a write failed, or the clock
+abbrev pub IsSudden : Fault → Type 0
+IsSudden fault = (fault ≡ memory) ⊎ (fault ≡ store_failed) ⊎ (fault ≡ Stream)
+
+-- what keeps any word from its work: it comes without a cause that is seen; a value in the words is wrong, and only this is told as bad argument;
+-- or the store was denied
+abbrev pub IsHindered : Type 0 → Type 0 → Fault → Type 0
+IsHindered Wrong Denied fault = IsSudden fault ⊎ ((fault ≡ BadArgument) × Wrong) ⊎ (Denied × (status_of fault ≢ 64))

@@ -5,3 +5,5 @@ pub mod Promise
 pub mod Serving
 pub mod Streams
 pub mod Trial
+pub mod Values
+pub mod Words

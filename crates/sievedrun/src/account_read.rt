@@ -1,8 +1,11 @@
 //! Reads of one user's account, each of a store that is taken and handed back.
-ghost use Rattle.std.specs.Prelude.{◌≡◌, false, IsTrue};
+ghost use Rattle.std.specs.Prelude.{◌≡◌, ℕ, None, List, false, IsTrue};
 ghost use Rattle.sqlite.specs.Held.{state};
-ghost use Rattle.mailstore.specs.Promises.{Keeps};
-ghost use Rattle.sievedrun.specs.Promise.{LeavesAll};
+ghost use Rattle.mailstore.specs.Account.{Account};
+ghost use Rattle.mailstore.specs.Promises.{Reads};
+ghost use Rattle.sievedrun.specs.Draining.{TurnsTables};
+ghost use Rattle.sievedrun.specs.Serving.{HasDenied};
+ghost use Rattle.sievedrun.specs.Words.{FindsIn};
 
 use crate::commands::taken;
 use crate::fault::Fault;
@@ -18,9 +21,15 @@ pub trait AccountRead {
     /// What is found.
     type Found: Drop;
 
+    /// The user's name.
+    ghost user: { Self → List ℕ };
+
+    /// What is found in which account.
+    ghost finds: { Self → Self.Found → Account → Type 0 };
+
     /// Reads it of a store. Errors are those of the store's read.
     fn read<S: Alter>(&self, store: &mut Store<S>) -> Result<Self::Found, Refusal>
-        ensures { Keeps (state S.Store store.old) (state S.Store store.new) result };
+        ensures { Reads (user self.now) (finds self.now) (state S.Store store.old) (state S.Store store.new) result };
 }
 
 /// The folders of the user with this name.
@@ -48,6 +57,12 @@ pub struct OutgoingOf<'a>(pub &'a str, pub u64);
 pub struct NoticesOf<'a>(pub &'a str);
 
 impl AccountRead for FoldersOf<'_> {
+    ghost use Rattle.mailstore.specs.Tally.{AreFolders};
+
+    ghost user = { λ wanted. wanted.0.now };
+
+    ghost finds = { λ wanted folders a. AreFolders folders a };
+
     type Found = List<Folder>;
 
     fn read<S: Alter>(&self, store: &mut Store<S>) -> Result<List<Folder>, Refusal> {
@@ -56,6 +71,12 @@ impl AccountRead for FoldersOf<'_> {
 }
 
 impl AccountRead for DirectoriesOf<'_> {
+    ghost use Rattle.mailstore.specs.Tally.{AreFolders};
+
+    ghost user = { λ wanted. wanted.0.now };
+
+    ghost finds = { λ wanted folders a. AreFolders folders a };
+
     type Found = List<Folder>;
 
     fn read<S: Alter>(&self, store: &mut Store<S>) -> Result<List<Folder>, Refusal> {
@@ -64,6 +85,12 @@ impl AccountRead for DirectoriesOf<'_> {
 }
 
 impl AccountRead for MessageOf<'_> {
+    ghost use Rattle.sievedrun.specs.Words.{HasMessage};
+
+    ghost user = { λ wanted. wanted.0.now };
+
+    ghost finds = { λ wanted message a. HasMessage wanted.1.now wanted.2 a message };
+
     type Found = Option<Octets>;
 
     fn read<S: Alter>(&self, store: &mut Store<S>) -> Result<Option<Octets>, Refusal> {
@@ -76,6 +103,13 @@ impl AccountRead for MessageOf<'_> {
 }
 
 impl AccountRead for QueueOf<'_> {
+    ghost use Rattle.std.specs.Prelude.{◌≡◌, map};
+    ghost use Rattle.mailstore.specs.HeadRows.{head_of};
+
+    ghost user = { λ wanted. wanted.0.now };
+
+    ghost finds = { λ wanted heads a. heads ≡ map head_of a.queue };
+
     type Found = List<Head>;
 
     fn read<S: Alter>(&self, store: &mut Store<S>) -> Result<List<Head>, Refusal> {
@@ -84,6 +118,13 @@ impl AccountRead for QueueOf<'_> {
 }
 
 impl AccountRead for OutgoingOf<'_> {
+    ghost use Rattle.std.specs.Prelude.{◌≡◌};
+    ghost use Rattle.mailstore.specs.Account.{row_with};
+
+    ghost user = { λ wanted. wanted.0.now };
+
+    ghost finds = { λ wanted row a. row ≡ row_with wanted.1 a.queue };
+
     type Found = Option<Outgoing>;
 
     fn read<S: Alter>(&self, store: &mut Store<S>) -> Result<Option<Outgoing>, Refusal> {
@@ -92,6 +133,12 @@ impl AccountRead for OutgoingOf<'_> {
 }
 
 impl AccountRead for NoticesOf<'_> {
+    ghost use Rattle.std.specs.Prelude.{◌≡◌};
+
+    ghost user = { λ wanted. wanted.0.now };
+
+    ghost finds = { λ wanted notices a. notices ≡ a.notices };
+
     type Found = List<Notice>;
 
     fn read<S: Alter>(&self, store: &mut Store<S>) -> Result<List<Notice>, Refusal> {
@@ -101,12 +148,10 @@ impl AccountRead for NoticesOf<'_> {
 
 /// No message, of a user who has an account.
 fn none_of<S: Alter>(store: &mut Store<S>, user: &[u8]) -> Result<Option<Octets>, Refusal>
-    ensures { Keeps (state S.Store store.old) (state S.Store store.new) result }
+    ensures { Reads user.now (λ message a. message ≡ None) (state S.Store store.old) (state S.Store store.new) result }
 {
-    match store.enter(user) {
-        Ok(_) => Ok(None),
-        Err(refusal) => Err(refusal),
-    }
+    let _ = store.enter(user)?;
+    Ok(None)
 }
 
 /// What is found in the store at a place, which is taken for this read and handed back.
@@ -116,7 +161,9 @@ pub fn read_once<Q: AccountRead, K: Keeper>(
     keeper: &mut K,
 ) -> Result<Q::Found, Fault>
     ensures back { K.is_out keeper.old ≡ false → K.is_out keeper.new ≡ false }
-    ensures leaves { IsTrue K.tells → LeavesAll (K.holds keeper.old) (K.holds keeper.new) }
+    ensures found { IsTrue K.tells → TurnsTables
+        (λ accounts later. (later ≡ accounts) × FindsIn (HasDenied K.refuses) (Q.user wanted.now) (Q.finds wanted.now) result accounts)
+        (K.holds keeper.old) (K.holds keeper.new) }
 {
     let mut store = taken(place, false, keeper)?;
     let found = wanted.read(&mut store);

@@ -1,12 +1,18 @@
 //! The words that work on a store, a function each.
-ghost use Rattle.std.specs.Prelude.{◌≡◌, ◌≢◌, false, IsTrue, IfOk, OnOk, OnErr, IfErr};
+ghost use Rattle.std.specs.Prelude.{◌≡◌, ◌≢◌, ◌++◌, false, codes, IsTrue, IfOk, OnOk, OnErr, IfErr, option_copied};
+ghost use Rattle.std.specs.Io.KnownBytes.{Appends};
 ghost use Rattle.sqlite.specs.Held.{state};
-ghost use Rattle.mailstore.specs.Account.{no_accounts};
-ghost use Rattle.mailstore.specs.Shows.{Presents};
 ghost use Rattle.keepers.specs.Taken.{IsTaken};
+ghost use Rattle.mailengine.specs.declared.answer.Answer.TheVariants.{Delivered, Added};
 ghost use Rattle.mailengine.specs.declared.event.Event.TheVariants.{Deliver, AddUser};
+ghost use Rattle.reportlines.specs.Reports.{with_end, delivery_report};
+ghost use Rattle.sievedrun.specs.Draining.{TurnsTables};
 ghost use Rattle.sievedrun.specs.Faults.{IsFailure};
-ghost use Rattle.sievedrun.specs.Promise.{Brings, LeavesAll, LeavesAfter, MayCome, LeavesNew, status_after};
+ghost use Rattle.sievedrun.specs.Promise.{status_after};
+ghost use Rattle.sievedrun.specs.Serving.{HasDenied};
+ghost use Rattle.sievedrun.specs.Streams.{AppendsFront};
+ghost use Rattle.sievedrun.specs.Values.{IsNoNumber, HasNoNumber, IsNoSalt};
+ghost use Rattle.sievedrun.specs.Words.{Adds, Posts, Puts, DoesEvent, DoesRead, DoesInit, ShowsMessage, LacksMessage};
 
 use crate::account_read::{MessageOf, read_once};
 use crate::fault::Fault;
@@ -50,8 +56,7 @@ pub fn run_init<W: Write, K: Keeper>(
     keeper: &mut K,
 ) -> Result<(), Fault>
     ensures back { K.is_out keeper.old ≡ false → K.is_out keeper.new ≡ false }
-    ensures leaves { IsTrue K.tells → LeavesNew (K.holds keeper.old) (K.holds keeper.new) }
-    ensures made { IsTrue K.tells → OnOk result (Presents (K.holds keeper.new) no_accounts) }
+    ensures does { IsTrue K.tells → DoesInit (HasDenied K.refuses) (W.contents output.old) (W.contents output.new) result (K.holds keeper.old) (K.holds keeper.new) }
 {
     let store = taken(place, true, keeper)?;
     keeper.hand_back(store);
@@ -69,7 +74,9 @@ pub fn run_adduser<R: Read, W: Write, K: Keeper>(
 ) -> Result<(), Fault>
     ensures unread { status_after result ≡ 64 → input.new ≡ input.old }
     ensures back { K.is_out keeper.old ≡ false → K.is_out keeper.new ≡ false }
-    ensures leaves { IsTrue K.tells → LeavesAfter (Brings (R.remaining input.old)) (status_after result) (K.holds keeper.old) (K.holds keeper.new) }
+    ensures does { IsTrue K.tells → DoesEvent (IsNoSalt user.entry.salt.now) (HasDenied K.refuses)
+        (Adds user.entry.salt.now user.entry.name.now user.entry.address.now (R.remaining input.old))
+        (W.contents output.old) (W.contents output.new) result (K.holds keeper.old) (K.holds keeper.new) }
 {
     let salt = salt_of(user.salt)?;
     let line = added_line(alloc, user.name)?;
@@ -99,7 +106,8 @@ fn add<K: Keeper>(
 ) -> Result<(), Fault>
     ensures late { status_after result ≢ 64 }
     ensures back { K.is_out keeper.old ≡ false → K.is_out keeper.new ≡ false }
-    ensures leaves { IsTrue K.tells → MayCome (AddUser name.now address.now salt password.now) (status_after result) (K.holds keeper.old) (K.holds keeper.new) }
+    ensures puts { IsTrue K.tells → TurnsTables
+        (Puts (HasDenied K.refuses) (AddUser name.now address.now salt password.now) (λ done. Added) result) (K.holds keeper.old) (K.holds keeper.new) }
 {
     let mut store = taken(place, false, keeper)?;
     let added = add_user(alloc, &mut store, name, address, salt, password);
@@ -107,7 +115,9 @@ fn add<K: Keeper>(
     Ok(added?)
 }
 
-fn added_line(alloc: Global, name: &str) -> Result<Octets, AllocError> {
+fn added_line(alloc: Global, name: &str) -> Result<Octets, AllocError>
+    ensures { IfOk result (λ line. line ≡ with_end (codes "added " ++ name.now)) }
+{
     let mut line = Octets::from_slice(alloc, b"added ")?;
     line.extend_from_slice(name.as_bytes())?;
     line.push(b'\n')?;
@@ -129,7 +139,9 @@ pub fn run_deliver<R: Read, W: Write, K: Keeper>(
 ) -> Result<(), Fault>
     ensures unread { status_after result ≡ 64 → input.new ≡ input.old }
     ensures back { K.is_out keeper.old ≡ false → K.is_out keeper.new ≡ false }
-    ensures leaves { IsTrue K.tells → LeavesAfter (Brings (R.remaining input.old)) (status_after result) (K.holds keeper.old) (K.holds keeper.new) }
+    ensures does { IsTrue K.tells → DoesEvent (HasNoNumber (option_copied posting.entry.at)) (HasDenied K.refuses)
+        (Posts posting.entry.from.now posting.entry.to.now (option_copied posting.entry.at) posting.entry.user.now clock (R.remaining input.old))
+        (W.contents output.old) (W.contents output.new) result (K.holds keeper.old) (K.holds keeper.new) }
 {
     let moment = moment_of(posting.at, clock)?;
     let envelope = envelope_of(alloc, posting.from, posting.to)?;
@@ -158,7 +170,8 @@ fn post<K: Keeper>(
 ) -> Result<Report, Fault>
     ensures late { status_after result ≢ 64 }
     ensures back { K.is_out keeper.old ≡ false → K.is_out keeper.new ≡ false }
-    ensures leaves { IsTrue K.tells → MayCome (Deliver user.now envelope message.now moment) (status_after result) (K.holds keeper.old) (K.holds keeper.new) }
+    ensures puts { IsTrue K.tells → TurnsTables
+        (Puts (HasDenied K.refuses) (Deliver user.now envelope message.now moment) Delivered result) (K.holds keeper.old) (K.holds keeper.new) }
 {
     let mut store = taken(place, false, keeper)?;
     let delivered = deliver(alloc, &mut store, user, envelope, message, moment);
@@ -167,7 +180,9 @@ fn post<K: Keeper>(
 }
 
 fn print_report<W: Write>(alloc: Global, report: &Report, output: &mut W) -> Result<(), Fault>
-    ensures { IfErr result IsFailure }
+    ensures ok { OnOk result (Appends (W.contents output.old) (W.contents output.new) (delivery_report report.now)) }
+    ensures err { OnErr result (AppendsFront (W.contents output.old) (W.contents output.new) (delivery_report report.now)) }
+    ensures fault { IfErr result IsFailure }
 {
     let text = of_report(alloc, report)?;
     write_all(output, text.as_slice())
@@ -183,7 +198,9 @@ pub fn run_show<W: Write, K: Keeper>(
     keeper: &mut K,
 ) -> Result<(), Fault>
     ensures back { K.is_out keeper.old ≡ false → K.is_out keeper.new ≡ false }
-    ensures leaves { IsTrue K.tells → LeavesAll (K.holds keeper.old) (K.holds keeper.new) }
+    ensures does { IsTrue K.tells → DoesRead (IsNoNumber number.now) (HasDenied K.refuses) user.now
+        (ShowsMessage folder.now number.now) (LacksMessage folder.now number.now)
+        (W.contents output.old) (W.contents output.new) result (K.holds keeper.old) (K.holds keeper.new) }
 {
     let number = decimal(number)?;
     let Some(message) = read_once(place, &MessageOf(user, folder, number), keeper)? else {
@@ -198,6 +215,7 @@ pub fn taken<K: Keeper>(place: Place<'_>, fresh: bool, keeper: &mut K) -> Result
     ensures taken { IfOk result (λ store. IsTrue K.tells → IsTaken fresh (K.holds keeper.old) (state K.S.Store store).now) }
     ensures refused { OnErr result (IsTrue K.tells → K.holds keeper.new ≡ K.holds keeper.old) }
     ensures kept { OnErr result (K.is_out keeper.new ≡ K.is_out keeper.old) }
+    ensures denied { OnErr result (HasDenied K.refuses) }
 {
     keeper.wait_for_lock(place.waits);
     Ok(keeper.take(place.path, fresh)?)

@@ -1,8 +1,11 @@
 //! The word on what leaves a folder: its messages go into a sink, and then out of the store.
-ghost use Rattle.std.specs.Prelude.{◌≡◌, false, IfErr, IfOk, IsTrue, option_copied};
+ghost use Rattle.std.specs.Prelude.{◌≡◌, ◌⊎◌, false, IfErr, IfOk, IsTrue, option_copied};
 ghost use Rattle.sqlite.specs.Held.{state};
 ghost use Rattle.sievedrun.specs.Draining.{IsMost, MovesFirst, MovesAll, Drains, MovesTables, HasDrained};
-ghost use Rattle.sievedrun.specs.Faults.{status_of};
+ghost use Rattle.sievedrun.specs.Draining as draining;
+ghost use Rattle.sievedrun.specs.Faults.{no_user, IsSudden};
+ghost use Rattle.sievedrun.specs.Serving.{HasDenied};
+ghost use Rattle.sievedrun.specs.Values.{HasNoNumber};
 
 use crate::commands::taken;
 use crate::fault::Fault;
@@ -42,7 +45,8 @@ pub fn run_drain<W: Write, K: Keeper, T: MailSink>(
     sink: &mut T,
 ) -> Result<(), Fault>
     ensures back { K.is_out keeper.old ≡ false → K.is_out keeper.new ≡ false }
-    ensures drains { IsTrue K.tells → HasDrained asked.entry T.tells (T.kept sink.old) (T.kept sink.new) result (K.holds keeper.old) (K.holds keeper.new) }
+    ensures drains { IsTrue K.tells → HasDrained (HasDenied K.refuses) asked.entry T.tells (T.kept sink.old) (T.kept sink.new)
+        (W.contents output.old) (W.contents output.new) result (K.holds keeper.old) (K.holds keeper.new) }
 {
     let most = most_of(asked.most)?;
     sink.open(asked.maildir)?;
@@ -55,6 +59,7 @@ pub fn run_drain<W: Write, K: Keeper, T: MailSink>(
 fn most_of(digits: Option<&str>) -> Result<u64, Fault>
     ensures ok { IfOk result (IsMost (option_copied digits.entry)) }
     ensures fault { IfErr result (λ fault. fault ≡ Fault.BadArgument) }
+    ensures none { IfErr result (λ fault. HasNoNumber (option_copied digits.entry)) }
 {
     match digits {
         Some(digits) => decimal(digits),
@@ -71,7 +76,8 @@ fn drain_store<K: Keeper, T: MailSink>(
     sink: &mut T,
 ) -> Result<u64, Fault>
     ensures back { K.is_out keeper.old ≡ false → K.is_out keeper.new ≡ false }
-    ensures moves { IsTrue K.tells → MovesTables asked.entry T.tells (T.kept sink.old) (T.kept sink.new) most result (K.holds keeper.old) (K.holds keeper.new) }
+    ensures moves { IsTrue K.tells → MovesTables (HasDenied K.refuses) asked.entry T.tells (T.kept sink.old) (T.kept sink.new) most result
+        (K.holds keeper.old) (K.holds keeper.new) }
 {
     let user = asked.user.as_bytes();
     let folder = asked.folder.as_bytes();
@@ -81,7 +87,9 @@ fn drain_store<K: Keeper, T: MailSink>(
     drained
 }
 
-fn drained_line(alloc: Global, moved: u64) -> Result<Octets, AllocError> {
+fn drained_line(alloc: Global, moved: u64) -> Result<Octets, AllocError>
+    ensures { IfOk result (λ line. line ≡ draining.drained_line moved) }
+{
     let mut line = Octets::from_slice(alloc, b"drained ")?;
     write_decimal(&mut line, moved)?;
     line.push(b'\n')?;
@@ -101,7 +109,7 @@ fn move_first<S: Alter, T: MailSink>(
     sink: &mut T,
 ) -> Result<bool, Fault>
     ensures moves { MovesFirst user.now folder.now T.tells (T.kept sink.old) (T.kept sink.new) result (state S.Store store.old) (state S.Store store.new) }
-    ensures fault { IfErr result (λ fault. status_of fault ≡ 75) }
+    ensures fault { IfErr result IsSudden }
 {
     let first = match first_message(store, user, folder) {
         Ok(first) => first,
@@ -121,7 +129,7 @@ fn move_first<S: Alter, T: MailSink>(
 
 /// Why the folder of a user who was there a moment ago can't be read.
 fn failure_of(refusal: Refusal) -> Fault
-    ensures { status_of result ≡ 75 }
+    ensures { IsSudden result }
 {
     match refusal {
         Refusal::Memory => Fault::Refused(Refusal::Memory),
@@ -131,7 +139,7 @@ fn failure_of(refusal: Refusal) -> Fault
 
 /// Why a message isn't kept in a place that was taken.
 fn unkept(error: SinkError) -> Fault
-    ensures { status_of result ≡ 75 }
+    ensures { IsSudden result }
 {
     match error {
         SinkError::Memory => Fault::Refused(Refusal::Memory),
@@ -149,7 +157,7 @@ fn move_all<S: Alter, T: MailSink>(
     sink: &mut T,
 ) -> Result<u64, Fault>
     ensures moves { MovesAll user.now folder.now T.tells (T.kept sink.old) (T.kept sink.new) most result (state S.Store store.old) (state S.Store store.new) }
-    ensures fault { IfErr result (λ fault. status_of fault ≡ 75) }
+    ensures fault { IfErr result IsSudden }
 {
     for moved in 0..most {
         if !move_first(store, user, folder, sink)? {
@@ -173,7 +181,8 @@ fn drain<S: Alter, T: MailSink>(
     most: u64,
     sink: &mut T,
 ) -> Result<u64, Fault>
-    ensures { Drains user.now folder.now T.tells (T.kept sink.old) (T.kept sink.new) most result (state S.Store store.old) (state S.Store store.new) }
+    ensures moves { Drains user.now folder.now T.tells (T.kept sink.old) (T.kept sink.new) most result (state S.Store store.old) (state S.Store store.new) }
+    ensures fault { IfErr result (λ fault. IsSudden fault ⊎ (fault ≡ no_user)) }
 {
     let Some(_account) = store.account(user)? else {
         return Err(Fault::Refused(Refusal::NoUser));

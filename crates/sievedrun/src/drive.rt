@@ -1,20 +1,23 @@
 //! A run of the program: the words, and what comes of them.
 ghost use Rattle.std.specs.Prelude.{◌≡◌, ◌≢◌, false, None, IsTrue, IfSome};
-ghost use Rattle.sievedrun.specs.Draining.{KeepsMail};
 ghost use Rattle.sievedrun.specs.Faults.{status_of, line_of, store_failed};
-ghost use Rattle.sievedrun.specs.Promise.{LeavesAll, LeavesSound, status_after};
+ghost use Rattle.sievedrun.specs.Promise.{status_after};
+ghost use Rattle.sievedrun.specs.Serving.{HasDenied};
 ghost use Rattle.sievedrun.specs.Streams.{AppendsFirst};
+ghost use Rattle.sievedrun.specs.Trial.{Runs};
+ghost use Rattle.sievedrun.specs.Values.{envelope_with};
+ghost use Rattle.sievedrun.specs.Words.{Does, Looks, RunsAny};
 
-use crate::account_read::{DirectoriesOf, FoldersOf, NoticesOf, QueueOf};
+use crate::account_read::NoticesOf;
 use crate::commands::{NewUser, Posting, run_adduser, run_deliver, run_init, run_show};
 use crate::drain::{Draining, run_drain};
 use crate::fault::{Fault, refuse};
-use crate::listing::run_listing;
-use crate::queue::{run_done, run_queued};
+use crate::listing::{run_folders, run_listing};
+use crate::queue::{run_done, run_queue};
 use crate::stream::write_all;
 use crate::trial::try_run;
 use crate::trouble::Trouble;
-use crate::values::{envelope_of, separator_of};
+use crate::values::envelope_of;
 use clap::Error;
 use clap::error::ErrorKind;
 use keepers::Keeper;
@@ -46,8 +49,8 @@ pub fn drive<R: Read, W: Write, F: Write, K: Keeper, T: MailSink>(
 ) -> u8
     ensures unread { result ≡ 64 → input.new ≡ input.old }
     ensures back { K.is_out keeper.old ≡ false → K.is_out keeper.new ≡ false }
-    ensures leaves { IsTrue K.tells → LeavesSound (R.remaining input.old) result (K.holds keeper.old) (K.holds keeper.new) }
-    ensures kept { IsTrue K.tells → KeepsMail T.tells (T.kept sink.old) (T.kept sink.new) (K.holds keeper.old) (K.holds keeper.new) }
+    ensures runs { IsTrue K.tells → RunsAny (HasDenied K.refuses) clock (R.remaining input.old) T.tells (T.kept sink.old) (T.kept sink.new)
+        (W.contents output.old) (W.contents output.new) (F.contents faults.old) (F.contents faults.new) result (K.holds keeper.old) (K.holds keeper.new) }
     ensures asked { K.unclosed keeper.old ≡ None → K.unclosed keeper.new ≡ None }
 {
     match read(alloc, words) {
@@ -71,6 +74,8 @@ fn try_mail<R: Read, W: Write, F: Write>(
     faults: &mut F,
 ) -> u8
     ensures unread { result ≡ 64 → input.new ≡ input.old }
+    ensures runs { Runs (envelope_with from.now to.now) (R.remaining input.old) (W.contents output.old) (W.contents output.new)
+        (F.contents faults.old) (F.contents faults.new) result }
 {
     match envelope_of(alloc, from, to) {
         Ok(envelope) => try_run(alloc, envelope, input, output, faults),
@@ -90,8 +95,8 @@ fn act<R: Read, W: Write, K: Keeper, T: MailSink>(
 ) -> Result<(), Fault>
     ensures unread { status_after result ≡ 64 → input.new ≡ input.old }
     ensures back { K.is_out keeper.old ≡ false → K.is_out keeper.new ≡ false }
-    ensures leaves { IsTrue K.tells → LeavesSound (R.remaining input.old) (status_after result) (K.holds keeper.old) (K.holds keeper.new) }
-    ensures kept { IsTrue K.tells → KeepsMail T.tells (T.kept sink.old) (T.kept sink.new) (K.holds keeper.old) (K.holds keeper.new) }
+    ensures does { IsTrue K.tells → Does (HasDenied K.refuses) clock (R.remaining input.old) T.tells (T.kept sink.old) (T.kept sink.new)
+        (W.contents output.old) (W.contents output.new) asked.entry result (K.holds keeper.old) (K.holds keeper.new) }
 {
     match asked {
         Asked::Init(place) => run_init(place, output, keeper),
@@ -146,46 +151,23 @@ fn look<W: Write, K: Keeper>(
     keeper: &mut K,
 ) -> Result<(), Fault>
     ensures back { K.is_out keeper.old ≡ false → K.is_out keeper.new ≡ false }
-    ensures leaves { IsTrue K.tells → LeavesAll (K.holds keeper.old) (K.holds keeper.new) }
+    ensures looks { IsTrue K.tells → Looks (HasDenied K.refuses) (W.contents output.old) (W.contents output.new) asked.entry result
+        (K.holds keeper.old) (K.holds keeper.new) }
 {
     match asked {
         Asked::Folders {
             place,
             user,
-            directories: false,
-            separator: None,
-        } => run_listing(alloc, place, &FoldersOf(user), output, keeper),
-        Asked::Folders {
-            place,
-            user,
-            directories: true,
+            directories,
             separator,
-        } => {
-            let separator = separator_of(separator)?;
-            run_listing(
-                alloc,
-                place,
-                &DirectoriesOf(user, separator),
-                output,
-                keeper,
-            )
-        }
+        } => run_folders(alloc, place, user, directories, separator, output, keeper),
         Asked::Show {
             place,
             user,
             folder,
             number,
         } => run_show(place, user, folder, number, output, keeper),
-        Asked::Queue {
-            place,
-            user,
-            id: None,
-        } => run_listing(alloc, place, &QueueOf(user), output, keeper),
-        Asked::Queue {
-            place,
-            user,
-            id: Some(id),
-        } => run_queued(place, user, id, output, keeper),
+        Asked::Queue { place, user, id } => run_queue(alloc, place, user, id, output, keeper),
         Asked::Notices { place, user } => run_listing(
             alloc,
             place,

@@ -1,10 +1,15 @@
 //! The words that list what is in a user's account: `folders`, `queue`, `notices`.
-ghost use Rattle.std.specs.Prelude.{◌≡◌, false, IsTrue};
-ghost use Rattle.sievedrun.specs.Promise.{LeavesAll};
+ghost use Rattle.std.specs.Prelude.{◌≡◌, ◌++◌, ℕ, List, codes, decimal, map, false, IsTrue, IfOk, OnOk, option_copied};
+ghost use Rattle.mailstore.specs.Account.{Account};
+ghost use Rattle.mailstore.specs.Tally.{count_of};
+ghost use Rattle.reportlines.specs.Reports.{with_end};
+ghost use Rattle.sievedrun.specs.Serving.{HasDenied};
+ghost use Rattle.sievedrun.specs.Words.{DoesFolders, DoesRead, LacksNothing, folder_line, directory_line, folder_listing};
 
 use crate::account_read::{AccountRead, DirectoriesOf, FoldersOf, NoticesOf, QueueOf, read_once};
 use crate::fault::Fault;
 use crate::stream::write_all;
+use crate::values::separator_of;
 use keepers::Keeper;
 use maildirs::{Separator, directory_of};
 use mailstore::{Folder, Head, Notice};
@@ -16,44 +21,73 @@ use std::io::Write;
 
 /// What is listed of a user's account, a line for each thing that is found.
 pub trait Listing: AccountRead {
+    /// Which lines show which account.
+    ghost shows: { Self → Account → List ℕ → Type 0 };
+
     /// The lines. The error: memory.
-    fn lines(&self, alloc: Global, found: &Self::Found) -> Result<Octets, AllocError>;
+    fn lines(&self, alloc: Global, found: &Self::Found) -> Result<Octets, AllocError>
+        ensures { IfOk result (λ text. (a : Account) → Self.finds self.now found.now a → shows self.now a text) };
 }
 
 impl Listing for FoldersOf<'_> {
+    ghost use Rattle.sievedrun.specs.Words.{ListsFolders, folder_line};
+
+    ghost shows = { λ wanted a text. ListsFolders folder_line a text };
+
     fn lines(&self, alloc: Global, found: &List<Folder>) -> Result<Octets, AllocError> {
         folder_lines(alloc, found.as_slice())
     }
 }
 
 impl Listing for DirectoriesOf<'_> {
+    ghost use Rattle.sievedrun.specs.Words.{ListsFolders, directory_line};
+
+    ghost shows = { λ wanted a text. ListsFolders (directory_line wanted.1) a text };
+
     fn lines(&self, alloc: Global, found: &List<Folder>) -> Result<Octets, AllocError> {
         directory_lines(alloc, found.as_slice(), self.1)
     }
 }
 
 impl Listing for QueueOf<'_> {
+    ghost use Rattle.sievedrun.specs.Words.{ListsQueue};
+
+    ghost shows = { λ wanted a text. ListsQueue a text };
+
     fn lines(&self, alloc: Global, found: &List<Head>) -> Result<Octets, AllocError> {
         of_queue(alloc, found.as_slice())
     }
 }
 
 impl Listing for NoticesOf<'_> {
+    ghost use Rattle.sievedrun.specs.Words.{ListsNotices};
+
+    ghost shows = { λ wanted a text. ListsNotices a text };
+
     fn lines(&self, alloc: Global, found: &List<Notice>) -> Result<Octets, AllocError> {
         of_notices(alloc, found.as_slice())
     }
 }
 
 /// Each folder with the number of its messages.
-fn folder_lines(alloc: Global, folders: &[Folder]) -> Result<Octets, AllocError> {
+fn folder_lines(alloc: Global, folders: &[Folder]) -> Result<Octets, AllocError>
+    ensures { IfOk result (λ text. text ≡ folder_listing folder_line (map count_of folders.now)) }
+{
     let mut text = Octets::new(alloc);
     for folder in folders {
-        text.extend_from_slice(folder.name.as_slice())?;
-        text.push(b' ')?;
-        write_decimal(&mut text, folder.count)?;
-        text.push(b'\n')?;
+        add_folder(&mut text, folder)?;
     }
     Ok(text)
+}
+
+/// Appends the line of a folder.
+fn add_folder(text: &mut Octets, folder: &Folder) -> Result<(), AllocError>
+    ensures { OnOk result (text.new ≡ text.old ++ with_end (folder_line (count_of folder.now))) }
+{
+    text.extend_from_slice(folder.name.as_slice())?;
+    text.push(b' ')?;
+    write_decimal(text, folder.count)?;
+    text.push(b'\n')
 }
 
 /// Each folder's directory in a Maildir, the number of its messages, and the folder.
@@ -61,18 +95,27 @@ fn directory_lines(
     alloc: Global,
     folders: &[Folder],
     separator: Separator,
-) -> Result<Octets, AllocError> {
+) -> Result<Octets, AllocError>
+    ensures { IfOk result (λ text. text ≡ folder_listing (directory_line separator) (map count_of folders.now)) }
+{
     let mut text = Octets::new(alloc);
     for folder in folders {
         let directory = directory_of(alloc, folder.name.as_slice(), separator)?;
-        text.extend_from_slice(directory.as_slice())?;
-        text.push(b' ')?;
-        write_decimal(&mut text, folder.count)?;
-        text.push(b' ')?;
-        text.extend_from_slice(folder.name.as_slice())?;
-        text.push(b'\n')?;
+        add_directory(&mut text, directory.as_slice(), folder)?;
     }
     Ok(text)
+}
+
+/// Appends the line of a folder after its directory.
+fn add_directory(text: &mut Octets, directory: &[u8], folder: &Folder) -> Result<(), AllocError>
+    ensures { OnOk result (text.new ≡ text.old ++ with_end (directory.now ++ (codes " " ++ (decimal folder.now.count ++ (codes " " ++ folder.now.name))))) }
+{
+    text.extend_from_slice(directory)?;
+    text.push(b' ')?;
+    write_decimal(text, folder.count)?;
+    text.push(b' ')?;
+    text.extend_from_slice(folder.name.as_slice())?;
+    text.push(b'\n')
 }
 
 /// Prints what is listed.
@@ -84,9 +127,41 @@ pub fn run_listing<Q: Listing, W: Write, K: Keeper>(
     keeper: &mut K,
 ) -> Result<(), Fault>
     ensures back { K.is_out keeper.old ≡ false → K.is_out keeper.new ≡ false }
-    ensures leaves { IsTrue K.tells → LeavesAll (K.holds keeper.old) (K.holds keeper.new) }
+    ensures does { IsTrue K.tells → DoesRead ⊥ (HasDenied K.refuses) (Q.user wanted.now) (Q.shows wanted.now) LacksNothing
+        (W.contents output.old) (W.contents output.new) result (K.holds keeper.old) (K.holds keeper.new) }
 {
     let found = read_once(place, wanted, keeper)?;
     let text = wanted.lines(alloc, &found)?;
     write_all(output, text.as_slice())
+}
+
+/// `folders`: the user's folders, each with its directory in a Maildir where that is asked for. A separator of levels is for
+/// these alone.
+pub fn run_folders<W: Write, K: Keeper>(
+    alloc: Global,
+    place: Place<'_>,
+    user: &str,
+    directories: bool,
+    separator: Option<&str>,
+    output: &mut W,
+    keeper: &mut K,
+) -> Result<(), Fault>
+    ensures back { K.is_out keeper.old ≡ false → K.is_out keeper.new ≡ false }
+    ensures does { IsTrue K.tells → DoesFolders (HasDenied K.refuses) (W.contents output.old) (W.contents output.new) user.now
+        directories (option_copied separator.entry) result (K.holds keeper.old) (K.holds keeper.new) }
+{
+    if directories {
+        let separator = separator_of(separator)?;
+        return run_listing(
+            alloc,
+            place,
+            &DirectoriesOf(user, separator),
+            output,
+            keeper,
+        );
+    }
+    match separator {
+        None => run_listing(alloc, place, &FoldersOf(user), output, keeper),
+        Some(_) => Err(Fault::BadArgument),
+    }
 }

@@ -1,23 +1,49 @@
 //! The words on one message of a user's queue: its octets, and that it went out.
-ghost use Rattle.std.specs.Prelude.{◌≡◌, ◌≢◌, false, IsTrue};
+ghost use Rattle.std.specs.Prelude.{◌≡◌, ◌≢◌, ◌++◌, false, codes, decimal, IsTrue, IfOk, option_copied};
+ghost use Rattle.mailengine.specs.declared.answer.Answer.TheVariants.{Taken};
 ghost use Rattle.mailengine.specs.declared.event.Event.TheVariants.{TakeOut};
-ghost use Rattle.sievedrun.specs.Promise.{LeavesAll, LeavesAfter, MayCome, Takes, status_after};
+ghost use Rattle.reportlines.specs.Reports.{with_end};
+ghost use Rattle.sievedrun.specs.Draining.{TurnsTables};
+ghost use Rattle.sievedrun.specs.Promise.{status_after};
+ghost use Rattle.sievedrun.specs.Serving.{HasDenied};
+ghost use Rattle.sievedrun.specs.Values.{IsNoNumber};
+ghost use Rattle.sievedrun.specs.Words.{Dequeues, Puts, DoesEvent, DoesQueue, DoesRead, ShowsOutgoing, LacksOutgoing};
 
-use crate::account_read::{OutgoingOf, read_once};
+use crate::account_read::{OutgoingOf, QueueOf, read_once};
 use crate::commands::taken;
 use crate::fault::Fault;
+use crate::listing::run_listing;
 use crate::stream::write_all;
 use crate::values::decimal;
 use keepers::Keeper;
 use mailengine::take_out;
-use mailstore::Refusal;
+use mailstore::{Outgoing, Refusal};
 use octets::{Octets, write_decimal};
 use sievedwords::Place;
 use std::alloc::{AllocError, Global};
 use std::io::Write;
 
+/// `queue`: the user's messages on their way out, or the octets of the one with the number.
+pub fn run_queue<W: Write, K: Keeper>(
+    alloc: Global,
+    place: Place<'_>,
+    user: &str,
+    id: Option<&str>,
+    output: &mut W,
+    keeper: &mut K,
+) -> Result<(), Fault>
+    ensures back { K.is_out keeper.old ≡ false → K.is_out keeper.new ≡ false }
+    ensures does { IsTrue K.tells → DoesQueue (HasDenied K.refuses) (W.contents output.old) (W.contents output.new) user.now
+        (option_copied id.entry) result (K.holds keeper.old) (K.holds keeper.new) }
+{
+    match id {
+        None => run_listing(alloc, place, &QueueOf(user), output, keeper),
+        Some(id) => run_queued(place, user, id, output, keeper),
+    }
+}
+
 /// `queue` with a number: the octets of that message.
-pub fn run_queued<W: Write, K: Keeper>(
+fn run_queued<W: Write, K: Keeper>(
     place: Place<'_>,
     user: &str,
     id: &str,
@@ -25,7 +51,8 @@ pub fn run_queued<W: Write, K: Keeper>(
     keeper: &mut K,
 ) -> Result<(), Fault>
     ensures back { K.is_out keeper.old ≡ false → K.is_out keeper.new ≡ false }
-    ensures leaves { IsTrue K.tells → LeavesAll (K.holds keeper.old) (K.holds keeper.new) }
+    ensures does { IsTrue K.tells → DoesRead (IsNoNumber id.now) (HasDenied K.refuses) user.now (ShowsOutgoing id.now) (LacksOutgoing id.now)
+        (W.contents output.old) (W.contents output.new) result (K.holds keeper.old) (K.holds keeper.new) }
 {
     let id = decimal(id)?;
     let Some(row) = read_once(place, &OutgoingOf(user, id), keeper)? else {
@@ -44,28 +71,36 @@ pub fn run_done<W: Write, K: Keeper>(
     keeper: &mut K,
 ) -> Result<(), Fault>
     ensures back { K.is_out keeper.old ≡ false → K.is_out keeper.new ≡ false }
-    ensures leaves { IsTrue K.tells → LeavesAfter (Takes user.now id.now) (status_after result) (K.holds keeper.old) (K.holds keeper.new) }
+    ensures does { IsTrue K.tells → DoesEvent (IsNoNumber id.now) (HasDenied K.refuses) (Dequeues user.now id.now)
+        (W.contents output.old) (W.contents output.new) result (K.holds keeper.old) (K.holds keeper.new) }
 {
     let id = decimal(id)?;
     let line = taken_line(alloc, id)?;
-    take(place, user.as_bytes(), id, keeper)?;
+    dequeue(place, user.as_bytes(), id, keeper)?;
     write_all(output, line.as_slice())
 }
 
 /// The message with the number leaves the queue, in a store that is taken and handed back.
-fn take<K: Keeper>(place: Place<'_>, user: &[u8], id: u64, keeper: &mut K) -> Result<(), Fault>
+fn dequeue<K: Keeper>(
+    place: Place<'_>,
+    user: &[u8],
+    id: u64,
+    keeper: &mut K,
+) -> Result<Outgoing, Fault>
     ensures late { status_after result ≢ 64 }
     ensures back { K.is_out keeper.old ≡ false → K.is_out keeper.new ≡ false }
-    ensures leaves { IsTrue K.tells → MayCome (TakeOut user.now id) (status_after result) (K.holds keeper.old) (K.holds keeper.new) }
+    ensures puts { IsTrue K.tells → TurnsTables
+        (Puts (HasDenied K.refuses) (TakeOut user.now id) Taken result) (K.holds keeper.old) (K.holds keeper.new) }
 {
     let mut store = taken(place, false, keeper)?;
-    let done = take_out(&mut store, user, id);
+    let row = take_out(&mut store, user, id);
     keeper.hand_back(store);
-    done?;
-    Ok(())
+    Ok(row?)
 }
 
-fn taken_line(alloc: Global, id: u64) -> Result<Octets, AllocError> {
+fn taken_line(alloc: Global, id: u64) -> Result<Octets, AllocError>
+    ensures { IfOk result (λ line. line ≡ with_end (codes "taken " ++ decimal id)) }
+{
     let mut line = Octets::from_slice(alloc, b"taken ")?;
     write_decimal(&mut line, id)?;
     line.push(b'\n')?;

@@ -1,9 +1,10 @@
 //! Values that stand in the words, and the first line of an input.
-ghost use Rattle.std.specs.Prelude.{◌≡◌, IfOk, IfErr};
+ghost use Rattle.std.specs.Prelude.{◌≡◌, ◌⊎◌, None, IfOk, IfErr, option_copied};
 ghost use Rattle.std.specs.List.{prefix_len};
 ghost use Rattle.octets.specs.Decimal.{Writes};
 ghost use Rattle.sievedrun.specs.Promise as promise;
 ghost use Rattle.sievedrun.specs.Promise.{is_in_line};
+ghost use Rattle.sievedrun.specs.Values.{IsNoNumber, HasNoNumber, WritesSalt, IsNoSalt, IsMoment, IsSeparator, HasNoSeparator, envelope_with};
 
 use crate::fault::Fault;
 use hex::FromHex;
@@ -16,6 +17,7 @@ use std::alloc::{AllocError, Global};
 pub fn decimal(text: &str) -> Result<u64, Fault>
     ensures ok { IfOk result (λ number. Writes text.now number) }
     ensures fault { IfErr result (λ fault. fault ≡ Fault.BadArgument) }
+    ensures none { IfErr result (λ fault. IsNoNumber text.now) }
 {
     parse_decimal(text.as_bytes()).ok_or(Fault::BadArgument)
 }
@@ -31,9 +33,11 @@ pub fn port_of(text: &str) -> Result<u16, Fault>
     }
 }
 
-/// What parts the levels of folders: `.` where it isn't said.
+/// What separates the levels of folders: `.` where it isn't said.
 pub fn separator_of(text: Option<&str>) -> Result<Separator, Fault>
-    ensures { IfErr result (λ fault. fault ≡ Fault.BadArgument) }
+    ensures ok { IfOk result (IsSeparator (option_copied text.entry)) }
+    ensures fault { IfErr result (λ fault. fault ≡ Fault.BadArgument) }
+    ensures none { IfErr result (λ fault. HasNoSeparator (option_copied text.entry)) }
 {
     match text {
         None | Some(".") => Ok(Separator::Dot),
@@ -44,7 +48,9 @@ pub fn separator_of(text: Option<&str>) -> Result<Separator, Fault>
 
 /// A salt in 32 hexadecimal digits.
 pub fn salt_of(text: &str) -> Result<[u8; 16], Fault>
-    ensures { IfErr result (λ fault. fault ≡ Fault.BadArgument) }
+    ensures ok { IfOk result (λ salt. WritesSalt text.now salt) }
+    ensures fault { IfErr result (λ fault. fault ≡ Fault.BadArgument) }
+    ensures none { IfErr result (λ fault. IsNoSalt text.now) }
 {
     match <[u8; 16] as FromHex>::from_hex(text) {
         Ok(salt) => Ok(salt),
@@ -53,7 +59,10 @@ pub fn salt_of(text: &str) -> Result<[u8; 16], Fault>
 }
 
 /// The moment that the words have, or else the clock's, in seconds since 1970.
-pub fn moment_of(at: Option<&str>, clock: Option<u64>) -> Result<u64, Fault> {
+pub fn moment_of(at: Option<&str>, clock: Option<u64>) -> Result<u64, Fault>
+    ensures ok { IfOk result (IsMoment (option_copied at.entry) clock) }
+    ensures fault { IfErr result (λ fault. ((fault ≡ Fault.BadArgument) × HasNoNumber (option_copied at.entry)) ⊎ ((fault ≡ Fault.Stream) × (clock ≡ None))) }
+{
     match at {
         Some(text) => decimal(text),
         None => clock.ok_or(Fault::Stream),
@@ -62,7 +71,7 @@ pub fn moment_of(at: Option<&str>, clock: Option<u64>) -> Result<u64, Fault> {
 
 /// The envelope of these addresses.
 pub fn envelope_of(alloc: Global, from: &[u8], to: &[u8]) -> Result<Envelope, AllocError>
-    ensures { IfOk result (λ envelope. (envelope.from ≡ from.now) × (envelope.to ≡ to.now)) }
+    ensures { IfOk result (λ envelope. envelope ≡ envelope_with from.now to.now) }
 {
     Ok(Envelope {
         from: Octets::from_slice(alloc, from)?,

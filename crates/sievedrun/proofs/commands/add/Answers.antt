@@ -1,23 +1,42 @@
--- The store was taken, the event came, and the store was handed back: it sees the event, or none where it was refused.
-use Rattle.std.proofs.Common.{◌≡◌, refl, inl}
+-- The store was taken, the event was put to the machine, and the store was handed back.
+use Rattle.std.proofs.Common.{◌≡◌, Err, subst, sym, rules}
 use Rattle.sqlite.specs.Held.{state}
-use Rattle.mailengine.specs.declared.event.Event.TheVariants.{AddUser}
 use Rattle.mailengine.specs.declared.answer.Answer.TheVariants.{Added}
-use Rattle.sievedrun.specs.Promise.{IsOne, ShowsAfter, status_after}
-use Rattle.sievedrun.proofs.PromiseLemmas.{event_refused, event_made, added_next}
+use Rattle.mailengine.specs.declared.event.Event.TheVariants.{AddUser}
+use Rattle.sievedrun.specs.Draining.{TurnsTables}
+use Rattle.sievedrun.specs.Serving.{HasDenied}
+use Rattle.sievedrun.specs.Words.{Puts}
+use Rattle.sievedrun.specs.declared.fault.Fault.TheVariants.{Refused}
+use Rattle.sievedrun.proofs.WordLemmas.{carried_turned, put_denied, addition_made, addition_refused}
 use Rattle.sievedrun.proofs.commands.add.Goals as goal
 
-pub returns-in_err-added-clause-leaves : goal.returns-in_err-added-clause-leaves
-returns-in_err-added-clause-leaves g c tells =
-    let got = c.in_ok-store.ensures.taken tells in
-    let sure = g.met.K.Keeper.sure c.add_user-added.new.store tells in
-    event_refused (g.K.Keeper.holds c.args.keeper.now) (g.K.Keeper.holds c.hand_back.new.self) (state g.K.S.Store c.in_ok-store.store) (state g.K.S.Store c.add_user-added.new.store) got.1 got.2.schema sure.0 sure.1 (c.hand_back.ensures.held tells)
-    (ShowsAfter (IsOne (λ event. event ≡ AddUser c.args.name.now c.args.address.now c.args.salt c.args.password.now)) (status_after c.from_residual-in_err-added.result)) (λ _. ⊥) c.in_err-added.ensures.acts.same
+pub returns-in_err-store-clause-puts : goal.returns-in_err-store-clause-puts
+returns-in_err-store-clause-puts g c tells =
+    put_denied (HasDenied g.K.Keeper.refuses) (AddUser c.args.name.now c.args.address.now c.args.salt c.args.password.now) (λ done. Added) c.in_err-store.field-0.0 c.from_residual.result (search rules)
+    c.in_err-store.ensures.denied c.in_err-store.ensures.late (g.K.Keeper.holds c.args.keeper.now) (g.K.Keeper.holds c.taken.new.keeper) (c.in_err-store.ensures.refused tells)
 
-pub returns-clause-leaves : goal.returns-clause-leaves
-returns-clause-leaves g c tells =
+pub returns-in_err-added-clause-puts : goal.returns-in_err-added-clause-puts
+returns-in_err-added-clause-puts g c tells =
     let got = c.in_ok-store.ensures.taken tells in
     let sure = g.met.K.Keeper.sure c.add_user-added.new.store tells in
-    event_made (g.K.Keeper.holds c.args.keeper.now) (g.K.Keeper.holds c.hand_back.new.self) (state g.K.S.Store c.in_ok-store.store) (state g.K.S.Store c.add_user-added.new.store) got.1 got.2.schema sure.0 sure.1 (c.hand_back.ensures.held tells)
-    (λ event. event ≡ AddUser c.args.name.now c.args.address.now c.args.salt c.args.password.now) 0 (AddUser c.args.name.now c.args.address.now c.args.salt c.args.password.now) Added _ c.in_ok-added.ensures.acts.carries
-    (added_next c.args.name.now c.args.address.now c.args.salt c.args.password.now) refl (inl refl)
+    let Denied = HasDenied g.K.Keeper.refuses in
+    let refusal = c.in_err-added.field-0.0 in
+    let event = AddUser c.args.name.now c.args.address.now c.args.salt c.args.password.now in
+    let is : c.from_residual-in_err-added.result ≡ Err (Refused refusal) = search rules in
+    subst (λ r. TurnsTables (Puts Denied event (λ done. Added) r) (g.K.Keeper.holds c.args.keeper.now) (g.K.Keeper.holds c.hand_back.new.self)) (sym is)
+    (carried_turned (g.K.Keeper.holds c.args.keeper.now) (g.K.Keeper.holds c.hand_back.new.self) (state g.K.S.Store c.in_ok-store.store) (state g.K.S.Store c.add_user-added.new.store) got.1 got.2.schema sure.0 sure.1
+    (c.hand_back.ensures.held tells) (Puts {X = Unit {0}} Denied event (λ done. Added) (Err (Refused refusal)))
+    (λ clean accounts shown.
+    let turned = c.in_err-added.ensures.acts.carries clean accounts shown in
+    (turned.0, addition_refused Denied c.args.name.now c.args.address.now c.args.salt c.args.password.now refusal accounts turned.0 turned.1, turned.2)))
+
+pub returns-clause-puts : goal.returns-clause-puts
+returns-clause-puts g c tells =
+    let got = c.in_ok-store.ensures.taken tells in
+    let sure = g.met.K.Keeper.sure c.add_user-added.new.store tells in
+    let Denied = HasDenied g.K.Keeper.refuses in
+    carried_turned (g.K.Keeper.holds c.args.keeper.now) (g.K.Keeper.holds c.hand_back.new.self) (state g.K.S.Store c.in_ok-store.store) (state g.K.S.Store c.add_user-added.new.store) got.1 got.2.schema sure.0 sure.1
+    (c.hand_back.ensures.held tells) _
+    (λ clean accounts shown.
+    let turned = c.in_ok-added.ensures.acts.carries clean accounts shown in
+    (turned.0, addition_made Denied c.args.name.now c.args.address.now c.args.salt c.args.password.now tt accounts turned.0 turned.1, turned.2))

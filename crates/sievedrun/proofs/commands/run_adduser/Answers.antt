@@ -1,28 +1,68 @@
--- The event's password is the first line of what was read; an answer that can't be written doesn't deny it.
-use Rattle.std.proofs.Common.{◌≡◌, Err, subst, sym, rules}
+-- The event's password is the first line of what was read, and the line is printed after it was made.
+use Rattle.std.proofs.Common.{◌≡◌, ◌++◌, codes, refl, ap, ◌∙◌, inl, inr, rules}
+use Rattle.mailengine.specs.declared.answer.Answer.TheVariants.{Added}
 use Rattle.mailengine.specs.declared.event.Event.TheVariants.{AddUser}
-use Rattle.sievedrun.specs.Faults.{status_of}
-use Rattle.sievedrun.specs.Promise.{Brings, MayFollow, status_after, first_line}
-use Rattle.sievedrun.proofs.PromiseLemmas.{after_later, written_may_follow}
+use Rattle.reportlines.specs.Reports.{with_end}
+use Rattle.sievedrun.specs.Faults.{memory}
+use Rattle.sievedrun.specs.Promise.{first_line}
+use Rattle.sievedrun.specs.Serving.{HasDenied}
+use Rattle.sievedrun.specs.Values.{IsNoSalt}
+use Rattle.sievedrun.specs.Words.{Adds}
+use Rattle.sievedrun.proofs.WordLemmas.{event_hindered, event_unmade, event_made, sudden_failure, written_failure}
 use Rattle.sievedrun.proofs.commands.run_adduser.Goals as goal
 
-pub returns-in_err-add-clause-leaves : goal.returns-in_err-add-clause-leaves
-returns-in_err-add-clause-leaves g c tells =
-    let given = g.R.Read.remaining c.args.input.now in
-    let octets = c.in_ok-octets.octets.items in
-    let event = AddUser c.as_bytes.result.now c.as_bytes-2.result.now c.in_ok-salt.salt c.first_line-password.result.now in
-    let line : c.first_line-password.result.now ≡ first_line octets = search rules in
-    let is : c.from_residual-in_err-add.result ≡ Err c.in_err-add.field-0.0 = search rules in
-    after_later (λ e. e ≡ event) (Brings given) (status_of c.in_err-add.field-0.0) (status_after c.from_residual-in_err-add.result)
-    (λ e same. subst (Brings given) (sym same) (octets, c.in_ok-octets.ensures.ok, line)) (λ may. subst (λ r. MayFollow (status_after r)) (sym is) may)
-    (g.K.Keeper.holds c.args.keeper.now) (g.K.Keeper.holds c.add.new.keeper) (c.in_err-add.ensures.leaves tells)
+pub returns-in_err-salt-clause-does : goal.returns-in_err-salt-clause-does
+returns-in_err-salt-clause-does g c tells =
+    let user = c.args.user in
+    event_hindered (IsNoSalt user.salt.now) (HasDenied g.K.Keeper.refuses) (Adds user.salt.now user.name.now user.address.now (g.R.Read.remaining c.args.input.now)) (g.W.Write.contents c.args.output.now)
+    (g.K.Keeper.holds c.args.keeper.now) c.in_err-salt.field-0.0 c.from_residual.result (search rules) (inr (inl (c.in_err-salt.ensures.fault, c.in_err-salt.ensures.none)))
 
-pub returns-clause-leaves : goal.returns-clause-leaves
-returns-clause-leaves g c tells =
+pub returns-in_err-line-clause-does : goal.returns-in_err-line-clause-does
+returns-in_err-line-clause-does g c tells =
+    let user = c.args.user in
+    event_hindered (IsNoSalt user.salt.now) (HasDenied g.K.Keeper.refuses) (Adds user.salt.now user.name.now user.address.now (g.R.Read.remaining c.args.input.now)) (g.W.Write.contents c.args.output.now)
+    (g.K.Keeper.holds c.args.keeper.now) memory c.from_residual-in_err-line.result (search rules) (inl (inl refl))
+
+pub returns-in_err-octets-clause-does : goal.returns-in_err-octets-clause-does
+returns-in_err-octets-clause-does g c tells =
+    let user = c.args.user in
+    let fault = c.in_err-octets.field-0.0 in
+    event_hindered (IsNoSalt user.salt.now) (HasDenied g.K.Keeper.refuses) (Adds user.salt.now user.name.now user.address.now (g.R.Read.remaining c.args.input.now)) (g.W.Write.contents c.args.output.now)
+    (g.K.Keeper.holds c.args.keeper.now) fault c.from_residual-in_err-octets.result (search rules) (inl (sudden_failure fault c.in_err-octets.ensures.err))
+
+pub returns-in_err-add-clause-does : goal.returns-in_err-add-clause-does
+returns-in_err-add-clause-does g c tells =
+    let user = c.args.user in
     let given = g.R.Read.remaining c.args.input.now in
     let octets = c.in_ok-octets.octets.items in
-    let event = AddUser c.as_bytes.result.now c.as_bytes-2.result.now c.in_ok-salt.salt c.first_line-password.result.now in
-    let line : c.first_line-password.result.now ≡ first_line octets = search rules in
-    after_later (λ e. e ≡ event) (Brings given) 0 (status_after c.write_all.result)
-    (λ e same. subst (Brings given) (sym same) (octets, c.in_ok-octets.ensures.ok, line)) (λ may. written_may_follow c.write_all.result c.write_all.ensures.fault)
-    (g.K.Keeper.holds c.args.keeper.now) (g.K.Keeper.holds c.add.new.keeper) (c.in_ok-add.ensures.leaves tells)
+    let salt = c.in_ok-salt.salt in
+    let password = c.first_line-password.result.now in
+    let event = AddUser c.as_bytes.result.now c.as_bytes-2.result.now salt password in
+    let name : c.as_bytes.result.now ≡ user.name.now = search rules in
+    let address : c.as_bytes-2.result.now ≡ user.address.now = search rules in
+    let line : password ≡ first_line octets = search rules in
+    let same : event ≡ AddUser user.name.now user.address.now salt (first_line octets) =
+    ap (λ n. AddUser n c.as_bytes-2.result.now salt password) name ∙ (ap (λ a. AddUser user.name.now a salt password) address ∙ ap (AddUser user.name.now user.address.now salt) line) in
+    event_unmade (IsNoSalt user.salt.now) (HasDenied g.K.Keeper.refuses) (Adds user.salt.now user.name.now user.address.now given) {X = Unit {0}} event
+    (record { octets = octets; read = c.in_ok-octets.ensures.ok; random = salt; salted = c.in_ok-salt.ensures.ok; same = same }) (λ done. Added) (g.K.Keeper.holds c.args.keeper.now) (g.K.Keeper.holds c.add.new.keeper)
+    (g.W.Write.contents c.args.output.now) c.in_err-add.field-0.0 c.from_residual-in_err-add.result (search rules) (c.in_err-add.ensures.puts tells)
+
+pub returns-clause-does : goal.returns-clause-does
+returns-clause-does g c tells =
+    let user = c.args.user in
+    let given = g.R.Read.remaining c.args.input.now in
+    let old = g.W.Write.contents c.args.output.now in
+    let new = g.W.Write.contents c.write_all.new.output in
+    let octets = c.in_ok-octets.octets.items in
+    let salt = c.in_ok-salt.salt in
+    let password = c.first_line-password.result.now in
+    let event = AddUser c.as_bytes.result.now c.as_bytes-2.result.now salt password in
+    let name : c.as_bytes.result.now ≡ user.name.now = search rules in
+    let address : c.as_bytes-2.result.now ≡ user.address.now = search rules in
+    let line : password ≡ first_line octets = search rules in
+    let same : event ≡ AddUser user.name.now user.address.now salt (first_line octets) =
+    ap (λ n. AddUser n c.as_bytes-2.result.now salt password) name ∙ (ap (λ a. AddUser user.name.now a salt password) address ∙ ap (AddUser user.name.now user.address.now salt) line) in
+    let text : c.as_slice-2.result.now ≡ with_end (codes "added " ++ c.as_bytes.result.now) = search rules in
+    event_made (IsNoSalt user.salt.now) (HasDenied g.K.Keeper.refuses) (Adds user.salt.now user.name.now user.address.now given) {X = Unit {0}} event
+    (record { octets = octets; read = c.in_ok-octets.ensures.ok; random = salt; salted = c.in_ok-salt.ensures.ok; same = same }) (λ done. Added) (g.K.Keeper.holds c.args.keeper.now) (g.K.Keeper.holds c.add.new.keeper)
+    tt c.as_slice-2.result.now text (c.in_ok-add.ensures.puts tells) old new c.write_all.result c.write_all.ensures.ok c.write_all.ensures.err (written_failure c.write_all.result c.write_all.ensures.fault)

@@ -1,29 +1,64 @@
--- The event's message is what was read; a report that can't be written doesn't deny it.
-use Rattle.std.proofs.Common.{◌≡◌, Err, subst, sym, rules}
+-- The event's message is what was read, and the report is printed after it was made.
+use Rattle.std.proofs.Common.{◌≡◌, refl, subst, sym, ap, ◌∙◌, inl, inr, rules}
+use Rattle.std.specs.Option.{option_copied}
+use Rattle.mailengine.specs.declared.answer.Answer.TheVariants.{Delivered}
 use Rattle.mailengine.specs.declared.event.Event.TheVariants.{Deliver}
-use Rattle.sievedrun.specs.Faults.{status_of}
+use Rattle.reportlines.specs.Reports.{delivery_report}
+use Rattle.sievedrun.specs.Faults.{memory}
+use Rattle.sievedrun.specs.Serving.{HasDenied}
 use Rattle.sievedrun.specs.Streams.{ReadsAll}
-use Rattle.sievedrun.specs.Promise.{Brings, MayFollow, status_after}
-use Rattle.sievedrun.proofs.PromiseLemmas.{after_later, step_may_follow}
+use Rattle.sievedrun.specs.Values.{HasNoNumber, envelope_with}
+use Rattle.sievedrun.specs.Words.{Posts}
+use Rattle.sievedrun.proofs.WordLemmas.{event_hindered, event_unmade, event_made, sudden_failure}
 use Rattle.sievedrun.proofs.commands.run_deliver.Goals as goal
 
-pub returns-in_err-report-clause-leaves : goal.returns-in_err-report-clause-leaves
-returns-in_err-report-clause-leaves g c tells =
-    let given = g.R.Read.remaining c.args.input.now in
-    let event = Deliver c.as_bytes.result.now c.in_ok-envelope.envelope c.as_slice.result.now c.in_ok-moment.moment in
-    let text : c.as_slice.result.now ≡ c.in_ok-message.message.items = search rules in
-    let read : ReadsAll given c.as_slice.result.now = subst (ReadsAll given) (sym text) c.in_ok-message.ensures.ok in
-    let is : c.from_residual-in_err-report.result ≡ Err c.in_err-report.field-0.0 = search rules in
-    after_later (λ e. e ≡ event) (Brings given) (status_of c.in_err-report.field-0.0) (status_after c.from_residual-in_err-report.result)
-    (λ e same. subst (Brings given) (sym same) read) (λ may. subst (λ r. MayFollow (status_after r)) (sym is) may)
-    (g.K.Keeper.holds c.args.keeper.now) (g.K.Keeper.holds c.post.new.keeper) (c.in_err-report.ensures.leaves tells)
+pub returns-in_err-moment-clause-does : goal.returns-in_err-moment-clause-does
+returns-in_err-moment-clause-does g c tells =
+    let p = c.args.posting in
+    event_hindered (HasNoNumber (option_copied p.at)) (HasDenied g.K.Keeper.refuses) (Posts p.from.now p.to.now (option_copied p.at) p.user.now c.args.clock (g.R.Read.remaining c.args.input.now)) (g.W.Write.contents c.args.output.now)
+    (g.K.Keeper.holds c.args.keeper.now) c.in_err-moment.field-0.0 c.from_residual.result (search rules)
+    (elim c.in_err-moment.ensures.fault [ inl bad ↦ inr (inl bad) | inr clock ↦ inl (inr (inr clock.0)) ])
 
-pub returns-clause-leaves : goal.returns-clause-leaves
-returns-clause-leaves g c tells =
+pub returns-in_err-envelope-clause-does : goal.returns-in_err-envelope-clause-does
+returns-in_err-envelope-clause-does g c tells =
+    let p = c.args.posting in
+    event_hindered (HasNoNumber (option_copied p.at)) (HasDenied g.K.Keeper.refuses) (Posts p.from.now p.to.now (option_copied p.at) p.user.now c.args.clock (g.R.Read.remaining c.args.input.now)) (g.W.Write.contents c.args.output.now)
+    (g.K.Keeper.holds c.args.keeper.now) memory c.from_residual-in_err-envelope.result (search rules) (inl (inl refl))
+
+pub returns-in_err-message-clause-does : goal.returns-in_err-message-clause-does
+returns-in_err-message-clause-does g c tells =
+    let p = c.args.posting in
+    let fault = c.in_err-message.field-0.0 in
+    event_hindered (HasNoNumber (option_copied p.at)) (HasDenied g.K.Keeper.refuses) (Posts p.from.now p.to.now (option_copied p.at) p.user.now c.args.clock (g.R.Read.remaining c.args.input.now)) (g.W.Write.contents c.args.output.now)
+    (g.K.Keeper.holds c.args.keeper.now) fault c.from_residual-in_err-message.result (search rules) (inl (sudden_failure fault c.in_err-message.ensures.err))
+
+pub returns-in_err-report-clause-does : goal.returns-in_err-report-clause-does
+returns-in_err-report-clause-does g c tells =
+    let p = c.args.posting in
     let given = g.R.Read.remaining c.args.input.now in
-    let event = Deliver c.as_bytes.result.now c.in_ok-envelope.envelope c.as_slice.result.now c.in_ok-moment.moment in
-    let text : c.as_slice.result.now ≡ c.in_ok-message.message.items = search rules in
-    let read : ReadsAll given c.as_slice.result.now = subst (ReadsAll given) (sym text) c.in_ok-message.ensures.ok in
-    after_later (λ e. e ≡ event) (Brings given) 0 (status_after c.print_report.result)
-    (λ e same. subst (Brings given) (sym same) read) (λ may. step_may_follow c.print_report.result c.print_report.ensures)
-    (g.K.Keeper.holds c.args.keeper.now) (g.K.Keeper.holds c.post.new.keeper) (c.in_ok-report.ensures.leaves tells)
+    let message = c.as_slice.result.now in
+    let moment = c.in_ok-moment.moment in
+    let event = Deliver c.as_bytes.result.now c.in_ok-envelope.envelope message moment in
+    let text : message ≡ c.in_ok-message.message.items = search rules in
+    let user : c.as_bytes.result.now ≡ p.user.now = search rules in
+    let same : event ≡ Deliver p.user.now (envelope_with p.from.now p.to.now) message moment =
+    ap (λ u. Deliver u c.in_ok-envelope.envelope message moment) user ∙ ap (λ e. Deliver p.user.now e message moment) c.in_ok-envelope.ensures in
+    event_unmade (HasNoNumber (option_copied p.at)) (HasDenied g.K.Keeper.refuses) (Posts p.from.now p.to.now (option_copied p.at) p.user.now c.args.clock given) event
+    (record { message = message; read = subst (ReadsAll given) (sym text) c.in_ok-message.ensures.ok; moment = moment; dated = c.in_ok-moment.ensures.ok; same = same }) Delivered (g.K.Keeper.holds c.args.keeper.now)
+    (g.K.Keeper.holds c.post.new.keeper) (g.W.Write.contents c.args.output.now) c.in_err-report.field-0.0 c.from_residual-in_err-report.result (search rules) (c.in_err-report.ensures.puts tells)
+
+pub returns-clause-does : goal.returns-clause-does
+returns-clause-does g c tells =
+    let p = c.args.posting in
+    let given = g.R.Read.remaining c.args.input.now in
+    let message = c.as_slice.result.now in
+    let moment = c.in_ok-moment.moment in
+    let event = Deliver c.as_bytes.result.now c.in_ok-envelope.envelope message moment in
+    let text : message ≡ c.in_ok-message.message.items = search rules in
+    let user : c.as_bytes.result.now ≡ p.user.now = search rules in
+    let same : event ≡ Deliver p.user.now (envelope_with p.from.now p.to.now) message moment =
+    ap (λ u. Deliver u c.in_ok-envelope.envelope message moment) user ∙ ap (λ e. Deliver p.user.now e message moment) c.in_ok-envelope.ensures in
+    event_made (HasNoNumber (option_copied p.at)) (HasDenied g.K.Keeper.refuses) (Posts p.from.now p.to.now (option_copied p.at) p.user.now c.args.clock given) event
+    (record { message = message; read = subst (ReadsAll given) (sym text) c.in_ok-message.ensures.ok; moment = moment; dated = c.in_ok-moment.ensures.ok; same = same }) Delivered (g.K.Keeper.holds c.args.keeper.now)
+    (g.K.Keeper.holds c.post.new.keeper) c.in_ok-report.report (delivery_report c.in_ok-report.report) refl (c.in_ok-report.ensures.puts tells) (g.W.Write.contents c.args.output.now) (g.W.Write.contents c.print_report.new.output)
+    c.print_report.result c.print_report.ensures.ok c.print_report.ensures.err c.print_report.ensures.fault

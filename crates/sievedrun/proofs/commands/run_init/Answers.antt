@@ -1,18 +1,17 @@
 -- A new store was made, and is kept, where it was closed and where it wasn't.
-use Rattle.std.proofs.Common.{subst, sym}
-use Rattle.mailstore.specs.Account.{no_accounts}
-use Rattle.mailstore.specs.Shows.{Presents}
+use Rattle.std.proofs.Common.{rules}
 use Rattle.sqlite.specs.Held.{state}
-use Rattle.sievedrun.proofs.PromiseLemmas.{leaves_new, on_ok_anyway}
+use Rattle.sievedrun.specs.Serving.{HasDenied}
+use Rattle.sievedrun.proofs.WordLemmas.{init_denied, init_made}
 use Rattle.sievedrun.proofs.commands.run_init.Goals as goal
 
-pub returns-clause-leaves : goal.returns-clause-leaves
-returns-clause-leaves g c tells =
-    let got = c.in_ok-store.ensures.taken tells in
-    leaves_new (g.K.Keeper.holds c.args.keeper.now) (state g.K.S.Store c.in_ok-store.store).now (g.K.Keeper.holds c.hand_back.new.self) got.0 got.1 (c.hand_back.ensures.held tells)
+pub returns-in_err-store-clause-does : goal.returns-in_err-store-clause-does
+returns-in_err-store-clause-does g c tells =
+    init_denied (HasDenied g.K.Keeper.refuses) (g.W.Write.contents c.args.output.now) c.in_err-store.field-0.0 c.from_residual.result (search rules) c.in_err-store.ensures.denied c.in_err-store.ensures.late
+    (g.K.Keeper.holds c.args.keeper.now) (g.K.Keeper.holds c.taken.new.keeper) (c.in_err-store.ensures.refused tells)
 
-pub returns-clause-made : goal.returns-clause-made
-returns-clause-made g c tells =
+pub returns-clause-does : goal.returns-clause-does
+returns-clause-does g c tells =
     let got = c.in_ok-store.ensures.taken tells in
-    on_ok_anyway c.write_all.result (Presents (g.K.Keeper.holds c.hand_back.new.self) no_accounts)
-    (subst (λ db. Presents db no_accounts) (sym (c.hand_back.ensures.held tells)) got.0)
+    init_made (HasDenied g.K.Keeper.refuses) (g.W.Write.contents c.args.output.now) (g.W.Write.contents c.write_all.new.output) c.write_all.result c.write_all.ensures.ok c.write_all.ensures.err c.write_all.ensures.fault
+    (g.K.Keeper.holds c.args.keeper.now) (state g.K.S.Store c.in_ok-store.store).now (g.K.Keeper.holds c.hand_back.new.self) got.1 got.0 (c.hand_back.ensures.held tells)

@@ -1,39 +1,43 @@
--- Each word leaves what it may, and so does the act.
-use Rattle.std.proofs.Common.{refl}
-use Rattle.sievedrun.specs.Promise.{status_after}
-use Rattle.sievedrun.specs.declared.drain.Draining.{Draining}
-use Rattle.sievedrun.proofs.DrainLemmas.{sound_drained, kept_drained}
-use Rattle.sievedrun.proofs.PromiseLemmas.{sound_all, sound_new, sound_after, sound_taken}
+-- Each word does its own work.
+use Rattle.std.proofs.Common.{subst, sym}
+use Rattle.sievedrun.specs.Serving.{HasDenied}
+use Rattle.sievedrun.specs.Words.{Does}
+use Rattle.sievedrun.proofs.LeaveLemmas.{grown_none}
+use Rattle.sievedrun.proofs.WordLemmas.{looks_done}
 use Rattle.sievedrun.proofs.drive.act.Goals as goal
 
-pub returns-in-Init-clause-leaves : goal.returns-in-Init-clause-leaves
-returns-in-Init-clause-leaves g c tells =
-    sound_new (g.R.Read.remaining c.args.input.now) (status_after c.run_init.result) (g.K.Keeper.holds c.args.keeper.now) (g.K.Keeper.holds c.run_init.new.keeper) (c.run_init.ensures.leaves tells)
+pub returns-in-Init-clause-does : goal.returns-in-Init-clause-does
+returns-in-Init-clause-does g c tells =
+    let kept = g.T.MailSink.kept c.args.sink.now in
+    subst (λ asked. Does (HasDenied g.K.Keeper.refuses) c.args.clock (g.R.Read.remaining c.args.input.now) g.T.MailSink.tells kept kept (g.W.Write.contents c.args.output.now) (g.W.Write.contents c.run_init.new.output) asked c.run_init.result
+    (g.K.Keeper.holds c.args.keeper.now) (g.K.Keeper.holds c.run_init.new.keeper)) (sym c.in-Init.is) (grown_none g.T.MailSink.tells kept, c.run_init.ensures.does tells)
 
-pub returns-in-AddUser-clause-leaves : goal.returns-in-AddUser-clause-leaves
-returns-in-AddUser-clause-leaves g c tells =
-    sound_after (g.R.Read.remaining c.args.input.now) (status_after c.run_adduser.result) (status_after c.run_adduser.result) (g.K.Keeper.holds c.args.keeper.now) (g.K.Keeper.holds c.run_adduser.new.keeper) refl (c.run_adduser.ensures.leaves tells)
+pub returns-in-AddUser-clause-does : goal.returns-in-AddUser-clause-does
+returns-in-AddUser-clause-does g c tells =
+    let kept = g.T.MailSink.kept c.args.sink.now in
+    subst (λ asked. Does (HasDenied g.K.Keeper.refuses) c.args.clock (g.R.Read.remaining c.args.input.now) g.T.MailSink.tells kept kept (g.W.Write.contents c.args.output.now) (g.W.Write.contents c.run_adduser.new.output) asked c.run_adduser.result
+    (g.K.Keeper.holds c.args.keeper.now) (g.K.Keeper.holds c.run_adduser.new.keeper)) (sym c.in-AddUser.is) (grown_none g.T.MailSink.tells kept, c.run_adduser.ensures.does tells)
 
-pub returns-in-Deliver-clause-leaves : goal.returns-in-Deliver-clause-leaves
-returns-in-Deliver-clause-leaves g c tells =
-    sound_after (g.R.Read.remaining c.args.input.now) (status_after c.run_deliver.result) (status_after c.run_deliver.result) (g.K.Keeper.holds c.args.keeper.now) (g.K.Keeper.holds c.run_deliver.new.keeper) refl (c.run_deliver.ensures.leaves tells)
+pub returns-in-Deliver-clause-does : goal.returns-in-Deliver-clause-does
+returns-in-Deliver-clause-does g c tells =
+    let kept = g.T.MailSink.kept c.args.sink.now in
+    subst (λ asked. Does (HasDenied g.K.Keeper.refuses) c.args.clock (g.R.Read.remaining c.args.input.now) g.T.MailSink.tells kept kept (g.W.Write.contents c.args.output.now) (g.W.Write.contents c.run_deliver.new.output) asked c.run_deliver.result
+    (g.K.Keeper.holds c.args.keeper.now) (g.K.Keeper.holds c.run_deliver.new.keeper)) (sym c.in-Deliver.is) (grown_none g.T.MailSink.tells kept, c.run_deliver.ensures.does tells)
 
-pub returns-in_default-clause-leaves : goal.returns-in_default-clause-leaves
-returns-in_default-clause-leaves g c tells =
-    sound_all (g.R.Read.remaining c.args.input.now) (status_after c.look.result) (g.K.Keeper.holds c.args.keeper.now) (g.K.Keeper.holds c.look.new.keeper) (c.look.ensures.leaves tells)
+pub returns-in-Done-clause-does : goal.returns-in-Done-clause-does
+returns-in-Done-clause-does g c tells =
+    let kept = g.T.MailSink.kept c.args.sink.now in
+    subst (λ asked. Does (HasDenied g.K.Keeper.refuses) c.args.clock (g.R.Read.remaining c.args.input.now) g.T.MailSink.tells kept kept (g.W.Write.contents c.args.output.now) (g.W.Write.contents c.run_done.new.output) asked c.run_done.result
+    (g.K.Keeper.holds c.args.keeper.now) (g.K.Keeper.holds c.run_done.new.keeper)) (sym c.in-Done.is) (grown_none g.T.MailSink.tells kept, c.run_done.ensures.does tells)
 
-pub returns-in-Done-clause-leaves : goal.returns-in-Done-clause-leaves
-returns-in-Done-clause-leaves g c tells =
-    sound_taken (g.R.Read.remaining c.args.input.now) (status_after c.run_done.result) c.in-Done.user.now c.in-Done.id.now (g.K.Keeper.holds c.args.keeper.now) (g.K.Keeper.holds c.run_done.new.keeper) (c.run_done.ensures.leaves tells)
+pub returns-in-Drain-clause-does : goal.returns-in-Drain-clause-does
+returns-in-Drain-clause-does g c tells =
+    subst (λ asked. Does (HasDenied g.K.Keeper.refuses) c.args.clock (g.R.Read.remaining c.args.input.now) g.T.MailSink.tells (g.T.MailSink.kept c.args.sink.now) (g.T.MailSink.kept c.run_drain.new.sink) (g.W.Write.contents c.args.output.now)
+    (g.W.Write.contents c.run_drain.new.output) asked c.run_drain.result (g.K.Keeper.holds c.args.keeper.now) (g.K.Keeper.holds c.run_drain.new.keeper)) (sym c.in-Drain.is) (c.run_drain.ensures.drains tells)
 
-pub returns-in-Drain-clause-leaves : goal.returns-in-Drain-clause-leaves
-returns-in-Drain-clause-leaves g c tells =
-    let asked : Draining = record { most = c.in-Drain.most; user = c.in-Drain.user; folder = c.in-Drain.folder; maildir = c.in-Drain.maildir } in
-    sound_drained asked g.T.MailSink.tells (g.T.MailSink.kept c.args.sink.now) (g.T.MailSink.kept c.run_drain.new.sink) (g.K.Keeper.holds c.args.keeper.now) (g.K.Keeper.holds c.run_drain.new.keeper)
-    (g.R.Read.remaining c.args.input.now) c.run_drain.result (c.run_drain.ensures.drains tells)
-
-pub returns-in-Drain-clause-kept : goal.returns-in-Drain-clause-kept
-returns-in-Drain-clause-kept g c tells =
-    let asked : Draining = record { most = c.in-Drain.most; user = c.in-Drain.user; folder = c.in-Drain.folder; maildir = c.in-Drain.maildir } in
-    kept_drained asked g.T.MailSink.tells (g.T.MailSink.kept c.args.sink.now) (g.T.MailSink.kept c.run_drain.new.sink) (g.K.Keeper.holds c.args.keeper.now) (g.K.Keeper.holds c.run_drain.new.keeper)
-    c.run_drain.result (c.run_drain.ensures.drains tells)
+pub returns-in_default-clause-does : goal.returns-in_default-clause-does
+returns-in_default-clause-does g c tells =
+    let kept = g.T.MailSink.kept c.args.sink.now in
+    looks_done (HasDenied g.K.Keeper.refuses) c.args.clock (g.R.Read.remaining c.args.input.now) g.T.MailSink.tells kept kept (g.W.Write.contents c.args.output.now) (g.W.Write.contents c.look.new.output) c.args.asked c.look.result
+    (g.K.Keeper.holds c.args.keeper.now) (g.K.Keeper.holds c.look.new.keeper) c.in_default.not-Init c.in_default.not-AddUser c.in_default.not-Deliver c.in_default.not-Done c.in_default.not-Drain
+    (grown_none g.T.MailSink.tells kept) (c.look.ensures.looks tells)

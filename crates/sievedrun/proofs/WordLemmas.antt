@@ -1,0 +1,472 @@
+-- What a word does, from what its steps do.
+use Prim.Native.Nat.{zero}
+use Rattle.std.proofs.Common.{◌≡◌, ◌≢◌, ◌⊎◌, ℕ, suc, Bool, List, [], Option, Some, None, Result, Ok, Err, OnOk, OnErr, IfOk, IfErr, IsTrue, codes, slice_get, refl, sym, ◌∙◌, ap, subst, inl, inr}
+use Rattle.std.specs.FinMap.{get}
+use Rattle.std.specs.Io.KnownBytes as output
+use Rattle.std.specs.Io.KnownBytes.{Appends}
+use Rattle.sqlite_schema.specs.declared.schema.Schema.{Schema}
+use Rattle.sqlite.specs.Effect.{Database}
+use Rattle.sqlite.specs.State.{State, HasCleanDisk}
+use Rattle.mailstore.specs.Account.{Account, Accounts, no_accounts, messages_in, row_with}
+use Rattle.mailstore.specs.Schema.{no_schema, mail_schema, IsOurSchema}
+use Rattle.mailstore.specs.Shows.{Presents}
+use Rattle.mailstore.specs.Promises.{IsFree, OfUser, Keeps, Reads}
+use Rattle.mailstore.specs.Refusals.{IsTransient}
+use Rattle.mailstore.specs.declared.refusal.Refusal.{Refusal}
+use Rattle.mailstore.specs.declared.refusal.Refusal.TheVariants.{NoUser}
+use Rattle.mailstore.specs.declared.queue.Outgoing.{Outgoing}
+use Rattle.mailstore.specs.declared.report.Report.{Report}
+use Rattle.sessions.specs.Acts.{Carries}
+use Rattle.sieveexec.specs.declared.envelope.Envelope.{Envelope}
+use Rattle.mailengine.specs.declared.event.Event.{Event}
+use Rattle.mailengine.specs.declared.event.Event.TheVariants.{Deliver, AddUser, TakeOut}
+use Rattle.mailengine.specs.declared.answer.Answer.{Answer}
+use Rattle.mailengine.specs.declared.answer.Answer.TheVariants as answer
+use Rattle.mailengine.specs.AccountEvents.{Delivery, DeliversIn, DeliversUnder, Addition, AddsUnder, Taking, TakesIn, TakesRow}
+use Rattle.mailengine.specs.Limits.{limit_refusal}
+use Rattle.mailengine.specs.Hosts.{TurnsBy, MayRefuseDelivery, MayRefuseAddition}
+use Rattle.mailengine.specs.World.{Happens, MayRefuse, Next}
+use Rattle.mailengine.proofs.HostLemmas.{delivery_may, addition_may, taking_may}
+use Rattle.sievedrun.specs.declared.fault.Fault.{Fault}
+use Rattle.sievedrun.specs.declared.fault.Fault.TheVariants.{Refused, Stream, BadArgument}
+use Rattle.sievedwords.specs.declared.asked.Asked.{Asked}
+use Rattle.sievedwords.specs.declared.asked.Asked.TheVariants as word
+use Rattle.sievedrun.specs.Draining.{GrowsBy, TurnsTables}
+use Rattle.sievedrun.specs.Faults.{status_of, IsFailure, IsSudden, IsHindered}
+use Rattle.sievedrun.specs.Promise.{world_of}
+use Rattle.sievedrun.specs.Streams.{AppendsFront}
+use Rattle.sievedrun.specs.Words.{Finishes, Tells, Makes, RefusesEvent, Puts, DoesEvent, Shows, FindsIn, HasNone, DoesRead, HasMessage, DoesInit, DoesNothing, LacksNothing, Looks, Does}
+use Rattle.sievedrun.proofs.StreamLemmas.{nothing_written}
+
+-- ---- the output
+
+-- nothing is printed
+pub kept_same : (o : Option (List ℕ)) → output.Keeps o o
+kept_same None = tt
+kept_same (Some held) = refl
+
+-- nor is any front of a text
+pub front_none : (o : Option (List ℕ)) (text : List ℕ) → AppendsFront o o text
+front_none o text = (0, nothing_written o)
+
+-- ---- faults
+
+-- a refusal that may come without visible cause comes without one that is seen
+pub sudden_refusal : (refusal : Refusal) → IsTransient refusal → IsSudden (Refused refusal)
+sudden_refusal refusal transient = elim transient [ inl e ↦ inl (ap Refused e) | inr e ↦ inr (inl (ap Refused e)) ]
+
+pub sudden_failure : (fault : Fault) → IsFailure fault → IsSudden fault
+sudden_failure fault failure = elim failure [ inl e ↦ inl e | inr e ↦ inr (inr e) ]
+
+-- another try may help then
+pub sudden_status : (fault : Fault) → IsSudden fault → status_of fault ≡ 75
+sudden_status fault sudden = elim sudden [ inl e ↦ ap status_of e | inr more ↦ elim more [ inl e ↦ ap status_of e | inr e ↦ ap status_of e ] ]
+
+pub sudden_statuses : {X : Type 0} (r : Result X Fault) → IfErr r IsSudden → IfErr r (λ fault. status_of fault ≡ 75)
+sudden_statuses (Ok x) h = tt
+sudden_statuses (Err fault) h = sudden_status fault h
+
+pub sudden_or : {X : Type 0} (r : Result X Fault) (other : Fault) → IfErr r IsSudden → IfErr r (λ fault. IsSudden fault ⊎ (fault ≡ other))
+sudden_or (Ok x) other h = tt
+sudden_or (Err fault) other h = inl h
+
+-- what keeps every word from its work keeps one from it that has a value that may be wrong
+pub hindered_wider : (Wrong Denied : Type 0) (fault : Fault) → IsHindered ⊥ Denied fault → IsHindered Wrong Denied fault
+hindered_wider Wrong Denied fault h = elim h [ inl sudden ↦ inl sudden | inr more ↦ elim more [ inl none ↦ absurd none.1 | inr denied ↦ inr (inr denied) ] ]
+
+-- ---- tables
+
+-- our tables are some tables
+pub ours_not_none : (db : Database) → IsOurSchema db.schema → db.schema ≡ no_schema → ⊥
+ours_not_none db (inl ours) none = let e = ap (λ (s : Schema). s.tables) (sym ours ∙ none) in cc
+ours_not_none db (inr ours) none = let e = ap (λ (s : Schema). s.tables) (sym ours ∙ none) in cc
+
+-- they were left alone
+pub stays_turned : (Became : Accounts → Accounts → Type 0) (old new : Database) → new ≡ old → ((accounts : Accounts) → Became accounts accounts) → TurnsTables Became old new
+stays_turned Became old new same became = record {
+  accounts = λ accounts p. (accounts, became accounts, subst (λ db. Presents db accounts) (sym same) p);
+  none = λ blank. ap (λ (db : Database). db.schema) same ∙ blank;
+}
+
+-- what became of the accounts is told by another name
+pub turned_wider : (Became Wider : Accounts → Accounts → Type 0) (old new : Database) → ((accounts later : Accounts) → Became accounts later → Wider accounts later) → TurnsTables Became old new → TurnsTables Wider old new
+turned_wider Became Wider old new wider moves = record {
+  accounts = λ accounts p. let h = moves.accounts accounts p in (h.0, wider accounts h.0 h.1, h.2);
+  none = moves.none;
+}
+
+-- a store that saw what was held, where that had our schema, and was handed back, open and over a disk that keeps what is written
+module _ (held new : Database) (taken given : State) (seen : held.schema ≡ mail_schema → taken.now ≡ held) (ours : IsOurSchema held.schema) (clean : HasCleanDisk given) (live : IsTrue given.is_open) (back : new ≡ given.now) where
+  stood : (accounts : Accounts) → Presents held accounts → Presents taken.now accounts
+  stood accounts p = subst (λ db. Presents db accounts) (sym (seen p.1.is)) p
+
+  -- its accounts turned
+  pub carried_turned : (Became : Accounts → Accounts → Type 0) → Carries Became taken given → TurnsTables Became held new
+  carried_turned Became carries = record {
+    accounts = λ accounts p.
+        let h = carries clean accounts (λ _. stood accounts p) in
+        (h.0, h.1, subst (λ db. Presents db h.0) (sym back) (h.2 live));
+    none = λ blank. absurd (ours_not_none held ours blank);
+  }
+
+  -- it was read
+  pub read_turned : {X : Type 0} (Denied : Type 0) (user : List ℕ) (Part : X → Account → Type 0) (q : Result X Refusal) → Reads user Part taken given q → (r : Result X Fault)
+      → ((accounts : Accounts) → IfOk q (λ x. OfUser accounts user (Part x)) → IfErr q (λ e. e ≡ NoUser → IsFree user accounts) → FindsIn Denied user Part r accounts)
+      → TurnsTables (λ accounts later. (later ≡ accounts) × FindsIn Denied user Part r accounts) held new
+  read_turned Denied user Part q reads r finds = record {
+    accounts = λ accounts p.
+        let was = stood accounts p in
+        let same = (reads.keeps.same clean (was.0, was.1)).now_is live in
+        (accounts, (refl, finds accounts (reads.found clean accounts was) (reads.absent clean accounts was)), subst (λ db. Presents db accounts) (sym back) (subst (λ db. Presents db accounts) (sym same) was));
+    none = λ blank. absurd (ours_not_none held ours blank);
+  }
+
+-- ---- an event of the machine
+
+-- where the machine refuses an event of accounts, none changes
+delivers_kept : (user message : List ℕ) (envelope : Envelope) (moment : ℕ) (accounts later : Accounts) (refusal : Refusal) → Delivery accounts user envelope message moment (answer.Refused refusal) later → later ≡ accounts
+delivers_kept user message envelope moment accounts later refusal = under (limit_refusal envelope message moment)
+  where
+    by : (o : Option Account) → DeliversIn accounts user moment envelope message o (answer.Refused refusal) later → later ≡ accounts
+    by None h = h.stays
+    by (Some a) h = absurd (let no = h.reported in cc)
+
+    under : (limit : Option Refusal) → DeliversUnder limit accounts user moment envelope message (answer.Refused refusal) later → later ≡ accounts
+    under (Some e) h = h.stays
+    under None h = by (get accounts user) h
+
+adds_kept : (name address salt password : List ℕ) (accounts later : Accounts) (refusal : Refusal) → Addition accounts name address salt password (answer.Refused refusal) later → later ≡ accounts
+adds_kept name address salt password accounts later refusal = go
+  where
+    by : (o : Option Account) → AddsUnder accounts name address salt password o (answer.Refused refusal) later → later ≡ accounts
+    by None h = absurd (let no = h.added in cc)
+    by (Some a) h = h.stays
+
+    go : Addition accounts name address salt password (answer.Refused refusal) later → later ≡ accounts
+    go (inl h) = by (get accounts name) h.1
+    go (inr h) = h.1.stays
+
+takes_kept : (user : List ℕ) (id : ℕ) (accounts later : Accounts) (refusal : Refusal) → Taking accounts user id (answer.Refused refusal) later → later ≡ accounts
+takes_kept user id accounts later refusal = by (get accounts user)
+  where
+    row : (o : Option Outgoing) → TakesRow accounts user o (answer.Refused refusal) later → later ≡ accounts
+    row None h = h.stays
+    row (Some out) h = absurd (let no = h.taken in cc)
+
+    by : (o : Option Account) → TakesIn accounts user id o (answer.Refused refusal) later → later ≡ accounts
+    by None h = h.stays
+    by (Some a) h = row (row_with id a.queue) h
+
+-- the accounts turned by the event's row
+module _ (event : Event) (Row : Accounts → Answer → Accounts → Type 0) (May : Refusal → Type 0) (rows : (accounts later : Accounts) (said : Answer) → Row accounts said later → Happens (world_of accounts) event said (world_of later))
+    (refuses : (accounts : Accounts) (refusal : Refusal) → May refusal → MayRefuse (world_of accounts) event refusal) (kept : (accounts later : Accounts) (refusal : Refusal) → Row accounts (answer.Refused refusal) later → later ≡ accounts) where
+  next_by : (said : Answer) (accounts later : Accounts) → TurnsBy Row May said accounts later → Next (world_of accounts) event said (world_of later)
+  next_by said accounts later (inl row) = inl (rows accounts later said row)
+  next_by said accounts later (inr h) = inr (record { refusal = h.0; may = refuses accounts h.0 h.1; refused = h.2; stays = ap world_of h.3 })
+
+  stays_by : (refusal : Refusal) (accounts later : Accounts) → TurnsBy Row May (answer.Refused refusal) accounts later → later ≡ accounts
+  stays_by refusal accounts later (inl row) = kept accounts later refusal row
+  stays_by refusal accounts later (inr h) = h.3
+
+  -- and this is the event, put to the machine
+  put_by : {X : Type 0} (Denied : Type 0) (told : X → Answer) (x : X) (accounts later : Accounts) → TurnsBy Row May (told x) accounts later → Puts Denied event told (Ok x) accounts later
+  put_by Denied told x accounts later turned = next_by (told x) accounts later turned
+
+  refused_by : {X : Type 0} (Denied : Type 0) (told : X → Answer) (refusal : Refusal) (accounts later : Accounts) → TurnsBy Row May (answer.Refused refusal) accounts later → Puts Denied event told (Err (Refused refusal)) accounts later
+  refused_by Denied told refusal accounts later turned =
+      let same = stays_by refusal accounts later turned in (
+        same,
+        inr (record {
+          event = event;
+          own = refl;
+          refusal = refusal;
+          told = refl;
+          next = subst (λ all. Next (world_of accounts) event (answer.Refused refusal) (world_of all)) same (next_by (answer.Refused refusal) accounts later turned);
+        }),
+      )
+
+-- a delivery
+module _ (Denied : Type 0) (user : List ℕ) (envelope : Envelope) (message : List ℕ) (moment : ℕ) where
+  abbrev Row : Accounts → Answer → Accounts → Type 0
+  Row accounts = Delivery accounts user envelope message moment
+
+  abbrev May : Refusal → Type 0
+  May = MayRefuseDelivery envelope message moment
+
+  pub delivery_made : (report : Report) (accounts later : Accounts) → TurnsBy Row May (answer.Delivered report) accounts later → Puts Denied (Deliver user envelope message moment) answer.Delivered (Ok report) accounts later
+  delivery_made = put_by (Deliver user envelope message moment) Row May (λ accounts later said row. (later, row, refl)) (λ accounts. delivery_may user message envelope moment (world_of accounts))
+      (delivers_kept user message envelope moment) Denied answer.Delivered
+
+  pub delivery_refused : (refusal : Refusal) (accounts later : Accounts) → TurnsBy Row May (answer.Refused refusal) accounts later → Puts {X = Report} Denied (Deliver user envelope message moment) answer.Delivered (Err (Refused refusal)) accounts later
+  delivery_refused = refused_by (Deliver user envelope message moment) Row May (λ accounts later said row. (later, row, refl)) (λ accounts. delivery_may user message envelope moment (world_of accounts))
+      (delivers_kept user message envelope moment) Denied answer.Delivered
+
+-- a new user
+module _ (Denied : Type 0) (name address salt password : List ℕ) where
+  abbrev AddRow : Accounts → Answer → Accounts → Type 0
+  AddRow accounts = Addition accounts name address salt password
+
+  abbrev AddMay : Refusal → Type 0
+  AddMay = MayRefuseAddition name address password
+
+  pub addition_made : (done : Unit {0}) (accounts later : Accounts) → TurnsBy AddRow AddMay answer.Added accounts later → Puts Denied (AddUser name address salt password) (λ x. answer.Added) (Ok done) accounts later
+  addition_made = put_by (AddUser name address salt password) AddRow AddMay (λ accounts later said row. (later, row, refl)) (λ accounts. addition_may name address salt password (world_of accounts))
+      (adds_kept name address salt password) Denied (λ x. answer.Added)
+
+  pub addition_refused : (refusal : Refusal) (accounts later : Accounts) → TurnsBy AddRow AddMay (answer.Refused refusal) accounts later
+      → Puts {X = Unit {0}} Denied (AddUser name address salt password) (λ x. answer.Added) (Err (Refused refusal)) accounts later
+  addition_refused = refused_by (AddUser name address salt password) AddRow AddMay (λ accounts later said row. (later, row, refl)) (λ accounts. addition_may name address salt password (world_of accounts))
+      (adds_kept name address salt password) {X = Unit {0}} Denied (λ x. answer.Added)
+
+-- a row that leaves the queue
+module _ (Denied : Type 0) (user : List ℕ) (id : ℕ) where
+  abbrev TakeRow : Accounts → Answer → Accounts → Type 0
+  TakeRow accounts = Taking accounts user id
+
+  pub taking_made : (row : Outgoing) (accounts later : Accounts) → TurnsBy TakeRow IsTransient (answer.Taken row) accounts later → Puts Denied (TakeOut user id) answer.Taken (Ok row) accounts later
+  taking_made = put_by (TakeOut user id) TakeRow IsTransient (λ accounts later said row. (later, row, refl)) (λ accounts. taking_may user id (world_of accounts)) (takes_kept user id) Denied answer.Taken
+
+  pub taking_refused : (refusal : Refusal) (accounts later : Accounts) → TurnsBy TakeRow IsTransient (answer.Refused refusal) accounts later → Puts {X = Outgoing} Denied (TakeOut user id) answer.Taken (Err (Refused refusal)) accounts later
+  taking_refused = refused_by (TakeOut user id) TakeRow IsTransient (λ accounts later said row. (later, row, refl)) (λ accounts. taking_may user id (world_of accounts)) (takes_kept user id) Denied answer.Taken
+
+-- no store was given out for the event
+pub put_denied : {X : Type 0} (Denied : Type 0) (event : Event) (told : X → Answer) (fault : Fault) (r : Result X Fault) → r ≡ Err fault → Denied → status_of fault ≢ 64 → (held new : Database) → new ≡ held
+    → TurnsTables (Puts Denied event told r) held new
+put_denied Denied event told fault r is denied late held new same =
+    stays_turned (Puts Denied event told r) held new same (λ accounts. subst (λ o. Puts Denied event told o accounts accounts) (sym is) (refl, inl (inr (inr (denied, late)))))
+
+-- ---- a word that is an event
+module _ (Wrong Denied : Type 0) (Own : Event → Type 0) where
+  abbrev Cause : Fault → Accounts → Type 0
+  Cause fault accounts = IsHindered Wrong Denied fault ⊎ RefusesEvent Own fault accounts
+
+  -- it didn't come to the event
+  pub event_hindered : (out : Option (List ℕ)) (held : Database) (fault : Fault) (r : Result (Unit {0}) Fault) → r ≡ Err fault → IsHindered Wrong Denied fault → DoesEvent Wrong Denied Own out out r held held
+  event_hindered out held fault r is hindered =
+      stays_turned (Finishes (Makes Own) Cause out out r) held held refl
+      (λ accounts. subst (λ o. Finishes (Makes Own) Cause out out o accounts accounts) (sym is) (inl (record { cause = inl hindered; stays = refl; silent = kept_same out })))
+
+  module _ {X : Type 0} (event : Event) (own : Own event) (told : X → Answer) (held new : Database) where
+    own_refused : (fault : Fault) (accounts : Accounts) → RefusesEvent (λ e. e ≡ event) fault accounts → RefusesEvent Own fault accounts
+    own_refused fault accounts h = record { event = h.event; own = subst Own (sym h.own) own; refusal = h.refusal; told = h.told; next = h.next }
+
+    -- it was put, and wasn't made
+    pub event_unmade : (out : Option (List ℕ)) (fault : Fault) (r : Result (Unit {0}) Fault) → r ≡ Err fault → TurnsTables (Puts Denied event told (Err fault)) held new → DoesEvent Wrong Denied Own out out r held new
+    event_unmade out fault r is put =
+        turned_wider (Puts Denied event told (Err fault)) (Finishes (Makes Own) Cause out out r) held new
+        (λ accounts later h.
+        subst (λ o. Finishes (Makes Own) Cause out out o accounts later) (sym is) (inl (record {
+          cause = elim h.1 [ inl hindered ↦ inl (hindered_wider Wrong Denied fault hindered) | inr refused ↦ inr (own_refused fault accounts refused) ];
+          stays = h.0;
+          silent = kept_same out;
+        })))
+        put
+
+    -- it was made, and this was printed
+    pub event_made : (x : X) (text : List ℕ) → Tells event (told x) text → TurnsTables (Puts Denied event told (Ok x)) held new → (old out : Option (List ℕ)) (r : Result (Unit {0}) Fault)
+        → OnOk r (Appends old out text) → OnErr r (AppendsFront old out text) → IfErr r IsFailure → DoesEvent Wrong Denied Own old out r held new
+    event_made x text tells put old out r printed front failure =
+        turned_wider (Puts Denied event told (Ok x)) (Finishes (Makes Own) Cause old out r) held new (λ accounts later h. by r printed front failure accounts later h) put
+      where
+        deed : (accounts later : Accounts) → Next (world_of accounts) event (told x) (world_of later) → Makes Own accounts later text
+        deed accounts later h = record { event = event; own = own; answer = told x; next = h; tells = tells }
+
+        by : (r : Result (Unit {0}) Fault) → OnOk r (Appends old out text) → OnErr r (AppendsFront old out text) → IfErr r IsFailure → (accounts later : Accounts) → Next (world_of accounts) event (told x) (world_of later)
+            → Finishes (Makes Own) Cause old out r accounts later
+        by (Ok done) printed front failure accounts later h = record { text = text; deed = deed accounts later h; printed = printed }
+        by (Err fault) printed front failure accounts later h = inr (failure, record { text = text; deed = deed accounts later h; printed = front })
+
+-- a write that failed is a failure
+pub written_failure : {X : Type 0} (r : Result X Fault) → IfErr r (λ fault. fault ≡ Stream) → IfErr r IsFailure
+written_failure (Ok x) h = tt
+written_failure (Err fault) h = inr h
+
+-- ---- a word that reads
+
+-- the same is kept whatever was found
+keeps_as : {X Y E : Type 0} (old new : State) (x : X) (y : Y) → Keeps {E = E} old new (Ok x) → Keeps {E = E} old new (Ok y)
+keeps_as old new x y h = record { same = h.same; live = h.live; shut = h.shut; crash = h.crash }
+
+not_kept : {X Y E : Type 0} (old new : State) (e : E) → Keeps {X = X} old new (Err e) → Keeps {X = Y} old new (Err e)
+not_kept old new e h = record { same = h.same; live = h.live; shut = h.shut; crash = h.crash }
+
+-- what was read of an account says this of it too
+pub reads_so : {X Y : Type 0} (user : List ℕ) (P : X → Account → Type 0) (Q : Y → Account → Type 0) (old new : State) (q : Result X Refusal) (x : X) (y : Y) (r : Result Y Refusal) → q ≡ Ok x → r ≡ Ok y → ((a : Account) → P x a → Q y a)
+    → Reads user P old new q → Reads user Q old new r
+reads_so user P Q old new q x y r is told to reads =
+    let h = subst (Reads user P old new) is reads in
+    subst (Reads user Q old new) (sym told) (record {
+      found = λ clean accounts p. let f = h.found clean accounts p in (f.0, f.1, to f.0 f.2);
+      absent = λ clean accounts p. tt;
+      keeps = keeps_as old new x y h.keeps;
+      named = tt;
+    })
+
+-- and its refusal that of another read
+pub reads_not : {X Y : Type 0} (user : List ℕ) (P : X → Account → Type 0) (Q : Y → Account → Type 0) (old new : State) (q : Result X Refusal) (e : Refusal) (r : Result Y Refusal) → q ≡ Err e → r ≡ Err e
+    → Reads user P old new q → Reads user Q old new r
+reads_not {X} {Y} user P Q old new q e r is told reads =
+    let h = subst (Reads user P old new) is reads in
+    subst (Reads user Q old new) (sym told) (record { found = λ clean accounts p. tt; absent = h.absent; keeps = not_kept {X = X} {Y = Y} old new e h.keeps; named = h.named })
+
+reads_wider : {X : Type 0} (user : List ℕ) (P Q : X → Account → Type 0) (old new : State) (r : Result X Refusal) → ((x : X) (a : Account) → P x a → Q x a) → Reads user P old new r → Reads user Q old new r
+reads_wider user P Q old new (Ok x) to reads = reads_so user P Q old new (Ok x) x x (Ok x) refl refl (to x) reads
+reads_wider user P Q old new (Err e) to reads = reads_not user P Q old new (Err e) e (Err e) refl refl reads
+
+-- the message with a number, from 1
+pub message_read : (user name folder named : List ℕ) (number at : ℕ) → user ≡ name → folder ≡ named → number ≡ suc at → (old new : State) (r : Result (Option (List ℕ)) Refusal)
+    → Reads user (λ message a. message ≡ slice_get (messages_in a.folders folder) at) old new r → Reads name (λ message a. HasMessage named number a message) old new r
+message_read user name folder named number at own its is old new r reads =
+    subst (λ u. Reads u (λ message a. HasMessage named number a message) old new r) own
+    (reads_wider user (λ message a. message ≡ slice_get (messages_in a.folders folder) at) (λ message a. HasMessage named number a message) old new r
+    (λ message a found. subst (λ n. HasMessage named n a message) (sym is) (subst (λ f. message ≡ slice_get (messages_in a.folders f) at) its found)) reads)
+
+-- none has the number 0
+pub message_none : (user name folder : List ℕ) (number : ℕ) → user ≡ name → number ≡ zero → (old new : State) (r : Result (Option (List ℕ)) Refusal)
+    → Reads user (λ message a. message ≡ None) old new r → Reads name (λ message a. HasMessage folder number a message) old new r
+message_none user name folder number own is old new r reads =
+    subst (λ u. Reads u (λ message a. HasMessage folder number a message) old new r) own
+    (reads_wider user (λ message a. message ≡ None) (λ message a. HasMessage folder number a message) old new r (λ message a found. subst (λ n. HasMessage folder n a message) (sym is) found) reads)
+
+-- no store was given out for the read
+pub find_denied : {X : Type 0} (Denied : Type 0) (user : List ℕ) (Part : X → Account → Type 0) (fault : Fault) (r : Result X Fault) → r ≡ Err fault → Denied → status_of fault ≢ 64 → (held new : Database) → new ≡ held
+    → TurnsTables (λ accounts later. (later ≡ accounts) × FindsIn Denied user Part r accounts) held new
+find_denied Denied user Part fault r is denied late held new same =
+    stays_turned (λ accounts later. (later ≡ accounts) × FindsIn Denied user Part r accounts) held new same
+    (λ accounts. (refl, subst (λ o. FindsIn Denied user Part o accounts) (sym is) (inl (inr (inr (denied, late))))))
+
+-- what was found, by the read's result
+pub found_ok : {X : Type 0} (Denied : Type 0) (user : List ℕ) (Part : X → Account → Type 0) (q : Result X Refusal) (x : X) (r : Result X Fault) → q ≡ Ok x → r ≡ Ok x → (accounts : Accounts)
+    → IfOk q (λ y. OfUser accounts user (Part y)) → FindsIn Denied user Part r accounts
+found_ok Denied user Part q x r is told accounts found =
+    subst (λ o. FindsIn Denied user Part o accounts) (sym told) (subst (λ o. IfOk o (λ y. OfUser accounts user (Part y))) is found)
+
+pub found_none : {X : Type 0} (Denied : Type 0) (user : List ℕ) (Part : X → Account → Type 0) (q : Result X Refusal) (e : Refusal) (r : Result X Fault) → q ≡ Err e → r ≡ Err (Refused e) → (e ≡ NoUser) ⊎ IsTransient e → (accounts : Accounts)
+    → IfErr q (λ y. y ≡ NoUser → IsFree user accounts) → FindsIn Denied user Part r accounts
+found_none Denied user Part q e r is told named accounts absent =
+    let free : e ≡ NoUser → IsFree user accounts = subst (λ o. IfErr o (λ y. y ≡ NoUser → IsFree user accounts)) is absent in
+    subst (λ o. FindsIn Denied user Part o accounts) (sym told) (elim named [
+      | inl none ↦ inr (ap Refused none, free none)
+      | inr transient ↦ inl (inl (sudden_refusal e transient))
+    ])
+
+module _ (Wrong Denied : Type 0) (user : List ℕ) (IsShown : Account → List ℕ → Type 0) (Lacks : Fault → Account → Type 0) where
+  abbrev Ends : Option (List ℕ) → Option (List ℕ) → Result (Unit {0}) Fault → Accounts → Accounts → Type 0
+  Ends = Finishes (Shows user IsShown) (HasNone Wrong Denied user Lacks)
+
+  -- nothing was read
+  pub read_hindered : (out : Option (List ℕ)) (held : Database) (fault : Fault) (r : Result (Unit {0}) Fault) → r ≡ Err fault → IsHindered Wrong Denied fault → DoesRead Wrong Denied user IsShown Lacks out out r held held
+  read_hindered out held fault r is hindered =
+      stays_turned (Ends out out r) held held refl (λ accounts. subst (λ o. Ends out out o accounts accounts) (sym is) (inl (record { cause = inl hindered; stays = refl; silent = kept_same out })))
+
+  module _ {X : Type 0} (Part : X → Account → Type 0) (held new : Database) where
+    abbrev Found : Result X Fault → Accounts → Accounts → Type 0
+    Found q accounts later = (later ≡ accounts) × FindsIn Denied user Part q accounts
+
+    -- it couldn't be read
+    pub read_refused : (out : Option (List ℕ)) (fault : Fault) (r : Result (Unit {0}) Fault) → r ≡ Err fault → TurnsTables (Found (Err fault)) held new → DoesRead Wrong Denied user IsShown Lacks out out r held new
+    read_refused out fault r is found =
+        turned_wider (Found (Err fault)) (Ends out out r) held new
+        (λ accounts later h.
+        subst (λ o. Ends out out o accounts later) (sym is) (inl (record {
+          cause = elim h.1 [ inl hindered ↦ inl (hindered_wider Wrong Denied fault hindered) | inr free ↦ inr (inl free) ];
+          stays = h.0;
+          silent = kept_same out;
+        })))
+        found
+
+    -- it was found, and there was no memory to show it
+    pub read_failed : (x : X) (fault : Fault) → IsHindered Wrong Denied fault → TurnsTables (Found (Ok x)) held new → (out : Option (List ℕ)) (r : Result (Unit {0}) Fault) → r ≡ Err fault
+        → DoesRead Wrong Denied user IsShown Lacks out out r held new
+    read_failed x fault hindered found out r is =
+        turned_wider (Found (Ok x)) (Ends out out r) held new (λ accounts later h. subst (λ o. Ends out out o accounts later) (sym is) (inl (record { cause = inl hindered; stays = h.0; silent = kept_same out }))) found
+
+    -- what was asked for isn't there
+    pub read_lacks : (x : X) (fault : Fault) → ((a : Account) → Part x a → Lacks fault a) → TurnsTables (Found (Ok x)) held new → (out : Option (List ℕ)) (r : Result (Unit {0}) Fault) → r ≡ Err fault
+        → DoesRead Wrong Denied user IsShown Lacks out out r held new
+    read_lacks x fault lacks found out r is =
+        turned_wider (Found (Ok x)) (Ends out out r) held new
+        (λ accounts later h.
+        subst (λ o. Ends out out o accounts later) (sym is) (inl (record { cause = inr (inr (h.1.0, h.1.1, lacks h.1.0 h.1.2)); stays = h.0; silent = kept_same out })))
+        found
+
+    -- it was shown
+    pub read_shown : (x : X) (text : List ℕ) → ((a : Account) → Part x a → IsShown a text) → TurnsTables (Found (Ok x)) held new → (old out : Option (List ℕ)) (r : Result (Unit {0}) Fault)
+        → OnOk r (Appends old out text) → OnErr r (AppendsFront old out text) → IfErr r IsFailure → DoesRead Wrong Denied user IsShown Lacks old out r held new
+    read_shown x text shows found old out r printed front failure = turned_wider (Found (Ok x)) (Ends old out r) held new (λ accounts later h. by r printed front failure accounts later h) found
+      where
+        deed : (accounts later : Accounts) → Found (Ok x) accounts later → Shows user IsShown accounts later text
+        deed accounts later h = record { stays = h.0; shown = (h.1.0, h.1.1, shows h.1.0 h.1.2) }
+
+        by : (r : Result (Unit {0}) Fault) → OnOk r (Appends old out text) → OnErr r (AppendsFront old out text) → IfErr r IsFailure → (accounts later : Accounts) → Found (Ok x) accounts later → Ends old out r accounts later
+        by (Ok done) printed front failure accounts later h = record { text = text; deed = deed accounts later h; printed = printed }
+        by (Err fault) printed front failure accounts later h = inr (failure, record { text = text; deed = deed accounts later h; printed = front })
+
+-- what is shown is told by another name, and another value of the words may be wrong
+pub read_told : (Wrong Denied : Type 0) (user : List ℕ) (IsShown Wider : Account → List ℕ → Type 0) → ((a : Account) (text : List ℕ) → IsShown a text → Wider a text) → (old out : Option (List ℕ)) (r : Result (Unit {0}) Fault) (held new : Database)
+    → DoesRead ⊥ Denied user IsShown LacksNothing old out r held new → DoesRead Wrong Denied user Wider LacksNothing old out r held new
+read_told Wrong Denied user IsShown Wider wider old out r held new does =
+    turned_wider (Finishes (Shows user IsShown) (HasNone ⊥ Denied user LacksNothing) old out r) (Finishes (Shows user Wider) (HasNone Wrong Denied user LacksNothing) old out r) held new (by r) does
+  where
+    shows : (accounts later : Accounts) (text : List ℕ) → Shows user IsShown accounts later text → Shows user Wider accounts later text
+    shows accounts later text h = record { stays = h.stays; shown = (h.shown.0, h.shown.1, wider h.shown.0 text h.shown.2) }
+
+    by : (r : Result (Unit {0}) Fault) (accounts later : Accounts) → Finishes (Shows user IsShown) (HasNone ⊥ Denied user LacksNothing) old out r accounts later → Finishes (Shows user Wider) (HasNone Wrong Denied user LacksNothing) old out r accounts later
+    by (Ok done) accounts later h = record { text = h.text; deed = shows accounts later h.text h.deed; printed = h.printed }
+    by (Err fault) accounts later h = elim h [
+      | inl undone ↦ inl (record { cause = elim undone.cause [ inl hindered ↦ inl (hindered_wider Wrong Denied fault hindered) | inr none ↦ inr none ]; stays = undone.stays; silent = undone.silent })
+      | inr (failure, did) ↦ inr (failure, record { text = did.text; deed = shows accounts later did.text did.deed; printed = did.printed })
+    ]
+
+-- ---- `init`
+
+pub init_denied : (Denied : Type 0) (out : Option (List ℕ)) (fault : Fault) (r : Result (Unit {0}) Fault) → r ≡ Err fault → Denied → status_of fault ≢ 64 → (held new : Database) → new ≡ held → DoesInit Denied out out r held new
+init_denied Denied out fault r is denied late held new same = subst (λ o. DoesInit Denied out out o held new) (sym is) (inl (inr (inr (denied, late)), same, kept_same out))
+
+-- a store was made and handed back
+pub init_made : (Denied : Type 0) (old out : Option (List ℕ)) (r : Result (Unit {0}) Fault) → OnOk r (Appends old out (codes "ready\n")) → OnErr r (AppendsFront old out (codes "ready\n")) → IfErr r (λ fault. fault ≡ Stream)
+    → (held seen new : Database) → held.schema ≡ no_schema → Presents seen no_accounts → new ≡ seen → DoesInit Denied old out r held new
+init_made Denied old out (Ok done) printed front failed held seen new blank made back = (blank, subst (λ db. Presents db no_accounts) (sym back) made, printed)
+init_made Denied old out (Err fault) printed front failed held seen new blank made back = inr (inr failed, blank, subst (λ db. Presents db no_accounts) (sym back) made, front)
+
+-- ---- the words
+
+-- the words ask for nothing that there is
+pub nothing_done : (out : Option (List ℕ)) (held : Database) → DoesNothing out out (Err BadArgument) held held
+nothing_done out held = (refl, refl, kept_same out)
+
+-- another word than those that write only reads
+pub looks_done : (Denied : Type 0) (clock : Option ℕ) (given : Option (List ℕ)) (tells : Bool) (had has : List (List ℕ)) (old out : Option (List ℕ)) (asked : Asked) (r : Result (Unit {0}) Fault) (held new : Database)
+    → ((place : _) → asked ≡ word.Init place → ⊥) → ((place : _) (salt : _) (name : _) (address : _) → asked ≡ word.AddUser place salt name address → ⊥)
+    → ((place : _) (from : _) (to : _) (at : _) (user : _) → asked ≡ word.Deliver place from to at user → ⊥) → ((place : _) (user : _) (id : _) → asked ≡ word.Done place user id → ⊥)
+    → ((place : _) (most : _) (user : _) (folder : _) (maildir : _) → asked ≡ word.Drain place most user folder maildir → ⊥)
+    → GrowsBy tells had has [] → Looks Denied old out asked r held new → Does Denied clock given tells had has old out asked r held new
+looks_done Denied clock given tells had has old out (word.Init place) r held new i a p q d same looks = absurd (i place refl)
+looks_done Denied clock given tells had has old out (word.AddUser place salt name address) r held new i a p q d same looks = absurd (a place salt name address refl)
+looks_done Denied clock given tells had has old out (word.Deliver place from to at user) r held new i a p q d same looks = absurd (p place from to at user refl)
+looks_done Denied clock given tells had has old out (word.Done place user id) r held new i a p q d same looks = absurd (q place user id refl)
+looks_done Denied clock given tells had has old out (word.Drain place most user folder maildir) r held new i a p q d same looks = absurd (d place most user folder maildir refl)
+looks_done Denied clock given tells had has old out (word.Try from to) r held new i a p q d same looks = (same, looks)
+looks_done Denied clock given tells had has old out (word.Folders place user directories levels) r held new i a p q d same looks = (same, looks)
+looks_done Denied clock given tells had has old out (word.Show place user folder number) r held new i a p q d same looks = (same, looks)
+looks_done Denied clock given tells had has old out (word.Queue place user id) r held new i a p q d same looks = (same, looks)
+looks_done Denied clock given tells had has old out (word.Notices place user) r held new i a p q d same looks = (same, looks)
+looks_done Denied clock given tells had has old out (word.Serve place port sessions) r held new i a p q d same looks = (same, looks)
+looks_done Denied clock given tells had has old out (word.Session place) r held new i a p q d same looks = (same, looks)
+
+-- a word that is none of those that read is refused
+pub none_looked : (Denied : Type 0) (out : Option (List ℕ)) (asked : Asked) (held : Database)
+    → ((place : _) (user : _) (directories : _) (levels : _) → asked ≡ word.Folders place user directories levels → ⊥) → ((place : _) (user : _) (folder : _) (number : _) → asked ≡ word.Show place user folder number → ⊥)
+    → ((place : _) (user : _) (id : _) → asked ≡ word.Queue place user id → ⊥) → ((place : _) (user : _) → asked ≡ word.Notices place user → ⊥) → Looks Denied out out asked (Err BadArgument) held held
+none_looked Denied out (word.Folders place user directories levels) held f s q n = absurd (f place user directories levels refl)
+none_looked Denied out (word.Show place user folder number) held f s q n = absurd (s place user folder number refl)
+none_looked Denied out (word.Queue place user id) held f s q n = absurd (q place user id refl)
+none_looked Denied out (word.Notices place user) held f s q n = absurd (n place user refl)
+none_looked Denied out (word.Try from to) held f s q n = nothing_done out held
+none_looked Denied out (word.Init place) held f s q n = nothing_done out held
+none_looked Denied out (word.AddUser place salt name address) held f s q n = nothing_done out held
+none_looked Denied out (word.Deliver place from to at user) held f s q n = nothing_done out held
+none_looked Denied out (word.Done place user id) held f s q n = nothing_done out held
+none_looked Denied out (word.Drain place most user folder maildir) held f s q n = nothing_done out held
+none_looked Denied out (word.Serve place port sessions) held f s q n = nothing_done out held
+none_looked Denied out (word.Session place) held f s q n = nothing_done out held

@@ -1,0 +1,42 @@
+-- The store was taken, the event was put to the machine, and the store was handed back.
+use Rattle.std.proofs.Common.{◌≡◌, Err, subst, sym, rules}
+use Rattle.sqlite.specs.Held.{state}
+use Rattle.mailengine.specs.declared.answer.Answer.TheVariants.{Taken}
+use Rattle.mailengine.specs.declared.event.Event.TheVariants.{TakeOut}
+use Rattle.sievedrun.specs.Draining.{TurnsTables}
+use Rattle.sievedrun.specs.Serving.{HasDenied}
+use Rattle.sievedrun.specs.Words.{Puts}
+use Rattle.sievedrun.specs.declared.fault.Fault.TheVariants.{Refused}
+use Rattle.sievedrun.proofs.WordLemmas.{carried_turned, put_denied, taking_made, taking_refused}
+use Rattle.sievedrun.proofs.queue.dequeue.Goals as goal
+
+pub returns-in_err-store-clause-puts : goal.returns-in_err-store-clause-puts
+returns-in_err-store-clause-puts g c tells =
+    put_denied (HasDenied g.K.Keeper.refuses) (TakeOut c.args.user.now c.args.id) Taken c.in_err-store.field-0.0 c.from_residual.result (search rules)
+    c.in_err-store.ensures.denied c.in_err-store.ensures.late (g.K.Keeper.holds c.args.keeper.now) (g.K.Keeper.holds c.taken.new.keeper) (c.in_err-store.ensures.refused tells)
+
+pub returns-in_err-row-clause-puts : goal.returns-in_err-row-clause-puts
+returns-in_err-row-clause-puts g c tells =
+    let got = c.in_ok-store.ensures.taken tells in
+    let sure = g.met.K.Keeper.sure c.take_out-row.new.store tells in
+    let Denied = HasDenied g.K.Keeper.refuses in
+    let refusal = c.in_err-row.field-0.0 in
+    let event = TakeOut c.args.user.now c.args.id in
+    let is : c.from_residual-in_err-row.result ≡ Err (Refused refusal) = search rules in
+    subst (λ r. TurnsTables (Puts Denied event Taken r) (g.K.Keeper.holds c.args.keeper.now) (g.K.Keeper.holds c.hand_back.new.self)) (sym is)
+    (carried_turned (g.K.Keeper.holds c.args.keeper.now) (g.K.Keeper.holds c.hand_back.new.self) (state g.K.S.Store c.in_ok-store.store) (state g.K.S.Store c.take_out-row.new.store) got.1 got.2.schema sure.0 sure.1
+    (c.hand_back.ensures.held tells) (Puts Denied event Taken (Err (Refused refusal)))
+    (λ clean accounts shown.
+    let turned = c.in_err-row.ensures.acts.carries clean accounts shown in
+    (turned.0, taking_refused Denied c.args.user.now c.args.id refusal accounts turned.0 turned.1, turned.2)))
+
+pub returns-clause-puts : goal.returns-clause-puts
+returns-clause-puts g c tells =
+    let got = c.in_ok-store.ensures.taken tells in
+    let sure = g.met.K.Keeper.sure c.take_out-row.new.store tells in
+    let Denied = HasDenied g.K.Keeper.refuses in
+    carried_turned (g.K.Keeper.holds c.args.keeper.now) (g.K.Keeper.holds c.hand_back.new.self) (state g.K.S.Store c.in_ok-store.store) (state g.K.S.Store c.take_out-row.new.store) got.1 got.2.schema sure.0 sure.1
+    (c.hand_back.ensures.held tells) _
+    (λ clean accounts shown.
+    let turned = c.in_ok-row.ensures.acts.carries clean accounts shown in
+    (turned.0, taking_made Denied c.args.user.now c.args.id c.in_ok-row.field-0 accounts turned.0 turned.1, turned.2))

@@ -1,0 +1,43 @@
+-- The values that stand in words.
+use Rattle.std.specs.Prelude.{◌≡◌, ℕ, ◌<◌, ◌^◌, List, [], ◌∷◌, Option, Some, None, Ok}
+use Rattle.hex.specs.Hex.{decode_sized}
+use Rattle.maildirs.specs.Spelling.{octet_of}
+use Rattle.maildirs.specs.declared.separator.Separator.{Separator}
+use Rattle.maildirs.specs.declared.separator.Separator.TheVariants.{Dot}
+use Rattle.octets.specs.Decimal.{Writes}
+use Rattle.sieveexec.specs.declared.envelope.Envelope.{Envelope}
+
+-- no number of 64 bits is written so
+abbrev pub IsNoNumber : List ℕ → Type 0
+IsNoNumber digits = (number : ℕ) → number < 2 ^ 64 → Writes digits number → ⊥
+
+-- the words have digits there, which are no number
+abbrev pub HasNoNumber : Option (List ℕ) → Type 0
+HasNoNumber (Some digits) = IsNoNumber digits
+HasNoNumber None = ⊥
+
+-- 32 hexadecimal digits, in either case, write these 16 octets
+abbrev pub WritesSalt : List ℕ → List ℕ → Type 0
+WritesSalt digits salt = decode_sized digits 16 ≡ Ok salt
+
+-- no salt is written so
+abbrev pub IsNoSalt : List ℕ → Type 0
+IsNoSalt digits = (salt : List ℕ) → WritesSalt digits salt → ⊥
+
+-- the moment that the words have in decimal, or else the clock's
+abbrev pub IsMoment : Option (List ℕ) → Option ℕ → ℕ → Type 0
+IsMoment (Some digits) clock moment = Writes digits moment
+IsMoment None clock moment = clock ≡ Some moment
+
+-- this separates the levels of folders: `.` where the words have nothing
+abbrev pub IsSeparator : Option (List ℕ) → Separator → Type 0
+IsSeparator (Some text) separator = text ≡ octet_of separator ∷ []
+IsSeparator None separator = separator ≡ Dot
+
+-- the words have something else
+abbrev pub HasNoSeparator : Option (List ℕ) → Type 0
+HasNoSeparator text = (separator : Separator) → IsSeparator text separator → ⊥
+
+-- the envelope of these addresses
+abbrev pub envelope_with : List ℕ → List ℕ → Envelope
+envelope_with from to = record { from = from; to = to }

@@ -1,0 +1,245 @@
+-- What a word of the command line does: what becomes of the accounts, what is printed, and why it is refused.
+use Prim.Native.Nat.{zero}
+use Rattle.std.specs.Prelude.{◌≡◌, ◌⊎◌, ℕ, suc, Bool, true, false, List, [], ◌++◌, codes, decimal, map, slice_get, Option, Some, None, option_copied, Result, Ok, Err}
+use Rattle.std.specs.FinMap.{entries}
+use Rattle.std.specs.Io.KnownBytes.{Appends, Keeps}
+use Rattle.std.specs.List.{flat_map}
+use Rattle.octets.specs.Decimal.{Writes}
+use Rattle.maildirs.specs.Directory.{directory}
+use Rattle.maildirs.specs.declared.separator.Separator.{Separator}
+use Rattle.sqlite.specs.Effect.{Database}
+use Rattle.mailstore.specs.Account.{Account, Accounts, no_accounts, messages_in, row_with}
+use Rattle.mailstore.specs.HeadRows.{head_of}
+use Rattle.mailstore.specs.Promises.{IsFree, OfUser}
+use Rattle.mailstore.specs.Schema.{no_schema}
+use Rattle.mailstore.specs.Shows.{Presents}
+use Rattle.mailstore.specs.Tally.{size_of}
+use Rattle.mailstore.specs.declared.refusal.Refusal.{Refusal}
+use Rattle.mailstore.specs.declared.refusal.Refusal.TheVariants.{NoRow}
+use Rattle.mailengine.specs.World.{Next}
+use Rattle.mailengine.specs.declared.answer.Answer.{Answer}
+use Rattle.mailengine.specs.declared.answer.Answer.TheVariants as answer
+use Rattle.mailengine.specs.declared.event.Event.{Event}
+use Rattle.mailengine.specs.declared.event.Event.TheVariants.{Deliver, AddUser, TakeOut}
+use Rattle.reportlines.specs.Listings.{queue_listing, notice_listing}
+use Rattle.reportlines.specs.Reports.{with_end, delivery_report}
+use Rattle.sievedwords.specs.declared.asked.Asked.{Asked}
+use Rattle.sievedwords.specs.declared.asked.Asked.TheVariants as word
+use Rattle.sievedrun.specs.Draining.{GrowsBy, TurnsTables, HasDrained}
+use Rattle.sievedrun.specs.Faults.{no_user, IsFailure, IsHindered}
+use Rattle.sievedrun.specs.Promise.{first_line, world_of, status_after}
+use Rattle.sievedrun.specs.Streams.{ReadsAll, AppendsFront}
+use Rattle.sievedrun.specs.Trial.{Runs}
+use Rattle.sievedrun.specs.Values.{IsNoNumber, HasNoNumber, WritesSalt, IsNoSalt, IsMoment, IsSeparator, HasNoSeparator, envelope_with}
+use Rattle.sievedrun.specs.declared.fault.Fault.{Fault}
+use Rattle.sievedrun.specs.declared.fault.Fault.TheVariants.{Refused, NoMessage, BadArgument}
+
+-- ---- how a word ends, whatever it does
+
+-- it was done: the accounts became these, and the text that tells of it is printed so
+pub record IsDone (Deed : Accounts → Accounts → List ℕ → Type 0) (IsPrinted : List ℕ → Type 0) (accounts later : Accounts) : Type 0 where
+  pub text : List ℕ
+  pub deed : Deed accounts later text
+  pub printed : IsPrinted text
+
+-- nothing was done and nothing printed, for a cause
+pub record IsUndone (Cause : Fault → Accounts → Type 0) (old new : Option (List ℕ)) (fault : Fault) (accounts later : Accounts) : Type 0 where
+  pub cause : Cause fault accounts
+  pub stays : later ≡ accounts
+  pub silent : Keeps old new
+
+-- after Ok it was done, and all of the text is printed; after a fault it wasn't, or it was, and memory for the text or the output failed
+abbrev pub Finishes : (Accounts → Accounts → List ℕ → Type 0) → (Fault → Accounts → Type 0) → Option (List ℕ) → Option (List ℕ) → Result (Unit {0}) Fault → Accounts → Accounts → Type 0
+Finishes Deed Cause old new (Ok done) accounts later = IsDone Deed (Appends old new) accounts later
+Finishes Deed Cause old new (Err fault) accounts later = IsUndone Cause old new fault accounts later ⊎ (IsFailure fault × IsDone Deed (AppendsFront old new) accounts later)
+
+-- ---- words that are an event of the machine
+
+-- `adduser`: the account of these words, whose password is the first line of what was read
+pub record Adds (salt name address : List ℕ) (given : Option (List ℕ)) (event : Event) : Type 0 where
+  pub octets : List ℕ
+  pub read : ReadsAll given octets
+  pub random : List ℕ
+  pub salted : WritesSalt salt random
+  pub same : event ≡ AddUser name address random (first_line octets)
+
+-- `deliver`: all that was read is for the user, with these addresses, at the moment of these words or of the clock
+pub record Posts (from to : List ℕ) (at : Option (List ℕ)) (user : List ℕ) (clock : Option ℕ) (given : Option (List ℕ)) (event : Event) : Type 0 where
+  pub message : List ℕ
+  pub read : ReadsAll given message
+  pub moment : ℕ
+  pub dated : IsMoment at clock moment
+  pub same : event ≡ Deliver user (envelope_with from to) message moment
+
+-- `done`: the message with the number that these digits write leaves the user's queue
+pub record Dequeues (user digits : List ℕ) (event : Event) : Type 0 where
+  pub id : ℕ
+  pub written : Writes digits id
+  pub same : event ≡ TakeOut user id
+
+-- what is printed of an event that was made, by its answer
+abbrev pub Tells : Event → Answer → List ℕ → Type 0
+Tells (AddUser name address salt password) answer.Added text = text ≡ with_end (codes "added " ++ name)
+Tells (Deliver user envelope message moment) (answer.Delivered report) text = text ≡ delivery_report report
+Tells (TakeOut user id) (answer.Taken row) text = text ≡ with_end (codes "taken " ++ decimal id)
+Tells event answer text = ⊥
+
+-- an event of the word's own was made, and this tells of it
+pub record Makes (Own : Event → Type 0) (accounts later : Accounts) (text : List ℕ) : Type 0 where
+  pub event : Event
+  pub own : Own event
+  pub answer : Answer
+  pub next : Next (world_of accounts) event answer (world_of later)
+  pub tells : Tells event answer text
+
+-- the machine refuses such an event, and its refusal is the fault
+pub record RefusesEvent (Own : Event → Type 0) (fault : Fault) (accounts : Accounts) : Type 0 where
+  pub event : Event
+  pub own : Own event
+  pub refusal : Refusal
+  pub told : fault ≡ Refused refusal
+  pub next : Next (world_of accounts) event (answer.Refused refusal) (world_of accounts)
+
+-- one event over a store that was taken for it and handed back: it was made, with what is told of the result; or the machine refuses it, or the
+-- word was kept from it
+abbrev pub Puts : {X : Type 0} → Type 0 → Event → (X → Answer) → Result X Fault → Accounts → Accounts → Type 0
+Puts Denied event told (Ok x) accounts later = Next (world_of accounts) event (told x) (world_of later)
+Puts Denied event told (Err fault) accounts later = (later ≡ accounts) × (IsHindered ⊥ Denied fault ⊎ RefusesEvent (λ e. e ≡ event) fault accounts)
+
+-- the word over tables: an event of its own
+abbrev pub DoesEvent : Type 0 → Type 0 → (Event → Type 0) → Option (List ℕ) → Option (List ℕ) → Result (Unit {0}) Fault → Database → Database → Type 0
+DoesEvent Wrong Denied Own old new result = TurnsTables (Finishes (Makes Own) (λ fault accounts. IsHindered Wrong Denied fault ⊎ RefusesEvent Own fault accounts) old new result)
+
+-- ---- words that only read
+
+-- no account changes, and the text shows the user's account so
+pub record Shows (user : List ℕ) (IsShown : Account → List ℕ → Type 0) (accounts later : Accounts) (text : List ℕ) : Type 0 where
+  pub stays : later ≡ accounts
+  pub shown : OfUser accounts user (λ a. IsShown a text)
+
+-- what was read of the user's account: this is found in it; or no account has the name, or the word was kept from it
+abbrev pub FindsIn : {X : Type 0} → Type 0 → List ℕ → (X → Account → Type 0) → Result X Fault → Accounts → Type 0
+FindsIn Denied user Finds (Ok found) accounts = OfUser accounts user (Finds found)
+FindsIn Denied user Finds (Err fault) accounts = IsHindered ⊥ Denied fault ⊎ ((fault ≡ no_user) × IsFree user accounts)
+
+-- why nothing is shown: the word was kept from it, no account has the name, or what was asked for isn't there, which this fault tells
+abbrev pub HasNone : Type 0 → Type 0 → List ℕ → (Fault → Account → Type 0) → Fault → Accounts → Type 0
+HasNone Wrong Denied user Lacks fault accounts = IsHindered Wrong Denied fault ⊎ ((fault ≡ no_user) × IsFree user accounts) ⊎ OfUser accounts user (Lacks fault)
+
+-- the word over tables: it shows a part of the user's account
+abbrev pub DoesRead : Type 0 → Type 0 → List ℕ → (Account → List ℕ → Type 0) → (Fault → Account → Type 0) → Option (List ℕ) → Option (List ℕ) → Result (Unit {0}) Fault → Database → Database → Type 0
+DoesRead Wrong Denied user IsShown Lacks old new result = TurnsTables (Finishes (Shows user IsShown) (HasNone Wrong Denied user Lacks) old new result)
+
+-- a folder's name and the number of its messages, in a line
+abbrev pub folder_line : List ℕ × ℕ → List ℕ
+folder_line folder = folder.0 ++ (codes " " ++ decimal folder.1)
+
+-- the same after the folder's directory in a Maildir
+abbrev pub directory_line : Separator → List ℕ × ℕ → List ℕ
+directory_line separator folder = directory separator folder.0 ++ (codes " " ++ (decimal folder.1 ++ (codes " " ++ folder.0)))
+
+-- a line for each folder, in the order of their names
+abbrev pub folder_listing : (List ℕ × ℕ → List ℕ) → List (List ℕ × ℕ) → List ℕ
+folder_listing line folders = flat_map with_end (map line folders)
+
+-- `folders`
+abbrev pub ListsFolders : (List ℕ × ℕ → List ℕ) → Account → List ℕ → Type 0
+ListsFolders line a text = text ≡ folder_listing line (map size_of (entries a.folders))
+
+-- `folders --maildir`, where this separates the levels of folders
+abbrev pub ListsDirectories : Option (List ℕ) → Account → List ℕ → Type 0
+ListsDirectories levels a text = (separator : Separator) × IsSeparator levels separator × ListsFolders (directory_line separator) a text
+
+-- `queue`
+abbrev pub ListsQueue : Account → List ℕ → Type 0
+ListsQueue a text = text ≡ queue_listing (map head_of a.queue)
+
+-- `notices`
+abbrev pub ListsNotices : Account → List ℕ → Type 0
+ListsNotices a text = text ≡ notice_listing a.notices
+
+-- the message with this number, from 1, of the folder
+abbrev pub HasMessage : List ℕ → ℕ → Account → Option (List ℕ) → Type 0
+HasMessage folder zero a message = message ≡ None
+HasMessage folder (suc at) a message = message ≡ slice_get (messages_in a.folders folder) at
+
+-- `show`: the message with the number that these digits write
+abbrev pub ShowsMessage : List ℕ → List ℕ → Account → List ℕ → Type 0
+ShowsMessage folder digits a text = (number : ℕ) × Writes digits number × HasMessage folder number a (Some text)
+
+-- and there is none
+abbrev pub LacksMessage : List ℕ → List ℕ → Fault → Account → Type 0
+LacksMessage folder digits fault a = (fault ≡ NoMessage) × ((number : ℕ) × Writes digits number × HasMessage folder number a None)
+
+-- `queue` with a number: the octets of the message on its way out with the number that these digits write
+abbrev pub ShowsOutgoing : List ℕ → Account → List ℕ → Type 0
+ShowsOutgoing digits a text = (id : ℕ) × (row : _) × Writes digits id × (row_with id a.queue ≡ Some row) × (text ≡ row.message)
+
+-- and there is none
+abbrev pub LacksOutgoing : List ℕ → Fault → Account → Type 0
+LacksOutgoing digits fault a = (fault ≡ Refused NoRow) × ((id : ℕ) × Writes digits id × (row_with id a.queue ≡ None))
+
+-- nothing that is asked for can be missing
+abbrev pub LacksNothing : Fault → Account → Type 0
+LacksNothing fault a = ⊥
+
+-- ---- `init`
+
+-- where no table was there is a store without accounts then; after a fault only where memory or the output failed
+abbrev pub DoesInit : Type 0 → Option (List ℕ) → Option (List ℕ) → Result (Unit {0}) Fault → Database → Database → Type 0
+DoesInit Denied out_old out_new (Ok done) old new = (old.schema ≡ no_schema) × Presents new no_accounts × Appends out_old out_new (codes "ready\n")
+DoesInit Denied out_old out_new (Err fault) old new =
+    (IsHindered ⊥ Denied fault × (new ≡ old) × Keeps out_old out_new) ⊎ (IsFailure fault × (old.schema ≡ no_schema) × Presents new no_accounts × AppendsFront out_old out_new (codes "ready\n"))
+
+-- ---- the words
+
+-- the words ask for nothing that there is
+abbrev pub DoesNothing : Option (List ℕ) → Option (List ℕ) → Result (Unit {0}) Fault → Database → Database → Type 0
+DoesNothing out_old out_new result old new = (result ≡ Err BadArgument) × (new ≡ old) × Keeps out_old out_new
+
+-- `folders`: directories in a Maildir are shown where they are asked for, and only then may the separator of levels be said
+abbrev pub DoesFolders : Type 0 → Option (List ℕ) → Option (List ℕ) → List ℕ → Bool → Option (List ℕ) → Result (Unit {0}) Fault → Database → Database → Type 0
+DoesFolders Denied out_old out_new user true levels result = DoesRead (HasNoSeparator levels) Denied user (ListsDirectories levels) LacksNothing out_old out_new result
+DoesFolders Denied out_old out_new user false None result = DoesRead ⊥ Denied user (ListsFolders folder_line) LacksNothing out_old out_new result
+DoesFolders Denied out_old out_new user false (Some levels) result = DoesNothing out_old out_new result
+
+-- `queue`: all that is on its way out, or one message of it
+abbrev pub DoesQueue : Type 0 → Option (List ℕ) → Option (List ℕ) → List ℕ → Option (List ℕ) → Result (Unit {0}) Fault → Database → Database → Type 0
+DoesQueue Denied out_old out_new user None result = DoesRead ⊥ Denied user ListsQueue LacksNothing out_old out_new result
+DoesQueue Denied out_old out_new user (Some digits) result = DoesRead (IsNoNumber digits) Denied user (ShowsOutgoing digits) (LacksOutgoing digits) out_old out_new result
+
+-- a word that only reads; any other is refused
+abbrev pub Looks : Type 0 → Option (List ℕ) → Option (List ℕ) → Asked → Result (Unit {0}) Fault → Database → Database → Type 0
+Looks Denied out_old out_new (word.Folders place user directories levels) result = DoesFolders Denied out_old out_new user.now directories (option_copied levels) result
+Looks Denied out_old out_new (word.Show place user folder number) result =
+    DoesRead (IsNoNumber number.now) Denied user.now (ShowsMessage folder.now number.now) (LacksMessage folder.now number.now) out_old out_new result
+Looks Denied out_old out_new (word.Queue place user id) result = DoesQueue Denied out_old out_new user.now (option_copied id) result
+Looks Denied out_old out_new (word.Notices place user) result = DoesRead ⊥ Denied user.now ListsNotices LacksNothing out_old out_new result
+Looks Denied out_old out_new asked result = DoesNothing out_old out_new result
+
+-- whoever denies a store, the clock, what was read, whether a sink tells what it keeps and what that was and is, and the output before and after
+module _ (Denied : Type 0) (clock : Option ℕ) (given : Option (List ℕ)) (tells : Bool) (had has : List (List ℕ)) (out_old out_new : Option (List ℕ)) where
+  -- each word does its own work; only `init` makes a store, and only `drain` moves messages into the sink
+  abbrev pub Does : Asked → Result (Unit {0}) Fault → Database → Database → Type 0
+  Does (word.Init place) result old new = GrowsBy tells had has [] × DoesInit Denied out_old out_new result old new
+  Does (word.AddUser place salt name address) result old new =
+      GrowsBy tells had has [] × DoesEvent (IsNoSalt salt.now) Denied (Adds salt.now name.now address.now given) out_old out_new result old new
+  Does (word.Deliver place from to at user) result old new =
+      GrowsBy tells had has [] × DoesEvent (HasNoNumber (option_copied at)) Denied (Posts from.now to.now (option_copied at) user.now clock given) out_old out_new result old new
+  Does (word.Done place user id) result old new = GrowsBy tells had has [] × DoesEvent (IsNoNumber id.now) Denied (Dequeues user.now id.now) out_old out_new result old new
+  Does (word.Drain place most user folder maildir) result old new =
+      HasDrained Denied (record { most = most; user = user; folder = folder; maildir = maildir }) tells had has out_old out_new result old new
+  Does asked result old new = GrowsBy tells had has [] × Looks Denied out_old out_new asked result old new
+
+-- ---- a run of the program
+
+-- no table changed, and no message came to the sink
+abbrev pub Untouched : Bool → List (List ℕ) → List (List ℕ) → Database → Database → Type 0
+Untouched tells had has old new = GrowsBy tells had has [] × (new ≡ old)
+
+-- a script was tried; or a word did its work, and the status tells how it ended; or the words ask for nothing
+abbrev pub RunsAny : Type 0 → Option ℕ → Option (List ℕ) → Bool → List (List ℕ) → List (List ℕ) → Option (List ℕ) → Option (List ℕ) → Option (List ℕ) → Option (List ℕ) → ℕ → Database → Database → Type 0
+RunsAny Denied clock given tells had has out_old out_new err_old err_new status old new =
+    ((from : List ℕ) × (to : List ℕ) × Runs (envelope_with from to) given out_old out_new err_old err_new status × Untouched tells had has old new)
+    ⊎ ((asked : Asked) × (ending : Result (Unit {0}) Fault) × (status ≡ status_after ending) × Does Denied clock given tells had has out_old out_new asked ending old new)
+    ⊎ Untouched tells had has old new
