@@ -1,0 +1,212 @@
+#!/usr/bin/env python3
+"""Clicks in Roundcube over the program: 'Forwarding' with a copy that is kept, and 'Out of office' for a minute; then delivers messages.
+
+  tests/webmail.py [--sieved SIEVED] [TRIAL ..]       SIEVED: the program, crates/sieved/out/sieved where none is named
+
+Prints a line for each trial, a last one that counts them, and ends with 1 where one failed. `tests/run` runs it. It needs root and Debian's
+roundcube-core, roundcube-plugins, roundcube-sqlite3, php-cli, sqlite3, dovecot-imapd, chromium and chromium-driver, else its trials are left
+out. The lines of docs/OPERATING.md for Roundcube's plugin are those that it takes. All files are in a folder that goes with the trial.
+"""
+import json, os, re, shutil, subprocess, tempfile, time, urllib.request
+import managesieve, scripts, trials
+from contextlib import contextmanager, suppress
+from postfix import free_port, wait_for
+from proxy import block, listens
+
+ROUNDCUBE = "/usr/share/roundcube"
+ELEMENT = "element-6066-11e4-a52e-4f735466cecf"
+BROWSER = ["--headless=new", "--no-sandbox", "--disable-gpu", "--disable-dev-shm-usage", "--window-size=1300,1000"]
+DOVECOT = """
+base_dir = {room}/run
+state_dir = {room}/run
+log_path = {room}/logs/dovecot
+listen = 127.0.0.1
+protocols = imap
+ssl = no
+disable_plaintext_auth = no
+first_valid_uid = 1
+mail_location = maildir:{room}/mail/%u
+passdb {{
+  driver = static
+  args = password=secret
+}}
+userdb {{
+  driver = static
+  args = uid=nobody gid=nogroup home={room}/mail/%u
+}}
+service imap-login {{
+  inet_listener imap {{
+    port = {imap}
+  }}
+}}
+"""
+CONFIG = """<?php
+$config['db_dsnw'] = 'sqlite:///{room}/roundcube.db?mode=0640';
+$config['imap_host'] = '127.0.0.1:{imap}';
+$config['des_key'] = '0123456789abcdefghijklmn';
+$config['plugins'] = ['managesieve'];
+$config['log_dir'] = '{room}/logs/';
+$config['temp_dir'] = '{room}/temp/';
+"""
+MESSAGE = b"From: bob@example.net\nTo: alice@example.org\nSubject: Lunch\n\nHi\n"
+
+
+class Host:
+    """Roundcube before a Dovecot and a `sieved serve`, in which alice has an account."""
+
+    def __init__(self, room):
+        self.room, self.imap, self.web, self.driver = room, free_port(), free_port(), free_port()
+        self.sieve, self.file, self.begun = free_port(), f"{room}/mail.db", []
+        os.chmod(room, 0o755)
+        for name in "run", "mail", "logs", "temp", "conf":
+            os.mkdir(f"{room}/{name}")
+        shutil.chown(f"{room}/mail", "nobody", "nogroup")
+        self.write("dovecot.conf", DOVECOT.format(room=room, imap=self.imap))
+        plugin = block("$config['managesieve_mbox_encoding']", "With it `Größe`").replace("localhost:4190", f"127.0.0.1:{self.sieve}")
+        self.write("conf/config.inc.php", CONFIG.format(room=room, imap=self.imap) + plugin)
+        for name in "defaults.inc.php", "mimetypes.php":
+            shutil.copy(f"/etc/roundcube/{name}", f"{room}/conf/{name}")
+        with open(f"{ROUNDCUBE}/SQL/sqlite.initial.sql") as tables:
+            subprocess.run(["sqlite3", f"{room}/roundcube.db"], stdin=tables, check=True)
+        self.sieved("init")
+        self.sieved("adduser", "--salt", "00" * 16, "alice", "alice@example.org", text=managesieve.PASSWORD)
+
+    def write(self, name, text):
+        with open(f"{self.room}/{name}", "w") as file:
+            file.write(text)
+
+    def sieved(self, word, *words, text=b""):
+        done = subprocess.run([scripts.PROGRAM[0], word, "--db", self.file, *words], input=text, capture_output=True, timeout=60)
+        assert done.returncode == 0, done
+        return done.stdout.decode()
+
+    def begin(self, *command, **more):
+        self.begun.append(subprocess.Popen(command, stdin=subprocess.DEVNULL, stdout=subprocess.DEVNULL, stderr=subprocess.DEVNULL, **more))
+
+    def start(self):
+        self.begin("dovecot", "-F", "-c", f"{self.room}/dovecot.conf")
+        self.begin(scripts.PROGRAM[0], "serve", "--db", self.file, "--port", str(self.sieve))
+        self.begin("php", "-S", f"127.0.0.1:{self.web}", "-t", ROUNDCUBE, env={**os.environ, "ROUNDCUBE_CONFIG_DIR": f"{self.room}/conf/"})
+        self.begin("chromedriver", f"--port={self.driver}")
+        for port in self.imap, self.sieve, self.web, self.driver:
+            wait_for(lambda: listens(port), "a listener")
+
+    def stop(self):
+        for process in reversed(self.begun):
+            process.terminate()
+        for process in self.begun:
+            with suppress(subprocess.TimeoutExpired):
+                process.wait(20)
+
+
+class Browser:
+    """Chromium, driven by WebDriver (W3C)."""
+
+    def __init__(self, host):
+        self.base, self.web = f"http://127.0.0.1:{host.driver}/session", f"http://127.0.0.1:{host.web}/"
+        wanted = {"goog:chromeOptions": {"args": BROWSER, "binary": shutil.which("chromium")}}
+        self.base += "/" + self.ask("POST", "", {"capabilities": {"alwaysMatch": wanted}})["sessionId"]
+
+    def ask(self, method, path, body=None):
+        asked = urllib.request.Request(self.base + path, json.dumps(body).encode() if body is not None else None, {"Content-Type": "application/json"}, method=method)
+        with urllib.request.urlopen(asked, timeout=60) as answer:
+            return json.load(answer)["value"]
+
+    def open(self, page):
+        self.ask("POST", "/url", {"url": self.web + page})
+
+    def find(self, place):
+        """The element of a CSS selector, once it is there."""
+        found = []
+        wait_for(lambda: found.extend(self.ask("POST", "/elements", {"using": "css selector", "value": place})) or found, place, 20)
+        return "/element/" + found[0][ELEMENT]
+
+    def click(self, place):
+        self.ask("POST", f"{self.find(place)}/click", {})
+
+    def type(self, place, text):
+        self.ask("POST", f"{self.find(place)}/clear", {})
+        self.ask("POST", f"{self.find(place)}/value", {"text": text})
+
+    def said(self):
+        """What Roundcube says at the page's foot."""
+        return self.ask("POST", "/execute/sync", {"script": "return document.querySelector('#messagestack').innerText", "args": []})
+
+    def save(self):
+        self.click(".formbuttons button")
+        wait_for(lambda: "saved" in self.said(), "saved page", 20)
+
+    def choose(self, place, value):
+        self.click(f"{place} option[value='{value}']")
+
+
+@contextmanager
+def a_browser():
+    trials.need_root()
+    trials.need("php", "chromium", "chromedriver", "dovecot", "sqlite3")
+    if not os.path.isdir(f"{ROUNDCUBE}/plugins/managesieve") or not os.path.isdir("/usr/lib/dovecot"):
+        raise trials.LeftOut("no Roundcube")
+    with tempfile.TemporaryDirectory(prefix="sieved-webmail-") as room:
+        host = Host(room)
+        try:
+            host.start()
+            browser = Browser(host)
+            try:
+                yield host, browser
+            finally:
+                browser.ask("DELETE", "")
+        finally:
+            host.stop()
+
+
+def log_in(browser):
+    browser.open("")
+    browser.type("#rcmloginuser", "alice")
+    browser.type("#rcmloginpwd", "secret")
+    browser.click("#rcmloginsubmit")
+    browser.find("#messagelist, #messagelist-content")
+
+
+def deliver(host, moment):
+    said = host.sieved("deliver", "--wait", "--from", "bob@example.net", "--to", "alice@example.org", "--at", str(moment), "alice", text=MESSAGE)
+    return said.splitlines()
+
+
+def forward_a_copy(browser):
+    browser.open("?_task=settings&_action=plugin.managesieve-forward")
+    browser.choose("#forward_action", "copy")
+    browser.type("#action_target", "carol@example.com")
+    browser.choose("#forward_status", "on")
+    browser.save()
+
+
+def be_away_for_a_minute(browser):
+    browser.open("?_task=settings&_action=plugin.managesieve-vacation")
+    browser.type("#vacation_subject", "Away")
+    browser.type("#vacation_reason", "Back in May.")
+    browser.type("#vacation_interval", "60")
+    browser.choose("select[name='vacation_interval_type']", "seconds")
+    browser.choose("#vacation_status", "on")
+    browser.save()
+
+
+def forwarding_and_absence():
+    with a_browser() as (host, browser):
+        log_in(browser)
+        forward_a_copy(browser)
+        kept = ["file INBOX", "send carol@example.com"]
+        assert deliver(host, 1_600_000_000) == kept
+        be_away_for_a_minute(browser)
+        for moment, answer in (1_700_000_000, "sent"), (1_700_000_059, "quiet 9"), (1_700_000_060, "sent"):
+            assert deliver(host, moment) == [*kept, f"vacation {answer}"], moment
+        rows = [re.sub(r" \d+$", "", line) for line in host.sieved("queue", "--wait", "alice").splitlines()]
+        sent = "redirect <bob@example.net> <carol@example.com>"
+        assert rows == [f"1 {sent}", f"2 {sent}", "3 reply <> <bob@example.net>", f"4 {sent}", f"5 {sent}", "6 reply <> <bob@example.net>"], rows
+        assert host.sieved("folders", "--wait", "alice") == "INBOX 4\n"
+    return "a copy goes out and the message stays; one answer a minute"
+
+
+TRIALS = {trial.__name__: trial for trial in (forwarding_and_absence,)}
+
+if __name__ == "__main__":
+    trials.main(TRIALS, lambda program: scripts.PROGRAM.__setitem__(0, program))
