@@ -33,3 +33,4 @@ pub mod OpenLemmas
 pub mod ShowExamples
 pub mod NextExamples
 pub mod AccountExamples
+pub mod RefusalExamples

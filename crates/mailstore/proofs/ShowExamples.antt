@@ -1,5 +1,5 @@
 -- Examples of what tables show, and near misses.
-use Rattle.std.proofs.Common.{◌≡◌, ◌==◌, ℕ, pos, ◌<◌, ◌≤◌, false, cond, List, [], ◌∷◌, filter, map, length, codes, None, option_map, inl, inr, refl, sym, ap, ◌∙◌, arith}
+use Rattle.std.proofs.Common.{◌≡◌, ◌==◌, ℕ, pos, ◌<◌, ◌≤◌, false, cond, List, [], ◌∷◌, filter, map, length, codes, Option, Some, None, option_map, inl, inr, refl, sym, ap, ◌∙◌, arith}
 use Rattle.std.specs.FinMap.{empty, insert}
 use Rattle.std.specs.List.{AllByRecursion, find}
 use Rattle.std.proofs.lemmas.List.Elements.{recursion_from_All, All-from_recursion}
@@ -27,8 +27,9 @@ use Rattle.mailstore.specs.Taking.{copy_taken}
 use Rattle.mailstore.specs.MessageRows.{Message, message_row}
 use Rattle.mailtables.specs.MessageTable.{message_cells, message_tree}
 use Rattle.mailtables.specs.CopyTable.{copy_tree, n_column, copy_cells}
-use Rattle.mailstore.specs.CopyRows.{Copy, copy_row, folders_from, message_of, HasCopy, AreKept, ShowsCopies, is_in, leaving_of}
-use Rattle.mailstore.specs.Shows.{IsShown, IsAbsent, ShowsAccounts}
+use Rattle.mailstore.specs.CopyRows.{Copy, copy_row, folders_from, message_of, HasCopy, AreKept, ShowsCopies, is_in, leaving_of, numbered_of}
+use Rattle.mailstore.specs.Shows.{IsShown, IsAbsent, IsFirstOf, ShowsAccounts}
+use Rattle.mailstore.specs.declared.taking.NumberedMessage.{NumberedMessage}
 use Rattle.mailstore.proofs.NumberLemmas.{numbered_none}
 use Rattle.mailstore.proofs.OpenLemmas.{version_itself}
 use Rattle.mailstore.proofs.OrderLemmas.{messages_are}
@@ -97,6 +98,36 @@ rows_show_account = record {
     shown = refl;
   };
 }
+
+-- ---- the first message of a folder, with the number of its copy
+
+abbrev numbered : ℕ → List ℕ → Option NumberedMessage
+numbered n message = Some (record { number = n; message = message })
+
+first_of_inbox : option_map numbered_of (find (is_in (codes "INBOX")) (first ∷ second ∷ third ∷ [])) ≡ numbered 2 (codes "one")
+first_of_inbox = refl
+
+number_two : (n : ℕ) (message : List ℕ) → numbered n message ≡ numbered 2 (codes "one") → n ≡ 2
+number_two n message is = let both : Some n ≡ Some 2 = ap (option_map (λ (m : NumberedMessage). m.number)) is in cc
+
+below_two : (n : ℕ) (message : List ℕ) → n < 2 → numbered n message ≡ numbered 2 (codes "one") → ⊥
+below_two n message below is = let same : n ≡ 2 = number_two n message is in absurd (omega arith)
+
+above_two : (n : ℕ) (message : List ℕ) → 2 < n → numbered n message ≡ numbered 2 (codes "one") → ⊥
+above_two n message above is = let same : n ≡ 2 = number_two n message is in absurd (omega arith)
+
+-- near misses: it has no other number, not that of its message either, and it isn't the one after it
+not_unnumbered : IsFirstOf alice (codes "INBOX") (numbered 0 (codes "one")) (her_rows 4 her_messages (copy_row alice third ∷ copy_row alice first ∷ copy_row alice second ∷ [])) → ⊥
+unfolding rows_show_account
+not_unnumbered is = below_two 0 (codes "one") (omega arith) (is hers rows_show_account)
+
+not_by_its_message : IsFirstOf alice (codes "INBOX") (numbered 1 (codes "one")) (her_rows 4 her_messages (copy_row alice third ∷ copy_row alice first ∷ copy_row alice second ∷ [])) → ⊥
+unfolding rows_show_account
+not_by_its_message is = below_two 1 (codes "one") (omega arith) (is hers rows_show_account)
+
+not_the_next : IsFirstOf alice (codes "INBOX") (numbered 3 (codes "two")) (her_rows 4 her_messages (copy_row alice third ∷ copy_row alice first ∷ copy_row alice second ∷ [])) → ⊥
+unfolding rows_show_account
+not_the_next is = above_two 3 (codes "two") (omega arith) (is hers rows_show_account)
 
 -- the folder is the list in the order of the numbers
 messages_by_number : messages_in hers.folders (codes "INBOX") ≡ codes "one" ∷ codes "two" ∷ []
