@@ -56,7 +56,8 @@ pub fn run_init<W: Write, K: Keeper>(
     keeper: &mut K,
 ) -> Result<(), Fault>
     ensures back { K.is_out keeper.old ≡ false → K.is_out keeper.new ≡ false }
-    ensures does { IsTrue K.tells → DoesInit (HasDenied K.refuses place.entry.path.now) (W.contents output.old) (W.contents output.new) result (K.holds keeper.old) (K.holds keeper.new) }
+    ensures does { IsTrue K.tells → DoesInit (HasDenied K.refuses place.entry.path.now) (W.contents output.old) (W.contents output.new) result
+        (K.holds keeper.old) (K.holds keeper.new) }
 {
     let store = taken(place, true, keeper)?;
     keeper.hand_back(store);
