@@ -11,31 +11,31 @@ use Rattle.sievedrun.proofs.drain.move_first.Goals as goal
 pub returns-in-Err-clause-moves : goal.returns-in-Err-clause-moves
 returns-in-Err-clause-moves g c =
     not_read c.args.user.now c.args.folder.now g.T.MailSink.tells (g.T.MailSink.kept c.args.sink.now) (g.T.MailSink.kept c.args.sink.now) (state g.S.Store c.args.store.now) (state g.S.Store c.first_message.new.store) c.first_message.result
-    c.failure_of.result c.first_message.ensures.reads (grown_none g.T.MailSink.tells (g.T.MailSink.kept c.args.sink.now))
+    c.failure_of.result c.first_message.ensures.first.reads (grown_none g.T.MailSink.tells (g.T.MailSink.kept c.args.sink.now))
 
 pub returns-in_default-clause-moves : goal.returns-in_default-clause-moves
 returns-in_default-clause-moves g c =
     none_read c.args.user.now c.args.folder.now g.T.MailSink.tells (g.T.MailSink.kept c.args.sink.now) (g.T.MailSink.kept c.args.sink.now) (state g.S.Store c.args.store.now) (state g.S.Store c.first_message.new.store) c.first_message.result
-    c.in-Ok.first c.in-Ok.is c.first_message.ensures.reads c.in_default.is (grown_none g.T.MailSink.tells (g.T.MailSink.kept c.args.sink.now))
+    c.in-Ok.first c.in-Ok.is c.first_message.ensures.first.reads c.in_default.is (grown_none g.T.MailSink.tells (g.T.MailSink.kept c.args.sink.now))
 
 pub returns-in-Err-keep-clause-moves : goal.returns-in-Err-keep-clause-moves
 returns-in-Err-keep-clause-moves g c =
     not_kept c.args.user.now c.args.folder.now g.T.MailSink.tells (g.T.MailSink.kept c.args.sink.now) (g.T.MailSink.kept c.keep.new.self) (state g.S.Store c.args.store.now) (state g.S.Store c.first_message.new.store) c.first_message.result
-    c.in-Ok.first c.in-Ok.is c.first_message.ensures.reads c.in-Some.first c.in-Some.is c.unkept.result (λ told. subst (λ m. MayKeep (g.T.MailSink.kept c.args.sink.now) m (g.T.MailSink.kept c.keep.new.self)) c.as_slice.ensures (c.in-Err-keep.ensures.refused told))
+    c.in-Ok.first c.in-Ok.is c.first_message.ensures.first.reads c.in-Some.first c.in-Some.is c.unkept.result (λ told. subst (λ m. MayKeep (g.T.MailSink.kept c.args.sink.now) m (g.T.MailSink.kept c.keep.new.self)) c.as_slice.ensures (c.in-Err-keep.ensures.refused told))
 
 pub returns-in-Ok-take_mail-clause-moves : goal.returns-in-Ok-take_mail-clause-moves
 returns-in-Ok-take_mail-clause-moves g c =
     moved_one c.args.user.now c.args.folder.now g.T.MailSink.tells (g.T.MailSink.kept c.args.sink.now) (g.T.MailSink.kept c.keep.new.self) (state g.S.Store c.args.store.now) (state g.S.Store c.first_message.new.store) c.first_message.result
-    c.in-Ok.first c.in-Ok.is c.first_message.ensures.reads c.in-Some.first c.in-Some.is (state g.S.Store c.take_mail.new.self) c.take_mail.result c.take_mail.ensures.writes
-    (mail_written c.args.user.now c.args.folder.now (state g.S.Store c.args.store.now) (state g.S.Store c.first_message.new.store) c.first_message.result c.in-Ok.first c.in-Ok.is c.first_message.ensures c.in-Some.first c.in-Some.is
+    c.in-Ok.first c.in-Ok.is c.first_message.ensures.first.reads c.in-Some.first c.in-Some.is (state g.S.Store c.take_mail.new.self) c.take_mail.result c.take_mail.ensures.writes
+    (mail_written c.args.user.now c.args.folder.now (state g.S.Store c.args.store.now) (state g.S.Store c.first_message.new.store) c.first_message.result c.in-Ok.first c.in-Ok.is c.first_message.ensures.first c.in-Some.first c.in-Some.is
     (state g.S.Store c.take_mail.new.self) c.take_mail.result c.take_mail.ensures.writes c.take_mail.ensures.named)
     (λ told. c.in_default-keep.ensures.kept told ∙ ap (λ m. g.T.MailSink.kept c.args.sink.now ++ m ∷ []) c.as_slice.ensures) c.in-Ok-take_mail.field-0 c.in-Ok-take_mail.is
 
 pub returns-clause-moves : goal.returns-clause-moves
 returns-clause-moves g c =
     not_taken c.args.user.now c.args.folder.now g.T.MailSink.tells (g.T.MailSink.kept c.args.sink.now) (g.T.MailSink.kept c.keep.new.self) (state g.S.Store c.args.store.now) (state g.S.Store c.first_message.new.store) c.first_message.result
-    c.in-Ok.first c.in-Ok.is c.first_message.ensures.reads c.in-Some.first c.in-Some.is (state g.S.Store c.take_mail.new.self) c.take_mail.result c.take_mail.ensures.writes
-    (mail_written c.args.user.now c.args.folder.now (state g.S.Store c.args.store.now) (state g.S.Store c.first_message.new.store) c.first_message.result c.in-Ok.first c.in-Ok.is c.first_message.ensures c.in-Some.first c.in-Some.is
+    c.in-Ok.first c.in-Ok.is c.first_message.ensures.first.reads c.in-Some.first c.in-Some.is (state g.S.Store c.take_mail.new.self) c.take_mail.result c.take_mail.ensures.writes
+    (mail_written c.args.user.now c.args.folder.now (state g.S.Store c.args.store.now) (state g.S.Store c.first_message.new.store) c.first_message.result c.in-Ok.first c.in-Ok.is c.first_message.ensures.first c.in-Some.first c.in-Some.is
     (state g.S.Store c.take_mail.new.self) c.take_mail.result c.take_mail.ensures.writes c.take_mail.ensures.named)
     (λ told. c.in_default-keep.ensures.kept told ∙ ap (λ m. g.T.MailSink.kept c.args.sink.now ++ m ∷ []) c.as_slice.ensures) c.in-Err-take_mail.refusal (Refused c.in-Err-take_mail.refusal)
     c.in-Err-take_mail.is
