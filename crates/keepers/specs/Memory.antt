@@ -1,10 +1,12 @@
 -- What a keeper over memory holds.
-use Rattle.std.specs.Prelude.{Option, Some, None}
+use Rattle.std.specs.Prelude.{ℕ, ◌==◌, Option, Some, None, if◌then◌else◌}
 use Rattle.sqlite_trees.specs.Tree.{no_trees}
 use Rattle.sqlite_trees.specs.declared.memory.MemStore.{MemStore}
 use Rattle.sqlite.specs.Effect.{Database}
 use Rattle.sqlite.specs.Held.{Held, state}
 use Rattle.sqlite.specs.Steps.{over_memory}
+use Rattle.mailstore.specs.declared.refusal.Refusal.{Refusal}
+use Rattle.mailstore.specs.declared.refusal.Refusal.TheVariants.{Store}
 use Rattle.mailstore.specs.Schema.{no_schema}
 
 -- a database without tables
@@ -15,3 +17,8 @@ no_database = record { schema = no_schema; trees = no_trees }
 abbrev pub held_by : Option (Held MemStore) → Database
 held_by (Some held) = (state over_memory held).now
 held_by None = no_database
+
+-- what is told of the next close, of so many that come before the chosen one: that it failed, where it is the chosen one
+abbrev pub told_of_close : Option ℕ → Option Refusal
+told_of_close None = None
+told_of_close (Some calls) = if calls == 0 then Some Store else None

@@ -1,9 +1,10 @@
 //! A keeper over a file.
 ghost use Rattle.std.specs.Prelude.{◌≡◌, IfSome};
 ghost use Rattle.mailstore.specs.Refusals.{IsTransient};
+ghost use Rattle.keepers.specs.Closing.{WasAnswered, IsToldOf, IsToldOfClosing, code_at_end};
 
 use crate::cause::{of_file_of_store, of_lock, of_sqlite};
-use crate::keeper::{Held, Keeper, released, store_of};
+use crate::keeper::{Held, Keeper, release, store_of};
 use mailstore::{Refusal, Store};
 use sqlite::{Connection, Error, ErrorCode, File as Database, FileStore};
 use std::fs::{File, OpenOptions, TryLockError};
@@ -62,13 +63,14 @@ impl<'a> FileKeeper<'a> {
 
     /// Closes a store, and keeps what is known of a failure.
     fn close(&mut self, store: Store<FileStore<Database>>)
+        ensures told { IsToldOfClosing store self.new.unclosed }
         ensures named { IfSome self.new.unclosed IsTransient }
         ensures kept { self.new.lock ≡ self.old.lock }
     {
-        let (conn, said) = released(store);
-        let closed = conn.close();
-        self.cause = cause_at_end(said, &closed);
-        self.unclosed = closed.err().map(Refusal::from);
+        let (conn, said) = release(store);
+        let closed = close(conn);
+        self.cause = first_code(said, &closed).and_then(of_sqlite);
+        self.unclosed = unclosed_of(closed);
     }
 }
 
@@ -87,6 +89,8 @@ impl Keeper for FileKeeper<'_> {
     ghost is_out = { λ k. is_some k.lock };
 
     ghost unclosed = { λ k. k.unclosed };
+
+    ghost closes = { λ _ given told. IsToldOfClosing given told };
 
     fn wait_for_lock(&mut self, waits: bool) {
         self.waits = waits;
@@ -142,11 +146,31 @@ impl Keeper for FileKeeper<'_> {
     ghost sure = { λ held told. never_told told };
 }
 
-/// What is known of a failure: what SQLite said of the store's calls, or else of its closing.
-fn cause_at_end(said: Option<ErrorCode>, closed: &Result<(), Error>) -> Option<&'static str> {
+/// Closes the file of a connection. No other function says what SQLite answered to that.
+fn close(conn: Connection<FileStore<Database>>) -> Result<(), Error>
+    ensures { WasAnswered conn result }
+{
+    conn.close()
+}
+
+/// What is to be told of a file that was closed, or couldn't be.
+fn unclosed_of(closed: Result<(), Error>) -> Option<Refusal>
+    ensures told { IsToldOf closed result }
+    ensures named { IfSome result IsTransient }
+{
+    match closed {
+        Ok(()) => None,
+        Err(error) => Some(Refusal::from(error)),
+    }
+}
+
+/// What SQLite said of the store's calls, or else of its closing.
+fn first_code(said: Option<ErrorCode>, closed: &Result<(), Error>) -> Option<ErrorCode>
+    ensures { result ≡ code_at_end said closed.now }
+{
     match (said, closed) {
-        (Some(code), _) => of_sqlite(code),
-        (None, Err(Error::SqliteFailure(code))) => of_sqlite(*code),
+        (Some(code), _) => Some(code),
+        (None, Err(Error::SqliteFailure(code))) => Some(*code),
         _ => None,
     }
 }

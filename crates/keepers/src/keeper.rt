@@ -1,5 +1,5 @@
 //! What a keeper of a store promises.
-ghost use Rattle.std.specs.Prelude.{◌≡◌, ⊤, Bool, false, Option, None, is_some, IsTrue, IfOk, IfErr, IfSome, OnOk, OnErr};
+ghost use Rattle.std.specs.Prelude.{◌≡◌, ⊤, ℕ, Bool, false, List, Option, None, is_some, IsTrue, IfOk, IfErr, IfSome, OnOk, OnErr};
 ghost use Rattle.sqlite.specs.Effect.{Database};
 ghost use Rattle.sqlite.specs.Held as sqlite;
 ghost use Rattle.sqlite.specs.Held.{state};
@@ -54,8 +54,12 @@ pub trait Keeper {
     /// Why the store that was handed back last couldn't be closed, until that is asked for.
     ghost unclosed: { Self → Option Refusal };
 
-    /// What is so of a keeper that refused `lock` or `take`. Only their refusals say it, so who can say it of any keeper was refused.
-    ghost refuses: { Self → Type 0 } = { λ _. ⊤ };
+    /// What may be told of the closing of a store that this keeper takes back.
+    ghost closes: { Self → sqlite.Held Self.S → Option Refusal → Type 0 };
+
+    /// What is so of a keeper that refused the lock, which wasn't out, or the store at a path. Only the refusals of `lock` and `take` say
+    /// it, so who can say it of any keeper asked it for that path, and was refused.
+    ghost refuses: { Self → List ℕ → Type 0 } = { λ _ _. ⊤ };
 
     /// From now on a call of `lock` or `take` waits for a lock that another process has, or answers Busy.
     fn wait_for_lock(&mut self, waits: bool)
@@ -72,7 +76,7 @@ pub trait Keeper {
         ensures same { IsTrue tells → holds self.new ≡ holds self.old }
         ensures out { OnOk result (IsTrue (is_out self.new)) }
         ensures kept { OnErr result (is_out self.new ≡ is_out self.old) }
-        ensures denied { OnErr result (refuses self.old) }
+        ensures denied { OnErr result (is_out self.old ≡ false → refuses self.old path.now) }
         ensures closed { unclosed self.new ≡ unclosed self.old };
 
     /// Gives the lock back, under which no store is out.
@@ -93,7 +97,7 @@ pub trait Keeper {
         ensures refused { OnErr result (IsTrue tells → holds self.new ≡ holds self.old) }
         ensures out { OnOk result (IsTrue (is_out self.new)) }
         ensures kept { OnErr result (is_out self.new ≡ is_out self.old) }
-        ensures denied { OnErr result (refuses self.old) }
+        ensures denied { OnErr result (refuses self.old path.now) }
         ensures closed { unclosed self.new ≡ unclosed self.old };
 
     /// Takes the store back out of the place that it is given in, closes it, and gives the lock back. Where it can't be closed what was
@@ -103,12 +107,14 @@ pub trait Keeper {
         ensures held { IfSome store.old (λ given. IsTrue tells → holds self.new ≡ (state Self.S.Store given).now) }
         ensures back { is_out self.new ≡ false }
         ensures emptied { store.new ≡ None }
+        ensures told { IfSome store.old (λ given. closes self.old given (unclosed self.new)) }
         ensures named { IfSome (unclosed self.new) IsTransient };
 
     /// Hands a taken store back, as `put_back` does.
     final fn hand_back(&mut self, store: Store<Self::S>)
         ensures held { IsTrue tells → holds self.new ≡ (state Self.S.Store store).now }
         ensures back { is_out self.new ≡ false }
+        ensures told { closes self.old store (unclosed self.new) }
         ensures named { IfSome (unclosed self.new) IsTransient }
     {
         let mut given = Some(store);
@@ -153,7 +159,9 @@ pub(crate) fn store_of<S: Alter + Drop>(
 }
 
 /// The connection of a store, and what SQLite said of the last write that it refused.
-pub(crate) fn released<S: Alter>(store: Store<S>) -> (Connection<S>, Option<ErrorCode>) {
+pub(crate) fn release<S: Alter>(store: Store<S>) -> (Connection<S>, Option<ErrorCode>)
+    ensures { result.0 ≡ store }
+{
     let cause = store.cause();
     (store.release(), cause)
 }

@@ -1,5 +1,6 @@
 //! A keeper over memory, for tests.
 ghost use Rattle.std.specs.Prelude.{◌≡◌};
+ghost use Rattle.keepers.specs.Memory.{told_of_close};
 
 use crate::keeper::{Held, Keeper, store_of};
 use mailstore::{Refusal, Store};
@@ -60,6 +61,22 @@ impl MemoryKeeper {
         self.busy_after = calls.and_then(|calls| calls.checked_sub(1));
         calls == Some(0)
     }
+
+    /// Counts a store that is handed back, and notes whether it couldn't be closed.
+    fn note_close(&mut self)
+        ensures told { self.new.unclosed ≡ told_of_close self.old.unclosed_after }
+        ensures conn { self.new.conn ≡ self.old.conn }
+        ensures locked { self.new.locked ≡ self.old.locked }
+    {
+        self.unclosed = None;
+        let Some(calls) = self.unclosed_after else {
+            return;
+        };
+        self.unclosed_after = calls.checked_sub(1);
+        if calls == 0 {
+            self.unclosed = Some(Refusal::Store);
+        }
+    }
 }
 
 impl Keeper for MemoryKeeper {
@@ -76,6 +93,8 @@ impl Keeper for MemoryKeeper {
     ghost is_out = { λ k. k.locked };
 
     ghost unclosed = { λ k. k.unclosed };
+
+    ghost closes = { λ k _ told. told ≡ told_of_close k.unclosed_after };
 
     fn wait_for_lock(&mut self, _waits: bool) {}
 
@@ -115,9 +134,7 @@ impl Keeper for MemoryKeeper {
             self.conn = Some(store.release());
         }
         self.locked = false;
-        let calls = self.unclosed_after;
-        self.unclosed_after = calls.and_then(|calls| calls.checked_sub(1));
-        self.unclosed = (calls == Some(0)).then_some(Refusal::Store);
+        self.note_close();
     }
 
     fn take_close_error(&mut self) -> Option<Refusal> {

@@ -1,17 +1,17 @@
 -- Framing and rounds of a session by example: right ones, and what is near them.
 use Prim.Native.Nat.{zero}
-use Rattle.std.proofs.Common.{true, false, inl, inr, lit≤, suc, ◌<◌, get_or, refl, ◌≡◌, ℕ, List, [], ◌∷◌, ◌++◌, arith}
+use Rattle.std.proofs.Common.{true, false, inl, inr, lit≤, suc, ◌<◌, get_or, refl, ap, ◌≡◌, ℕ, List, [], ◌∷◌, ◌++◌, arith}
 use Rattle.std.specs.Prelude.{codes}
 use Rattle.octets.specs.Ascii.{is_digit}
 use Rattle.octets.specs.Decimal.{Writes, number_of}
 use Rattle.msproto.specs.Machine.{rows as machine_rows}
 use Rattle.mailstore.specs.Account.{no_accounts}
 use Rattle.sessions.specs.declared.progress.Progress.TheVariants.{Done}
-use Rattle.sessions.specs.Clients.{Client, new_client}
+use Rattle.sessions.specs.Clients.{Client, new_client, shut}
 use Rattle.sessions.specs.Replies.{done}
 use Rattle.sessions.specs.Refusing.{WasRefused}
 use Rattle.sievedrun.specs.Framing.{IsFramed}
-use Rattle.sievedrun.specs.Serving.{Round, Hears, Steps, GivesUp, Leads, came_in, said_in}
+use Rattle.sievedrun.specs.Serving.{Round, HasDenied, Hears, Steps, GivesUp, Leads, came_in, said_in}
 
 five-digits : (k d : ℕ) → k < 1 → is_digit (get_or (codes "5") k d) ≡ true
 five-digits zero d k<1 = refl
@@ -59,9 +59,9 @@ noop_rounds =
 noop : Leads ⊥ no_accounts new_client noop_rounds no_accounts new_client
 unfolding machine_rows
 noop = (
-  inl (record { waits = refl; short = lit≤ tt; silent = refl; joins = refl; same = refl }),
+  inl (record { live = refl; waits = refl; short = lit≤ tt; silent = refl; joins = refl; same = refl }),
   (
-    inl (record { waits = refl; short = lit≤ tt; silent = refl; joins = refl; same = refl }),
+    inl (record { live = refl; waits = refl; short = lit≤ tt; silent = refl; joins = refl; same = refl }),
     (inr (inl (record { ready = refl; none = refl; progress = Done; step = record { reply = done; replies = refl; spelled = refl; session = refl; goes_on = refl; changed = refl } })), (refl, refl)),
   ),
 )
@@ -90,3 +90,17 @@ noop_late r h = let waits : true ≡ false = h.waits in cc
 half_answered : (r : Round) → Steps no_accounts (after (codes "NOOP")) r → ⊥
 unfolding machine_rows
 half_answered r s = let ready : false ≡ true = s.ready in cc
+
+-- a session that is closed hears nothing, though nothing waits to be answered
+closed_hears : (r : Round) → Hears no_accounts (shut new_client) r → ⊥
+closed_hears r h = let live : true ≡ false = h.live in cc
+
+-- a denial at a path is none at another one
+abbrev RefusesA : ℕ → List ℕ → Type 0
+RefusesA keeper path = path ≡ codes "a.db"
+
+denied_there : HasDenied RefusesA (codes "a.db")
+denied_there = (0, refl)
+
+denied_elsewhere : HasDenied RefusesA (codes "b.db") → ⊥
+denied_elsewhere h = let first : 98 ≡ 97 = ap (λ l. get_or l 0 0) h.1 in absurd (omega (arith, first))

@@ -6,8 +6,7 @@ use Rattle.std.specs.Io.KnownBytes.{Appends, Consumes}
 use Rattle.sqlite.specs.Effect.{Database}
 use Rattle.sqlite.specs.State.{State, HasCleanDisk}
 use Rattle.mailstore.specs.Account.{Accounts}
-use Rattle.mailstore.specs.Schema.{mail_schema}
-use Rattle.mailstore.specs.Shows.{Presents}
+use Rattle.mailstore.specs.Shows.{Presents, Offers}
 use Rattle.mailstore.specs.declared.refusal.Refusal.{Refusal}
 use Rattle.sessions.specs.declared.progress.Progress.{Progress}
 use Rattle.sessions.specs.Acts.{Carries}
@@ -19,31 +18,38 @@ use Rattle.sessions.specs.Replies.{capabilities}
 use Rattle.msproto.specs.Machine.{rows}
 use Rattle.msproto.specs.Replies.{spelled}
 use Rattle.sievedrun.specs.declared.fault.Fault.{Fault}
-use Rattle.sievedrun.specs.Serving.{Round, HasDenied, Hinders, IsRound, Leads, came_in, said_in, largest_piece, BeginsWith, Passes, Answered, Writes, Interrupted, WritesFirst, StepsOn, Served, BreaksOff}
+use Rattle.sievedrun.specs.Serving.{Round, HasDenied, Hinders, IsRound, Leads, came_in, said_in, largest_piece, BeginsWith, Passes, Answered, Writes, Interrupted, WritesFirst, StepsOn, Served, BreaksOff, AreSeen, PresentsSeen, seen}
 use Rattle.sievedrun.specs.Streams.{AppendsFront}
 use Rattle.sievedrun.proofs.StreamLemmas.{nothing_read, nothing_written, read_on, written_on}
 
--- ---- a step over a store that saw what was held, where that had our schema, and was handed back, open and over a disk that keeps what is written
+-- ---- a step over a store that presents what was seen, open and over a disk that keeps what is written
 
-module _ (held new : Database) (taken given : State) (seen : held.schema ≡ mail_schema → taken.now ≡ held) (clean : HasCleanDisk given) (live : IsTrue given.is_open) (back : new ≡ given.now) (c d : Client) (before after : List ℕ) where
-  pub step_made : (progress : Progress) (r : Result Progress Refusal) → r ≡ Ok progress → Carries (StepsTo c d r before after) taken given → (accounts : Accounts) → Presents held accounts → StepsOn accounts c before after d new true
+module _ (Seen : Accounts → Type 0) (taken given : State) (opens : PresentsSeen Seen taken.now) (clean : HasCleanDisk given) (live : IsTrue given.is_open) (c d : Client) (before after : List ℕ) where
+  pub step_made : (progress : Progress) (r : Result Progress Refusal) → r ≡ Ok progress → Carries (StepsTo c d r before after) taken given → (accounts : Accounts) → Seen accounts → StepsOn accounts c before after d (Presents given.now) true
   step_made progress r is carries accounts shown =
-      let carried = carries clean accounts (λ _. subst (λ db. Presents db accounts) (sym (seen shown.1.is)) shown) in
+      let carried = carries clean accounts (λ _. opens accounts shown) in
       let turn = subst (λ x. StepsTo c d x before after accounts carried.0) is carried.1 in
-      (progress, turn.0, carried.0, turn.1, turn.2, subst (λ db. Presents db carried.0) (sym back) (carried.2 live))
+      (progress, turn.0, carried.0, turn.1, turn.2, carried.2 live)
 
-  pub step_refused : (refusal : Refusal) (r : Result Progress Refusal) → r ≡ Err refusal → Carries (StepsTo c d r before after) taken given → d ≡ c → after ≡ before → (accounts : Accounts) → Presents held accounts → StepsOn accounts c before after d new false
+  pub step_refused : (refusal : Refusal) (r : Result Progress Refusal) → r ≡ Err refusal → Carries (StepsTo c d r before after) taken given → d ≡ c → after ≡ before → (accounts : Accounts) → Seen accounts → StepsOn accounts c before after d (Presents given.now) false
   step_refused refusal r is carries same silent accounts shown =
-      let carried = carries clean accounts (λ _. subst (λ db. Presents db accounts) (sym (seen shown.1.is)) shown) in
+      let carried = carries clean accounts (λ _. opens accounts shown) in
       let turn : carried.0 ≡ accounts = subst (λ x. StepsTo c d x before after accounts carried.0) is carried.1 in
-      (same, silent, subst (λ db. Presents db accounts) (sym back) (subst (λ a. Presents given.now a) turn (carried.2 live)))
+      (same, silent, subst (λ a. Presents given.now a) turn (carried.2 live))
+
+-- ---- what is seen
+
+-- once it is given back it is offered
+pub offers_seen : {X : Type 0} (sees : X → Database) (held new : Database) (store : Option X) → new ≡ seen sees held store → (accounts : Accounts) → AreSeen sees held store accounts → Offers new accounts
+offers_seen sees held new None is accounts shown = subst (λ db. Offers db accounts) (sym is) shown
+offers_seen sees held new (Some store) is accounts shown = subst (λ db. Offers db accounts) (sym is) (shown.0, inl shown.1, shown.2)
 
 -- ---- why what comes first can't be answered
 
 -- the keeper denied its store
-pub denied_by : {X E K : Type 0} (refuses : K → Type 0) (keeper : K) (r : Result X E) → OnErr r (refuses keeper) → OnErr r (HasDenied refuses)
-denied_by refuses keeper (Ok x) denied = tt
-denied_by refuses keeper (Err e) denied = (keeper, denied)
+pub denied_by : {X E K : Type 0} (refuses : K → List ℕ → Type 0) (keeper : K) (path : List ℕ) (r : Result X E) → OnErr r (refuses keeper path) → OnErr r (HasDenied refuses path)
+denied_by refuses keeper path (Ok x) denied = tt
+denied_by refuses keeper path (Err e) denied = (keeper, denied)
 
 -- where that is so of a keeper that refused
 module _ (Denied : Type 0) where
@@ -53,14 +59,14 @@ module _ (Denied : Type 0) where
   leads_on accounts c [] more mid m later d here next = subst (λ a. Leads Denied a c more later d) here.0 (subst (λ x. Leads Denied mid x more later d) here.1 next)
   leads_on accounts c (r ∷ rounds) more mid m later d here next = (here.0, leads_on r.accounts r.client rounds more mid m later d here.1 next)
 
-  pub passes_on : (accounts : Accounts) (c m d : Client) (rounds more : List Round) (mid new : Database) (p : Passes Denied accounts c rounds m mid) → Passes Denied p.later m more d new → Passes Denied accounts c (rounds ++ more) d new
-  passes_on accounts c m d rounds more mid new p q = record { later = q.later; leads = leads_on accounts c rounds more p.later m q.later d p.leads q.leads; shown = q.shown }
+  pub passes_on : (accounts : Accounts) (c m d : Client) (rounds more : List Round) (Mid Shown : Accounts → Type 0) (p : Passes Denied accounts c rounds m Mid) → Passes Denied p.later m more d Shown → Passes Denied accounts c (rounds ++ more) d Shown
+  passes_on accounts c m d rounds more Mid Shown p q = record { later = q.later; leads = leads_on accounts c rounds more p.later m q.later d p.leads q.leads; shown = q.shown }
 
-  pub passes_none : (accounts : Accounts) (c : Client) (new : Database) → Presents new accounts → Passes Denied accounts c [] c new
-  passes_none accounts c new shown = record { later = accounts; leads = (refl, refl); shown = shown }
+  pub passes_none : (accounts : Accounts) (c : Client) (Shown : Accounts → Type 0) → Shown accounts → Passes Denied accounts c [] c Shown
+  passes_none accounts c Shown shown = record { later = accounts; leads = (refl, refl); shown = shown }
 
-  pub passes_one : (accounts : Accounts) (c : Client) (r : Round) (new : Database) → IsRound Denied accounts c r → Presents new r.accounts → Passes Denied accounts c (r ∷ []) r.client new
-  passes_one accounts c r new round shown = record { later = r.accounts; leads = (round, (refl, refl)); shown = shown }
+  pub passes_one : (accounts : Accounts) (c : Client) (r : Round) (Shown : Accounts → Type 0) → IsRound Denied accounts c r → Shown r.accounts → Passes Denied accounts c (r ∷ []) r.client Shown
+  passes_one accounts c r Shown round shown = record { later = r.accounts; leads = (round, (refl, refl)); shown = shown }
 
   -- ---- what is written
 
@@ -81,61 +87,71 @@ module _ (Denied : Type 0) where
 
   -- ---- what was answered, and waits
 
-  pub answered_none : (accounts : Accounts) (c : Client) (waits : List ℕ) (new : Database) → Presents new accounts → Answered Denied accounts c waits waits c new
-  answered_none accounts c waits new shown = record { rounds = []; passes = passes_none accounts c new shown; none = refl; joins = sym (append-nil waits) }
+  pub answered_none : (accounts : Accounts) (c : Client) (waits : List ℕ) (Shown : Accounts → Type 0) → Shown accounts → Answered Denied accounts c waits waits c Shown
+  answered_none accounts c waits Shown shown = record { rounds = []; passes = passes_none accounts c Shown shown; none = refl; joins = sym (append-nil waits) }
 
-  pub answered_on : (accounts : Accounts) (c m d : Client) (waits waits2 waits3 : List ℕ) (mid new : Database) → Answered Denied accounts c waits waits2 m mid
-      → ((a : Accounts) → Presents mid a → Answered Denied a m waits2 waits3 d new) → Answered Denied accounts c waits waits3 d new
-  answered_on accounts c m d waits waits2 waits3 mid new first then =
+  pub answered_on : (accounts : Accounts) (c m d : Client) (waits waits2 waits3 : List ℕ) (Mid Shown : Accounts → Type 0) → Answered Denied accounts c waits waits2 m Mid
+      → ((a : Accounts) → Mid a → Answered Denied a m waits2 waits3 d Shown) → Answered Denied accounts c waits waits3 d Shown
+  answered_on accounts c m d waits waits2 waits3 Mid Shown first then =
       let second = then first.passes.later first.passes.shown in
       record {
         rounds = first.rounds ++ second.rounds;
-        passes = passes_on accounts c m d first.rounds second.rounds mid new first.passes second.passes;
+        passes = passes_on accounts c m d first.rounds second.rounds Mid Shown first.passes second.passes;
         none = came_on first.rounds second.rounds first.none second.none;
         joins = second.joins ∙ ap (λ l. l ++ said_in second.rounds) first.joins ∙ append_assoc waits (said_in first.rounds) (said_in second.rounds) ∙ ap (λ l. waits ++ l) (sym (said_on first.rounds second.rounds));
       }
 
   -- a step answers what comes first
-  pub first_stepped : (accounts : Accounts) (c d : Client) (waits waits2 : List ℕ) (new : Database) → is_ready c ≡ true → StepsOn accounts c waits waits2 d new true → Answered Denied accounts c waits waits2 d new
-  first_stepped accounts c d waits waits2 new ready step =
+  pub first_stepped : (accounts : Accounts) (c d : Client) (waits waits2 : List ℕ) (Shown : Accounts → Type 0) → is_ready c ≡ true → StepsOn accounts c waits waits2 d Shown true → Answered Denied accounts c waits waits2 d Shown
+  first_stepped accounts c d waits waits2 Shown ready step =
       let r : Round = record { came = []; said = step.1; accounts = step.2; client = d } in
       record {
         rounds = r ∷ [];
-        passes = passes_one accounts c r new (inr (inl (record { ready = ready; none = refl; progress = step.0; step = step.4 }))) step.5;
+        passes = passes_one accounts c r Shown (inr (inl (record { ready = ready; none = refl; progress = step.0; step = step.4 }))) step.5;
         none = refl;
         joins = step.3 ∙ ap (λ l. waits ++ l) (sym (append-nil step.1));
       }
 
   -- or nothing changed
-  pub step_answers : (accounts : Accounts) (c d : Client) (waits waits2 : List ℕ) (new : Database) (made : Bool) → is_ready c ≡ true → StepsOn accounts c waits waits2 d new made → Answered Denied accounts c waits waits2 d new
-  step_answers accounts c d waits waits2 new true ready step = first_stepped accounts c d waits waits2 new ready step
-  step_answers accounts c d waits waits2 new false ready (same, silent, shown) =
-      subst (λ x. Answered Denied accounts c waits waits2 x new) (sym same) (subst (λ w. Answered Denied accounts c waits w c new) (sym silent) (answered_none accounts c waits new shown))
+  pub step_answers : (accounts : Accounts) (c d : Client) (waits waits2 : List ℕ) (Shown : Accounts → Type 0) (made : Bool) → is_ready c ≡ true → StepsOn accounts c waits waits2 d Shown made → Answered Denied accounts c waits waits2 d Shown
+  step_answers accounts c d waits waits2 Shown true ready step = first_stepped accounts c d waits waits2 Shown ready step
+  step_answers accounts c d waits waits2 Shown false ready (same, silent, shown) =
+      subst (λ x. Answered Denied accounts c waits waits2 x Shown) (sym same) (subst (λ w. Answered Denied accounts c waits w c Shown) (sym silent) (answered_none accounts c waits Shown shown))
+
+  -- what was seen is given back
+  pub answered_back : {X : Type 0} (sees : X → Database) (held new : Database) (store : Option X) → new ≡ seen sees held store → (accounts : Accounts) (c d : Client) (waits waits2 : List ℕ)
+      → Answered Denied accounts c waits waits2 d (AreSeen sees held store) → Answered Denied accounts c waits waits2 d (Offers new)
+  answered_back sees held new store is accounts c d waits waits2 a = record {
+    rounds = a.rounds;
+    passes = record { later = a.passes.later; leads = a.passes.leads; shown = offers_seen sees held new store is a.passes.later a.passes.shown };
+    none = a.none;
+    joins = a.joins;
+  }
 
   -- ---- what was answered and written
 
-  pub writes_none : (accounts : Accounts) (c : Client) (out : Option (List ℕ)) (new : Database) → Presents new accounts → Writes Denied accounts c out out c new
-  writes_none accounts c out new shown = record { rounds = []; passes = passes_none accounts c new shown; none = refl; written = nothing_written out }
+  pub writes_none : (accounts : Accounts) (c : Client) (out : Option (List ℕ)) (new : Database) → Offers new accounts → Writes Denied accounts c out out c new
+  writes_none accounts c out new shown = record { rounds = []; passes = passes_none accounts c (Offers new) shown; none = refl; written = nothing_written out }
 
   pub writes_on : (accounts : Accounts) (c m d : Client) (out out2 out3 : Option (List ℕ)) (mid new : Database) → Writes Denied accounts c out out2 m mid
-      → ((a : Accounts) → Presents mid a → Writes Denied a m out2 out3 d new) → Writes Denied accounts c out out3 d new
+      → ((a : Accounts) → Offers mid a → Writes Denied a m out2 out3 d new) → Writes Denied accounts c out out3 d new
   writes_on accounts c m d out out2 out3 mid new first then =
       let second = then first.passes.later first.passes.shown in
       record {
         rounds = first.rounds ++ second.rounds;
-        passes = passes_on accounts c m d first.rounds second.rounds mid new first.passes second.passes;
+        passes = passes_on accounts c m d first.rounds second.rounds (Offers mid) (Offers new) first.passes second.passes;
         none = came_on first.rounds second.rounds first.none second.none;
         written = subst (Appends out out3) (sym (said_on first.rounds second.rounds)) (written_on out out2 out3 (said_in first.rounds) (said_in second.rounds) first.written second.written);
       }
 
   pub interrupted_on : (accounts : Accounts) (c m : Client) (out out2 out3 : Option (List ℕ)) (mid new : Database) → Writes Denied accounts c out out2 m mid
-      → ((a : Accounts) → Presents mid a → Interrupted Denied a m out2 out3 new) → Interrupted Denied accounts c out out3 new
+      → ((a : Accounts) → Offers mid a → Interrupted Denied a m out2 out3 new) → Interrupted Denied accounts c out out3 new
   interrupted_on accounts c m out out2 out3 mid new first then =
       let second = then first.passes.later first.passes.shown in
       record {
         rounds = first.rounds ++ second.rounds;
         client = second.client;
-        passes = passes_on accounts c m second.client first.rounds second.rounds mid new first.passes second.passes;
+        passes = passes_on accounts c m second.client first.rounds second.rounds (Offers mid) (Offers new) first.passes second.passes;
         none = came_on first.rounds second.rounds first.none second.none;
         written = subst (AppendsFront out out3) (sym (said_on first.rounds second.rounds)) (front_on out out2 out3 (said_in first.rounds) (said_in second.rounds) first.written second.written);
       }
@@ -153,19 +169,19 @@ module _ (Denied : Type 0) where
   -- ---- what comes first
 
   -- the answers are written, or that fails
-  pub first_written : (accounts : Accounts) (c d : Client) (out out2 : Option (List ℕ)) (waits : List ℕ) (new : Database) → Answered Denied accounts c [] waits d new
+  pub first_written : (accounts : Accounts) (c d : Client) (out out2 : Option (List ℕ)) (waits : List ℕ) (new : Database) → Answered Denied accounts c [] waits d (Offers new)
       → (r : Result (Unit {0}) Fault) → OnOk r (Appends out out2 waits) → OnErr r (AppendsFront out out2 waits) → WritesFirst Denied accounts c out out2 d new r
   first_written accounts c d out out2 waits new a (Ok done) whole broken = record { rounds = a.rounds; passes = a.passes; none = a.none; written = subst (Appends out out2) a.joins whole }
   first_written accounts c d out out2 waits new a (Err fault) whole broken = record { rounds = a.rounds; client = d; passes = a.passes; none = a.none; written = subst (AppendsFront out out2) a.joins broken }
 
   -- it is given up, or that can't be written
-  pub first_given_up : (accounts : Accounts) (c d : Client) (out out2 : Option (List ℕ)) (text : List ℕ) (new : Database) → is_ready c ≡ true → Hinders Denied c → Presents new accounts → text ≡ text_given_up c → d ≡ client_given_up c
+  pub first_given_up : (accounts : Accounts) (c d : Client) (out out2 : Option (List ℕ)) (text : List ℕ) (new : Database) → is_ready c ≡ true → Hinders Denied c → Offers new accounts → text ≡ text_given_up c → d ≡ client_given_up c
       → (r : Result (Unit {0}) Fault) → OnOk r (Appends out out2 text) → OnErr r (AppendsFront out out2 text) → WritesFirst Denied accounts c out out2 d new r
   first_given_up accounts c d out out2 text new ready cause shown told drops (Ok done) whole broken =
       let r : Round = record { came = []; said = text; accounts = accounts; client = d } in
       record {
         rounds = r ∷ [];
-        passes = passes_one accounts c r new (inr (inr (record { ready = ready; none = refl; cause = cause; told = told; drops = drops; same = refl }))) shown;
+        passes = passes_one accounts c r (Offers new) (inr (inr (record { ready = ready; none = refl; cause = cause; told = told; drops = drops; same = refl }))) shown;
         none = refl;
         written = subst (Appends out out2) (sym (append-nil text)) whole;
       }
@@ -174,20 +190,20 @@ module _ (Denied : Type 0) where
       record {
         rounds = r ∷ [];
         client = d;
-        passes = passes_one accounts c r new (inr (inr (record { ready = ready; none = refl; cause = cause; told = told; drops = drops; same = refl }))) shown;
+        passes = passes_one accounts c r (Offers new) (inr (inr (record { ready = ready; none = refl; cause = cause; told = told; drops = drops; same = refl }))) shown;
         none = refl;
         written = subst (AppendsFront out out2) (sym (append-nil text)) broken;
       }
 
   -- what comes first is answered, or breaks off, after what was answered
   pub first_on : (accounts : Accounts) (c m d : Client) (out out2 out3 : Option (List ℕ)) (mid new : Database) → Writes Denied accounts c out out2 m mid
-      → (r : Result (Unit {0}) Fault) → ((a : Accounts) → Presents mid a → WritesFirst Denied a m out2 out3 d new r) → WritesFirst Denied accounts c out out3 d new r
+      → (r : Result (Unit {0}) Fault) → ((a : Accounts) → Offers mid a → WritesFirst Denied a m out2 out3 d new r) → WritesFirst Denied accounts c out out3 d new r
   first_on accounts c m d out out2 out3 mid new first (Ok done) then = writes_on accounts c m d out out2 out3 mid new first then
   first_on accounts c m d out out2 out3 mid new first (Err fault) then = interrupted_on accounts c m out out2 out3 mid new first then
 
   -- a step that asks no store answers it
-  pub free_stepped : (c d : Client) (progress : Progress) (waits waits2 : List ℕ) (new : Database) → StepsOver c d progress waits waits2 → (accounts : Accounts) → Presents new accounts → StepsOn accounts c waits waits2 d new true
-  free_stepped c d progress waits waits2 new over accounts shown = (progress, over.octets, accounts, over.written, over.step accounts, shown)
+  pub free_stepped : (c d : Client) (progress : Progress) (waits waits2 : List ℕ) (Shown : Accounts → Type 0) → StepsOver c d progress waits waits2 → (accounts : Accounts) → Shown accounts → StepsOn accounts c waits waits2 d Shown true
+  free_stepped c d progress waits waits2 Shown over accounts shown = (progress, over.octets, accounts, over.written, over.step accounts, shown)
 
   -- what was taken off a reader stood first
   pub begins_with : (old new : Option (List ℕ)) (text : List ℕ) → Consumes old new text → BeginsWith old text
@@ -198,23 +214,23 @@ module _ (Denied : Type 0) where
   -- ---- a whole session
 
   -- the greeting is written
-  pub served_first : (accounts : Accounts) (input out out2 : Option (List ℕ)) (c : Client) (greeting : List ℕ) (new : Database) → Presents new accounts → c ≡ new_client → greeting ≡ spelled (capabilities None) → Appends out out2 greeting
+  pub served_first : (accounts : Accounts) (input out out2 : Option (List ℕ)) (c : Client) (greeting : List ℕ) (new : Database) → Offers new accounts → c ≡ new_client → greeting ≡ spelled (capabilities None) → Appends out out2 greeting
       → Served Denied accounts input input out out2 c new
   unfolding rows
   served_first accounts input out out2 c greeting new shown is told written = record {
     rounds = [];
-    passes = subst (λ x. Passes Denied accounts new_client [] x new) (sym is) (passes_none accounts new_client new shown);
+    passes = subst (λ x. Passes Denied accounts new_client [] x (Offers new)) (sym is) (passes_none accounts new_client (Offers new) shown);
     read = nothing_read input;
     written = subst (Appends out out2) (told ∙ sym (append-nil (spelled (capabilities None)))) written;
     answered = subst (λ x. is_ready x ≡ false) (sym is) refl;
   }
 
   -- a front of it is written, or none
-  pub broken_first : (accounts : Accounts) (input out out2 : Option (List ℕ)) (greeting : List ℕ) (new : Database) → Presents new accounts → greeting ≡ spelled (capabilities None) → AppendsFront out out2 greeting → BreaksOff Denied accounts input out out2 new
+  pub broken_first : (accounts : Accounts) (input out out2 : Option (List ℕ)) (greeting : List ℕ) (new : Database) → Offers new accounts → greeting ≡ spelled (capabilities None) → AppendsFront out out2 greeting → BreaksOff Denied accounts input out out2 new
   broken_first accounts input out out2 greeting new shown told front = record {
     rounds = [];
     client = new_client;
-    passes = passes_none accounts new_client new shown;
+    passes = passes_none accounts new_client (Offers new) shown;
     read = begins_with input input [] (nothing_read input);
     written = subst (AppendsFront out out2) (told ∙ sym (append-nil (spelled (capabilities None)))) front;
   }
@@ -241,12 +257,12 @@ module _ (Denied : Type 0) where
 
   -- a piece came, and all that is whole was answered
   module _ (accounts : Accounts) (in_old in_mid in_new out out2 out3 : Option (List ℕ)) (piece : List ℕ) (c m d : Client) (mid new : Database) (s : Served Denied accounts in_old in_mid out out2 c mid)
-      (took : Consumes in_mid in_new piece) (short : length piece ≤ largest_piece) (joins : m ≡ client_given piece c) where
+      (took : Consumes in_mid in_new piece) (live : c.closed ≡ false) (short : length piece ≤ largest_piece) (joins : m ≡ client_given piece c) where
     abbrev heard : Round
     heard = record { came = piece; said = []; accounts = s.passes.later; client = m }
 
-    came : Passes Denied accounts new_client (s.rounds ++ heard ∷ []) m mid
-    came = passes_on accounts new_client c m s.rounds (heard ∷ []) mid mid s.passes (passes_one s.passes.later c heard mid (inl (record { waits = s.answered; short = short; silent = refl; joins = joins; same = refl })) s.passes.shown)
+    came : Passes Denied accounts new_client (s.rounds ++ heard ∷ []) m (Offers mid)
+    came = passes_on accounts new_client c m s.rounds (heard ∷ []) (Offers mid) (Offers mid) s.passes (passes_one s.passes.later c heard (Offers mid) (inl (record { live = live; waits = s.answered; short = short; silent = refl; joins = joins; same = refl })) s.passes.shown)
 
     came_with : (more : List Round) → came_in more ≡ [] → came_in s.rounds ++ piece ≡ came_in ((s.rounds ++ heard ∷ []) ++ more)
     came_with more none =
@@ -260,24 +276,24 @@ module _ (Denied : Type 0) where
         let inner = flat_map-append (λ (r : Round). r.said) s.rounds (heard ∷ []) in
         append_assoc (spelled (capabilities None)) (said_in s.rounds) (said_in more) ∙ ap (λ l. spelled (capabilities None) ++ l) (sym (outer ∙ ap (λ l. l ++ said_in more) (inner ∙ append-nil (said_in s.rounds))))
 
-    pub served_on : ((a : Accounts) → Presents mid a → Writes Denied a m out2 out3 d new × (is_ready d ≡ false)) → Served Denied accounts in_old in_new out out3 d new
+    pub served_on : ((a : Accounts) → Offers mid a → Writes Denied a m out2 out3 d new × (is_ready d ≡ false)) → Served Denied accounts in_old in_new out out3 d new
     served_on then =
         let (more, idle) = then came.later came.shown in
         record {
           rounds = (s.rounds ++ heard ∷ []) ++ more.rounds;
-          passes = passes_on accounts new_client m d (s.rounds ++ heard ∷ []) more.rounds mid new came more.passes;
+          passes = passes_on accounts new_client m d (s.rounds ++ heard ∷ []) more.rounds (Offers mid) (Offers new) came more.passes;
           read = subst (Consumes in_old in_new) (came_with more.rounds more.none) (read_on in_old in_mid in_new (came_in s.rounds) piece s.read took);
           written = subst (Appends out out3) (said_with more.rounds) (written_on out out2 out3 (spelled (capabilities None) ++ said_in s.rounds) (said_in more.rounds) s.written more.written);
           answered = idle;
         }
 
-    pub broken_on : ((a : Accounts) → Presents mid a → Interrupted Denied a m out2 out3 new) → BreaksOff Denied accounts in_old out out3 new
+    pub broken_on : ((a : Accounts) → Offers mid a → Interrupted Denied a m out2 out3 new) → BreaksOff Denied accounts in_old out out3 new
     broken_on then =
         let more = then came.later came.shown in
         record {
           rounds = (s.rounds ++ heard ∷ []) ++ more.rounds;
           client = more.client;
-          passes = passes_on accounts new_client m more.client (s.rounds ++ heard ∷ []) more.rounds mid new came more.passes;
+          passes = passes_on accounts new_client m more.client (s.rounds ++ heard ∷ []) more.rounds (Offers mid) (Offers new) came more.passes;
           read = begins_with in_old in_new (came_in ((s.rounds ++ heard ∷ []) ++ more.rounds)) (subst (Consumes in_old in_new) (came_with more.rounds more.none) (read_on in_old in_mid in_new (came_in s.rounds) piece s.read took));
           written = subst (AppendsFront out out3) (said_with more.rounds) (front_on out out2 out3 (spelled (capabilities None) ++ said_in s.rounds) (said_in more.rounds) s.written more.written);
         }

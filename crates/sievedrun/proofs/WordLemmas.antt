@@ -436,7 +436,7 @@ pub nothing_done : (out : Option (List ℕ)) (held : Database) → DoesNothing o
 nothing_done out held = (refl, refl, kept_same out)
 
 -- another word than those that write only reads
-pub looks_done : (Denied : Type 0) (clock : Option ℕ) (given : Option (List ℕ)) (tells : Bool) (had has : List (List ℕ)) (old out : Option (List ℕ)) (asked : Asked) (r : Result (Unit {0}) Fault) (held new : Database)
+pub looks_done : (Denied : List ℕ → Type 0) (clock : Option ℕ) (given : Option (List ℕ)) (tells : Bool) (had has : List (List ℕ)) (old out : Option (List ℕ)) (asked : Asked) (r : Result (Unit {0}) Fault) (held new : Database)
     → ((place : _) → asked ≡ word.Init place → ⊥) → ((place : _) (salt : _) (name : _) (address : _) → asked ≡ word.AddUser place salt name address → ⊥)
     → ((place : _) (from : _) (to : _) (at : _) (user : _) → asked ≡ word.Deliver place from to at user → ⊥) → ((place : _) (user : _) (id : _) → asked ≡ word.Done place user id → ⊥)
     → ((place : _) (most : _) (user : _) (folder : _) (maildir : _) → asked ≡ word.Drain place most user folder maildir → ⊥)
@@ -455,7 +455,7 @@ looks_done Denied clock given tells had has old out (word.Serve place port sessi
 looks_done Denied clock given tells had has old out (word.Session place) r held new i a p q d same looks = (same, looks)
 
 -- a word that is none of those that read is refused
-pub none_looked : (Denied : Type 0) (out : Option (List ℕ)) (asked : Asked) (held : Database)
+pub none_looked : (Denied : List ℕ → Type 0) (out : Option (List ℕ)) (asked : Asked) (held : Database)
     → ((place : _) (user : _) (directories : _) (levels : _) → asked ≡ word.Folders place user directories levels → ⊥) → ((place : _) (user : _) (folder : _) (number : _) → asked ≡ word.Show place user folder number → ⊥)
     → ((place : _) (user : _) (id : _) → asked ≡ word.Queue place user id → ⊥) → ((place : _) (user : _) → asked ≡ word.Notices place user → ⊥) → Looks Denied out out asked (Err BadArgument) held held
 none_looked Denied out (word.Folders place user directories levels) held f s q n = absurd (f place user directories levels refl)

@@ -6,8 +6,7 @@ use Rattle.sqlite.specs.Effect.{Database}
 use Rattle.msproto.specs.Replies.{spelled}
 use Rattle.mailstore.specs.Account.{Accounts}
 use Rattle.mailstore.specs.Schema.{no_schema}
-use Rattle.mailstore.specs.Schema.{mail_schema}
-use Rattle.mailstore.specs.Shows.{Presents}
+use Rattle.mailstore.specs.Shows.{Presents, Offers}
 use Rattle.sessions.specs.declared.progress.Progress.{Progress}
 use Rattle.sessions.specs.Clients.{Client, new_client, client_given, is_ready}
 use Rattle.sessions.specs.GivenUp.{text_given_up, client_given_up}
@@ -28,8 +27,9 @@ pub record Round : Type 0 where
   pub accounts : Accounts
   pub client : Client
 
--- a piece came while nothing was to be answered
+-- a piece came to a session that isn't closed, while nothing was to be answered
 pub record Hears (accounts : Accounts) (c : Client) (r : Round) : Type 0 where
+  pub live : c.closed ≡ false
   pub waits : is_ready c ≡ false
   pub short : length r.came ≤ largest_piece
   pub silent : r.said ≡ []
@@ -43,9 +43,9 @@ pub record Steps (accounts : Accounts) (c : Client) (r : Round) : Type 0 where
   pub progress : Progress
   pub step : IsStep accounts c progress r.said r.client r.accounts
 
--- a keeper refused the lock or its store: what is so of one that did is so of some keeper
-abbrev pub HasDenied : {K : Type 0} → (K → Type 0) → Type 0
-HasDenied refuses = (keeper : _) × refuses keeper
+-- a keeper refused the lock, which wasn't out, or its store at this path: what is so of one that did is so of some keeper
+abbrev pub HasDenied : {K : Type 0} → (K → List ℕ → Type 0) → List ℕ → Type 0
+HasDenied refuses path = (keeper : _) × refuses keeper path
 
 -- why what comes first can't be answered: the lock or the store was denied, or its step was refused
 abbrev pub Hinders : Type 0 → Client → Type 0
@@ -80,23 +80,23 @@ abbrev pub BeginsWith : Option (List ℕ) → List ℕ → Type 0
 BeginsWith None text = Unit {0}
 BeginsWith (Some left) text = (rest : List ℕ) × (left ≡ text ++ rest)
 
--- rounds lead from accounts and a client to these, which the tables show
-pub record Passes (Denied : Type 0) (accounts : Accounts) (c : Client) (rounds : List Round) (d : Client) (new : Database) : Type 0 where
+-- rounds lead from accounts and a client to these, and the accounts are shown so
+pub record Passes (Denied : Type 0) (accounts : Accounts) (c : Client) (rounds : List Round) (d : Client) (Shown : Accounts → Type 0) : Type 0 where
   pub later : Accounts
   pub leads : Leads Denied accounts c rounds later d
-  pub shown : Presents new later
+  pub shown : Shown later
 
 -- rounds in which nothing came led here: what waits to be written grew by what was said
-pub record Answered (Denied : Type 0) (accounts : Accounts) (c : Client) (waited waits : List ℕ) (d : Client) (new : Database) : Type 0 where
+pub record Answered (Denied : Type 0) (accounts : Accounts) (c : Client) (waited waits : List ℕ) (d : Client) (Shown : Accounts → Type 0) : Type 0 where
   pub rounds : List Round
-  pub passes : Passes Denied accounts c rounds d new
+  pub passes : Passes Denied accounts c rounds d Shown
   pub none : came_in rounds ≡ []
   pub joins : waits ≡ waited ++ said_in rounds
 
--- the same, and what was said is written
+-- rounds in which nothing came led here, the tables offer the accounts, and what was said is written
 pub record Writes (Denied : Type 0) (accounts : Accounts) (c : Client) (out_old out_new : Option (List ℕ)) (d : Client) (new : Database) : Type 0 where
   pub rounds : List Round
-  pub passes : Passes Denied accounts c rounds d new
+  pub passes : Passes Denied accounts c rounds d (Offers new)
   pub none : came_in rounds ≡ []
   pub written : Appends out_old out_new (said_in rounds)
 
@@ -104,7 +104,7 @@ pub record Writes (Denied : Type 0) (accounts : Accounts) (c : Client) (out_old 
 pub record Interrupted (Denied : Type 0) (accounts : Accounts) (c : Client) (out_old out_new : Option (List ℕ)) (new : Database) : Type 0 where
   pub rounds : List Round
   pub client : Client
-  pub passes : Passes Denied accounts c rounds client new
+  pub passes : Passes Denied accounts c rounds client (Offers new)
   pub none : came_in rounds ≡ []
   pub written : AppendsFront out_old out_new (said_in rounds)
 
@@ -123,19 +123,24 @@ abbrev pub seen : {X : Type 0} → (X → Database) → Database → Option X �
 seen sees held None = held
 seen sees held (Some store) = sees store
 
--- an open store sees what was seen, where that had our schema; where it lacked the index of the copies, what `open` made of it
-abbrev pub IsAsSeen : Database → Database → Type 0
-IsAsSeen before now = before.schema ≡ mail_schema → now ≡ before
+-- what is seen shows accounts: an open store presents them, or else what is held offers them
+abbrev pub AreSeen : {X : Type 0} → (X → Database) → Database → Option X → Accounts → Type 0
+AreSeen sees held None = Offers held
+AreSeen sees held (Some store) = Presents (sees store)
+
+-- an open store presents whatever accounts were seen
+abbrev pub PresentsSeen : (Accounts → Type 0) → Database → Type 0
+PresentsSeen Seen now = (accounts : Accounts) → Seen accounts → Presents now accounts
 
 -- a step was made of the session, whose answer waits after what waited; or nothing changed
-abbrev pub StepsOn : Accounts → Client → List ℕ → List ℕ → Client → Database → Bool → Type 0
-StepsOn accounts c waited waits d new true = (progress : Progress) × (octets : List ℕ) × (later : Accounts) × (waits ≡ waited ++ octets) × IsStep accounts c progress octets d later × Presents new later
-StepsOn accounts c waited waits d new false = (d ≡ c) × (waits ≡ waited) × Presents new accounts
+abbrev pub StepsOn : Accounts → Client → List ℕ → List ℕ → Client → (Accounts → Type 0) → Bool → Type 0
+StepsOn accounts c waited waits d Shown true = (progress : Progress) × (octets : List ℕ) × (later : Accounts) × (waits ≡ waited ++ octets) × IsStep accounts c progress octets d later × Shown later
+StepsOn accounts c waited waits d Shown false = (d ≡ c) × (waits ≡ waited) × Shown accounts
 
 -- a session led here from the greeting on: all that came was read and all that was said is written, and nothing that came is left to be answered
 pub record Served (Denied : Type 0) (accounts : Accounts) (in_old in_new out_old out_new : Option (List ℕ)) (c : Client) (new : Database) : Type 0 where
   pub rounds : List Round
-  pub passes : Passes Denied accounts new_client rounds c new
+  pub passes : Passes Denied accounts new_client rounds c (Offers new)
   pub read : Consumes in_old in_new (came_in rounds)
   pub written : Appends out_old out_new (spelled (capabilities None) ++ said_in rounds)
   pub answered : is_ready c ≡ false
@@ -150,7 +155,7 @@ pub record Ends (Denied : Type 0) (accounts : Accounts) (in_old in_new out_old o
 pub record BreaksOff (Denied : Type 0) (accounts : Accounts) (in_old out_old out_new : Option (List ℕ)) (new : Database) : Type 0 where
   pub rounds : List Round
   pub client : Client
-  pub passes : Passes Denied accounts new_client rounds client new
+  pub passes : Passes Denied accounts new_client rounds client (Offers new)
   pub read : BeginsWith in_old (came_in rounds)
   pub written : AppendsFront out_old out_new (spelled (capabilities None) ++ said_in rounds)
 
@@ -159,13 +164,13 @@ abbrev pub Converses : Type 0 → Accounts → Option (List ℕ) → Option (Lis
 Converses Denied accounts in_old in_new out_old out_new new (Ok done) = Ends Denied accounts in_old in_new out_old out_new new
 Converses Denied accounts in_old in_new out_old out_new new (Err fault) = BreaksOff Denied accounts in_old out_old out_new new
 
--- the same of tables: accounts that they showed were served; a database without tables stays so
+-- the same of tables: accounts that they offered were served; a database without tables stays so
 pub record Serves (Denied : Type 0) (in_old in_new out_old out_new : Option (List ℕ)) (old new : Database) (result : Result (Unit {0}) Fault) : Type 0 where
-  pub talks : (accounts : Accounts) → Presents old accounts → Converses Denied accounts in_old in_new out_old out_new new result
+  pub talks : (accounts : Accounts) → Offers old accounts → Converses Denied accounts in_old in_new out_old out_new new result
   pub none : old.schema ≡ no_schema → new.schema ≡ no_schema
 
 -- the same of a reader, a writer and a keeper, by what is still to be read of the one, what was written to the other, and the tables of the third, which
--- says by `refuses` that it refused
-abbrev pub ServesBy : {A B C : Type 0} → (A → Option (List ℕ)) → A → A → (B → Option (List ℕ)) → B → B → (C → Type 0) → (C → Database) → C → C → Result (Unit {0}) Fault → Type 0
-ServesBy remaining in_old in_new contents out_old out_new refuses holds old new result =
-    Serves (HasDenied refuses) (remaining in_old) (remaining in_new) (contents out_old) (contents out_new) (holds old) (holds new) result
+-- says by `refuses` that it refused the lock or the store at the path
+abbrev pub ServesBy : {A B C : Type 0} → (A → Option (List ℕ)) → A → A → (B → Option (List ℕ)) → B → B → (C → List ℕ → Type 0) → List ℕ → (C → Database) → C → C → Result (Unit {0}) Fault → Type 0
+ServesBy remaining in_old in_new contents out_old out_new refuses path holds old new result =
+    Serves (HasDenied refuses path) (remaining in_old) (remaining in_new) (contents out_old) (contents out_new) (holds old) (holds new) result

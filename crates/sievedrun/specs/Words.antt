@@ -209,26 +209,26 @@ DoesQueue Denied out_old out_new user None result = DoesRead ⊥ Denied user Lis
 DoesQueue Denied out_old out_new user (Some digits) result = DoesRead (IsNoNumber digits) Denied user (ShowsOutgoing digits) (LacksOutgoing digits) out_old out_new result
 
 -- a word that only reads; any other is refused
-abbrev pub Looks : Type 0 → Option (List ℕ) → Option (List ℕ) → Asked → Result (Unit {0}) Fault → Database → Database → Type 0
-Looks Denied out_old out_new (word.Folders place user directories levels) result = DoesFolders Denied out_old out_new user.now directories (option_copied levels) result
+abbrev pub Looks : (List ℕ → Type 0) → Option (List ℕ) → Option (List ℕ) → Asked → Result (Unit {0}) Fault → Database → Database → Type 0
+Looks Denied out_old out_new (word.Folders place user directories levels) result = DoesFolders (Denied place.path.now) out_old out_new user.now directories (option_copied levels) result
 Looks Denied out_old out_new (word.Show place user folder number) result =
-    DoesRead (IsNoNumber number.now) Denied user.now (ShowsMessage folder.now number.now) (LacksMessage folder.now number.now) out_old out_new result
-Looks Denied out_old out_new (word.Queue place user id) result = DoesQueue Denied out_old out_new user.now (option_copied id) result
-Looks Denied out_old out_new (word.Notices place user) result = DoesRead ⊥ Denied user.now ListsNotices LacksNothing out_old out_new result
+    DoesRead (IsNoNumber number.now) (Denied place.path.now) user.now (ShowsMessage folder.now number.now) (LacksMessage folder.now number.now) out_old out_new result
+Looks Denied out_old out_new (word.Queue place user id) result = DoesQueue (Denied place.path.now) out_old out_new user.now (option_copied id) result
+Looks Denied out_old out_new (word.Notices place user) result = DoesRead ⊥ (Denied place.path.now) user.now ListsNotices LacksNothing out_old out_new result
 Looks Denied out_old out_new asked result = DoesNothing out_old out_new result
 
--- whoever denies a store, the clock, what was read, whether a sink tells what it keeps and what that was and is, and the output before and after
-module _ (Denied : Type 0) (clock : Option ℕ) (given : Option (List ℕ)) (tells : Bool) (had has : List (List ℕ)) (out_old out_new : Option (List ℕ)) where
+-- who denies the store at a path, the clock, what was read, whether a sink tells what it keeps and what that was and is, and the output before and after
+module _ (Denied : List ℕ → Type 0) (clock : Option ℕ) (given : Option (List ℕ)) (tells : Bool) (had has : List (List ℕ)) (out_old out_new : Option (List ℕ)) where
   -- each word does its own work; only `init` makes a store, and only `drain` moves messages into the sink
   abbrev pub Does : Asked → Result (Unit {0}) Fault → Database → Database → Type 0
-  Does (word.Init place) result old new = GrowsBy tells had has [] × DoesInit Denied out_old out_new result old new
+  Does (word.Init place) result old new = GrowsBy tells had has [] × DoesInit (Denied place.path.now) out_old out_new result old new
   Does (word.AddUser place salt name address) result old new =
-      GrowsBy tells had has [] × DoesEvent (IsNoSalt salt.now) Denied (Adds salt.now name.now address.now given) out_old out_new result old new
+      GrowsBy tells had has [] × DoesEvent (IsNoSalt salt.now) (Denied place.path.now) (Adds salt.now name.now address.now given) out_old out_new result old new
   Does (word.Deliver place from to at user) result old new =
-      GrowsBy tells had has [] × DoesEvent (HasNoNumber (option_copied at)) Denied (Posts from.now to.now (option_copied at) user.now clock given) out_old out_new result old new
-  Does (word.Done place user id) result old new = GrowsBy tells had has [] × DoesEvent (IsNoNumber id.now) Denied (Dequeues user.now id.now) out_old out_new result old new
+      GrowsBy tells had has [] × DoesEvent (HasNoNumber (option_copied at)) (Denied place.path.now) (Posts from.now to.now (option_copied at) user.now clock given) out_old out_new result old new
+  Does (word.Done place user id) result old new = GrowsBy tells had has [] × DoesEvent (IsNoNumber id.now) (Denied place.path.now) (Dequeues user.now id.now) out_old out_new result old new
   Does (word.Drain place most user folder maildir) result old new =
-      HasDrained Denied (record { most = most; user = user; folder = folder; maildir = maildir }) tells had has out_old out_new result old new
+      HasDrained (Denied place.path.now) (record { most = most; user = user; folder = folder; maildir = maildir }) tells had has out_old out_new result old new
   Does asked result old new = GrowsBy tells had has [] × Looks Denied out_old out_new asked result old new
 
 -- ---- a run of the program
@@ -238,7 +238,7 @@ abbrev pub Untouched : Bool → List (List ℕ) → List (List ℕ) → Database
 Untouched tells had has old new = GrowsBy tells had has [] × (new ≡ old)
 
 -- a script was tried; or a word did its work, and the status tells how it ended; or the words ask for nothing
-abbrev pub RunsAny : Type 0 → Option ℕ → Option (List ℕ) → Bool → List (List ℕ) → List (List ℕ) → Option (List ℕ) → Option (List ℕ) → Option (List ℕ) → Option (List ℕ) → ℕ → Database → Database → Type 0
+abbrev pub RunsAny : (List ℕ → Type 0) → Option ℕ → Option (List ℕ) → Bool → List (List ℕ) → List (List ℕ) → Option (List ℕ) → Option (List ℕ) → Option (List ℕ) → Option (List ℕ) → ℕ → Database → Database → Type 0
 RunsAny Denied clock given tells had has out_old out_new err_old err_new status old new =
     ((from : List ℕ) × (to : List ℕ) × Runs (envelope_with from to) given out_old out_new err_old err_new status × Untouched tells had has old new)
     ⊎ ((asked : Asked) × (ending : Result (Unit {0}) Fault) × (status ≡ status_after ending) × Does Denied clock given tells had has out_old out_new asked ending old new)

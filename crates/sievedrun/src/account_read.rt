@@ -162,7 +162,7 @@ pub fn read_once<Q: AccountRead, K: Keeper>(
 ) -> Result<Q::Found, Fault>
     ensures back { K.is_out keeper.old ≡ false → K.is_out keeper.new ≡ false }
     ensures found { IsTrue K.tells → TurnsTables
-        (λ accounts later. (later ≡ accounts) × FindsIn (HasDenied K.refuses) (Q.user wanted.now) (Q.finds wanted.now) result accounts)
+        (λ accounts later. (later ≡ accounts) × FindsIn (HasDenied K.refuses place.entry.path.now) (Q.user wanted.now) (Q.finds wanted.now) result accounts)
         (K.holds keeper.old) (K.holds keeper.new) }
 {
     let mut store = taken(place, false, keeper)?;

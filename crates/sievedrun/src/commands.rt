@@ -56,7 +56,7 @@ pub fn run_init<W: Write, K: Keeper>(
     keeper: &mut K,
 ) -> Result<(), Fault>
     ensures back { K.is_out keeper.old ≡ false → K.is_out keeper.new ≡ false }
-    ensures does { IsTrue K.tells → DoesInit (HasDenied K.refuses) (W.contents output.old) (W.contents output.new) result (K.holds keeper.old) (K.holds keeper.new) }
+    ensures does { IsTrue K.tells → DoesInit (HasDenied K.refuses place.entry.path.now) (W.contents output.old) (W.contents output.new) result (K.holds keeper.old) (K.holds keeper.new) }
 {
     let store = taken(place, true, keeper)?;
     keeper.hand_back(store);
@@ -74,7 +74,7 @@ pub fn run_adduser<R: Read, W: Write, K: Keeper>(
 ) -> Result<(), Fault>
     ensures unread { status_after result ≡ 64 → input.new ≡ input.old }
     ensures back { K.is_out keeper.old ≡ false → K.is_out keeper.new ≡ false }
-    ensures does { IsTrue K.tells → DoesEvent (IsNoSalt user.entry.salt.now) (HasDenied K.refuses)
+    ensures does { IsTrue K.tells → DoesEvent (IsNoSalt user.entry.salt.now) (HasDenied K.refuses place.entry.path.now)
         (Adds user.entry.salt.now user.entry.name.now user.entry.address.now (R.remaining input.old))
         (W.contents output.old) (W.contents output.new) result (K.holds keeper.old) (K.holds keeper.new) }
 {
@@ -107,7 +107,7 @@ fn add<K: Keeper>(
     ensures late { status_after result ≢ 64 }
     ensures back { K.is_out keeper.old ≡ false → K.is_out keeper.new ≡ false }
     ensures puts { IsTrue K.tells → TurnsTables
-        (Puts (HasDenied K.refuses) (AddUser name.now address.now salt password.now) (λ done. Added) result) (K.holds keeper.old) (K.holds keeper.new) }
+        (Puts (HasDenied K.refuses place.entry.path.now) (AddUser name.now address.now salt password.now) (λ done. Added) result) (K.holds keeper.old) (K.holds keeper.new) }
 {
     let mut store = taken(place, false, keeper)?;
     let added = add_user(alloc, &mut store, name, address, salt, password);
@@ -139,7 +139,7 @@ pub fn run_deliver<R: Read, W: Write, K: Keeper>(
 ) -> Result<(), Fault>
     ensures unread { status_after result ≡ 64 → input.new ≡ input.old }
     ensures back { K.is_out keeper.old ≡ false → K.is_out keeper.new ≡ false }
-    ensures does { IsTrue K.tells → DoesEvent (HasNoNumber (option_copied posting.entry.at)) (HasDenied K.refuses)
+    ensures does { IsTrue K.tells → DoesEvent (HasNoNumber (option_copied posting.entry.at)) (HasDenied K.refuses place.entry.path.now)
         (Posts posting.entry.from.now posting.entry.to.now (option_copied posting.entry.at) posting.entry.user.now clock (R.remaining input.old))
         (W.contents output.old) (W.contents output.new) result (K.holds keeper.old) (K.holds keeper.new) }
 {
@@ -171,7 +171,7 @@ fn post<K: Keeper>(
     ensures late { status_after result ≢ 64 }
     ensures back { K.is_out keeper.old ≡ false → K.is_out keeper.new ≡ false }
     ensures puts { IsTrue K.tells → TurnsTables
-        (Puts (HasDenied K.refuses) (Deliver user.now envelope message.now moment) Delivered result) (K.holds keeper.old) (K.holds keeper.new) }
+        (Puts (HasDenied K.refuses place.entry.path.now) (Deliver user.now envelope message.now moment) Delivered result) (K.holds keeper.old) (K.holds keeper.new) }
 {
     let mut store = taken(place, false, keeper)?;
     let delivered = deliver(alloc, &mut store, user, envelope, message, moment);
@@ -198,7 +198,7 @@ pub fn run_show<W: Write, K: Keeper>(
     keeper: &mut K,
 ) -> Result<(), Fault>
     ensures back { K.is_out keeper.old ≡ false → K.is_out keeper.new ≡ false }
-    ensures does { IsTrue K.tells → DoesRead (IsNoNumber number.now) (HasDenied K.refuses) user.now
+    ensures does { IsTrue K.tells → DoesRead (IsNoNumber number.now) (HasDenied K.refuses place.entry.path.now) user.now
         (ShowsMessage folder.now number.now) (LacksMessage folder.now number.now)
         (W.contents output.old) (W.contents output.new) result (K.holds keeper.old) (K.holds keeper.new) }
 {
@@ -215,7 +215,7 @@ pub fn taken<K: Keeper>(place: Place<'_>, fresh: bool, keeper: &mut K) -> Result
     ensures taken { IfOk result (λ store. IsTrue K.tells → IsTaken fresh (K.holds keeper.old) (state K.S.Store store).now) }
     ensures refused { OnErr result (IsTrue K.tells → K.holds keeper.new ≡ K.holds keeper.old) }
     ensures kept { OnErr result (K.is_out keeper.new ≡ K.is_out keeper.old) }
-    ensures denied { OnErr result (HasDenied K.refuses) }
+    ensures denied { OnErr result (HasDenied K.refuses place.entry.path.now) }
 {
     keeper.wait_for_lock(place.waits);
     Ok(keeper.take(place.path, fresh)?)

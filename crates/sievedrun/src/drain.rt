@@ -45,7 +45,7 @@ pub fn run_drain<W: Write, K: Keeper, T: MailSink>(
     sink: &mut T,
 ) -> Result<(), Fault>
     ensures back { K.is_out keeper.old ≡ false → K.is_out keeper.new ≡ false }
-    ensures drains { IsTrue K.tells → HasDrained (HasDenied K.refuses) asked.entry T.tells (T.kept sink.old) (T.kept sink.new)
+    ensures drains { IsTrue K.tells → HasDrained (HasDenied K.refuses place.entry.path.now) asked.entry T.tells (T.kept sink.old) (T.kept sink.new)
         (W.contents output.old) (W.contents output.new) result (K.holds keeper.old) (K.holds keeper.new) }
 {
     let most = most_of(asked.most)?;
@@ -76,7 +76,7 @@ fn drain_store<K: Keeper, T: MailSink>(
     sink: &mut T,
 ) -> Result<u64, Fault>
     ensures back { K.is_out keeper.old ≡ false → K.is_out keeper.new ≡ false }
-    ensures moves { IsTrue K.tells → MovesTables (HasDenied K.refuses) asked.entry T.tells (T.kept sink.old) (T.kept sink.new) most result
+    ensures moves { IsTrue K.tells → MovesTables (HasDenied K.refuses place.entry.path.now) asked.entry T.tells (T.kept sink.old) (T.kept sink.new) most result
         (K.holds keeper.old) (K.holds keeper.new) }
 {
     let user = asked.user.as_bytes();

@@ -127,7 +127,7 @@ pub fn run_listing<Q: Listing, W: Write, K: Keeper>(
     keeper: &mut K,
 ) -> Result<(), Fault>
     ensures back { K.is_out keeper.old ≡ false → K.is_out keeper.new ≡ false }
-    ensures does { IsTrue K.tells → DoesRead ⊥ (HasDenied K.refuses) (Q.user wanted.now) (Q.shows wanted.now) LacksNothing
+    ensures does { IsTrue K.tells → DoesRead ⊥ (HasDenied K.refuses place.entry.path.now) (Q.user wanted.now) (Q.shows wanted.now) LacksNothing
         (W.contents output.old) (W.contents output.new) result (K.holds keeper.old) (K.holds keeper.new) }
 {
     let found = read_once(place, wanted, keeper)?;
@@ -147,7 +147,7 @@ pub fn run_folders<W: Write, K: Keeper>(
     keeper: &mut K,
 ) -> Result<(), Fault>
     ensures back { K.is_out keeper.old ≡ false → K.is_out keeper.new ≡ false }
-    ensures does { IsTrue K.tells → DoesFolders (HasDenied K.refuses) (W.contents output.old) (W.contents output.new) user.now
+    ensures does { IsTrue K.tells → DoesFolders (HasDenied K.refuses place.entry.path.now) (W.contents output.old) (W.contents output.new) user.now
         directories (option_copied separator.entry) result (K.holds keeper.old) (K.holds keeper.new) }
 {
     if directories {

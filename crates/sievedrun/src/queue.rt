@@ -33,7 +33,7 @@ pub fn run_queue<W: Write, K: Keeper>(
     keeper: &mut K,
 ) -> Result<(), Fault>
     ensures back { K.is_out keeper.old ≡ false → K.is_out keeper.new ≡ false }
-    ensures does { IsTrue K.tells → DoesQueue (HasDenied K.refuses) (W.contents output.old) (W.contents output.new) user.now
+    ensures does { IsTrue K.tells → DoesQueue (HasDenied K.refuses place.entry.path.now) (W.contents output.old) (W.contents output.new) user.now
         (option_copied id.entry) result (K.holds keeper.old) (K.holds keeper.new) }
 {
     match id {
@@ -51,7 +51,7 @@ fn run_queued<W: Write, K: Keeper>(
     keeper: &mut K,
 ) -> Result<(), Fault>
     ensures back { K.is_out keeper.old ≡ false → K.is_out keeper.new ≡ false }
-    ensures does { IsTrue K.tells → DoesRead (IsNoNumber id.now) (HasDenied K.refuses) user.now (ShowsOutgoing id.now) (LacksOutgoing id.now)
+    ensures does { IsTrue K.tells → DoesRead (IsNoNumber id.now) (HasDenied K.refuses place.entry.path.now) user.now (ShowsOutgoing id.now) (LacksOutgoing id.now)
         (W.contents output.old) (W.contents output.new) result (K.holds keeper.old) (K.holds keeper.new) }
 {
     let id = decimal(id)?;
@@ -71,7 +71,7 @@ pub fn run_done<W: Write, K: Keeper>(
     keeper: &mut K,
 ) -> Result<(), Fault>
     ensures back { K.is_out keeper.old ≡ false → K.is_out keeper.new ≡ false }
-    ensures does { IsTrue K.tells → DoesEvent (IsNoNumber id.now) (HasDenied K.refuses) (Dequeues user.now id.now)
+    ensures does { IsTrue K.tells → DoesEvent (IsNoNumber id.now) (HasDenied K.refuses place.entry.path.now) (Dequeues user.now id.now)
         (W.contents output.old) (W.contents output.new) result (K.holds keeper.old) (K.holds keeper.new) }
 {
     let id = decimal(id)?;
@@ -90,7 +90,7 @@ fn dequeue<K: Keeper>(
     ensures late { status_after result ≢ 64 }
     ensures back { K.is_out keeper.old ≡ false → K.is_out keeper.new ≡ false }
     ensures puts { IsTrue K.tells → TurnsTables
-        (Puts (HasDenied K.refuses) (TakeOut user.now id) Taken result) (K.holds keeper.old) (K.holds keeper.new) }
+        (Puts (HasDenied K.refuses place.entry.path.now) (TakeOut user.now id) Taken result) (K.holds keeper.old) (K.holds keeper.new) }
 {
     let mut store = taken(place, false, keeper)?;
     let row = take_out(&mut store, user, id);

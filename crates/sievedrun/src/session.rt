@@ -1,14 +1,16 @@
 //! One client's session over a reader and a writer, and a store that is taken for the commands that came together.
-ghost use Rattle.std.specs.Prelude.{◌≡◌, ℕ, List, Option, None, Result, is_ok, false, true, IsTrue, IfOk, OnOk, OnErr};
+ghost use Rattle.std.specs.Prelude.{◌≡◌, ◌≢◌, ℕ, List, Option, Some, None, Result, is_ok, is_some, false, true, IsTrue, IfOk, IfSome, OnOk, OnErr};
+ghost use Rattle.keepers.specs.declared.keeper.Held.TheVariants.{Busy};
 ghost use Rattle.sqlite.specs.Held.{state};
 ghost use Rattle.mailstore.specs.Account.{Accounts};
 ghost use Rattle.mailstore.specs.Schema.{IsOurSchema, no_schema};
-ghost use Rattle.mailstore.specs.Shows.{Presents};
+ghost use Rattle.mailstore.specs.Shows.{Offers};
 ghost use Rattle.sessions.specs.Clients.{is_ready};
 ghost use Rattle.sessions.specs.Steps.{Asked};
 ghost use Rattle.sievedrun.specs.declared.fault.Fault.{Fault};
 ghost use Rattle.sievedrun.specs.Promise.{status_after};
-ghost use Rattle.sievedrun.specs.Serving.{Answered, Converses, HasDenied, Hinders, IsAsSeen, Served, ServesBy, StepsOn, WritesAll, WritesFirst, seen};
+ghost use Rattle.sievedrun.specs.Serving.{Answered, AreSeen, Converses, HasDenied, Hinders, PresentsSeen, Served};
+ghost use Rattle.sievedrun.specs.Serving.{ServesBy, StepsOn, WritesAll, WritesFirst, seen};
 
 use crate::fault::{Fault, refuse};
 use crate::stream::{MAX_READS, read_at, write_all};
@@ -48,7 +50,8 @@ pub fn serve_one<R: Read, W: Write, K: Keeper>(
     keeper: &mut K,
 ) -> Result<(), Fault>
     ensures back { K.is_out keeper.old ≡ false → K.is_out keeper.new ≡ false }
-    ensures serves { IsTrue K.tells → ServesBy R.remaining input.old input.new W.contents output.old output.new K.refuses K.holds keeper.old keeper.new result }
+    ensures serves { IsTrue K.tells → K.is_out keeper.old ≡ false
+        → ServesBy R.remaining input.old input.new W.contents output.old output.new K.refuses path.now K.holds keeper.old keeper.new result }
 {
     let mut faults = io::sink();
     serve_client(alloc, path, input, output, &mut faults, keeper)
@@ -65,7 +68,8 @@ pub fn serve_client<R: Read, W: Write, F: Write, K: Keeper>(
     keeper: &mut K,
 ) -> Result<(), Fault>
     ensures back { K.is_out keeper.old ≡ false → K.is_out keeper.new ≡ false }
-    ensures serves { IsTrue K.tells → ServesBy R.remaining input.old input.new W.contents output.old output.new K.refuses K.holds keeper.old keeper.new result }
+    ensures serves { IsTrue K.tells → K.is_out keeper.old ≡ false
+        → ServesBy R.remaining input.old input.new W.contents output.old output.new K.refuses path.now K.holds keeper.old keeper.new result }
 {
     let mut greeting = Octets::new(alloc);
     let mut session = Session::new(alloc, &mut greeting)?;
@@ -83,8 +87,8 @@ pub fn run_session<R: Read, W: Write, F: Write, K: Keeper>(
     keeper: &mut K,
 ) -> u8
     ensures back { K.is_out keeper.old ≡ false → K.is_out keeper.new ≡ false }
-    ensures serves { IsTrue K.tells → (ending : Result (Unit {0}) Fault) × (result ≡ status_after ending)
-        × ServesBy R.remaining input.old input.new W.contents output.old output.new K.refuses K.holds keeper.old keeper.new ending }
+    ensures serves { IsTrue K.tells → K.is_out keeper.old ≡ false → (ending : Result (Unit {0}) Fault) × (result ≡ status_after ending)
+        × ServesBy R.remaining input.old input.new W.contents output.old output.new K.refuses place.entry.path.now K.holds keeper.old keeper.new ending }
 {
     keeper.wait_for_lock(place.waits);
     match serve_client(alloc, place.path, input, output, faults, keeper) {
@@ -103,10 +107,12 @@ fn converse<R: Read, W: Write, F: Write, K: Keeper>(
     faults: &mut F,
     keeper: &mut K,
 ) -> Result<(), Fault>
+    requires { session.old.client.closed ≡ false }
     ensures back { K.is_out keeper.old ≡ false → K.is_out keeper.new ≡ false }
-    ensures serves { IsTrue K.tells → (accounts : Accounts) (first_in first_out : Option (List ℕ))
-        → Served (HasDenied K.refuses) accounts first_in (R.remaining input.old) first_out (W.contents output.old) session.old.client (K.holds keeper.old)
-        → Converses (HasDenied K.refuses) accounts first_in (R.remaining input.new) first_out (W.contents output.new) (K.holds keeper.new) result }
+    ensures serves { IsTrue K.tells → K.is_out keeper.old ≡ false → (accounts : Accounts) (first_in first_out : Option (List ℕ))
+        → Served (HasDenied K.refuses path.now) accounts first_in (R.remaining input.old) first_out (W.contents output.old) session.old.client
+        (K.holds keeper.old)
+        → Converses (HasDenied K.refuses path.now) accounts first_in (R.remaining input.new) first_out (W.contents output.new) (K.holds keeper.new) result }
     ensures none { IsTrue K.tells → (K.holds keeper.old).schema ≡ no_schema → (K.holds keeper.new).schema ≡ no_schema }
 {
     let mut piece = [0u8; PIECE];
@@ -119,7 +125,8 @@ fn converse<R: Read, W: Write, F: Write, K: Keeper>(
         let answered = answer_all(alloc, session, path, output, &mut trouble, keeper);
         trouble.tell(faults);
         answered?;
-        if session.is_closed() {
+        let is_over = session.is_closed();
+        if is_over {
             return Ok(());
         }
     }
@@ -136,8 +143,8 @@ fn answer_all<W: Write, K: Keeper>(
     keeper: &mut K,
 ) -> Result<(), Fault>
     ensures back { K.is_out keeper.old ≡ false → K.is_out keeper.new ≡ false }
-    ensures answers { IsTrue K.tells → (accounts : Accounts) → Presents (K.holds keeper.old) accounts
-        → WritesAll (HasDenied K.refuses) accounts session.old.client (W.contents output.old) (W.contents output.new) session.new.client
+    ensures answers { IsTrue K.tells → K.is_out keeper.old ≡ false → (accounts : Accounts) → Offers (K.holds keeper.old) accounts
+        → WritesAll (HasDenied K.refuses path.now) accounts session.old.client (W.contents output.old) (W.contents output.new) session.new.client
         (K.holds keeper.new) result }
     ensures none { IsTrue K.tells → (K.holds keeper.old).schema ≡ no_schema → (K.holds keeper.new).schema ≡ no_schema }
 {
@@ -162,8 +169,8 @@ fn answer_some<W: Write, K: Keeper>(
 ) -> Result<(), Fault>
     requires { is_ready session.old.client ≡ true }
     ensures back { K.is_out keeper.old ≡ false → K.is_out keeper.new ≡ false }
-    ensures answers { IsTrue K.tells → (accounts : Accounts) → Presents (K.holds keeper.old) accounts
-        → WritesFirst (HasDenied K.refuses) accounts session.old.client (W.contents output.old) (W.contents output.new) session.new.client
+    ensures answers { IsTrue K.tells → K.is_out keeper.old ≡ false → (accounts : Accounts) → Offers (K.holds keeper.old) accounts
+        → WritesFirst (HasDenied K.refuses path.now) accounts session.old.client (W.contents output.old) (W.contents output.new) session.new.client
         (K.holds keeper.new) result }
     ensures none { IsTrue K.tells → (K.holds keeper.old).schema ≡ no_schema → (K.holds keeper.new).schema ≡ no_schema }
 {
@@ -187,10 +194,10 @@ fn answer_under_lock<K: Keeper>(
 ) -> bool
     requires { is_ready session.old.client ≡ true }
     ensures back { K.is_out keeper.old ≡ false → K.is_out keeper.new ≡ false }
-    ensures answers { IsTrue K.tells → (accounts : Accounts) → Presents (K.holds keeper.old) accounts
-        → Answered (HasDenied K.refuses) accounts session.old.client answers.old answers.new session.new.client (K.holds keeper.new) }
+    ensures answers { IsTrue K.tells → (accounts : Accounts) → Offers (K.holds keeper.old) accounts
+        → Answered (HasDenied K.refuses path.now) accounts session.old.client answers.old answers.new session.new.client (Offers (K.holds keeper.new)) }
     ensures stopped { result ≡ false → is_ready session.new.client ≡ true }
-    ensures cause { result ≡ false → Hinders (HasDenied K.refuses) session.new.client }
+    ensures cause { result ≡ false → K.is_out keeper.old ≡ false → Hinders (HasDenied K.refuses path.now) session.new.client }
     ensures none { IsTrue K.tells → (K.holds keeper.old).schema ≡ no_schema → (K.holds keeper.new).schema ≡ no_schema }
     ensures asked { K.unclosed keeper.old ≡ None → K.unclosed keeper.new ≡ None }
 {
@@ -217,6 +224,7 @@ fn answer_under_lock<K: Keeper>(
 /// it stays.
 fn give_back<K: Keeper>(store: Option<Store<K::S>>, keeper: &mut K) -> Option<Refusal>
     ensures held { IsTrue K.tells → K.holds keeper.new ≡ seen (λ s. (state K.S.Store s).now) (K.holds keeper.old) store }
+    ensures told { IfSome store (λ given. K.closes keeper.old given result) }
     ensures back { K.is_out keeper.new ≡ false }
     ensures asked { K.unclosed keeper.old ≡ None → K.unclosed keeper.new ≡ None }
 {
@@ -241,11 +249,11 @@ fn answer_ready<K: Keeper>(
     store: &mut Option<Store<K::S>>,
     keeper: &mut K,
 ) -> Result<(), Held>
-    ensures answers { IsTrue K.tells → (accounts : Accounts) → Presents (seen (λ s. (state K.S.Store s).now) (K.holds keeper.old) store.old) accounts
-        → Answered (HasDenied K.refuses) accounts session.old.client answers.old answers.new session.new.client
-        (seen (λ s. (state K.S.Store s).now) (K.holds keeper.new) store.new) }
+    ensures answers { IsTrue K.tells → (accounts : Accounts) → AreSeen (λ s. (state K.S.Store s).now) (K.holds keeper.old) store.old accounts
+        → Answered (HasDenied K.refuses path.now) accounts session.old.client answers.old answers.new session.new.client
+        (AreSeen (λ s. (state K.S.Store s).now) (K.holds keeper.new) store.new) }
     ensures stopped { OnErr result (is_ready session.new.client ≡ true) }
-    ensures cause { OnErr result (Hinders (HasDenied K.refuses) session.new.client) }
+    ensures cause { OnErr result (Hinders (HasDenied K.refuses path.now) session.new.client) }
     ensures none { IsTrue K.tells → (K.holds keeper.old).schema ≡ no_schema → store.old ≡ None
         → (K.holds keeper.new ≡ K.holds keeper.old) × (store.new ≡ None) }
     ensures closed { K.unclosed keeper.new ≡ K.unclosed keeper.old }
@@ -268,11 +276,11 @@ fn answer_first<K: Keeper>(
     store: &mut Option<Store<K::S>>,
     keeper: &mut K,
 ) -> Result<(), Held>
-    ensures steps { IsTrue K.tells → (accounts : Accounts) → Presents (seen (λ s. (state K.S.Store s).now) (K.holds keeper.old) store.old) accounts
+    ensures steps { IsTrue K.tells → (accounts : Accounts) → AreSeen (λ s. (state K.S.Store s).now) (K.holds keeper.old) store.old accounts
         → StepsOn accounts session.old.client answers.old answers.new session.new.client
-        (seen (λ s. (state K.S.Store s).now) (K.holds keeper.new) store.new) (is_ok result) }
+        (AreSeen (λ s. (state K.S.Store s).now) (K.holds keeper.new) store.new) (is_ok result) }
     ensures same { OnErr result ((session.new ≡ session.old) × (answers.new ≡ answers.old)) }
-    ensures cause { OnErr result (Hinders (HasDenied K.refuses) session.new.client) }
+    ensures cause { OnErr result (Hinders (HasDenied K.refuses path.now) session.new.client) }
     ensures none { IsTrue K.tells → (K.holds keeper.old).schema ≡ no_schema → store.old ≡ None
         → (K.holds keeper.new ≡ K.holds keeper.old) × (store.new ≡ None) }
     ensures closed { K.unclosed keeper.new ≡ K.unclosed keeper.old }
@@ -296,11 +304,11 @@ fn answer_over_store<K: Keeper>(
     keeper: &mut K,
 ) -> Result<(), Held>
     requires { Asked session.old.client order.now }
-    ensures steps { IsTrue K.tells → (accounts : Accounts) → Presents (seen (λ s. (state K.S.Store s).now) (K.holds keeper.old) store.old) accounts
+    ensures steps { IsTrue K.tells → (accounts : Accounts) → AreSeen (λ s. (state K.S.Store s).now) (K.holds keeper.old) store.old accounts
         → StepsOn accounts session.old.client answers.old answers.new session.new.client
-        (seen (λ s. (state K.S.Store s).now) (K.holds keeper.new) store.new) (is_ok result) }
+        (AreSeen (λ s. (state K.S.Store s).now) (K.holds keeper.new) store.new) (is_ok result) }
     ensures same { OnErr result ((session.new ≡ session.old) × (answers.new ≡ answers.old)) }
-    ensures cause { OnErr result (Hinders (HasDenied K.refuses) session.new.client) }
+    ensures cause { OnErr result (Hinders (HasDenied K.refuses path.now) session.new.client) }
     ensures none { IsTrue K.tells → (K.holds keeper.old).schema ≡ no_schema → store.old ≡ None
         → (K.holds keeper.new ≡ K.holds keeper.old) × (store.new ≡ None) }
     ensures closed { K.unclosed keeper.new ≡ K.unclosed keeper.old }
@@ -321,10 +329,10 @@ fn open_store<K: Keeper>(
     keeper: &mut K,
 ) -> Result<Store<K::S>, Held>
     ensures opened { IfOk result (λ taken. IsTrue K.tells
-        → IsAsSeen (seen (λ s. (state K.S.Store s).now) (K.holds keeper.old) store.old) (state K.S.Store taken).now) }
+        → PresentsSeen (AreSeen (λ s. (state K.S.Store s).now) (K.holds keeper.old) store.old) (state K.S.Store taken).now) }
     ensures ours { OnOk result (IsTrue K.tells → store.old ≡ None → IsOurSchema (K.holds keeper.old).schema) }
     ensures refused { OnErr result ((IsTrue K.tells → K.holds keeper.new ≡ K.holds keeper.old) × (store.new ≡ store.old)) }
-    ensures denied { OnErr result (HasDenied K.refuses) }
+    ensures denied { OnErr result (HasDenied K.refuses path.now) }
     ensures closed { K.unclosed keeper.new ≡ K.unclosed keeper.old }
 {
     match store.take() {
@@ -334,14 +342,24 @@ fn open_store<K: Keeper>(
 }
 
 /// Notes why no store is given out, but for one that another process has.
-fn note_held<K: Keeper>(trouble: &mut FirstTrouble, held: Held, keeper: &K) {
+fn note_held<K: Keeper>(trouble: &mut FirstTrouble, held: Held, keeper: &K)
+    ensures busy { held ≡ Busy → trouble.new ≡ trouble.old }
+    ensures noted { held ≢ Busy → IsTrue (is_some trouble.new.trouble) }
+    ensures told { trouble.new.is_told ≡ trouble.old.is_told }
+{
     if let Held::Refused(refusal) = held {
         note_refusal(trouble, Some(refusal), keeper);
     }
 }
 
 /// Notes what a store refused, if anything.
-fn note_refusal<K: Keeper>(trouble: &mut FirstTrouble, refusal: Option<Refusal>, keeper: &K) {
+fn note_refusal<K: Keeper>(trouble: &mut FirstTrouble, refusal: Option<Refusal>, keeper: &K)
+    ensures none { refusal ≡ None → trouble.new ≡ trouble.old }
+    ensures noted { IfSome refusal (λ refusal. IsTrue (is_some trouble.new.trouble)) }
+    ensures first { trouble.old.trouble ≡ None → IfSome refusal (λ refusal. IfSome trouble.new.trouble (λ t. t.fault ≡ Fault.Refused refusal)) }
+    ensures later { IfSome trouble.old.trouble (λ first. trouble.new.trouble ≡ Some first) }
+    ensures told { trouble.new.is_told ≡ trouble.old.is_told }
+{
     if let Some(refusal) = refusal {
         trouble.note(Trouble::of_store(Fault::Refused(refusal), keeper));
     }

@@ -1,7 +1,7 @@
 //! What goes wrong with a store, or on the way to one, as it is told on standard error.
-ghost use Rattle.std.specs.Prelude.{◌≡◌, IsTrue, IfSome, is_some};
+ghost use Rattle.std.specs.Prelude.{◌≡◌, ◌≢◌, false, Some, None, IsTrue, IfSome};
 ghost use Rattle.std.specs.Io.KnownBytes.{Keeps};
-ghost use Rattle.sievedrun.specs.Faults.{line_of};
+ghost use Rattle.sievedrun.specs.Faults.{line_of, store_failed};
 ghost use Rattle.sievedrun.specs.Streams.{AppendsFirst, AppendsSome};
 
 use crate::fault::{Fault, refuse};
@@ -21,7 +21,8 @@ pub struct Trouble {
 impl Trouble {
     /// A fault of the store, with what its keeper knows of the cause.
     pub fn of_store<K: Keeper>(fault: Fault, keeper: &K) -> Trouble
-        ensures { result.fault ≡ fault }
+        ensures fault { result.fault ≡ fault }
+        ensures quiet { fault ≢ store_failed → result.cause ≡ None }
     {
         let cause = match fault {
             Fault::Refused(Refusal::Store) => keeper.cause(),
@@ -76,7 +77,9 @@ impl FirstTrouble {
 
     /// Keeps a trouble, where it is the first one.
     pub fn note(&mut self, trouble: Trouble)
-        ensures { IsTrue (is_some self.new.trouble) × (self.new.is_told ≡ self.old.is_told) }
+        ensures first { self.old.trouble ≡ None → self.new.trouble ≡ Some trouble }
+        ensures later { IfSome self.old.trouble (λ first. self.new.trouble ≡ Some first) }
+        ensures told { self.new.is_told ≡ self.old.is_told }
     {
         if self.trouble.is_none() {
             self.trouble = Some(trouble);
@@ -86,6 +89,10 @@ impl FirstTrouble {
     /// Tells of it, where there is one that wasn't told yet.
     pub fn tell<F: Write>(&mut self, faults: &mut F)
         ensures once { IsTrue self.old.is_told → F.contents faults.new ≡ F.contents faults.old }
+        ensures none { self.old.trouble ≡ None → F.contents faults.new ≡ F.contents faults.old }
+        ensures tells { self.old.is_told ≡ false
+            → IfSome self.old.trouble (λ trouble. AppendsFirst (F.contents faults.old) (F.contents faults.new) (line_of trouble.fault)) }
+        ensures same { self.new.trouble ≡ self.old.trouble }
         ensures told { IfSome self.old.trouble (λ trouble. IsTrue self.new.is_told) }
     {
         if self.is_told {

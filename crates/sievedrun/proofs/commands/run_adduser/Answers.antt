@@ -14,20 +14,20 @@ use Rattle.sievedrun.proofs.commands.run_adduser.Goals as goal
 pub returns-in_err-salt-clause-does : goal.returns-in_err-salt-clause-does
 returns-in_err-salt-clause-does g c tells =
     let user = c.args.user in
-    event_hindered (IsNoSalt user.salt.now) (HasDenied g.K.Keeper.refuses) (Adds user.salt.now user.name.now user.address.now (g.R.Read.remaining c.args.input.now)) (g.W.Write.contents c.args.output.now)
+    event_hindered (IsNoSalt user.salt.now) (HasDenied g.K.Keeper.refuses c.args.place.path.now) (Adds user.salt.now user.name.now user.address.now (g.R.Read.remaining c.args.input.now)) (g.W.Write.contents c.args.output.now)
     (g.K.Keeper.holds c.args.keeper.now) c.in_err-salt.field-0.0 c.from_residual.result (search rules) (inr (inl (c.in_err-salt.ensures.fault, c.in_err-salt.ensures.none)))
 
 pub returns-in_err-line-clause-does : goal.returns-in_err-line-clause-does
 returns-in_err-line-clause-does g c tells =
     let user = c.args.user in
-    event_hindered (IsNoSalt user.salt.now) (HasDenied g.K.Keeper.refuses) (Adds user.salt.now user.name.now user.address.now (g.R.Read.remaining c.args.input.now)) (g.W.Write.contents c.args.output.now)
+    event_hindered (IsNoSalt user.salt.now) (HasDenied g.K.Keeper.refuses c.args.place.path.now) (Adds user.salt.now user.name.now user.address.now (g.R.Read.remaining c.args.input.now)) (g.W.Write.contents c.args.output.now)
     (g.K.Keeper.holds c.args.keeper.now) memory c.from_residual-in_err-line.result (search rules) (inl (inl refl))
 
 pub returns-in_err-octets-clause-does : goal.returns-in_err-octets-clause-does
 returns-in_err-octets-clause-does g c tells =
     let user = c.args.user in
     let fault = c.in_err-octets.field-0.0 in
-    event_hindered (IsNoSalt user.salt.now) (HasDenied g.K.Keeper.refuses) (Adds user.salt.now user.name.now user.address.now (g.R.Read.remaining c.args.input.now)) (g.W.Write.contents c.args.output.now)
+    event_hindered (IsNoSalt user.salt.now) (HasDenied g.K.Keeper.refuses c.args.place.path.now) (Adds user.salt.now user.name.now user.address.now (g.R.Read.remaining c.args.input.now)) (g.W.Write.contents c.args.output.now)
     (g.K.Keeper.holds c.args.keeper.now) fault c.from_residual-in_err-octets.result (search rules) (inl (sudden_failure fault c.in_err-octets.ensures.err))
 
 pub returns-in_err-add-clause-does : goal.returns-in_err-add-clause-does
@@ -43,7 +43,7 @@ returns-in_err-add-clause-does g c tells =
     let line : password ≡ first_line octets = search rules in
     let same : event ≡ AddUser user.name.now user.address.now salt (first_line octets) =
     ap (λ n. AddUser n c.as_bytes-2.result.now salt password) name ∙ (ap (λ a. AddUser user.name.now a salt password) address ∙ ap (AddUser user.name.now user.address.now salt) line) in
-    event_unmade (IsNoSalt user.salt.now) (HasDenied g.K.Keeper.refuses) (Adds user.salt.now user.name.now user.address.now given) {X = Unit {0}} event
+    event_unmade (IsNoSalt user.salt.now) (HasDenied g.K.Keeper.refuses c.args.place.path.now) (Adds user.salt.now user.name.now user.address.now given) {X = Unit {0}} event
     (record { octets = octets; read = c.in_ok-octets.ensures.ok; random = salt; salted = c.in_ok-salt.ensures.ok; same = same }) (λ done. Added) (g.K.Keeper.holds c.args.keeper.now) (g.K.Keeper.holds c.add.new.keeper)
     (g.W.Write.contents c.args.output.now) c.in_err-add.field-0.0 c.from_residual-in_err-add.result (search rules) (c.in_err-add.ensures.puts tells)
 
@@ -63,6 +63,6 @@ returns-clause-does g c tells =
     let same : event ≡ AddUser user.name.now user.address.now salt (first_line octets) =
     ap (λ n. AddUser n c.as_bytes-2.result.now salt password) name ∙ (ap (λ a. AddUser user.name.now a salt password) address ∙ ap (AddUser user.name.now user.address.now salt) line) in
     let text : c.as_slice-2.result.now ≡ with_end (codes "added " ++ c.as_bytes.result.now) = search rules in
-    event_made (IsNoSalt user.salt.now) (HasDenied g.K.Keeper.refuses) (Adds user.salt.now user.name.now user.address.now given) {X = Unit {0}} event
+    event_made (IsNoSalt user.salt.now) (HasDenied g.K.Keeper.refuses c.args.place.path.now) (Adds user.salt.now user.name.now user.address.now given) {X = Unit {0}} event
     (record { octets = octets; read = c.in_ok-octets.ensures.ok; random = salt; salted = c.in_ok-salt.ensures.ok; same = same }) (λ done. Added) (g.K.Keeper.holds c.args.keeper.now) (g.K.Keeper.holds c.add.new.keeper)
     tt c.as_slice-2.result.now text (c.in_ok-add.ensures.puts tells) old new c.write_all.result c.write_all.ensures.ok c.write_all.ensures.err (written_failure c.write_all.result c.write_all.ensures.fault)

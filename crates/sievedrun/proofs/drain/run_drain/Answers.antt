@@ -11,7 +11,7 @@ use Rattle.sievedrun.proofs.drain.run_drain.Goals as goal
 
 pub returns-in_err-most-clause-drains : goal.returns-in_err-most-clause-drains
 returns-in_err-most-clause-drains g c tells =
-    let Denied = HasDenied g.K.Keeper.refuses in
+    let Denied = HasDenied g.K.Keeper.refuses c.args.place.path.now in
     let kept = g.T.MailSink.kept c.args.sink.now in
     let held = g.K.Keeper.holds c.args.keeper.now in
     let out = g.W.Write.contents c.args.output.now in
@@ -21,7 +21,7 @@ returns-in_err-most-clause-drains g c tells =
 
 pub returns-in_err-open-clause-drains : goal.returns-in_err-open-clause-drains
 returns-in_err-open-clause-drains g c tells =
-    let Denied = HasDenied g.K.Keeper.refuses in
+    let Denied = HasDenied g.K.Keeper.refuses c.args.place.path.now in
     let had = g.T.MailSink.kept c.args.sink.now in
     let has = g.T.MailSink.kept c.open.new.self in
     let held = g.K.Keeper.holds c.args.keeper.now in
@@ -32,7 +32,7 @@ returns-in_err-open-clause-drains g c tells =
 
 pub returns-in_err-moved-clause-drains : goal.returns-in_err-moved-clause-drains
 returns-in_err-moved-clause-drains g c tells =
-    let Denied = HasDenied g.K.Keeper.refuses in
+    let Denied = HasDenied g.K.Keeper.refuses c.args.place.path.now in
     let had = g.T.MailSink.kept c.args.sink.now in
     let opened = g.T.MailSink.kept c.open.new.self in
     let has = g.T.MailSink.kept c.drain_store.new.sink in
@@ -46,7 +46,7 @@ returns-in_err-moved-clause-drains g c tells =
 
 pub returns-in_err-line-clause-drains : goal.returns-in_err-line-clause-drains
 returns-in_err-line-clause-drains g c tells =
-    let Denied = HasDenied g.K.Keeper.refuses in
+    let Denied = HasDenied g.K.Keeper.refuses c.args.place.path.now in
     let had = g.T.MailSink.kept c.args.sink.now in
     let opened = g.T.MailSink.kept c.open.new.self in
     let has = g.T.MailSink.kept c.drain_store.new.sink in
@@ -60,7 +60,7 @@ returns-in_err-line-clause-drains g c tells =
 
 pub returns-clause-drains : goal.returns-clause-drains
 returns-clause-drains g c tells =
-    let Denied = HasDenied g.K.Keeper.refuses in
+    let Denied = HasDenied g.K.Keeper.refuses c.args.place.path.now in
     let had = g.T.MailSink.kept c.args.sink.now in
     let opened = g.T.MailSink.kept c.open.new.self in
     let has = g.T.MailSink.kept c.drain_store.new.sink in

@@ -8,7 +8,7 @@ use Rattle.sievedrun.proofs.session.answer_all.Goals as goal
 pub loop-init : goal.loop-init
 loop-init g c = record {
   back = λ h. h;
-  written = λ tells accounts shown. writes_none (HasDenied g.K.Keeper.refuses) accounts c.args.session.now.client (g.W.Write.contents c.args.output.now) (g.K.Keeper.holds c.args.keeper.now) shown;
+  written = λ tells idle accounts shown. writes_none (HasDenied g.K.Keeper.refuses c.args.path.now) accounts c.args.session.now.client (g.W.Write.contents c.args.output.now) (g.K.Keeper.holds c.args.keeper.now) shown;
   none = λ tells h. h;
 }
 
@@ -18,24 +18,24 @@ loop-preserved g c =
     let now = c.in_ok-answer_some.ensures in
     record {
       back = λ h. now.back (was.back h);
-      written = λ tells accounts shown.
-          writes_on (HasDenied g.K.Keeper.refuses) accounts c.args.session.now.client c.loop.session.client c.answer_some.new.session.client (g.W.Write.contents c.args.output.now) (g.W.Write.contents c.loop.output) (g.W.Write.contents c.answer_some.new.output)
-          (g.K.Keeper.holds c.loop.keeper) (g.K.Keeper.holds c.answer_some.new.keeper) (was.written tells accounts shown) (now.answers tells);
+      written = λ tells idle accounts shown.
+          writes_on (HasDenied g.K.Keeper.refuses c.args.path.now) accounts c.args.session.now.client c.loop.session.client c.answer_some.new.session.client (g.W.Write.contents c.args.output.now) (g.W.Write.contents c.loop.output) (g.W.Write.contents c.answer_some.new.output)
+          (g.K.Keeper.holds c.loop.keeper) (g.K.Keeper.holds c.answer_some.new.keeper) (was.written tells idle accounts shown) (now.answers tells (was.back idle));
       none = λ tells h. now.none tells (was.none tells h);
     }
 
 pub returns-then-not-ready-clause-answers : goal.returns-then-not-ready-clause-answers
-returns-then-not-ready-clause-answers g c tells accounts shown =
-    let idle : is_ready c.loop.session.client ≡ false = search rules in
-    (c.loop.invariant.written tells accounts shown, idle)
+returns-then-not-ready-clause-answers g c tells idle accounts shown =
+    let done : is_ready c.loop.session.client ≡ false = search rules in
+    (c.loop.invariant.written tells idle accounts shown, done)
 
 pub returns-in_err-answer_some-clause-answers : goal.returns-in_err-answer_some-clause-answers
-returns-in_err-answer_some-clause-answers g c tells accounts shown =
+returns-in_err-answer_some-clause-answers g c tells idle accounts shown =
     let is : c.from_residual.result ≡ Err c.in_err-answer_some.field-0.0 = search rules in
-    subst (WritesAll (HasDenied g.K.Keeper.refuses) accounts c.args.session.now.client (g.W.Write.contents c.args.output.now) (g.W.Write.contents c.answer_some.new.output) c.answer_some.new.session.client (g.K.Keeper.holds c.answer_some.new.keeper)) (sym is)
-    (interrupted_on (HasDenied g.K.Keeper.refuses) accounts c.args.session.now.client c.loop.session.client (g.W.Write.contents c.args.output.now) (g.W.Write.contents c.loop.output) (g.W.Write.contents c.answer_some.new.output)
-    (g.K.Keeper.holds c.loop.keeper) (g.K.Keeper.holds c.answer_some.new.keeper) (c.loop.invariant.written tells accounts shown) (c.in_err-answer_some.ensures.answers tells))
+    subst (WritesAll (HasDenied g.K.Keeper.refuses c.args.path.now) accounts c.args.session.now.client (g.W.Write.contents c.args.output.now) (g.W.Write.contents c.answer_some.new.output) c.answer_some.new.session.client (g.K.Keeper.holds c.answer_some.new.keeper)) (sym is)
+    (interrupted_on (HasDenied g.K.Keeper.refuses c.args.path.now) accounts c.args.session.now.client c.loop.session.client (g.W.Write.contents c.args.output.now) (g.W.Write.contents c.loop.output) (g.W.Write.contents c.answer_some.new.output)
+    (g.K.Keeper.holds c.loop.keeper) (g.K.Keeper.holds c.answer_some.new.keeper) (c.loop.invariant.written tells idle accounts shown) (c.in_err-answer_some.ensures.answers tells (c.loop.invariant.back idle)))
 
 pub returns-clause-answers : goal.returns-clause-answers
-returns-clause-answers g c tells accounts shown =
-    interrupted_so (HasDenied g.K.Keeper.refuses) accounts c.args.session.now.client c.loop.session.client (g.W.Write.contents c.args.output.now) (g.W.Write.contents c.loop.output) (g.K.Keeper.holds c.loop.keeper) (c.loop.invariant.written tells accounts shown)
+returns-clause-answers g c tells idle accounts shown =
+    interrupted_so (HasDenied g.K.Keeper.refuses c.args.path.now) accounts c.args.session.now.client c.loop.session.client (g.W.Write.contents c.args.output.now) (g.W.Write.contents c.loop.output) (g.K.Keeper.holds c.loop.keeper) (c.loop.invariant.written tells idle accounts shown)

@@ -1,5 +1,5 @@
 -- A piece comes, and all that is whole is answered; or the session ends there, or breaks off.
-use Rattle.std.proofs.Common.{◌≡◌, ◌≤◌, ℕ, [], Option, Ok, Err, unwrap_or, length, take, drop, sym, ap, subst, inl, inr, true, rules, arith}
+use Rattle.std.proofs.Common.{◌≡◌, ◌≤◌, ℕ, [], Option, Ok, Err, unwrap_or, length, take, drop, sym, ap, subst, inl, inr, true, false, rules, arith}
 use Rattle.std.proofs.lemmas.List.{length-take}
 use Rattle.std.specs.Io.KnownBytes.{Consumes}
 use Rattle.sessions.specs.Clients.{client_given}
@@ -9,30 +9,30 @@ use Rattle.sievedrun.proofs.ServingLemmas.{broken_served, served_at_end, served_
 use Rattle.sievedrun.proofs.session.converse.Goals as goal
 
 pub returns-in_err-len-clause-serves : goal.returns-in_err-len-clause-serves
-returns-in_err-len-clause-serves g c tells accounts first_in first_out first =
+returns-in_err-len-clause-serves g c tells idle accounts first_in first_out first =
     let is : c.from_residual.result ≡ Err c.in_err-len.field-0.0 = search rules in
-    subst (Converses (HasDenied g.K.Keeper.refuses) accounts first_in (g.R.Read.remaining c.read_at.new.input) first_out (g.W.Write.contents c.loop.output) (g.K.Keeper.holds c.loop.keeper)) (sym is)
-    (broken_served (HasDenied g.K.Keeper.refuses) accounts first_in (g.R.Read.remaining c.loop.input) first_out (g.W.Write.contents c.loop.output) c.loop.session.client (g.K.Keeper.holds c.loop.keeper) (c.loop.invariant.served tells accounts first_in first_out first))
+    subst (Converses (HasDenied g.K.Keeper.refuses c.args.path.now) accounts first_in (g.R.Read.remaining c.read_at.new.input) first_out (g.W.Write.contents c.loop.output) (g.K.Keeper.holds c.loop.keeper)) (sym is)
+    (broken_served (HasDenied g.K.Keeper.refuses c.args.path.now) accounts first_in (g.R.Read.remaining c.loop.input) first_out (g.W.Write.contents c.loop.output) c.loop.session.client (g.K.Keeper.holds c.loop.keeper) (c.loop.invariant.served tells idle accounts first_in first_out first))
 
 pub returns-in_default-clause-serves : goal.returns-in_default-clause-serves
-returns-in_default-clause-serves g c tells accounts first_in first_out first =
+returns-in_default-clause-serves g c tells idle accounts first_in first_out first =
     let none : unwrap_or c.in_ok-len.field-0 0 ≡ 0 = ap (λ o. unwrap_or o 0) c.in_default.is in
     let nothing : Consumes (g.R.Read.remaining c.loop.input) (g.R.Read.remaining c.read_at.new.input) [] = subst (λ n. Consumes (g.R.Read.remaining c.loop.input) (g.R.Read.remaining c.read_at.new.input) (take n (drop 0 c.read_at.new.room))) none c.in_ok-len.ensures.read in
     record {
       client = c.loop.session.client;
-      served = served_at_end (HasDenied g.K.Keeper.refuses) accounts first_in (g.R.Read.remaining c.loop.input) (g.R.Read.remaining c.read_at.new.input) first_out (g.W.Write.contents c.loop.output) c.loop.session.client (g.K.Keeper.holds c.loop.keeper)
-          (c.loop.invariant.served tells accounts first_in first_out first) nothing;
+      served = served_at_end (HasDenied g.K.Keeper.refuses c.args.path.now) accounts first_in (g.R.Read.remaining c.loop.input) (g.R.Read.remaining c.read_at.new.input) first_out (g.W.Write.contents c.loop.output) c.loop.session.client (g.K.Keeper.holds c.loop.keeper)
+          (c.loop.invariant.served tells idle accounts first_in first_out first) nothing;
       over = inr (c.in_ok-len.ensures.end (ap (λ (o : Option ℕ). Ok o) c.in_default.is));
     }
 
 pub returns-in_err-give-clause-serves : goal.returns-in_err-give-clause-serves
-returns-in_err-give-clause-serves g c tells accounts first_in first_out first =
+returns-in_err-give-clause-serves g c tells idle accounts first_in first_out first =
     let is : c.from_residual-in_err-give.result ≡ Err memory = search rules in
-    subst (Converses (HasDenied g.K.Keeper.refuses) accounts first_in (g.R.Read.remaining c.read_at.new.input) first_out (g.W.Write.contents c.loop.output) (g.K.Keeper.holds c.loop.keeper)) (sym is)
-    (broken_served (HasDenied g.K.Keeper.refuses) accounts first_in (g.R.Read.remaining c.loop.input) first_out (g.W.Write.contents c.loop.output) c.loop.session.client (g.K.Keeper.holds c.loop.keeper) (c.loop.invariant.served tells accounts first_in first_out first))
+    subst (Converses (HasDenied g.K.Keeper.refuses c.args.path.now) accounts first_in (g.R.Read.remaining c.read_at.new.input) first_out (g.W.Write.contents c.loop.output) (g.K.Keeper.holds c.loop.keeper)) (sym is)
+    (broken_served (HasDenied g.K.Keeper.refuses c.args.path.now) accounts first_in (g.R.Read.remaining c.loop.input) first_out (g.W.Write.contents c.loop.output) c.loop.session.client (g.K.Keeper.holds c.loop.keeper) (c.loop.invariant.served tells idle accounts first_in first_out first))
 
 pub returns-in_err-answered-clause-serves : goal.returns-in_err-answered-clause-serves
-returns-in_err-answered-clause-serves g c tells accounts first_in first_out first =
+returns-in_err-answered-clause-serves g c tells idle accounts first_in first_out first =
     let len = c.in-Some.len in
     let room = c.read_at.new.room in
     let came : unwrap_or c.in_ok-len.field-0 0 ≡ len = ap (λ o. unwrap_or o 0) c.in-Some.is in
@@ -41,13 +41,13 @@ returns-in_err-answered-clause-serves g c tells accounts first_in first_out firs
     let short : length (take len room) ≤ 4096 = omega (arith, whole, length-take len room) in
     let joins : c.give.new.self.client ≡ client_given (take len room) c.loop.session.client = search rules in
     let is : c.from_residual-in_err-answered.result ≡ Err c.in_err-answered.field-0.0 = search rules in
-    subst (Converses (HasDenied g.K.Keeper.refuses) accounts first_in (g.R.Read.remaining c.read_at.new.input) first_out (g.W.Write.contents c.answer_all-answered.new.output) (g.K.Keeper.holds c.answer_all-answered.new.keeper)) (sym is)
-    (broken_on (HasDenied g.K.Keeper.refuses) accounts first_in (g.R.Read.remaining c.loop.input) (g.R.Read.remaining c.read_at.new.input) first_out (g.W.Write.contents c.loop.output) (g.W.Write.contents c.answer_all-answered.new.output) (take len room)
-    c.loop.session.client c.give.new.self.client c.answer_all-answered.new.session.client (g.K.Keeper.holds c.loop.keeper) (g.K.Keeper.holds c.answer_all-answered.new.keeper) (c.loop.invariant.served tells accounts first_in first_out first) took short joins
-    (c.in_err-answered.ensures.answers tells))
+    subst (Converses (HasDenied g.K.Keeper.refuses c.args.path.now) accounts first_in (g.R.Read.remaining c.read_at.new.input) first_out (g.W.Write.contents c.answer_all-answered.new.output) (g.K.Keeper.holds c.answer_all-answered.new.keeper)) (sym is)
+    (broken_on (HasDenied g.K.Keeper.refuses c.args.path.now) accounts first_in (g.R.Read.remaining c.loop.input) (g.R.Read.remaining c.read_at.new.input) first_out (g.W.Write.contents c.loop.output) (g.W.Write.contents c.answer_all-answered.new.output) (take len room)
+    c.loop.session.client c.give.new.self.client c.answer_all-answered.new.session.client (g.K.Keeper.holds c.loop.keeper) (g.K.Keeper.holds c.answer_all-answered.new.keeper) (c.loop.invariant.served tells idle accounts first_in first_out first) took c.loop.invariant.live short joins
+    (c.in_err-answered.ensures.answers tells (c.loop.invariant.back idle)))
 
-pub returns-then-is_closed-clause-serves : goal.returns-then-is_closed-clause-serves
-returns-then-is_closed-clause-serves g c tells accounts first_in first_out first =
+pub returns-then-is_over-clause-serves : goal.returns-then-is_over-clause-serves
+returns-then-is_over-clause-serves g c tells idle accounts first_in first_out first =
     let len = c.in-Some.len in
     let room = c.read_at.new.room in
     let came : unwrap_or c.in_ok-len.field-0 0 ≡ len = ap (λ o. unwrap_or o 0) c.in-Some.is in
@@ -58,9 +58,9 @@ returns-then-is_closed-clause-serves g c tells accounts first_in first_out first
     let shut : c.answer_all-answered.new.session.client.closed ≡ true = search rules in
     record {
       client = c.answer_all-answered.new.session.client;
-      served = served_on (HasDenied g.K.Keeper.refuses) accounts first_in (g.R.Read.remaining c.loop.input) (g.R.Read.remaining c.read_at.new.input) first_out (g.W.Write.contents c.loop.output) (g.W.Write.contents c.answer_all-answered.new.output) (take len room)
-          c.loop.session.client c.give.new.self.client c.answer_all-answered.new.session.client (g.K.Keeper.holds c.loop.keeper) (g.K.Keeper.holds c.answer_all-answered.new.keeper) (c.loop.invariant.served tells accounts first_in first_out first) took short joins
-          (c.in_ok-answered.ensures.answers tells);
+      served = served_on (HasDenied g.K.Keeper.refuses c.args.path.now) accounts first_in (g.R.Read.remaining c.loop.input) (g.R.Read.remaining c.read_at.new.input) first_out (g.W.Write.contents c.loop.output) (g.W.Write.contents c.answer_all-answered.new.output) (take len room)
+          c.loop.session.client c.give.new.self.client c.answer_all-answered.new.session.client (g.K.Keeper.holds c.loop.keeper) (g.K.Keeper.holds c.answer_all-answered.new.keeper) (c.loop.invariant.served tells idle accounts first_in first_out first) took c.loop.invariant.live short joins
+          (c.in_ok-answered.ensures.answers tells (c.loop.invariant.back idle));
       over = inl shut;
     }
 
@@ -75,14 +75,16 @@ loop-preserved g c =
     let joins : c.give.new.self.client ≡ client_given (take len room) c.loop.session.client = search rules in
     let was = c.loop.invariant in
     let now = c.in_ok-answered.ensures in
+    let live : c.answer_all-answered.new.session.client.closed ≡ false = search rules in
     record {
+      live = live;
       back = λ h. now.back (was.back h);
-      served = λ tells accounts first_in first_out first. served_on (HasDenied g.K.Keeper.refuses) accounts first_in (g.R.Read.remaining c.loop.input) (g.R.Read.remaining c.read_at.new.input) first_out (g.W.Write.contents c.loop.output) (g.W.Write.contents c.answer_all-answered.new.output) (take len room)
-          c.loop.session.client c.give.new.self.client c.answer_all-answered.new.session.client (g.K.Keeper.holds c.loop.keeper) (g.K.Keeper.holds c.answer_all-answered.new.keeper) (c.loop.invariant.served tells accounts first_in first_out first) took short joins
-          (c.in_ok-answered.ensures.answers tells);
+      served = λ tells idle accounts first_in first_out first. served_on (HasDenied g.K.Keeper.refuses c.args.path.now) accounts first_in (g.R.Read.remaining c.loop.input) (g.R.Read.remaining c.read_at.new.input) first_out (g.W.Write.contents c.loop.output) (g.W.Write.contents c.answer_all-answered.new.output) (take len room)
+          c.loop.session.client c.give.new.self.client c.answer_all-answered.new.session.client (g.K.Keeper.holds c.loop.keeper) (g.K.Keeper.holds c.answer_all-answered.new.keeper) (c.loop.invariant.served tells idle accounts first_in first_out first) took c.loop.invariant.live short joins
+          (c.in_ok-answered.ensures.answers tells (c.loop.invariant.back idle));
       none = λ tells h. now.none tells (was.none tells h);
     }
 
 pub returns-clause-serves : goal.returns-clause-serves
-returns-clause-serves g c tells accounts first_in first_out first =
-    broken_served (HasDenied g.K.Keeper.refuses) accounts first_in (g.R.Read.remaining c.loop.input) first_out (g.W.Write.contents c.loop.output) c.loop.session.client (g.K.Keeper.holds c.loop.keeper) (c.loop.invariant.served tells accounts first_in first_out first)
+returns-clause-serves g c tells idle accounts first_in first_out first =
+    broken_served (HasDenied g.K.Keeper.refuses c.args.path.now) accounts first_in (g.R.Read.remaining c.loop.input) first_out (g.W.Write.contents c.loop.output) c.loop.session.client (g.K.Keeper.holds c.loop.keeper) (c.loop.invariant.served tells idle accounts first_in first_out first)
