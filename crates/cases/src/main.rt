@@ -9,6 +9,7 @@ mod asked;
 mod cut;
 mod event;
 mod file;
+mod place;
 mod question;
 mod run;
 mod script;

@@ -1,6 +1,7 @@
 //! What is asked of a store, and done to it, beside events.
 use crate::answer::{add_line, add_refusal};
 use crate::event::PASSWORD;
+use crate::place::{add_next_filed, add_next_queued, add_numbers};
 use casefiles::Part::{Number, Text};
 use casefiles::{Section, Tally, add_parts, cut, decoded, trimmed};
 use mailengine::Refusal;
@@ -32,6 +33,9 @@ pub fn ask(
         "first" => add_first(store, out, user, name),
         "queue" => add_queue(alloc, store, out, user),
         "notices" => add_notices(alloc, store, out, user),
+        "numbers" => add_numbers(store, out, user, name),
+        "filed" => add_next_filed(alloc, store, out, section.note),
+        "queued" => add_next_queued(alloc, store, out, section.note),
         _ => return tally.skip(section, &[]),
     };
     match asked {
