@@ -63,7 +63,10 @@ class Host:
         shutil.chown(f"{room}/mail", "nobody", "nogroup")
         self.write("dovecot.conf", DOVECOT.format(room=room, imap=self.imap))
         plugin = block("$config['managesieve_mbox_encoding']", "With it `Größe`").replace("localhost:4190", f"127.0.0.1:{self.sieve}")
-        self.write("conf/config.inc.php", CONFIG.format(room=room, imap=self.imap) + plugin)
+        shutil.copytree(f"{ROUNDCUBE}/plugins", f"{room}/plugins")
+        self.write("plugins/managesieve/config.inc.php", f"<?php\n{plugin}")
+        self.write("first.php", f"<?php define('RCUBE_PLUGINS_DIR', '{room}/plugins/');")
+        self.write("conf/config.inc.php", CONFIG.format(room=room, imap=self.imap))
         for name in "defaults.inc.php", "mimetypes.php":
             shutil.copy(f"/etc/roundcube/{name}", f"{room}/conf/{name}")
         with open(f"{ROUNDCUBE}/SQL/sqlite.initial.sql") as tables:
@@ -86,7 +89,8 @@ class Host:
     def start(self):
         self.begin("dovecot", "-F", "-c", f"{self.room}/dovecot.conf")
         self.begin(scripts.PROGRAM[0], "serve", "--db", self.file, "--port", str(self.sieve))
-        self.begin("php", "-S", f"127.0.0.1:{self.web}", "-t", ROUNDCUBE, env={**os.environ, "ROUNDCUBE_CONFIG_DIR": f"{self.room}/conf/"})
+        env = {**os.environ, "ROUNDCUBE_CONFIG_DIR": f"{self.room}/conf/"}
+        self.begin("php", "-d", f"auto_prepend_file={self.room}/first.php", "-S", f"127.0.0.1:{self.web}", "-t", ROUNDCUBE, env=env)
         self.begin("chromedriver", f"--port={self.driver}")
         for port in self.imap, self.sieve, self.web, self.driver:
             wait_for(lambda: listens(port), "a listener")
@@ -108,7 +112,8 @@ class Browser:
         self.base += "/" + self.ask("POST", "", {"capabilities": {"alwaysMatch": wanted}})["sessionId"]
 
     def ask(self, method, path, body=None):
-        asked = urllib.request.Request(self.base + path, json.dumps(body).encode() if body is not None else None, {"Content-Type": "application/json"}, method=method)
+        text = json.dumps(body).encode() if body is not None else None
+        asked = urllib.request.Request(self.base + path, text, {"Content-Type": "application/json"}, method=method)
         with urllib.request.urlopen(asked, timeout=60) as answer:
             return json.load(answer)["value"]
 
