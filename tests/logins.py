@@ -3,12 +3,12 @@
 
   tests/logins.py [--sieved SIEVED] [TRIAL ..]       SIEVED: the program, crates/sieved/out/sieved where none is named
 
-The trials: serve, session; without a word, both. Each makes 50 logins with a wrong password of either kind, in turns, on connections of two
-logins each, of which either kind is the first as often, and compares the medians: they differ by less than a tenth, of the time that the
-program had the processor and of the time that the client waited. Other work on the machine makes a client wait and takes the processor's
-caches, by chance more for one kind: so a trial has five rounds of which one has to hold. A digest that isn't made is a third of a login,
-in each round. Prints a line for each trial, a last one that counts them, and ends with 1 where one failed. `tests/run` runs it. It needs python3 and Linux
-(/proc/PID/schedstat), and takes some seconds.
+The trials: serve, session; without a word, both. Each makes 50 logins with a wrong password of either kind, one of each kind on a
+connection, of which either is the first as often. Compared are the two of a connection, since they run on one processor, and these differ:
+the median difference is less than a tenth, of the time that the program had the processor and of the time that the client waited. Other
+work on the machine makes a client wait and takes the processor's caches, by chance more for one kind: so a trial has five rounds of which
+one has to hold. A digest that isn't made is a third of a login, in each round. Prints a line for each trial, a last one that counts them,
+and ends with 1 where one failed. `tests/run` runs it. It needs python3 and Linux (/proc/PID/schedstat), and takes some seconds.
 """
 import base64, os, statistics, time
 import trials
@@ -36,31 +36,38 @@ def times(client, pid, user):
     return took
 
 
-def medians(greeted):
-    """For known and for unknown names the medians of both times; `greeted` gives a client, the program's process, and what ends them."""
-    known, unknown = [], []
+def pairs(greeted):
+    """Of each connection what its login by a known name and its login by an unknown one took, by which kind came first; `greeted` gives a
+    client, the program's process, and what ends them."""
+    told = {True: [], False: []}
     for turn in range(LOGINS):
-        logins = [(known, KNOWN[turn % len(KNOWN)]), (unknown, UNKNOWN[turn % len(UNKNOWN)])]
+        logins = [(0, KNOWN[turn % len(KNOWN)]), (1, UNKNOWN[turn % len(UNKNOWN)])]
         client, pid, close = greeted()
-        for taken, user in logins[::1 if turn // len(KNOWN) % 2 else -1]:
-            taken.append(times(client, pid, user))
+        is_known_first = turn // len(KNOWN) % 2 == 1
+        taken = {kind: times(client, pid, user) for kind, user in logins[::1 if is_known_first else -1]}
         close()
-    return [[statistics.median(column) for column in zip(*kind)] for kind in (known, unknown)]
+        told[is_known_first].append((taken[0], taken[1]))
+    return told
 
 
-def near(one, other):
-    return abs(one - other) < max(one, other) / 10
+def difference(told, which):
+    """A login's median time, and by how much of it an unknown name's is longer: the median over the connections in which a known name came
+    first and the one over the others, halved, so what a first login costs more stands in neither."""
+    usual = statistics.median(taken[which] for both in told.values() for pair in both for taken in pair)
+    longer = [statistics.median(unknown[which] - known[which] for known, unknown in both) for both in told.values()]
+    return usual, sum(longer) / 2 / usual
 
 
 def compared(greeted):
     rounds = []
     for _ in range(ROUNDS):
-        (work, wait), (other_work, other_wait) = medians(greeted)
-        rounds.append(f"{work * 1000:.2f} and {other_work * 1000:.2f} ms of the processor, {wait * 1000:.2f} and {other_wait * 1000:.2f} ms in all")
-        told = f"{LOGINS} failed logins with known and with unknown names: {'; '.join(rounds)}"
-        if near(work, other_work) and near(wait, other_wait):
-            return told
-    raise AssertionError(told)
+        told = pairs(greeted)
+        (work, more_work), (wait, more_wait) = difference(told, 0), difference(told, 1)
+        rounds.append(f"{work * 1000:.2f} ms of the processor ({more_work:+.1%}), {wait * 1000:.2f} ms in all ({more_wait:+.1%})")
+        line = f"{LOGINS} failed logins, by how much those of unknown names take longer: {'; '.join(rounds)}"
+        if abs(more_work) < 0.1 and abs(more_wait) < 0.1:
+            return line
+    raise AssertionError(line)
 
 
 def serve(store):
