@@ -143,8 +143,7 @@ impl<S: Alter> Store<S> {
     ///
     /// # Errors
     ///
-    /// `Memory`, and `Store`: always for a number from 2^63 on, which the database can't have (`past`), and for any other only
-    /// where the store failed.
+    /// `Memory`, and `Store`: always for a number from 2^63 on, which the database can't have (`past`).
     pub fn next_filed(&mut self, start: &Filed) -> Result<Option<Filed>, Refusal>
         ensures next { FindsAll (IsNextFiled start.now) (state S.Store self.old) (state S.Store self.new) result }
         ensures named { IfErr result IsTransient }
@@ -161,8 +160,7 @@ impl<S: Alter> Store<S> {
     ///
     /// # Errors
     ///
-    /// `Memory`, and `Store`: always for a number from 2^63 on, which the database can't have (`past`), and for any other only
-    /// where the store failed.
+    /// `Memory`, and `Store`: always for a number from 2^63 on, which the database can't have (`past`).
     pub fn next_queued(&mut self, start: &Queued) -> Result<Option<Queued>, Refusal>
         ensures next { FindsAll (IsNextQueued start.now) (state S.Store self.old) (state S.Store self.new) result }
         ensures named { IfErr result IsTransient }

@@ -41,7 +41,7 @@ pub fn all_from_rows<T: FromRow>(alloc: Global, rows: &[Row]) -> Result<List<T>,
     ensures ok { IfOk result (λ all. map T.shows all ≡ map T.cells_of rows.now) }
     ensures named { IfErr result IsTransient }
 {
-    let mut all = Vec::new(alloc);
+    let mut all = Vec::with_capacity(alloc, rows.len())?;
     for row in rows {
         all.push(T::from_row(row)?)?;
     }

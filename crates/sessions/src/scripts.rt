@@ -143,7 +143,7 @@ fn lines_of(
 ) -> Result<List<Line>, AllocError>
     ensures { IfOk result (λ lines. lines ≡ s.script_lines (r.value_of active.entry) names.now) }
 {
-    let mut lines = List::new(alloc);
+    let mut lines = List::from_vec(Vec::with_capacity(alloc, names.len())?);
     for name in names {
         let active = is_active(active, name.as_slice());
         let name = name.try_clone(alloc)?;
