@@ -9,6 +9,9 @@ use octets::{Octets, write_decimal};
 use std::alloc::{AllocError, Global};
 use std::mem;
 
+/// The most octets that stand around a script's name or text in its line: a literal's braces, digits and line end, and ` ACTIVE`.
+const MOST_AROUND: usize = 32;
+
 /// Appends the answer's octets: strings are quoted where they fit, with `\` before each `"` and `\`, else literals.
 ///
 /// Time and memory are linear in the answer's octets; a text is copied once. Lack of memory is the only error, and `out`
@@ -17,6 +20,7 @@ pub fn spell(alloc: Global, reply: &Reply, out: &mut Octets) -> Result<(), Alloc
     ensures ok { OnOk result (out.new ≡ out.old ++ s.spelled reply.now) }
     ensures err { OnErr result (out.new ≡ out.old) }
 {
+    out.reserve(room(reply.lines.as_slice()))?;
     let before = out.len();
     let done = append(reply, out);
     if done.is_err() {
@@ -25,6 +29,20 @@ pub fn spell(alloc: Global, reply: &Reply, out: &mut Octets) -> Result<(), Alloc
         *out = Octets::from_vec(octets);
     }
     done
+}
+
+// About how many octets the lines before the last one take, where nothing in them is escaped.
+fn room(lines: &[Line]) -> usize {
+    let mut count: usize = 0;
+    for line in lines {
+        let text = match line {
+            Line::Capability { name, .. } | Line::Script { name, .. } => name.len(),
+            Line::Text(text) => text.len(),
+            Line::Empty => 0,
+        };
+        count = count.saturating_add(text).saturating_add(MOST_AROUND);
+    }
+    count
 }
 
 fn append(reply: &Reply, out: &mut Octets) -> Result<(), AllocError>

@@ -9,6 +9,7 @@ pub mod Marks
 pub mod Named
 pub mod Next
 pub mod Numbered
+pub mod OctetLemmas
 pub mod Opening
 pub mod Packing
 pub mod Prefixes
@@ -18,3 +19,4 @@ pub mod Spaces
 pub mod Strings
 pub mod TokenLaws
 pub mod Worded
+pub mod CommentLemmas

@@ -1,9 +1,10 @@
 //! White space: blanks, line ends and comments.
-ghost use Rattle.std.specs.Prelude.{◌≡◌, ◌≤◌, length, drop, MatchResult, Some, None};
+ghost use Rattle.std.specs.Prelude.{◌≡◌, ◌<◌, ◌≤◌, length, drop, MatchResult, Some, None};
 ghost use Rattle.sievelex.specs.Skip.{begins_space, space_from};
-ghost use Rattle.sievelex.specs.declared.space.Place.TheVariants.{Between};
+ghost use Rattle.sievelex.specs.declared.space.Place.TheVariants.{Between, Comment};
 
 use crate::class::is_white;
+use memchr::memchr;
 
 /// Where in white space an octet stands.
 #[derive(Clone, Copy)]
@@ -63,6 +64,18 @@ fn begins_space(octets: &[u8]) -> bool
     }
 }
 
+/// How many octets of a `#` comment are left, its line end among them.
+fn comment_len(octets: &[u8]) -> usize
+    ensures within { result ≤ length octets.now }
+    ensures some { 0 < length octets.now → 0 < result }
+    ensures goes_on { space_from Between (drop result octets.now) ≡ space_from Comment octets.now }
+{
+    match memchr(b'\n', octets) {
+        Some(at) => at + 1,
+        None => octets.len(),
+    }
+}
+
 /// How many octets of white space stand at the front, or where the comment begins that is not closed.
 pub(crate) fn space_len(octets: &[u8]) -> Result<usize, usize>
     ensures { MatchResult result
@@ -71,15 +84,27 @@ pub(crate) fn space_len(octets: &[u8]) -> Result<usize, usize>
 {
     let mut place = Place::Between;
     let mut opened = 0;
-    for (i, octet) in octets.iter().enumerate() {
-        if let Place::Between = place {
-            let (_, ahead) = octets.split_at(i);
-            if !begins_space(ahead) {
-                return Ok(i);
+    let mut at = 0;
+    while at < octets.len() {
+        let (_, ahead) = octets.split_at(at);
+        match place {
+            Place::Between => {
+                if !begins_space(ahead) {
+                    return Ok(at);
+                }
+                opened = at;
+                place = place.after(octets[at]);
+                at += 1;
             }
-            opened = i;
+            Place::Comment => {
+                at += comment_len(ahead);
+                place = Place::Between;
+            }
+            _ => {
+                place = place.after(octets[at]);
+                at += 1;
+            }
         }
-        place = place.after(*octet);
     }
     match place {
         Place::Between | Place::Comment => Ok(octets.len()),

@@ -3,6 +3,7 @@ ghost use Rattle.std.specs.Prelude.{◌≡◌, ◌+◌, ◌<◌, ◌≤◌, leng
 ghost use Rattle.sievelex.specs.Text.{IsText, HasGoodOctets, line_ends};
 
 use crate::fault::{FaultKind, ScriptFault};
+use memchr::memchr2;
 use std::str;
 
 /// Why the text can be no script, whatever its tokens: it is not UTF-8, or has a NUL or a lone CR.
@@ -25,13 +26,20 @@ pub(crate) fn text_fault(text: &[u8]) -> Option<ScriptFault>
 fn bad_octet(text: &[u8]) -> Option<usize>
     ensures { MatchOption result (HasGoodOctets text.now) (λ place. (place < length text.now) × (HasGoodOctets text.now → ⊥)) }
 {
-    for (i, octet) in text.iter().enumerate() {
-        if *octet == 0 {
-            return Some(i);
+    let mut at = 0;
+    while at < text.len() {
+        let (_, ahead) = text.split_at(at);
+        let Some(before) = memchr2(0, b'\r', ahead) else {
+            return None;
+        };
+        at += before;
+        if text[at] == 0 {
+            return Some(at);
         }
-        if *octet == b'\r' && text.get(i + 1) != Some(&b'\n') {
-            return Some(i);
+        if text.get(at + 1) != Some(&b'\n') {
+            return Some(at);
         }
+        at += 1;
     }
     None
 }

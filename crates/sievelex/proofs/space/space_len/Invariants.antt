@@ -1,10 +1,14 @@
-use Rattle.std.proofs.Common.{◌≡◌, ◌≤◌, length, drop}
+use Rattle.std.proofs.Common.{◌≡◌, ◌≤◌, ◌-◌, length, drop}
 use Rattle.sievelex.specs.Skip.{space_from}
 use Rattle.sievelex.specs.declared.space.Place.TheVariants.{Between}
 use Rattle.sievelex.proofs.space.space_len.Given as goal
 
-abbrev pub invariant-loop-i : goal.invariant-loop-i
-invariant-loop-i l = record {
-  read : space_from l.place (drop l.i l.octets) ≡ space_from Between l.octets;
+abbrev pub invariant-loop-at : goal.invariant-loop-at
+invariant-loop-at l = record {
+  within : l.at ≤ length l.octets;
+  read : space_from l.place (drop l.at l.octets) ≡ space_from Between l.octets;
   opened : l.opened ≤ length l.octets;
 }
+
+abbrev pub decreases-loop-at : goal.decreases-loop-at
+decreases-loop-at l = length l.octets - l.at
