@@ -33,4 +33,7 @@ pub mod OpenLemmas
 pub mod ShowExamples
 pub mod NextExamples
 pub mod AccountExamples
+pub mod PermutedLemmas
+pub mod OldLemmas
+mod OldExamples
 pub mod RefusalExamples

@@ -21,3 +21,4 @@ pub use Rattle.mailtables.specs.Cells
 pub use Rattle.mailtables.specs.Connection
 pub use Rattle.mailtables.specs.Ours
 pub use Rattle.mailtables.specs.Schema
+pub mod Versions

@@ -43,7 +43,7 @@ rows_stay trees = (refl, (refl, (refl, (refl, (refl, (refl, (refl, (refl, tt))))
 pub stays : (s : State) → StaysSame s s
 stays s = record { now_is = λ _. refl; committed_is = λ _. refl }
 
-survives_same : (s : State) (P : Trees → Type 0) → Survives s s P
+pub survives_same : (s : State) (P : Trees → Type 0) → Survives s s P
 survives_same s P = record {
   clean = omega arith;
   shield = λ h. h;
@@ -83,7 +83,7 @@ complete_then old new r named made settled same survives = record {
 
 -- ---- the version, and then the index
 
-module _ {E F : Type 0} (old mid new : State) (r : Result Bool E) (asks : Asks (λ is. IsTrue is ↔ IsOurs old.now) old mid r) where
+module _ {E F : Type 0} (old mid new : State) (r : Result Bool E) (asks : Asks IsOurSchema (λ is. IsTrue is ↔ IsOurs old.now) old mid r) where
   -- the query failed
   pub opens_refused : (e : F) (q : Result Bool F) → q ≡ Err e → Opens old mid q
   opens_refused e q is = record {

@@ -51,7 +51,7 @@ fn make_first<S: Alter>(tx: &mut Transaction<'_, S>) -> Result<(), Error>
 }
 
 /// The tables of messages and copies, which are the folders, and the index of the copies, inside a transaction.
-fn make_folders<S: Alter>(tx: &mut Transaction<'_, S>) -> Result<(), Error>
+pub fn make_folders<S: Alter>(tx: &mut Transaction<'_, S>) -> Result<(), Error>
     ensures { MakesTables S.Store schema_6 mail_schema tx.old tx.new result }
 {
     make_message(tx)?;
@@ -59,13 +59,20 @@ fn make_folders<S: Alter>(tx: &mut Transaction<'_, S>) -> Result<(), Error>
     make_copy_message(tx)
 }
 
+/// The tables of the queue, the replies and the notices, inside a transaction.
+pub fn make_later<S: Alter>(tx: &mut Transaction<'_, S>) -> Result<(), Error>
+    ensures { MakesTables S.Store schema_3 schema_6 tx.old tx.new result }
+{
+    make_outgoing(tx)?;
+    make_reply(tx)?;
+    make_notice(tx)
+}
+
 /// The other five, inside a transaction.
 fn make_others<S: Alter>(tx: &mut Transaction<'_, S>) -> Result<(), Error>
     ensures { MakesTables S.Store schema_3 mail_schema tx.old tx.new result }
 {
-    make_outgoing(tx)?;
-    make_reply(tx)?;
-    make_notice(tx)?;
+    make_later(tx)?;
     make_folders(tx)
 }
 
