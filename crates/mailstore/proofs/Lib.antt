@@ -34,6 +34,7 @@ pub mod ShowExamples
 pub mod NextExamples
 pub mod AccountExamples
 pub mod PermutedLemmas
+pub mod VersionLemmas
 pub mod OldLemmas
 mod OldExamples
 pub mod RefusalExamples

@@ -18,9 +18,9 @@ use Rattle.mailstore.specs.AccountRows.{account_row}
 use Rattle.mailstore.specs.QueueRows.{queue_row}
 use Rattle.mailstore.specs.NoticeRows.{notice_row}
 use Rattle.mailstore.specs.CopyRows.{Copy, folders_from}
-use Rattle.mailstore.specs.Versions.{old_copy_row, old_version_row, ShowsOldCopies, IsShownOld, ShowsOldAccounts}
+use Rattle.mailstore.specs.OldShows.{old_copy_row, old_version_row, ShowsOldCopies, IsShownOld, ShowsOldAccounts}
 use Rattle.mailstore.proofs.NumberLemmas.{numbered_none}
-use Rattle.mailstore.proofs.OpenLemmas.{version_itself}
+use Rattle.mailstore.proofs.VersionLemmas.{version_itself}
 use Rattle.mailstore.proofs.OrderLemmas.{messages_are}
 
 abbrev alice : List ℕ

@@ -1,8 +1,9 @@
 -- What a migration leaves shows the accounts that version 1 showed.
-use Rattle.std.proofs.Common.{◌≡◌, ◌≤◌, ◌<◌, ℕ, pos, Bool, true, false, not, ◌&&◌, cond, codes, List, [], ◌∷◌, ◌++◌, map, filter, Option, Some, None, IsPermutation, refl, sym, ap, ◌∙◌, subst, inl, inr, arith}
+use Rattle.std.proofs.Common.{◌≡◌, ◌≤◌, ◌<◌, ℕ, pos, Bool, true, false, not, ◌&&◌, cond, codes, List, [], ◌∷◌, ◌++◌, map, filter, length, Option, Some, None, IsPermutation, refl, sym, ap, ◌∙◌, subst, inl, inr, arith}
 use Rattle.std.specs.FinMap.{get}
 use Rattle.std.specs.List.{AllByRecursion}
-use Rattle.std.proofs.lemmas.List.Sorted.{length_permutation, IsPermutation-trans, IsPermutation-map}
+use Rattle.std.proofs.lemmas.List.{nil_from_length}
+use Rattle.std.proofs.lemmas.List.Sorted.{length_permutation, IsPermutation-trans, IsPermutation-sym, IsPermutation-map}
 use Rattle.sqlite_value.specs.declared.value.Value.TheVariants.{Int, Blob}
 use Rattle.sqlite_value.specs.Order.{Row}
 use Rattle.sqlite_keyed.specs.Lists.{delete_where}
@@ -10,7 +11,12 @@ use Rattle.sqlite_keyed.proofs.ListLemmas.{filter-map, IsPermutation-filter}
 use Rattle.sqlite_rules.specs.Lists.{Has}
 use Rattle.mailtables.specs.Rows.{Tables, HoldsTables, has_key}
 use Rattle.mailtables.specs.MetaTable.{meta_tree, version_key, version_row}
-use Rattle.oldtables.specs.OldSchema.{old_schema, oldest_schema, old_cells, message_from, copy_from, old_copy_tree}
+use Rattle.oldtables.specs.OldSchema.{old_schema, oldest_schema, old_cells, message_from, copy_from, old_copy_tree, queue_columns, four_cells, oldest_outgoing_tree, oldest_reply_tree, oldest_notice_tree}
+use Rattle.mailtables.specs.AccountTable.{account_tree}
+use Rattle.mailtables.specs.ScriptTable.{script_tree}
+use Rattle.mailtables.specs.QueueTable.{outgoing_tree}
+use Rattle.mailtables.specs.ReplyTable.{reply_tree}
+use Rattle.mailtables.specs.NoticeTable.{notice_tree}
 use Rattle.mailtables.specs.MessageTable.{message_tree}
 use Rattle.mailtables.specs.CopyTable.{copy_tree}
 use Rattle.oldtables.specs.Migration.{IsMigrated, IsMoved, TurnsNew, TurnsNewest}
@@ -21,12 +27,13 @@ use Rattle.mailstore.specs.CopyRows.{Copy, copy_row, message_of, folders_from, S
 use Rattle.mailstore.specs.MessageRows.{Message, message_row}
 use Rattle.sqlite_trees.specs.Tree.{IsAscending}
 use Rattle.mailstore.specs.ScriptRows.{ShowsScripts}
-use Rattle.mailstore.specs.QueueRows.{ShowsQueue}
+use Rattle.mailstore.specs.QueueRows.{queue_row, ShowsQueue}
 use Rattle.mailstore.specs.ReplyRows.{ShowsReplies}
-use Rattle.mailstore.specs.NoticeRows.{ShowsNotices}
+use Rattle.mailstore.specs.NoticeRows.{notice_row, ShowsNotices}
 use Rattle.mailstore.specs.Shows.{rows_of, IsShown, IsAbsent, IsShownOrAbsent, ShowsAccounts, Presents}
-use Rattle.mailstore.specs.Versions.{old_copy_row, ShowsOldCopies, IsShownOld, IsAbsentOld, IsShownOldOrAbsent, ShowsOldAccounts}
-use Rattle.mailstore.proofs.OpenLemmas.{version_itself}
+use Rattle.mailstore.specs.OldShows.{old_copy_row, ShowsOldCopies, IsShownOld, IsAbsentOld, IsShownOldOrAbsent, ShowsOldAccounts}
+use Rattle.mailstore.proofs.VersionLemmas.{version_itself}
+use Rattle.mailstore.proofs.PermutedLemmas.{replies_moved}
 
 -- none that was taken out is left
 none_left : {X : Type 0} (p : X → Bool) (xs : List X) → filter p (delete_where p xs) ≡ []
@@ -186,6 +193,65 @@ module _ (before after : Tables) (m : IsMigrated before after) where
 pub last_shows : (old new : Database) → TurnsNew old new → (tables : Tables) → HoldsTables old_schema old tables → (accounts : Accounts) → ShowsOldAccounts tables accounts → Presents new accounts
 last_shows old new turned tables h accounts s = let all = turned tables h in (all.0, all.2, migrated_shows tables all.0 all.1 accounts s)
 
--- with the copies fourth, of the tables as they were moved
-pub fourth_shows : (old new : Database) → TurnsNewest old new → (there : Tables) → HoldsTables oldest_schema old there → (accounts : Accounts) → ((moved : Tables) → IsMoved there moved → ShowsOldAccounts moved accounts) → Presents new accounts
-fourth_shows old new turned there h accounts s = let all = turned there h in (all.1, all.4, migrated_shows all.0 all.1 all.3 accounts (s all.0 all.2))
+-- ---- the later tables, moved in two ways
+
+module _ (there tables moved : Tables) (one : IsMoved there tables) (other : IsMoved there moved) where
+  same_rows : (user : List ℕ) (columns : Row → Row) (from to : ℕ) → IsPermutation (map columns (there from)) (tables to) → IsPermutation (map columns (there from)) (moved to) → IsPermutation (rows_of user tables to) (rows_of user moved to)
+  same_rows user columns from to first second = IsPermutation-filter (is_theirs user) (tables to) (moved to) (IsPermutation-trans _ _ _ (IsPermutation-sym _ _ first) second)
+
+  numbered_moved : {X : Type 0} (number : X → ℕ) (row : X → Row) (before after : List Row) (entries : List X) (next : ℕ) → IsPermutation before after → AreNumbered number row before entries next → AreNumbered number row after entries next
+  numbered_moved number row before after entries next same h = record { rows_are = IsPermutation-trans _ _ _ h.rows_are same; rise = h.rise; from_one = h.from_one; below = h.below; counter = h.counter }
+
+  accounts_same : moved account_tree ≡ tables account_tree
+  accounts_same = other.accounts ∙ sym one.accounts
+
+  scripts_same : moved script_tree ≡ tables script_tree
+  scripts_same = other.scripts ∙ sym one.scripts
+
+  copies_same : moved old_copy_tree ≡ tables old_copy_tree
+  copies_same = other.copies ∙ sym one.copies
+
+  queue_same : (user : List ℕ) → IsPermutation (rows_of user tables outgoing_tree) (rows_of user moved outgoing_tree)
+  queue_same user = same_rows user queue_columns oldest_outgoing_tree outgoing_tree one.queue other.queue
+
+  replies_same : (user : List ℕ) → IsPermutation (rows_of user tables reply_tree) (rows_of user moved reply_tree)
+  replies_same user = same_rows user four_cells oldest_reply_tree reply_tree one.replies other.replies
+
+  notices_same : (user : List ℕ) → IsPermutation (rows_of user tables notice_tree) (rows_of user moved notice_tree)
+  notices_same user = same_rows user four_cells oldest_notice_tree notice_tree one.notices other.notices
+
+  shown_moved : (user : List ℕ) (a : Account) → IsShownOld user (rows_of user tables) a → IsShownOld user (rows_of user moved) a
+  shown_moved user a s = record {
+    next_copy = s.next_copy;
+    next_notice = s.next_notice;
+    account_is = ap (filter (is_theirs user)) accounts_same ∙ s.account_is;
+    scripts = subst (λ rows. ShowsScripts user (filter (is_theirs user) rows) a.scripts) (sym scripts_same) s.scripts;
+    queue = numbered_moved (λ q. q.id) (queue_row user) _ _ a.queue a.next_out (queue_same user) s.queue;
+    replies = replies_moved user _ _ a.replies (replies_same user) s.replies;
+    notices = record { entries = s.notices.entries; numbered = numbered_moved (λ e. e.0) (notice_row user) _ _ s.notices.entries s.next_notice (notices_same user) s.notices.numbered; shown = s.notices.shown };
+    copies = subst (λ rows. ShowsOldCopies user (filter (is_theirs user) rows) a.folders s.next_copy) (sym copies_same) s.copies;
+  }
+
+  absent_moved : (user : List ℕ) → IsAbsentOld (rows_of user tables) → IsAbsentOld (rows_of user moved)
+  absent_moved user s = record {
+    accounts = ap (filter (is_theirs user)) accounts_same ∙ s.accounts;
+    scripts = ap (filter (is_theirs user)) scripts_same ∙ s.scripts;
+    queue = none_there _ _ s.queue (queue_same user);
+    replies = none_there _ _ s.replies (replies_same user);
+    notices = none_there _ _ s.notices (notices_same user);
+    copies = ap (filter (is_theirs user)) copies_same ∙ s.copies;
+  }
+    where
+      none_there : (before after : List Row) → before ≡ [] → IsPermutation before after → after ≡ []
+      none_there before after none same = nil_from_length after (length_permutation before after same ∙ ap length none)
+
+  pub moved_shows : (accounts : Accounts) → ShowsOldAccounts tables accounts → ShowsOldAccounts moved accounts
+  moved_shows accounts s = record { version = ap (filter (has_key version_key)) (other.versions ∙ sym one.versions) ∙ s.version; users = λ user. go user (get accounts user) (s.users user) }
+    where
+      go : (user : List ℕ) (o : Option Account) → IsShownOldOrAbsent user (rows_of user tables) o → IsShownOldOrAbsent user (rows_of user moved) o
+      go user (Some a) h = shown_moved user a h
+      go user None h = absent_moved user h
+
+-- with the copies fourth
+pub fourth_shows : (old new : Database) → TurnsNewest old new → (there tables : Tables) → HoldsTables oldest_schema old there → IsMoved there tables → (accounts : Accounts) → ShowsOldAccounts tables accounts → Presents new accounts
+fourth_shows old new turned there tables h moved accounts s = let all = turned there h in (all.1, all.4, migrated_shows all.0 all.1 all.3 accounts (moved_shows there tables all.0 moved all.2 accounts s))

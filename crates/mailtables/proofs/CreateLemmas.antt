@@ -180,7 +180,9 @@ index_after g a b c s r x q ok tables index =
 
 -- what a crash leaves of its transaction and the commit
 pub indexes_all : {S X : Type 0} (g : Ghosts S) (old : Held S) (last end : State) (r : Result X Error) (x : X) → r ≡ Ok x → MakesInside TurnsIndexed (state g (record old { in_transaction = true })) last r
-    → Survives (state g (record old { in_transaction = true })) last (λ _. ⊥) → Survives last end (λ db. db ≡ last.now.trees) → Survives (state g old) end (MayIndex (state g old))
+    → Survives (state g (record old { in_transaction = true })) last (λ _. ⊥) → Survives last end (λ db. db ≡ last.now.trees)
+    → Survives (state g old) end (λ trees. (state g old).now.schema ≡ unindexed_schema → MayIndex (state g old) trees)
 indexes_all g old last end r x ok makes inside commit =
     survives_then (state g old) last end _ _ _ (λ _ db none. absurd none)
-    (λ clean db is ours. (last.now, ready TurnsIndexed (state g (record old { in_transaction = true })) last r x ok refl makes (clean_before last end _ commit clean) ours, is)) (survives_begin g old last _ inside) commit
+    (λ clean db is lacked. record { lacked = lacked; db = last.now; opened = ready TurnsIndexed (state g (record old { in_transaction = true })) last r x ok refl makes (clean_before last end _ commit clean) lacked; left = is })
+    (survives_begin g old last _ inside) commit

@@ -4,3 +4,4 @@ pub mod DropLemmas
 pub mod MigrationLemmas
 pub mod MovingLemmas
 pub mod UpgradeLemmas
+pub mod OpeningLemmas

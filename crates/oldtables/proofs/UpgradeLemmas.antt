@@ -7,7 +7,7 @@ use Rattle.sqlite.specs.State.{State, HasCleanDisk, Survives}
 use Rattle.sqlite.proofs.StateLemmas.{survives_then, survives_weaker}
 use Rattle.mailtables.specs.Connection.{SeesCommit, IsSettled, StaysSame, Asks}
 use Rattle.oldtables.specs.OldSchema.{IsOldSchema, IsOld}
-use Rattle.oldtables.specs.Migration.{MigratesBy, Migrates, MayMigrate, OpensOld}
+use Rattle.oldtables.specs.Migration.{MigratesBy, Migrates, MayMigrate, MayOpenOld, OpensOld}
 use Rattle.mailtables.proofs.WriteLemmas.{clean_before}
 
 module _ {E F : Type 0} (is_last : Bool) (old between new : State) (r : Result Bool E) (asks : Asks IsOldSchema (λ is. IsTrue is ↔ IsOld old.now) old between r) where
@@ -48,10 +48,13 @@ module _ {E F : Type 0} (is_last : Bool) (old between new : State) (r : Result B
       committed_is = λ is_open. stays.committed_is is_open ∙ (asks.same olds (begun clean)).committed_is (sees olds clean).is_open;
     }
 
-    left : IsOldSchema old.now.schema → Survives old new (MayMigrate is_last old)
+    left : IsOldSchema old.now.schema → Survives old new (MayOpenOld is_last old)
     left olds =
-        survives_then old between new (λ _. ⊥) _ (MayMigrate is_last old) (λ clean db none. absurd none)
-        (λ clean db may. subst (λ (d : Database). (at : Database) × MigratesBy is_last d at × (db ≡ at.trees)) (same_now olds clean) may) (asks.crash olds) survives
+        survives_then old between new (λ _. ⊥) _ (MayOpenOld is_last old) (λ clean db none. absurd none)
+        (λ clean db may. record {
+          old = (subst (λ o. IfOk o (λ b. IsTrue b ↔ IsOld old.now)) was (asks.found olds (begun clean))).0 refl;
+          migrated = record { db = may.db; turned = subst (λ d. MigratesBy is_last d may.db) (same_now olds clean) may.turned; left = may.left };
+        }) (asks.crash olds) survives
 
     -- it couldn't be made
     pub old_stopped : (e : F) → done ≡ Err e → (q : Result Bool F) → q ≡ Err e → OpensOld is_last old new q

@@ -134,8 +134,15 @@ abbrev pub Migrates : {X E : Type 0} → Bool → State → State → Result X E
 Migrates is_last old new result = HasCleanDisk new → OnOk result (MigratesBy is_last old.now new.now)
 
 -- what a crash may leave while it does, beside what it left before
-abbrev pub MayMigrate : Bool → State → Trees → Type 0
-MayMigrate is_last s trees = (db : Database) × MigratesBy is_last s.now db × (trees ≡ db.trees)
+pub record MayMigrate (is_last : Bool) (s : State) (trees : Trees) : Type 0 where
+  pub db : Database
+  pub turned : MigratesBy is_last s.now db
+  pub left : trees ≡ db.trees
+
+-- and of a database that is opened: of one of version 1
+pub record MayOpenOld (is_last : Bool) (s : State) (trees : Trees) : Type 0 where
+  pub old : IsOld s.now
+  pub migrated : MayMigrate is_last s trees
 
 -- a database of version 1's tables is opened: the answer says whether its row of the version says 1; where it does, it has become version 2, and its last commit is seen; where it doesn't, and after a refusal, all is as it was
 pub record OpensOld {E : Type 0} (is_last : Bool) (old new : State) (result : Result Bool E) : Type 0 where
@@ -143,7 +150,7 @@ pub record OpensOld {E : Type 0} (is_last : Bool) (old new : State) (result : Re
   pub migrated : IsOldSchema old.now.schema → HasCleanDisk new → IfOk result (λ is. IsTrue is → MigratesBy is_last old.now new.now × SeesCommit new)
   pub not_old : IsOldSchema old.now.schema → HasCleanDisk new → IfOk result (λ is. is ≡ false → StaysSame old new)
   pub refused : IsOldSchema old.now.schema → HasCleanDisk new → OnErr result (StaysSame old new)
-  pub crash : IsOldSchema old.now.schema → Survives old new (MayMigrate is_last old)
+  pub crash : IsOldSchema old.now.schema → Survives old new (MayOpenOld is_last old)
 
 -- ---- what the rows of the later tables are taken apart into
 

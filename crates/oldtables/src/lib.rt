@@ -3,10 +3,10 @@
 
 mod migration;
 mod moving;
+mod opening;
 mod schema;
 mod statement;
 mod upgrade;
 mod version;
 
-pub use schema::{is_old, is_oldest};
-pub use upgrade::open_old;
+pub use opening::{Layout, layout_of, open_known};

@@ -91,7 +91,7 @@ fn are_oldest_keys(indexes: &[Index]) -> bool
 }
 
 /// Whether these are the tables and indexes of version 1 with the copies last, and nothing else.
-pub fn is_old(schema: &Schema) -> bool
+pub(crate) fn is_old(schema: &Schema) -> bool
     ensures { IsTrue result ↔ (schema.now ≡ old_schema) }
 {
     are_old_tables(schema.tables.as_slice())
@@ -100,7 +100,7 @@ pub fn is_old(schema: &Schema) -> bool
 }
 
 /// Whether these are the tables and indexes of version 1 with the copies fourth, and nothing else.
-pub fn is_oldest(schema: &Schema) -> bool
+pub(crate) fn is_oldest(schema: &Schema) -> bool
     ensures { IsTrue result ↔ (schema.now ≡ oldest_schema) }
 {
     are_oldest_tables(schema.tables.as_slice())

@@ -45,7 +45,7 @@ fn migrate<S: Alter>(conn: &mut Connection<S>, is_last: bool) -> Result<(), Erro
 ///
 /// Takes memory for all copies; with the copies fourth also for the queue, the replies and the notices. After a refusal it is
 /// version 1, as it was.
-pub fn open_old<S: Alter>(conn: &mut Connection<S>, is_last: bool) -> Result<bool, Error>
+pub(crate) fn open_old<S: Alter>(conn: &mut Connection<S>, is_last: bool) -> Result<bool, Error>
     requires { conn.old.in_transaction ≡ false }
     ensures ended { conn.new.in_transaction ≡ false }
     ensures limit { conn.new.step_limit ≡ conn.old.step_limit }

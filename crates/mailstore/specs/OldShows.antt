@@ -22,7 +22,7 @@ use Rattle.mailstore.specs.ReplyRows.{ShowsReplies}
 use Rattle.mailstore.specs.NoticeRows.{ShowsNotices}
 use Rattle.mailstore.specs.Numbers.{AreNumbered}
 use Rattle.mailstore.specs.CopyRows.{Copy, folders_from}
-use Rattle.mailstore.specs.Shows.{rows_of}
+use Rattle.mailstore.specs.OwnRows.{rows_of}
 
 -- the row of a copy: its folder, its number and its message
 abbrev pub old_copy_row : List ℕ → Copy → Row
