@@ -4,10 +4,10 @@ use Rattle.sqlite.specs.Effect.{Database}
 use Rattle.mailstore.specs.Account.{no_accounts}
 use Rattle.mailstore.specs.Schema.{no_schema, mail_schema}
 use Rattle.mailstore.specs.Shows.{Presents, OpensAs}
-use Rattle.mailstore.specs.Ours.{IsOurs}
+use Rattle.mailstore.specs.Opening.{IsKnown}
 use Rattle.keepers.specs.Taken.{IsTaken}
 
-pub is_taken : (fresh : Bool) (held seen : Database) → (fresh ≡ false → OpensAs held seen) → (fresh ≡ false → held.schema ≡ mail_schema → seen ≡ held) → (fresh ≡ false → IsOurs held)
+pub is_taken : (fresh : Bool) (held seen : Database) → (fresh ≡ false → OpensAs held seen) → (fresh ≡ false → held.schema ≡ mail_schema → seen ≡ held) → (fresh ≡ false → IsKnown held)
     → (IsTrue fresh → Presents seen no_accounts) → (IsTrue fresh → held.schema ≡ no_schema) → IsTaken fresh held seen
 is_taken false held seen opened same ours none blank = (opened refl, same refl, ours refl)
 is_taken true held seen opened same ours none blank = (none refl, blank refl)
@@ -16,3 +16,7 @@ is_taken true held seen opened same ours none blank = (none refl, blank refl)
 pub same_if : {X E : Type 0} (r : Result X E) (Clean Same : X → Type 0) (Indexed : Type 0) (fresh : Bool) → IfOk r (λ x. Clean x → Indexed → Same x) → IfOk r (λ x. Clean x → fresh ≡ false → Indexed → Same x)
 same_if (Ok x) Clean Same Indexed fresh same = λ clean stale indexed. same clean indexed
 same_if (Err e) Clean Same Indexed fresh same = tt
+
+pub if_stale : {X E : Type 0} (r : Result X E) (Clean : X → Type 0) (Known : Type 0) (fresh : Bool) → IfOk r (λ x. Clean x → Known) → IfOk r (λ x. Clean x → fresh ≡ false → Known)
+if_stale (Ok x) Clean Known fresh known = λ clean stale. known clean
+if_stale (Err e) Clean Known fresh known = tt

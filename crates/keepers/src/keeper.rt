@@ -9,7 +9,7 @@ ghost use Rattle.mailstore.specs.Connection.{StaysSame};
 ghost use Rattle.mailstore.specs.Account.{no_accounts};
 ghost use Rattle.mailstore.specs.declared.refusal.Refusal.{Refusal};
 ghost use Rattle.mailstore.specs.Refusals.{IsTransient};
-ghost use Rattle.mailstore.specs.Ours.{IsOurs};
+ghost use Rattle.mailstore.specs.Opening.{IsKnown};
 ghost use Rattle.mailstore.specs.Shows.{Presents, OpensAs};
 ghost use Rattle.keepers.specs.Taken.{IsTaken};
 
@@ -146,7 +146,7 @@ pub(crate) fn store_of<S: Alter + Drop>(
     ensures opened { IfOk result (λ store. HasCleanDisk (state S.Store store) → fresh ≡ false → OpensAs (state S.Store conn).now (state S.Store store).now) }
     ensures same { IfOk result (λ store. HasCleanDisk (state S.Store store) → fresh ≡ false → conn.schema ≡ mail_schema
         → StaysSame (state S.Store conn) (state S.Store store)) }
-    ensures ours { IfOk result (λ store. HasCleanDisk (state S.Store store) → fresh ≡ false → IsOurs (state S.Store conn).now) }
+    ensures ours { IfOk result (λ store. HasCleanDisk (state S.Store store) → fresh ≡ false → IsKnown (state S.Store conn).now) }
     ensures made { IfOk result (λ store. HasCleanDisk (state S.Store store) → IsTrue fresh → Presents (state S.Store store).now no_accounts) }
     ensures blank { IfOk result (λ store. IsTrue fresh → conn.schema ≡ no_schema) }
     ensures refused { IfErr result (λ e. HasCleanDisk (state S.Store e.1) → StaysSame (state S.Store conn) (state S.Store e.1)) }

@@ -33,4 +33,8 @@ pub mod OpenLemmas
 pub mod ShowExamples
 pub mod NextExamples
 pub mod AccountExamples
+pub mod PermutedLemmas
+pub mod VersionLemmas
+pub mod OldLemmas
+mod OldExamples
 pub mod RefusalExamples

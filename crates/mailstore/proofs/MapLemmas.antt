@@ -32,10 +32,10 @@ tied_is Equal h = refl
 tied_is Greater h = absurd (true≢false (sym h))
 
 module _ {K : Type 0} (R : K → K → Ordering) (total : IsTotalOrder R) (alike : IsAntisymmetric R) where
-  tied : (a b : K) → is_eq (R a b) ≡ true → a ≡ b
+  pub tied : (a b : K) → is_eq (R a b) ≡ true → a ≡ b
   tied a b h = alike a b (tied_is (R a b) h)
 
-  itself : (a : K) → is_eq (R a a) ≡ true
+  pub itself : (a : K) → is_eq (R a a) ≡ true
   itself a = ap is_eq (tied_itself total a)
 
   module _ {X : Type 0} where

@@ -1,6 +1,7 @@
 -- What a database shows that was made, or opened.
-use Rattle.std.proofs.Common.{◌≡◌, ◌≤◌, ◌⊎◌, ℕ, true, false, ◌&&◌, cond, codes, List, [], ◌∷◌, map, filter, refl, sym, ap, ◌∙◌, subst, inl, inr}
-use Rattle.sqlite_value.specs.declared.value.Value.TheVariants.{Text}
+use Rattle.std.proofs.Common.{◌≡◌, ◌≤◌, ◌⊎◌, ℕ, pos, arith, true, false, ◌&&◌, cond, codes, List, [], ◌∷◌, map, filter, refl, sym, ap, ◌∙◌, subst, inl, inr}
+use Rattle.sqlite_value.specs.declared.value.Value.{Value}
+use Rattle.sqlite_value.specs.declared.value.Value.TheVariants.{Int}
 use Rattle.sqlite_value.specs.Order.{Row, column}
 use Rattle.sqlite_value.specs.declared.keys.Collation.TheVariants.{Binary}
 use Rattle.sqlite_sql.specs.declared.ops.CompareOp.TheVariants.{Eq}
@@ -9,7 +10,8 @@ use Rattle.sqlite_trees.specs.Tree.{Trees}
 use Rattle.sqlite_keyed.proofs.ListLemmas.{filter-map, filter_same}
 use Rattle.sqlite_trees.specs.View.{doubt}
 use Rattle.sqlite_schema.specs.declared.schema.Table.{Table}
-use Rattle.sqlite_schema.specs.Rules.{equal}
+use Rattle.sqlite_schema.specs.declared.schema.Schema.{Schema}
+use Rattle.sqlite_schema.specs.Rules.{equal, Fits}
 use Rattle.sqlite_rules.specs.Lists.{Has}
 use Rattle.sqlite_rules.proofs.ListLemmas.{all_has}
 use Rattle.sqlite.specs.Effect.{Database}
@@ -18,14 +20,20 @@ use Rattle.mailtables.specs.Rows.{Entry, cells_of, stored, IsHeld, Tables, Holds
 use Rattle.mailtables.specs.Schema.{no_schema, the_tables, mail_schema, IsOurSchema}
 use Rattle.mailtables.specs.Connection.{IsSettled, Outlives}
 use Rattle.mailstore.specs.Account.{Accounts, bytes_cmp, no_accounts}
-use Rattle.mailtables.specs.MetaTable.{meta, version_key, version_row, version_rows}
-use Rattle.mailtables.specs.Ours.{IsOurs, IsOpenedAs, MayCreate, MayOpen, only_version}
-use Rattle.mailstore.specs.Shows.{ShowsIn, Presents, HoldsOurs, Offers, OffersIn, OpensAs, CrashLeavesOpened, rows_of, IsAbsent, IsShownOrAbsent, ShowsAccounts}
+use Rattle.mailtables.specs.MetaTable.{meta, meta_tree, version_key, version_row, version_rows, stored_value_column}
+use Rattle.mailtables.specs.Ours.{IsOurs, IsOpenedAs, MayCreate, only_version}
+use Rattle.mailstore.specs.Shows.{ShowsIn, Presents, HoldsOurs, OffersNew, Offers, OffersIn, OpensAs, CrashLeavesOpened, rows_of, IsAbsent, IsShownOrAbsent, ShowsAccounts}
+use Rattle.oldtables.specs.declared.opening.Layout.{Layout}
+use Rattle.oldtables.specs.declared.opening.Layout.TheVariants.{Current, CopiesLast, CopiesFourth}
+use Rattle.oldtables.specs.OldSchema.{old_schema, oldest_schema, IsOldSchema, IsOld}
+use Rattle.oldtables.specs.Migration.{TurnsNew, TurnsNewest}
+use Rattle.oldtables.specs.Opening.{IsKnown, LiesAs, Becomes, MayBecome}
+use Rattle.oldtables.proofs.OpeningLemmas.{versions_apart, orders_apart}
+use Rattle.mailstore.specs.OldShows.{OffersOld, old_version_row}
+use Rattle.mailstore.proofs.VersionLemmas.{version_itself, one_version}
+use Rattle.mailstore.proofs.OldLemmas.{last_shows, fourth_shows}
 use Rattle.mailtables.proofs.SchemaFacts.{meta_listed}
 use Rattle.std.specs.FinMap.{get-empty}
-
-pub version_itself : equal Binary (Text (codes "version")) (Text (codes "version")) ≡ true
-version_itself = at_texts false Eq (codes "version") (codes "version") ∙ bytes_eq_refl (codes "version")
 
 -- the tables without a user, and with the row of their version
 shows_nobody : ShowsAccounts only_version no_accounts
@@ -49,6 +57,8 @@ outlives_made old new empty faults left = record {
   crash = λ clean db leaves. elim (left clean db leaves) [ inl before ↦ inl before | inr made ↦ let m = made empty in inr (m.0, presents_nobody m.0 m.1, m.2) ];
 }
 
+-- ---- our tables of version 2
+
 -- either schema has the same tables
 held_each : (db : Database) (tables : Tables) → HoldsOurs db tables → (t : Table) → Has the_tables t → IsHeld (db.trees t.tree) (tables t.tree)
 held_each db tables (inl h) = h.each
@@ -59,39 +69,120 @@ our_schema db tables (inl h) = inl h.is
 our_schema db tables (inr h) = inr h.is
 
 -- opened on trees that offer accounts, a database shows them
-pub shows_again : (old new : Database) (accounts : Accounts) → IsOpenedAs old new → OffersIn old.trees accounts → Presents new accounts
-shows_again old new accounts opened p = (
-  p.1.0,
+shows_again : (old new db : Database) (accounts : Accounts) → IsOpenedAs old new → old.trees ≡ db.trees → OffersNew db accounts → Presents new accounts
+shows_again old new db accounts opened trees p = (
+  p.0,
   record {
     is = opened.schema;
     fits = opened.fits;
-    each = λ t listed. subst (λ rows. IsHeld rows (p.1.0 t.tree)) (sym (all_has (λ (x : Table). new.trees x.tree ≡ old.trees x.tree) the_tables t opened.rows listed ∙ ap (λ (trees : Trees). trees t.tree) p.2)) (held_each p.0 p.1.0 p.1.1 t listed);
+    each = λ t listed. subst (λ rows. IsHeld rows (p.0 t.tree)) (sym (all_has (λ (x : Table). new.trees x.tree ≡ old.trees x.tree) the_tables t opened.rows listed ∙ ap (λ (at : Trees). at t.tree) trees)) (held_each db p.0 p.1 t listed);
   },
-  p.1.2,
+  p.2,
 )
 
-pub opens_as : (old new : Database) → IsOpenedAs old new → OpensAs old new
-opens_as old new opened = record { tables = opened; shown = λ accounts p. shows_again old new accounts opened (old, p, refl) }
+-- a database that offers accounts is ours
+new_ours : (db : Database) (accounts : Accounts) → OffersNew db accounts → IsOurs db
+new_ours db accounts p =
+    let one = one_version db.trees (p.0 meta_tree) version_row (held_each db p.0 p.1 meta meta_listed) p.2.version in
+    record { schema = our_schema db p.0 p.1; row = one.0; only = one.1; says = one.2 }
 
--- what a crash leaves of an open
-pub outlives_open : (old new : State) → Survives old new (MayOpen old) → Outlives (CrashLeavesOpened old) old new
-outlives_open old new s = record {
-  faults = s.clean;
-  crash = λ clean db may. elim (s.crash clean db may) [ inl before ↦ inl before | inr made ↦ inr (made.0, made.1, opens_as old.now made.1 made.2, made.3) ];
+-- ---- and of version 1
+
+old_schema_of : (db : Database) (accounts : Accounts) → OffersOld db accounts → IsOldSchema db.schema
+old_schema_of db accounts p = elim p.1 [ inl h ↦ inl h.is | inr moved ↦ inr moved.1.is ]
+
+old_is : (db : Database) (accounts : Accounts) → OffersOld db accounts → IsOld db
+old_is db accounts p = elim p.1 [
+  | inl h ↦ by (inl h.is) (one_version db.trees (p.0 meta_tree) old_version_row (h.each meta (inl refl)) p.2.version)
+  | inr moved ↦ by (inr moved.1.is) (one_version db.trees (moved.0 meta_tree) old_version_row (moved.1.each meta (inl refl)) (ap (filter (has_key version_key)) (sym moved.2.versions) ∙ p.2.version))
+]
+  where
+    by : IsOldSchema db.schema → (row : Row) × (version_rows db.trees ≡ row ∷ []) × (column row stored_value_column ≡ Int (pos 1)) → IsOld db
+    by schema one = record { schema = schema; row = one.0; only = one.1; says = one.2 }
+
+-- a database that offers accounts is known
+pub shown_known : (db : Database) (accounts : Accounts) → Offers db accounts → IsKnown db
+shown_known db accounts (inl p) = inl (new_ours db accounts p)
+shown_known db accounts (inr p) = inr (old_is db accounts p)
+
+-- of one schema and the same trees another database offers them too
+old_again : (seen db : Database) (accounts : Accounts) → seen.schema ≡ db.schema → seen.trees ≡ db.trees → OffersOld db accounts → OffersOld seen accounts
+old_again seen db accounts schema trees p = (p.0, elim p.1 [ inl h ↦ inl (again old_schema p.0 h) | inr moved ↦ inr (moved.0, again oldest_schema moved.0 moved.1, moved.2) ], p.2)
+  where
+    again : (s : Schema) (tables : Tables) → HoldsTables s db tables → HoldsTables s seen tables
+    again s tables h = record { is = schema ∙ h.is; fits = subst (Fits s) (sym trees) h.fits; each = λ t listed. subst (λ (at : Trees). IsHeld (at t.tree) (tables t.tree)) (sym trees) (h.each t listed) }
+
+-- ---- by the layout of its tables
+
+-- what opening makes of a database shows the accounts that it offered
+becomes_shows : (layout : Layout) (old new : Database) → LiesAs layout old.schema → Becomes layout old new → (accounts : Accounts) → Offers old accounts → Presents new accounts
+becomes_shows Current old new lies became accounts (inl p) = shows_again old new old accounts became refl p
+becomes_shows Current old new lies became accounts (inr p) = absurd (versions_apart old.schema lies (old_schema_of old accounts p))
+becomes_shows CopiesLast old new lies became accounts (inl p) = absurd (versions_apart old.schema (our_schema old p.0 p.1) (inl lies))
+becomes_shows CopiesLast old new lies became accounts (inr p) = elim p.1 [
+  | inl h ↦ last_shows old new became p.0 h accounts p.2
+  | inr moved ↦ absurd (orders_apart old.schema lies moved.1.is)
+]
+becomes_shows CopiesFourth old new lies became accounts (inl p) = absurd (versions_apart old.schema (our_schema old p.0 p.1) (inr lies))
+becomes_shows CopiesFourth old new lies became accounts (inr p) = elim p.1 [
+  | inl h ↦ absurd (orders_apart old.schema h.is lies)
+  | inr moved ↦ fourth_shows old new became moved.0 p.0 moved.1 moved.2 accounts p.2
+]
+
+became_opened : (layout : Layout) (old new : Database) → LiesAs layout old.schema → Becomes layout old new → IsOurSchema old.schema → IsOpenedAs old new
+became_opened Current old new lies became ours = became
+became_opened CopiesLast old new lies became ours = absurd (versions_apart old.schema ours (inl lies))
+became_opened CopiesFourth old new lies became ours = absurd (versions_apart old.schema ours (inr lies))
+
+became_new : (layout : Layout) (old new : Database) → LiesAs layout old.schema → Becomes layout old new → old.schema ≡ old_schema → TurnsNew old new
+became_new Current old new lies became is = absurd (versions_apart old.schema lies (inl is))
+became_new CopiesLast old new lies became is = became
+became_new CopiesFourth old new lies became is = absurd (orders_apart old.schema is lies)
+
+became_newest : (layout : Layout) (old new : Database) → LiesAs layout old.schema → Becomes layout old new → old.schema ≡ oldest_schema → TurnsNewest old new
+became_newest Current old new lies became is = absurd (versions_apart old.schema lies (inr is))
+became_newest CopiesLast old new lies became is = absurd (orders_apart old.schema lies is)
+became_newest CopiesFourth old new lies became is = became
+
+pub opens_as : (layout : Layout) (old new : Database) → LiesAs layout old.schema → Becomes layout old new → OpensAs old new
+opens_as layout old new lies became = record {
+  tables = became_opened layout old new lies became;
+  last = became_new layout old new lies became;
+  fourth = became_newest layout old new lies became;
+  shown = becomes_shows layout old new lies became;
 }
 
--- a database that offers accounts is ours
-pub shown_ours : (db : Database) (accounts : Accounts) → Offers db accounts → IsOurs db
-shown_ours db accounts p =
-    let held = held_each db p.0 p.1 meta meta_listed in
-    let kept = sym (filter-map (has_key version_key) cells_of held.entries) ∙ sym (ap (filter (has_key version_key)) held.cells_are) ∙ p.2.version in
-    let found = ap (filter (has_key_from 1 version_key)) held.rows_are ∙ filter-map (has_key_from 1 version_key) stored held.entries
-    ∙ ap (map stored) (filter_same _ (λ (e : Entry). has_key version_key (cells_of e)) (λ e. refl) held.entries) in
-    go (filter (λ (e : Entry). has_key version_key (cells_of e)) held.entries) kept found
+number_of : Value → ℕ
+number_of (Int (pos n)) = n
+number_of _ = 0
+
+-- a database of version 1 has not the trees of one that offers accounts in version 2
+other_version : (seen db : Database) (accounts : Accounts) → IsOld seen → seen.trees ≡ db.trees → OffersNew db accounts → ⊥
+unfolding number_of
+other_version seen db accounts old trees p =
+    let ours = new_ours db accounts p in
+    let rows : old.row ∷ [] ≡ ours.row ∷ [] = sym old.only ∙ ap version_rows trees ∙ ours.only in
+    let same : old.row ≡ ours.row = cc in
+    let both : Int (pos 1) ≡ Int (pos 2) = sym old.says ∙ ap (λ (r : Row). column r stored_value_column) same ∙ ours.says in
+    absurd (let one = ap number_of both in omega (arith, one))
+
+old_known : (layout : Layout) (seen : Database) → (LiesAs layout seen.schema → IsOldSchema seen.schema) → LiesAs layout seen.schema → IsKnown seen → IsOld seen
+old_known layout seen so lies (inl ours) = absurd (versions_apart seen.schema ours.schema (so lies))
+old_known layout seen so lies (inr old) = old
+
+-- opened on trees that offer accounts, it shows them
+pub still_shows : (layout : Layout) (old new : Database) → LiesAs layout old.schema → IsKnown old → Becomes layout old new → (accounts : Accounts) → OffersIn old accounts → Presents new accounts
+still_shows layout old new lies known became accounts p = by layout lies became p.offers
   where
-    go : (es : List Entry) → map cells_of es ≡ version_row ∷ [] → version_rows db.trees ≡ map stored es → IsOurs db
-    go [] kept found = absurd (let none = kept in cc)
-    go (e ∷ []) kept found =
-        let is : cells_of e ≡ version_row = cc in
-        record { schema = our_schema db p.0 p.1; row = stored e; only = found; says = ap (λ (c : Row). column c 1) is }
-    go (e ∷ f ∷ es) kept found = absurd (let two = kept in cc)
+    by : (layout : Layout) → LiesAs layout old.schema → Becomes layout old new → Offers p.db accounts → Presents new accounts
+    by Current lies became (inl offers) = shows_again old new p.db accounts became p.trees offers
+    by CopiesLast lies became (inl offers) = absurd (other_version old p.db accounts (old_known CopiesLast old (λ is. inl is) lies known) p.trees offers)
+    by CopiesFourth lies became (inl offers) = absurd (other_version old p.db accounts (old_known CopiesFourth old (λ is. inr is) lies known) p.trees offers)
+    by layout lies became (inr offers) = becomes_shows layout old new lies became accounts (inr (old_again old p.db accounts (p.schema (old_schema_of p.db accounts offers)) p.trees offers))
+
+-- what a crash leaves of an open
+pub outlives_open : (layout : Layout) (old new : State) → LiesAs layout old.now.schema → Survives old new (MayBecome layout old) → Outlives (CrashLeavesOpened old.now) old new
+outlives_open layout old new lies s = record {
+  faults = s.clean;
+  crash = λ clean db may. elim (s.crash clean db may) [ inl before ↦ inl before | inr made ↦ inr (record { behind = made.behind; db = made.db; opened = opens_as layout old.now made.db lies made.became; left = made.left }) ];
+}

@@ -31,7 +31,7 @@ use Rattle.mailstore.specs.CopyRows.{Copy, copy_row, folders_from, message_of, H
 use Rattle.mailstore.specs.Shows.{IsShown, IsAbsent, IsFirstOf, ShowsAccounts}
 use Rattle.mailstore.specs.declared.taking.NumberedMessage.{NumberedMessage}
 use Rattle.mailstore.proofs.NumberLemmas.{numbered_none}
-use Rattle.mailstore.proofs.OpenLemmas.{version_itself}
+use Rattle.mailstore.proofs.VersionLemmas.{version_itself}
 use Rattle.mailstore.proofs.OrderLemmas.{messages_are}
 
 abbrev alice : List ℕ

@@ -21,3 +21,8 @@ pub use Rattle.mailtables.specs.Cells
 pub use Rattle.mailtables.specs.Connection
 pub use Rattle.mailtables.specs.Ours
 pub use Rattle.mailtables.specs.Schema
+pub mod OldShows
+pub mod OwnRows
+pub use Rattle.oldtables.specs.OldSchema
+pub use Rattle.oldtables.specs.Migration
+pub use Rattle.oldtables.specs.Opening

@@ -8,8 +8,13 @@ use Rattle.sqlite_trees.specs.Tree.{Trees}
 use Rattle.sqlite.specs.Effect.{Database}
 use Rattle.sqlite.specs.State.{State, HasCleanDisk}
 use Rattle.mailtables.specs.Rows.{Tables, HoldsTables, has_key}
-use Rattle.mailtables.specs.Schema.{mail_schema, unindexed_schema}
+use Rattle.mailtables.specs.Schema.{mail_schema, unindexed_schema, IsOurSchema}
 use Rattle.mailtables.specs.Ours.{IsOpenedAs}
+use Rattle.oldtables.specs.OldSchema.{old_schema, oldest_schema, IsOldSchema}
+use Rattle.oldtables.specs.Migration.{TurnsNew, TurnsNewest}
+use Rattle.oldtables.specs.Opening.{IsBehind}
+pub use Rattle.mailstore.specs.OwnRows.{rows_of}
+use Rattle.mailstore.specs.OldShows.{OffersOld}
 use Rattle.mailstore.specs.Account.{Account, Accounts}
 use Rattle.mailtables.specs.MetaTable.{meta_tree, version_key, version_row}
 use Rattle.mailtables.specs.AccountTable.{account_tree}
@@ -28,10 +33,6 @@ use Rattle.mailstore.specs.CopyRows.{Copy, ShowsCopies, is_in, copies_in, is_oth
 use Rattle.mailstore.specs.declared.taking.Leaving.{Leaving}
 use Rattle.mailstore.specs.declared.taking.NumberedMessage.{NumberedMessage}
 use Rattle.mailstore.specs.declared.filing.Filing.{Filing}
-
--- the rows of one user, in each table that has an owner and in the table of accounts
-abbrev pub rows_of : List ℕ → Tables → Tables
-rows_of user tables tree = filter (has_key (Blob user ∷ [])) (tables tree)
 
 -- the rows of one user are those of the account
 pub record IsShown (user : List ℕ) (own : Tables) (a : Account) : Type 0 where
@@ -71,9 +72,13 @@ Presents db accounts = (tables : Tables) × HoldsTables mail_schema db tables ×
 abbrev pub HoldsOurs : Database → Tables → Type 0
 HoldsOurs db tables = HoldsTables mail_schema db tables ⊎ HoldsTables unindexed_schema db tables
 
--- a database that `open` takes, whose tables show the accounts
+-- a database of version 2 whose tables show the accounts
+abbrev pub OffersNew : Database → Accounts → Type 0
+OffersNew db accounts = (tables : Tables) × HoldsOurs db tables × ShowsAccounts tables accounts
+
+-- a database that `open` takes, of either version, whose tables show the accounts
 abbrev pub Offers : Database → Accounts → Type 0
-Offers db accounts = (tables : Tables) × HoldsOurs db tables × ShowsAccounts tables accounts
+Offers db accounts = OffersNew db accounts ⊎ OffersOld db accounts
 
 -- a database that offers no accounts, not even none at all
 abbrev pub OffersNothing : Database → Type 0
@@ -83,9 +88,12 @@ OffersNothing db = (accounts : Accounts) → ¬ Offers db accounts
 abbrev pub ShowsIn : Trees → Accounts → Type 0
 ShowsIn trees accounts = (db : Database) × Presents db accounts × (trees ≡ db.trees)
 
--- the trees are those of a database that offers the accounts
-abbrev pub OffersIn : Trees → Accounts → Type 0
-OffersIn trees accounts = (db : Database) × Offers db accounts × (trees ≡ db.trees)
+-- what is seen has the trees of a database that offers the accounts; of one of version 1 the schema too, since the orders of its tables share their trees
+pub record OffersIn (seen : Database) (accounts : Accounts) : Type 0 where
+  pub db : Database
+  pub offers : Offers db accounts
+  pub trees : seen.trees ≡ db.trees
+  pub schema : IsOldSchema db.schema → seen.schema ≡ db.schema
 
 -- whatever a crash leaves, this holds of it
 abbrev pub OnlyLeaves : (Trees → Type 0) → State → Type 0
@@ -93,19 +101,24 @@ OnlyLeaves P s = HasCleanDisk s → (trees : Trees) → s.may_leave trees → P 
 
 -- whatever accounts the trees offered, they show
 abbrev pub StillShows : State → State → Type 0
-StillShows old new = HasCleanDisk new → (accounts : Accounts) → OffersIn old.now.trees accounts → Presents new.now accounts
+StillShows old new = HasCleanDisk new → (accounts : Accounts) → OffersIn old.now accounts → Presents new.now accounts
 
--- ---- a database that is opened: `IsOpenedAs` (mailtables) tells what becomes of its tables, `OpensAs` of the accounts too; of what a crash
--- leaves of it `MayOpen` (mailtables) and `CrashLeavesOpened` tell the same; `Opens` (mailtables) is all that `open_tables` promises
+-- ---- a database that is opened: `Becomes` (oldtables) tells what becomes of its tables, `OpensAs` of the accounts too; of what a crash leaves
+-- of it `MayBecome` (oldtables) and `CrashLeavesOpened` tell the same; `OpensKnown` (oldtables) is all that `open_known` promises
 
--- what `open` makes of a database: it has our schema, in each table the rows that it had, and shows the accounts that it offered
+-- what `open` makes of a database: of version 2 it has our schema, and in each table the rows that it had; of version 1 it has become version 2; it shows the accounts that it offered
 pub record OpensAs (old new : Database) : Type 0 where
-  pub tables : IsOpenedAs old new
+  pub tables : IsOurSchema old.schema → IsOpenedAs old new
+  pub last : old.schema ≡ old_schema → TurnsNew old new
+  pub fourth : old.schema ≡ oldest_schema → TurnsNewest old new
   pub shown : (accounts : Accounts) → Offers old accounts → Presents new accounts
 
--- what a crash may leave of an open, beside what it left before: of a database without the index, what `open` makes of it
-abbrev pub CrashLeavesOpened : State → Trees → Type 0
-CrashLeavesOpened s trees = (s.now.schema ≡ unindexed_schema) × (db : Database) × OpensAs s.now db × (trees ≡ db.trees)
+-- what a crash may leave of an open, beside what it left before: of a database without the index, or of version 1, what `open` makes of it
+pub record CrashLeavesOpened (seen : Database) (trees : Trees) : Type 0 where
+  pub behind : IsBehind seen.schema
+  pub db : Database
+  pub opened : OpensAs seen db
+  pub left : trees ≡ db.trees
 
 -- ---- what is read of the copies
 

@@ -8,10 +8,11 @@ ghost use Rattle.mailstore.specs.Account.{no_accounts};
 ghost use Rattle.mailstore.specs.Refusals.{IsTransient, IsMemoryBy, IsStoreCause, IsCauseIn, code_in};
 ghost use Rattle.mailstore.specs.Shows.{Presents, ShowsIn, StillShows, OffersNothing, OnlyLeaves, OpensAs, CrashLeavesOpened};
 ghost use Rattle.mailtables.specs.Changes.{CrashLeavesTables, MakesAll};
-ghost use Rattle.mailtables.specs.Ours.{IsOurs};
+ghost use Rattle.oldtables.specs.Opening.{IsKnown};
 
 use crate::refusal::Refusal;
-use mailtables::{Change, is_blank, is_ours, is_taken, make_all, make_tables, open_tables};
+use mailtables::{Change, is_blank, is_taken, make_all, make_tables};
+use oldtables::{layout_of, open_known};
 use sqlite::{Alter, Connection, Error, ErrorCode};
 use std::alloc::Global;
 use std::marker::Model;
@@ -91,38 +92,40 @@ impl<S: Alter> Store<S> {
         }
     }
 
-    /// Opens a database that `create` made.
+    /// Opens a database that `create` made, of this version or of the one before.
     ///
-    /// Where its tables are not exactly ours, or have no row of version 2, it is `NotOurs`. Where they lack the index of
-    /// the copies by their messages, as in a store that was made before there was one, it is made, in one transaction:
-    /// that reads the table of the copies, in time and memory in proportion to it. Else no table but that of the version
-    /// is read. The connection comes back beside a refusal, with its tables as they are.
+    /// Where its tables are not exactly ours, or have no row of their version, it is `NotOurs`. Version 1 becomes version 2
+    /// in one transaction, which takes time and memory in proportion to all copies, and where the copies come before the
+    /// queue, the replies and the notices, to these too. Where version 2 lacks the index of the copies by their messages, as
+    /// in a store that was made before there was one, that is made, in one transaction: it reads the table of the copies, in
+    /// time and memory in proportion to it. Else no table but that of the version is read. The connection comes back
+    /// beside a refusal, with its tables as they are.
     pub fn open(
         alloc: Global,
         mut conn: Connection<S>,
     ) -> Result<Store<S>, (Refusal, Connection<S>, Option<ErrorCode>)>
         ensures shown { IfOk result (λ store. StillShows (state S.Store conn) (state S.Store store)) }
         ensures opened { IfOk result (λ store. HasCleanDisk (state S.Store store) → OpensAs (state S.Store conn).now (state S.Store store).now) }
-        ensures ours { IfOk result (λ store. HasCleanDisk (state S.Store store) → IsOurs (state S.Store conn).now) }
+        ensures ours { IfOk result (λ store. HasCleanDisk (state S.Store store) → IsKnown (state S.Store conn).now) }
         ensures settled { IfOk result (λ store. HasCleanDisk (state S.Store store) → IsSettled (state S.Store store)) }
         ensures same { IfOk result (λ store. HasCleanDisk (state S.Store store) → conn.schema ≡ mail_schema
             → StaysSame (state S.Store conn) (state S.Store store)) }
-        ensures crash { IfOk result (λ store. Outlives (CrashLeavesOpened (state S.Store conn)) (state S.Store conn) (state S.Store store)) }
-        ensures not_ours { IfErr result (λ e. HasCleanDisk (state S.Store e.1) → e.0 ≡ Refusal.NotOurs → ¬ IsOurs (state S.Store conn).now) }
+        ensures crash { IfOk result (λ store. Outlives (CrashLeavesOpened (state S.Store conn).now) (state S.Store conn) (state S.Store store)) }
+        ensures not_ours { IfErr result (λ e. HasCleanDisk (state S.Store e.1) → e.0 ≡ Refusal.NotOurs → ¬ IsKnown (state S.Store conn).now) }
         ensures not_shown { IfErr result (λ e. HasCleanDisk (state S.Store e.1) → e.0 ≡ Refusal.NotOurs → OffersNothing (state S.Store conn).now) }
         ensures named { IfErr result (λ e. (e.0 ≡ Refusal.NotOurs) ⊎ IsTransient e.0) }
         ensures memory { IfErr result (λ e. IsMemoryBy e.2 e.0) }
         ensures same_if_refused { IfErr result (λ e. HasCleanDisk (state S.Store e.1) → StaysSame (state S.Store conn) (state S.Store e.1)) }
-        ensures crash_if_refused { IfErr result (λ e. Outlives (CrashLeavesOpened (state S.Store conn)) (state S.Store conn) (state S.Store e.1)) }
+        ensures crash_if_refused { IfErr result (λ e. Outlives (CrashLeavesOpened (state S.Store conn).now) (state S.Store conn) (state S.Store e.1)) }
     {
         if !conn.is_autocommit() {
             return Err((Refusal::Store, conn, None));
         }
-        if !is_ours(conn.schema()) {
+        let Some(layout) = layout_of(conn.schema()) else {
             return Err((Refusal::NotOurs, conn, None));
-        }
+        };
         conn.set_step_limit(None);
-        match open_tables(&mut conn) {
+        match open_known(&mut conn, layout) {
             Ok(true) => Ok(Store {
                 conn,
                 alloc,

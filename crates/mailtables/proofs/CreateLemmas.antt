@@ -1,5 +1,5 @@
--- What a CREATE TABLE makes of a schema without rows.
-use Rattle.std.proofs.Common.{◌≡◌, ℕ, true, false, IsTrue, List, [], ◌∷◌, map, slice_get, None, Ok, Err, Result, OnOk, refl, sym, ap, ◌∙◌, subst, inl, inr}
+-- What a CREATE TABLE makes of a schema, and CREATE INDEX of the copies.
+use Rattle.std.proofs.Common.{◌≡◌, ◌≤◌, arith, ℕ, true, false, IsTrue, List, [], ◌∷◌, map, slice_get, None, Ok, Err, Result, OnOk, refl, sym, ap, ◌∙◌, subst, inl, inr}
 use Rattle.std.specs.List.{AllByRecursion}
 use Rattle.sqlite_value.specs.Order.{Row}
 use Rattle.sqlite_trees.specs.Tree.{Trees}
@@ -33,20 +33,13 @@ use Rattle.mailtables.proofs.ResultLemmas.{on_ok}
 use Rattle.mailtables.proofs.WriteLemmas.{MakesInside, clean_before}
 use Rattle.mailtables.proofs.SchemaFacts.{copy_message_defined, copy_message_creates, copy_message_added}
 
-no_entries : (rows : List Row) → IsHeld rows [] → rows ≡ []
-no_entries rows h = h.rows_are ∙ go h.entries h.cells_are
-  where
-    go : (es : List Entry) → [] ≡ map cells_of es → map stored es ≡ []
-    go [] e = refl
-    go (x ∷ es) e = absurd (let same = e in cc)
-
 nothing_held : (rows : List Row) → rows ≡ [] → IsHeld rows []
 nothing_held rows none = record { entries = []; keyed = tt; rows_are = none; cells_are = refl }
 
 module _ (schema : Schema) (sql : List ℕ) (table : Table) (defined : table_defined_by sql ≡ Ok table) (is : command_of (understood schema sql) ≡ CreateTable)
     (text : statement_of sql (understood schema sql) ≡ sql) (plain : IsPlain (understood schema sql)) (uncounted : lacks_sequence (created schema table) ≡ false) where
   pub creates : (old new : State) (count : ℕ) → Executes sql [] old new (Ok count) → TurnsSchema schema (created schema table) old.now new.now
-  creates old new count ran h =
+  creates old new count ran tables h blank =
       let w = subst (λ t. Writes old new None CreateTable t [] count) text (runs_as sql [] old new schema h.is CreateTable is plain count ran) in
       let all = went w.changed in
       let first = went all.1 in
@@ -64,8 +57,11 @@ module _ (schema : Schema) (sql : List ℕ) (table : Table) (defined : table_def
         is = next;
         fits = fits;
         each = λ t listed. elim (has_either schema.tables (record table { tree = next_tree schema } ∷ []) t listed) [
-          | inl before ↦ nothing_held _ (ap (λ (d : Database). d.trees t.tree) now ∙ all_has _ schema.tables t others before ∙ no_entries _ (h.each t before))
-          | inr last ↦ elim last [ inl it ↦ nothing_held _ (ap (λ (x : Table). new.now.trees x.tree) it ∙ fresh) | inr none ↦ absurd none ]
+          | inl before ↦ subst (λ rows. IsHeld rows (tables t.tree)) (sym (ap (λ (d : Database). d.trees t.tree) now ∙ all_has _ schema.tables t others before)) (h.each t before)
+          | inr last ↦ elim last [
+            | inl it ↦ subst (λ n. IsHeld (new.now.trees n) (tables n)) (sym (ap (λ (x : Table). x.tree) it)) (subst (IsHeld (new.now.trees (next_tree schema))) (sym (blank (next_tree schema) (omega arith))) (nothing_held _ fresh))
+            | inr none ↦ absurd none
+          ]
         ];
       }
 
@@ -92,7 +88,7 @@ then_makes {Y = Y} T U V both a b c r x q ok survives one two clean inside = go 
     )
 
 -- the same of what the statements of a transaction promise
-inside_then : {S X Y : Type 0} (g : Ghosts S) (T U V : Database → Database → Type 0) → ((a b c : Database) → T a b → U b c → V a c) → (a b c : Transaction S) (r : Result X Error) (x : X) (q : Result Y Error) → r ≡ Ok x
+pub inside_then : {S X Y : Type 0} (g : Ghosts S) (T U V : Database → Database → Type 0) → ((a b c : Database) → T a b → U b c → V a c) → (a b c : Transaction S) (r : Result X Error) (x : X) (q : Result Y Error) → r ≡ Ok x
     → RunsInside g (Makes T) a b r → RunsInside g (Makes U) b c q → RunsInside g (Makes V) a c q
 inside_then g T U V both a b c r x q ok one two = record {
   same_reference = two.same_reference ∙ one.same_reference;
@@ -100,22 +96,29 @@ inside_then g T U V both a b c r x q ok one two = record {
   survives = survives_then (state g a.conn.now) (state g b.conn.now) (state g c.conn.now) _ _ _ (λ _ db none. none) (λ _ db none. none) one.survives two.survives;
 }
 
+-- and a refusal after them
+pub inside_failed : {S X Y : Type 0} (g : Ghosts S) (T V : Database → Database → Type 0) (a b : Transaction S) (r : Result X Error) (e : Error) (q : Result Y Error) → q ≡ Err e → RunsInside g (Makes T) a b r
+    → RunsInside g (Makes V) a b q
+inside_failed g T V a b r e q is one = record {
+  same_reference = one.same_reference;
+  made = λ clean inside. ((one.made clean inside).0, subst (λ o. OnOk o (V (state g a.conn.now).now (state g b.conn.now).now × Shows (state g a.conn.now) (state g b.conn.now) (state g b.conn.now).now (state g a.conn.now).committed true)) (sym is) tt);
+  survives = one.survives;
+}
+
 -- one table after another
-pub makes_then : {S X Y : Type 0} (g : Ghosts S) (a b c : Transaction S) (s t u : Schema) (r : Result X Error) (x : X) (q : Result Y Error) → r ≡ Ok x → MakesTables g s t a b r → MakesTables g t u b c q → MakesTables g s u a c q
-makes_then g a b c s t u r x q ok one two = inside_then g (TurnsSchema s t) (TurnsSchema t u) (TurnsSchema s u) (λ _ _ _ first second held. second (first held)) a b c r x q ok one two
+pub makes_then : {S X Y : Type 0} (g : Ghosts S) (a b c : Transaction S) (s t u : Schema) (r : Result X Error) (x : X) (q : Result Y Error) → r ≡ Ok x → next_tree s ≤ next_tree t → MakesTables g s t a b r → MakesTables g t u b c q
+    → MakesTables g s u a c q
+makes_then g a b c s t u r x q ok up one two =
+    inside_then g (TurnsSchema s t) (TurnsSchema t u) (TurnsSchema s u) (λ _ _ _ first second tables held blank. second tables (first tables held blank) (λ tree from. blank tree (omega (arith, up, from)))) a b c r x q ok one two
 
 -- and a refusal after them
 pub makes_failed : {S X Y : Type 0} (g : Ghosts S) (a b : Transaction S) (s t u : Schema) (r : Result X Error) (e : Error) (q : Result Y Error) → q ≡ Err e → MakesTables g s t a b r → MakesTables g s u a b q
-makes_failed g a b s t u r e q is one = record {
-  same_reference = one.same_reference;
-  made = λ clean inside. ((one.made clean inside).0, subst (λ o. OnOk o (TurnsSchema s u (state g a.conn.now).now (state g b.conn.now).now × Shows (state g a.conn.now) (state g b.conn.now) (state g b.conn.now).now (state g a.conn.now).committed true)) (sym is) tt);
-  survives = one.survives;
-}
+makes_failed g a b s t u r e q is one = inside_failed g (TurnsSchema s t) (TurnsSchema s u) a b r e q is one
 
 -- all tables, and then the row of the version
 pub ours_then : {S X Y : Type 0} (g : Ghosts S) (a b c : Transaction S) (r : Result X Error) (x : X) (q : Result Y Error) → r ≡ Ok x → MakesTables g no_schema mail_schema a b r → ChangesRows g (added meta_tree version_row) b c q → MakesOurs g a c q
 ours_then g a b c r x q ok tables version =
-    inside_then g (TurnsSchema no_schema mail_schema) (TurnsRows (added meta_tree version_row)) TurnsOurs (λ old mid new first second blank. second no_rows (first (starts_empty old blank))) a b c r x q ok tables version
+    inside_then g (TurnsSchema no_schema mail_schema) (TurnsRows (added meta_tree version_row)) TurnsOurs (λ old mid new first second blank. second no_rows (first no_rows (starts_empty old blank) (λ _ _. refl))) a b c r x q ok tables version
 
 -- and the commit
 module _ {X : Type 0} (Turned : Database → Database → Type 0) (old last : State) (r : Result X Error) (x : X) (ok : r ≡ Ok x) (inside : IsTrue old.in_transaction) (makes : MakesInside Turned old last r) where
@@ -133,6 +136,13 @@ pub creates_all : {S X : Type 0} (g : Ghosts S) (old : Held S) (last end : State
 creates_all g old last end r x ok makes inside commit =
     survives_then (state g old) last end _ _ _ (λ _ db none. absurd none)
     (λ clean db is blank. (last.now, ready TurnsOurs (state g (record old { in_transaction = true })) last r x ok refl makes (clean_before last end _ commit clean) blank, is)) (survives_begin g old last _ inside) commit
+
+-- what a crash leaves of a transaction and its commit, whatever it turned
+pub turns_all : {S X : Type 0} (g : Ghosts S) (Turned : Database → Database → Type 0) (old : Held S) (last end : State) (r : Result X Error) (x : X) → r ≡ Ok x → MakesInside Turned (state g (record old { in_transaction = true })) last r
+    → Survives (state g (record old { in_transaction = true })) last (λ _. ⊥) → Survives last end (λ db. db ≡ last.now.trees) → Survives (state g old) end (λ trees. (db : Database) × Turned (state g old).now db × (trees ≡ db.trees))
+turns_all g Turned old last end r x ok makes inside commit =
+    survives_then (state g old) last end _ _ _ (λ _ db none. absurd none)
+    (λ clean db is. (last.now, ready Turned (state g (record old { in_transaction = true })) last r x ok refl makes (clean_before last end _ commit clean), is)) (survives_begin g old last _ inside) commit
 
 -- ---- the index of the copies by their messages
 
@@ -166,11 +176,13 @@ pub index_after : {S X Y : Type 0} (g : Ghosts S) (a b c : Transaction S) (s : S
     → MakesTables g s mail_schema a c q
 index_after g a b c s r x q ok tables index =
     inside_then g (TurnsSchema s unindexed_schema) TurnsIndexed (TurnsSchema s mail_schema)
-    (λ old mid new first second held. let h = first held in index_holds mid new no_rows (second h.is) h) a b c r x q ok tables index
+    (λ old mid new first second tables held blank. let h = first tables held blank in index_holds mid new tables (second h.is) h) a b c r x q ok tables index
 
 -- what a crash leaves of its transaction and the commit
 pub indexes_all : {S X : Type 0} (g : Ghosts S) (old : Held S) (last end : State) (r : Result X Error) (x : X) → r ≡ Ok x → MakesInside TurnsIndexed (state g (record old { in_transaction = true })) last r
-    → Survives (state g (record old { in_transaction = true })) last (λ _. ⊥) → Survives last end (λ db. db ≡ last.now.trees) → Survives (state g old) end (MayIndex (state g old))
+    → Survives (state g (record old { in_transaction = true })) last (λ _. ⊥) → Survives last end (λ db. db ≡ last.now.trees)
+    → Survives (state g old) end (λ trees. (state g old).now.schema ≡ unindexed_schema → MayIndex (state g old) trees)
 indexes_all g old last end r x ok makes inside commit =
     survives_then (state g old) last end _ _ _ (λ _ db none. absurd none)
-    (λ clean db is ours. (last.now, ready TurnsIndexed (state g (record old { in_transaction = true })) last r x ok refl makes (clean_before last end _ commit clean) ours, is)) (survives_begin g old last _ inside) commit
+    (λ clean db is lacked. record { lacked = lacked; db = last.now; opened = ready TurnsIndexed (state g (record old { in_transaction = true })) last r x ok refl makes (clean_before last end _ commit clean) lacked; left = is })
+    (survives_begin g old last _ inside) commit

@@ -43,7 +43,7 @@ rows_stay trees = (refl, (refl, (refl, (refl, (refl, (refl, (refl, (refl, tt))))
 pub stays : (s : State) → StaysSame s s
 stays s = record { now_is = λ _. refl; committed_is = λ _. refl }
 
-survives_same : (s : State) (P : Trees → Type 0) → Survives s s P
+pub survives_same : (s : State) (P : Trees → Type 0) → Survives s s P
 survives_same s P = record {
   clean = omega arith;
   shield = λ h. h;
@@ -69,12 +69,12 @@ complete_already s x r ok live named = record {
 -- ---- the index is made
 
 pub complete_then : {X E : Type 0} (old new : State) (r : Result X E) → is_some (index_named old.now.schema (codes "copy_message")) ≡ false → (HasCleanDisk new → OnOk r (TurnsIndexed old.now new.now))
-    → (HasCleanDisk new → OnOk r (IsSettled new)) → (HasCleanDisk new → OnErr r (StaysSame old new)) → Survives old new (MayIndex old) → Completes old new r
+    → (HasCleanDisk new → OnOk r (IsSettled new)) → (HasCleanDisk new → OnErr r (StaysSame old new)) → Survives old new (λ trees. old.now.schema ≡ unindexed_schema → MayIndex old trees) → Completes old new r
 complete_then old new r named made settled same survives = record {
   opened = λ ours clean sees. go r ours (made clean) (settled clean);
   same = same;
   unchanged = λ clean is. absurd (let both : false ≡ true = sym named ∙ ap (λ s. is_some (index_named s (codes "copy_message"))) is ∙ named_indexed in cc);
-  crash = survives_weaker old new (MayIndex old) _ (λ clean db index ours. let not = lacks_it old.now.schema ours named in let made = index not in (not, made.0, made.1, made.2)) survives;
+  crash = survives_weaker old new _ _ (λ clean db index ours. index (lacks_it old.now.schema ours named)) survives;
 }
   where
     go : {X E : Type 0} (o : Result X E) → IsOurSchema old.now.schema → OnOk o (TurnsIndexed old.now new.now) → OnOk o (IsSettled new) → OnOk o (IsOpenedAs old.now new.now × SeesCommit new)
@@ -83,7 +83,7 @@ complete_then old new r named made settled same survives = record {
 
 -- ---- the version, and then the index
 
-module _ {E F : Type 0} (old mid new : State) (r : Result Bool E) (asks : Asks (λ is. IsTrue is ↔ IsOurs old.now) old mid r) where
+module _ {E F : Type 0} (old mid new : State) (r : Result Bool E) (asks : Asks IsOurSchema (λ is. IsTrue is ↔ IsOurs old.now) old mid r) where
   -- the query failed
   pub opens_refused : (e : F) (q : Result Bool F) → q ≡ Err e → Opens old mid q
   opens_refused e q is = record {
@@ -131,7 +131,13 @@ module _ {E F : Type 0} (old mid new : State) (r : Result Bool E) (asks : Asks (
     left : IsOurSchema old.now.schema → Survives old new (MayOpen old)
     left ours =
         survives_then old mid new (λ _. ⊥) _ (MayOpen old) (λ clean db none. absurd none)
-        (λ clean db index. subst (λ (d : Database). (d.schema ≡ unindexed_schema) × (at : Database) × IsOpenedAs d at × (db ≡ at.trees)) (same_now ours clean) (index (schema_kept ours clean)))
+        (λ clean db index.
+        let same = same_now ours clean in
+        let made = index (schema_kept ours clean) in
+        record {
+          ours = (subst (λ o. IfOk o (λ b. IsTrue b ↔ IsOurs old.now)) was (asks.found ours (begun clean))).0 refl;
+          indexed = record { lacked = sym (ap (λ (d : Database). d.schema) same) ∙ made.lacked; db = made.db; opened = subst (λ d. IsOpenedAs d made.db) same made.opened; left = made.left };
+        })
         (asks.crash ours) completes.crash
 
     -- the index couldn't be made

@@ -1,5 +1,5 @@
 -- What the query for the version finds, and that it changes nothing.
-use Rattle.std.proofs.Common.{◌≡◌, ◌↔◌, ℕ, pos, Bool, true, false, cond, codes, List, [], ◌∷◌, ◌++◌, map, filter, flat_map, length, Ok, Err, Result, Vec, IfOk, IfErr, OnOk, IsTrue, IsPermutation, refl, sym, ap, ◌∙◌, subst, inl, inr, arith}
+use Rattle.std.proofs.Common.{◌≡◌, ◌↔◌, ℕ, ℤ, pos, Bool, true, false, cond, codes, List, [], ◌∷◌, ◌++◌, map, filter, flat_map, length, Ok, Err, Result, Vec, IfOk, IfErr, OnOk, IsTrue, IsPermutation, refl, sym, ap, ◌∙◌, subst, inl, inr, arith}
 use Rattle.std.specs.declared.alloc.Global.{Global}
 use Rattle.sqlite_value.specs.declared.value.Value.TheVariants.{Int}
 use Rattle.sqlite_value.specs.Order.{Row, column}
@@ -22,7 +22,7 @@ use Rattle.mailtables.specs.Rows.{has_key_from}
 use Rattle.mailtables.proofs.ReadLemmas.{shown_same, fails_same, answered, quiet}
 use Rattle.mailtables.specs.Schema.{mail_schema, unindexed_schema, IsOurSchema}
 use Rattle.mailtables.specs.Connection.{StaysSame, SeesCommit, Asks, Answers}
-use Rattle.mailtables.specs.MetaTable.{select_version, version_key, version_rows, SaysTwo, meta_tree, stored_value_column, AreVersions}
+use Rattle.mailtables.specs.MetaTable.{select_version, version_key, version_rows, Says, meta_tree, stored_value_column, AreVersions}
 use Rattle.mailtables.specs.Ours.{IsOurs}
 use Rattle.mailtables.proofs.TextFacts.{by_one, select_version_is, select_version_plain, select_version_is_unindexed, select_version_plain_unindexed}
 use Rattle.mailtables.proofs.ResultLemmas.{on_any, on_ok}
@@ -84,33 +84,46 @@ pub version_found : (schema : Schema) → AsksVersion schema → (old new : Stat
 version_found schema asks old new rows ours shown =
     numbers_are old.now.trees rows (answered schema select_version version_key old new ours asks.plain meta_tree by_one (col 1 2 ∷ []) [] _ asks.is asks.unlisted rows shown)
 
-says_ours : (db : Database) (rows found : List Row) → IsOurSchema db.schema → version_rows db.trees ≡ found → IsPermutation (map (λ r. column r stored_value_column ∷ []) found) rows → SaysTwo rows ↔ IsOurs db
-says_ours db rows [] ours are same = (
+-- the row of the version is there once, and says the number
+pub record SaysVersion (n : ℤ) (trees : Trees) : Type 0 where
+  pub row : Row
+  pub only : version_rows trees ≡ row ∷ []
+  pub says : column row stored_value_column ≡ Int n
+
+says_it : (n : ℤ) (trees : Trees) (rows found : List Row) → version_rows trees ≡ found → IsPermutation (map (λ r. column r stored_value_column ∷ []) found) rows → Says n rows ↔ SaysVersion n trees
+says_it n trees rows [] are same = (
   λ one. absurd (let none = length_permutation _ _ (subst (IsPermutation []) one.1 same) in omega (arith, none)),
   λ h. absurd (let none = sym are ∙ h.only in cc),
 )
-says_ours db rows (r ∷ []) ours are same =
+says_it n trees rows (r ∷ []) are same =
     let alone = one_permutation (column r stored_value_column ∷ []) rows same in (
-      λ one. record { schema = ours; row = r; only = are; says = ap (λ l. column (first_of l) 0) (sym alone ∙ one.1) ∙ one.2 },
+      λ one. record { row = r; only = are; says = ap (λ l. column (first_of l) 0) (sym alone ∙ one.1) ∙ one.2 },
       λ h. (column r stored_value_column ∷ [], alone, ap (λ l. column (first_of l) stored_value_column) (sym are ∙ h.only) ∙ h.says),
     )
   where
     first_of : List Row → Row
     first_of [] = []
     first_of (x ∷ xs) = x
-says_ours db rows (r ∷ q ∷ more) ours are same = (
+says_it n trees rows (r ∷ q ∷ more) are same = (
   λ one. absurd (let many = length_permutation _ _ (subst (IsPermutation _) one.1 same) in omega (arith, many)),
   λ h. absurd (let one = sym are ∙ h.only in let many : length (r ∷ q ∷ more) ≡ 1 = ap length one in omega (arith, many)),
 )
 
-pub row_says : (rows : List Row) (row : Row) → rows ≡ row ∷ [] → (r : Result Bool Error) → IfOk r (λ is. IsTrue is ↔ (column row 0 ≡ Int (pos 2))) → IfOk r (λ is. IsTrue is ↔ SaysTwo rows)
-row_says rows row are (Err e) said = tt
-row_says rows row are (Ok is) said = (λ e. (row, are, said.0 e), λ h. let same : row ∷ [] ≡ h.0 ∷ [] = sym are ∙ h.1 in let one : row ≡ h.0 = cc in said.1 (ap (λ (x : Row). column x 0) one ∙ h.2))
+pub row_says : (n : ℤ) (rows : List Row) (row : Row) → rows ≡ row ∷ [] → (r : Result Bool Error) → IfOk r (λ is. IsTrue is ↔ (column row 0 ≡ Int n)) → IfOk r (λ is. IsTrue is ↔ Says n rows)
+row_says n rows row are (Err e) said = tt
+row_says n rows row are (Ok is) said = (λ e. (row, are, said.0 e), λ h. let same : row ∷ [] ≡ h.0 ∷ [] = sym are ∙ h.1 in let one : row ≡ h.0 = cc in said.1 (ap (λ (x : Row). column x 0) one ∙ h.2))
 
-pub version_says : (db : Database) (rows : List Row) → IsOurSchema db.schema → IsPermutation (map (λ r. column r stored_value_column ∷ []) (version_rows db.trees)) rows → (r : Result Bool Error) → IfOk r (λ is. IsTrue is ↔ SaysTwo rows)
-    → IfOk r (λ is. IsTrue is ↔ IsOurs db)
-version_says db rows ours same (Err e) said = tt
-version_says db rows ours same (Ok is) said = let both = says_ours db rows _ ours refl same in (λ e. both.0 (said.0 e), λ h. said.1 (both.1 h))
+version_says : (n : ℤ) (trees : Trees) (P : Type 0) → P ↔ SaysVersion n trees → (rows : List Row) → IsPermutation (map (λ r. column r stored_value_column ∷ []) (version_rows trees)) rows → (r : Result Bool Error) → IfOk r (λ is. IsTrue is ↔ Says n rows)
+    → IfOk r (λ is. IsTrue is ↔ P)
+version_says n trees P means rows same (Err e) said = tt
+version_says n trees P means rows same (Ok is) said = let both = says_it n trees rows _ refl same in (λ e. means.1 (both.0 (said.0 e)), λ h. said.1 (both.1 (means.0 h)))
+
+pub ours_says : (db : Database) → IsOurSchema db.schema → IsOurs db ↔ SaysVersion (pos 2) db.trees
+ours_says db ours = (λ h. record { row = h.row; only = h.only; says = h.says }, λ h. record { schema = ours; row = h.row; only = h.only; says = h.says })
+
+-- our tables, with the index or without it
+pub asks_ours : (schema : Schema) → IsOurSchema schema → AsksVersion schema
+asks_ours schema ours = elim ours [ inl is ↦ subst AsksVersion (sym is) asks_indexed | inr is ↦ subst AsksVersion (sym is) asks_unindexed ]
 
 -- the query for the version, under one schema
 module _ (schema : Schema) (asks : AsksVersion schema) (old new : State) (r : Result (Vec Row Global) Error) (asked : Answers select_version version_key old new r) (is : old.now.schema ≡ schema) where
@@ -130,30 +143,31 @@ module _ (schema : Schema) (asks : AsksVersion schema) (old new : State) (r : Re
   crash_leaves : Survives old new (λ _. ⊥)
   crash_leaves = quiet schema select_version version_key old new is asks.plain asked.survives
 
--- under either
-pub asks_version : (old new : State) (r : Result (Vec Row Global) Error) → Answers select_version version_key old new r → Asks (AreVersions old.now.trees) old new r
-asks_version old new r asked = record {
-  found = λ ours. elim ours [ inl is ↦ rows_found mail_schema asks_indexed old new r asked is | inr is ↦ rows_found unindexed_schema asks_unindexed old new r asked is ];
-  same = λ ours. elim ours [ inl is ↦ stays_same mail_schema asks_indexed old new r asked is | inr is ↦ stays_same unindexed_schema asks_unindexed old new r asked is ];
-  live = λ ours. elim ours [ inl is ↦ commit_seen mail_schema asks_indexed old new r asked is | inr is ↦ commit_seen unindexed_schema asks_unindexed old new r asked is ];
-  crash = λ ours. elim ours [ inl is ↦ crash_leaves mail_schema asks_indexed old new r asked is | inr is ↦ crash_leaves unindexed_schema asks_unindexed old new r asked is ];
-}
+-- under any of those that understand it so
+module _ (Known : Schema → Type 0) (understands : (schema : Schema) → Known schema → AsksVersion schema) (old new : State) (r : Result (Vec Row Global) Error) (asked : Answers select_version version_key old new r) where
+  asks_version : Asks Known (AreVersions old.now.trees) old new r
+  asks_version = record {
+    found = λ known. rows_found old.now.schema (understands old.now.schema known) old new r asked refl;
+    same = λ known. stays_same old.now.schema (understands old.now.schema known) old new r asked refl;
+    live = λ known. commit_seen old.now.schema (understands old.now.schema known) old new r asked refl;
+    crash = λ known. crash_leaves old.now.schema (understands old.now.schema known) old new r asked refl;
+  }
 
--- with a refusal as the answer
-pub asks_refused : {X Y E F : Type 0} {P : X → Type 0} {Q : Y → Type 0} (old new : State) (r : Result X E) (e : F) (q : Result Y F) → q ≡ Err e → Asks P old new r → Asks Q old new q
-asks_refused {Q = Q} old new r e q is h = record {
-  found = λ ours clean. subst (λ o. IfOk o Q) (sym is) tt;
-  same = h.same;
-  live = λ ours clean. subst (λ o. OnOk o (SeesCommit new)) (sym is) tt;
-  crash = h.crash;
-}
+  -- with a refusal as the answer
+  pub asks_refused : {Y F : Type 0} (Q : Y → Type 0) (e : F) (q : Result Y F) → q ≡ Err e → Asks Known Q old new q
+  asks_refused Q e q is = record {
+    found = λ known clean. subst (λ o. IfOk o Q) (sym is) tt;
+    same = asks_version.same;
+    live = λ known clean. subst (λ o. OnOk o (SeesCommit new)) (sym is) tt;
+    crash = asks_version.crash;
+  }
 
--- and what its rows say
-pub says_version : (old new : State) (r : Result (Vec Row Global) Error) (rows : Vec Row Global) → r ≡ Ok rows → Asks (AreVersions old.now.trees) old new r → (q : Result Bool Error) → IfOk q (λ is. IsTrue is ↔ SaysTwo rows.items)
-    → Asks (λ is. IsTrue is ↔ IsOurs old.now) old new q
-says_version old new r rows was h q said = record {
-  found = λ ours clean. version_says old.now rows.items ours (subst (λ o. IfOk o (AreVersions old.now.trees)) was (h.found ours clean)) q said;
-  same = h.same;
-  live = λ ours clean. on_any q (SeesCommit new) (on_ok r rows was (SeesCommit new) (h.live ours clean));
-  crash = h.crash;
-}
+  -- and what its rows say
+  pub says_version : (n : ℤ) (P : Database → Type 0) → ((db : Database) → Known db.schema → P db ↔ SaysVersion n db.trees) → (rows : Vec Row Global) → r ≡ Ok rows → (q : Result Bool Error) → IfOk q (λ is. IsTrue is ↔ Says n rows.items)
+      → Asks Known (λ is. IsTrue is ↔ P old.now) old new q
+  says_version n P means rows was q said = record {
+    found = λ known clean. version_says n old.now.trees (P old.now) (means old.now known) rows.items (subst (λ o. IfOk o (AreVersions old.now.trees)) was (asks_version.found known clean)) q said;
+    same = asks_version.same;
+    live = λ known clean. on_any q (SeesCommit new) (on_ok r rows was (SeesCommit new) (asks_version.live known clean));
+    crash = asks_version.crash;
+  }

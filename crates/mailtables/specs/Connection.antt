@@ -4,6 +4,7 @@ use Rattle.std.specs.declared.alloc.Global.{Global}
 use Rattle.sqlite_value.specs.Order.{Row}
 use Rattle.sqlite_schema.specs.declared.schema.Schema.{Schema}
 use Rattle.sqlite_schema.specs.Names.{table_named}
+use Rattle.sqlite_catalog.specs.Change.{next_tree}
 use Rattle.sqlite_trees.specs.declared.store.Store.{Ghosts}
 use Rattle.sqlite_trees.specs.Tree.{Trees}
 use Rattle.sqlite_trees.specs.View.{doubt}
@@ -11,9 +12,9 @@ use Rattle.sqlite.specs.declared.error.Error.{Error}
 use Rattle.sqlite.specs.declared.transaction.Transaction.{Transaction}
 use Rattle.sqlite.specs.Effect.{Database}
 use Rattle.sqlite.specs.Held.{Held, state}
-use Rattle.sqlite.specs.State.{State, HasCleanDisk, CommitsShowing, ExecutesInside, FailsToQuery, KeepsCommit, Shown, Shows, Survives}
+use Rattle.sqlite.specs.State.{State, HasCleanDisk, CommitsShowing, ExecutesInside, FailsToQuery, IsTooLate, KeepsCommit, Shown, Shows, Survives}
 use Rattle.mailtables.specs.Rows.{Tables, HoldsTables}
-use Rattle.mailtables.specs.Schema.{mail_schema, IsOurSchema}
+use Rattle.mailtables.specs.Schema.{mail_schema}
 
 -- no table has a row
 abbrev pub no_rows : Tables
@@ -38,9 +39,13 @@ Makes Turned old new result = KeepsCommit old new × OnOk result (Turned old.now
 abbrev pub TurnsRows : (Tables → Tables) → Database → Database → Type 0
 TurnsRows change old new = (tables : Tables) → HoldsTables mail_schema old tables → HoldsTables mail_schema new (change tables)
 
--- where the empty schema was the first one, it is then the next
+-- no table from this number on has a row
+abbrev pub HasNoneFrom : ℕ → Tables → Type 0
+HasNoneFrom n tables = (tree : ℕ) → n ≤ tree → tables tree ≡ []
+
+-- where the schema was the first one, it is then the next: the tables that were there hold what they held, and the new ones hold nothing
 abbrev pub TurnsSchema : Schema → Schema → Database → Database → Type 0
-TurnsSchema schema next old new = HoldsTables schema old no_rows → HoldsTables next new no_rows
+TurnsSchema schema next old new = (tables : Tables) → HoldsTables schema old tables → HasNoneFrom (next_tree schema) tables → HoldsTables next new tables
 
 -- a statement inside a transaction
 abbrev pub RunsStatement : {S X : Type 0} → Ghosts S → List ℕ → Row → Transaction S → Transaction S → Result X Error → Type 0
@@ -50,7 +55,7 @@ RunsStatement g sql params = RunsInside g (RunsText sql params)
 abbrev pub ChangesRows : {S X : Type 0} → Ghosts S → (Tables → Tables) → Transaction S → Transaction S → Result X Error → Type 0
 ChangesRows g change = RunsInside g (Makes (TurnsRows change))
 
--- tables made inside a transaction, from the one empty schema to the next
+-- tables made inside a transaction, from the one schema to the next
 abbrev pub MakesTables : {S X : Type 0} → Ghosts S → Schema → Schema → Transaction S → Transaction S → Result X Error → Type 0
 MakesTables g schema next = RunsInside g (Makes (TurnsSchema schema next))
 
@@ -99,9 +104,9 @@ pub record Answers (sql : List ℕ) (params : Row) (old new : State) (result : R
   pub err : HasCleanDisk new → IfErr result (FailsToQuery sql params old new)
   pub survives : Survives old new (CommitsShowing sql params old)
 
--- a query of a database of our tables, with the index or without it, whatever its rows are: this holds of the answer; all stays as it was, and after Ok the last commit is seen
-pub record Asks {X E : Type 0} (P : X → Type 0) (old new : State) (result : Result X E) : Type 0 where
-  pub found : IsOurSchema old.now.schema → HasCleanDisk new → IfOk result P
-  pub same : IsOurSchema old.now.schema → HasCleanDisk new → StaysSame old new
-  pub live : IsOurSchema old.now.schema → HasCleanDisk new → OnOk result (SeesCommit new)
-  pub crash : IsOurSchema old.now.schema → Survives old new (λ _. ⊥)
+-- a query of a database of such a schema, whatever its rows are: this holds of the answer; all stays as it was, and after Ok the last commit is seen
+pub record Asks {X E : Type 0} (Known : Schema → Type 0) (P : X → Type 0) (old new : State) (result : Result X E) : Type 0 where
+  pub found : Known old.now.schema → HasCleanDisk new → IfOk result P
+  pub same : Known old.now.schema → HasCleanDisk new → StaysSame old new
+  pub live : Known old.now.schema → HasCleanDisk new → OnOk result (SeesCommit new)
+  pub crash : Known old.now.schema → Survives old new (λ _. ⊥)

@@ -1,5 +1,5 @@
 -- The table of the version.
-use Rattle.std.specs.Prelude.{◌≡◌, ℕ, pos, List, [], ◌∷◌, filter, map, codes, Vec, IsPermutation}
+use Rattle.std.specs.Prelude.{◌≡◌, ℕ, ℤ, pos, List, [], ◌∷◌, filter, map, codes, Vec, IsPermutation}
 use Rattle.std.specs.declared.alloc.Global.{Global}
 use Rattle.sqlite_schema.specs.declared.schema.Kind.TheVariants.{Integer, Text}
 use Rattle.sqlite_schema.specs.declared.schema.Table.{Table}
@@ -38,9 +38,9 @@ version_row = value.Text (codes "version") ∷ value.Int (pos 2) ∷ []
 abbrev pub version_rows : Trees → List Row
 version_rows trees = filter (has_key_from 1 version_key) (trees meta_tree)
 
--- there is one row, and it begins with 2
-abbrev pub SaysTwo : List Row → Type 0
-SaysTwo rows = (row : Row) × (rows ≡ row ∷ []) × (column row 0 ≡ value.Int (pos 2))
+-- there is one row, and it begins with the number
+abbrev pub Says : ℤ → List Row → Type 0
+Says n rows = (row : Row) × (rows ≡ row ∷ []) × (column row 0 ≡ value.Int n)
 
 -- the rows are the numbers of the version, in any order
 abbrev pub AreVersions : Trees → Vec Row Global → Type 0

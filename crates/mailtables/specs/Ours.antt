@@ -62,20 +62,24 @@ MakesIndex g = RunsInside g (Makes TurnsIndexed)
 abbrev pub Indexes : {X E : Type 0} → State → State → Result X E → Type 0
 Indexes old new result = HasCleanDisk new → OnOk result (TurnsIndexed old.now new.now)
 
--- what a crash may leave while it is made
-abbrev pub MayIndex : State → Trees → Type 0
-MayIndex s trees = s.now.schema ≡ unindexed_schema → (db : Database) × IsOpenedAs s.now db × (trees ≡ db.trees)
+-- what a crash may leave while it is made: of a database that lacked it, the one with it
+pub record MayIndex (s : State) (trees : Trees) : Type 0 where
+  pub lacked : s.now.schema ≡ unindexed_schema
+  pub db : Database
+  pub opened : IsOpenedAs s.now db
+  pub left : trees ≡ db.trees
 
--- what a crash may leave of a database that is opened, beside what it left before: of one without the index, the database with it
-abbrev pub MayOpen : State → Trees → Type 0
-MayOpen s trees = (s.now.schema ≡ unindexed_schema) × (db : Database) × IsOpenedAs s.now db × (trees ≡ db.trees)
+-- what a crash may leave of a database that is opened, beside what it left before: of one that is ours and lacked the index, the one with it
+pub record MayOpen (s : State) (trees : Trees) : Type 0 where
+  pub ours : IsOurs s.now
+  pub indexed : MayIndex s trees
 
 -- a database of our tables, with the index or without it, gets it, or has it and stays: after Ok it is opened and its last commit is seen, where that was seen before; after a refusal all is as it was
 pub record Completes {X E : Type 0} (old new : State) (result : Result X E) : Type 0 where
   pub opened : IsOurSchema old.now.schema → HasCleanDisk new → SeesCommit old → OnOk result (IsOpenedAs old.now new.now × SeesCommit new)
   pub same : HasCleanDisk new → OnErr result (StaysSame old new)
   pub unchanged : HasCleanDisk new → old.now.schema ≡ mail_schema → StaysSame old new
-  pub crash : Survives old new (λ trees. IsOurSchema old.now.schema → MayOpen old trees)
+  pub crash : Survives old new (λ trees. IsOurSchema old.now.schema → MayIndex old trees)
 
 -- a database of our tables is opened: the answer says whether it is ours; where it is, it is opened and its last commit is seen; where it isn't, and after a refusal, all is as it was, and so it is where it had the index
 pub record Opens {E : Type 0} (old new : State) (result : Result Bool E) : Type 0 where

@@ -27,7 +27,7 @@ pub(crate) fn make_copy_message<S: Alter>(tx: &mut Transaction<'_, S>) -> Result
 }
 
 /// A copy in a folder, with its number, of the message with the number `id`, which is there. Inside a transaction.
-pub(crate) fn add_copy<S: Alter>(
+pub fn add_copy<S: Alter>(
     tx: &mut Transaction<'_, S>,
     owner: &[u8],
     folder: &[u8],

@@ -18,7 +18,7 @@ pub(crate) fn make_message<S: Alter>(tx: &mut Transaction<'_, S>) -> Result<(), 
 }
 
 /// A message with its number. Inside a transaction.
-pub(crate) fn add_message<S: Alter>(
+pub fn add_message<S: Alter>(
     tx: &mut Transaction<'_, S>,
     owner: &[u8],
     id: &i64,

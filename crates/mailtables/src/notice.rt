@@ -18,7 +18,7 @@ pub(crate) fn make_notice<S: Alter>(tx: &mut Transaction<'_, S>) -> Result<(), E
 }
 
 /// A notice with its number. Inside a transaction.
-pub(crate) fn add_notice<S: Alter>(
+pub fn add_notice<S: Alter>(
     tx: &mut Transaction<'_, S>,
     owner: &[u8],
     id: &i64,

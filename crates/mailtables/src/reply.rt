@@ -18,7 +18,7 @@ pub(crate) fn make_reply<S: Alter>(tx: &mut Transaction<'_, S>) -> Result<(), Er
 }
 
 /// The moment of the last reply to a sender, where none is kept under the handle yet. Inside a transaction.
-pub(crate) fn add_reply<S: Alter>(
+pub fn add_reply<S: Alter>(
     tx: &mut Transaction<'_, S>,
     owner: &[u8],
     handle: &[u8],

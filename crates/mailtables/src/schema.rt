@@ -26,7 +26,7 @@ pub struct Form<'a> {
     pub not_null: bool,
 }
 
-fn needed(name: &[u8], kind: Kind) -> Form<'_>
+pub fn needed(name: &[u8], kind: Kind) -> Form<'_>
     ensures { spec.column_of result ≡ needed name.now kind }
 {
     Form {
@@ -180,7 +180,7 @@ fn has_no_other_rule(table: &Table) -> bool
 }
 
 /// Whether the table has this name, tree, key, columns and references.
-fn is_table(
+pub fn is_table(
     table: &Table,
     name: &[u8],
     tree: u32,
@@ -198,14 +198,14 @@ fn is_table(
         && has_no_other_rule(table)
 }
 
-fn is_meta(table: &Table) -> bool
+pub fn is_meta(table: &Table) -> bool
     ensures { IsTrue result ↔ (table.now ≡ meta_table.meta) }
 {
     let forms = [needed(b"item", Kind::Text), needed(b"value", Kind::Integer)];
     is_table(table, b"meta", 0, &[1], Parents::Nothing, &forms)
 }
 
-fn is_account(table: &Table) -> bool
+pub fn is_account(table: &Table) -> bool
     ensures { IsTrue result ↔ (table.now ≡ account_table.account) }
 {
     let forms = [
@@ -222,7 +222,7 @@ fn is_account(table: &Table) -> bool
     is_table(table, b"account", 2, &[1], Parents::Nothing, &forms)
 }
 
-fn is_script(table: &Table) -> bool
+pub fn is_script(table: &Table) -> bool
     ensures { IsTrue result ↔ (table.now ≡ script_table.script) }
 {
     let forms = [
@@ -233,8 +233,8 @@ fn is_script(table: &Table) -> bool
     is_table(table, b"script", 4, &[1, 2], Parents::Account, &forms)
 }
 
-fn is_outgoing(table: &Table) -> bool
-    ensures { IsTrue result ↔ (table.now ≡ queue_table.outgoing) }
+pub fn is_outgoing(table: &Table, tree: u32) -> bool
+    ensures { IsTrue result ↔ (table.now ≡ record queue_table.outgoing { tree = tree }) }
 {
     let forms = [
         needed(b"owner", Kind::Blob),
@@ -244,11 +244,11 @@ fn is_outgoing(table: &Table) -> bool
         needed(b"target", Kind::Blob),
         needed(b"message", Kind::Blob),
     ];
-    is_table(table, b"outgoing", 6, &[1, 2], Parents::Account, &forms)
+    is_table(table, b"outgoing", tree, &[1, 2], Parents::Account, &forms)
 }
 
-fn is_reply(table: &Table) -> bool
-    ensures { IsTrue result ↔ (table.now ≡ reply_table.reply) }
+pub fn is_reply(table: &Table, tree: u32) -> bool
+    ensures { IsTrue result ↔ (table.now ≡ record reply_table.reply { tree = tree }) }
 {
     let forms = [
         needed(b"owner", Kind::Blob),
@@ -256,11 +256,11 @@ fn is_reply(table: &Table) -> bool
         needed(b"sender", Kind::Blob),
         needed(b"moment", Kind::Integer),
     ];
-    is_table(table, b"reply", 8, &[1, 2, 3], Parents::Account, &forms)
+    is_table(table, b"reply", tree, &[1, 2, 3], Parents::Account, &forms)
 }
 
-fn is_notice(table: &Table) -> bool
-    ensures { IsTrue result ↔ (table.now ≡ notice_table.notice) }
+pub fn is_notice(table: &Table, tree: u32) -> bool
+    ensures { IsTrue result ↔ (table.now ≡ record notice_table.notice { tree = tree }) }
 {
     let forms = [
         needed(b"owner", Kind::Blob),
@@ -268,7 +268,7 @@ fn is_notice(table: &Table) -> bool
         needed(b"moment", Kind::Integer),
         needed(b"text", Kind::Blob),
     ];
-    is_table(table, b"notice", 10, &[1, 2], Parents::Account, &forms)
+    is_table(table, b"notice", tree, &[1, 2], Parents::Account, &forms)
 }
 
 fn is_message(table: &Table) -> bool
@@ -310,7 +310,7 @@ fn are_last(tables: &[Table]) -> bool
     let [outgoing, reply, notice, others @ ..] = tables else {
         return false;
     };
-    is_outgoing(outgoing) && is_reply(reply) && is_notice(notice) && are_folders(others)
+    is_outgoing(outgoing, 6) && is_reply(reply, 8) && is_notice(notice, 10) && are_folders(others)
 }
 
 fn are_tables(tables: &[Table]) -> bool
@@ -331,7 +331,7 @@ pub struct KeyForm<'a> {
     pub places: &'a [usize],
 }
 
-fn key_of<'a>(name: &'a [u8], tree: u32, table: u32, places: &'a [usize]) -> KeyForm<'a>
+pub fn key_of<'a>(name: &'a [u8], tree: u32, table: u32, places: &'a [usize]) -> KeyForm<'a>
     ensures { spec.index_of result ≡ record { name = name.now; tree = tree; table = table; columns = places.now; order = plain; is_unique = true } }
 {
     KeyForm {
@@ -355,7 +355,7 @@ impl KeyForm<'_> {
     }
 }
 
-fn are_indexes(mut indexes: &[Index], mut forms: &[KeyForm<'_>]) -> bool
+pub fn are_indexes(mut indexes: &[Index], mut forms: &[KeyForm<'_>]) -> bool
     ensures { IsTrue result ↔ (indexes.entry.now ≡ map spec.index_of forms.entry.now) }
 {
     while let [form, others @ ..] = forms {

@@ -7,7 +7,7 @@ use sqlite::{Alter, Connection, Error, Row, Transaction};
 use sqlite_value::value::ValueRef;
 
 /// Runs the statement inside the transaction. How many rows it changes is not told.
-pub(crate) fn execute<S: Alter>(
+pub fn execute<S: Alter>(
     tx: &mut Transaction<'_, S>,
     sql: &str,
     params: &[ValueRef<'_>],

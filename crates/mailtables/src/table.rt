@@ -4,7 +4,7 @@ ghost use Rattle.sqlite.specs.Held.{state};
 ghost use Rattle.mailtables.specs.Ours.{Creates, MakesOurs, MayCreate, Indexes, MayIndex, Completes, Opens};
 ghost use Rattle.sqlite.specs.State.{Survives, HasCleanDisk};
 ghost use Rattle.mailtables.specs.Connection.{MakesTables, IsSettled, StaysSame, has_our_name};
-ghost use Rattle.mailtables.specs.Schema.{no_schema, mail_schema, schema_3, schema_6};
+ghost use Rattle.mailtables.specs.Schema.{no_schema, mail_schema, schema_3, schema_6, unindexed_schema};
 
 use crate::account::make_account;
 use crate::copy::{make_copy, make_copy_message};
@@ -51,7 +51,7 @@ fn make_first<S: Alter>(tx: &mut Transaction<'_, S>) -> Result<(), Error>
 }
 
 /// The tables of messages and copies, which are the folders, and the index of the copies, inside a transaction.
-fn make_folders<S: Alter>(tx: &mut Transaction<'_, S>) -> Result<(), Error>
+pub fn make_folders<S: Alter>(tx: &mut Transaction<'_, S>) -> Result<(), Error>
     ensures { MakesTables S.Store schema_6 mail_schema tx.old tx.new result }
 {
     make_message(tx)?;
@@ -59,13 +59,20 @@ fn make_folders<S: Alter>(tx: &mut Transaction<'_, S>) -> Result<(), Error>
     make_copy_message(tx)
 }
 
+/// The tables of the queue, the replies and the notices, inside a transaction.
+pub fn make_later<S: Alter>(tx: &mut Transaction<'_, S>) -> Result<(), Error>
+    ensures { MakesTables S.Store schema_3 schema_6 tx.old tx.new result }
+{
+    make_outgoing(tx)?;
+    make_reply(tx)?;
+    make_notice(tx)
+}
+
 /// The other five, inside a transaction.
 fn make_others<S: Alter>(tx: &mut Transaction<'_, S>) -> Result<(), Error>
     ensures { MakesTables S.Store schema_3 mail_schema tx.old tx.new result }
 {
-    make_outgoing(tx)?;
-    make_reply(tx)?;
-    make_notice(tx)?;
+    make_later(tx)?;
     make_folders(tx)
 }
 
@@ -102,7 +109,8 @@ fn make_index<S: Alter>(conn: &mut Connection<S>) -> Result<(), Error>
     ensures made { Indexes (state S.Store conn.old) (state S.Store conn.new) result }
     ensures settled { HasCleanDisk (state S.Store conn.new) → OnOk result (IsSettled (state S.Store conn.new)) }
     ensures same { HasCleanDisk (state S.Store conn.new) → OnErr result (StaysSame (state S.Store conn.old) (state S.Store conn.new)) }
-    ensures crash { Survives (state S.Store conn.old) (state S.Store conn.new) (MayIndex (state S.Store conn.old)) }
+    ensures crash { Survives (state S.Store conn.old) (state S.Store conn.new)
+        (λ trees. (state S.Store conn.old).now.schema ≡ unindexed_schema → MayIndex (state S.Store conn.old) trees) }
 {
     let _settled = conn.is_autocommit();
     let mut tx = conn.transaction();

@@ -2,10 +2,10 @@
 ghost use Rattle.std.specs.Prelude.{◌≡◌, false, ◌↔◌, IsTrue, pos, IfOk};
 ghost use Rattle.sqlite.specs.Held.{state};
 ghost use Rattle.mailtables.specs.Ours.{IsOurs};
-ghost use Rattle.mailtables.specs.MetaTable.{AreVersions, version_row, meta_tree, SaysTwo};
-ghost use Rattle.mailtables.specs.Connection.{Asks, Queries, ChangesRows, MakesTables};
+ghost use Rattle.mailtables.specs.MetaTable.{select_version, version_key, version_row, meta_tree, Says};
+ghost use Rattle.mailtables.specs.Connection.{Answers, Asks, Queries, ChangesRows, MakesTables};
 ghost use Rattle.mailtables.specs.Rows.{added};
-ghost use Rattle.mailtables.specs.Schema.{no_schema, schema_1};
+ghost use Rattle.mailtables.specs.Schema.{no_schema, schema_1, IsOurSchema};
 ghost use Rattle.sqlite_value.specs.declared.value.Value.TheVariants.{Int};
 ghost use Rattle.sqlite_value.specs.Order.{column};
 
@@ -24,7 +24,7 @@ pub(crate) fn make_meta<S: Alter>(tx: &mut Transaction<'_, S>) -> Result<(), Err
 }
 
 /// The row of the version, inside a transaction.
-pub(crate) fn add_version<S: Alter>(tx: &mut Transaction<'_, S>) -> Result<(), Error>
+pub fn add_version<S: Alter>(tx: &mut Transaction<'_, S>) -> Result<(), Error>
     ensures { ChangesRows S.Store (added meta_tree version_row) tx.old tx.new result }
 {
     execute(
@@ -35,9 +35,9 @@ pub(crate) fn add_version<S: Alter>(tx: &mut Transaction<'_, S>) -> Result<(), E
 }
 
 /// The numbers in the rows of the version.
-fn find_version<S: Alter>(conn: &mut Connection<S>) -> Result<Vec<Row>, Error>
+pub fn find_version<S: Alter>(conn: &mut Connection<S>) -> Result<Vec<Row>, Error>
     requires { conn.old.in_transaction ≡ false }
-    ensures { Queries S.Store (Asks (AreVersions (state S.Store conn.old).now.trees)) conn.old conn.new result }
+    ensures { Queries S.Store (Answers select_version version_key) conn.old conn.new result }
 {
     query(
         conn,
@@ -49,26 +49,26 @@ fn find_version<S: Alter>(conn: &mut Connection<S>) -> Result<Vec<Row>, Error>
 /// Whether the row of the version is there once, and says 2.
 pub(crate) fn has_version<S: Alter>(conn: &mut Connection<S>) -> Result<bool, Error>
     requires { conn.old.in_transaction ≡ false }
-    ensures { Queries S.Store (Asks (λ is. IsTrue is ↔ IsOurs (state S.Store conn.old).now)) conn.old conn.new result }
+    ensures { Queries S.Store (Asks IsOurSchema (λ is. IsTrue is ↔ IsOurs (state S.Store conn.old).now)) conn.old conn.new result }
 {
     let rows = find_version(conn)?;
-    says_version_2(&rows)
+    are_version(&rows, &2)
 }
 
-/// Whether the first number of the row is 2.
-fn says_2(row: &Row) -> Result<bool, Error>
-    ensures { IfOk result (λ is. IsTrue is ↔ (column row.now 0 ≡ Int (pos 2))) }
+/// Whether the first number of the row is this one.
+fn is_version(row: &Row, version: &i64) -> Result<bool, Error>
+    ensures { IfOk result (λ is. IsTrue is ↔ (column row.now 0 ≡ Int version.now)) }
 {
     let number: i64 = row.get(0)?;
-    Ok(number == 2)
+    Ok(number == *version)
 }
 
-/// Whether there is one row, and it says 2.
-fn says_version_2(rows: &[Row]) -> Result<bool, Error>
-    ensures { IfOk result (λ is. IsTrue is ↔ SaysTwo rows.now) }
+/// Whether there is one row, and it says this version.
+pub fn are_version(rows: &[Row], version: &i64) -> Result<bool, Error>
+    ensures { IfOk result (λ is. IsTrue is ↔ Says version.now rows.now) }
 {
     match rows {
-        [row] => says_2(row),
+        [row] => is_version(row, version),
         _ => Ok(false),
     }
 }

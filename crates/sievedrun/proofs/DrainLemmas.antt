@@ -9,7 +9,8 @@ use Rattle.mailsinks.specs.declared.sink.SinkError.{SinkError}
 use Rattle.mailsinks.specs.declared.sink.SinkError.TheVariants as sink
 use Rattle.mailstore.specs.Account.{Accounts}
 use Rattle.mailstore.specs.Promises.{IsFree}
-use Rattle.mailstore.specs.Schema.{mail_schema, IsOurSchema}
+use Rattle.mailstore.specs.Schema.{mail_schema}
+use Rattle.mailstore.specs.Opening.{IsKnown}
 use Rattle.sievedrun.specs.declared.fault.Fault.{Fault}
 use Rattle.sievedrun.specs.declared.fault.Fault.TheVariants.{Stream, NoMaildir}
 use Rattle.sievedrun.specs.declared.drain.Draining.{Draining}
@@ -25,7 +26,7 @@ use Rattle.sievedrun.proofs.WordLemmas.{carried_turned, stays_turned, turned_wid
 
 module _ (user folder : List ℕ) (Grew : List (List ℕ) → Type 0) where
   -- a store was taken, messages were moved, and it was handed back
-  pub moves_turned : (answers_ok : Bool) (Became : Accounts → Accounts → Type 0) (held new : Database) (taken given : State) → (held.schema ≡ mail_schema → taken.now ≡ held) → IsOurSchema held.schema → HasCleanDisk given → IsTrue given.is_open → new ≡ given.now
+  pub moves_turned : (answers_ok : Bool) (Became : Accounts → Accounts → Type 0) (held new : Database) (taken given : State) → (held.schema ≡ mail_schema → taken.now ≡ held) → IsKnown held → HasCleanDisk given → IsTrue given.is_open → new ≡ given.now
       → MovesMail user folder Grew answers_ok Became taken given → TurnsTables Became held new
   moves_turned answers_ok Became held new taken given seen ours clean live back moves = carried_turned held new taken given seen ours clean live back Became moves.carries
 
@@ -48,7 +49,7 @@ stops Denied user (Err fault) named accounts free = elim named [
 
 -- a store was taken for the word, drained, and handed back
 pub drained_turned : (Denied : Type 0) (asked : Draining) (user folder : List ℕ) → user ≡ asked.user.now → folder ≡ asked.folder.now → (tells : Bool) (had has : List (List ℕ)) (most : ℕ) (q r : Result ℕ Fault) → q ≡ r
-    → IfErr q (λ fault. IsSudden fault ⊎ (fault ≡ no_user)) → (held new : Database) (taken given : State) → (held.schema ≡ mail_schema → taken.now ≡ held) → IsOurSchema held.schema → HasCleanDisk given → IsTrue given.is_open → new ≡ given.now
+    → IfErr q (λ fault. IsSudden fault ⊎ (fault ≡ no_user)) → (held new : Database) (taken given : State) → (held.schema ≡ mail_schema → taken.now ≡ held) → IsKnown held → HasCleanDisk given → IsTrue given.is_open → new ≡ given.now
     → Drains user folder tells had has most q taken given → MovesTables Denied asked tells had has most r held new
 drained_turned Denied asked user folder user_is folder_is tells had has most q r same named held new taken given seen ours clean live back moves =
     let Grew = GrowsBy tells had has in

@@ -42,7 +42,7 @@ module _ (Seen : Accounts → Type 0) (taken given : State) (opens : PresentsSee
 -- once it is given back it is offered
 pub offers_seen : {X : Type 0} (sees : X → Database) (held new : Database) (store : Option X) → new ≡ seen sees held store → (accounts : Accounts) → AreSeen sees held store accounts → Offers new accounts
 offers_seen sees held new None is accounts shown = subst (λ db. Offers db accounts) (sym is) shown
-offers_seen sees held new (Some store) is accounts shown = subst (λ db. Offers db accounts) (sym is) (shown.0, inl shown.1, shown.2)
+offers_seen sees held new (Some store) is accounts shown = subst (λ db. Offers db accounts) (sym is) (inl (shown.0, inl shown.1, shown.2))
 
 -- ---- why what comes first can't be answered
 

@@ -9,6 +9,8 @@ use Rattle.sqlite.specs.Effect.{Database}
 use Rattle.sqlite.specs.State.{State, HasCleanDisk}
 use Rattle.mailstore.specs.Account.{Account, Accounts, no_accounts, messages_in, row_with}
 use Rattle.mailstore.specs.Schema.{no_schema, mail_schema, IsOurSchema}
+use Rattle.mailstore.specs.OldSchema.{IsOldSchema}
+use Rattle.mailstore.specs.Opening.{IsKnown}
 use Rattle.mailstore.specs.Shows.{Presents}
 use Rattle.mailstore.specs.Promises.{IsFree, OfUser, Keeps, Reads}
 use Rattle.mailstore.specs.Refusals.{IsTransient}
@@ -77,9 +79,17 @@ hindered_wider Wrong Denied fault h = elim h [ inl sudden ↦ inl sudden | inr m
 -- ---- tables
 
 -- our tables are some tables
-pub ours_not_none : (db : Database) → IsOurSchema db.schema → db.schema ≡ no_schema → ⊥
-ours_not_none db (inl ours) none = let e = ap (λ (s : Schema). s.tables) (sym ours ∙ none) in cc
-ours_not_none db (inr ours) none = let e = ap (λ (s : Schema). s.tables) (sym ours ∙ none) in cc
+pub ours_not_none : (db : Database) → IsKnown db → db.schema ≡ no_schema → ⊥
+ours_not_none db (inl ours) none = new ours.schema
+  where
+    new : IsOurSchema db.schema → ⊥
+    new (inl is) = let e = ap (λ (s : Schema). s.tables) (sym is ∙ none) in cc
+    new (inr is) = let e = ap (λ (s : Schema). s.tables) (sym is ∙ none) in cc
+ours_not_none db (inr old) none = older old.schema
+  where
+    older : IsOldSchema db.schema → ⊥
+    older (inl is) = let e = ap (λ (s : Schema). s.tables) (sym is ∙ none) in cc
+    older (inr is) = let e = ap (λ (s : Schema). s.tables) (sym is ∙ none) in cc
 
 -- they were left alone
 pub stays_turned : (Became : Accounts → Accounts → Type 0) (old new : Database) → new ≡ old → ((accounts : Accounts) → Became accounts accounts) → TurnsTables Became old new
@@ -96,7 +106,7 @@ turned_wider Became Wider old new wider moves = record {
 }
 
 -- a store that saw what was held, where that had our schema, and was handed back, open and over a disk that keeps what is written
-module _ (held new : Database) (taken given : State) (seen : held.schema ≡ mail_schema → taken.now ≡ held) (ours : IsOurSchema held.schema) (clean : HasCleanDisk given) (live : IsTrue given.is_open) (back : new ≡ given.now) where
+module _ (held new : Database) (taken given : State) (seen : held.schema ≡ mail_schema → taken.now ≡ held) (ours : IsKnown held) (clean : HasCleanDisk given) (live : IsTrue given.is_open) (back : new ≡ given.now) where
   stood : (accounts : Accounts) → Presents held accounts → Presents taken.now accounts
   stood accounts p = subst (λ db. Presents db accounts) (sym (seen p.1.is)) p
 

@@ -3,7 +3,8 @@ ghost use Rattle.std.specs.Prelude.{◌≡◌, ◌≢◌, ℕ, List, Option, Som
 ghost use Rattle.keepers.specs.declared.keeper.Held.TheVariants.{Busy};
 ghost use Rattle.sqlite.specs.Held.{state};
 ghost use Rattle.mailstore.specs.Account.{Accounts};
-ghost use Rattle.mailstore.specs.Schema.{IsOurSchema, no_schema};
+ghost use Rattle.mailstore.specs.Schema.{no_schema};
+ghost use Rattle.mailstore.specs.Opening.{IsKnown};
 ghost use Rattle.mailstore.specs.Shows.{Offers};
 ghost use Rattle.sessions.specs.Clients.{is_ready};
 ghost use Rattle.sessions.specs.Steps.{Asked};
@@ -330,7 +331,7 @@ fn open_store<K: Keeper>(
 ) -> Result<Store<K::S>, Held>
     ensures opened { IfOk result (λ taken. IsTrue K.tells
         → PresentsSeen (AreSeen (λ s. (state K.S.Store s).now) (K.holds keeper.old) store.old) (state K.S.Store taken).now) }
-    ensures ours { OnOk result (IsTrue K.tells → store.old ≡ None → IsOurSchema (K.holds keeper.old).schema) }
+    ensures ours { OnOk result (IsTrue K.tells → store.old ≡ None → IsKnown (K.holds keeper.old)) }
     ensures refused { OnErr result ((IsTrue K.tells → K.holds keeper.new ≡ K.holds keeper.old) × (store.new ≡ store.old)) }
     ensures denied { OnErr result (HasDenied K.refuses path.now) }
     ensures closed { K.unclosed keeper.new ≡ K.unclosed keeper.old }

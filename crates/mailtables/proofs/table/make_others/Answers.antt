@@ -1,43 +1,14 @@
-use Rattle.std.proofs.Common.{◌≡◌, Err, rules}
-use Rattle.mailtables.specs.Schema.{schema_3, schema_4, schema_5, schema_6, mail_schema}
+use Rattle.std.proofs.Common.{arith, ◌≡◌, Err, rules}
+use Rattle.mailtables.specs.Schema.{schema_3, schema_6, mail_schema}
 use Rattle.mailtables.proofs.CreateLemmas.{makes_then, makes_failed}
 use Rattle.mailtables.proofs.table.make_others.Goals as goal
 
-pub returns-in_err-make_outgoing : goal.returns-in_err-make_outgoing
-returns-in_err-make_outgoing g c =
-    let e = c.in_err-make_outgoing.field-0.0 in
+pub returns-in_err-make_later : goal.returns-in_err-make_later
+returns-in_err-make_later g c =
+    let e = c.in_err-make_later.field-0.0 in
     let is : c.from_residual.result ≡ Err e = search rules in
-    makes_failed g.S.Store c.args.tx.now c.make_outgoing.new.tx schema_3 schema_4 mail_schema c.make_outgoing.result e c.from_residual.result is c.make_outgoing.ensures
-
-pub returns-in_err-make_reply : goal.returns-in_err-make_reply
-returns-in_err-make_reply g c =
-    let start = c.args.tx.now in
-    let one = c.make_outgoing.new.tx in
-    let two = c.make_reply.new.tx in
-    let e = c.in_err-make_reply.field-0.0 in
-    let is : c.from_residual-in_err-make_reply.result ≡ Err e = search rules in
-    let both = makes_then g.S.Store start one two schema_3 schema_4 schema_5 c.make_outgoing.result _ c.make_reply.result c.in_ok-make_outgoing.was c.make_outgoing.ensures c.make_reply.ensures in
-    makes_failed g.S.Store start two schema_3 schema_5 mail_schema c.make_reply.result e c.from_residual-in_err-make_reply.result is both
-
-pub returns-in_err-make_notice : goal.returns-in_err-make_notice
-returns-in_err-make_notice g c =
-    let start = c.args.tx.now in
-    let one = c.make_outgoing.new.tx in
-    let two = c.make_reply.new.tx in
-    let three = c.make_notice.new.tx in
-    let e = c.in_err-make_notice.field-0.0 in
-    let is : c.from_residual-in_err-make_notice.result ≡ Err e = search rules in
-    let both = makes_then g.S.Store start one two schema_3 schema_4 schema_5 c.make_outgoing.result _ c.make_reply.result c.in_ok-make_outgoing.was c.make_outgoing.ensures c.make_reply.ensures in
-    let all = makes_then g.S.Store start two three schema_3 schema_5 schema_6 c.make_reply.result _ c.make_notice.result c.in_ok-make_reply.was both c.make_notice.ensures in
-    makes_failed g.S.Store start three schema_3 schema_6 mail_schema c.make_notice.result e c.from_residual-in_err-make_notice.result is all
+    makes_failed g.S.Store c.args.tx.now c.make_later.new.tx schema_3 schema_6 mail_schema c.make_later.result e c.from_residual.result is c.make_later.ensures
 
 pub returns : goal.returns
 returns g c =
-    let start = c.args.tx.now in
-    let one = c.make_outgoing.new.tx in
-    let two = c.make_reply.new.tx in
-    let three = c.make_notice.new.tx in
-    let four = c.make_folders.new.tx in
-    let both = makes_then g.S.Store start one two schema_3 schema_4 schema_5 c.make_outgoing.result _ c.make_reply.result c.in_ok-make_outgoing.was c.make_outgoing.ensures c.make_reply.ensures in
-    let all = makes_then g.S.Store start two three schema_3 schema_5 schema_6 c.make_reply.result _ c.make_notice.result c.in_ok-make_reply.was both c.make_notice.ensures in
-    makes_then g.S.Store start three four schema_3 schema_6 mail_schema c.make_notice.result _ c.make_folders.result c.in_ok-make_notice.was all c.make_folders.ensures
+    makes_then g.S.Store c.args.tx.now c.make_later.new.tx c.make_folders.new.tx schema_3 schema_6 mail_schema c.make_later.result _ c.make_folders.result c.in_ok-make_later.was (omega arith) c.make_later.ensures c.make_folders.ensures

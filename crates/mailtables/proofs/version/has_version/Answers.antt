@@ -1,20 +1,23 @@
-use Rattle.std.proofs.Common.{◌≡◌, Err, rules}
+use Rattle.std.proofs.Common.{◌≡◌, ◌↔◌, Err, IsTrue, pos, rules}
 use Rattle.sqlite.specs.Held.{state}
-use Rattle.mailtables.proofs.VersionLemmas.{says_version, asks_refused}
+use Rattle.mailtables.specs.Schema.{IsOurSchema}
+use Rattle.mailtables.specs.Ours.{IsOurs}
+use Rattle.mailtables.proofs.VersionLemmas.{says_version, asks_refused, asks_ours, ours_says}
 use Rattle.mailtables.proofs.version.has_version.Goals as goal
 
 pub returns-in_err-rows : goal.returns-in_err-rows
 returns-in_err-rows g c =
     let is : c.from_residual.result ≡ Err c.in_err-rows.field-0.0 = search rules in
+    let old = state g.S.Store c.args.conn.now in
     record {
       ended = search rules;
       limit = search rules;
-      finds = asks_refused (state g.S.Store c.args.conn.now) (state g.S.Store c.find_version.new.conn) c.find_version.result c.in_err-rows.field-0.0 c.from_residual.result is c.find_version.ensures.finds;
+      finds = asks_refused IsOurSchema asks_ours old (state g.S.Store c.find_version.new.conn) c.find_version.result c.find_version.ensures.finds (λ is. IsTrue is ↔ IsOurs old.now) c.in_err-rows.field-0.0 c.from_residual.result is;
     }
 
 pub returns : goal.returns
 returns g c = record {
   ended = search rules;
   limit = search rules;
-  finds = says_version (state g.S.Store c.args.conn.now) (state g.S.Store c.find_version.new.conn) c.find_version.result c.in_ok-rows.rows c.in_ok-rows.was c.find_version.ensures.finds c.says_version_2.result (rw (c.deref.ensures.value) at c.says_version_2.ensures);
+  finds = says_version IsOurSchema asks_ours (state g.S.Store c.args.conn.now) (state g.S.Store c.find_version.new.conn) c.find_version.result c.find_version.ensures.finds (pos 2) IsOurs ours_says c.in_ok-rows.rows c.in_ok-rows.was c.are_version.result (rw (c.deref.ensures.value) at c.are_version.ensures);
 }

@@ -18,7 +18,7 @@ returns-in_err-found-clause-found g c tells =
     let user = g.Q.AccountRead.user c.args.wanted.now in
     let Part = g.Q.AccountRead.finds c.args.wanted.now in
     let e = c.in_err-found.field-0.0 in
-    read_turned (g.K.Keeper.holds c.args.keeper.now) (g.K.Keeper.holds c.hand_back.new.self) (state g.K.S.Store c.in_ok-store.store) (state g.K.S.Store c.read-found.new.store) got.1 got.2.schema sure.0 sure.1 (c.hand_back.ensures.held tells)
+    read_turned (g.K.Keeper.holds c.args.keeper.now) (g.K.Keeper.holds c.hand_back.new.self) (state g.K.S.Store c.in_ok-store.store) (state g.K.S.Store c.read-found.new.store) got.1 got.2 sure.0 sure.1 (c.hand_back.ensures.held tells)
     Denied user Part c.read-found.result c.read-found.ensures c.from_residual-in_err-found.result
     (λ accounts found absent. found_none Denied user Part c.read-found.result e c.from_residual-in_err-found.result c.in_err-found.was (search rules) c.in_err-found.ensures.named accounts absent)
 
@@ -29,6 +29,6 @@ returns-clause-found g c tells =
     let Denied = HasDenied g.K.Keeper.refuses c.args.place.path.now in
     let user = g.Q.AccountRead.user c.args.wanted.now in
     let Part = g.Q.AccountRead.finds c.args.wanted.now in
-    read_turned (g.K.Keeper.holds c.args.keeper.now) (g.K.Keeper.holds c.hand_back.new.self) (state g.K.S.Store c.in_ok-store.store) (state g.K.S.Store c.read-found.new.store) got.1 got.2.schema sure.0 sure.1 (c.hand_back.ensures.held tells)
+    read_turned (g.K.Keeper.holds c.args.keeper.now) (g.K.Keeper.holds c.hand_back.new.self) (state g.K.S.Store c.in_ok-store.store) (state g.K.S.Store c.read-found.new.store) got.1 got.2 sure.0 sure.1 (c.hand_back.ensures.held tells)
     Denied user Part c.read-found.result c.read-found.ensures (Ok c.in_ok-found.field-0)
     (λ accounts found absent. found_ok Denied user Part c.read-found.result c.in_ok-found.field-0 (Ok c.in_ok-found.field-0) c.in_ok-found.was refl accounts found)

@@ -24,7 +24,7 @@ returns-in_err-delivered-clause-puts g c tells =
     let event = Deliver c.args.user.now c.args.envelope c.args.message.now c.args.moment in
     let is : c.from_residual-in_err-delivered.result ≡ Err (Refused refusal) = search rules in
     subst (λ r. TurnsTables (Puts Denied event Delivered r) (g.K.Keeper.holds c.args.keeper.now) (g.K.Keeper.holds c.hand_back.new.self)) (sym is)
-    (carried_turned (g.K.Keeper.holds c.args.keeper.now) (g.K.Keeper.holds c.hand_back.new.self) (state g.K.S.Store c.in_ok-store.store) (state g.K.S.Store c.deliver-delivered.new.store) got.1 got.2.schema sure.0 sure.1
+    (carried_turned (g.K.Keeper.holds c.args.keeper.now) (g.K.Keeper.holds c.hand_back.new.self) (state g.K.S.Store c.in_ok-store.store) (state g.K.S.Store c.deliver-delivered.new.store) got.1 got.2 sure.0 sure.1
     (c.hand_back.ensures.held tells) (Puts Denied event Delivered (Err (Refused refusal)))
     (λ clean accounts shown.
     let turned = c.in_err-delivered.ensures.acts.carries clean accounts shown in
@@ -35,7 +35,7 @@ returns-clause-puts g c tells =
     let got = c.in_ok-store.ensures.taken tells in
     let sure = g.met.K.Keeper.sure c.deliver-delivered.new.store tells in
     let Denied = HasDenied g.K.Keeper.refuses c.args.place.path.now in
-    carried_turned (g.K.Keeper.holds c.args.keeper.now) (g.K.Keeper.holds c.hand_back.new.self) (state g.K.S.Store c.in_ok-store.store) (state g.K.S.Store c.deliver-delivered.new.store) got.1 got.2.schema sure.0 sure.1
+    carried_turned (g.K.Keeper.holds c.args.keeper.now) (g.K.Keeper.holds c.hand_back.new.self) (state g.K.S.Store c.in_ok-store.store) (state g.K.S.Store c.deliver-delivered.new.store) got.1 got.2 sure.0 sure.1
     (c.hand_back.ensures.held tells) _
     (λ clean accounts shown.
     let turned = c.in_ok-delivered.ensures.acts.carries clean accounts shown in

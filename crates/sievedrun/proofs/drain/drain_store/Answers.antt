@@ -16,4 +16,4 @@ returns-clause-moves g c tells =
     let sure = g.met.K.Keeper.sure c.drain-drained.new.store tells in
     drained_turned (HasDenied g.K.Keeper.refuses c.args.place.path.now) c.args.asked c.as_bytes-user.result.now c.as_bytes-folder.result.now c.as_bytes-user.ensures.value c.as_bytes-folder.ensures.value g.T.MailSink.tells (g.T.MailSink.kept c.args.sink.now)
     (g.T.MailSink.kept c.drain-drained.new.sink) c.args.most c.drain-drained.result c.drain-drained.result refl c.drain-drained.ensures.fault (g.K.Keeper.holds c.args.keeper.now) (g.K.Keeper.holds c.hand_back.new.self)
-    (state g.K.S.Store c.in_ok-store.store) (state g.K.S.Store c.drain-drained.new.store) got.1 got.2.schema sure.0 sure.1 (c.hand_back.ensures.held tells) c.drain-drained.ensures.moves
+    (state g.K.S.Store c.in_ok-store.store) (state g.K.S.Store c.drain-drained.new.store) got.1 got.2 sure.0 sure.1 (c.hand_back.ensures.held tells) c.drain-drained.ensures.moves

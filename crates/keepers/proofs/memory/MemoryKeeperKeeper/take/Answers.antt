@@ -3,7 +3,7 @@ use Rattle.std.proofs.Common.{◌≡◌, Some, refl, rules, ◌∙◌, sym, ap, 
 use Rattle.sqlite.proofs.Callers.{memory_is_clean}
 use Rattle.sqlite.specs.Held.{state}
 use Rattle.sqlite.specs.Steps.{over_memory}
-use Rattle.mailstore.specs.Ours.{IsOurs}
+use Rattle.mailstore.specs.Opening.{IsKnown}
 use Rattle.mailstore.specs.Shows.{OpensAs}
 use Rattle.keepers.specs.Memory.{held_by}
 use Rattle.keepers.proofs.TakenLemmas.{is_taken}
@@ -17,7 +17,7 @@ returns-in-Ok-clause-taken c _ =
     is_taken c.args.fresh (held_by c.args.self.now.conn) (state over_memory c.in-Ok.store).now
     (λ stale. subst (λ o. OpensAs (held_by o) (state over_memory c.in-Ok.store).now) (sym was) (made.opened clean stale))
     (λ stale ours. (made.same clean stale (sym (ap (λ o. (held_by o).schema) was) ∙ ours)).now_is refl ∙ sym (ap held_by was))
-    (λ stale. subst (λ o. IsOurs (held_by o)) (sym was) (made.ours clean stale))
+    (λ stale. subst (λ o. IsKnown (held_by o)) (sym was) (made.ours clean stale))
     (λ fresh. made.made clean fresh)
     (λ fresh. ap (λ o. (held_by o).schema) was ∙ made.blank fresh)
 

@@ -1,0 +1,4 @@
+pub mod Inside
+pub mod OldSchema
+pub mod Migration
+pub mod Opening

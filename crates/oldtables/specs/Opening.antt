@@ -1,0 +1,54 @@
+-- The opening of a database of either version.
+use Rattle.std.specs.Prelude.{◌≡◌, ◌⊎◌, ◌↔◌, Bool, false, Result, IfOk, OnErr, IsTrue}
+use Rattle.sqlite_trees.specs.Tree.{Trees}
+use Rattle.sqlite_schema.specs.declared.schema.Schema.{Schema}
+use Rattle.sqlite.specs.Effect.{Database}
+use Rattle.sqlite.specs.State.{State, HasCleanDisk, Survives}
+use Rattle.mailtables.specs.Schema.{mail_schema, unindexed_schema, IsOurSchema}
+use Rattle.mailtables.specs.Connection.{SeesCommit, StaysSame}
+use Rattle.mailtables.specs.Ours.{IsOurs, IsOpenedAs}
+use Rattle.oldtables.specs.declared.opening.Layout.{Layout}
+use Rattle.oldtables.specs.declared.opening.Layout.TheVariants.{Current, CopiesLast, CopiesFourth}
+use Rattle.oldtables.specs.OldSchema.{old_schema, oldest_schema, IsOldSchema, IsOld}
+use Rattle.oldtables.specs.Migration.{TurnsNew, TurnsNewest}
+
+-- our tables, of either version
+abbrev pub IsKnownSchema : Schema → Type 0
+IsKnownSchema schema = IsOurSchema schema ⊎ IsOldSchema schema
+
+-- a database of our tables whose one row of the version says which version they are of
+abbrev pub IsKnown : Database → Type 0
+IsKnown db = IsOurs db ⊎ IsOld db
+
+-- a schema of ours that opening changes
+abbrev pub IsBehind : Schema → Type 0
+IsBehind schema = (schema ≡ unindexed_schema) ⊎ IsOldSchema schema
+
+-- the schema's tables lie like this
+abbrev pub LiesAs : Layout → Schema → Type 0
+LiesAs Current schema = IsOurSchema schema
+LiesAs CopiesLast schema = schema ≡ old_schema
+LiesAs CopiesFourth schema = schema ≡ oldest_schema
+
+-- what opening makes of a database whose tables lie like this
+abbrev pub Becomes : Layout → Database → Database → Type 0
+Becomes Current = IsOpenedAs
+Becomes CopiesLast = TurnsNew
+Becomes CopiesFourth = TurnsNewest
+
+-- what a crash may leave of a database that is opened, beside what it left before: of one that opening changes, what that makes of it
+pub record MayBecome (layout : Layout) (s : State) (trees : Trees) : Type 0 where
+  pub known : IsKnown s.now
+  pub behind : IsBehind s.now.schema
+  pub db : Database
+  pub became : Becomes layout s.now db
+  pub left : trees ≡ db.trees
+
+-- a database whose tables lie like this is opened: the answer says whether the row of the version is theirs; where it is, the database has become version 2, and its last commit is seen; where it isn't, and after a refusal, all is as it was, and so it is where nothing was to be done
+pub record OpensKnown {E : Type 0} (layout : Layout) (old new : State) (result : Result Bool E) : Type 0 where
+  pub found : LiesAs layout old.now.schema → HasCleanDisk new → IfOk result (λ is. IsTrue is ↔ IsKnown old.now)
+  pub opened : LiesAs layout old.now.schema → HasCleanDisk new → IfOk result (λ is. IsTrue is → Becomes layout old.now new.now × SeesCommit new)
+  pub unknown : LiesAs layout old.now.schema → HasCleanDisk new → IfOk result (λ is. is ≡ false → StaysSame old new)
+  pub refused : LiesAs layout old.now.schema → HasCleanDisk new → OnErr result (StaysSame old new)
+  pub unchanged : LiesAs layout old.now.schema → HasCleanDisk new → old.now.schema ≡ mail_schema → StaysSame old new
+  pub crash : LiesAs layout old.now.schema → Survives old new (MayBecome layout old)

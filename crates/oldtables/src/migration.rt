@@ -1,0 +1,115 @@
+//! How a database of version 1 becomes one of version 2.
+ghost use Rattle.std.specs.Prelude.{◌≡◌, IfOk};
+ghost use Rattle.sqlite_value.specs.declared.value.Value.TheVariants.{Int, Blob};
+ghost use Rattle.sqlite_value.specs.Order.{column};
+ghost use Rattle.mailtables.specs.Connection.{RunsInside, Makes, TurnsRows, ChangesRows};
+ghost use Rattle.oldtables.specs.Inside.{TurnsInside, Finds};
+ghost use Rattle.oldtables.specs.OldSchema.{old_cells};
+ghost use Rattle.oldtables.specs.Migration.{cells_of, AreOldCopies, LosesCopies, Remakes, TurnsNew, refiled, filled, renewed};
+
+use crate::statement::list;
+use crate::version::remove_version;
+use mailtables::{add_copy, add_message, add_version, execute, make_folders};
+use sqlite::{Alter, Error, Row, Transaction};
+use sqlite_value::value::ValueRef;
+
+/// A copy of a message, as version 1 keeps it.
+#[derive(Drop)]
+pub(crate) struct OldCopy<'a> {
+    pub owner: &'a [u8],
+    pub folder: &'a [u8],
+    pub n: i64,
+    pub message: &'a [u8],
+}
+
+/// The text in the cell.
+pub(crate) fn text_at<'a>(row: &'a Row, at: usize) -> Result<&'a [u8], Error>
+    ensures { IfOk result (λ text. column row.now at ≡ Blob text.now) }
+{
+    match row.get_ref(at)? {
+        ValueRef::Blob(text) => Ok(text),
+        _ => Err(Error::InvalidQuery),
+    }
+}
+
+/// The copy that the row shows.
+fn copy_in<'a>(row: &'a Row) -> Result<OldCopy<'a>, Error>
+    ensures { IfOk result (λ copy. old_cells row.now ≡ cells_of copy) }
+{
+    let owner = text_at(row, 0)?;
+    let folder = text_at(row, 1)?;
+    let n: i64 = row.get(2)?;
+    let message = text_at(row, 3)?;
+    Ok(OldCopy {
+        owner,
+        folder,
+        n,
+        message,
+    })
+}
+
+/// The rows of the copies, inside a transaction.
+pub(crate) fn find_copies<S: Alter>(tx: &mut Transaction<'_, S>) -> Result<Vec<Row>, Error>
+    ensures { RunsInside S.Store (Finds AreOldCopies) tx.old tx.new result }
+{
+    list(tx, "SELECT owner, folder, n, message FROM copy")
+}
+
+/// The table of the copies goes, inside a transaction.
+pub(crate) fn drop_copy<S: Alter>(tx: &mut Transaction<'_, S>) -> Result<(), Error>
+    ensures { RunsInside S.Store (Makes LosesCopies) tx.old tx.new result }
+{
+    execute(tx, "DROP TABLE copy", &[])
+}
+
+/// Instead of the table of the copies, which is the last, those of messages and copies, inside a transaction.
+fn remake<S: Alter>(tx: &mut Transaction<'_, S>) -> Result<(), Error>
+    ensures { RunsInside S.Store (Makes Remakes) tx.old tx.new result }
+{
+    drop_copy(tx)?;
+    make_folders(tx)
+}
+
+/// The copy joins the messages and the copies, inside a transaction.
+fn refile<S: Alter>(tx: &mut Transaction<'_, S>, copy: &OldCopy<'_>) -> Result<(), Error>
+    ensures { ChangesRows S.Store (refiled (cells_of copy.now)) tx.old tx.new result }
+{
+    add_message(tx, copy.owner, &copy.n, copy.message)?;
+    add_copy(tx, copy.owner, copy.folder, &copy.n, &copy.n)
+}
+
+/// The copies of the rows do so in turn, inside a transaction.
+fn fill<S: Alter>(tx: &mut Transaction<'_, S>, rows: &[Row]) -> Result<(), Error>
+    ensures { RunsInside S.Store (TurnsInside (TurnsRows (filled rows.now))) tx.old tx.new result }
+{
+    for row in rows {
+        let copy = copy_in(row)?;
+        refile(tx, &copy)?;
+    }
+    Ok(())
+}
+
+/// The row of the version says 2 then, inside a transaction.
+fn renew_version<S: Alter>(tx: &mut Transaction<'_, S>) -> Result<(), Error>
+    ensures { ChangesRows S.Store renewed tx.old tx.new result }
+{
+    remove_version(tx)?;
+    add_version(tx)
+}
+
+/// The copies of the rows, and the version, inside a transaction.
+pub(crate) fn refill<S: Alter>(tx: &mut Transaction<'_, S>, rows: &[Row]) -> Result<(), Error>
+    ensures { ChangesRows S.Store (λ tables. renewed (filled rows.now tables)) tx.old tx.new result }
+{
+    fill(tx, rows)?;
+    renew_version(tx)
+}
+
+/// Version 1, with the copies last, becomes version 2, inside a transaction. Takes memory for all copies.
+pub(crate) fn migrate_last<S: Alter>(tx: &mut Transaction<'_, S>) -> Result<(), Error>
+    ensures { RunsInside S.Store (Makes TurnsNew) tx.old tx.new result }
+{
+    let copies = find_copies(tx)?;
+    remake(tx)?;
+    refill(tx, &copies)
+}

@@ -1,0 +1,12 @@
+//! A query inside a transaction.
+ghost use Rattle.mailtables.specs.Connection.{RunsInside};
+ghost use Rattle.oldtables.specs.Inside.{Lists};
+
+use sqlite::{Alter, Error, Row, Transaction};
+
+/// All rows of the answer of a query without parameters, inside the transaction.
+pub(crate) fn list<S: Alter>(tx: &mut Transaction<'_, S>, sql: &str) -> Result<Vec<Row>, Error>
+    ensures { RunsInside S.Store (Lists sql.now) tx.old tx.new result }
+{
+    tx.query_all(sql, &[])
+}
