@@ -1,0 +1,5 @@
+pub mod Moves
+pub mod Rules
+pub mod Talk
+pub mod Told
+pub mod Turns
