@@ -1,7 +1,8 @@
 -- What one call of the loop adds.
-use Rattle.std.specs.Prelude.{◌≡◌, ℕ, List, [], ◌∷◌, ◌++◌, Result, Ok, Err}
+use Rattle.std.specs.Prelude.{◌≡◌, ℕ, ◌==◌, nat_lt, not, filter, if◌then◌else◌, List, [], ◌∷◌, ◌++◌, Result, Ok, Err}
+use Rattle.std.specs.List.{list_any}
 use Rattle.wires.specs.declared.act.Act.{Act}
-use Rattle.wires.specs.declared.act.Act.TheVariants.{Woke, Began, Worked, Came, NoneCame, Crowded, InUse, Heard, ReadBlocked, Over, Sent, WriteBlocked, Lost, Noted, Full, Again, Shut, Dropped, Ended}
+use Rattle.wires.specs.declared.act.Act.TheVariants.{Woke, Began, Timed, Waits, Roused, Ended}
 use Rattle.wires.specs.declared.outcome.Wake.{Wake}
 use Rattle.wires.specs.declared.service.Service.{Service}
 use Rattle.wires.specs.Rules.{Rules}
@@ -21,31 +22,29 @@ moment seen machine service = record { seen = seen; machine = machine; service =
 abbrev pub Queues : {N : Type 0} → List Wake → Act N → List Wake → Type 0
 Queues ready (Woke wakes) later = later ≡ wakes
 Queues ready (Began wake) later = ready ≡ wake ∷ later
-Queues ready (Worked note) later = later ≡ ready
-Queues ready (Came id kind) later = later ≡ ready
-Queues ready (NoneCame kind) later = later ≡ ready
-Queues ready (Crowded kind) later = later ≡ ready
-Queues ready (InUse id) later = later ≡ ready
-Queues ready (Heard id piece) later = later ≡ ready
-Queues ready (ReadBlocked id) later = later ≡ ready
-Queues ready (Over id) later = later ≡ ready
-Queues ready (Sent id octets) later = later ≡ ready
-Queues ready (WriteBlocked id) later = later ≡ ready
-Queues ready (Lost id) later = later ≡ ready
-Queues ready (Noted id note) later = later ≡ ready
-Queues ready (Full id) later = later ≡ ready
-Queues ready (Again id) later = later ≡ ready
-Queues ready (Shut id) later = later ≡ ready
-Queues ready (Dropped id count) later = later ≡ ready
-Queues ready (Ended id) later = later ≡ ready
+Queues ready _ later = later ≡ ready
 
--- one act was added, which is right for what is ready, for each connection, and for the turn and the machine
+-- who waits for something else than its socket stands in a list, once, in the order in which they came, until it is roused or ends
+abbrev pub Waiters : {N : Type 0} → List ℕ → Act N → List ℕ → Type 0
+Waiters waiting (Waits id) later = later ≡ (if list_any (λ n. n == id) waiting then waiting else waiting ++ id ∷ [])
+Waiters waiting (Roused id) later = later ≡ filter (λ n. not (n == id)) waiting
+Waiters waiting (Ended id) later = later ≡ filter (λ n. not (n == id)) waiting
+Waiters waiting _ later = later ≡ waiting
+
+-- the moment is the latest that the clock showed
+abbrev pub Ticks : {N : Type 0} → ℕ → Act N → ℕ → Type 0
+Ticks now (Timed moment) later = later ≡ (if nat_lt now moment then moment else now)
+Ticks now _ later = later ≡ now
+
+-- one act was added, which is right for what is ready, who waits, the moment, each connection, and the turn and the machine
 pub record Moves {M N : Type 0} (rules : Rules M N) (m n : Moment M N) : Type 0 where
   pub act : Act N
   pub said : List ℕ
   pub grows : n.seen ≡ m.seen ++ act ∷ []
   pub queues : Queues m.service.ready.items act n.service.ready.items
-  pub talks : (id : ℕ) → Talks id (client_of m.service id) act said (client_of n.service id)
+  pub waiters : Waiters m.service.waiting.items act n.service.waiting.items
+  pub ticks : Ticks m.service.moment act n.service.moment
+  pub talks : (id : ℕ) → Talks m.service.moment id (client_of m.service id) act said (client_of n.service id)
   pub turns : Turns rules m.machine m.service act said n.machine n.service
 
 -- the same, or where a wait failed nothing

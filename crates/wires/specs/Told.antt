@@ -1,7 +1,7 @@
 -- What one call on the outside adds to the acts.
 use Rattle.std.specs.Prelude.{◌≡◌, ℕ, ◌≤◌, ◌<◌, Bool, List, [], ◌∷◌, ◌++◌, length, take, IsTrue}
 use Rattle.wires.specs.declared.act.Act.{Act}
-use Rattle.wires.specs.declared.act.Act.TheVariants.{Came, NoneCame, Heard, ReadBlocked, Over, Sent, WriteBlocked, Lost, Dropped}
+use Rattle.wires.specs.declared.act.Act.TheVariants.{Began, Late, Waits, Roused, Came, NoneCame, Crowded, InUse, Heard, ReadBlocked, Over, Sent, WriteBlocked, Lost, Full, Dropped}
 use Rattle.wires.specs.declared.outcome.Accepted.{Accepted}
 use Rattle.wires.specs.declared.outcome.Accepted.TheVariants as accepted
 use Rattle.wires.specs.declared.outcome.Input.{Input}
@@ -42,6 +42,17 @@ abbrev pub AfterWrite : {N : Type 0} → List (Act N) → ℕ → List ℕ → O
 AfterWrite seen id octets (output.Taken count) later = Tells seen (Sent id (take count octets)) later
 AfterWrite seen id octets output.Nothing later = Tells seen (WriteBlocked id) later
 AfterWrite seen id octets output.Lost later = Tells seen (Lost id) later
+
+-- what the loop tells of itself, with nothing done outside
+abbrev pub IsOwn : {N : Type 0} → Act N → Type 0
+IsOwn (Began wake) = Unit {0}
+IsOwn (Late id) = Unit {0}
+IsOwn (Waits id) = Unit {0}
+IsOwn (Roused id) = Unit {0}
+IsOwn (Crowded kind) = Unit {0}
+IsOwn (InUse id) = Unit {0}
+IsOwn (Full id) = Unit {0}
+IsOwn _ = ⊥
 
 -- a count is within a buffer, and not none
 abbrev pub ReadFits : List ℕ → Input → Type 0

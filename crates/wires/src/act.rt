@@ -10,6 +10,14 @@ pub enum Act<N> {
     Woke(List<Wake>),
     /// The first of what a wait told was taken up.
     Began(Wake),
+    /// The clock was read: the moment, in milliseconds.
+    Timed(u64),
+    /// `id` was too late with what it owes.
+    Late(u32),
+    /// `id` waits for something else than its socket.
+    Waits(u32),
+    /// What `id` waited for is there.
+    Roused(u32),
     /// The machine did something of its own.
     Worked(N),
     /// A connection was accepted, as `id`, of that `kind`.

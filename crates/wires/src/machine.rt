@@ -13,6 +13,10 @@ pub enum Want {
     More,
     /// To go on with what it has heard.
     Step,
+    /// To go on once something else is there than octets.
+    Wait,
+    /// To go on at that moment.
+    Until(u64),
     /// That it ends.
     Done,
 }
@@ -32,6 +36,10 @@ pub trait Machine<O: Outside> {
     fn wants(&self, id: u32) -> Want
         ensures { result ≡ rules.wants self.now id };
 
+    /// The moment by which that connection is late, where all that was said to it is sent.
+    fn deadline(&self, id: u32) -> u64
+        ensures { result ≡ rules.deadline self.now id };
+
     /// Whether it has something of its own to do.
     fn has_work(&self) -> bool
         ensures { result ≡ rules.has_work self.now };
@@ -44,9 +52,9 @@ pub trait Machine<O: Outside> {
     /// # Errors
     ///
     /// Where memory is lacking: that connection is ended.
-    fn open(&mut self, kind: u32, id: u32, out: &mut Octets) -> Result<(), AllocError>
+    fn open(&mut self, now: u64, kind: u32, id: u32, out: &mut Octets) -> Result<(), AllocError>
         requires { out.old ≡ [] }
-        ensures ok { OnOk result (rules.opens self.old kind id out.new self.new) }
+        ensures ok { OnOk result (rules.opens self.old now kind id out.new self.new) }
         ensures err { OnErr result (rules.lacks self.old id self.new) };
 
     /// Octets come from it.
@@ -54,9 +62,9 @@ pub trait Machine<O: Outside> {
     /// # Errors
     ///
     /// Where memory is lacking: that connection is ended.
-    fn give(&mut self, id: u32, piece: &[u8], out: &mut Octets) -> Result<(), AllocError>
+    fn give(&mut self, now: u64, id: u32, piece: &[u8], out: &mut Octets) -> Result<(), AllocError>
         requires { out.old ≡ [] }
-        ensures ok { OnOk result (rules.gives self.old id piece.now out.new self.new) }
+        ensures ok { OnOk result (rules.gives self.old now id piece.now out.new self.new) }
         ensures err { OnErr result (rules.lacks self.old id self.new) };
 
     /// It goes on with what it heard of a connection, and notes what it does outside. It makes room for what it says first.
@@ -64,12 +72,28 @@ pub trait Machine<O: Outside> {
     /// # Errors
     ///
     /// Where memory is lacking: nothing is noted, and that connection is ended.
-    fn step(&mut self, outside: &mut O, id: u32, out: &mut Octets) -> Result<(), AllocError>
+    fn step(
+        &mut self,
+        outside: &mut O,
+        now: u64,
+        id: u32,
+        out: &mut Octets,
+    ) -> Result<(), AllocError>
         requires { out.old ≡ [] }
         ensures kept { IsTrue (O.tells outside.new) → IsTrue (O.tells outside.old) }
-        ensures ok { OnOk result (IsTrue (O.tells outside.new) → Steps rules (O.seen outside.old) self.old id out.new (O.seen outside.new) self.new) }
+        ensures ok { OnOk result (IsTrue (O.tells outside.new) → Steps rules (O.seen outside.old) self.old now id out.new (O.seen outside.new) self.new) }
         ensures err { OnErr result (IsTrue (O.tells outside.new) → O.seen outside.new ≡ O.seen outside.old) }
         ensures lacks { OnErr result (rules.lacks self.old id self.new) };
+
+    /// A connection is late, and ends: what is said to it last.
+    ///
+    /// # Errors
+    ///
+    /// Where memory is lacking: nothing is said to it.
+    fn late(&mut self, id: u32, out: &mut Octets) -> Result<(), AllocError>
+        requires { out.old ≡ [] }
+        ensures ok { OnOk result (rules.lates self.old id out.new self.new) }
+        ensures err { OnErr result (rules.lacks self.old id self.new) };
 
     /// It does something of its own, and notes what it does outside.
     fn work(&mut self, outside: &mut O)

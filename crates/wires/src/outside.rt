@@ -1,9 +1,10 @@
 //! All that is outside: one list of acts, and the sockets.
 ghost use Rattle.std.specs.Prelude.{◌≡◌, Bool, List, [], ◌<◌, length, IsTrue, OnOk, OnErr};
-ghost use Rattle.wires.specs.Told.{Tells, TellsIf, AfterAccept, AfterRead, AfterDiscard, AfterWrite, ReadFits, DiscardFits, WriteFits};
+ghost use Rattle.wires.specs.Told.{IsOwn, TellsIf, AfterAccept, AfterRead, AfterDiscard, AfterWrite, ReadFits, DiscardFits, WriteFits};
+ghost use Rattle.wires.specs.declared.act.Act.TheVariants.{Woke, Timed, Again, Shut, Ended};
 ghost use Rattle.wires.specs.declared.act.Act.{Act};
-ghost use Rattle.wires.specs.declared.act.Act.TheVariants.{Woke, Began, Crowded, InUse, Full, Again, Shut, Ended};
 
+use crate::act::Act;
 use crate::outcome::{Accepted, Fault, Input, Output, Wake};
 use std::collections::VecDeque;
 
@@ -80,23 +81,17 @@ pub trait Sockets: Outside {
         ensures seen { TellsIf Self.tells Self.seen self.old (Again id) self.new }
         ensures kept { IsTrue (Self.tells self.new) → IsTrue (Self.tells self.old) };
 
-    /// Notes that what a wait told is taken up.
-    fn began(&mut self, wake: Wake)
-        ensures seen { TellsIf Self.tells Self.seen self.old (Began wake) self.new }
+    /// Notes what the loop does by itself.
+    fn note(&mut self, act: Act<Self::Note>)
+        requires { IsOwn act }
+        ensures seen { TellsIf Self.tells Self.seen self.old act self.new }
         ensures kept { IsTrue (Self.tells self.new) → IsTrue (Self.tells self.old) };
+}
 
-    /// Notes that there is no place for another connection of that kind.
-    fn crowded(&mut self, kind: u32)
-        ensures seen { TellsIf Self.tells Self.seen self.old (Crowded kind) self.new }
-        ensures kept { IsTrue (Self.tells self.new) → IsTrue (Self.tells self.old) };
-
-    /// Notes that a number is passed over.
-    fn in_use(&mut self, id: u32)
-        ensures seen { TellsIf Self.tells Self.seen self.old (InUse id) self.new }
-        ensures kept { IsTrue (Self.tells self.new) → IsTrue (Self.tells self.old) };
-
-    /// Notes that memory is lacking for a connection.
-    fn full(&mut self, id: u32)
-        ensures seen { TellsIf Self.tells Self.seen self.old (Full id) self.new }
+/// A clock.
+pub trait Clock: Outside {
+    /// The moment, in milliseconds since some moment of its own.
+    fn now(&mut self) -> u64
+        ensures seen { TellsIf Self.tells Self.seen self.old (Timed result) self.new }
         ensures kept { IsTrue (Self.tells self.new) → IsTrue (Self.tells self.old) };
 }

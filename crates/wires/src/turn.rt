@@ -6,6 +6,10 @@ pub enum Turn {
     Free,
     /// Nobody's, and the machine has done some work of its own: now a wait follows.
     Rested,
+    /// Nobody's: a wait has ended, and the clock is to be read.
+    Waked,
+    /// Nobody's: the clock was read, and who is late comes first.
+    Sweep,
     /// That of those who come, of a kind.
     Door(u32),
     /// A connection's, after so many acts of it.
@@ -25,6 +29,8 @@ pub enum Task {
     Hear,
     /// To have the machine go on.
     Step,
+    /// To let it wait for something else than its socket.
+    Rest,
     /// To tell the peer that no more comes.
     HangUp,
     /// To read and drop, after that.
