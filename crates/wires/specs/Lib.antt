@@ -1,3 +1,4 @@
+pub mod Life
 pub mod Moves
 pub mod Rules
 pub mod Talk

@@ -113,8 +113,9 @@ pub record Sends (now : ℕ) (octets : List ℕ) (o p : Option Client) : Type 0 
   pub front : before.unsent ≡ octets ++ rest
   pub after : p ≡ Some (record before { unsent = rest; until = after_span now max_unsent })
 
--- to one that was late something is said last
+-- to one that was late, and to which nothing waits, something is said last
 pub record Parts (now : ℕ) (said : List ℕ) (o p : Option Client) : Type 0 where
+  pub quiet : is_quiet o ≡ true
   pub before : Client
   pub was : o ≡ Some before
   pub after : p ≡ Some (record before { unsent = said; phase = phase.Closing; until = after_span now max_parting })

@@ -2,6 +2,8 @@
 #![tactic(auto)]
 
 pub mod act;
+pub mod laws;
+pub mod life;
 pub mod machine;
 pub mod outcome;
 pub mod outside;
