@@ -1,0 +1,6 @@
+pub mod Life
+pub mod Moves
+pub mod Rules
+pub mod Talk
+pub mod Told
+pub mod Turns

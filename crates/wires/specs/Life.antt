@@ -1,0 +1,122 @@
+-- What is true of a life: of all acts, and of each front of them.
+use Rattle.std.specs.Prelude.{◌≡◌, ◌⊎◌, ℕ, Bool, true, false, cond, List, [], ◌∷◌, ◌++◌}
+use Rattle.wires.specs.declared.act.Act.{Act}
+use Rattle.wires.specs.declared.act.Act.TheVariants.{Late, Came, Heard, Over, Sent, Lost, Noted, Full, Shut, Dropped, Ended}
+use Rattle.wires.specs.declared.service.Service.{Service}
+use Rattle.wires.specs.declared.turn.Turn.TheVariants.{Free}
+use Rattle.wires.specs.Moves.{Moment, Moves}
+use Rattle.wires.specs.Rules.{Rules}
+use Rattle.wires.specs.Talk.{same, client_of}
+
+-- an act, and what the machine says at it to its connection
+pub record Move (N : Type 0) : Type 0 where
+  pub act : Act N
+  pub said : List ℕ
+
+abbrev pub acts_of : {N : Type 0} → List (Move N) → List (Act N)
+acts_of [] = []
+acts_of (move ∷ moves) = move.act ∷ acts_of moves
+
+-- moves in turn
+abbrev pub Passes : {M N : Type 0} → Rules M N → Moment M N → List (Move N) → Moment M N → Type 0
+Passes rules m [] n = n ≡ m
+Passes {M = M} {N = N} rules m (move ∷ moves) n =
+    (mid : Moment M N) × (one : Moves rules m mid) × (one.act ≡ move.act) × (one.said ≡ move.said) × Passes rules mid moves n
+
+-- the acts seen grew by those of moves in turn
+pub record Lives {M N : Type 0} (rules : Rules M N) (m n : Moment M N) : Type 0 where
+  pub moves : List (Move N)
+  pub grows : n.seen ≡ m.seen ++ acts_of moves
+  pub passes : Passes rules m moves n
+
+-- a service with no connection, and nobody's turn
+pub record Fresh (s : Service) : Type 0 where
+  pub none : s.clients.entries ≡ []
+  pub free : s.turn ≡ Free
+
+-- ---- one connection, since it came
+
+-- what the machine said to it and what was sent on it, and whether this side was shut
+pub record Told : Type 0 where
+  pub said : List ℕ
+  pub sent : List ℕ
+  pub shut : Bool
+
+abbrev pub nothing_told : Told
+nothing_told = record { said = []; sent = []; shut = false }
+
+-- what one act tells of it
+abbrev pub tell : {N : Type 0} → ℕ → Told → Act N → List ℕ → Told
+tell id t (Came n kind) said = cond (same n id) (record { said = said; sent = []; shut = false }) t
+tell id t (Heard n piece) said = cond (same n id) (record t { said = t.said ++ said }) t
+tell id t (Noted n note) said = cond (same n id) (record t { said = t.said ++ said }) t
+tell id t (Late n) said = cond (same n id) (record t { said = t.said ++ said }) t
+tell id t (Sent n octets) said = cond (same n id) (record t { sent = t.sent ++ octets }) t
+tell id t (Shut n) said = cond (same n id) (record t { shut = true }) t
+tell id t _ said = t
+
+abbrev pub tell_on : {N : Type 0} → ℕ → Told → List (Move N) → Told
+tell_on id t [] = t
+tell_on id t (move ∷ moves) = tell_on id (tell id t move.act move.said) moves
+
+abbrev pub told_of : {N : Type 0} → ℕ → List (Move N) → Told
+told_of id moves = tell_on id nothing_told moves
+
+abbrev pub IsFrontOf : {X : Type 0} → List X → List X → Type 0
+IsFrontOf {X = X} xs ys = (rest : List X) × (xs ++ rest ≡ ys)
+
+-- ---- the laws
+
+-- at each front of the acts, what was sent on a connection is a front of what the machine said to it: nothing else, nothing twice
+abbrev pub OneConnection : {M N : Type 0} → Rules M N → Type 0
+OneConnection {M = M} {N = N} rules =
+    (m n : Moment M N) (some rest : List (Move N)) → Fresh m.service → Passes rules m (some ++ rest) n
+    → (id : ℕ) → IsFrontOf (told_of id some).sent (told_of id some).said
+
+-- whether an act changes a connection
+abbrev pub concerns : {N : Type 0} → ℕ → Act N → Bool
+concerns id (Came n kind) = same n id
+concerns id (Heard n piece) = same n id
+concerns id (Noted n note) = same n id
+concerns id (Late n) = same n id
+concerns id (Sent n octets) = same n id
+concerns id (Shut n) = same n id
+concerns id (Dropped n count) = same n id
+concerns id (Ended n) = same n id
+concerns id _ = false
+
+abbrev pub Untouched : {N : Type 0} → ℕ → List (Move N) → Type 0
+Untouched id [] = Unit {0}
+Untouched id (move ∷ moves) = (concerns id move.act ≡ false) × Untouched id moves
+
+-- acts of others change nothing of a connection
+abbrev pub Apart : {M N : Type 0} → Rules M N → Type 0
+Apart {M = M} {N = N} rules =
+    (m n : Moment M N) (moves : List (Move N)) → Passes rules m moves n → (id : ℕ) → Untouched id moves
+    → client_of n.service id ≡ client_of m.service id
+
+-- its peer sends no more, a read or a write failed, memory was lacking, or it was late
+abbrev pub IsCause : {N : Type 0} → ℕ → Act N → Type 0
+IsCause id (Over n) = n ≡ id
+IsCause id (Lost n) = n ≡ id
+IsCause id (Full n) = n ≡ id
+IsCause id (Late n) = n ≡ id
+IsCause id _ = ⊥
+
+-- the last of some moves is a cause
+pub record CausedBy {N : Type 0} (id : ℕ) (moves : List (Move N)) : Type 0 where
+  pub first : List (Move N)
+  pub cause : Move N
+  pub last : moves ≡ first ++ cause ∷ []
+  pub is : IsCause id cause.act
+
+-- all that was said was sent, and this side was shut
+pub record Farewell (t : Told) : Type 0 where
+  pub sent : t.sent ≡ t.said
+  pub shut : t.shut ≡ true
+
+-- each end has its cause right before it, or is a farewell
+abbrev pub EndsRight : {M N : Type 0} → Rules M N → Type 0
+EndsRight {M = M} {N = N} rules =
+    (m n : Moment M N) (before after : List (Move N)) (end : Move N) (id : ℕ) → Fresh m.service → Passes rules m (before ++ end ∷ after) n
+    → end.act ≡ Ended id → CausedBy id before ⊎ Farewell (told_of id before)

@@ -1,0 +1,162 @@
+-- One connection, act by act: what is heard of it, said to it and sent on it. It knows no other connection.
+use Rattle.std.specs.Prelude.{◌≡◌, ◌⊎◌, ℕ, ◌+◌, ◌-◌, ◌%◌, ◌^◌, ◌<◌, ◌==◌, nat_lt, not, Bool, true, false, if◌then◌else◌, List, [], ◌∷◌, ◌++◌, length, Option, Some, None}
+use Rattle.std.specs.BTreeMap as tree
+use Rattle.std.specs.Ordering.{nat_cmp, is_eq}
+use Rattle.wires.specs.declared.act.Act.{Act}
+use Rattle.wires.specs.declared.act.Act.TheVariants.{Late, Came, Heard, Sent, Noted, Shut, Dropped, Ended}
+use Rattle.wires.specs.declared.machine.Want.{Want}
+use Rattle.wires.specs.declared.machine.Want.TheVariants as want
+use Rattle.wires.specs.declared.service.Client.{Client}
+use Rattle.wires.specs.declared.service.Service.{Service}
+use Rattle.wires.specs.declared.service.Phase.{Phase}
+use Rattle.wires.specs.declared.service.Phase.TheVariants as phase
+use Rattle.wires.specs.declared.turn.Task.{Task}
+use Rattle.wires.specs.declared.turn.Task.TheVariants.{Send, Hear, Step, Rest, HangUp, Drain, End, Nothing}
+use Rattle.wires.specs.Rules.{Rules}
+
+abbrev pub same : ℕ → ℕ → Bool
+same n id = is_eq (nat_cmp n id)
+
+abbrev pub client_of : Service → ℕ → Option Client
+client_of s id = tree.get nat_cmp s.clients id
+
+abbrev pub kind_of : Option Client → ℕ
+kind_of (Some c) = c.kind
+kind_of None = 0
+
+-- it is open, and all that was said to it is sent
+abbrev pub is_quiet_by : List ℕ → Phase → Bool
+is_quiet_by [] phase.Open = true
+is_quiet_by [] phase.Closing = false
+is_quiet_by [] (phase.Shut left) = false
+is_quiet_by (x ∷ unsent) at = false
+
+abbrev pub is_quiet : Option Client → Bool
+is_quiet (Some c) = is_quiet_by c.unsent c.phase
+is_quiet None = false
+
+abbrev pub is_closing_by : Phase → Bool
+is_closing_by phase.Open = false
+is_closing_by phase.Closing = true
+is_closing_by (phase.Shut left) = false
+
+abbrev pub is_closing : Option Client → Bool
+is_closing (Some c) = is_closing_by c.phase
+is_closing None = false
+
+-- so many octets are dropped behind the last answer, or a few more
+abbrev pub max_dropped : ℕ
+max_dropped = 1048576
+
+-- so many milliseconds may pass until the peer takes some more of what is to be sent, and behind the last that is said to it
+abbrev pub max_unsent : ℕ
+max_unsent = 60000
+
+abbrev pub max_parting : ℕ
+max_parting = 2000
+
+-- the moment so many milliseconds later
+abbrev pub after_span : ℕ → ℕ → ℕ
+after_span now span = (now + span) % 2 ^ 64
+
+-- what the machine wants of a connection that is open and to which all is sent
+abbrev pub task_wanted : ℕ → Want → Task
+task_wanted now want.More = Hear
+task_wanted now want.Step = Step
+task_wanted now want.Wait = Rest
+task_wanted now (want.Until moment) = if nat_lt now moment then Rest else Step
+task_wanted now want.Done = HangUp
+
+-- what is to be done on a connection: first what waits is sent. Then one that is open gets what the machine wants; one that was
+-- late is hung up; of one that is shut so many octets more are dropped
+abbrev pub task_by : List ℕ → Phase → ℕ → Want → Task
+task_by (x ∷ unsent) at now wanted = Send
+task_by [] phase.Open now wanted = task_wanted now wanted
+task_by [] phase.Closing now wanted = HangUp
+task_by [] (phase.Shut left) now wanted = if left == 0 then End else Drain
+
+abbrev pub task : {M N : Type 0} → Rules M N → M → ℕ → ℕ → Option Client → Task
+task rules m now id (Some c) = task_by c.unsent c.phase now (rules.wants m id)
+task rules m now id None = Nothing
+
+-- the moment by which a connection is late: the machine's where it is open and all is sent, else by what is to be sent or dropped
+abbrev pub due_by : List ℕ → Phase → ℕ → ℕ → ℕ
+due_by [] phase.Open until deadline = deadline
+due_by [] phase.Closing until deadline = until
+due_by [] (phase.Shut left) until deadline = until
+due_by (x ∷ unsent) at until deadline = until
+
+abbrev pub is_late : ℕ → ℕ → Client → Bool
+is_late now deadline c = not (nat_lt now (due_by c.unsent c.phase c.until deadline))
+
+-- to one that comes what the machine says then is to be sent
+abbrev pub newcomer : ℕ → ℕ → ℕ → List ℕ → Client
+newcomer now id kind said = record { id = id; kind = kind; unsent = said; phase = phase.Open; until = after_span now max_unsent }
+
+-- one came, and is there, or not where memory was lacking
+pub record Comes (now id kind : ℕ) (said : List ℕ) (o p : Option Client) : Type 0 where
+  pub new : o ≡ None
+  pub here : (p ≡ Some (newcomer now id kind said)) ⊎ (p ≡ None)
+
+-- what the machine answers waits
+pub record Answers (now : ℕ) (said : List ℕ) (o p : Option Client) : Type 0 where
+  pub before : Client
+  pub was : o ≡ Some before
+  pub after : p ≡ Some (record before { unsent = said; until = after_span now max_unsent })
+
+-- what is sent is a front of what waits, and not nothing
+pub record Sends (now : ℕ) (octets : List ℕ) (o p : Option Client) : Type 0 where
+  pub before : Client
+  pub was : o ≡ Some before
+  pub some : 0 < length octets
+  pub rest : List ℕ
+  pub front : before.unsent ≡ octets ++ rest
+  pub after : p ≡ Some (record before { unsent = rest; until = after_span now max_unsent })
+
+-- to one that was late, and to which nothing waits, something is said last
+pub record Parts (now : ℕ) (said : List ℕ) (o p : Option Client) : Type 0 where
+  pub quiet : is_quiet o ≡ true
+  pub before : Client
+  pub was : o ≡ Some before
+  pub after : p ≡ Some (record before { unsent = said; phase = phase.Closing; until = after_span now max_parting })
+
+-- the same, or nothing is said and nothing changes
+abbrev pub OrNothing : Type 0 → List ℕ → Option Client → Option Client → Type 0
+OrNothing says said o p = says ⊎ ((said ≡ []) × (p ≡ o))
+
+-- this side was shut: from now on what comes is dropped
+pub record Shuts (now : ℕ) (o p : Option Client) : Type 0 where
+  pub before : Client
+  pub was : o ≡ Some before
+  pub after : p ≡ Some (record before { phase = phase.Shut max_dropped; until = after_span now max_parting })
+
+abbrev pub drained : ℕ → Phase → Phase
+drained count phase.Open = phase.Open
+drained count phase.Closing = phase.Closing
+drained count (phase.Shut left) = phase.Shut (left - count)
+
+pub record Drops (count : ℕ) (o p : Option Client) : Type 0 where
+  pub before : Client
+  pub was : o ≡ Some before
+  pub after : p ≡ Some (record before { phase = drained count before.phase })
+
+-- what changes a connection stands at its own acts alone
+abbrev pub At : Bool → Type 0 → Type 0 → Type 0
+At true changes stays = changes
+At false changes stays = stays
+
+-- what an act makes of the connection `id` at a moment; `said` is what the machine says at it
+abbrev pub Talks : {N : Type 0} → ℕ → ℕ → Option Client → Act N → List ℕ → Option Client → Type 0
+Talks now id o (Came n kind) said p = At (same n id) (Comes now n kind said o p) (p ≡ o)
+Talks now id o (Heard n piece) said p = At (same n id) (OrNothing (Answers now said o p) said o p) (p ≡ o)
+Talks now id o (Noted n note) said p = At (same n id) (Answers now said o p) (p ≡ o)
+Talks now id o (Sent n octets) said p = At (same n id) (Sends now octets o p) (p ≡ o)
+Talks now id o (Late n) said p = At (same n id) (OrNothing (Parts now said o p) said o p) (p ≡ o)
+Talks now id o (Shut n) said p = At (same n id) (Shuts now o p) (p ≡ o)
+Talks now id o (Dropped n count) said p = At (same n id) (Drops count o p) (p ≡ o)
+Talks now id o (Ended n) said p = At (same n id) (p ≡ None) (p ≡ o)
+Talks now id o _ said p = p ≡ o
+
+-- what is said to one connection waits, others are as they were, and so is all else
+abbrev pub Speaks : ℕ → List ℕ → Service → Service → Type 0
+Speaks id said s t = (other : ℕ) → At (same id other) (Answers s.moment said (client_of s other) (client_of t other)) (client_of t other ≡ client_of s other)

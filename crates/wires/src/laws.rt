@@ -1,0 +1,20 @@
+//! Laws of what is served, each the contract of a function that does nothing.
+ghost use Rattle.wires.specs.Life.{OneConnection, Apart, EndsRight};
+
+use crate::machine::Machine;
+use crate::outside::Outside;
+
+/// At each front of the acts, what was sent on a connection is a front of what the machine said to it since it came.
+pub fn one_connection<O: Outside, M: Machine<O>>()
+    ensures { OneConnection M.rules }
+{}
+
+/// Acts of others change nothing of a connection.
+pub fn apart<O: Outside, M: Machine<O>>()
+    ensures { Apart M.rules }
+{}
+
+/// Each end has its cause right before it, or is a farewell: all that was said was sent, and this side was shut.
+pub fn ends_right<O: Outside, M: Machine<O>>()
+    ensures { EndsRight M.rules }
+{}

@@ -1,0 +1,30 @@
+//! A life of the loop.
+ghost use Rattle.std.specs.Prelude.{IsTrue, OnErr};
+ghost use Rattle.wires.specs.Life.{Lives};
+ghost use Rattle.wires.specs.Moves.{moment};
+
+use crate::machine::Machine;
+use crate::outcome::Fault;
+use crate::outside::{Clock, Sockets};
+use crate::service::{Service, act};
+
+/// Serves connections, for so many acts.
+///
+/// # Errors
+///
+/// Where a wait failed.
+pub fn serve<O: Sockets + Clock, M: Machine<O>>(
+    outside: &mut O,
+    machine: &mut M,
+    service: &mut Service,
+    acts: u64,
+) -> Result<(), Fault>
+    ensures kept { IsTrue (O.tells outside.new) → IsTrue (O.tells outside.old) }
+    ensures lives { IsTrue (O.tells outside.new) → Lives M.rules (moment (O.seen outside.old) machine.old service.old) (moment (O.seen outside.new) machine.new service.new) }
+    ensures broke { OnErr result (IsTrue (O.broken outside.new)) }
+{
+    for round in 0..acts {
+        act(outside, machine, service)?;
+    }
+    Ok(())
+}

@@ -1,0 +1,106 @@
+//! What is served.
+ghost use Rattle.std.specs.Prelude.{◌≡◌, [], IsTrue, OnOk, OnErr};
+ghost use Rattle.wires.specs.Rules.{Rules, Steps, Works};
+
+use crate::outside::Outside;
+use octets::Octets;
+use std::alloc::AllocError;
+
+/// What a machine wants of a connection to which nothing is to be sent.
+#[derive(Clone, Copy, Debug, PartialEq, Eq)]
+pub enum Want {
+    /// More octets.
+    More,
+    /// To go on with what it has heard.
+    Step,
+    /// To go on once something else is there than octets.
+    Wait,
+    /// To go on at that moment.
+    Until(u64),
+    /// That it ends.
+    Done,
+}
+
+/// An abstract machine: connections come, send octets and go, and each time it says something to that connection. It is kept
+/// by `rules`, which are all that is known of it.
+///
+/// While it goes on with what it heard it may do something outside, and it notes that in one act.
+pub trait Machine<O: Outside> {
+    ghost rules: { Rules Self O.Note };
+
+    /// How many connections of that kind may be open at once.
+    fn limit(&self, kind: u32) -> usize
+        ensures { result ≡ rules.limit kind };
+
+    /// What it wants of that connection, once all that it said is sent.
+    fn wants(&self, id: u32) -> Want
+        ensures { result ≡ rules.wants self.now id };
+
+    /// The moment by which that connection is late, where all that was said to it is sent.
+    fn deadline(&self, id: u32) -> u64
+        ensures { result ≡ rules.deadline self.now id };
+
+    /// Whether it has something of its own to do.
+    fn has_work(&self) -> bool
+        ensures { result ≡ rules.has_work self.now };
+
+    /// For how many milliseconds it may rest where nothing happens.
+    fn patience(&self) -> u32;
+
+    /// A connection of that kind comes.
+    ///
+    /// # Errors
+    ///
+    /// Where memory is lacking: that connection is ended.
+    fn open(&mut self, now: u64, kind: u32, id: u32, out: &mut Octets) -> Result<(), AllocError>
+        requires { out.old ≡ [] }
+        ensures ok { OnOk result (rules.opens self.old now kind id out.new self.new) }
+        ensures err { OnErr result (rules.lacks self.old id self.new) };
+
+    /// Octets come from it.
+    ///
+    /// # Errors
+    ///
+    /// Where memory is lacking: that connection is ended.
+    fn give(&mut self, now: u64, id: u32, piece: &[u8], out: &mut Octets) -> Result<(), AllocError>
+        requires { out.old ≡ [] }
+        ensures ok { OnOk result (rules.gives self.old now id piece.now out.new self.new) }
+        ensures err { OnErr result (rules.lacks self.old id self.new) };
+
+    /// It goes on with what it heard of a connection, and notes what it does outside. It makes room for what it says first.
+    ///
+    /// # Errors
+    ///
+    /// Where memory is lacking: nothing is noted, and that connection is ended.
+    fn step(
+        &mut self,
+        outside: &mut O,
+        now: u64,
+        id: u32,
+        out: &mut Octets,
+    ) -> Result<(), AllocError>
+        requires { out.old ≡ [] }
+        ensures kept { IsTrue (O.tells outside.new) → IsTrue (O.tells outside.old) }
+        ensures ok { OnOk result (IsTrue (O.tells outside.new) → Steps rules (O.seen outside.old) self.old now id out.new (O.seen outside.new) self.new) }
+        ensures err { OnErr result (IsTrue (O.tells outside.new) → O.seen outside.new ≡ O.seen outside.old) }
+        ensures lacks { OnErr result (rules.lacks self.old id self.new) };
+
+    /// A connection is late, and ends: what is said to it last.
+    ///
+    /// # Errors
+    ///
+    /// Where memory is lacking: nothing is said to it.
+    fn late(&mut self, id: u32, out: &mut Octets) -> Result<(), AllocError>
+        requires { out.old ≡ [] }
+        ensures ok { OnOk result (rules.lates self.old id out.new self.new) }
+        ensures err { OnErr result (rules.lacks self.old id self.new) };
+
+    /// It does something of its own, and notes what it does outside.
+    fn work(&mut self, outside: &mut O)
+        ensures kept { IsTrue (O.tells outside.new) → IsTrue (O.tells outside.old) }
+        ensures works { IsTrue (O.tells outside.new) → Works rules (O.seen outside.old) self.old (O.seen outside.new) self.new };
+
+    /// A connection is gone.
+    fn close(&mut self, id: u32)
+        ensures { rules.closes self.old id self.new };
+}

@@ -1,0 +1,97 @@
+//! All that is outside: one list of acts, and the sockets.
+ghost use Rattle.std.specs.Prelude.{◌≡◌, Bool, List, [], ◌<◌, length, IsTrue, OnOk, OnErr};
+ghost use Rattle.wires.specs.Told.{IsOwn, TellsIf, AfterAccept, AfterRead, AfterDiscard, AfterWrite, ReadFits, DiscardFits, WriteFits};
+ghost use Rattle.wires.specs.declared.act.Act.TheVariants.{Woke, Timed, Again, Shut, Ended};
+ghost use Rattle.wires.specs.declared.act.Act.{Act};
+
+use crate::act::Act;
+use crate::outcome::{Accepted, Fault, Input, Output, Wake};
+use std::collections::VecDeque;
+
+/// Where acts happen. Sockets, a clock and a store are traits over one such value, so that all acts stand in one order.
+///
+/// One over memory tells all acts, as long as it has room for them; one over the system tells none. No value answers which of
+/// the two it is, so what is proved of what is told holds of the code that runs.
+pub trait Outside {
+    /// What a machine notes.
+    type Note: Drop;
+
+    /// Whether it tells what happens. Where it no longer does it never does again.
+    ghost tells: { Self → Bool };
+
+    /// All acts so far, in their order, where it tells them.
+    ghost seen: { Self → List (Act Self.Note) };
+
+    /// Whether a wait has failed.
+    ghost broken: { Self → Bool };
+}
+
+/// Listeners, each for a kind of connection, and their connections, each under a number. Each call but `wait` answers at once.
+pub trait Sockets: Outside {
+    /// Waits until something may be done, or for so many milliseconds, and puts what it then tells into `ready`, in its order.
+    ///
+    /// # Errors
+    ///
+    /// Where the system can't wait; nothing is told.
+    fn wait(&mut self, within: u32, ready: &mut VecDeque<Wake>) -> Result<(), Fault>
+        requires { ready.old.items ≡ [] }
+        ensures ok { OnOk result (TellsIf Self.tells Self.seen self.old (Woke ready.new.items) self.new) }
+        ensures err { OnErr result (IsTrue (Self.tells self.new) → Self.seen self.new ≡ Self.seen self.old) }
+        ensures same { OnErr result (ready.new ≡ ready.old) }
+        ensures broke { OnErr result (IsTrue (Self.broken self.new)) }
+        ensures kept { IsTrue (Self.tells self.new) → IsTrue (Self.tells self.old) };
+
+    /// Accepts a connection of that kind that waits, under this number.
+    fn accept(&mut self, kind: u32, id: u32) -> Accepted
+        ensures seen { IsTrue (Self.tells self.new) → AfterAccept (Self.seen self.old) kind id result (Self.seen self.new) }
+        ensures kept { IsTrue (Self.tells self.new) → IsTrue (Self.tells self.old) };
+
+    /// Reads of a connection what there is, at most as many octets as the buffer has.
+    fn read(&mut self, id: u32, buffer: &mut [u8]) -> Input
+        requires { 0 < length buffer.old }
+        ensures fits { ReadFits buffer.new result }
+        ensures seen { IsTrue (Self.tells self.new) → AfterRead (Self.seen self.old) id buffer.new result (Self.seen self.new) }
+        ensures kept { IsTrue (Self.tells self.new) → IsTrue (Self.tells self.old) };
+
+    /// Reads of a connection what there is, and drops it; at most 4,096 octets.
+    fn discard(&mut self, id: u32) -> Input
+        ensures fits { DiscardFits result }
+        ensures seen { IsTrue (Self.tells self.new) → AfterDiscard (Self.seen self.old) id result (Self.seen self.new) }
+        ensures kept { IsTrue (Self.tells self.new) → IsTrue (Self.tells self.old) };
+
+    /// Gives octets to the system, to be sent.
+    fn write(&mut self, id: u32, octets: &[u8]) -> Output
+        requires { 0 < length octets.now }
+        ensures fits { WriteFits octets.now result }
+        ensures seen { IsTrue (Self.tells self.new) → AfterWrite (Self.seen self.old) id octets.now result (Self.seen self.new) }
+        ensures kept { IsTrue (Self.tells self.new) → IsTrue (Self.tells self.old) };
+
+    /// Tells a connection's peer that no more is sent.
+    fn shut(&mut self, id: u32)
+        ensures seen { TellsIf Self.tells Self.seen self.old (Shut id) self.new }
+        ensures kept { IsTrue (Self.tells self.new) → IsTrue (Self.tells self.old) };
+
+    /// Closes a connection.
+    fn close(&mut self, id: u32)
+        ensures seen { TellsIf Self.tells Self.seen self.old (Ended id) self.new }
+        ensures kept { IsTrue (Self.tells self.new) → IsTrue (Self.tells self.old) };
+
+    /// Has a wait tell of the connection again.
+    fn again(&mut self, id: u32)
+        ensures seen { TellsIf Self.tells Self.seen self.old (Again id) self.new }
+        ensures kept { IsTrue (Self.tells self.new) → IsTrue (Self.tells self.old) };
+
+    /// Notes what the loop does by itself.
+    fn note(&mut self, act: Act<Self::Note>)
+        requires { IsOwn act }
+        ensures seen { TellsIf Self.tells Self.seen self.old act self.new }
+        ensures kept { IsTrue (Self.tells self.new) → IsTrue (Self.tells self.old) };
+}
+
+/// A clock.
+pub trait Clock: Outside {
+    /// The moment, in milliseconds since some moment of its own.
+    fn now(&mut self) -> u64
+        ensures seen { TellsIf Self.tells Self.seen self.old (Timed result) self.new }
+        ensures kept { IsTrue (Self.tells self.new) → IsTrue (Self.tells self.old) };
+}

@@ -1,0 +1,899 @@
+//! The loop: one act a call.
+ghost use Rattle.std.specs.Prelude.{◌≡◌, ◌==◌, ℕ, ◌<◌, [], not, filter, find, true, Some, None, IsTrue, IsSome, OnErr};
+ghost use Rattle.std.specs.BTreeMap as tree;
+ghost use Rattle.wires.specs.Moves.{moment, Moves, MovesOr};
+ghost use Rattle.wires.specs.Talk.{client_of, kind_of, is_quiet, is_late, task, task_by, task_wanted, drained};
+ghost use Rattle.wires.specs.Turns.{Tasks, Enters, Answered, Given, Parted, Yields, MayEnd, Admits, MayWait, Calm, Rests, Quiet, open_of, turn_of, first_late, first_roused, goes_on};
+ghost use Rattle.wires.specs.declared.turn.Turn.TheVariants.{Free, Rested, Waked, Sweep, Door, Busy, Stuffed};
+ghost use Rattle.wires.specs.declared.turn.Task.TheVariants.{Send, Hear, Step, Rest, HangUp, Drain};
+
+use crate::act::Act;
+use crate::machine::{Machine, Want};
+use crate::outcome::{Accepted, Fault, Input, Output, Wake};
+use crate::outside::{Clock, Sockets};
+use crate::turn::{Task, Turn};
+use crate::unsent::Unsent;
+use octets::Octets;
+use std::alloc::Global;
+use std::collections::{BTreeMap, VecDeque};
+
+/// No more octets of a connection are read at once.
+const MAX_PIECE: usize = 4096;
+
+/// After so many acts in a row of one connection another has its turn.
+const MAX_ACTS: u32 = 16;
+
+/// So many octets, or a few more, are read and dropped of a connection after this side was shut: its peer sees what was said
+/// to it last, instead of an error.
+const MAX_DROPPED: usize = 1048576;
+
+/// So many milliseconds may pass until the peer of a connection takes some more of what is to be sent.
+const MAX_UNSENT: u64 = 60000;
+
+/// So many milliseconds the peer of a connection has, behind the last that is said to it.
+const MAX_PARTING: u64 = 2000;
+
+/// How far a connection is.
+#[derive(Clone, Copy, Debug, PartialEq, Eq)]
+pub enum Phase {
+    /// It is the machine's.
+    Open,
+    /// It was late: what is said to it last is sent.
+    Closing,
+    /// This side was shut, and so many octets more are read and dropped.
+    Shut(usize),
+}
+
+/// An open connection.
+#[derive(Drop)]
+pub struct Client {
+    /// Its number.
+    pub id: u32,
+    /// Of which listener it is.
+    pub kind: u32,
+    /// What is to be sent.
+    pub unsent: Unsent,
+    pub phase: Phase,
+    /// The moment by which it is late with what is to be sent, or dropped.
+    pub until: u64,
+}
+
+/// All open connections, and whose turn it is.
+#[derive(Drop)]
+pub struct Service {
+    pub alloc: Global,
+    /// By their numbers.
+    pub clients: BTreeMap<u32, Client>,
+    /// What the last wait told and is not yet taken up.
+    pub ready: VecDeque<Wake>,
+    /// Who waits for something else than its socket, in the order in which they came.
+    pub waiting: Vec<u32>,
+    /// The latest moment that the clock showed.
+    pub moment: u64,
+    /// The number of the next to come.
+    pub next: u32,
+    pub turn: Turn,
+}
+
+impl Service {
+    /// No connections.
+    pub fn new(alloc: Global) -> Service
+        ensures none { result.clients.entries ≡ [] }
+        ensures ready { result.ready.items ≡ [] }
+        ensures waiting { result.waiting.items ≡ [] }
+        ensures turn { result.turn ≡ Free }
+    {
+        Service {
+            alloc,
+            clients: BTreeMap::new(alloc),
+            ready: VecDeque::new(alloc),
+            waiting: Vec::new(alloc),
+            moment: 0,
+            next: 1,
+            turn: Turn::Free,
+        }
+    }
+}
+
+/// One act.
+///
+/// # Errors
+///
+/// Where a wait failed; nothing has changed.
+pub fn act<O: Sockets + Clock, M: Machine<O>>(
+    outside: &mut O,
+    machine: &mut M,
+    service: &mut Service,
+) -> Result<(), Fault>
+    ensures kept { IsTrue (O.tells outside.new) → IsTrue (O.tells outside.old) }
+    ensures moves { IsTrue (O.tells outside.new) → MovesOr M.rules (moment (O.seen outside.old) machine.old service.old) (moment (O.seen outside.new) machine.new service.new) result }
+    ensures broke { OnErr result (IsTrue (O.broken outside.new)) }
+{
+    match service.turn {
+        Turn::Free => calm_once(outside, machine, service),
+        Turn::Rested => rested_once(outside, machine, service),
+        Turn::Waked => {
+            time_once(outside, machine, service);
+            Ok(())
+        }
+        Turn::Sweep => sweep_once(outside, machine, service),
+        Turn::Door(kind) => {
+            door_once(outside, machine, service, kind);
+            Ok(())
+        }
+        Turn::Busy(id, count) => {
+            busy_once(outside, machine, service, id, count);
+            Ok(())
+        }
+        Turn::Stuffed(id, kind) => {
+            full_once(outside, machine, service, id, kind);
+            Ok(())
+        }
+        Turn::Leaving(id, kind) => {
+            end_once(outside, machine, service, id, kind);
+            Ok(())
+        }
+    }
+}
+
+// ---- nobody's turn
+
+/// Takes up what a wait told, then who may go on; where there is neither, the machine works or a wait begins.
+fn calm_once<O: Sockets + Clock, M: Machine<O>>(
+    outside: &mut O,
+    machine: &mut M,
+    service: &mut Service,
+) -> Result<(), Fault>
+    requires { Calm M.rules machine.old service.old }
+    ensures kept { IsTrue (O.tells outside.new) → IsTrue (O.tells outside.old) }
+    ensures moves { IsTrue (O.tells outside.new) → MovesOr M.rules (moment (O.seen outside.old) machine.old service.old) (moment (O.seen outside.new) machine.new service.new) result }
+    ensures broke { OnErr result (IsTrue (O.broken outside.new)) }
+{
+    if !service.ready.is_empty() {
+        begin_once(outside, machine, service);
+        return Ok(());
+    }
+    match first_to_rouse(machine, service) {
+        Some(id) => {
+            rouse_once(outside, machine, service, id);
+            Ok(())
+        }
+        None => idle_once(outside, machine, service),
+    }
+}
+
+/// The machine does some work of its own, or a wait begins.
+fn idle_once<O: Sockets + Clock, M: Machine<O>>(
+    outside: &mut O,
+    machine: &mut M,
+    service: &mut Service,
+) -> Result<(), Fault>
+    requires calm { Calm M.rules machine.old service.old }
+    requires quiet { Quiet M.rules machine.old service.old }
+    ensures kept { IsTrue (O.tells outside.new) → IsTrue (O.tells outside.old) }
+    ensures moves { IsTrue (O.tells outside.new) → MovesOr M.rules (moment (O.seen outside.old) machine.old service.old) (moment (O.seen outside.new) machine.new service.new) result }
+    ensures broke { OnErr result (IsTrue (O.broken outside.new)) }
+{
+    if machine.has_work() {
+        work_once(outside, machine, service);
+        return Ok(());
+    }
+    wait_once(outside, machine, service)
+}
+
+/// The same behind work of the machine's own: now a wait begins.
+fn rested_once<O: Sockets + Clock, M: Machine<O>>(
+    outside: &mut O,
+    machine: &mut M,
+    service: &mut Service,
+) -> Result<(), Fault>
+    requires { service.old.turn ≡ Rested }
+    ensures kept { IsTrue (O.tells outside.new) → IsTrue (O.tells outside.old) }
+    ensures moves { IsTrue (O.tells outside.new) → MovesOr M.rules (moment (O.seen outside.old) machine.old service.old) (moment (O.seen outside.new) machine.new service.new) result }
+    ensures broke { OnErr result (IsTrue (O.broken outside.new)) }
+{
+    if !service.ready.is_empty() {
+        begin_once(outside, machine, service);
+        return Ok(());
+    }
+    match first_to_rouse(machine, service) {
+        Some(id) => {
+            rouse_once(outside, machine, service, id);
+            Ok(())
+        }
+        None => wait_once(outside, machine, service),
+    }
+}
+
+/// Reads the clock.
+fn time_once<O: Sockets + Clock, M: Machine<O>>(
+    outside: &mut O,
+    machine: &mut M,
+    service: &mut Service,
+)
+    requires { service.old.turn ≡ Waked }
+    ensures kept { IsTrue (O.tells outside.new) → IsTrue (O.tells outside.old) }
+    ensures moves { IsTrue (O.tells outside.new) → Moves M.rules (moment (O.seen outside.old) machine.old service.old) (moment (O.seen outside.new) machine.new service.new) }
+{
+    let moment = outside.now();
+    if service.moment < moment {
+        service.moment = moment;
+    }
+    service.turn = Turn::Sweep;
+}
+
+/// Says that a connection is late, where one is.
+fn sweep_once<O: Sockets + Clock, M: Machine<O>>(
+    outside: &mut O,
+    machine: &mut M,
+    service: &mut Service,
+) -> Result<(), Fault>
+    requires { service.old.turn ≡ Sweep }
+    ensures kept { IsTrue (O.tells outside.new) → IsTrue (O.tells outside.old) }
+    ensures moves { IsTrue (O.tells outside.new) → MovesOr M.rules (moment (O.seen outside.old) machine.old service.old) (moment (O.seen outside.new) machine.new service.new) result }
+    ensures broke { OnErr result (IsTrue (O.broken outside.new)) }
+{
+    match first_that_is_late(machine, service) {
+        Some(id) => {
+            late_once(outside, machine, service, id);
+            Ok(())
+        }
+        None => calm_once(outside, machine, service),
+    }
+}
+
+/// The first connection, by number, that is late.
+fn first_that_is_late<O: Sockets + Clock, M: Machine<O>>(
+    machine: &M,
+    service: &Service,
+) -> Option<u32>
+    ensures { result ≡ first_late M.rules machine.now service.now }
+{
+    let late = service.clients.values().find(|client| is_client_late(
+        client,
+        service.moment,
+        machine.deadline(client.id),
+    ));
+    match late {
+        Some(client) => Some(client.id),
+        None => None,
+    }
+}
+
+/// Whether it is late; `deadline` is the machine's, for one that is open and to which all is sent.
+fn is_client_late(client: &Client, now: u64, deadline: u64) -> bool
+    ensures { result ≡ is_late now deadline client.now }
+{
+    if is_client_quiet(client) {
+        deadline <= now
+    } else {
+        client.until <= now
+    }
+}
+
+/// Whether it is open, and all that was said to it is sent.
+fn is_client_quiet(client: &Client) -> bool
+    ensures { result ≡ is_quiet (Some client.now) }
+{
+    if !client.unsent.is_empty() {
+        return false;
+    }
+    match client.phase {
+        Phase::Open => true,
+        Phase::Closing => false,
+        Phase::Shut(_) => false,
+    }
+}
+
+/// The first of those who wait that has something to do now.
+fn first_to_rouse<O: Sockets + Clock, M: Machine<O>>(machine: &M, service: &Service) -> Option<u32>
+    ensures { result ≡ first_roused M.rules machine.now service.now }
+{
+    first_among(machine, service, service.waiting.as_slice())
+}
+
+/// The first of these that has something to do now.
+fn first_among<O: Sockets + Clock, M: Machine<O>>(
+    machine: &M,
+    service: &Service,
+    ids: &[u32],
+) -> Option<u32>
+    ensures { result ≡ find (λ id. goes_on (task M.rules machine.now service.now.moment id (client_of service.now id))) ids.now }
+{
+    let mut rest = ids;
+    while let Some((id, others)) = rest.split_first() {
+        if may_go_on(machine, service, *id) {
+            return Some(*id);
+        }
+        rest = others;
+    }
+    None
+}
+
+/// Whether it has something to do now.
+fn may_go_on<O: Sockets + Clock, M: Machine<O>>(machine: &M, service: &Service, id: u32) -> bool
+    ensures { result ≡ goes_on (task M.rules machine.now service.now.moment id (client_of service.now id)) }
+{
+    is_to_go_on(task_of(machine, service, id))
+}
+
+fn is_to_go_on(task: Task) -> bool
+    ensures { result ≡ goes_on task }
+{
+    match task {
+        Task::Rest => false,
+        _ => true,
+    }
+}
+
+/// Says that a connection is late: to one that reads the machine says something last, any other is closed.
+fn late_once<O: Sockets + Clock, M: Machine<O>>(
+    outside: &mut O,
+    machine: &mut M,
+    service: &mut Service,
+    id: u32,
+)
+    requires turn { service.old.turn ≡ Sweep }
+    requires late { first_late M.rules machine.old service.old ≡ Some id }
+    ensures kept { IsTrue (O.tells outside.new) → IsTrue (O.tells outside.old) }
+    ensures moves { IsTrue (O.tells outside.new) → Moves M.rules (moment (O.seen outside.old) machine.old service.old) (moment (O.seen outside.new) machine.new service.new) }
+{
+    outside.note(Act::Late(id));
+    let kind = kind_of_client(service, id);
+    if is_quiet_at(service, id) {
+        part(machine, service, id, kind)
+    } else {
+        service.turn = Turn::Leaving(id, kind);
+    }
+}
+
+fn is_quiet_at(service: &Service, id: u32) -> bool
+    ensures { result ≡ is_quiet (client_of service.now id) }
+{
+    match service.clients.get(&id) {
+        Some(client) => is_client_quiet(client),
+        None => false,
+    }
+}
+
+/// The machine says something last.
+fn part<O: Sockets + Clock, M: Machine<O>>(
+    machine: &mut M,
+    service: &mut Service,
+    id: u32,
+    kind: u32,
+)
+    requires quiet { is_quiet (client_of service.old id) ≡ true }
+    requires kind { kind ≡ kind_of (client_of service.old id) }
+    ensures { Parted M.rules machine.old service.old id machine.new service.new }
+{
+    let mut out = Octets::new(service.alloc);
+    if machine.late(id, &mut out).is_err() {
+        service.turn = Turn::Leaving(id, kind);
+        return;
+    }
+    service.turn = Turn::Busy(id, 0);
+    let Some(client) = service.clients.get_mut(&id) else {
+        return;
+    };
+    client.unsent = Unsent::from_octets(out);
+    client.phase = Phase::Closing;
+    client.until = service.moment.wrapping_add(MAX_PARTING);
+}
+
+/// Takes up the first of what a wait told.
+fn begin_once<O: Sockets + Clock, M: Machine<O>>(
+    outside: &mut O,
+    machine: &mut M,
+    service: &mut Service,
+)
+    requires rests { Rests M.rules machine.old service.old }
+    requires some { ¬ (service.old.ready.items ≡ []) }
+    ensures kept { IsTrue (O.tells outside.new) → IsTrue (O.tells outside.old) }
+    ensures moves { IsTrue (O.tells outside.new) → Moves M.rules (moment (O.seen outside.old) machine.old service.old) (moment (O.seen outside.new) machine.new service.new) }
+{
+    let Some(wake) = service.ready.pop_front() else {
+        return;
+    };
+    outside.note(Act::Began(wake));
+    service.turn = turn_of_wake(service, wake);
+}
+
+/// Lets one go on that waited.
+fn rouse_once<O: Sockets + Clock, M: Machine<O>>(
+    outside: &mut O,
+    machine: &mut M,
+    service: &mut Service,
+    id: u32,
+)
+    requires rests { Rests M.rules machine.old service.old }
+    requires none { service.old.ready.items ≡ [] }
+    requires first { first_roused M.rules machine.old service.old ≡ Some id }
+    ensures kept { IsTrue (O.tells outside.new) → IsTrue (O.tells outside.old) }
+    ensures moves { IsTrue (O.tells outside.new) → Moves M.rules (moment (O.seen outside.old) machine.old service.old) (moment (O.seen outside.new) machine.new service.new) }
+{
+    outside.note(Act::Roused(id));
+    forget(&mut service.waiting, id);
+    service.turn = turn_of_wake(service, Wake::Ready(id));
+}
+
+/// Whose turn begins by what a wait told.
+fn turn_of_wake(service: &Service, wake: Wake) -> Turn
+    ensures { result ≡ turn_of wake service.now }
+{
+    match wake {
+        Wake::Knock(kind) => Turn::Door(kind),
+        Wake::Ready(id) => match service.clients.get(&id) {
+            Some(_) => Turn::Busy(id, 0),
+            None => Turn::Free,
+        },
+    }
+}
+
+/// The machine does something of its own.
+fn work_once<O: Sockets + Clock, M: Machine<O>>(
+    outside: &mut O,
+    machine: &mut M,
+    service: &mut Service,
+)
+    requires calm { Calm M.rules machine.old service.old }
+    requires quiet { Quiet M.rules machine.old service.old }
+    requires work { M.rules.has_work machine.old ≡ true }
+    ensures kept { IsTrue (O.tells outside.new) → IsTrue (O.tells outside.old) }
+    ensures moves { IsTrue (O.tells outside.new) → Moves M.rules (moment (O.seen outside.old) machine.old service.old) (moment (O.seen outside.new) machine.new service.new) }
+{
+    machine.work(outside);
+    service.turn = Turn::Rested;
+}
+
+/// Waits.
+fn wait_once<O: Sockets + Clock, M: Machine<O>>(
+    outside: &mut O,
+    machine: &mut M,
+    service: &mut Service,
+) -> Result<(), Fault>
+    requires quiet { Quiet M.rules machine.old service.old }
+    requires may { MayWait M.rules machine.old service.old }
+    ensures kept { IsTrue (O.tells outside.new) → IsTrue (O.tells outside.old) }
+    ensures moves { IsTrue (O.tells outside.new) → MovesOr M.rules (moment (O.seen outside.old) machine.old service.old) (moment (O.seen outside.new) machine.new service.new) result }
+    ensures broke { OnErr result (IsTrue (O.broken outside.new)) }
+{
+    outside.wait(machine.patience(), &mut service.ready)?;
+    service.turn = Turn::Waked;
+    Ok(())
+}
+
+// ---- those who come
+
+/// How many connections of that kind are open.
+fn count_open(service: &Service, kind: u32) -> usize
+    ensures { result ≡ open_of kind service.now }
+{
+    service
+        .clients
+        .values()
+        .filter(|client| client.kind == kind)
+        .count()
+}
+
+/// Accepts one that waits, where there is a place for it.
+fn door_once<O: Sockets + Clock, M: Machine<O>>(
+    outside: &mut O,
+    machine: &mut M,
+    service: &mut Service,
+    kind: u32,
+)
+    requires { service.old.turn ≡ Door kind }
+    ensures kept { IsTrue (O.tells outside.new) → IsTrue (O.tells outside.old) }
+    ensures moves { IsTrue (O.tells outside.new) → Moves M.rules (moment (O.seen outside.old) machine.old service.old) (moment (O.seen outside.new) machine.new service.new) }
+{
+    if count_open(service, kind) >= machine.limit(kind) {
+        outside.note(Act::Crowded(kind));
+        service.turn = Turn::Free;
+        return;
+    }
+    let id = service.next;
+    if service.clients.contains_key(&id) {
+        outside.note(Act::InUse(id));
+        service.next = id.wrapping_add(1);
+        return;
+    }
+    accept_once(outside, machine, service, kind, id)
+}
+
+/// Accepts one, under the next number.
+fn accept_once<O: Sockets + Clock, M: Machine<O>>(
+    outside: &mut O,
+    machine: &mut M,
+    service: &mut Service,
+    kind: u32,
+    id: u32,
+)
+    requires admits { Admits M.rules service.old kind }
+    requires next { id ≡ service.old.next }
+    ensures kept { IsTrue (O.tells outside.new) → IsTrue (O.tells outside.old) }
+    ensures moves { IsTrue (O.tells outside.new) → Moves M.rules (moment (O.seen outside.old) machine.old service.old) (moment (O.seen outside.new) machine.new service.new) }
+{
+    match outside.accept(kind, id) {
+        Accepted::Came => admit(machine, service, kind, id),
+        Accepted::Nobody => {
+            service.turn = Turn::Free;
+        }
+    }
+}
+
+/// Takes one in.
+fn admit<O: Sockets + Clock, M: Machine<O>>(
+    machine: &mut M,
+    service: &mut Service,
+    kind: u32,
+    id: u32,
+)
+    requires { client_of service.old id ≡ None }
+    ensures { Enters M.rules machine.old service.old id kind machine.new service.new }
+{
+    service.next = id.wrapping_add(1);
+    let mut out = Octets::new(service.alloc);
+    if machine.open(service.moment, kind, id, &mut out).is_err() {
+        service.turn = Turn::Stuffed(id, kind);
+        return;
+    }
+    let client = Client {
+        id,
+        kind,
+        unsent: Unsent::from_octets(out),
+        phase: Phase::Open,
+        until: service.moment.wrapping_add(MAX_UNSENT),
+    };
+    if service.clients.insert(id, client).is_ok() {
+        service.turn = Turn::Door(kind);
+    } else {
+        service.turn = Turn::Stuffed(id, kind);
+    }
+}
+
+// ---- the turn of one connection
+
+/// What is to be done on it.
+fn task_of<O: Sockets + Clock, M: Machine<O>>(machine: &M, service: &Service, id: u32) -> Task
+    ensures { result ≡ task M.rules machine.now service.now.moment id (client_of service.now id) }
+{
+    match service.clients.get(&id) {
+        Some(client) => task_of_client(client, service.moment, machine.wants(id)),
+        None => Task::Nothing,
+    }
+}
+
+fn task_of_client(client: &Client, now: u64, want: Want) -> Task
+    ensures { result ≡ task_by client.now.unsent client.now.phase now want }
+{
+    if !client.unsent.is_empty() {
+        return Task::Send;
+    }
+    match client.phase {
+        Phase::Open => task_of_want(now, want),
+        Phase::Closing => Task::HangUp,
+        Phase::Shut(left) => { if left == 0 { Task::End } else { Task::Drain } }
+    }
+}
+
+fn task_of_want(now: u64, want: Want) -> Task
+    ensures { result ≡ task_wanted now want }
+{
+    match want {
+        Want::More => Task::Hear,
+        Want::Step => Task::Step,
+        Want::Wait => Task::Rest,
+        Want::Until(moment) => { if now < moment { Task::Rest } else { Task::Step } }
+        Want::Done => Task::HangUp,
+    }
+}
+
+/// Of which kind it is.
+fn kind_of_client(service: &Service, id: u32) -> u32
+    ensures { result ≡ kind_of (client_of service.now id) }
+{
+    match service.clients.get(&id) {
+        Some(client) => client.kind,
+        None => 0,
+    }
+}
+
+/// One act of it.
+fn busy_once<O: Sockets + Clock, M: Machine<O>>(
+    outside: &mut O,
+    machine: &mut M,
+    service: &mut Service,
+    id: u32,
+    count: u32,
+)
+    requires { service.old.turn ≡ Busy id count }
+    ensures kept { IsTrue (O.tells outside.new) → IsTrue (O.tells outside.old) }
+    ensures moves { IsTrue (O.tells outside.new) → Moves M.rules (moment (O.seen outside.old) machine.old service.old) (moment (O.seen outside.new) machine.new service.new) }
+{
+    if count >= MAX_ACTS {
+        return again_once(outside, machine, service, id);
+    }
+    let kind = kind_of_client(service, id);
+    match task_of(machine, service, id) {
+        Task::Send => send_once(outside, machine, service, id, count, kind),
+        Task::Hear => hear_once(outside, machine, service, id, count, kind),
+        Task::Step => step_once(outside, machine, service, id, count, kind),
+        Task::Rest => rest_once(outside, machine, service, id, kind),
+        Task::HangUp => shut_once(outside, machine, service, id, count),
+        Task::Drain => drain_once(outside, machine, service, id, count, kind),
+        Task::End => end_once(outside, machine, service, id, kind),
+        Task::Nothing => again_once(outside, machine, service, id),
+    }
+}
+
+/// Sends what waits.
+fn send_once<O: Sockets + Clock, M: Machine<O>>(
+    outside: &mut O,
+    machine: &mut M,
+    service: &mut Service,
+    id: u32,
+    count: u32,
+    kind: u32,
+)
+    requires turn { Tasks M.rules machine.old service.old id count Send }
+    requires kind { kind ≡ kind_of (client_of service.old id) }
+    ensures kept { IsTrue (O.tells outside.new) → IsTrue (O.tells outside.old) }
+    ensures moves { IsTrue (O.tells outside.new) → Moves M.rules (moment (O.seen outside.old) machine.old service.old) (moment (O.seen outside.new) machine.new service.new) }
+{
+    let Some(client) = service.clients.get_mut(&id) else {
+        return;
+    };
+    match outside.write(id, client.unsent.as_slice()) {
+        Output::Taken(taken) => {
+            client.unsent.drop_front(taken);
+            client.until = service.moment.wrapping_add(MAX_UNSENT);
+            service.turn = Turn::Busy(id, count + 1);
+        }
+        Output::Nothing => {
+            service.turn = Turn::Free;
+        }
+        Output::Lost => {
+            service.turn = Turn::Leaving(id, kind);
+        }
+    }
+}
+
+/// Reads, and has the machine hear it.
+fn hear_once<O: Sockets + Clock, M: Machine<O>>(
+    outside: &mut O,
+    machine: &mut M,
+    service: &mut Service,
+    id: u32,
+    count: u32,
+    kind: u32,
+)
+    requires turn { Tasks M.rules machine.old service.old id count Hear }
+    requires kind { kind ≡ kind_of (client_of service.old id) }
+    ensures kept { IsTrue (O.tells outside.new) → IsTrue (O.tells outside.old) }
+    ensures moves { IsTrue (O.tells outside.new) → Moves M.rules (moment (O.seen outside.old) machine.old service.old) (moment (O.seen outside.new) machine.new service.new) }
+{
+    let mut buffer = [0u8; MAX_PIECE];
+    match outside.read(id, &mut buffer) {
+        Input::Got(got) => give(machine, service, id, count, kind, &buffer[..got]),
+        Input::Nothing => {
+            service.turn = Turn::Free;
+        }
+        Input::Over => {
+            service.turn = Turn::Leaving(id, kind);
+        }
+        Input::Lost => {
+            service.turn = Turn::Leaving(id, kind);
+        }
+    }
+}
+
+/// Has the machine hear a piece.
+fn give<O: Sockets + Clock, M: Machine<O>>(
+    machine: &mut M,
+    service: &mut Service,
+    id: u32,
+    count: u32,
+    kind: u32,
+    piece: &[u8],
+)
+    requires turn { Tasks M.rules machine.old service.old id count Hear }
+    requires kind { kind ≡ kind_of (client_of service.old id) }
+    ensures { Given M.rules machine.old service.old id count piece.now machine.new service.new }
+{
+    let mut out = Octets::new(service.alloc);
+    if machine.give(service.moment, id, piece, &mut out).is_ok() {
+        answer(service, id, count, out);
+    } else {
+        service.turn = Turn::Stuffed(id, kind);
+    }
+}
+
+/// What is said to it is to be sent, and its turn goes on.
+fn answer(service: &mut Service, id: u32, count: u32, said: Octets)
+    requires some { IsSome (client_of service.old id) }
+    requires few { count < 16 }
+    ensures { Answered id count said service.old service.new }
+{
+    service.turn = Turn::Busy(id, count + 1);
+    let Some(client) = service.clients.get_mut(&id) else {
+        return;
+    };
+    client.unsent = Unsent::from_octets(said);
+    client.until = service.moment.wrapping_add(MAX_UNSENT);
+}
+
+/// Has the machine go on.
+fn step_once<O: Sockets + Clock, M: Machine<O>>(
+    outside: &mut O,
+    machine: &mut M,
+    service: &mut Service,
+    id: u32,
+    count: u32,
+    kind: u32,
+)
+    requires turn { Tasks M.rules machine.old service.old id count Step }
+    requires kind { kind ≡ kind_of (client_of service.old id) }
+    ensures kept { IsTrue (O.tells outside.new) → IsTrue (O.tells outside.old) }
+    ensures moves { IsTrue (O.tells outside.new) → Moves M.rules (moment (O.seen outside.old) machine.old service.old) (moment (O.seen outside.new) machine.new service.new) }
+{
+    let mut out = Octets::new(service.alloc);
+    if machine.step(outside, service.moment, id, &mut out).is_ok() {
+        answer(service, id, count, out);
+    } else {
+        outside.note(Act::Full(id));
+        service.turn = Turn::Leaving(id, kind);
+    }
+}
+
+/// Lets it wait for something else than its socket.
+fn rest_once<O: Sockets + Clock, M: Machine<O>>(
+    outside: &mut O,
+    machine: &mut M,
+    service: &mut Service,
+    id: u32,
+    kind: u32,
+)
+    requires turn { (count : ℕ) × Tasks M.rules machine.old service.old id count Rest }
+    requires kind { kind ≡ kind_of (client_of service.old id) }
+    ensures kept { IsTrue (O.tells outside.new) → IsTrue (O.tells outside.old) }
+    ensures moves { IsTrue (O.tells outside.new) → Moves M.rules (moment (O.seen outside.old) machine.old service.old) (moment (O.seen outside.new) machine.new service.new) }
+{
+    if service.waiting.contains(&id) {
+        outside.note(Act::Waits(id));
+        service.turn = Turn::Free;
+        return;
+    }
+    if service.waiting.push(id).is_ok() {
+        outside.note(Act::Waits(id));
+        service.turn = Turn::Free;
+    } else {
+        outside.note(Act::Full(id));
+        service.turn = Turn::Leaving(id, kind);
+    }
+}
+
+/// Tells its peer that no more comes.
+fn shut_once<O: Sockets + Clock, M: Machine<O>>(
+    outside: &mut O,
+    machine: &mut M,
+    service: &mut Service,
+    id: u32,
+    count: u32,
+)
+    requires { Tasks M.rules machine.old service.old id count HangUp }
+    ensures kept { IsTrue (O.tells outside.new) → IsTrue (O.tells outside.old) }
+    ensures moves { IsTrue (O.tells outside.new) → Moves M.rules (moment (O.seen outside.old) machine.old service.old) (moment (O.seen outside.new) machine.new service.new) }
+{
+    let Some(client) = service.clients.get_mut(&id) else {
+        return;
+    };
+    outside.shut(id);
+    client.phase = Phase::Shut(MAX_DROPPED);
+    client.until = service.moment.wrapping_add(MAX_PARTING);
+    service.turn = Turn::Busy(id, count + 1);
+}
+
+/// Reads and drops.
+fn drain_once<O: Sockets + Clock, M: Machine<O>>(
+    outside: &mut O,
+    machine: &mut M,
+    service: &mut Service,
+    id: u32,
+    count: u32,
+    kind: u32,
+)
+    requires turn { Tasks M.rules machine.old service.old id count Drain }
+    requires kind { kind ≡ kind_of (client_of service.old id) }
+    ensures kept { IsTrue (O.tells outside.new) → IsTrue (O.tells outside.old) }
+    ensures moves { IsTrue (O.tells outside.new) → Moves M.rules (moment (O.seen outside.old) machine.old service.old) (moment (O.seen outside.new) machine.new service.new) }
+{
+    let Some(client) = service.clients.get_mut(&id) else {
+        return;
+    };
+    match outside.discard(id) {
+        Input::Got(got) => {
+            client.phase = drain(client.phase, got);
+            service.turn = Turn::Busy(id, count + 1);
+        }
+        Input::Nothing => {
+            service.turn = Turn::Free;
+        }
+        Input::Over => {
+            service.turn = Turn::Leaving(id, kind);
+        }
+        Input::Lost => {
+            service.turn = Turn::Leaving(id, kind);
+        }
+    }
+}
+
+/// So many octets more were dropped.
+fn drain(phase: Phase, count: usize) -> Phase
+    ensures { result ≡ drained count phase }
+{
+    match phase {
+        Phase::Open => Phase::Open,
+        Phase::Closing => Phase::Closing,
+        Phase::Shut(left) => Phase::Shut(left.saturating_sub(count)),
+    }
+}
+
+// ---- ends
+
+/// It waits no more.
+fn forget(waiting: &mut Vec<u32>, id: u32)
+    ensures { waiting.new.items ≡ filter (λ n. not (n == id)) waiting.old.items }
+{
+    waiting.retain(|other| *other != id);
+}
+
+/// Has a wait tell of it again.
+fn again_once<O: Sockets + Clock, M: Machine<O>>(
+    outside: &mut O,
+    machine: &mut M,
+    service: &mut Service,
+    id: u32,
+)
+    requires { Yields M.rules machine.old service.old id }
+    ensures kept { IsTrue (O.tells outside.new) → IsTrue (O.tells outside.old) }
+    ensures moves { IsTrue (O.tells outside.new) → Moves M.rules (moment (O.seen outside.old) machine.old service.old) (moment (O.seen outside.new) machine.new service.new) }
+{
+    outside.again(id);
+    service.turn = Turn::Free;
+}
+
+/// Notes that memory was lacking for it.
+fn full_once<O: Sockets + Clock, M: Machine<O>>(
+    outside: &mut O,
+    machine: &mut M,
+    service: &mut Service,
+    id: u32,
+    kind: u32,
+)
+    requires { service.old.turn ≡ Stuffed id kind }
+    ensures kept { IsTrue (O.tells outside.new) → IsTrue (O.tells outside.old) }
+    ensures moves { IsTrue (O.tells outside.new) → Moves M.rules (moment (O.seen outside.old) machine.old service.old) (moment (O.seen outside.new) machine.new service.new) }
+{
+    outside.note(Act::Full(id));
+    service.turn = Turn::Leaving(id, kind);
+}
+
+/// Closes it, and offers its place.
+fn end_once<O: Sockets + Clock, M: Machine<O>>(
+    outside: &mut O,
+    machine: &mut M,
+    service: &mut Service,
+    id: u32,
+    kind: u32,
+)
+    requires { MayEnd M.rules machine.old service.old id kind }
+    ensures kept { IsTrue (O.tells outside.new) → IsTrue (O.tells outside.old) }
+    ensures moves { IsTrue (O.tells outside.new) → Moves M.rules (moment (O.seen outside.old) machine.old service.old) (moment (O.seen outside.new) machine.new service.new) }
+{
+    outside.close(id);
+    machine.close(id);
+    let _ = service.clients.remove(&id);
+    forget(&mut service.waiting, id);
+    service.turn = Turn::Door(kind);
+}

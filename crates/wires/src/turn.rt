@@ -1,0 +1,42 @@
+//! Whose turn it is.
+/// Whose turn it is.
+#[derive(Clone, Copy, Debug, PartialEq, Eq)]
+pub enum Turn {
+    /// Nobody's.
+    Free,
+    /// Nobody's, and the machine has done some work of its own: now a wait follows.
+    Rested,
+    /// Nobody's: a wait has ended, and the clock is to be read.
+    Waked,
+    /// Nobody's: the clock was read, and who is late comes first.
+    Sweep,
+    /// That of those who come, of a kind.
+    Door(u32),
+    /// A connection's, after so many acts of it.
+    Busy(u32, u32),
+    /// That of a connection for which memory is lacking, and its kind.
+    Stuffed(u32, u32),
+    /// That of a connection that has to be closed, and its kind.
+    Leaving(u32, u32),
+}
+
+/// What is to be done on a connection.
+#[derive(Clone, Copy, Debug, PartialEq, Eq)]
+pub enum Task {
+    /// To send what waits.
+    Send,
+    /// To read, and have the machine hear it.
+    Hear,
+    /// To have the machine go on.
+    Step,
+    /// To let it wait for something else than its socket.
+    Rest,
+    /// To tell the peer that no more comes.
+    HangUp,
+    /// To read and drop, after that.
+    Drain,
+    /// To close it.
+    End,
+    /// Nothing: it isn't there.
+    Nothing,
+}
