@@ -15,10 +15,11 @@ should be. Without a word, all. Prints a line for each, a last one
 that counts them, and ends with 1 where one failed. `tests/run` runs it, with --quick: at most one call is lost, and no length
 stands. It needs python3 and strace.
 """
-import base64, hashlib, itertools, os, re, shutil, sqlite3, subprocess, tempfile
+import base64, hashlib, itertools, os, re, signal, sqlite3, subprocess, tempfile, time
 import managesieve, trials
 from collections import Counter, namedtuple
 from concurrent.futures import ThreadPoolExecutor
+from contextlib import contextmanager
 
 PROGRAM = [managesieve.SIEVED]
 SECTOR = 512
@@ -50,6 +51,7 @@ class Log:
         self.folder = os.path.realpath(folder)
         self.names, self.base = dict(before[0]), dict(before[1])
         self.calls, self.files, self.fresh = [], {}, itertools.count(len(before[1]))
+        self.dropped = set()
         self.now = dict(before[0])
         for line in trace.splitlines():
             self.take(line)
@@ -74,6 +76,7 @@ class Log:
     def open(self, words, number):
         path = self.path(words[1])
         self.files[number] = None
+        self.dropped.discard(number)
         if path is None:
             return
         if os.path.isdir(f"{self.folder}/{path}"):
@@ -102,6 +105,14 @@ class Log:
     def write_at(self, words, count):
         if self.files.get(int(words[0])):
             self.calls.append(Call("write", self.files[int(words[0])][0], int(words[3]), octets_of(words[1])[:count]))
+
+    def drop(self, words, _):
+        assert words[3] == "POSIX_FADV_DONTNEED" and self.calls[-1] == Call("sync", self.files[int(words[0])][0]), words
+        self.dropped.add(int(words[0]))
+
+    def read_at(self, words, _):
+        """What an earlier process failed to sync may stand in the kernel's copy alone: it is dropped before a store's file is read."""
+        assert not self.files.get(int(words[0])) or int(words[0]) in self.dropped, f"read before the kernel's copy was dropped: {words[0]}"
 
     def cut(self, words, _):
         self.calls.append(Call("cut", self.files[int(words[0])][0], int(words[1])))
@@ -133,10 +144,10 @@ def octets_of(word):
 
 
 # Each call that may come: what it does to the log. None: nothing that a power cut could show.
-KNOWN = dict.fromkeys("""execve access faccessat2 newfstatat fstat stat lstat statx pread64 getcwd readlink readlinkat getdents64 flock fcntl
-    fadvise64 mmap fchmod chmod fchown poll ioctl""".split())
+KNOWN = dict.fromkeys("""execve access faccessat2 newfstatat fstat stat lstat statx getcwd readlink readlinkat getdents64 flock fcntl
+    mmap fchmod chmod fchown poll ioctl""".split())
 KNOWN |= {"open": lambda log, words, result: log.open([None, *words], result), "openat": Log.open, "close": Log.close,
-          "read": Log.moved, "write": Log.write, "pwrite64": Log.write_at, "ftruncate": Log.cut, "fsync": Log.sync, "fdatasync": Log.sync,
+          "fadvise64": Log.drop, "pread64": Log.read_at, "read": Log.moved, "write": Log.write, "pwrite64": Log.write_at, "ftruncate": Log.cut, "fsync": Log.sync, "fdatasync": Log.sync,
           "rename": Log.rename, "renameat": Log.rename, "renameat2": Log.rename, "link": Log.link, "linkat": Log.link,
           "unlink": Log.unlink, "unlinkat": Log.unlink}
 
@@ -548,6 +559,96 @@ def again():
     return "; ".join(said)
 
 
+def unsynced():
+    """The commit's sync fails, and the kernel drops what was written: the next word reads the disk, and not the kernel's copy."""
+    trials.need_root()
+    trials.need("strace", "losetup", "mkfs.ext2", "debugfs", "fallocate")
+    log = delivery()
+    _, before, after = one_change(log, Look([b"main"]))
+    made, _ = commit(log, Look([b"main"]), after)
+    written = sum(call.kind == "write" for call in log.calls[:made + 1])
+    said = {}
+    for how in "dropped", "kept":
+        with weak_disk() as (folder, disk):
+            lay(folder, left_by(log, State(0)))
+            status, told = stopped_delivery(folder, disk, written)
+            said[how] = status, told, folders_of(folder, how), folders_of(folder, "dropped")
+    wanted = 75, before[1]
+    assert (said["dropped"][0], said["dropped"][2]) == wanted and said["dropped"][3] == before[1], said
+    assert (said["kept"][0], said["kept"][2]) == (75, after[1]), said
+    return f"{said['dropped'][1][:80]!r}; then as before; where the kernel's copy is kept the next word reads what isn't on the disk"
+
+
+@contextmanager
+def weak_disk():
+    """A file system on a file that loses its room: what is written then is lost, and a sync says so."""
+    with tempfile.TemporaryDirectory(prefix="sieved-weak-") as top:
+        room, place = f"{top}/room", f"{top}/place"
+        os.mkdir(room), os.mkdir(place)
+        subprocess.run(["mount", "-t", "tmpfs", "-o", "size=8m", "tmpfs", room], check=True)
+        try:
+            subprocess.run(["truncate", "-s", "64M", f"{room}/disk"], check=True)
+            subprocess.run(["mkfs.ext2", "-q", "-b", "4096", f"{room}/disk"], check=True)
+            subprocess.run(["mount", "-o", "loop", f"{room}/disk", place], check=True)
+            try:
+                yield place, f"{room}/disk"
+            finally:
+                subprocess.run(["umount", place], check=True)
+        finally:
+            subprocess.run(["umount", room], check=True)
+
+
+def stopped_delivery(folder, disk, written):
+    """A delivery over a disk that loses the log's first block between the write that commits and its sync."""
+    os.sync()
+    block = int(subprocess.run(["debugfs", "-R", "bmap /mail.db-wal 0", disk], capture_output=True, check=True).stdout.split()[0])
+    words = "--from", "bob@example.net", "--to", "alice@example.org", "--at", "1700000000", "alice"
+    inject = f"inject=pwrite64:signal=SIGSTOP:when={written}"
+    command = ["strace", "-f", "-qq", "-o", f"{folder}/trace", "-e", "trace=pwrite64", "-e", inject, PROGRAM[0], "deliver", "--db", f"{folder}/mail.db", *words]
+    with subprocess.Popen(command, stdin=subprocess.PIPE, stdout=subprocess.PIPE, stderr=subprocess.PIPE) as process:
+        process.stdin.write(MAIL % 1)
+        process.stdin.close()
+        child = stopped_child(process.pid)
+        subprocess.run(["fallocate", "-p", "-o", str(block * 4096), "-l", "4096", disk], check=True)
+        fill(f"{os.path.dirname(disk)}/rest")
+        os.kill(child, signal.SIGCONT)
+        status, told = process.wait(), process.stderr.read()
+    os.remove(f"{os.path.dirname(disk)}/rest")
+    return status, told
+
+
+def fill(path):
+    """Takes all the room that is left."""
+    with open(path, "wb", buffering=0) as rest:
+        try:
+            while rest.write(b"\0" * 4096):
+                pass
+        except OSError:
+            pass
+
+
+def stopped_child(parent):
+    """The process that strace has started, once it stays stopped."""
+    times = 0
+    for _ in range(1_000):
+        with open(f"/proc/{parent}/task/{parent}/children") as file:
+            children = file.read().split()
+        for child in children:
+            with open(f"/proc/{child}/stat") as file:
+                times = times + 1 if file.read().rsplit(") ", 1)[1][0] in "tT" else 0
+            if times == 30:
+                return int(child)
+        time.sleep(0.01)
+    raise AssertionError("not stopped")
+
+
+def folders_of(folder, how):
+    """What `folders` says where the kernel's copies of the files are dropped as it opens them, or where they are kept."""
+    keeping = ["strace", "-f", "-qq", "-o", "/dev/null", "-e", "trace=fadvise64", "-e", "inject=fadvise64:retval=0"]
+    command = [*(keeping if how == "kept" else []), PROGRAM[0], "folders", "--db", f"{folder}/mail.db", "alice"]
+    return subprocess.run(command, capture_output=True, timeout=60).stdout
+
+
 def planted():
     """A log that tells of a faulty program: without a sync, or with the answer before one."""
     log, look = delivery(), Look([b"main"])
@@ -586,7 +687,7 @@ def is_found(log, look, judge):
     return False
 
 
-TRIALS = {trial.__name__: trial for trial in (init, adduser, deliver, done, drain, session, again, planted)}
+TRIALS = {trial.__name__: trial for trial in (init, adduser, deliver, done, drain, session, again, unsynced, planted)}
 
 
 if __name__ == "__main__":
