@@ -4,9 +4,13 @@ fails at its kth call, for each k; after each the next session, which is served 
 
 What is wanted comes from the model below, written from RFC 5804, which knows nothing of the program.
 
+The tables are made by the statements of runs.cases, and the password is digested once, so that a login costs nothing.
+
     python3 tests/devices.py > crates/cases/data/devices.cases
 """
+import hashlib, os
 
+RUNS = f"{os.path.dirname(os.path.abspath(__file__))}/../crates/cases/data/runs.cases"
 SCRIPT = 'require "fileinto";\r\nfileinto "lists";\r\n'
 # Each command, its answer, and what it makes of the scripts: whether `main` is there and active.
 STEPS = [
@@ -23,6 +27,16 @@ NONE = 'NO (NONEXISTENT) "No such script."\r\n'
 # The next session: what is there, and it is taken away again.
 LOOK = 'LISTSCRIPTS\r\nGETSCRIPT "main"\r\nSETACTIVE ""\r\nDELETESCRIPT "main"\r\n'
 SALT = b"0123456789abcdef"
+
+
+def account():
+    """Statements that make a store with the account alice, whose digest is that of docs/STORE.md: SHA-256 over salt and password, and
+    once more over the digest before, salt and password."""
+    with open(RUNS) as file:
+        tables = next(line.split("\t")[1] for line in file if line.startswith("new\tCREATE TABLE meta") and "('version', 2)\tdone" in line)
+    digest = hashlib.sha256(hashlib.sha256(SALT + b"secret").digest() + SALT + b"secret").digest()
+    values = ", ".join(f"x'{octets.hex()}'" for octets in (b"alice", b"alice@example.org", SALT))
+    return f"{tables}; INSERT INTO account VALUES ({values}, 1, x'{digest.hex()}', NULL, 1, 1, 1)"
 
 
 def escaped(text):
@@ -74,8 +88,7 @@ def main():
           "# one, of which the reads, or the calls of the output, which takes three octets at a time, fail from the call with that number on,\n"
           "# counted from 0; how it ended and what the client was told, of gone what stands after the greeting. send: what the next session is\n"
           "# told of the scripts, which it takes away again.\n")
-    row("run", "init --db F", "-", "0|ready\n|")
-    row("run", f"adduser --db F --salt {SALT.hex()} alice alice@example.org", "secret", "0|added alice\n|")
+    print("\t".join(["new", account(), "done"]))
     print()
     reads(session)
     print()

@@ -9,11 +9,12 @@ that are lost, all of them, or all but one; a write that is torn at a sector; on
 The program opens each. It has to show the accounts as before or as after, and once the word has answered as after. The same
 state of two moments is opened once. Nothing is thought durable that wasn't synced: a name needs a sync of its folder.
 
-The trials: init, adduser, deliver, done, drain, session; `again`, where the power goes once more as what it left is opened; and
-`planted`, in which a sync is left out of the log, or an answer moved before one, and a state has to be found that isn't as it
-should be. Without a word, all. Prints a line for each, a last one
+The trials: init, adduser, deliver, done, drain, session; `again`, where the power goes once more as what it left is opened;
+`unsynced`, a disk that loses a commit between its write and its sync, over which the next word reads the disk; and `planted`, in
+which a sync is left out of the log, or an answer moved before one, and a state has to be found that isn't as it should be.
+Without a word, all. Prints a line for each, a last one
 that counts them, and ends with 1 where one failed. `tests/run` runs it, with --quick: at most one call is lost, and no length
-stands. It needs python3 and strace.
+stands. It needs python3 and strace; `unsynced` is run as root, and needs losetup, debugfs and mkfs.ext2.
 """
 import base64, hashlib, itertools, os, re, signal, sqlite3, subprocess, tempfile, time
 import managesieve, trials
