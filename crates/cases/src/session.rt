@@ -1,5 +1,5 @@
 //! Conversations: lists of events and what is answered, over a store in memory.
-use crate::answer::add_shown;
+use crate::answer::{add_line, add_shown};
 use crate::cut::{add_answers, add_counts};
 use crate::event::{Post, event, login, number, octets_in, times_in};
 use crate::question::ask;
@@ -96,22 +96,23 @@ impl<'a> Talk<'a> {
         Ok(())
     }
 
-    /// Lets the events happen, and appends what is answered to those that are shown.
+    /// Lets the events happen, and appends what is answered to those that are shown; then `not whole`, where no place was found for an
+    /// answer.
     fn apply(&mut self, alloc: Global) -> Result<(), AllocError> {
         let ran = run(&mut self.world, &self.events);
         self.add_ran(alloc, &ran)
     }
 
     fn add_ran(&mut self, alloc: Global, ran: &Ran) -> Result<(), AllocError> {
-        if !ran.whole {
-            return Err(AllocError);
-        }
         add_shown(
             alloc,
             &mut self.told,
             ran.answers.as_slice(),
             self.shown.as_slice(),
         )?;
+        if !ran.whole {
+            add_line(&mut self.told, b"", b"not whole")?;
+        }
         self.events.clear();
         self.shown.clear();
         Ok(())

@@ -19,11 +19,12 @@ pub enum Table {
     Asked,
     Streams,
     Runs,
+    Devices,
     Files,
 }
 
 /// All of them, in the order in which they are tried.
-pub const TABLES: [Table; 25] = [
+pub const TABLES: [Table; 26] = [
     Table::Text(TextTable::Ascii),
     Table::Text(TextTable::Addresses),
     Table::Text(TextTable::Targets),
@@ -47,6 +48,7 @@ pub const TABLES: [Table; 25] = [
     Table::Asked,
     Table::Streams,
     Table::Runs,
+    Table::Devices,
     Table::Files,
     Table::Text(TextTable::Vacations),
 ];
@@ -63,6 +65,7 @@ impl Table {
             Table::Asked => "asked.cases",
             Table::Streams => "streams.cases",
             Table::Runs => "runs.cases",
+            Table::Devices => "devices.cases",
             Table::Files => "files.cases",
         }
     }
@@ -80,7 +83,9 @@ impl Table {
             Table::Text(table) => table.try_all(alloc, tally, file),
             Table::Scripts | Table::Tests => script::try_all(alloc, tally, file),
             Table::Sessions | Table::Events => session::try_all(alloc, tally, file),
-            Table::Runs => try_rows(alloc, tally, &mut MemoryRuns::new(alloc)?, file),
+            Table::Runs | Table::Devices => {
+                try_rows(alloc, tally, &mut MemoryRuns::new(alloc)?, file)
+            }
             Table::Asked | Table::Streams | Table::Files => {
                 try_rows(alloc, tally, &mut Rows, file)
             }

@@ -63,6 +63,7 @@ pub fn answer<K: Keeper>(
         "talk" => (at_most(most, input), NEVER, false),
         "gone" => (broken(number, input), NEVER, false),
         "deaf" => (at_most(usize::MAX, input), number, true),
+        "mute" => (at_most(1, input), number, true),
         _ => return out.extend_from_slice(b"no such call"),
     };
     let (mut input, mut output) = (input, Takes::new(alloc, writes));

@@ -4,6 +4,7 @@
 
 mod listener;
 
+use clap::error::ErrorKind;
 use keepers::{FileKeeper, Keeper};
 use listener::{Service, serve};
 use mailsinks::{MailSink, Maildir};
@@ -11,7 +12,7 @@ use octets::Octets;
 use sievedrun::drive::drive;
 use sievedrun::fault::{Fault, refuse};
 use sievedrun::session::run_session;
-use sievedwords::{Asked, CommandLine, read};
+use sievedwords::{Asked, CommandLine, ReadError, read};
 use std::alloc::{AllocError, Global};
 use std::env::{Env, FillError};
 use std::io::{Read, Write};
@@ -58,12 +59,15 @@ where
     N: Net<Listener = TcpListener, Stream = TcpStream>,
 {
     match asked_of_server(alloc, words) {
-        Some(
-            Asked::Serve {
-                place,
-                port,
-                sessions,
-            },
+        Err(refused) => refuse(faults, Fault::from(refused)),
+        Ok(
+            Some(
+                Asked::Serve {
+                    place,
+                    port,
+                    sessions,
+                },
+            ),
         ) => {
             let service = Service {
                 place,
@@ -72,16 +76,23 @@ where
             };
             serve(net, alloc, service, output, faults, keeper)
         }
-        Some(Asked::Session(place)) => run_session(alloc, place, input, output, faults, keeper),
+        Ok(Some(Asked::Session(place))) => run_session(alloc, place, input, output, faults, keeper),
         _ => drive(alloc, words, input, output, faults, keeper, clock, sink),
     }
 }
 
 /// What the words ask for, where the first is `serve` or `session` and the others are right.
-fn asked_of_server<'a>(alloc: Global, words: &'a CommandLine) -> Option<Asked<'a>> {
-    match words.first()? {
-        "serve" | "session" => read(alloc, words).ok(),
-        _ => None,
+fn asked_of_server<'a>(
+    alloc: Global,
+    words: &'a CommandLine,
+) -> Result<Option<Asked<'a>>, AllocError> {
+    if !matches!(words.first(), Some("serve" | "session")) {
+        return Ok(None);
+    }
+    match read(alloc, words) {
+        Ok(asked) => Ok(Some(asked)),
+        Err(ReadError::Said(error)) if error.kind() == ErrorKind::OutOfMemory => Err(AllocError),
+        Err(_) => Ok(None),
     }
 }
 

@@ -1,0 +1,159 @@
+//! What changes the accounts, as events.
+use mailengine::{Envelope, Event};
+use octets::Octets;
+use std::alloc::{AllocError, Global};
+
+/// The account that is there.
+pub const USER: &[u8] = b"alice";
+
+pub const ADDRESS: &[u8] = b"alice@example.org";
+
+/// Its password.
+pub const PASSWORD: &[u8] = b"secret";
+
+/// The sender of its mail.
+pub const SENDER: &[u8] = b"bob@example.net";
+
+/// RFC 5804, 2.1; RFC 4616, 2.
+const LOGIN: &[u8] = b"AUTHENTICATE \"PLAIN\" \"AGFsaWNlAHNlY3JldA==\"\r\n";
+
+const SCRIPT: &[u8] =
+    b"PUTSCRIPT \"main\" {112+}\r\nrequire [\"fileinto\", \"vacation\"]; fileinto \"a\"; fileinto \"b\"; redirect \"carol@example.com\"; vacation \"Away.\";  \r\nSETACTIVE \"main\"\r\n";
+
+const OTHER: &[u8] = b"PUTSCRIPT \"other\" {5+}\r\nkeep;\r\n";
+
+const AGAIN: &[u8] = b"PUTSCRIPT \"main\" {8+}\r\ndiscard;\r\n";
+
+const DELETION: &[u8] = b"DELETESCRIPT \"other\"\r\n";
+
+const MAIL: &[u8] = b"From: bob@example.net\r\nTo: alice@example.org\r\nSubject: hi\r\n\r\nx\r\n";
+
+/// Mail to nobody, which is not answered.
+const EARLIER: &[u8] = b"From: bob@example.net\r\nSubject: earlier\r\n\r\ny\r\n";
+
+const MOMENT: u64 = 1_700_000_000;
+
+/// A session's number.
+const SESSION: u32 = 1;
+
+/// One change of the accounts.
+#[derive(Clone, Copy)]
+pub enum Act {
+    /// PUTSCRIPT in place of the active script.
+    PutScript,
+    /// DELETESCRIPT.
+    DeleteScript,
+    AddUser,
+    TakeOut,
+    TakeMail,
+    /// A delivery into two folders, with a redirect and a vacation reply.
+    Deliver,
+}
+
+pub const ACTS: [Act; 6] = [
+    Act::PutScript,
+    Act::DeleteScript,
+    Act::AddUser,
+    Act::TakeOut,
+    Act::TakeMail,
+    Act::Deliver,
+];
+
+impl Act {
+    pub fn name(self) -> &'static str {
+        match self {
+            Act::PutScript => "PUTSCRIPT",
+            Act::DeleteScript => "DELETESCRIPT",
+            Act::AddUser => "add_user",
+            Act::TakeOut => "take_out",
+            Act::TakeMail => "take_mail",
+            Act::Deliver => "deliver",
+        }
+    }
+
+    /// The events of the act; the last one is the change.
+    pub fn events(self, alloc: Global) -> Result<Vec<Event>, AllocError> {
+        let mut events = Vec::new(alloc);
+        match self {
+            Act::PutScript => add_commands(alloc, &mut events, AGAIN, 1)?,
+            Act::DeleteScript => add_commands(alloc, &mut events, DELETION, 1)?,
+            Act::AddUser => events.push(addition(alloc)?)?,
+            Act::TakeOut => events.push(row_taken(alloc)?)?,
+            Act::TakeMail => events.push(mail_taken(alloc)?)?,
+            Act::Deliver => events.push(delivery(alloc, MAIL)?)?,
+        }
+        Ok(events)
+    }
+}
+
+/// What happens before: two scripts, one of them active, and mail.
+pub fn earlier(alloc: Global) -> Result<Vec<Event>, AllocError> {
+    let mut events = Vec::new(alloc);
+    add_commands(alloc, &mut events, SCRIPT, 2)?;
+    add_commands(alloc, &mut events, OTHER, 1)?;
+    events.push(delivery(alloc, EARLIER)?)?;
+    Ok(events)
+}
+
+/// Commands of a client that logs in first, over a session of its own.
+fn add_commands(
+    alloc: Global,
+    events: &mut Vec<Event>,
+    commands: &[u8],
+    count: usize,
+) -> Result<(), AllocError> {
+    events.push(Event::Close(SESSION))?;
+    events.push(Event::Open(SESSION))?;
+    events.push(Event::Give(SESSION, copy(alloc, LOGIN)?))?;
+    events.push(Event::Step(SESSION))?;
+    events.push(Event::Give(SESSION, copy(alloc, commands)?))?;
+    for _ in 0..count {
+        events.push(Event::Step(SESSION))?;
+    }
+    Ok(())
+}
+
+fn addition(alloc: Global) -> Result<Event, AllocError> {
+    let name = copy(alloc, b"bob")?;
+    let address = copy(alloc, b"bob@example.org")?;
+    let password = copy(alloc, PASSWORD)?;
+    Ok(Event::AddUser {
+        name,
+        address,
+        salt: *b"0123456789abcdef",
+        password,
+    })
+}
+
+fn row_taken(alloc: Global) -> Result<Event, AllocError> {
+    let user = copy(alloc, USER)?;
+    Ok(Event::TakeOut { user, id: 1 })
+}
+
+fn mail_taken(alloc: Global) -> Result<Event, AllocError> {
+    let user = copy(alloc, USER)?;
+    let folder = copy(alloc, b"a")?;
+    Ok(Event::TakeMail { user, folder })
+}
+
+fn delivery(alloc: Global, message: &[u8]) -> Result<Event, AllocError> {
+    let user = copy(alloc, USER)?;
+    let envelope = envelope(alloc)?;
+    let message = copy(alloc, message)?;
+    Ok(Event::Deliver {
+        user,
+        envelope,
+        message,
+        moment: MOMENT,
+    })
+}
+
+fn envelope(alloc: Global) -> Result<Envelope, AllocError> {
+    let from = copy(alloc, SENDER)?;
+    let to = copy(alloc, ADDRESS)?;
+    Ok(Envelope { from, to })
+}
+
+fn copy(alloc: Global, text: &[u8]) -> Result<Octets, AllocError> {
+    Octets::from_slice(alloc, text)
+}

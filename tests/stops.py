@@ -1,0 +1,695 @@
+#!/usr/bin/env python3
+"""Lets the power go at each moment of a word, and sees whether the accounts are then as before it or as after it.
+
+  tests/stops.py [--quick] [--sieved SIEVED] [TRIAL ..]     SIEVED: the program, crates/sieved/out/sieved where none is named
+
+One run of each word that changes something is recorded by strace: its writes, truncations, new names and syncs. From that log
+come the states that a power cut may leave: after each call, what was synced, and of the rest each choice of at most three calls
+that are lost, all of them, or all but one; a write that is torn at a sector; one whose length stands and whose octets don't.
+The program opens each. It has to show the accounts as before or as after, and once the word has answered as after. The same
+state of two moments is opened once. Nothing is thought durable that wasn't synced: a name needs a sync of its folder.
+
+The trials: init, adduser, deliver, done, drain, session; `again`, where the power goes once more as what it left is opened;
+`unsynced`, a disk that loses a commit between its write and its sync, over which the next word reads the disk; and `planted`, in
+which a sync is left out of the log, or an answer moved before one, and a state has to be found that isn't as it should be.
+Without a word, all. Prints a line for each, a last one
+that counts them, and ends with 1 where one failed. `tests/run` runs it, with --quick: at most one call is lost, and no length
+stands. It needs python3 and strace; `unsynced` is run as root, and needs losetup, debugfs and mkfs.ext2.
+"""
+import base64, hashlib, itertools, os, re, signal, sqlite3, subprocess, tempfile, time
+import managesieve, trials
+from collections import Counter, namedtuple
+from concurrent.futures import ThreadPoolExecutor
+from contextlib import contextmanager
+
+PROGRAM = [managesieve.SIEVED]
+SECTOR = 512
+SALT = "000102030405060708090a0b0c0d0e0f"
+LOG_HEAD = 41
+TABLES = "meta", "account", "script", "outgoing", "reply", "notice", "copy", "message"
+SCRIPT = b"""require ["fileinto", "vacation"];\r
+fileinto "a";\r
+fileinto "b";\r
+redirect "carol@example.com";\r
+vacation "Away.";\r
+"""
+MAIL = b"From: bob@example.net\r\nTo: alice@example.org\r\nSubject: %d\r\n\r\n" + b"A line of a message.\r\n" * 400
+LONG = b"# a script that takes some pages\r\n" * 300
+
+
+# The log of a run.
+
+
+# One call. `write`: octets of a file from a place on. `cut`: its length. `name`: a name that comes or goes, (path, file or None); a
+# rename is two of them. `sync`: of a file, or of a folder by its path. `said`: octets for whoever called.
+Call = namedtuple("Call", "kind target at octets", defaults=(0, b""))
+
+
+class Log:
+    """What a run of the program did to the files of a folder, and what was there before."""
+
+    def __init__(self, folder, trace, before):
+        self.folder = os.path.realpath(folder)
+        self.names, self.base = dict(before[0]), dict(before[1])
+        self.calls, self.files, self.fresh = [], {}, itertools.count(len(before[1]))
+        self.dropped = set()
+        self.now = dict(before[0])
+        for line in trace.splitlines():
+            self.take(line)
+
+    def take(self, line):
+        assert "unfinished" not in line and "resumed" not in line, f"two calls at once: {line[:200]}"
+        found = re.match(r"\d+ +(\w+)\((.*)\) += (-?\w+|\?)", line)
+        if not found:
+            assert re.match(r"\d+ +(\+\+\+|---)", line), f"what is that? {line[:200]}"
+            return
+        name, words, result = found[1], found[2].split(", "), found[3]
+        if result.startswith("-") or result == "?":
+            return
+        assert name in KNOWN, f"a call that isn't known: {line[:200]}"
+        if KNOWN[name]:
+            KNOWN[name](self, words, int(result, 0))
+
+    def path(self, word):
+        path = os.path.normpath(os.path.join(self.folder, os.fsdecode(octets_of(word))))
+        return os.path.relpath(path, self.folder) if path == self.folder or path.startswith(self.folder + "/") else None
+
+    def open(self, words, number):
+        path = self.path(words[1])
+        self.files[number] = None
+        self.dropped.discard(number)
+        if path is None:
+            return
+        if os.path.isdir(f"{self.folder}/{path}"):
+            self.files[number] = [path, 0]
+            return
+        if "O_CREAT" in words[2] and self.now.get(path) is None:
+            self.name(path, next(self.fresh))
+        assert "O_TRUNC" not in words[2] and "O_APPEND" not in words[2], words
+        self.files[number] = [self.now[path], 0]
+
+    def close(self, words, _):
+        self.files.pop(int(words[0]), None)
+
+    def moved(self, words, count):
+        if self.files.get(int(words[0])):
+            self.files[int(words[0])][1] += count
+
+    def write(self, words, count):
+        number, octets = int(words[0]), octets_of(words[1])[:count]
+        if number == 1:
+            self.calls.append(Call("said", None, 0, octets))
+        elif self.files.get(number):
+            self.calls.append(Call("write", self.files[number][0], self.files[number][1], octets))
+            self.files[number][1] += count
+
+    def write_at(self, words, count):
+        if self.files.get(int(words[0])):
+            self.calls.append(Call("write", self.files[int(words[0])][0], int(words[3]), octets_of(words[1])[:count]))
+
+    def drop(self, words, _):
+        assert words[3] == "POSIX_FADV_DONTNEED" and self.calls[-1] == Call("sync", self.files[int(words[0])][0]), words
+        self.dropped.add(int(words[0]))
+
+    def read_at(self, words, _):
+        """What an earlier process failed to sync may stand in the kernel's copy alone: it is dropped before a store's file is read."""
+        assert not self.files.get(int(words[0])) or int(words[0]) in self.dropped, f"read before the kernel's copy was dropped: {words[0]}"
+
+    def cut(self, words, _):
+        self.calls.append(Call("cut", self.files[int(words[0])][0], int(words[1])))
+
+    def sync(self, words, _):
+        self.calls.append(Call("sync", self.files[int(words[0])][0]))
+
+    def name(self, path, file):
+        self.calls.append(Call("name", (path, file)))
+        self.now[path] = file
+
+    def rename(self, words, _):
+        old, new = (self.path(word) for word in words if word.startswith('"'))
+        self.name(new, self.now[old])
+        self.name(old, None)
+
+    def link(self, words, _):
+        old, new = (self.path(word) for word in words if word.startswith('"'))
+        self.name(new, self.now[old])
+
+    def unlink(self, words, _):
+        (path,) = (self.path(word) for word in words if word.startswith('"'))
+        self.name(path, None)
+
+
+def octets_of(word):
+    assert word.startswith('"') and word.endswith('"'), f"a text that is cut: {word[:80]}"
+    return bytes.fromhex(word[1:-1].replace("\\x", ""))
+
+
+# Each call that may come: what it does to the log. None: nothing that a power cut could show.
+KNOWN = dict.fromkeys("""execve access faccessat2 newfstatat fstat stat lstat statx getcwd readlink readlinkat getdents64 flock fcntl
+    mmap fchmod chmod fchown poll ioctl""".split())
+KNOWN |= {"open": lambda log, words, result: log.open([None, *words], result), "openat": Log.open, "close": Log.close,
+          "fadvise64": Log.drop, "pread64": Log.read_at, "read": Log.moved, "write": Log.write, "pwrite64": Log.write_at, "ftruncate": Log.cut, "fsync": Log.sync, "fdatasync": Log.sync,
+          "rename": Log.rename, "renameat": Log.rename, "renameat2": Log.rename, "link": Log.link, "linkat": Log.link,
+          "unlink": Log.unlink, "unlinkat": Log.unlink}
+
+
+def files_of(folder):
+    """The names below a folder, each with its file's number, and the octets of each file."""
+    names, octets = {}, {}
+    for place, _, files in os.walk(folder):
+        for name in sorted(files):
+            path = os.path.relpath(f"{place}/{name}", folder)
+            with open(f"{folder}/{path}", "rb") as file:
+                names[path], octets[len(octets)] = len(octets), file.read()
+    return names, octets
+
+
+# The states that a power cut may leave.
+
+
+# Of a moment, which is how many calls were made: which of them are lost, and what of one is torn or grown (the call, how).
+State = namedtuple("State", "moment lost torn how", defaults=(frozenset(), None, None))
+
+
+def pending(calls, moment):
+    """Which of the calls up to a moment no sync covers."""
+    left = []
+    for at, call in enumerate(calls[:moment]):
+        if call.kind == "sync":
+            left = [other for other in left if not covers(call.target, calls[other])]
+        elif call.kind != "said":
+            left.append(at)
+    return left
+
+
+def covers(target, call):
+    if call.kind == "name":
+        return (os.path.dirname(call.target[0]) or ".") == target
+    return call.target == target
+
+
+def states(log, most):
+    """Each state, with how many answers were given before it."""
+    answers = 0
+    for moment in range(len(log.calls) + 1):
+        if moment and log.calls[moment - 1].kind == "said":
+            answers += 1
+        open_calls = pending(log.calls, moment)
+        lost = {frozenset(some) for count in range(most + 1) for some in itertools.combinations(open_calls, count)}
+        lost |= {frozenset(open_calls)} | {frozenset(open_calls) - {one} for one in open_calls}
+        for some in lost:
+            yield State(moment, some), answers
+        for at in open_calls if most > 1 else open_calls[-1:]:
+            for how in shapes(log.calls[at], most):
+                yield State(moment, frozenset(), at, how), answers
+                yield State(moment, frozenset(open_calls) - {at}, at, how), answers
+
+
+def shapes(call, most):
+    """How a call can be done in part: the first sectors of a write, the last ones, every other one; its length alone."""
+    if call.kind != "write":
+        return []
+    torn = ["first", "last", "other"] if call.at // SECTOR != (call.at + len(call.octets) - 1) // SECTOR else []
+    return torn + (["zeros", "ones"] if most > 1 else [])
+
+
+def left_by(log, state):
+    """What a state has: the octets of each path."""
+    names, files = dict(log.names), {number: bytearray(octets) for number, octets in log.base.items()}
+    for at, call in enumerate(log.calls[:state.moment]):
+        if at in state.lost:
+            continue
+        how = state.how if at == state.torn else None
+        if call.kind == "write":
+            put(files.setdefault(call.target, bytearray()), call, how)
+        elif call.kind == "cut":
+            file = files.setdefault(call.target, bytearray())
+            del file[call.at:]
+            file.extend(bytes(call.at - len(file)))
+        elif call.kind == "name":
+            names[call.target[0]] = call.target[1]
+    return {path: bytes(files.get(number, b"")) for path, number in names.items() if number is not None}
+
+
+def put(file, call, how):
+    if how in ("zeros", "ones"):
+        more = call.at + len(call.octets) - len(file)
+        file.extend((b"\0" if how == "zeros" else b"\xff") * max(more, 0))
+        return
+    end = call.at + len(call.octets)
+    file.extend(bytes(max(end - len(file), 0)) if how is None else bytes(max(call.at - len(file), 0)))
+    sectors = list(range(call.at // SECTOR, (end - 1) // SECTOR + 1))
+    middle = len(sectors) // 2
+    kept = {None: sectors, "first": sectors[:max(middle, 1)], "last": sectors[max(middle, 1):], "other": sectors[::2]}[how]
+    if how is None:
+        file[call.at:end] = call.octets
+        return
+    for sector in kept:
+        first, last = max(sector * SECTOR, call.at), min((sector + 1) * SECTOR, end)
+        file.extend(bytes(max(last - len(file), 0)))
+        file[first:last] = call.octets[first - call.at:last - call.at]
+
+
+# What a state shows.
+
+
+class Look:
+    """Opens a state with the program, and says what it shows: the same file is asked by all words once."""
+
+    def __init__(self, scripts):
+        self.scripts, self.known = scripts, {}
+        self.top = tempfile.TemporaryDirectory(prefix="sieved-stops-", dir="/dev/shm" if os.path.isdir("/dev/shm") else None)
+
+    def at(self, files):
+        """What the files show: of a Maildir the messages, and of the store each word's answer and the rows of all tables."""
+        with tempfile.TemporaryDirectory(dir=self.top.name) as folder:
+            lay(folder, files)
+            moved = tuple(sorted(octets for path, octets in files.items() if "/new/" in path))
+            return self.store(folder), moved
+
+    def store(self, folder):
+        first = ask(folder, "folders", "alice")
+        if first[0] not in (0, 67):
+            return ("no store",)
+        found = files_of(folder)
+        octets = {path: found[1][number] for path, number in found[0].items()}
+        key = hashlib.sha256(octets["mail.db"]).digest()
+        assert len(octets.get("mail.db-wal", b"")) <= LOG_HEAD, "a log that wasn't taken in"
+        if key not in self.known:
+            self.known[key] = (*first, *self.more(folder, first[1]), rows(folder))
+        assert self.known[key][:2] == first, (self.known[key][:2], first)
+        return self.known[key]
+
+    def more(self, folder, folders):
+        """What the other words say: each message, the queue and its messages, the notices, the scripts."""
+        said = [ask(folder, "queue", "alice"), ask(folder, "notices", "alice"), ask(folder, "session", data=asking(self.scripts))]
+        for line in folders.splitlines():
+            name, count = line.rsplit(b" ", 1)
+            said += [ask(folder, "show", "alice", name, str(number + 1)) for number in range(int(count))]
+        said += [ask(folder, "queue", "alice", line.split(b" ")[0]) for line in said[0][1].splitlines()]
+        return tuple(said)
+
+
+def lay(folder, files):
+    """Writes files into a folder."""
+    for path, octets in files.items():
+        os.makedirs(os.path.dirname(f"{folder}/{path}"), exist_ok=True)
+        with open(f"{folder}/{path}", "wb") as file:
+            file.write(octets)
+
+
+def ask(folder, word, *words, data=b""):
+    done = subprocess.run([PROGRAM[0], word, "--db", f"{folder}/mail.db", *words], input=data, capture_output=True, timeout=300)
+    return done.returncode, done.stdout
+
+
+def asking(scripts):
+    return login() + b"LISTSCRIPTS\r\n" + b"".join(b'GETSCRIPT "%s"\r\n' % name for name in scripts) + b"LOGOUT\r\n"
+
+
+def login():
+    return b'AUTHENTICATE "PLAIN" "%s"\r\n' % base64.b64encode(b"\0alice\0" + managesieve.PASSWORD)
+
+
+def rows(folder):
+    """The rows of all tables, as another program reads them."""
+    base = sqlite3.connect(f"file:{folder}/mail.db?mode=ro&immutable=1", uri=True)
+    try:
+        return tuple((table, tuple(sorted(base.execute(f"SELECT * FROM {table}").fetchall(), key=repr))) for table in TABLES)
+    finally:
+        base.close()
+
+
+# The words.
+
+
+class Room:
+    """A folder with a store, and the program in it."""
+
+    def __init__(self, users=True):
+        self.place = tempfile.TemporaryDirectory(prefix="sieved-stops-")
+        self.folder = self.place.name
+        if users:
+            self.run("init")
+            self.run("adduser", "--salt", SALT, "alice", "alice@example.org", data=managesieve.PASSWORD + b"\n")
+
+    def run(self, word, *words, data=b""):
+        status, said = ask(self.folder, word, *words, data=data)
+        assert status == 0, (word, status, said)
+        return said
+
+    def talk(self, *lines):
+        said = self.run("session", data=login() + b"".join(lines) + b"LOGOUT\r\n")
+        assert b"\r\nNO" not in said and said.endswith(b'OK "Bye."\r\n'), said
+        return self
+
+    def recorded(self, word, *words, data=b"", talk=None):
+        """The log of one run."""
+        trials.need("strace")
+        before = files_of(self.folder)
+        with tempfile.NamedTemporaryFile(prefix="sieved-trace-") as trace:
+            command = ["strace", "-f", "-e", "trace=%file,%desc", "-xx", "-s", "100000000", "-o", trace.name, PROGRAM[0], word, "--db", f"{self.folder}/mail.db", *words]
+            with subprocess.Popen(command, stdin=subprocess.PIPE, stdout=subprocess.PIPE, stderr=subprocess.PIPE) as process:
+                said = talk(process) if talk else process.communicate(data)[0]
+                assert process.wait() == 0, (word, process.returncode, said)
+            log = Log(self.folder, trace.read().decode("ascii"), before)
+        assert sum(call.kind == "said" for call in log.calls) and sum(call.kind == "sync" for call in log.calls), "nothing was recorded"
+        assert left_by(log, State(len(log.calls))) == by_path(files_of(self.folder)), "the log doesn't give what the run left"
+        return log, said
+
+
+def by_path(found):
+    names, octets = found
+    return {path: octets[number] for path, number in names.items()}
+
+
+def put_script(name, text):
+    return b'PUTSCRIPT "%s" {%d+}\r\n%s\r\n' % (name, len(text), text)
+
+
+def sweep(log, look, judge, most=None):
+    """Opens each state, and has it judged by how many answers were given before it. Says how many there are."""
+    found, count = {}, 0
+    for state, answers in states(log, most or (1 if trials.QUICK else 3)):
+        count += 1
+        found.setdefault(digest(left_by(log, state)), (state, set()))[1].add(answers)
+
+    def try_state(row):
+        state, answers = row
+        shown = look.at(left_by(log, state))
+        told = judge(shown, answers)
+        assert told is not None, f"{state}: neither as before nor as after, {answers} answers given: {shown!r:.600}"
+        return told
+
+    with ThreadPoolExecutor(os.cpu_count()) as pool:
+        try:
+            tally = Counter(pool.map(try_state, found.values()))
+        except AssertionError:
+            pool.shutdown(cancel_futures=True)
+            raise
+    return f"{count} states, {len(found)} opened: " + ", ".join(f"{number} {told}" for told, number in sorted(tally.items()))
+
+
+def digest(files):
+    parts = sorted((path, hashlib.sha256(octets).hexdigest()) for path, octets in files.items())
+    return hashlib.sha256(repr(parts).encode()).digest()
+
+
+def between(look, log):
+    """Judges by the accounts after so many answers: those of a state are those after the answers given, or after one more."""
+    ends = [at + 1 for at, call in enumerate(log.calls) if call.kind == "said"]
+    shown = [look.at(left_by(log, State(moment)))[0] for moment in [0, *ends]]
+
+    def judge(state, answers):
+        return f"as after {shown.index(state[0])}" if all(state[0] in shown[given:given + 2] for given in answers) else None
+
+    return judge, shown
+
+
+def one_change(log, look):
+    """Judges a word that makes one change: as before or as after it, and as after it once it has said something."""
+    before, after = (look.at(left_by(log, State(moment)))[0] for moment in (0, len(log.calls)))
+    assert before != after, "the word changed nothing"
+
+    def judge(state, answers):
+        if state[0] == after:
+            return "as after"
+        return "as before" if state[0] == before and answers == {0} else None
+
+    return judge, before, after
+
+
+def init():
+    log, said = Room(users=False).recorded("init")
+    look = Look([])
+    judge, before, after = one_change(log, look)
+    assert said == b"ready\n" and before == ("no store",) and after[:2] == (67, b""), (said, before, after)
+    return sweep(log, look, judge)
+
+
+def adduser():
+    room = Room()
+    log, said = room.recorded("adduser", "--salt", SALT[::-1], "bob", "bob@example.org", data=b"another\n")
+    look = Look([])
+    judge, before, after = one_change(log, look)
+    names = [[row[0] for row in dict(shown[-1])["account"]] for shown in (before, after)]
+    assert said == b"added bob\n" and names == [[b"alice"], [b"alice", b"bob"]], (said, names)
+    return sweep(log, look, judge)
+
+
+def delivery():
+    """The log of a delivery with two folders, a redirect and a vacation reply."""
+    room = Room()
+    room.run("deliver", "--from", "bob@example.net", "--to", "alice@example.org", "alice", data=MAIL % 0)
+    room.talk(put_script(b"main", SCRIPT), b'SETACTIVE "main"\r\n')
+    words = "--from", "bob@example.net", "--to", "alice@example.org", "--at", "1700000000", "alice"
+    log, said = room.recorded("deliver", *words, data=MAIL % 1)
+    assert said == b"file a\nfile b\nsend carol@example.com\nvacation sent\n", said
+    return log
+
+
+def deliver():
+    log, look = delivery(), Look([b"main"])
+    judge, before, after = one_change(log, look)
+    assert before[:2] == (0, b"INBOX 1\n") and after[:2] == (0, b"INBOX 1\na 1\nb 1\n"), (before[:2], after[:2])
+    assert [shown[2] for shown in (before, after)][0] == (0, b"") and after[2][1].count(b"\n") == 2, (before[2], after[2])
+    assert after[5:9] == ((0, MAIL % 0), (0, MAIL % 1), (0, MAIL % 1), (0, MAIL % 1)), after[5:9]
+    moments = [[row[3] for row in dict(shown[-1])["reply"]] for shown in (before, after)]
+    assert moments == [[], [1700000000]], moments
+    return sweep(log, look, judge)
+
+
+def done():
+    room = Room()
+    room.talk(put_script(b"main", b'redirect "carol@example.com";\r\n'), b'SETACTIVE "main"\r\n')
+    for number in range(2):
+        room.run("deliver", "--from", "bob@example.net", "--to", "alice@example.org", "alice", data=MAIL % number)
+    log, said = room.recorded("done", "alice", "1")
+    look = Look([b"main"])
+    judge, before, after = one_change(log, look)
+    ids = [[line.split(b" ")[0] for line in shown[2][1].splitlines()] for shown in (before, after)]
+    assert said == b"taken 1\n" and ids == [[b"1", b"2"], [b"2"]], (said, ids)
+    return sweep(log, look, judge)
+
+
+def moving():
+    """The log of a drain of three messages, what its states are judged by, and what opens them."""
+    room = Room()
+    for part in "tmp", "new", "cur":
+        os.makedirs(f"{room.folder}/Maildir/{part}")
+    mails = [MAIL % number for number in range(3)]
+    for mail in mails:
+        room.run("deliver", "--from", "bob@example.net", "--to", "alice@example.org", "alice", data=mail)
+    log, said = room.recorded("drain", "alice", "INBOX", f"{room.folder}/Maildir")
+    look = Look([])
+    before = look.at(left_by(log, State(0)))
+    assert said == b"drained 3\n" and before[0][:2] == (0, b"INBOX 3\n"), (said, before)
+
+    def judge(state, answers):
+        if not is_drained(before, state) or answers != {0} and state[0][1]:
+            return None
+        return f"{len(state[1])} in the Maildir and {len(messages_of(state))} in the store"
+
+    return log, look, judge
+
+
+def drain():
+    """Each message is in the store, in the Maildir or in both, whole; the first ones leave first."""
+    return sweep(*moving())
+
+
+def messages_of(state):
+    """The messages of the store, the first one first."""
+    return [row[-1] for row in sorted(dict(state[0][-1])["message"], key=lambda row: row[1])]
+
+
+def is_drained(before, state):
+    """Whether messages have moved from the store into the Maildir, the first ones first, and at most one of them is in both."""
+    mails, left, moved = messages_of(before), messages_of(state), sorted(state[1])
+    gone = len(mails) - len(left)
+    rows_left = tuple((table, found[gone:] if table in ("copy", "message") else found) for table, found in before[0][-1])
+    is_whole = left == mails[gone:] and state[0][-1] == rows_left
+    return is_whole and moved in (sorted(mails[:gone]), sorted(mails[:gone + 1]))
+
+
+def session():
+    """Three commands, each sent after the answer to the one before."""
+    room = Room()
+    room.talk(put_script(b"main", LONG + b"keep;\r\n"), b'SETACTIVE "main"\r\n', put_script(b"other", b"discard;\r\n"))
+    commands = [put_script(b"main", LONG[:5_000] + b"\r\ndiscard;\r\n"), b'SETACTIVE "other"\r\n', b'DELETESCRIPT "main"\r\n', b"LOGOUT\r\n"]
+
+    def talk(process):
+        client = managesieve.Client(process.stdout, process.stdin)
+        said = [client.reply()[-1]]
+        for command in [login(), *commands]:
+            client.send(command)
+            said.append(client.reply()[-1])
+        process.stdin.close()
+        return said
+
+    log, said = room.recorded("session", talk=talk)
+    assert said[1:] == [b'OK "Logged in."\r\n', b'OK "Stored."\r\n', b'OK "Done."\r\n', b'OK "Done."\r\n', b'OK "Bye."\r\n'], said
+    look = Look([b"main", b"other"])
+    judge, shown = between(look, log)
+    listed = [re.findall(rb'"(\w+)"( ACTIVE)?\r\n', show[4][1].split(b"Logged in.")[1]) for show in shown]
+    first, second, third = [(b"main", b" ACTIVE"), (b"other", b"")], [(b"main", b""), (b"other", b" ACTIVE")], [(b"other", b" ACTIVE")]
+    assert listed == [first, first, first, first, second, third, third], listed
+    texts = [len(show[4][1]) for show in shown]
+    assert texts[2] != texts[3], texts
+    return sweep(log, look, judge)
+
+
+def commit(log, look, after):
+    """The call that makes the change stand once it is synced, and that sync: the first moment that shows it, where nothing is lost."""
+    made = next(moment for moment in range(len(log.calls)) if look.at(left_by(log, State(moment)))[0] == after)
+    return made - 1, next(at for at in range(made, len(log.calls)) if log.calls[at].kind == "sync")
+
+
+def again():
+    """The power goes once more, while the program takes in what the first cut has left."""
+    log, look = delivery(), Look([b"main"])
+    _, before, after = one_change(log, look)
+    made, sync = commit(log, look, after)
+    said = []
+    for wanted, state in (before, State(made, frozenset())), (after, State(sync + 1)), (after, State(sync + 1 + len(log.calls) >> 1)):
+        room = Room(users=False)
+        lay(room.folder, left_by(log, state))
+        reading, folders = room.recorded("folders", "alice")
+        assert folders == wanted[1], (folders, wanted[1])
+        said.append(sweep(reading, look, lambda shown, answers: "as it was" if shown[0] == wanted else None))
+    return "; ".join(said)
+
+
+def unsynced():
+    """The commit's sync fails, and the kernel drops what was written: the next word reads the disk, and not the kernel's copy."""
+    trials.need_root()
+    trials.need("strace", "losetup", "mkfs.ext2", "debugfs", "fallocate")
+    log = delivery()
+    _, before, after = one_change(log, Look([b"main"]))
+    made, _ = commit(log, Look([b"main"]), after)
+    written = sum(call.kind == "write" for call in log.calls[:made + 1])
+    said = {}
+    for how in "dropped", "kept":
+        with weak_disk() as (folder, disk):
+            lay(folder, left_by(log, State(0)))
+            status, told = stopped_delivery(folder, disk, written)
+            said[how] = status, told, folders_of(folder, how), folders_of(folder, "dropped")
+    wanted = 75, before[1]
+    assert (said["dropped"][0], said["dropped"][2]) == wanted and said["dropped"][3] == before[1], said
+    assert (said["kept"][0], said["kept"][2]) == (75, after[1]), said
+    return f"{said['dropped'][1][:80]!r}; then as before; where the kernel's copy is kept the next word reads what isn't on the disk"
+
+
+@contextmanager
+def weak_disk():
+    """A file system on a file that loses its room: what is written then is lost, and a sync says so."""
+    with tempfile.TemporaryDirectory(prefix="sieved-weak-") as top:
+        room, place = f"{top}/room", f"{top}/place"
+        os.mkdir(room), os.mkdir(place)
+        subprocess.run(["mount", "-t", "tmpfs", "-o", "size=8m", "tmpfs", room], check=True)
+        try:
+            subprocess.run(["truncate", "-s", "64M", f"{room}/disk"], check=True)
+            subprocess.run(["mkfs.ext2", "-q", "-b", "4096", f"{room}/disk"], check=True)
+            subprocess.run(["mount", "-o", "loop", f"{room}/disk", place], check=True)
+            try:
+                yield place, f"{room}/disk"
+            finally:
+                subprocess.run(["umount", place], check=True)
+        finally:
+            subprocess.run(["umount", room], check=True)
+
+
+def stopped_delivery(folder, disk, written):
+    """A delivery over a disk that loses the log's first block between the write that commits and its sync."""
+    os.sync()
+    block = int(subprocess.run(["debugfs", "-R", "bmap /mail.db-wal 0", disk], capture_output=True, check=True).stdout.split()[0])
+    words = "--from", "bob@example.net", "--to", "alice@example.org", "--at", "1700000000", "alice"
+    inject = f"inject=pwrite64:signal=SIGSTOP:when={written}"
+    command = ["strace", "-f", "-qq", "-o", f"{folder}/trace", "-e", "trace=pwrite64", "-e", inject, PROGRAM[0], "deliver", "--db", f"{folder}/mail.db", *words]
+    with subprocess.Popen(command, stdin=subprocess.PIPE, stdout=subprocess.PIPE, stderr=subprocess.PIPE) as process:
+        process.stdin.write(MAIL % 1)
+        process.stdin.close()
+        child = stopped_child(process.pid)
+        subprocess.run(["fallocate", "-p", "-o", str(block * 4096), "-l", "4096", disk], check=True)
+        fill(f"{os.path.dirname(disk)}/rest")
+        os.kill(child, signal.SIGCONT)
+        status, told = process.wait(), process.stderr.read()
+    os.remove(f"{os.path.dirname(disk)}/rest")
+    return status, told
+
+
+def fill(path):
+    """Takes all the room that is left."""
+    with open(path, "wb", buffering=0) as rest:
+        try:
+            while rest.write(b"\0" * 4096):
+                pass
+        except OSError:
+            pass
+
+
+def stopped_child(parent):
+    """The process that strace has started, once it stays stopped."""
+    times = 0
+    for _ in range(1_000):
+        with open(f"/proc/{parent}/task/{parent}/children") as file:
+            children = file.read().split()
+        for child in children:
+            with open(f"/proc/{child}/stat") as file:
+                times = times + 1 if file.read().rsplit(") ", 1)[1][0] in "tT" else 0
+            if times == 30:
+                return int(child)
+        time.sleep(0.01)
+    raise AssertionError("not stopped")
+
+
+def folders_of(folder, how):
+    """What `folders` says where the kernel's copies of the files are dropped as it opens them, or where they are kept."""
+    keeping = ["strace", "-f", "-qq", "-o", "/dev/null", "-e", "trace=fadvise64", "-e", "inject=fadvise64:retval=0"]
+    command = [*(keeping if how == "kept" else []), PROGRAM[0], "folders", "--db", f"{folder}/mail.db", "alice"]
+    return subprocess.run(command, capture_output=True, timeout=60).stdout
+
+
+def planted():
+    """A log that tells of a faulty program: without a sync, or with the answer before one."""
+    log, look = delivery(), Look([b"main"])
+    judge, before, after = one_change(log, look)
+    answer = next(at for at, call in enumerate(log.calls) if call.kind == "said")
+    syncs = [at for at, call in enumerate(log.calls[:answer]) if call.kind == "sync" and pending(log.calls, at) != pending(log.calls, at + 1)]
+    _, sync = commit(log, look, after)
+    whole, found = log.calls, {"left out": [], "behind the answer": []}
+    for at in [sync] if trials.QUICK else syncs:
+        log.calls = whole[:at] + whole[at + 1:]
+        found["left out"] += [syncs.index(at)] * is_found(log, look, judge)
+        log.calls = whole[:at] + [whole[answer]] + whole[at:answer] + whole[answer + 1:]
+        found["behind the answer"] += [syncs.index(at)] * is_found(log, look, judge)
+    log.calls = whole
+    assert all(syncs.index(sync) in places for places in found.values()), (syncs.index(sync), found)
+    told = ", ".join(f"found where it is {how}" if trials.QUICK else f"found where {len(places)} are {how}, one by one" for how, places in found.items())
+    return f"of {len(syncs)} syncs that have something to do the commit's is the {syncs.index(sync) + 1}th: {told}; {planted_in_drain()}"
+
+
+def planted_in_drain():
+    """A message's file, or the folder that it has come to, isn't synced."""
+    log, look, judge = moving()
+    whole, name = log.calls, next(call for call in log.calls if call.kind == "name" and "/new/" in call.target[0])
+    for target in name.target[1], "Maildir/new":
+        at = next(at for at, call in enumerate(whole) if call.kind == "sync" and call.target == target)
+        log.calls = whole[:at] + whole[at + 1:]
+        assert is_found(log, look, judge), f"a sync of {target} is left out, and not found"
+    return "of drain, found where a message or its folder isn't synced"
+
+
+def is_found(log, look, judge):
+    try:
+        sweep(log, look, judge, most=1)
+    except AssertionError:
+        return True
+    return False
+
+
+TRIALS = {trial.__name__: trial for trial in (init, adduser, deliver, done, drain, session, again, unsynced, planted)}
+
+
+if __name__ == "__main__":
+    trials.main(TRIALS, lambda program: PROGRAM.__setitem__(0, program))
