@@ -5,13 +5,13 @@
 mod listener;
 
 use keepers::{FileKeeper, Keeper};
-use listener::{Service, serve};
+use listener::serve;
 use mailsinks::{MailSink, Maildir};
 use octets::Octets;
 use sievedrun::drive::drive;
 use sievedrun::fault::{Fault, refuse};
 use sievedrun::session::run_session;
-use sievedwords::{Asked, CommandLine, read};
+use sievedwords::{CommandLine, Subcommand, read};
 use std::alloc::{AllocError, Global};
 use std::env::{Env, FillError};
 use std::io::{Read, Write};
@@ -58,27 +58,16 @@ where
     N: Net<Listener = TcpListener, Stream = TcpStream>,
 {
     match asked_of_server(alloc, words) {
-        Some(
-            Asked::Serve {
-                place,
-                port,
-                sessions,
-            },
-        ) => {
-            let service = Service {
-                place,
-                port,
-                sessions,
-            };
-            serve(net, alloc, service, output, faults, keeper)
+        Some(Subcommand::Serve(asked)) => serve(net, alloc, asked, output, faults, keeper),
+        Some(Subcommand::Session(asked)) => {
+            run_session(alloc, asked.location, input, output, faults, keeper)
         }
-        Some(Asked::Session(place)) => run_session(alloc, place, input, output, faults, keeper),
         _ => drive(alloc, words, input, output, faults, keeper, clock, sink),
     }
 }
 
 /// What the words ask for, where the first is `serve` or `session` and the others are right.
-fn asked_of_server<'a>(alloc: Global, words: &'a CommandLine) -> Option<Asked<'a>> {
+fn asked_of_server<'a>(alloc: Global, words: &'a CommandLine) -> Option<Subcommand<'a>> {
     match words.first()? {
         "serve" | "session" => read(alloc, words).ok(),
         _ => None,
