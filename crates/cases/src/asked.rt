@@ -2,7 +2,7 @@
 use casefiles::words_of;
 use clap::Error;
 use octets::Octets;
-use sievedwords::{Asked, CommandLine, Place, ReadError, read};
+use sievedwords::{CommandLine, Drain, Folders, ReadError, StoreLocation, Subcommand, read};
 use std::alloc::{AllocError, Global};
 use std::format;
 
@@ -12,6 +12,7 @@ pub fn told(alloc: Global, out: &mut Octets, words: &[u8]) -> Result<(), AllocEr
     match read(alloc, &words) {
         Ok(asked) => add(out, asked),
         Err(ReadError::Said(error)) => add_error(alloc, out, &error),
+        Err(ReadError::Unknown) => out.extend_from_slice(b"no such word"),
         Err(ReadError::NotText) => out.extend_from_slice(b"a word that is no text"),
     }
 }
@@ -26,105 +27,92 @@ fn add_error(alloc: Global, out: &mut Octets, error: &Error) -> Result<(), Alloc
     })
 }
 
-fn add(out: &mut Octets, asked: Asked<'_>) -> Result<(), AllocError> {
+fn add(out: &mut Octets, asked: Subcommand<'_>) -> Result<(), AllocError> {
     match asked {
-        Asked::Try { from, to } => {
+        Subcommand::Try(asked) => {
             add_text(out, b"try")?;
-            add_envelope(out, from, to)
+            add_envelope(out, asked.from, asked.to)
         }
-        Asked::Init(place) => add_at(out, "init", place, &[]),
-        Asked::AddUser {
-            place,
-            salt,
-            name,
-            address,
-        } => add_at(out, "adduser", place, &[salt, name, address]),
-        Asked::Deliver {
-            place,
-            from,
-            to,
-            at,
-            user,
-        } => {
-            add_place(out, "deliver", place)?;
-            add_envelope(out, from, to)?;
-            add_texts(out, &[at.unwrap_or("no moment"), user])
-        }
-        Asked::Folders {
-            place,
-            user,
-            directories: false,
-            separator: None,
-        } => add_at(out, "folders", place, &[user]),
-        Asked::Folders {
-            place,
-            user,
-            directories,
-            separator,
-        } => add_at(
+        Subcommand::Init(asked) => add_at(out, "init", asked.location, &[]),
+        Subcommand::AddUser(asked) => add_at(
             out,
-            "folders",
-            place,
-            &[
-                user,
-                if directories { "maildir" } else { "" },
-                separator.unwrap_or("no separator"),
-            ],
+            "adduser",
+            asked.location,
+            &[asked.salt, asked.name, asked.address],
         ),
-        Asked::Show {
-            place,
-            user,
-            folder,
-            number,
-        } => add_at(out, "show", place, &[user, folder, number]),
-        Asked::Queue { place, user, id } => add_at(
+        Subcommand::Deliver(asked) => {
+            add_location(out, "deliver", asked.location)?;
+            add_envelope(out, asked.from, asked.to)?;
+            add_texts(out, &[asked.at.unwrap_or("no moment"), asked.user])
+        }
+        Subcommand::Folders(asked) => add_folders(out, asked),
+        Subcommand::Show(asked) => add_at(
+            out,
+            "show",
+            asked.location,
+            &[asked.user, asked.folder, asked.number],
+        ),
+        Subcommand::Queue(asked) => add_at(
             out,
             "queue",
-            place,
-            &[user, id.unwrap_or("no number")],
+            asked.location,
+            &[asked.user, asked.id.unwrap_or("no number")],
         ),
-        Asked::Done { place, user, id } => add_at(out, "done", place, &[user, id]),
-        Asked::Notices { place, user } => add_at(out, "notices", place, &[user]),
-        Asked::Drain {
-            place,
-            most,
-            user,
-            folder,
-            maildir,
-        } => add_at(
-            out,
-            "drain",
-            place,
-            &[most.unwrap_or("no number"), user, folder, maildir],
-        ),
-        Asked::Serve {
-            place,
-            port,
-            sessions,
-        } => add_at(
+        Subcommand::Done(asked) => add_at(out, "done", asked.location, &[asked.user, asked.id]),
+        Subcommand::Notices(asked) => add_at(out, "notices", asked.location, &[asked.user]),
+        Subcommand::Drain(asked) => add_drain(out, asked),
+        Subcommand::Serve(asked) => add_at(
             out,
             "serve",
-            place,
-            &[port, sessions.unwrap_or("no number")],
+            asked.location,
+            &[asked.port, asked.sessions.unwrap_or("no number")],
         ),
-        Asked::Session(place) => add_at(out, "session", place, &[]),
+        Subcommand::Session(asked) => add_at(out, "session", asked.location, &[]),
     }
+}
+
+fn add_folders(out: &mut Octets, asked: Folders<'_>) -> Result<(), AllocError> {
+    if !asked.directories && asked.separator.is_none() {
+        return add_at(out, "folders", asked.location, &[asked.user]);
+    }
+    let directories = if asked.directories { "maildir" } else { "" };
+    let separator = asked.separator.unwrap_or("no separator");
+    add_at(
+        out,
+        "folders",
+        asked.location,
+        &[asked.user, directories, separator],
+    )
+}
+
+fn add_drain(out: &mut Octets, asked: Drain<'_>) -> Result<(), AllocError> {
+    let most = asked.most.unwrap_or("no number");
+    add_at(
+        out,
+        "drain",
+        asked.location,
+        &[most, asked.user, asked.folder, asked.maildir],
+    )
 }
 
 /// Appends the word, where the store is, and the values.
 fn add_at(
     out: &mut Octets,
     word: &str,
-    place: Place<'_>,
+    location: StoreLocation<'_>,
     values: &[&str],
 ) -> Result<(), AllocError> {
-    add_place(out, word, place)?;
+    add_location(out, word, location)?;
     add_texts(out, values)
 }
 
-fn add_place<'a>(out: &mut Octets, word: &'a str, place: Place<'a>) -> Result<(), AllocError> {
-    let lock = if place.waits { "waits" } else { "" };
-    add_texts(out, &[word, place.path, lock])
+fn add_location<'a>(
+    out: &mut Octets,
+    word: &'a str,
+    location: StoreLocation<'a>,
+) -> Result<(), AllocError> {
+    let lock = if location.waits { "waits" } else { "" };
+    add_texts(out, &[word, location.path, lock])
 }
 
 /// Appends the envelope's addresses, each with `|` after it.

@@ -112,6 +112,7 @@ impl MemoryRuns {
             words: DELIVERY,
             input: b"Subject: more\n\n",
             writes: NEVER,
+            clock: CLOCK,
         };
         let mut out = Octets::new(alloc);
         add_run(alloc, &mut out, &mut self.keeper, &mut self.sink, run)
@@ -141,7 +142,7 @@ fn add_messages(out: &mut Octets, messages: &[Octets]) -> Result<(), AllocError>
     Ok(())
 }
 
-/// Appends what comes of a row that any keeper can have: `run` and `full` are runs of the program, `send` is a
+/// Appends what comes of a row that any keeper can have: `run`, `full` and `timeless` are runs of the program, `send` is a
 /// command, and `greet`, `talk`, `gone` and `deaf` are sessions.
 pub fn answer<K: Keeper, T: MailSink>(
     alloc: Global,
@@ -156,12 +157,13 @@ pub fn answer<K: Keeper, T: MailSink>(
     };
     let (words, input) = (text.as_slice(), input.as_slice());
     match text_in(call.as_slice()) {
-        call @ ("run" | "full") => {
+        call @ ("run" | "full" | "timeless") => {
             let run = Run {
                 path,
                 words,
                 input,
                 writes: if call == "full" { 0 } else { NEVER },
+                clock: if call == "timeless" { None } else { CLOCK },
             };
             add_run(alloc, out, keeper, sink, run)
         }
@@ -180,6 +182,8 @@ pub struct Run<'a> {
     pub input: &'a [u8],
     /// From which of its calls on the output takes nothing more.
     pub writes: u64,
+    /// The moment in seconds since 1970; none where the clock can't be read.
+    pub clock: Option<u64>,
 }
 
 /// Appends what a run leaves.
@@ -201,7 +205,7 @@ pub fn add_run<K: Keeper, T: MailSink>(
         &mut output,
         &mut faults,
         keeper,
-        CLOCK,
+        run.clock,
         sink,
     );
     add_all_left(

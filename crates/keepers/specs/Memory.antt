@@ -1,5 +1,6 @@
 -- What a keeper over memory holds.
-use Rattle.std.specs.Prelude.{ℕ, ◌==◌, Option, Some, None, if◌then◌else◌}
+use Prim.Native.Nat.{zero}
+use Rattle.std.specs.Prelude.{ℕ, suc, ◌==◌, Option, Some, None, if◌then◌else◌}
 use Rattle.sqlite_trees.specs.Tree.{no_trees}
 use Rattle.sqlite_trees.specs.declared.memory.MemStore.{MemStore}
 use Rattle.sqlite.specs.Effect.{Database}
@@ -22,3 +23,9 @@ held_by None = no_database
 abbrev pub told_of_close : Option ℕ → Option Refusal
 told_of_close None = None
 told_of_close (Some calls) = if calls == 0 then Some Store else None
+
+-- how many come before the chosen one after a close; none is chosen once it was
+abbrev pub left_after : Option ℕ → Option ℕ
+left_after None = None
+left_after (Some zero) = None
+left_after (Some (suc calls)) = Some calls

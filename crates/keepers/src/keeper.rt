@@ -12,6 +12,7 @@ ghost use Rattle.mailstore.specs.Refusals.{IsTransient};
 ghost use Rattle.mailstore.specs.Opening.{IsKnown};
 ghost use Rattle.mailstore.specs.Shows.{Presents, OpensAs};
 ghost use Rattle.keepers.specs.Taken.{IsTaken};
+ghost use Rattle.keepers.specs.declared.keeper.Held.{Held};
 
 use mailstore::{Refusal, Store};
 use sqlite::{Alter, Connection, ErrorCode};
@@ -57,9 +58,13 @@ pub trait Keeper {
     /// What may be told of the closing of a store that this keeper takes back.
     ghost closes: { Self → sqlite.Held Self.S → Option Refusal → Type 0 };
 
-    /// What is so of a keeper that refused the lock, which wasn't out, or the store at a path. Only the refusals of `lock` and `take` say
-    /// it, so who can say it of any keeper asked it for that path, and was refused.
-    ghost refuses: { Self → List ℕ → Type 0 } = { λ _ _. ⊤ };
+    /// What is so of a keeper that gave its store out at a path. Only an Ok of `take` says it, so who can say it of any keeper took its
+    /// store at that path.
+    ghost gives: { Self → List ℕ → Type 0 } = { λ _ _. ⊤ };
+
+    /// What is so of a keeper that refused the lock, which wasn't out, or the store at a path, and why. Only the refusals of `lock` and
+    /// `take` say it, so who can say it of any keeper asked it for that path, and was refused so.
+    ghost refuses: { Self → List ℕ → Held → Type 0 } = { λ _ _ _. ⊤ };
 
     /// From now on a call of `lock` or `take` waits for a lock that another process has, or answers Busy.
     fn wait_for_lock(&mut self, waits: bool)
@@ -76,7 +81,7 @@ pub trait Keeper {
         ensures same { IsTrue tells → holds self.new ≡ holds self.old }
         ensures out { OnOk result (IsTrue (is_out self.new)) }
         ensures kept { OnErr result (is_out self.new ≡ is_out self.old) }
-        ensures denied { OnErr result (is_out self.old ≡ false → refuses self.old path.now) }
+        ensures denied { IfErr result (λ held. is_out self.old ≡ false → refuses self.old path.now held) }
         ensures closed { unclosed self.new ≡ unclosed self.old };
 
     /// Gives the lock back, under which no store is out.
@@ -97,7 +102,8 @@ pub trait Keeper {
         ensures refused { OnErr result (IsTrue tells → holds self.new ≡ holds self.old) }
         ensures out { OnOk result (IsTrue (is_out self.new)) }
         ensures kept { OnErr result (is_out self.new ≡ is_out self.old) }
-        ensures denied { OnErr result (refuses self.old path.now) }
+        ensures given { OnOk result (gives self.old path.now) }
+        ensures denied { IfErr result (refuses self.old path.now) }
         ensures closed { unclosed self.new ≡ unclosed self.old };
 
     /// Takes the store back out of the place that it is given in, closes it, and gives the lock back. Where it can't be closed what was

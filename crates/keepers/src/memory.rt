@@ -1,6 +1,6 @@
 //! A keeper over memory, for tests.
 ghost use Rattle.std.specs.Prelude.{◌≡◌};
-ghost use Rattle.keepers.specs.Memory.{told_of_close};
+ghost use Rattle.keepers.specs.Memory.{told_of_close, left_after};
 
 use crate::keeper::{Held, Keeper, store_of};
 use mailstore::{Refusal, Store};
@@ -65,6 +65,7 @@ impl MemoryKeeper {
     /// Counts a store that is handed back, and notes whether it couldn't be closed.
     fn note_close(&mut self)
         ensures told { self.new.unclosed ≡ told_of_close self.old.unclosed_after }
+        ensures counted { self.new.unclosed_after ≡ left_after self.old.unclosed_after }
         ensures conn { self.new.conn ≡ self.old.conn }
         ensures locked { self.new.locked ≡ self.old.locked }
     {

@@ -1,5 +1,5 @@
 //! A sink over a Maildir.
-ghost use Rattle.std.specs.Prelude.{[]};
+ghost use Rattle.std.specs.Prelude.{◌≡◌, []};
 
 use crate::cause::of_file;
 use crate::file_name::name_of;
@@ -30,7 +30,9 @@ impl<'a> Maildir<'a> {
     }
 
     /// What is answered for an error of the system. What is known of it is kept for `cause`.
-    fn refusal(&mut self, error: io::Error) -> SinkError {
+    fn refusal(&mut self, error: io::Error) -> SinkError
+        ensures { self.new.path ≡ self.old.path }
+    {
         self.cause = of_file(error.kind());
         match error.kind() {
             ErrorKind::OutOfMemory => SinkError::Memory,
@@ -40,12 +42,14 @@ impl<'a> Maildir<'a> {
 }
 
 impl MailSink for Maildir<'_> {
-    ghost use Rattle.std.specs.Prelude.{false};
+    ghost use Rattle.std.specs.Prelude.{◌≡◌, false, Some, option_map, string_bytes};
 
     ghost tells = { false };
 
     // Any, since it tells none.
     ghost kept = { λ _. [] };
+
+    ghost is_at = { λ maildir path. option_map string_bytes maildir.path ≡ Some path };
 
     fn open(&mut self, path: &str) -> Result<(), SinkError> {
         self.cause = None;

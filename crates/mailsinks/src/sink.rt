@@ -1,5 +1,5 @@
 //! Where messages go that leave a store.
-ghost use Rattle.std.specs.Prelude.{◌≡◌, ℕ, Bool, List, [], ◌∷◌, ◌++◌, IsTrue, OnOk, OnErr};
+ghost use Rattle.std.specs.Prelude.{◌≡◌, ⊤, ℕ, Bool, List, [], ◌∷◌, ◌++◌, IsTrue, OnOk, OnErr};
 ghost use Rattle.mailsinks.specs.Kept.{MayKeep};
 
 use std::alloc::AllocError;
@@ -34,12 +34,18 @@ pub trait MailSink {
     /// The messages that it keeps, in the order in which they came, where it tells them.
     ghost kept: { Self → List (List ℕ) };
 
+    /// What is so of a sink that took the place at a path, until it takes another. Only an Ok of `open` says it, so who can say it of
+    /// any sink opened it for that path.
+    ghost is_at: { Self → List ℕ → Type 0 } = { λ _ _. ⊤ };
+
     /// Takes the place at the path: what is kept from now on is kept there.
     ///
     /// # Errors
     ///
     /// `NoMaildir` where the path isn't one; else why it can't be looked at. The place that was taken before stays.
     fn open(&mut self, path: &str) -> Result<(), SinkError>
+        ensures placed { OnOk result (is_at self.new path.now) }
+        ensures unmoved { OnErr result ((before : List ℕ) → is_at self.old before → is_at self.new before) }
         ensures same { IsTrue tells → kept self.new ≡ kept self.old };
 
     /// Keeps the message that has this number in the user's folder, so that a crash after Ok doesn't lose it. What a try
@@ -55,6 +61,7 @@ pub trait MailSink {
         number: u64,
         message: &[u8],
     ) -> Result<(), SinkError>
+        ensures stays { (path : List ℕ) → is_at self.old path → is_at self.new path }
         ensures kept { OnOk result (IsTrue tells → kept self.new ≡ kept self.old ++ message.now ∷ []) }
         ensures refused { OnErr result (IsTrue tells → MayKeep (kept self.old) message.now (kept self.new)) };
 

@@ -3,28 +3,18 @@ use keepers::Keeper;
 use sievedrun::fault::{Fault, refuse};
 use sievedrun::session::serve_client;
 use sievedrun::values::{decimal, port_of};
-use sievedwords::Place;
+use sievedwords::Serve;
 use std::alloc::Global;
 use std::io::{ErrorKind, Write};
 use std::net::{Ipv4Addr, Net, SocketAddr, TcpListener, TcpStream};
 use std::{format, io};
-
-/// `serve`, as it is written in the words.
-#[derive(Clone, Copy)]
-pub struct Service<'a> {
-    pub place: Place<'a>,
-    /// The port, in decimal.
-    pub port: &'a str,
-    /// After how many sessions to end, in decimal; never where it is left out.
-    pub sessions: Option<&'a str>,
-}
 
 /// Listens on 127.0.0.1 and serves one client after the other, whatever became of the one before. The answer is the exit
 /// status: 0 after as many sessions as were asked for.
 pub fn serve<R, W: Write, F: Write, K: Keeper>(
     rt: &R,
     alloc: Global,
-    service: Service<'_>,
+    asked: Serve<'_>,
     output: &mut W,
     faults: &mut F,
     keeper: &mut K,
@@ -32,7 +22,7 @@ pub fn serve<R, W: Write, F: Write, K: Keeper>(
 where
     R: Net<Listener = TcpListener, Stream = TcpStream>,
 {
-    match served(rt, alloc, service, output, faults, keeper) {
+    match served(rt, alloc, asked, output, faults, keeper) {
         Ok(()) => 0,
         Err(fault) => refuse(faults, fault),
     }
@@ -41,7 +31,7 @@ where
 fn served<R, W: Write, F: Write, K: Keeper>(
     rt: &R,
     alloc: Global,
-    service: Service<'_>,
+    asked: Serve<'_>,
     output: &mut W,
     faults: &mut F,
     keeper: &mut K,
@@ -49,18 +39,18 @@ fn served<R, W: Write, F: Write, K: Keeper>(
 where
     R: Net<Listener = TcpListener, Stream = TcpStream>,
 {
-    let port = port_of(service.port)?;
-    let sessions = match service.sessions {
+    let port = port_of(asked.port)?;
+    let sessions = match asked.sessions {
         Some(text) => Some(decimal(text)?),
         None => None,
     };
     let Ok(listener) = bound(rt, alloc, port, output) else {
         return Err(Fault::Stream);
     };
-    keeper.wait_for_lock(service.place.waits);
+    keeper.wait_for_lock(asked.location.waits);
     serve_all(
         alloc,
-        service.place.path,
+        asked.location.path,
         &listener,
         sessions,
         faults,

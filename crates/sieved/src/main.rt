@@ -6,13 +6,13 @@ mod listener;
 
 use clap::error::ErrorKind;
 use keepers::{FileKeeper, Keeper};
-use listener::{Service, serve};
+use listener::serve;
 use mailsinks::{MailSink, Maildir};
 use octets::Octets;
 use sievedrun::drive::drive;
 use sievedrun::fault::{Fault, refuse};
 use sievedrun::session::run_session;
-use sievedwords::{Asked, CommandLine, ReadError, read};
+use sievedwords::{CommandLine, ReadError, Subcommand, read};
 use std::alloc::{AllocError, Global};
 use std::env::{Env, FillError};
 use std::io::{Read, Write};
@@ -60,23 +60,10 @@ where
 {
     match asked_of_server(alloc, words) {
         Err(refused) => refuse(faults, Fault::from(refused)),
-        Ok(
-            Some(
-                Asked::Serve {
-                    place,
-                    port,
-                    sessions,
-                },
-            ),
-        ) => {
-            let service = Service {
-                place,
-                port,
-                sessions,
-            };
-            serve(net, alloc, service, output, faults, keeper)
+        Ok(Some(Subcommand::Serve(asked))) => serve(net, alloc, asked, output, faults, keeper),
+        Ok(Some(Subcommand::Session(asked))) => {
+            run_session(alloc, asked.location, input, output, faults, keeper)
         }
-        Ok(Some(Asked::Session(place))) => run_session(alloc, place, input, output, faults, keeper),
         _ => drive(alloc, words, input, output, faults, keeper, clock, sink),
     }
 }
@@ -85,7 +72,7 @@ where
 fn asked_of_server<'a>(
     alloc: Global,
     words: &'a CommandLine,
-) -> Result<Option<Asked<'a>>, AllocError> {
+) -> Result<Option<Subcommand<'a>>, AllocError> {
     if !matches!(words.first(), Some("serve" | "session")) {
         return Ok(None);
     }

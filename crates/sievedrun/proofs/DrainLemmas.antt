@@ -1,5 +1,5 @@
 -- A folder that was drained: what tables show, and what the whole program leaves.
-use Rattle.std.proofs.Common.{◌≡◌, ◌⊎◌, ℕ, suc, Bool, List, [], ◌++◌, take, Option, Result, Ok, Err, is_ok, IfErr, OnOk, OnErr, IsTrue, refl, sym, ◌∙◌, ap, subst, inl, inr}
+use Rattle.std.proofs.Common.{◌≡◌, ◌⊎◌, ℕ, suc, Bool, List, [], ◌++◌, take, arith, Option, Result, Ok, Err, is_ok, IfErr, OnOk, IsTrue, refl, sym, ◌∙◌, ap, subst, inl, inr}
 use Rattle.std.proofs.lemmas.List.{append-nil}
 use Rattle.std.specs.Io.KnownBytes.{Appends}
 use Rattle.std.specs.Option.{option_copied}
@@ -13,14 +13,13 @@ use Rattle.mailstore.specs.Schema.{mail_schema}
 use Rattle.mailstore.specs.Opening.{IsKnown}
 use Rattle.sievedrun.specs.declared.fault.Fault.{Fault}
 use Rattle.sievedrun.specs.declared.fault.Fault.TheVariants.{Stream, NoMaildir}
-use Rattle.sievedrun.specs.declared.drain.Draining.{Draining}
-use Rattle.sievedrun.specs.Faults.{no_user, status_of, fault_sunk, IsFailure, IsSudden, IsHindered}
+use Rattle.sievedwords.specs.declared.subcommand.drain.Drain.{Drain}
+use Rattle.sievedrun.specs.Faults.{no_user, status_of, fault_sunk, IsCutOff, IsSudden, IsHindered}
 use Rattle.sievedrun.specs.Draining.{mail_in, GrowsBy, StoppedShort, MovesMail, BrokeOff, Drained, Drains, TurnsTables, MovesTables, IsMost, StopsDraining, WordDrained, HasDrained, drained_line}
-use Rattle.sievedrun.specs.Streams.{AppendsFront}
 use Rattle.sievedrun.specs.Values.{HasNoNumber}
 use Rattle.sievedrun.proofs.LeaveLemmas.{grown_none}
 use Rattle.sievedrun.proofs.MoveLemmas.{}
-use Rattle.sievedrun.proofs.WordLemmas.{carried_turned, stays_turned, turned_wider, hindered_wider, sudden_failure, sudden_status, front_none}
+use Rattle.sievedrun.proofs.WordLemmas.{carried_turned, stays_turned, turned_wider, no_memory, broken, denied, sudden_hinders, sudden_status, kept_same}
 
 -- ---- over tables
 
@@ -31,24 +30,24 @@ module _ (user folder : List ℕ) (Grew : List (List ℕ) → Type 0) where
   moves_turned answers_ok Became held new taken given seen ours clean live back moves = carried_turned held new taken given seen ours clean live back Became moves.carries
 
   -- before anything moved
-  pub nothing_drained : (fault : Fault) (accounts : Accounts) → Grew [] → BrokeOff user folder Grew fault accounts accounts
-  nothing_drained fault accounts same = (0, record { left = refl; kept = inl same }, inl refl)
+  pub nothing_drained : (most : ℕ) (fault : Fault) (accounts : Accounts) → Grew [] → BrokeOff user folder Grew most fault accounts accounts
+  nothing_drained most fault accounts same = (0, record { left = refl; kept = inl same }, omega arith, inl (refl, same))
 
   -- what a later step refuses, so that another try may help, leaves what moved
-  pub drained_before : (most count : ℕ) (fault : Fault) (accounts later : Accounts) → status_of fault ≡ 75 → Drained user folder Grew most (Ok count) accounts later → BrokeOff user folder Grew fault accounts later
-  drained_before most count fault accounts later transient h = (count, record { left = h.1.moved.left; kept = inl h.1.moved.kept }, inr transient)
+  pub drained_before : (most count : ℕ) (fault : Fault) (accounts later : Accounts) → status_of fault ≡ 75 → Drained user folder Grew most (Ok count) accounts later → BrokeOff user folder Grew most fault accounts later
+  drained_before most count fault accounts later transient h = (count, record { left = h.1.moved.left; kept = inl h.1.moved.kept }, h.1.at_most, inr transient)
 
 -- why it wasn't drained to its end, by what the call over the store answered
-stops : (Denied : Type 0) (user : List ℕ) (q : Result ℕ Fault) → IfErr q (λ fault. IsSudden fault ⊎ (fault ≡ no_user)) → (accounts : Accounts) → (q ≡ Err no_user → IsFree user accounts)
+stops : (Denied : Fault → Type 0) (user : List ℕ) (q : Result ℕ Fault) → IfErr q (λ fault. IsSudden fault ⊎ (fault ≡ no_user)) → (accounts : Accounts) → (q ≡ Err no_user → IsFree user accounts)
     → IfErr q (λ fault. StopsDraining ⊥ Denied user fault accounts)
 stops Denied user (Ok count) named accounts free = tt
 stops Denied user (Err fault) named accounts free = elim named [
-  | inl sudden ↦ inl (inl sudden)
-  | inr none ↦ inr (inr (none, free (ap Err none)))
+  | inl sudden ↦ inl (sudden_hinders ⊥ Denied fault sudden)
+  | inr none ↦ inr (inr (none, free (ap Err none), λ no. no))
 ]
 
 -- a store was taken for the word, drained, and handed back
-pub drained_turned : (Denied : Type 0) (asked : Draining) (user folder : List ℕ) → user ≡ asked.user.now → folder ≡ asked.folder.now → (tells : Bool) (had has : List (List ℕ)) (most : ℕ) (q r : Result ℕ Fault) → q ≡ r
+pub drained_turned : (Denied : Fault → Type 0) (asked : Drain) (user folder : List ℕ) → user ≡ asked.user.now → folder ≡ asked.folder.now → (tells : Bool) (had has : List (List ℕ)) (most : ℕ) (q r : Result ℕ Fault) → q ≡ r
     → IfErr q (λ fault. IsSudden fault ⊎ (fault ≡ no_user)) → (held new : Database) (taken given : State) → (held.schema ≡ mail_schema → taken.now ≡ held) → IsKnown held → HasCleanDisk given → IsTrue given.is_open → new ≡ given.now
     → Drains user folder tells had has most q taken given → MovesTables Denied asked tells had has most r held new
 drained_turned Denied asked user folder user_is folder_is tells had has most q r same named held new taken given seen ours clean live back moves =
@@ -60,12 +59,12 @@ drained_turned Denied asked user folder user_is folder_is tells had has most q r
     (subst (λ u. TurnsTables (Wider u asked.folder.now q) held new) user_is (subst (λ f. TurnsTables (Wider user f q) held new) folder_is turned))
 
 -- no store was given out
-pub drained_denied : (Denied : Type 0) (asked : Draining) (tells : Bool) (kept : List (List ℕ)) (most : ℕ) (fault : Fault) (r : Result ℕ Fault) → r ≡ Err fault → Denied → (status_of fault ≡ 64 → ⊥) → (held new : Database) → new ≡ held
+pub drained_denied : (Denied : Fault → Type 0) (asked : Drain) (tells : Bool) (kept : List (List ℕ)) (most : ℕ) (fault : Fault) (r : Result ℕ Fault) → r ≡ Err fault → Denied fault → (held new : Database) → new ≡ held
     → MovesTables Denied asked tells kept kept most r held new
-drained_denied Denied asked tells kept most fault r is denied late held new same =
+drained_denied Denied asked tells kept most fault r is why held new same =
     subst (λ o. MovesTables Denied asked tells kept kept most o held new) (sym is)
     (stays_turned (λ accounts later. Drained asked.user.now asked.folder.now (GrowsBy tells kept kept) most (Err fault) accounts later × StopsDraining ⊥ Denied asked.user.now fault accounts) held new same
-    (λ accounts. (nothing_drained asked.user.now asked.folder.now (GrowsBy tells kept kept) fault accounts (grown_none tells kept), inl (inr (inr (denied, late))))))
+    (λ accounts. (nothing_drained asked.user.now asked.folder.now (GrowsBy tells kept kept) most fault accounts (grown_none tells kept), inl (denied (Unit {0}) ⊥ Denied fault why (λ no. no)))))
 
 -- a sink whose growth is told by another name
 module _ (user folder : List ℕ) (One Other : List (List ℕ) → Type 0) (told_so : (messages : List (List ℕ)) → One messages → Other messages) where
@@ -84,10 +83,10 @@ module _ (user folder : List ℕ) (One Other : List (List ℕ) → Type 0) (told
       whole = h.1.whole;
     },
   )
-  drained_so most (Err fault) accounts later h = (h.0, stopped_so h.0 accounts later h.1, h.2)
+  drained_so most (Err fault) accounts later h = (h.0, stopped_so h.0 accounts later h.1, h.2, elim h.3 [ inl none ↦ inl (none.0, told_so [] none.1) | inr transient ↦ inr transient ])
 
 -- the word: the sink was opened, the store was drained, and the line was written
-module _ (Denied : Type 0) (asked : Draining) (tells : Bool) (had opened has : List (List ℕ)) (same : IsTrue tells → opened ≡ had) (most : ℕ) (q : Result ℕ Fault) (held new : Database)
+module _ (Denied : Fault → Type 0) (asked : Drain) (tells : Bool) (had opened has : List (List ℕ)) (same : IsTrue tells → opened ≡ had) (most : ℕ) (digits : IsMost (option_copied asked.most) most) (right : HasNoNumber (option_copied asked.most) → ⊥) (q : Result ℕ Fault) (held new : Database)
     (drained : MovesTables Denied asked tells opened has most q held new) where
   abbrev Gained : List (List ℕ) → Type 0
   Gained = GrowsBy tells had has
@@ -109,39 +108,55 @@ module _ (Denied : Type 0) (asked : Draining) (tells : Bool) (had opened has : L
       (turned_wider (λ accounts later. Drained asked.user.now asked.folder.now (GrowsBy tells opened has) most q accounts later × IfErr q (λ fault. StopsDraining ⊥ Denied asked.user.now fault accounts)) (Became q) held new
       (λ accounts later h. (drained_so asked.user.now asked.folder.now (GrowsBy tells opened has) Gained as_told most q accounts later h.0, h.1)) drained)
 
+  still : (fault : Fault) → IsHindered (Unit {0}) ⊥ Denied fault → IsHindered (Unit {0}) NoMost Denied fault
+  still fault h = elim h [
+    | inl e ↦ inl e
+    | inr more ↦ elim more [
+      | inl e ↦ inr (inl e)
+      | inr more ↦ elim more [
+        | inl e ↦ broken (Unit {0}) NoMost Denied fault e.0 tt
+        | inr more ↦ elim more [ inl none ↦ absurd none.1 | inr why ↦ denied (Unit {0}) NoMost Denied fault why.0 right ]
+      ]
+    ]
+  ]
+
   stops_wider : (fault : Fault) (accounts : Accounts) → StopsDraining ⊥ Denied asked.user.now fault accounts → StopsDraining NoMost Denied asked.user.now fault accounts
-  stops_wider fault accounts h = elim h [ inl hindered ↦ inl (hindered_wider NoMost Denied fault hindered) | inr more ↦ inr more ]
+  stops_wider fault accounts h = elim h [
+    | inl hindered ↦ inl (still fault hindered)
+    | inr more ↦ elim more [ inl none ↦ inr (inl (none.0, right)) | inr free ↦ inr (inr (free.0, free.1, right)) ]
+  ]
 
   pub word_broke_off : (out : Option (List ℕ)) (fault : Fault) → q ≡ Err fault → Did out out (Err fault) held new
   word_broke_off out fault is =
       turned_wider (Became (Err fault)) (WordDrained Denied asked Gained out out (Err fault)) held new
-      (λ accounts later h. (h.0, front_none out (drained_line h.0.0), stops_wider fault accounts h.1)) (as_drained (Err fault) is)
+      (λ accounts later h. (most, inl digits, h.0, inl (kept_same out), stops_wider fault accounts h.1)) (as_drained (Err fault) is)
 
   -- what comes after it fails, and a front of the line is printed
-  pub word_failed : (old out : Option (List ℕ)) (count : ℕ) (fault : Fault) → q ≡ Ok count → IsFailure fault → AppendsFront old out (drained_line count) → Did old out (Err fault) held new
+  pub word_failed : (old out : Option (List ℕ)) (count : ℕ) (fault : Fault) → q ≡ Ok count → IsCutOff fault old out (drained_line count) → Did old out (Err fault) held new
   unfolding drained_before
-  word_failed old out count fault is failure front =
-      let sudden = sudden_failure fault failure in
+  word_failed old out count fault is cut =
+      let sudden : IsSudden fault = elim cut [ inl e ↦ inl e.0 | inr e ↦ inr (inr e.0) ] in
       turned_wider (Became (Ok count)) (WordDrained Denied asked Gained old out (Err fault)) held new
-      (λ accounts later h. (drained_before asked.user.now asked.folder.now Gained most count fault accounts later (sudden_status fault sudden) h.0, front, inl (inl sudden))) (as_drained (Ok count) is)
+      (λ accounts later h.
+      (most, inl digits, drained_before asked.user.now asked.folder.now Gained most count fault accounts later (sudden_status fault sudden) h.0, inr cut, inl (sudden_hinders NoMost Denied fault sudden))) (as_drained (Ok count) is)
 
-  pub word_written : (old out : Option (List ℕ)) (count : ℕ) (r : Result (Unit {0}) Fault) → q ≡ Ok count → IsMost (option_copied asked.most) most → OnOk r (Appends old out (drained_line count)) → OnErr r (AppendsFront old out (drained_line count))
-      → IfErr r (λ fault. fault ≡ Stream) → Did old out r held new
-  word_written old out count (Ok done) is digits printed front failed =
+  pub word_written : (old out : Option (List ℕ)) (count : ℕ) (r : Result (Unit {0}) Fault) → q ≡ Ok count → OnOk r (Appends old out (drained_line count)) → IfErr r (λ fault. IsCutOff fault old out (drained_line count))
+      → Did old out r held new
+  word_written old out count (Ok done) is printed cut =
       turned_wider (Became (Ok count)) (WordDrained Denied asked Gained old out (Ok done)) held new (λ accounts later h. (most, count, digits, h.0, printed)) (as_drained (Ok count) is)
-  word_written old out count (Err fault) is digits printed front failed = word_failed old out count fault is (inr failed) front
+  word_written old out count (Err fault) is printed cut = word_failed old out count fault is cut
 
 -- before the store was taken
-pub word_refused : (Denied : Type 0) (asked : Draining) (tells : Bool) (had has : List (List ℕ)) (same : IsTrue tells → has ≡ had) (fault : Fault) → IsHindered (HasNoNumber (option_copied asked.most)) Denied fault ⊎ (fault ≡ NoMaildir)
+pub word_refused : (Denied : Fault → Type 0) (asked : Drain) (tells : Bool) (had has : List (List ℕ)) (same : IsTrue tells → has ≡ had) (fault : Fault) → IsHindered (Unit {0}) (HasNoNumber (option_copied asked.most)) Denied fault ⊎ ((fault ≡ NoMaildir) × (HasNoNumber (option_copied asked.most) → ⊥))
     → (out : Option (List ℕ)) (held : Database) → HasDrained Denied asked tells had has out out (Err fault) held held
 word_refused Denied asked tells had has same fault cause out held =
     stays_turned (WordDrained Denied asked (GrowsBy tells had has) out out (Err fault)) held held refl
     (λ accounts.
-    let none = nothing_drained asked.user.now asked.folder.now (GrowsBy tells had has) fault accounts (λ told. same told ∙ sym (append-nil had)) in
-    (none, front_none out (drained_line none.0), elim cause [ inl hindered ↦ inl hindered | inr maildir ↦ inr (inl maildir) ]))
+    let none = nothing_drained asked.user.now asked.folder.now (GrowsBy tells had has) 0 fault accounts (λ told. same told ∙ sym (append-nil had)) in
+    (0, inr refl, none, inl (kept_same out), elim cause [ inl hindered ↦ inl hindered | inr maildir ↦ inr (inl maildir) ]))
 
 -- why the place for the messages couldn't be taken
-pub sunk_cause : (Wrong Denied : Type 0) (error : SinkError) → IsHindered Wrong Denied (fault_sunk error) ⊎ (fault_sunk error ≡ NoMaildir)
-sunk_cause Wrong Denied sink.Memory = inl (inl (inl refl))
-sunk_cause Wrong Denied sink.NoMaildir = inr refl
-sunk_cause Wrong Denied sink.Failed = inl (inl (inr (inr refl)))
+pub sunk_cause : (Wrong : Type 0) (Denied : Fault → Type 0) → (Wrong → ⊥) → (error : SinkError) → IsHindered (Unit {0}) Wrong Denied (fault_sunk error) ⊎ ((fault_sunk error ≡ NoMaildir) × (Wrong → ⊥))
+sunk_cause Wrong Denied right sink.Memory = inl (no_memory (Unit {0}) Wrong Denied)
+sunk_cause Wrong Denied right sink.NoMaildir = inr (refl, right)
+sunk_cause Wrong Denied right sink.Failed = inl (broken (Unit {0}) Wrong Denied Stream refl tt)

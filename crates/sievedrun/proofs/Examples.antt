@@ -9,9 +9,11 @@ use Rattle.mailstore.specs.Account.{no_accounts}
 use Rattle.sessions.specs.declared.progress.Progress.TheVariants.{Done}
 use Rattle.sessions.specs.Clients.{Client, new_client, shut}
 use Rattle.sessions.specs.Replies.{done}
+use Rattle.keepers.specs.declared.keeper.Held.{Held}
+use Rattle.keepers.specs.declared.keeper.Held.TheVariants.{Busy}
 use Rattle.sessions.specs.Refusing.{WasRefused}
 use Rattle.sievedrun.specs.Framing.{IsFramed}
-use Rattle.sievedrun.specs.Serving.{Round, HasDenied, Hears, Steps, GivesUp, Leads, came_in, said_in}
+use Rattle.sievedrun.specs.Serving.{Round, IsDenied, Hears, Steps, GivesUp, Leads, came_in, said_in}
 
 five-digits : (k d : ℕ) → k < 1 → is_digit (get_or (codes "5") k d) ≡ true
 five-digits zero d k<1 = refl
@@ -96,11 +98,11 @@ closed_hears : (r : Round) → Hears no_accounts (shut new_client) r → ⊥
 closed_hears r h = let live : true ≡ false = h.live in cc
 
 -- a denial at a path is none at another one
-abbrev RefusesA : ℕ → List ℕ → Type 0
-RefusesA keeper path = path ≡ codes "a.db"
+abbrev RefusesA : ℕ → List ℕ → Held → Type 0
+RefusesA keeper path held = path ≡ codes "a.db"
 
-denied_there : HasDenied RefusesA (codes "a.db")
-denied_there = (0, refl)
+denied_there : IsDenied RefusesA (codes "a.db")
+denied_there = (0, Busy, refl)
 
-denied_elsewhere : HasDenied RefusesA (codes "b.db") → ⊥
-denied_elsewhere h = let first : 98 ≡ 97 = ap (λ l. get_or l 0 0) h.1 in absurd (omega (arith, first))
+denied_elsewhere : IsDenied RefusesA (codes "b.db") → ⊥
+denied_elsewhere h = let first : 98 ≡ 97 = ap (λ l. get_or l 0 0) h.2 in absurd (omega (arith, first))

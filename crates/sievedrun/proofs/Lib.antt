@@ -6,5 +6,6 @@ mod MoveLemmas
 mod WordExamples
 mod WordLemmas
 mod ServingLemmas
+mod RunLemmas
 pub mod StreamLemmas
 pub mod Examples

@@ -266,10 +266,10 @@ module _ (user folder : List ℕ) (tells : Bool) (had mid has : List (List ℕ))
       })
       (subst (λ q. MovesMail user folder Last (is_ok q) (FirstMoved user folder Last q) b c) is two)
 
-  pub stops : (r : Result Bool Fault) (fault told : Fault) (most : ℕ) → r ≡ Err fault → MovesMail user folder Last (is_ok r) (FirstMoved user folder Last r) b c → MovesMail user folder Those false (AnyMoved user folder Those most (Err told)) a c
-  stops r fault told most is two =
+  pub stops : (r : Result Bool Fault) (fault told : Fault) (most : ℕ) → r ≡ Err fault → count < most → MovesMail user folder Last (is_ok r) (FirstMoved user folder Last r) b c → MovesMail user folder Those false (AnyMoved user folder Those most (Err told)) a c
+  stops r fault told most is below two =
       step (Err fault) (AnyMoved user folder Those most (Err told))
-      (λ accounts between later h k. (count, subst (λ n. StoppedShort user folder Those n accounts later) (add-zero count) (stopped_then user folder tells had mid has count 0 accounts between later h k)))
+      (λ accounts between later h k. (count, subst (λ n. StoppedShort user folder Those n accounts later) (add-zero count) (stopped_then user folder tells had mid has count 0 accounts between later h k), omega arith))
       (subst (λ q. MovesMail user folder Last (is_ok q) (FirstMoved user folder Last q) b c) is two)
 
 -- nothing moved yet
@@ -330,12 +330,12 @@ module _ (user folder : List ℕ) (tells : Bool) (had has : List (List ℕ)) (mo
 
   pub no_account : r ≡ Ok None → Grown [] → MovesMail user folder Grown false (Ended (Err no_user)) a b
   no_account was same = read_alone user folder tells had has a b r false (Ended (Err no_user)) reads.keeps (λ told. absurd (false≢true told))
-      (λ clean accounts shown. ((0, record { left = refl; kept = inl same }, inl refl), λ _. none_is_free (get accounts user) (profile_read None was clean accounts shown)))
+      (λ clean accounts shown. ((0, record { left = refl; kept = inl same }, omega arith, inl (refl, same)), λ _. none_is_free (get accounts user) (profile_read None was clean accounts shown)))
 
   -- the account can't be read now
   pub not_looked : (fault : Fault) → status_of fault ≡ 75 → Grown [] → MovesMail user folder Grown false (Ended (Err fault)) a b
   not_looked fault transient same = read_alone user folder tells had has a b r false (Ended (Err fault)) reads.keeps (λ told. absurd (false≢true told))
-      (λ clean accounts shown. ((0, record { left = refl; kept = inl same }, inl refl), λ is. absurd (transient_user fault transient (Err fault) refl is)))
+      (λ clean accounts shown. ((0, record { left = refl; kept = inl same }, omega arith, inl (refl, same)), λ is. absurd (transient_user fault transient (Err fault) refl is)))
 
   -- the account is there, and messages were moved
   module _ (c : State) (p : Profile) (was : r ≡ Ok (Some p)) (q : Result ℕ Fault) (transient : IfErr q (λ fault. status_of fault ≡ 75)) where
@@ -357,7 +357,7 @@ module _ (user folder : List ℕ) (tells : Bool) (had has : List (List ℕ)) (mo
     ended : (q : Result ℕ Fault) → IfErr q (λ fault. status_of fault ≡ 75) → (accounts between later : Accounts) → Looked accounts between → AnyMoved user folder Grown most q between later → Ended q accounts later
     ended (Ok count) passes accounts between later look h = ((look.1, alike (λ all. AllMoved user folder Grown most count all later) accounts between look h), λ is. absurd (let no = is in cc))
     ended (Err fault) passes accounts between later look h =
-        ((h.0, alike (λ all. StoppedShort user folder Grown h.0 all later) accounts between look h.1, inr passes), λ is. absurd (transient_user fault passes (Err fault) refl is))
+        ((h.0, alike (λ all. StoppedShort user folder Grown h.0 all later) accounts between look h.1, h.2, inr passes), λ is. absurd (transient_user fault passes (Err fault) refl is))
 
     pub drained_then : MovesMail user folder Grown (is_ok q) (AnyMoved user folder Grown most q) b c → MovesMail user folder Grown (is_ok q) (Ended q) a c
     drained_then moves =

@@ -1,5 +1,5 @@
 -- Rounds of a session, one after the other.
-use Rattle.std.proofs.Common.{◌≡◌, ℕ, ◌+◌, ◌≤◌, Bool, true, false, List, [], ◌∷◌, ◌++◌, length, take, Option, Some, None, Result, Ok, Err, OnOk, OnErr, IsTrue, refl, sym, ap, ◌∙◌, subst, inl, inr, append_assoc, append-nil}
+use Rattle.std.proofs.Common.{◌≡◌, ℕ, ◌+◌, ◌≤◌, Bool, true, false, List, [], ◌∷◌, ◌++◌, length, take, Option, Some, None, Result, Ok, Err, OnOk, IfErr, OnErr, IsTrue, refl, sym, ap, ◌∙◌, subst, inl, inr, append_assoc, append-nil}
 use Rattle.std.proofs.Math.Seq.{take-append_seam, take-append-add}
 use Rattle.std.proofs.lemmas.Grind.{flat_map-append}
 use Rattle.std.specs.Io.KnownBytes.{Appends, Consumes}
@@ -18,7 +18,8 @@ use Rattle.sessions.specs.Replies.{capabilities}
 use Rattle.msproto.specs.Machine.{rows}
 use Rattle.msproto.specs.Replies.{spelled}
 use Rattle.sievedrun.specs.declared.fault.Fault.{Fault}
-use Rattle.sievedrun.specs.Serving.{Round, HasDenied, Hinders, IsRound, Leads, came_in, said_in, largest_piece, BeginsWith, Passes, Answered, Writes, Interrupted, WritesFirst, StepsOn, Served, BreaksOff, AreSeen, PresentsSeen, seen}
+use Rattle.keepers.specs.declared.keeper.Held.{Held}
+use Rattle.sievedrun.specs.Serving.{Round, IsDenied, Hinders, IsRound, Leads, came_in, said_in, largest_piece, BeginsWith, Passes, Answered, Writes, Interrupted, WritesFirst, StepsOn, Served, BreaksOff, AreSeen, PresentsSeen, seen}
 use Rattle.sievedrun.specs.Streams.{AppendsFront}
 use Rattle.sievedrun.proofs.StreamLemmas.{nothing_read, nothing_written, read_on, written_on}
 
@@ -47,9 +48,9 @@ offers_seen sees held new (Some store) is accounts shown = subst (λ db. Offers 
 -- ---- why what comes first can't be answered
 
 -- the keeper denied its store
-pub denied_by : {X E K : Type 0} (refuses : K → List ℕ → Type 0) (keeper : K) (path : List ℕ) (r : Result X E) → OnErr r (refuses keeper path) → OnErr r (HasDenied refuses path)
+pub denied_by : {X K : Type 0} (refuses : K → List ℕ → Held → Type 0) (keeper : K) (path : List ℕ) (r : Result X Held) → IfErr r (refuses keeper path) → OnErr r (IsDenied refuses path)
 denied_by refuses keeper path (Ok x) denied = tt
-denied_by refuses keeper path (Err e) denied = (keeper, denied)
+denied_by refuses keeper path (Err held) denied = (keeper, held, denied)
 
 -- where that is so of a keeper that refused
 module _ (Denied : Type 0) where

@@ -1,8 +1,8 @@
 -- Lemmas on what a run of reads takes from an input and a run of writes gives to an output.
-use Rattle.std.proofs.Common.{◌≡◌, ℕ, ◌+◌, List, [], ◌++◌, Option, Some, None, refl, sym, ap, ◌∙◌, subst, append_assoc, append-nil, take, drop}
+use Rattle.std.proofs.Common.{◌≡◌, ℕ, ◌+◌, List, Result, Ok, Err, OnErr, inl, [], ◌++◌, Option, Some, None, refl, sym, ap, ◌∙◌, subst, append_assoc, append-nil, take, drop}
 use Rattle.std.proofs.Math.Seq.{take-add}
 use Rattle.std.specs.Io.KnownBytes.{Appends, Consumes, Keeps}
-use Rattle.sievedrun.specs.Streams.{AppendsSome, AppendsFirst}
+use Rattle.sievedrun.specs.Streams.{AppendsSome, IsTold}
 
 -- before the first read nothing is taken
 pub nothing_read : (a : Option (List ℕ)) → Consumes a a []
@@ -56,12 +56,15 @@ text_on a b c text rest at n split before more =
 pub some_then : (a b c : Option (List ℕ)) → AppendsSome a b → AppendsSome b c → AppendsSome a c
 some_then a b c one two = (one.0 ++ two.0, written_on a b c one.0 two.0 one.1 two.1)
 
--- a text comes first, whatever follows
-pub first_then : (a b c : Option (List ℕ)) (text : List ℕ) → AppendsFirst a b text → AppendsSome b c → AppendsFirst a c text
-first_then a b c text one two =
-    let all = written_on a b c (take one.0 text ++ one.1) two.0 one.2 two.1 in
-    (one.0, one.1 ++ two.0, subst (Appends a c) (append_assoc (take one.0 text) one.1 two.0) all)
+-- a text, and what follows it
+pub told_then : (a b c : Option (List ℕ)) (text : List ℕ) → Appends a b text → AppendsSome b c → IsTold a c text
+told_then a b c text one two = inl (two.0, written_on a b c text two.0 one two.1)
 
--- and it grew by it
-pub first_some : (a b : Option (List ℕ)) (text : List ℕ) → AppendsFirst a b text → AppendsSome a b
-first_some a b text first = (take first.0 text ++ first.1, first.2)
+-- a text alone
+pub told_alone : (a b : Option (List ℕ)) (text : List ℕ) → Appends a b text → IsTold a b text
+told_alone a b text one = inl ([], subst (Appends a b) (sym (append-nil text)) one)
+
+-- what is so of a call that failed is so of whatever it answers
+pub failed_so : {X E : Type 0} (r : Result X E) (P : Type 0) → P → OnErr r P
+failed_so (Ok x) P p = tt
+failed_so (Err e) P p = p

@@ -1,5 +1,5 @@
 -- What words do, by example: right ones, and near misses.
-use Rattle.std.proofs.Common.{◌≡◌, ◌==◌, ◌<◌, ℕ, suc, cond, true, List, [], ◌∷◌, Option, Some, None, refl, sym, ◌∙◌, ap, subst, inl, inr, codes, get_or, arith}
+use Rattle.std.proofs.Common.{◌≡◌, ◌==◌, ◌<◌, ℕ, suc, cond, true, List, [], ◌∷◌, Option, Some, None, Err, refl, sym, ◌∙◌, ap, subst, inl, inr, codes, get_or, arith}
 use Prim.Native.Nat.{zero}
 use Rattle.hex.specs.Hex.{decode_pairs}
 use Rattle.octets.specs.Ascii.{is_digit}
@@ -9,11 +9,14 @@ use Rattle.mailstore.specs.Account.{Account, Accounts, row_with}
 use Rattle.mailstore.specs.Promises.{IsFree}
 use Rattle.mailstore.specs.declared.queue.Outgoing.{Outgoing}
 use Rattle.mailstore.specs.declared.refusal.Refusal.{Refusal}
+use Rattle.mailstore.specs.declared.refusal.Refusal.TheVariants.{Memory}
 use Rattle.mailengine.specs.declared.answer.Answer.TheVariants as answer
 use Rattle.mailengine.specs.declared.event.Event.TheVariants.{Deliver, AddUser, TakeOut}
-use Rattle.sievedrun.specs.declared.fault.Fault.TheVariants.{NoMessage, Busy}
+use Rattle.sievedrun.specs.declared.fault.Fault.TheVariants.{Refused, Stream, NoMessage, Busy}
 use Rattle.sievedrun.specs.Draining.{StopsDraining}
-use Rattle.sievedrun.specs.Faults.{no_user, IsHindered}
+use Rattle.sievedrun.specs.Faults.{memory, no_user, store_failed, line_of, troubles, IsHindered}
+use Rattle.sievedrun.specs.Streams.{IsTold, WriteFailed}
+use Rattle.sievedrun.specs.declared.fault.Fault.{Fault}
 use Rattle.sievedrun.specs.Values.{WritesSalt, IsMoment, IsSeparator, envelope_with}
 use Rattle.sievedrun.specs.Words.{Adds, Posts, Dequeues, Tells, HasMessage, ShowsOutgoing}
 
@@ -132,17 +135,71 @@ numbered-zero a message h = cc
 
 -- ---- faults
 
--- an unknown user is told as one, and near miss: as something else that is absent
-stops-told : (accounts : Accounts) → IsFree alice accounts → StopsDraining ⊥ ⊥ alice no_user accounts
-stops-told accounts free = inr (inr (refl, free))
+abbrev nobody : Fault → Type 0
+nobody fault = ⊥
 
-stops-other : (accounts : Accounts) → StopsDraining ⊥ ⊥ alice NoMessage accounts → ⊥
-stops-other accounts (inl hindered) = elim hindered [ inl sudden ↦ elim sudden [ inl e ↦ cc | inr more ↦ elim more [ inl e ↦ cc | inr e ↦ cc ] ] | inr more ↦ elim more [ inl bad ↦ absurd bad.1 | inr denied ↦ absurd denied.0 ] ]
-stops-other accounts (inr (inl e)) = cc
+abbrev busily : Fault → Type 0
+busily fault = fault ≡ Busy
+
+-- an unknown user is told as one, and near miss: as something else that is absent
+stops-told : (accounts : Accounts) → IsFree alice accounts → StopsDraining ⊥ nobody alice no_user accounts
+stops-told accounts free = inr (inr (refl, free, λ no. no))
+
+not_hindered : (fault : Fault) → (fault ≡ memory → ⊥) → (fault ≡ store_failed → ⊥) → (fault ≡ Stream → ⊥) → IsHindered (Unit {0}) ⊥ nobody fault → ⊥
+not_hindered fault m f s (inl e) = m e
+not_hindered fault m f s (inr (inl e)) = f e
+not_hindered fault m f s (inr (inr (inl e))) = s e.0
+not_hindered fault m f s (inr (inr (inr (inl bad)))) = bad.1
+not_hindered fault m f s (inr (inr (inr (inr denied)))) = denied.0
+
+stops-other : (accounts : Accounts) → StopsDraining ⊥ nobody alice NoMessage accounts → ⊥
+stops-other accounts (inl hindered) = not_hindered NoMessage (λ e. cc) (λ e. cc) (λ e. cc) hindered
+stops-other accounts (inr (inl e)) = let no = e.0 in cc
 stops-other accounts (inr (inr none)) = let e = none.0 in cc
 
 -- near miss: busy, and nobody denied the store
-busy-undenied : IsHindered ⊥ ⊥ Busy → ⊥
-busy-undenied (inl sudden) = elim sudden [ inl e ↦ cc | inr more ↦ elim more [ inl e ↦ cc | inr e ↦ cc ] ]
-busy-undenied (inr (inl bad)) = absurd bad.1
-busy-undenied (inr (inr denied)) = absurd denied.0
+busy-undenied : IsHindered (Unit {0}) ⊥ nobody Busy → ⊥
+busy-undenied = not_hindered Busy (λ e. cc) (λ e. cc) (λ e. cc)
+
+-- it was denied as busy, and is told so; near misses: told otherwise, and told where a value in the words is wrong
+busy-denied : IsHindered ⊥ ⊥ busily Busy
+busy-denied = inr (inr (inr (inr (refl, λ no. no))))
+
+denied-otherwise : IsHindered ⊥ ⊥ busily NoMessage → ⊥
+denied-otherwise (inl e) = cc
+denied-otherwise (inr (inl e)) = cc
+denied-otherwise (inr (inr (inl e))) = e.1
+denied-otherwise (inr (inr (inr (inl bad)))) = bad.1
+denied-otherwise (inr (inr (inr (inr denied)))) = let no = denied.0 in cc
+
+denied-early : IsHindered ⊥ (Unit {0}) busily Busy → ⊥
+denied-early (inl e) = cc
+denied-early (inr (inl e)) = cc
+denied-early (inr (inr (inl e))) = e.1
+denied-early (inr (inr (inr (inl bad)))) = let no = bad.0 in cc
+denied-early (inr (inr (inr (inr denied)))) = denied.1 tt
+
+-- near miss: a read that failed, of a word that reads nothing
+unread-failed : IsHindered ⊥ ⊥ nobody Stream → ⊥
+unread-failed (inl e) = cc
+unread-failed (inr (inl e)) = cc
+unread-failed (inr (inr (inl e))) = e.1
+unread-failed (inr (inr (inr (inl bad)))) = bad.1
+unread-failed (inr (inr (inr (inr denied)))) = denied.0
+
+-- ---- what is told
+
+busy-told : IsTold (Some []) (Some (codes "sieved: busy\n")) (line_of Busy)
+busy-told = inl ([], refl)
+
+-- nothing is told only where a write failed
+busy-untold : IsTold (Some []) (Some []) (line_of Busy) → WriteFailed (Some [])
+busy-untold (inl more) = let no = more.1 in cc
+busy-untold (inr cut) = cut.1
+
+-- why the store couldn't be closed comes before why there is no answer, and where the store failed that tells of both
+both-troubles : troubles (Some Memory) (Err Busy) ≡ Refused Memory ∷ Busy ∷ []
+both-troubles = refl
+
+one-trouble : troubles (Some Memory) (Err store_failed) ≡ store_failed ∷ []
+one-trouble = refl

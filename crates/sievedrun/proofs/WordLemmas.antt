@@ -1,6 +1,6 @@
 -- What a word does, from what its steps do.
 use Prim.Native.Nat.{zero}
-use Rattle.std.proofs.Common.{◌≡◌, ◌≢◌, ◌⊎◌, ℕ, suc, Bool, List, [], Option, Some, None, Result, Ok, Err, OnOk, OnErr, IfOk, IfErr, IsTrue, codes, slice_get, refl, sym, ◌∙◌, ap, subst, inl, inr}
+use Rattle.std.proofs.Common.{◌≡◌, ◌⊎◌, ℕ, suc, List, Option, Some, None, Result, Ok, Err, OnOk, OnErr, IfOk, IfErr, IsTrue, codes, slice_get, refl, sym, ◌∙◌, ap, subst, inl, inr}
 use Rattle.std.specs.FinMap.{get}
 use Rattle.std.specs.Io.KnownBytes as output
 use Rattle.std.specs.Io.KnownBytes.{Appends}
@@ -31,14 +31,11 @@ use Rattle.mailengine.specs.World.{Happens, MayRefuse, Next}
 use Rattle.mailengine.proofs.HostLemmas.{delivery_may, addition_may, taking_may}
 use Rattle.sievedrun.specs.declared.fault.Fault.{Fault}
 use Rattle.sievedrun.specs.declared.fault.Fault.TheVariants.{Refused, Stream, BadArgument}
-use Rattle.sievedwords.specs.declared.asked.Asked.{Asked}
-use Rattle.sievedwords.specs.declared.asked.Asked.TheVariants as word
-use Rattle.sievedrun.specs.Draining.{GrowsBy, TurnsTables}
-use Rattle.sievedrun.specs.Faults.{status_of, IsFailure, IsSudden, IsHindered}
+use Rattle.sievedrun.specs.Draining.{TurnsTables}
+use Rattle.sievedrun.specs.Faults.{memory, status_of, IsCutOff, IsFailure, IsSudden, IsHindered}
 use Rattle.sievedrun.specs.Promise.{world_of}
-use Rattle.sievedrun.specs.Streams.{AppendsFront}
-use Rattle.sievedrun.specs.Words.{Finishes, Tells, Makes, RefusesEvent, Puts, DoesEvent, Shows, FindsIn, HasNone, DoesRead, HasMessage, DoesInit, DoesNothing, LacksNothing, Looks, Does}
-use Rattle.sievedrun.proofs.StreamLemmas.{nothing_written}
+use Rattle.sievedrun.specs.Streams.{AppendsFront, WriteFailed}
+use Rattle.sievedrun.specs.Words.{Finishes, Tells, Makes, RefusesEvent, Puts, DoesEvent, Shows, FindsIn, HasNone, DoesRead, HasMessage, DoesInit, DoesNothing, LacksNothing}
 
 -- ---- the output
 
@@ -47,18 +44,11 @@ pub kept_same : (o : Option (List ℕ)) → output.Keeps o o
 kept_same None = tt
 kept_same (Some held) = refl
 
--- nor is any front of a text
-pub front_none : (o : Option (List ℕ)) (text : List ℕ) → AppendsFront o o text
-front_none o text = (0, nothing_written o)
-
 -- ---- faults
 
 -- a refusal that may come without visible cause comes without one that is seen
 pub sudden_refusal : (refusal : Refusal) → IsTransient refusal → IsSudden (Refused refusal)
 sudden_refusal refusal transient = elim transient [ inl e ↦ inl (ap Refused e) | inr e ↦ inr (inl (ap Refused e)) ]
-
-pub sudden_failure : (fault : Fault) → IsFailure fault → IsSudden fault
-sudden_failure fault failure = elim failure [ inl e ↦ inl e | inr e ↦ inr (inr e) ]
 
 -- another try may help then
 pub sudden_status : (fault : Fault) → IsSudden fault → status_of fault ≡ 75
@@ -72,9 +62,52 @@ pub sudden_or : {X : Type 0} (r : Result X Fault) (other : Fault) → IfErr r Is
 sudden_or (Ok x) other h = tt
 sudden_or (Err fault) other h = inl h
 
--- what keeps every word from its work keeps one from it that has a value that may be wrong
-pub hindered_wider : (Wrong Denied : Type 0) (fault : Fault) → IsHindered ⊥ Denied fault → IsHindered Wrong Denied fault
-hindered_wider Wrong Denied fault h = elim h [ inl sudden ↦ inl sudden | inr more ↦ elim more [ inl none ↦ absurd none.1 | inr denied ↦ inr (inr denied) ] ]
+module _ (Broken Wrong : Type 0) (Denied : Fault → Type 0) where
+  pub no_memory : IsHindered Broken Wrong Denied memory
+  no_memory = inl refl
+
+  pub broken : (fault : Fault) → fault ≡ Stream → Broken → IsHindered Broken Wrong Denied fault
+  broken fault is why = inr (inr (inl (is, why)))
+
+  pub wrong : (fault : Fault) → fault ≡ BadArgument → Wrong → IsHindered Broken Wrong Denied fault
+  wrong fault is why = inr (inr (inr (inl (is, why))))
+
+  pub denied : (fault : Fault) → Denied fault → (Wrong → ⊥) → IsHindered Broken Wrong Denied fault
+  denied fault why right = inr (inr (inr (inr (why, right))))
+
+  -- memory was refused, or a read of the input failed
+  pub unread : (fault : Fault) → IsFailure fault → (fault ≡ Stream → Broken) → IsHindered Broken Wrong Denied fault
+  unread fault failure why = elim failure [ inl e ↦ inl e | inr e ↦ broken fault e (why e) ]
+
+  -- a refusal that may come without visible cause
+  pub transient_hinders : (refusal : Refusal) → IsTransient refusal → IsHindered Broken Wrong Denied (Refused refusal)
+  transient_hinders refusal transient = elim transient [ inl e ↦ inl (ap Refused e) | inr e ↦ inr (inl (ap Refused e)) ]
+
+  -- what keeps every word from its work keeps one from it whose values are right
+  pub hindered_wider : (Wrong → ⊥) → (fault : Fault) → IsHindered ⊥ ⊥ Denied fault → IsHindered Broken Wrong Denied fault
+  hindered_wider right fault h = elim h [
+    | inl e ↦ inl e
+    | inr more ↦ elim more [
+      | inl e ↦ inr (inl e)
+      | inr more ↦ elim more [
+        | inl none ↦ absurd none.1
+        | inr more ↦ elim more [ inl none ↦ absurd none.1 | inr why ↦ denied fault why.0 right ]
+      ]
+    ]
+  ]
+
+-- where what is read may break, what comes without a cause that is seen is one
+pub sudden_hinders : (Wrong : Type 0) (Denied : Fault → Type 0) (fault : Fault) → IsSudden fault → IsHindered (Unit {0}) Wrong Denied fault
+sudden_hinders Wrong Denied fault sudden = elim sudden [ inl e ↦ inl e | inr more ↦ elim more [ inl e ↦ inr (inl e) | inr e ↦ broken (Unit {0}) Wrong Denied fault e tt ] ]
+
+-- a write that failed cut a text off
+pub cut_off : (old out : Option (List ℕ)) (text : List ℕ) (r : Result (Unit {0}) Fault) → OnErr r (AppendsFront old out text) → OnErr r (WriteFailed out) → IfErr r (λ fault. fault ≡ Stream) → IfErr r (λ fault. IsCutOff fault old out text)
+cut_off old out text (Ok done) front failed is = tt
+cut_off old out text (Err fault) front failed is = inr (is, (front, failed))
+
+-- without memory for it nothing of a text is printed
+pub cut_none : (out : Option (List ℕ)) (text : List ℕ) → IsCutOff memory out out text
+cut_none out text = inl (refl, kept_same out)
 
 -- ---- tables
 
@@ -120,7 +153,7 @@ module _ (held new : Database) (taken given : State) (seen : held.schema ≡ mai
   }
 
   -- it was read
-  pub read_turned : {X : Type 0} (Denied : Type 0) (user : List ℕ) (Part : X → Account → Type 0) (q : Result X Refusal) → Reads user Part taken given q → (r : Result X Fault)
+  pub read_turned : {X : Type 0} (Denied : Fault → Type 0) (user : List ℕ) (Part : X → Account → Type 0) (q : Result X Refusal) → Reads user Part taken given q → (r : Result X Fault)
       → ((accounts : Accounts) → IfOk q (λ x. OfUser accounts user (Part x)) → IfErr q (λ e. e ≡ NoUser → IsFree user accounts) → FindsIn Denied user Part r accounts)
       → TurnsTables (λ accounts later. (later ≡ accounts) × FindsIn Denied user Part r accounts) held new
   read_turned Denied user Part q reads r finds = record {
@@ -179,10 +212,10 @@ module _ (event : Event) (Row : Accounts → Answer → Accounts → Type 0) (Ma
   stays_by refusal accounts later (inr h) = h.3
 
   -- and this is the event, put to the machine
-  put_by : {X : Type 0} (Denied : Type 0) (told : X → Answer) (x : X) (accounts later : Accounts) → TurnsBy Row May (told x) accounts later → Puts Denied event told (Ok x) accounts later
+  put_by : {X : Type 0} (Denied : Fault → Type 0) (told : X → Answer) (x : X) (accounts later : Accounts) → TurnsBy Row May (told x) accounts later → Puts Denied event told (Ok x) accounts later
   put_by Denied told x accounts later turned = next_by (told x) accounts later turned
 
-  refused_by : {X : Type 0} (Denied : Type 0) (told : X → Answer) (refusal : Refusal) (accounts later : Accounts) → TurnsBy Row May (answer.Refused refusal) accounts later → Puts Denied event told (Err (Refused refusal)) accounts later
+  refused_by : {X : Type 0} (Denied : Fault → Type 0) (told : X → Answer) (refusal : Refusal) (accounts later : Accounts) → TurnsBy Row May (answer.Refused refusal) accounts later → Puts Denied event told (Err (Refused refusal)) accounts later
   refused_by Denied told refusal accounts later turned =
       let same = stays_by refusal accounts later turned in (
         same,
@@ -196,7 +229,7 @@ module _ (event : Event) (Row : Accounts → Answer → Accounts → Type 0) (Ma
       )
 
 -- a delivery
-module _ (Denied : Type 0) (user : List ℕ) (envelope : Envelope) (message : List ℕ) (moment : ℕ) where
+module _ (Denied : Fault → Type 0) (user : List ℕ) (envelope : Envelope) (message : List ℕ) (moment : ℕ) where
   abbrev Row : Accounts → Answer → Accounts → Type 0
   Row accounts = Delivery accounts user envelope message moment
 
@@ -212,7 +245,7 @@ module _ (Denied : Type 0) (user : List ℕ) (envelope : Envelope) (message : Li
       (delivers_kept user message envelope moment) Denied answer.Delivered
 
 -- a new user
-module _ (Denied : Type 0) (name address salt password : List ℕ) where
+module _ (Denied : Fault → Type 0) (name address salt password : List ℕ) where
   abbrev AddRow : Accounts → Answer → Accounts → Type 0
   AddRow accounts = Addition accounts name address salt password
 
@@ -229,7 +262,7 @@ module _ (Denied : Type 0) (name address salt password : List ℕ) where
       (adds_kept name address salt password) {X = Unit {0}} Denied (λ x. answer.Added)
 
 -- a row that leaves the queue
-module _ (Denied : Type 0) (user : List ℕ) (id : ℕ) where
+module _ (Denied : Fault → Type 0) (user : List ℕ) (id : ℕ) where
   abbrev TakeRow : Accounts → Answer → Accounts → Type 0
   TakeRow accounts = Taking accounts user id
 
@@ -240,18 +273,18 @@ module _ (Denied : Type 0) (user : List ℕ) (id : ℕ) where
   taking_refused = refused_by (TakeOut user id) TakeRow IsTransient (λ accounts later said row. (later, row, refl)) (λ accounts. taking_may user id (world_of accounts)) (takes_kept user id) Denied answer.Taken
 
 -- no store was given out for the event
-pub put_denied : {X : Type 0} (Denied : Type 0) (event : Event) (told : X → Answer) (fault : Fault) (r : Result X Fault) → r ≡ Err fault → Denied → status_of fault ≢ 64 → (held new : Database) → new ≡ held
+pub put_denied : {X : Type 0} (Denied : Fault → Type 0) (event : Event) (told : X → Answer) (fault : Fault) (r : Result X Fault) → r ≡ Err fault → Denied fault → (held new : Database) → new ≡ held
     → TurnsTables (Puts Denied event told r) held new
-put_denied Denied event told fault r is denied late held new same =
-    stays_turned (Puts Denied event told r) held new same (λ accounts. subst (λ o. Puts Denied event told o accounts accounts) (sym is) (refl, inl (inr (inr (denied, late)))))
+put_denied Denied event told fault r is why held new same =
+    stays_turned (Puts Denied event told r) held new same (λ accounts. subst (λ o. Puts Denied event told o accounts accounts) (sym is) (refl, inl (denied ⊥ ⊥ Denied fault why (λ no. no))))
 
 -- ---- a word that is an event
-module _ (Wrong Denied : Type 0) (Own : Event → Type 0) where
+module _ (Broken Wrong : Type 0) (Denied : Fault → Type 0) (Own : Event → Type 0) where
   abbrev Cause : Fault → Accounts → Type 0
-  Cause fault accounts = IsHindered Wrong Denied fault ⊎ RefusesEvent Own fault accounts
+  Cause fault accounts = IsHindered Broken Wrong Denied fault ⊎ RefusesEvent Own fault accounts
 
   -- it didn't come to the event
-  pub event_hindered : (out : Option (List ℕ)) (held : Database) (fault : Fault) (r : Result (Unit {0}) Fault) → r ≡ Err fault → IsHindered Wrong Denied fault → DoesEvent Wrong Denied Own out out r held held
+  pub event_hindered : (out : Option (List ℕ)) (held : Database) (fault : Fault) (r : Result (Unit {0}) Fault) → r ≡ Err fault → IsHindered Broken Wrong Denied fault → DoesEvent Broken Wrong Denied Own out out r held held
   event_hindered out held fault r is hindered =
       stays_turned (Finishes (Makes Own) Cause out out r) held held refl
       (λ accounts. subst (λ o. Finishes (Makes Own) Cause out out o accounts accounts) (sym is) (inl (record { cause = inl hindered; stays = refl; silent = kept_same out })))
@@ -261,12 +294,12 @@ module _ (Wrong Denied : Type 0) (Own : Event → Type 0) where
     own_refused fault accounts h = record { event = h.event; own = subst Own (sym h.own) own; refusal = h.refusal; told = h.told; next = h.next }
 
     -- it was put, and wasn't made
-    pub event_unmade : (out : Option (List ℕ)) (fault : Fault) (r : Result (Unit {0}) Fault) → r ≡ Err fault → TurnsTables (Puts Denied event told (Err fault)) held new → DoesEvent Wrong Denied Own out out r held new
-    event_unmade out fault r is put =
+    pub event_unmade : (out : Option (List ℕ)) (right : Wrong → ⊥) (fault : Fault) (r : Result (Unit {0}) Fault) → r ≡ Err fault → TurnsTables (Puts Denied event told (Err fault)) held new → DoesEvent Broken Wrong Denied Own out out r held new
+    event_unmade out right fault r is put =
         turned_wider (Puts Denied event told (Err fault)) (Finishes (Makes Own) Cause out out r) held new
         (λ accounts later h.
         subst (λ o. Finishes (Makes Own) Cause out out o accounts later) (sym is) (inl (record {
-          cause = elim h.1 [ inl hindered ↦ inl (hindered_wider Wrong Denied fault hindered) | inr refused ↦ inr (own_refused fault accounts refused) ];
+          cause = elim h.1 [ inl hindered ↦ inl (hindered_wider Broken Wrong Denied right fault hindered) | inr refused ↦ inr (own_refused fault accounts refused) ];
           stays = h.0;
           silent = kept_same out;
         })))
@@ -274,22 +307,17 @@ module _ (Wrong Denied : Type 0) (Own : Event → Type 0) where
 
     -- it was made, and this was printed
     pub event_made : (x : X) (text : List ℕ) → Tells event (told x) text → TurnsTables (Puts Denied event told (Ok x)) held new → (old out : Option (List ℕ)) (r : Result (Unit {0}) Fault)
-        → OnOk r (Appends old out text) → OnErr r (AppendsFront old out text) → IfErr r IsFailure → DoesEvent Wrong Denied Own old out r held new
-    event_made x text tells put old out r printed front failure =
-        turned_wider (Puts Denied event told (Ok x)) (Finishes (Makes Own) Cause old out r) held new (λ accounts later h. by r printed front failure accounts later h) put
+        → OnOk r (Appends old out text) → IfErr r (λ fault. IsCutOff fault old out text) → DoesEvent Broken Wrong Denied Own old out r held new
+    event_made x text tells put old out r printed cut =
+        turned_wider (Puts Denied event told (Ok x)) (Finishes (Makes Own) Cause old out r) held new (λ accounts later h. by r printed cut accounts later h) put
       where
         deed : (accounts later : Accounts) → Next (world_of accounts) event (told x) (world_of later) → Makes Own accounts later text
         deed accounts later h = record { event = event; own = own; answer = told x; next = h; tells = tells }
 
-        by : (r : Result (Unit {0}) Fault) → OnOk r (Appends old out text) → OnErr r (AppendsFront old out text) → IfErr r IsFailure → (accounts later : Accounts) → Next (world_of accounts) event (told x) (world_of later)
+        by : (r : Result (Unit {0}) Fault) → OnOk r (Appends old out text) → IfErr r (λ fault. IsCutOff fault old out text) → (accounts later : Accounts) → Next (world_of accounts) event (told x) (world_of later)
             → Finishes (Makes Own) Cause old out r accounts later
-        by (Ok done) printed front failure accounts later h = record { text = text; deed = deed accounts later h; printed = printed }
-        by (Err fault) printed front failure accounts later h = inr (failure, record { text = text; deed = deed accounts later h; printed = front })
-
--- a write that failed is a failure
-pub written_failure : {X : Type 0} (r : Result X Fault) → IfErr r (λ fault. fault ≡ Stream) → IfErr r IsFailure
-written_failure (Ok x) h = tt
-written_failure (Err fault) h = inr h
+        by (Ok done) printed cut accounts later h = record { text = text; deed = deed accounts later h; printed = printed }
+        by (Err fault) printed cut accounts later h = inr (record { text = text; deed = deed accounts later h; printed = cut })
 
 -- ---- a word that reads
 
@@ -339,33 +367,33 @@ message_none user name folder number own is old new r reads =
     (reads_wider user (λ message a. message ≡ None) (λ message a. HasMessage folder number a message) old new r (λ message a found. subst (λ n. HasMessage folder n a message) (sym is) found) reads)
 
 -- no store was given out for the read
-pub find_denied : {X : Type 0} (Denied : Type 0) (user : List ℕ) (Part : X → Account → Type 0) (fault : Fault) (r : Result X Fault) → r ≡ Err fault → Denied → status_of fault ≢ 64 → (held new : Database) → new ≡ held
+pub find_denied : {X : Type 0} (Denied : Fault → Type 0) (user : List ℕ) (Part : X → Account → Type 0) (fault : Fault) (r : Result X Fault) → r ≡ Err fault → Denied fault → (held new : Database) → new ≡ held
     → TurnsTables (λ accounts later. (later ≡ accounts) × FindsIn Denied user Part r accounts) held new
-find_denied Denied user Part fault r is denied late held new same =
+find_denied Denied user Part fault r is why held new same =
     stays_turned (λ accounts later. (later ≡ accounts) × FindsIn Denied user Part r accounts) held new same
-    (λ accounts. (refl, subst (λ o. FindsIn Denied user Part o accounts) (sym is) (inl (inr (inr (denied, late))))))
+    (λ accounts. (refl, subst (λ o. FindsIn Denied user Part o accounts) (sym is) (inl (denied ⊥ ⊥ Denied fault why (λ no. no)))))
 
 -- what was found, by the read's result
-pub found_ok : {X : Type 0} (Denied : Type 0) (user : List ℕ) (Part : X → Account → Type 0) (q : Result X Refusal) (x : X) (r : Result X Fault) → q ≡ Ok x → r ≡ Ok x → (accounts : Accounts)
+pub found_ok : {X : Type 0} (Denied : Fault → Type 0) (user : List ℕ) (Part : X → Account → Type 0) (q : Result X Refusal) (x : X) (r : Result X Fault) → q ≡ Ok x → r ≡ Ok x → (accounts : Accounts)
     → IfOk q (λ y. OfUser accounts user (Part y)) → FindsIn Denied user Part r accounts
 found_ok Denied user Part q x r is told accounts found =
     subst (λ o. FindsIn Denied user Part o accounts) (sym told) (subst (λ o. IfOk o (λ y. OfUser accounts user (Part y))) is found)
 
-pub found_none : {X : Type 0} (Denied : Type 0) (user : List ℕ) (Part : X → Account → Type 0) (q : Result X Refusal) (e : Refusal) (r : Result X Fault) → q ≡ Err e → r ≡ Err (Refused e) → (e ≡ NoUser) ⊎ IsTransient e → (accounts : Accounts)
+pub found_none : {X : Type 0} (Denied : Fault → Type 0) (user : List ℕ) (Part : X → Account → Type 0) (q : Result X Refusal) (e : Refusal) (r : Result X Fault) → q ≡ Err e → r ≡ Err (Refused e) → (e ≡ NoUser) ⊎ IsTransient e → (accounts : Accounts)
     → IfErr q (λ y. y ≡ NoUser → IsFree user accounts) → FindsIn Denied user Part r accounts
 found_none Denied user Part q e r is told named accounts absent =
     let free : e ≡ NoUser → IsFree user accounts = subst (λ o. IfErr o (λ y. y ≡ NoUser → IsFree user accounts)) is absent in
     subst (λ o. FindsIn Denied user Part o accounts) (sym told) (elim named [
       | inl none ↦ inr (ap Refused none, free none)
-      | inr transient ↦ inl (inl (sudden_refusal e transient))
+      | inr transient ↦ inl (transient_hinders ⊥ ⊥ Denied e transient)
     ])
 
-module _ (Wrong Denied : Type 0) (user : List ℕ) (IsShown : Account → List ℕ → Type 0) (Lacks : Fault → Account → Type 0) where
+module _ (Wrong : Type 0) (Denied : Fault → Type 0) (user : List ℕ) (IsShown : Account → List ℕ → Type 0) (Lacks : Fault → Account → Type 0) where
   abbrev Ends : Option (List ℕ) → Option (List ℕ) → Result (Unit {0}) Fault → Accounts → Accounts → Type 0
   Ends = Finishes (Shows user IsShown) (HasNone Wrong Denied user Lacks)
 
   -- nothing was read
-  pub read_hindered : (out : Option (List ℕ)) (held : Database) (fault : Fault) (r : Result (Unit {0}) Fault) → r ≡ Err fault → IsHindered Wrong Denied fault → DoesRead Wrong Denied user IsShown Lacks out out r held held
+  pub read_hindered : (out : Option (List ℕ)) (held : Database) (fault : Fault) (r : Result (Unit {0}) Fault) → r ≡ Err fault → IsHindered ⊥ Wrong Denied fault → DoesRead Wrong Denied user IsShown Lacks out out r held held
   read_hindered out held fault r is hindered =
       stays_turned (Ends out out r) held held refl (λ accounts. subst (λ o. Ends out out o accounts accounts) (sym is) (inl (record { cause = inl hindered; stays = refl; silent = kept_same out })))
 
@@ -374,19 +402,19 @@ module _ (Wrong Denied : Type 0) (user : List ℕ) (IsShown : Account → List �
     Found q accounts later = (later ≡ accounts) × FindsIn Denied user Part q accounts
 
     -- it couldn't be read
-    pub read_refused : (out : Option (List ℕ)) (fault : Fault) (r : Result (Unit {0}) Fault) → r ≡ Err fault → TurnsTables (Found (Err fault)) held new → DoesRead Wrong Denied user IsShown Lacks out out r held new
-    read_refused out fault r is found =
+    pub read_refused : (right : Wrong → ⊥) (out : Option (List ℕ)) (fault : Fault) (r : Result (Unit {0}) Fault) → r ≡ Err fault → TurnsTables (Found (Err fault)) held new → DoesRead Wrong Denied user IsShown Lacks out out r held new
+    read_refused right out fault r is found =
         turned_wider (Found (Err fault)) (Ends out out r) held new
         (λ accounts later h.
         subst (λ o. Ends out out o accounts later) (sym is) (inl (record {
-          cause = elim h.1 [ inl hindered ↦ inl (hindered_wider Wrong Denied fault hindered) | inr free ↦ inr (inl free) ];
+          cause = elim h.1 [ inl hindered ↦ inl (hindered_wider ⊥ Wrong Denied right fault hindered) | inr free ↦ inr (inl (free.0, free.1, right)) ];
           stays = h.0;
           silent = kept_same out;
         })))
         found
 
     -- it was found, and there was no memory to show it
-    pub read_failed : (x : X) (fault : Fault) → IsHindered Wrong Denied fault → TurnsTables (Found (Ok x)) held new → (out : Option (List ℕ)) (r : Result (Unit {0}) Fault) → r ≡ Err fault
+    pub read_failed : (x : X) (fault : Fault) → IsHindered ⊥ Wrong Denied fault → TurnsTables (Found (Ok x)) held new → (out : Option (List ℕ)) (r : Result (Unit {0}) Fault) → r ≡ Err fault
         → DoesRead Wrong Denied user IsShown Lacks out out r held new
     read_failed x fault hindered found out r is =
         turned_wider (Found (Ok x)) (Ends out out r) held new (λ accounts later h. subst (λ o. Ends out out o accounts later) (sym is) (inl (record { cause = inl hindered; stays = h.0; silent = kept_same out }))) found
@@ -402,81 +430,48 @@ module _ (Wrong Denied : Type 0) (user : List ℕ) (IsShown : Account → List �
 
     -- it was shown
     pub read_shown : (x : X) (text : List ℕ) → ((a : Account) → Part x a → IsShown a text) → TurnsTables (Found (Ok x)) held new → (old out : Option (List ℕ)) (r : Result (Unit {0}) Fault)
-        → OnOk r (Appends old out text) → OnErr r (AppendsFront old out text) → IfErr r IsFailure → DoesRead Wrong Denied user IsShown Lacks old out r held new
-    read_shown x text shows found old out r printed front failure = turned_wider (Found (Ok x)) (Ends old out r) held new (λ accounts later h. by r printed front failure accounts later h) found
+        → OnOk r (Appends old out text) → IfErr r (λ fault. IsCutOff fault old out text) → DoesRead Wrong Denied user IsShown Lacks old out r held new
+    read_shown x text shows found old out r printed cut = turned_wider (Found (Ok x)) (Ends old out r) held new (λ accounts later h. by r printed cut accounts later h) found
       where
         deed : (accounts later : Accounts) → Found (Ok x) accounts later → Shows user IsShown accounts later text
         deed accounts later h = record { stays = h.0; shown = (h.1.0, h.1.1, shows h.1.0 h.1.2) }
 
-        by : (r : Result (Unit {0}) Fault) → OnOk r (Appends old out text) → OnErr r (AppendsFront old out text) → IfErr r IsFailure → (accounts later : Accounts) → Found (Ok x) accounts later → Ends old out r accounts later
-        by (Ok done) printed front failure accounts later h = record { text = text; deed = deed accounts later h; printed = printed }
-        by (Err fault) printed front failure accounts later h = inr (failure, record { text = text; deed = deed accounts later h; printed = front })
+        by : (r : Result (Unit {0}) Fault) → OnOk r (Appends old out text) → IfErr r (λ fault. IsCutOff fault old out text) → (accounts later : Accounts) → Found (Ok x) accounts later → Ends old out r accounts later
+        by (Ok done) printed cut accounts later h = record { text = text; deed = deed accounts later h; printed = printed }
+        by (Err fault) printed cut accounts later h = inr (record { text = text; deed = deed accounts later h; printed = cut })
 
 -- what is shown is told by another name, and another value of the words may be wrong
-pub read_told : (Wrong Denied : Type 0) (user : List ℕ) (IsShown Wider : Account → List ℕ → Type 0) → ((a : Account) (text : List ℕ) → IsShown a text → Wider a text) → (old out : Option (List ℕ)) (r : Result (Unit {0}) Fault) (held new : Database)
+pub read_told : (Wrong : Type 0) (Denied : Fault → Type 0) → (Wrong → ⊥) → (user : List ℕ) (IsShown Wider : Account → List ℕ → Type 0) → ((a : Account) (text : List ℕ) → IsShown a text → Wider a text) → (old out : Option (List ℕ)) (r : Result (Unit {0}) Fault) (held new : Database)
     → DoesRead ⊥ Denied user IsShown LacksNothing old out r held new → DoesRead Wrong Denied user Wider LacksNothing old out r held new
-read_told Wrong Denied user IsShown Wider wider old out r held new does =
+read_told Wrong Denied right user IsShown Wider wider old out r held new does =
     turned_wider (Finishes (Shows user IsShown) (HasNone ⊥ Denied user LacksNothing) old out r) (Finishes (Shows user Wider) (HasNone Wrong Denied user LacksNothing) old out r) held new (by r) does
   where
+    still : (fault : Fault) → IsHindered ⊥ ⊥ Denied fault → IsHindered ⊥ Wrong Denied fault
+    still = hindered_wider ⊥ Wrong Denied right
+
     shows : (accounts later : Accounts) (text : List ℕ) → Shows user IsShown accounts later text → Shows user Wider accounts later text
     shows accounts later text h = record { stays = h.stays; shown = (h.shown.0, h.shown.1, wider h.shown.0 text h.shown.2) }
 
     by : (r : Result (Unit {0}) Fault) (accounts later : Accounts) → Finishes (Shows user IsShown) (HasNone ⊥ Denied user LacksNothing) old out r accounts later → Finishes (Shows user Wider) (HasNone Wrong Denied user LacksNothing) old out r accounts later
     by (Ok done) accounts later h = record { text = h.text; deed = shows accounts later h.text h.deed; printed = h.printed }
     by (Err fault) accounts later h = elim h [
-      | inl undone ↦ inl (record { cause = elim undone.cause [ inl hindered ↦ inl (hindered_wider Wrong Denied fault hindered) | inr none ↦ inr none ]; stays = undone.stays; silent = undone.silent })
-      | inr (failure, did) ↦ inr (failure, record { text = did.text; deed = shows accounts later did.text did.deed; printed = did.printed })
+      | inl undone ↦ inl (record { cause = elim undone.cause [ inl hindered ↦ inl (still fault hindered) | inr more ↦ elim more [ inl free ↦ inr (inl (free.0, free.1, right)) | inr lacks ↦ inr (inr lacks) ] ]; stays = undone.stays; silent = undone.silent })
+      | inr did ↦ inr (record { text = did.text; deed = shows accounts later did.text did.deed; printed = did.printed })
     ]
 
 -- ---- `init`
 
-pub init_denied : (Denied : Type 0) (out : Option (List ℕ)) (fault : Fault) (r : Result (Unit {0}) Fault) → r ≡ Err fault → Denied → status_of fault ≢ 64 → (held new : Database) → new ≡ held → DoesInit Denied out out r held new
-init_denied Denied out fault r is denied late held new same = subst (λ o. DoesInit Denied out out o held new) (sym is) (inl (inr (inr (denied, late)), same, kept_same out))
+pub init_denied : (Denied : Fault → Type 0) (out : Option (List ℕ)) (fault : Fault) (r : Result (Unit {0}) Fault) → r ≡ Err fault → Denied fault → (held new : Database) → new ≡ held → DoesInit Denied out out r held new
+init_denied Denied out fault r is why held new same = subst (λ o. DoesInit Denied out out o held new) (sym is) (inl (denied ⊥ ⊥ Denied fault why (λ no. no), same, kept_same out))
 
 -- a store was made and handed back
-pub init_made : (Denied : Type 0) (old out : Option (List ℕ)) (r : Result (Unit {0}) Fault) → OnOk r (Appends old out (codes "ready\n")) → OnErr r (AppendsFront old out (codes "ready\n")) → IfErr r (λ fault. fault ≡ Stream)
+pub init_made : (Denied : Fault → Type 0) (old out : Option (List ℕ)) (r : Result (Unit {0}) Fault) → OnOk r (Appends old out (codes "ready\n")) → IfErr r (λ fault. IsCutOff fault old out (codes "ready\n"))
     → (held seen new : Database) → held.schema ≡ no_schema → Presents seen no_accounts → new ≡ seen → DoesInit Denied old out r held new
-init_made Denied old out (Ok done) printed front failed held seen new blank made back = (blank, subst (λ db. Presents db no_accounts) (sym back) made, printed)
-init_made Denied old out (Err fault) printed front failed held seen new blank made back = inr (inr failed, blank, subst (λ db. Presents db no_accounts) (sym back) made, front)
+init_made Denied old out (Ok done) printed cut held seen new blank made back = (blank, subst (λ db. Presents db no_accounts) (sym back) made, printed)
+init_made Denied old out (Err fault) printed cut held seen new blank made back = inr (blank, subst (λ db. Presents db no_accounts) (sym back) made, cut)
 
 -- ---- the words
 
 -- the words ask for nothing that there is
 pub nothing_done : (out : Option (List ℕ)) (held : Database) → DoesNothing out out (Err BadArgument) held held
 nothing_done out held = (refl, refl, kept_same out)
-
--- another word than those that write only reads
-pub looks_done : (Denied : List ℕ → Type 0) (clock : Option ℕ) (given : Option (List ℕ)) (tells : Bool) (had has : List (List ℕ)) (old out : Option (List ℕ)) (asked : Asked) (r : Result (Unit {0}) Fault) (held new : Database)
-    → ((place : _) → asked ≡ word.Init place → ⊥) → ((place : _) (salt : _) (name : _) (address : _) → asked ≡ word.AddUser place salt name address → ⊥)
-    → ((place : _) (from : _) (to : _) (at : _) (user : _) → asked ≡ word.Deliver place from to at user → ⊥) → ((place : _) (user : _) (id : _) → asked ≡ word.Done place user id → ⊥)
-    → ((place : _) (most : _) (user : _) (folder : _) (maildir : _) → asked ≡ word.Drain place most user folder maildir → ⊥)
-    → GrowsBy tells had has [] → Looks Denied old out asked r held new → Does Denied clock given tells had has old out asked r held new
-looks_done Denied clock given tells had has old out (word.Init place) r held new i a p q d same looks = absurd (i place refl)
-looks_done Denied clock given tells had has old out (word.AddUser place salt name address) r held new i a p q d same looks = absurd (a place salt name address refl)
-looks_done Denied clock given tells had has old out (word.Deliver place from to at user) r held new i a p q d same looks = absurd (p place from to at user refl)
-looks_done Denied clock given tells had has old out (word.Done place user id) r held new i a p q d same looks = absurd (q place user id refl)
-looks_done Denied clock given tells had has old out (word.Drain place most user folder maildir) r held new i a p q d same looks = absurd (d place most user folder maildir refl)
-looks_done Denied clock given tells had has old out (word.Try from to) r held new i a p q d same looks = (same, looks)
-looks_done Denied clock given tells had has old out (word.Folders place user directories levels) r held new i a p q d same looks = (same, looks)
-looks_done Denied clock given tells had has old out (word.Show place user folder number) r held new i a p q d same looks = (same, looks)
-looks_done Denied clock given tells had has old out (word.Queue place user id) r held new i a p q d same looks = (same, looks)
-looks_done Denied clock given tells had has old out (word.Notices place user) r held new i a p q d same looks = (same, looks)
-looks_done Denied clock given tells had has old out (word.Serve place port sessions) r held new i a p q d same looks = (same, looks)
-looks_done Denied clock given tells had has old out (word.Session place) r held new i a p q d same looks = (same, looks)
-
--- a word that is none of those that read is refused
-pub none_looked : (Denied : List ℕ → Type 0) (out : Option (List ℕ)) (asked : Asked) (held : Database)
-    → ((place : _) (user : _) (directories : _) (levels : _) → asked ≡ word.Folders place user directories levels → ⊥) → ((place : _) (user : _) (folder : _) (number : _) → asked ≡ word.Show place user folder number → ⊥)
-    → ((place : _) (user : _) (id : _) → asked ≡ word.Queue place user id → ⊥) → ((place : _) (user : _) → asked ≡ word.Notices place user → ⊥) → Looks Denied out out asked (Err BadArgument) held held
-none_looked Denied out (word.Folders place user directories levels) held f s q n = absurd (f place user directories levels refl)
-none_looked Denied out (word.Show place user folder number) held f s q n = absurd (s place user folder number refl)
-none_looked Denied out (word.Queue place user id) held f s q n = absurd (q place user id refl)
-none_looked Denied out (word.Notices place user) held f s q n = absurd (n place user refl)
-none_looked Denied out (word.Try from to) held f s q n = nothing_done out held
-none_looked Denied out (word.Init place) held f s q n = nothing_done out held
-none_looked Denied out (word.AddUser place salt name address) held f s q n = nothing_done out held
-none_looked Denied out (word.Deliver place from to at user) held f s q n = nothing_done out held
-none_looked Denied out (word.Done place user id) held f s q n = nothing_done out held
-none_looked Denied out (word.Drain place most user folder maildir) held f s q n = nothing_done out held
-none_looked Denied out (word.Serve place port sessions) held f s q n = nothing_done out held
-none_looked Denied out (word.Session place) held f s q n = nothing_done out held

@@ -1,6 +1,6 @@
 -- Messages that go from a folder into a sink.
 use Rattle.std.specs.Prelude.{◌≡◌, ◌⊎◌, ℕ, suc, ◌<◌, ◌≤◌, Bool, true, false, List, [], ◌++◌, codes, decimal, take, replicate, Option, Some, None, Result, Ok, Err, is_ok, IfErr, IsTrue, option_copied}
-use Rattle.std.specs.Io.KnownBytes.{Appends}
+use Rattle.std.specs.Io.KnownBytes.{Appends, Keeps}
 use Rattle.std.specs.FinMap.{get}
 use Rattle.octets.specs.Decimal.{Writes}
 use Rattle.sqlite.specs.Effect.{Database}
@@ -13,13 +13,12 @@ use Rattle.sessions.specs.Acts.{Carries, CrashLeaves}
 use Rattle.mailengine.specs.declared.event.Event.TheVariants.{TakeMail}
 use Rattle.mailengine.specs.declared.answer.Answer.TheVariants.{MailTaken}
 use Rattle.mailengine.specs.World.{Runs}
-use Rattle.sievedrun.specs.declared.drain.Draining.{Draining}
+use Rattle.sievedwords.specs.declared.subcommand.drain.Drain.{Drain}
 use Rattle.reportlines.specs.Reports.{with_end}
 use Rattle.sievedrun.specs.declared.fault.Fault.{Fault}
 use Rattle.sievedrun.specs.declared.fault.Fault.TheVariants.{NoMaildir}
-use Rattle.sievedrun.specs.Faults.{no_user, status_of, IsHindered}
+use Rattle.sievedrun.specs.Faults.{no_user, status_of, IsCutOff, IsHindered}
 use Rattle.sievedrun.specs.Promise.{world_of}
-use Rattle.sievedrun.specs.Streams.{AppendsFront}
 use Rattle.sievedrun.specs.Values.{HasNoNumber}
 
 -- the messages of an account's folder; none where there is no account
@@ -89,16 +88,20 @@ module _ (user folder : List ℕ) (Grew : List (List ℕ) → Type 0) where
   -- after a refusal that many had moved
   abbrev pub AnyMoved : ℕ → Result ℕ Fault → Accounts → Accounts → Type 0
   AnyMoved most (Ok count) accounts later = AllMoved most count accounts later
-  AnyMoved most (Err fault) accounts later = (count : ℕ) × StoppedShort count accounts later
+  AnyMoved most (Err fault) accounts later = (count : ℕ) × StoppedShort count accounts later × (count ≤ most)
 
-  -- it broke off with a fault; one that doesn't say that another try may help comes before any message has left
-  abbrev pub BrokeOff : Fault → Accounts → Accounts → Type 0
-  BrokeOff fault accounts later = (count : ℕ) × StoppedShort count accounts later × ((count ≡ 0) ⊎ (status_of fault ≡ 75))
+  -- before any message has left, and none is kept
+  abbrev pub NothingMoved : ℕ → Type 0
+  NothingMoved count = (count ≡ 0) × Grew []
+
+  -- it broke off with a fault, after no more messages than were asked for; one that doesn't say that another try may help comes before anything moved
+  abbrev pub BrokeOff : ℕ → Fault → Accounts → Accounts → Type 0
+  BrokeOff most fault accounts later = (count : ℕ) × StoppedShort count accounts later × (count ≤ most) × (NothingMoved count ⊎ (status_of fault ≡ 75))
 
   -- of a user who has an account
   abbrev pub Drained : ℕ → Result ℕ Fault → Accounts → Accounts → Type 0
   Drained most (Ok count) accounts later = HasUser user accounts × AllMoved most count accounts later
-  Drained most (Err fault) accounts later = BrokeOff fault accounts later
+  Drained most (Err fault) accounts later = BrokeOff most fault accounts later
 
 -- ---- a call over a store, and a sink that tells what it keeps or doesn't, before and afterwards
 
@@ -125,22 +128,24 @@ abbrev pub drained_line : ℕ → List ℕ
 drained_line count = with_end (codes "drained " ++ decimal count)
 
 -- why a folder isn't drained to its end: no account has the name; the place for the messages is no Maildir; or the word is kept from it
-abbrev pub StopsDraining : Type 0 → Type 0 → List ℕ → Fault → Accounts → Type 0
-StopsDraining Wrong Denied user fault accounts = IsHindered Wrong Denied fault ⊎ (fault ≡ NoMaildir) ⊎ ((fault ≡ no_user) × IsFree user accounts)
+abbrev pub StopsDraining : Type 0 → (Fault → Type 0) → List ℕ → Fault → Accounts → Type 0
+StopsDraining Wrong Denied user fault accounts =
+    IsHindered (Unit {0}) Wrong Denied fault ⊎ ((fault ≡ NoMaildir) × (Wrong → ⊥)) ⊎ ((fault ≡ no_user) × IsFree user accounts × (Wrong → ⊥))
 
 -- over tables: a store of theirs was drained, and where it wasn't to its end the cause is told
-abbrev pub MovesTables : Type 0 → Draining → Bool → List (List ℕ) → List (List ℕ) → ℕ → Result ℕ Fault → Database → Database → Type 0
+abbrev pub MovesTables : (Fault → Type 0) → Drain → Bool → List (List ℕ) → List (List ℕ) → ℕ → Result ℕ Fault → Database → Database → Type 0
 MovesTables Denied asked tells had has most result =
     TurnsTables (λ accounts later. Drained asked.user.now asked.folder.now (GrowsBy tells had has) most result accounts later × IfErr result (λ fault. StopsDraining ⊥ Denied asked.user.now fault accounts))
 
 -- after Ok the word did what it was asked for, and printed how many messages moved; after a fault those that moved stay so, a front of that is
 -- printed, and the cause is told
-abbrev pub WordDrained : Type 0 → Draining → (List (List ℕ) → Type 0) → Option (List ℕ) → Option (List ℕ) → Result (Unit {0}) Fault → Accounts → Accounts → Type 0
+abbrev pub WordDrained : (Fault → Type 0) → Drain → (List (List ℕ) → Type 0) → Option (List ℕ) → Option (List ℕ) → Result (Unit {0}) Fault → Accounts → Accounts → Type 0
 WordDrained Denied asked Grew old new (Ok done) accounts later =
     (most : ℕ) × (count : ℕ) × IsMost (option_copied asked.most) most × Drained asked.user.now asked.folder.now Grew most (Ok count) accounts later × Appends old new (drained_line count)
 WordDrained Denied asked Grew old new (Err fault) accounts later =
-    (broke : BrokeOff asked.user.now asked.folder.now Grew fault accounts later) × AppendsFront old new (drained_line broke.0) × StopsDraining (HasNoNumber (option_copied asked.most)) Denied asked.user.now fault accounts
+    (most : ℕ) × (IsMost (option_copied asked.most) most ⊎ (most ≡ 0)) × (broke : BrokeOff asked.user.now asked.folder.now Grew most fault accounts later)
+    × (Keeps old new ⊎ IsCutOff fault old new (drained_line broke.0)) × StopsDraining (HasNoNumber (option_copied asked.most)) Denied asked.user.now fault accounts
 
 -- and over tables
-abbrev pub HasDrained : Type 0 → Draining → Bool → List (List ℕ) → List (List ℕ) → Option (List ℕ) → Option (List ℕ) → Result (Unit {0}) Fault → Database → Database → Type 0
+abbrev pub HasDrained : (Fault → Type 0) → Drain → Bool → List (List ℕ) → List (List ℕ) → Option (List ℕ) → Option (List ℕ) → Result (Unit {0}) Fault → Database → Database → Type 0
 HasDrained Denied asked tells had has old new result = TurnsTables (WordDrained Denied asked (GrowsBy tells had has) old new result)

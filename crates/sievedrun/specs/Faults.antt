@@ -1,10 +1,13 @@
 -- What the program says where it gives no answer.
-use Rattle.std.specs.Prelude.{◌≡◌, ◌≢◌, ◌⊎◌, ℕ, List, [], ◌∷◌, ◌++◌, codes}
+use Rattle.std.specs.Prelude.{◌≡◌, ◌⊎◌, ℕ, List, [], ◌∷◌, ◌++◌, codes, Option, Some, None, Result, Ok, Err}
+use Rattle.std.specs.Io.KnownBytes.{Keeps}
+use Rattle.mailstore.specs.declared.refusal.Refusal.{Refusal}
 use Rattle.mailstore.specs.declared.refusal.Refusal.TheVariants as refusal
 use Rattle.keepers.specs.declared.keeper.Held.{Held}
 use Rattle.keepers.specs.declared.keeper.Held.TheVariants as held
 use Rattle.mailsinks.specs.declared.sink.SinkError.{SinkError}
 use Rattle.mailsinks.specs.declared.sink.SinkError.TheVariants as sink
+use Rattle.sievedrun.specs.Streams.{IsCut, IsTold}
 use Rattle.sievedrun.specs.declared.fault.Fault.{Fault}
 use Rattle.sievedrun.specs.declared.fault.Fault.TheVariants.{Refused, Busy, Stream, NoMessage, NoMaildir, BadInput, BadArgument}
 
@@ -87,7 +90,25 @@ IsUnanswered no_input _ = ⊥
 abbrev pub IsSudden : Fault → Type 0
 IsSudden fault = (fault ≡ memory) ⊎ (fault ≡ store_failed) ⊎ (fault ≡ Stream)
 
--- what keeps any word from its work: it comes without a cause that is seen; a value in the words is wrong, and only this is told as bad argument;
--- or the store was denied
-abbrev pub IsHindered : Type 0 → Type 0 → Fault → Type 0
-IsHindered Wrong Denied fault = IsSudden fault ⊎ ((fault ≡ BadArgument) × Wrong) ⊎ (Denied × (status_of fault ≢ 64))
+-- what keeps any word from its work: memory was refused, or the store failed; what is read for it broke; a value in the words is wrong, and only this is
+-- told as bad argument; or the store was denied, which is told as it was, and only where no value is wrong
+abbrev pub IsHindered : Type 0 → Type 0 → (Fault → Type 0) → Fault → Type 0
+IsHindered Broken Wrong Denied fault =
+    (fault ≡ memory) ⊎ (fault ≡ store_failed) ⊎ ((fault ≡ Stream) × Broken) ⊎ ((fault ≡ BadArgument) × Wrong) ⊎ (Denied fault × (Wrong → ⊥))
+
+-- a text wasn't printed: there was no memory for it, or a write of it failed
+abbrev pub IsCutOff : Fault → Option (List ℕ) → Option (List ℕ) → List ℕ → Type 0
+IsCutOff fault old new text = ((fault ≡ memory) × Keeps old new) ⊎ ((fault ≡ Stream) × IsCut old new text)
+
+-- what is told at the end: why the store couldn't be closed, and why there is no answer; that a call was refused since the store failed tells of both
+abbrev pub troubles : Option Refusal → Result (Unit {0}) Fault → List Fault
+troubles None (Ok done) = []
+troubles (Some refusal) (Ok done) = Refused refusal ∷ []
+troubles unclosed (Err (Refused refusal.Store)) = store_failed ∷ []
+troubles None (Err fault) = fault ∷ []
+troubles (Some refusal) (Err fault) = Refused refusal ∷ fault ∷ []
+
+-- each of these is told, in turn, each with what is known of its cause
+abbrev pub AreTold : Option (List ℕ) → Option (List ℕ) → List Fault → Type 0
+AreTold old new [] = new ≡ old
+AreTold old new (fault ∷ more) = (mid : Option (List ℕ)) × IsTold old mid (line_of fault) × AreTold mid new more

@@ -13,7 +13,9 @@ use Rattle.sessions.specs.GivenUp.{text_given_up, client_given_up}
 use Rattle.sessions.specs.Refusing.{WasRefused}
 use Rattle.sessions.specs.Replies.{capabilities}
 use Rattle.sessions.specs.Steps.{IsStep}
+use Rattle.keepers.specs.declared.keeper.Held.{Held}
 use Rattle.sievedrun.specs.declared.fault.Fault.{Fault}
+use Rattle.sievedrun.specs.Faults.{fault_held}
 use Rattle.sievedrun.specs.Streams.{AppendsFront}
 
 -- a piece of the client's octets has at most that many
@@ -44,8 +46,16 @@ pub record Steps (accounts : Accounts) (c : Client) (r : Round) : Type 0 where
   pub step : IsStep accounts c progress r.said r.client r.accounts
 
 -- a keeper refused the lock, which wasn't out, or its store at this path: what is so of one that did is so of some keeper
-abbrev pub HasDenied : {K : Type 0} → (K → List ℕ → Type 0) → List ℕ → Type 0
-HasDenied refuses path = (keeper : _) × refuses keeper path
+abbrev pub IsDenied : {K : Type 0} → (K → List ℕ → Held → Type 0) → List ℕ → Type 0
+IsDenied refuses path = (keeper : _) × (held : Held) × refuses keeper path held
+
+-- the same, and this fault tells why
+abbrev pub HasDenied : {K : Type 0} → (K → List ℕ → Held → Type 0) → List ℕ → Fault → Type 0
+HasDenied refuses path fault = (keeper : _) × (held : Held) × refuses keeper path held × (fault ≡ fault_held held)
+
+-- a keeper gave its store out at this path
+abbrev pub HasGiven : {K : Type 0} → (K → List ℕ → Type 0) → List ℕ → Type 0
+HasGiven gives path = (keeper : _) × gives keeper path
 
 -- why what comes first can't be answered: the lock or the store was denied, or its step was refused
 abbrev pub Hinders : Type 0 → Client → Type 0
@@ -171,6 +181,6 @@ pub record Serves (Denied : Type 0) (in_old in_new out_old out_new : Option (Lis
 
 -- the same of a reader, a writer and a keeper, by what is still to be read of the one, what was written to the other, and the tables of the third, which
 -- says by `refuses` that it refused the lock or the store at the path
-abbrev pub ServesBy : {A B C : Type 0} → (A → Option (List ℕ)) → A → A → (B → Option (List ℕ)) → B → B → (C → List ℕ → Type 0) → List ℕ → (C → Database) → C → C → Result (Unit {0}) Fault → Type 0
+abbrev pub ServesBy : {A B C : Type 0} → (A → Option (List ℕ)) → A → A → (B → Option (List ℕ)) → B → B → (C → List ℕ → Held → Type 0) → List ℕ → (C → Database) → C → C → Result (Unit {0}) Fault → Type 0
 ServesBy remaining in_old in_new contents out_old out_new refuses path holds old new result =
-    Serves (HasDenied refuses path) (remaining in_old) (remaining in_new) (contents out_old) (contents out_new) (holds old) (holds new) result
+    Serves (IsDenied refuses path) (remaining in_old) (remaining in_new) (contents out_old) (contents out_new) (holds old) (holds new) result

@@ -16,7 +16,7 @@ use Rattle.sievedrun.specs.declared.answer.Answer.{Answer}
 use Rattle.sievedrun.specs.declared.answer.Answer.TheVariants.{Report, Refusal}
 use Rattle.sievedrun.specs.Faults.{status_of, line_of}
 use Rattle.sievedrun.specs.Framing.{IsFramed}
-use Rattle.sievedrun.specs.Streams.{AppendsFront}
+use Rattle.sievedrun.specs.Streams.{InputFailed, IsCut, IsWritten}
 use Rattle.reportlines.specs.Reports.{with_end, report_of}
 
 -- the input has a valid script, and the text is the report on what it comes to on the message with the envelope
@@ -65,19 +65,19 @@ status_at (Ok (Report _)) = 0
 status_at (Ok (Refusal _)) = 65
 status_at (Err fault) = status_of fault
 
--- what is on the output in the end: the answer, or nothing, or where a write failed a front of the answer
+-- what is on the output in the end: the answer, or nothing, or where a write of it failed a front of the answer
 abbrev pub LeavesOutput : Envelope → Option (List ℕ) → Option (List ℕ) → Option (List ℕ) → Result Answer Fault → Type 0
 LeavesOutput envelope given old new (Ok answer) = OfInput given (λ input. Answers envelope input answer) × Appends old new (text_in answer)
 LeavesOutput envelope given old new (Err BadInput) = OfInput given IsNoInput × Keeps old new
 LeavesOutput envelope given old new (Err (Refused refusal.Memory)) = Keeps old new
 LeavesOutput envelope given old new (Err Stream) =
-    Keeps old new ⊎ ((answer : Answer) × OfInput given (λ input. Answers envelope input answer) × AppendsFront old new (text_in answer))
+    (Keeps old new × InputFailed) ⊎ ((answer : Answer) × OfInput given (λ input. Answers envelope input answer) × IsCut old new (text_in answer))
 LeavesOutput envelope given old new (Err _) = ⊥
 
--- what is told of a fault, or a front of it where that write failed too
+-- what is told of a fault, or a front of it where a write of it failed
 abbrev pub LeavesFaults : Option (List ℕ) → Option (List ℕ) → Result Answer Fault → Type 0
 LeavesFaults old new (Ok _) = Keeps old new
-LeavesFaults old new (Err fault) = AppendsFront old new (line_of fault)
+LeavesFaults old new (Err fault) = IsWritten old new (line_of fault)
 
 -- a whole run: how it ended, what status tells of it, and what it left on the output and on the faults
 pub record Runs (envelope : Envelope) (given : Option (List ℕ)) (output_old output_new faults_old faults_new : Option (List ℕ)) (status : ℕ) : Type 0 where

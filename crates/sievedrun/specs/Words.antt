@@ -1,6 +1,6 @@
 -- What a word of the command line does: what becomes of the accounts, what is printed, and why it is refused.
 use Prim.Native.Nat.{zero}
-use Rattle.std.specs.Prelude.{◌≡◌, ◌⊎◌, ℕ, suc, Bool, true, false, List, [], ◌++◌, codes, decimal, map, slice_get, Option, Some, None, option_copied, Result, Ok, Err}
+use Rattle.std.specs.Prelude.{◌≡◌, ◌≢◌, ◌⊎◌, ℕ, suc, Bool, true, false, List, [], ◌++◌, codes, decimal, map, slice_get, Option, Some, None, option_copied, Result, Ok, Err, OnOk}
 use Rattle.std.specs.FinMap.{entries}
 use Rattle.std.specs.Io.KnownBytes.{Appends, Keeps}
 use Rattle.std.specs.List.{flat_map}
@@ -23,12 +23,19 @@ use Rattle.mailengine.specs.declared.event.Event.{Event}
 use Rattle.mailengine.specs.declared.event.Event.TheVariants.{Deliver, AddUser, TakeOut}
 use Rattle.reportlines.specs.Listings.{queue_listing, notice_listing}
 use Rattle.reportlines.specs.Reports.{with_end, delivery_report}
-use Rattle.sievedwords.specs.declared.asked.Asked.{Asked}
-use Rattle.sievedwords.specs.declared.asked.Asked.TheVariants as word
+use Rattle.clap.specs.Words.{kind_of}
+use Rattle.clap.specs.declared.error.Error.{Error}
+use Rattle.clap.specs.declared.error.kind.ErrorKind.TheVariants.{DisplayHelp, DisplayVersion}
+use Rattle.sievedwords.specs.Asks.{WasRead}
+use Rattle.sievedwords.specs.declared.command_line.CommandLine.{CommandLine}
+use Rattle.sievedwords.specs.declared.reading.ReadError.{ReadError}
+use Rattle.sievedwords.specs.declared.reading.ReadError.TheVariants.{Said, NotText, Unknown}
+use Rattle.sievedwords.specs.declared.subcommand.Subcommand.{Subcommand}
+use Rattle.sievedwords.specs.declared.subcommand.Subcommand.TheVariants as word
 use Rattle.sievedrun.specs.Draining.{GrowsBy, TurnsTables, HasDrained}
-use Rattle.sievedrun.specs.Faults.{no_user, IsFailure, IsHindered}
+use Rattle.sievedrun.specs.Faults.{no_user, status_of, line_of, troubles, AreTold, IsCutOff, IsHindered}
 use Rattle.sievedrun.specs.Promise.{first_line, world_of, status_after}
-use Rattle.sievedrun.specs.Streams.{ReadsAll, AppendsFront}
+use Rattle.sievedrun.specs.Streams.{ReadsAll, AppendsSome, InputFailed, IsWritten}
 use Rattle.sievedrun.specs.Trial.{Runs}
 use Rattle.sievedrun.specs.Values.{IsNoNumber, HasNoNumber, WritesSalt, IsNoSalt, IsMoment, IsSeparator, HasNoSeparator, envelope_with}
 use Rattle.sievedrun.specs.declared.fault.Fault.{Fault}
@@ -48,10 +55,10 @@ pub record IsUndone (Cause : Fault → Accounts → Type 0) (old new : Option (L
   pub stays : later ≡ accounts
   pub silent : Keeps old new
 
--- after Ok it was done, and all of the text is printed; after a fault it wasn't, or it was, and memory for the text or the output failed
+-- after Ok it was done, and all of the text is printed; after a fault it wasn't, or it was, and there was no memory for the text or a write of it failed
 abbrev pub Finishes : (Accounts → Accounts → List ℕ → Type 0) → (Fault → Accounts → Type 0) → Option (List ℕ) → Option (List ℕ) → Result (Unit {0}) Fault → Accounts → Accounts → Type 0
 Finishes Deed Cause old new (Ok done) accounts later = IsDone Deed (Appends old new) accounts later
-Finishes Deed Cause old new (Err fault) accounts later = IsUndone Cause old new fault accounts later ⊎ (IsFailure fault × IsDone Deed (AppendsFront old new) accounts later)
+Finishes Deed Cause old new (Err fault) accounts later = IsUndone Cause old new fault accounts later ⊎ IsDone Deed (IsCutOff fault old new) accounts later
 
 -- ---- words that are an event of the machine
 
@@ -102,13 +109,13 @@ pub record RefusesEvent (Own : Event → Type 0) (fault : Fault) (accounts : Acc
 
 -- one event over a store that was taken for it and handed back: it was made, with what is told of the result; or the machine refuses it, or the
 -- word was kept from it
-abbrev pub Puts : {X : Type 0} → Type 0 → Event → (X → Answer) → Result X Fault → Accounts → Accounts → Type 0
+abbrev pub Puts : {X : Type 0} → (Fault → Type 0) → Event → (X → Answer) → Result X Fault → Accounts → Accounts → Type 0
 Puts Denied event told (Ok x) accounts later = Next (world_of accounts) event (told x) (world_of later)
-Puts Denied event told (Err fault) accounts later = (later ≡ accounts) × (IsHindered ⊥ Denied fault ⊎ RefusesEvent (λ e. e ≡ event) fault accounts)
+Puts Denied event told (Err fault) accounts later = (later ≡ accounts) × (IsHindered ⊥ ⊥ Denied fault ⊎ RefusesEvent (λ e. e ≡ event) fault accounts)
 
 -- the word over tables: an event of its own
-abbrev pub DoesEvent : Type 0 → Type 0 → (Event → Type 0) → Option (List ℕ) → Option (List ℕ) → Result (Unit {0}) Fault → Database → Database → Type 0
-DoesEvent Wrong Denied Own old new result = TurnsTables (Finishes (Makes Own) (λ fault accounts. IsHindered Wrong Denied fault ⊎ RefusesEvent Own fault accounts) old new result)
+abbrev pub DoesEvent : Type 0 → Type 0 → (Fault → Type 0) → (Event → Type 0) → Option (List ℕ) → Option (List ℕ) → Result (Unit {0}) Fault → Database → Database → Type 0
+DoesEvent Broken Wrong Denied Own old new result = TurnsTables (Finishes (Makes Own) (λ fault accounts. IsHindered Broken Wrong Denied fault ⊎ RefusesEvent Own fault accounts) old new result)
 
 -- ---- words that only read
 
@@ -118,16 +125,17 @@ pub record Shows (user : List ℕ) (IsShown : Account → List ℕ → Type 0) (
   pub shown : OfUser accounts user (λ a. IsShown a text)
 
 -- what was read of the user's account: this is found in it; or no account has the name, or the word was kept from it
-abbrev pub FindsIn : {X : Type 0} → Type 0 → List ℕ → (X → Account → Type 0) → Result X Fault → Accounts → Type 0
+abbrev pub FindsIn : {X : Type 0} → (Fault → Type 0) → List ℕ → (X → Account → Type 0) → Result X Fault → Accounts → Type 0
 FindsIn Denied user Finds (Ok found) accounts = OfUser accounts user (Finds found)
-FindsIn Denied user Finds (Err fault) accounts = IsHindered ⊥ Denied fault ⊎ ((fault ≡ no_user) × IsFree user accounts)
+FindsIn Denied user Finds (Err fault) accounts = IsHindered ⊥ ⊥ Denied fault ⊎ ((fault ≡ no_user) × IsFree user accounts)
 
--- why nothing is shown: the word was kept from it, no account has the name, or what was asked for isn't there, which this fault tells
-abbrev pub HasNone : Type 0 → Type 0 → List ℕ → (Fault → Account → Type 0) → Fault → Accounts → Type 0
-HasNone Wrong Denied user Lacks fault accounts = IsHindered Wrong Denied fault ⊎ ((fault ≡ no_user) × IsFree user accounts) ⊎ OfUser accounts user (Lacks fault)
+-- why nothing is shown: the word was kept from it; no value in the words is wrong, and no account has the name; or what was asked for isn't there, which
+-- this fault tells
+abbrev pub HasNone : Type 0 → (Fault → Type 0) → List ℕ → (Fault → Account → Type 0) → Fault → Accounts → Type 0
+HasNone Wrong Denied user Lacks fault accounts = IsHindered ⊥ Wrong Denied fault ⊎ ((fault ≡ no_user) × IsFree user accounts × (Wrong → ⊥)) ⊎ OfUser accounts user (Lacks fault)
 
 -- the word over tables: it shows a part of the user's account
-abbrev pub DoesRead : Type 0 → Type 0 → List ℕ → (Account → List ℕ → Type 0) → (Fault → Account → Type 0) → Option (List ℕ) → Option (List ℕ) → Result (Unit {0}) Fault → Database → Database → Type 0
+abbrev pub DoesRead : Type 0 → (Fault → Type 0) → List ℕ → (Account → List ℕ → Type 0) → (Fault → Account → Type 0) → Option (List ℕ) → Option (List ℕ) → Result (Unit {0}) Fault → Database → Database → Type 0
 DoesRead Wrong Denied user IsShown Lacks old new result = TurnsTables (Finishes (Shows user IsShown) (HasNone Wrong Denied user Lacks) old new result)
 
 -- a folder's name and the number of its messages, in a line
@@ -186,10 +194,10 @@ LacksNothing fault a = ⊥
 -- ---- `init`
 
 -- where no table was there is a store without accounts then; after a fault only where memory or the output failed
-abbrev pub DoesInit : Type 0 → Option (List ℕ) → Option (List ℕ) → Result (Unit {0}) Fault → Database → Database → Type 0
+abbrev pub DoesInit : (Fault → Type 0) → Option (List ℕ) → Option (List ℕ) → Result (Unit {0}) Fault → Database → Database → Type 0
 DoesInit Denied out_old out_new (Ok done) old new = (old.schema ≡ no_schema) × Presents new no_accounts × Appends out_old out_new (codes "ready\n")
 DoesInit Denied out_old out_new (Err fault) old new =
-    (IsHindered ⊥ Denied fault × (new ≡ old) × Keeps out_old out_new) ⊎ (IsFailure fault × (old.schema ≡ no_schema) × Presents new no_accounts × AppendsFront out_old out_new (codes "ready\n"))
+    (IsHindered ⊥ ⊥ Denied fault × (new ≡ old) × Keeps out_old out_new) ⊎ ((old.schema ≡ no_schema) × Presents new no_accounts × IsCutOff fault out_old out_new (codes "ready\n"))
 
 -- ---- the words
 
@@ -198,38 +206,55 @@ abbrev pub DoesNothing : Option (List ℕ) → Option (List ℕ) → Result (Uni
 DoesNothing out_old out_new result old new = (result ≡ Err BadArgument) × (new ≡ old) × Keeps out_old out_new
 
 -- `folders`: directories in a Maildir are shown where they are asked for, and only then may the separator of levels be said
-abbrev pub DoesFolders : Type 0 → Option (List ℕ) → Option (List ℕ) → List ℕ → Bool → Option (List ℕ) → Result (Unit {0}) Fault → Database → Database → Type 0
+abbrev pub DoesFolders : (Fault → Type 0) → Option (List ℕ) → Option (List ℕ) → List ℕ → Bool → Option (List ℕ) → Result (Unit {0}) Fault → Database → Database → Type 0
 DoesFolders Denied out_old out_new user true levels result = DoesRead (HasNoSeparator levels) Denied user (ListsDirectories levels) LacksNothing out_old out_new result
 DoesFolders Denied out_old out_new user false None result = DoesRead ⊥ Denied user (ListsFolders folder_line) LacksNothing out_old out_new result
 DoesFolders Denied out_old out_new user false (Some levels) result = DoesNothing out_old out_new result
 
 -- `queue`: all that is on its way out, or one message of it
-abbrev pub DoesQueue : Type 0 → Option (List ℕ) → Option (List ℕ) → List ℕ → Option (List ℕ) → Result (Unit {0}) Fault → Database → Database → Type 0
+abbrev pub DoesQueue : (Fault → Type 0) → Option (List ℕ) → Option (List ℕ) → List ℕ → Option (List ℕ) → Result (Unit {0}) Fault → Database → Database → Type 0
 DoesQueue Denied out_old out_new user None result = DoesRead ⊥ Denied user ListsQueue LacksNothing out_old out_new result
 DoesQueue Denied out_old out_new user (Some digits) result = DoesRead (IsNoNumber digits) Denied user (ShowsOutgoing digits) (LacksOutgoing digits) out_old out_new result
 
--- a word that only reads; any other is refused
-abbrev pub Looks : (List ℕ → Type 0) → Option (List ℕ) → Option (List ℕ) → Asked → Result (Unit {0}) Fault → Database → Database → Type 0
-Looks Denied out_old out_new (word.Folders place user directories levels) result = DoesFolders (Denied place.path.now) out_old out_new user.now directories (option_copied levels) result
-Looks Denied out_old out_new (word.Show place user folder number) result =
-    DoesRead (IsNoNumber number.now) (Denied place.path.now) user.now (ShowsMessage folder.now number.now) (LacksMessage folder.now number.now) out_old out_new result
-Looks Denied out_old out_new (word.Queue place user id) result = DoesQueue (Denied place.path.now) out_old out_new user.now (option_copied id) result
-Looks Denied out_old out_new (word.Notices place user) result = DoesRead ⊥ (Denied place.path.now) user.now ListsNotices LacksNothing out_old out_new result
-Looks Denied out_old out_new asked result = DoesNothing out_old out_new result
+-- what `deliver` reads broke: its input, or the clock, whose moment it takes where the words have none
+abbrev pub PostFailed : Option (List ℕ) → Option ℕ → Type 0
+PostFailed at clock = InputFailed ⊎ ((at ≡ None) × (clock ≡ None))
 
 -- whoever denies the store at a path, the clock, what was read, whether a sink tells what it keeps and what that was and is, and the output before and after
-module _ (Denied : List ℕ → Type 0) (clock : Option ℕ) (given : Option (List ℕ)) (tells : Bool) (had has : List (List ℕ)) (out_old out_new : Option (List ℕ)) where
+module _ (Denied : List ℕ → Fault → Type 0) (clock : Option ℕ) (given : Option (List ℕ)) (tells : Bool) (had has : List (List ℕ)) (out_old out_new : Option (List ℕ)) where
   -- each word does its own work; only `init` makes a store, and only `drain` moves messages into the sink
-  abbrev pub Does : Asked → Result (Unit {0}) Fault → Database → Database → Type 0
-  Does (word.Init place) result old new = GrowsBy tells had has [] × DoesInit (Denied place.path.now) out_old out_new result old new
-  Does (word.AddUser place salt name address) result old new =
-      GrowsBy tells had has [] × DoesEvent (IsNoSalt salt.now) (Denied place.path.now) (Adds salt.now name.now address.now given) out_old out_new result old new
-  Does (word.Deliver place from to at user) result old new =
-      GrowsBy tells had has [] × DoesEvent (HasNoNumber (option_copied at)) (Denied place.path.now) (Posts from.now to.now (option_copied at) user.now clock given) out_old out_new result old new
-  Does (word.Done place user id) result old new = GrowsBy tells had has [] × DoesEvent (IsNoNumber id.now) (Denied place.path.now) (Dequeues user.now id.now) out_old out_new result old new
-  Does (word.Drain place most user folder maildir) result old new =
-      HasDrained (Denied place.path.now) (record { most = most; user = user; folder = folder; maildir = maildir }) tells had has out_old out_new result old new
-  Does asked result old new = GrowsBy tells had has [] × Looks Denied out_old out_new asked result old new
+  abbrev pub Does : Subcommand → Result (Unit {0}) Fault → Database → Database → Type 0
+  Does (word.Init a) result old new = GrowsBy tells had has [] × DoesInit (Denied a.location.path.now) out_old out_new result old new
+  Does (word.AddUser a) result old new =
+      GrowsBy tells had has [] × DoesEvent InputFailed (IsNoSalt a.salt.now) (Denied a.location.path.now) (Adds a.salt.now a.name.now a.address.now given) out_old out_new result old new
+  Does (word.Deliver a) result old new =
+      GrowsBy tells had has []
+      × DoesEvent (PostFailed (option_copied a.at) clock) (HasNoNumber (option_copied a.at)) (Denied a.location.path.now) (Posts a.from.now a.to.now (option_copied a.at) a.user.now clock given) out_old out_new result old new
+  Does (word.Done a) result old new = GrowsBy tells had has [] × DoesEvent ⊥ (IsNoNumber a.id.now) (Denied a.location.path.now) (Dequeues a.user.now a.id.now) out_old out_new result old new
+  Does (word.Drain a) result old new = HasDrained (Denied a.location.path.now) a tells had has out_old out_new result old new
+  Does (word.Folders a) result old new = GrowsBy tells had has [] × DoesFolders (Denied a.location.path.now) out_old out_new a.user.now a.directories (option_copied a.separator) result old new
+  Does (word.Show a) result old new =
+      GrowsBy tells had has [] × DoesRead (IsNoNumber a.number.now) (Denied a.location.path.now) a.user.now (ShowsMessage a.folder.now a.number.now) (LacksMessage a.folder.now a.number.now) out_old out_new result old new
+  Does (word.Queue a) result old new = GrowsBy tells had has [] × DoesQueue (Denied a.location.path.now) out_old out_new a.user.now (option_copied a.id) result old new
+  Does (word.Notices a) result old new = GrowsBy tells had has [] × DoesRead ⊥ (Denied a.location.path.now) a.user.now ListsNotices LacksNothing out_old out_new result old new
+  Does (word.Try a) result old new = GrowsBy tells had has [] × DoesNothing out_old out_new result old new
+  Does (word.Serve a) result old new = GrowsBy tells had has [] × DoesNothing out_old out_new result old new
+  Does (word.Session a) result old new = GrowsBy tells had has [] × DoesNothing out_old out_new result old new
+
+-- the store that a word works on, and for `drain` the Maildir, are those that it names
+abbrev pub Reaches : (List ℕ → Type 0) → (List ℕ → Type 0) → Subcommand → Type 0
+Reaches Given At (word.Init a) = Given a.location.path.now
+Reaches Given At (word.AddUser a) = Given a.location.path.now
+Reaches Given At (word.Deliver a) = Given a.location.path.now
+Reaches Given At (word.Folders a) = Given a.location.path.now
+Reaches Given At (word.Show a) = Given a.location.path.now
+Reaches Given At (word.Queue a) = Given a.location.path.now
+Reaches Given At (word.Done a) = Given a.location.path.now
+Reaches Given At (word.Notices a) = Given a.location.path.now
+Reaches Given At (word.Drain a) = Given a.location.path.now × At a.maildir.now
+Reaches Given At (word.Try a) = Unit {0}
+Reaches Given At (word.Serve a) = Unit {0}
+Reaches Given At (word.Session a) = Unit {0}
 
 -- ---- a run of the program
 
@@ -237,9 +262,62 @@ module _ (Denied : List ℕ → Type 0) (clock : Option ℕ) (given : Option (Li
 abbrev pub Untouched : Bool → List (List ℕ) → List (List ℕ) → Database → Database → Type 0
 Untouched tells had has old new = GrowsBy tells had has [] × (new ≡ old)
 
--- a script was tried; or a word did its work, and the status tells how it ended; or the words ask for nothing
-abbrev pub RunsAny : (List ℕ → Type 0) → Option ℕ → Option (List ℕ) → Bool → List (List ℕ) → List (List ℕ) → Option (List ℕ) → Option (List ℕ) → Option (List ℕ) → Option (List ℕ) → ℕ → Database → Database → Type 0
-RunsAny Denied clock given tells had has out_old out_new err_old err_new status old new =
-    ((from : List ℕ) × (to : List ℕ) × Runs (envelope_with from to) given out_old out_new err_old err_new status × Untouched tells had has old new)
-    ⊎ ((asked : Asked) × (ending : Result (Unit {0}) Fault) × (status ≡ status_after ending) × Does Denied clock given tells had has out_old out_new asked ending old new)
-    ⊎ Untouched tells had has old new
+-- `clap` says that the words are wrong; else it shows help or a version
+abbrev pub IsMistake : Error → Type 0
+IsMistake error = (kind_of error ≢ DisplayHelp) × (kind_of error ≢ DisplayVersion)
+
+-- the words are wrong, and a text says so
+pub record IsUsage (error : Error) (out_old out_new err_old err_new : Option (List ℕ)) (status : ℕ) : Type 0 where
+  pub mistake : IsMistake error
+  pub ended : status ≡ 64
+  pub silent : out_new ≡ out_old
+  pub told : AppendsSome err_old err_new
+
+-- a text is shown that is asked for
+pub record IsHelp (error : Error) (out_old out_new err_old err_new : Option (List ℕ)) (status : ℕ) : Type 0 where
+  pub right : IsMistake error → ⊥
+  pub ended : status ≡ 0
+  pub printed : AppendsSome out_old out_new
+  pub silent : err_new ≡ err_old
+
+-- there was no memory for the text, or a write of it failed
+pub record IsUnsaid (error : Error) (out_old out_new err_old err_new : Option (List ℕ)) (status : ℕ) : Type 0 where
+  pub fault : Fault
+  pub cause : (text : List ℕ) × IsCutOff fault out_old out_new text
+  pub ended : status ≡ status_of fault
+  pub told : IsWritten err_old err_new (line_of fault)
+
+-- what comes of a text that `clap` has
+abbrev pub IsSaid : Error → Option (List ℕ) → Option (List ℕ) → Option (List ℕ) → Option (List ℕ) → ℕ → Type 0
+IsSaid error out_old out_new err_old err_new status =
+    IsUsage error out_old out_new err_old err_new status ⊎ IsHelp error out_old out_new err_old err_new status ⊎ IsUnsaid error out_old out_new err_old err_new status
+
+-- nothing was done, and this fault is told
+abbrev pub IsOnly : Fault → Option (List ℕ) → Option (List ℕ) → Option (List ℕ) → Option (List ℕ) → ℕ → Type 0
+IsOnly fault out_old out_new err_old err_new status = (status ≡ status_of fault) × (out_new ≡ out_old) × IsWritten err_old err_new (line_of fault)
+
+-- what comes of words that ask for nothing
+abbrev pub IsUnread : ReadError → Option (List ℕ) → Option (List ℕ) → Option (List ℕ) → Option (List ℕ) → ℕ → Type 0
+IsUnread (Said error) out_old out_new err_old err_new status = IsSaid error out_old out_new err_old err_new status
+IsUnread NotText out_old out_new err_old err_new status = IsOnly BadArgument out_old out_new err_old err_new status
+IsUnread Unknown out_old out_new err_old err_new status = IsOnly BadArgument out_old out_new err_old err_new status
+
+-- a word did its work: its status is that of how it ended, and what went wrong is told
+pub record Works (Did : Result (Unit {0}) Fault → Type 0) (Reached : Type 0) (err_old err_new : Option (List ℕ)) (status : ℕ) : Type 0 where
+  pub ending : Result (Unit {0}) Fault
+  pub ended : status ≡ status_after ending
+  pub unclosed : Option Refusal
+  pub told : AreTold err_old err_new (troubles unclosed ending)
+  pub did : Did ending
+  pub reached : OnOk ending Reached
+
+module _ (Denied : List ℕ → Fault → Type 0) (Given At : List ℕ → Type 0) (clock : Option ℕ) (given : Option (List ℕ)) (tells : Bool) (had has : List (List ℕ)) (out_old out_new err_old err_new : Option (List ℕ)) (status : ℕ) (old new : Database) where
+  -- what comes of words that were read so: a script was tried; a word did its work; or the words ask for nothing, which is told
+  abbrev pub RunsAs : Result Subcommand ReadError → Type 0
+  RunsAs (Ok (word.Try a)) = Runs (envelope_with a.from.now a.to.now) given out_old out_new err_old err_new status × Untouched tells had has old new
+  RunsAs (Ok asked) = Works (λ ending. Does Denied clock given tells had has out_old out_new asked ending old new) (Reaches Given At asked) err_old err_new status
+  RunsAs (Err error) = IsUnread error out_old out_new err_old err_new status × Untouched tells had has old new
+
+  -- a run of the program with these words
+  abbrev pub RunsWords : CommandLine → Type 0
+  RunsWords line = (answer : Result Subcommand ReadError) × WasRead line answer × RunsAs answer

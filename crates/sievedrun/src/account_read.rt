@@ -1,10 +1,10 @@
 //! Reads of one user's account, each of a store that is taken and handed back.
-ghost use Rattle.std.specs.Prelude.{◌≡◌, ℕ, None, List, false, IsTrue};
+ghost use Rattle.std.specs.Prelude.{◌≡◌, ℕ, None, List, false, IsTrue, OnOk};
 ghost use Rattle.sqlite.specs.Held.{state};
 ghost use Rattle.mailstore.specs.Account.{Account};
 ghost use Rattle.mailstore.specs.Promises.{Reads};
 ghost use Rattle.sievedrun.specs.Draining.{TurnsTables};
-ghost use Rattle.sievedrun.specs.Serving.{HasDenied};
+ghost use Rattle.sievedrun.specs.Serving.{HasDenied, HasGiven};
 ghost use Rattle.sievedrun.specs.Words.{FindsIn};
 
 use crate::commands::taken;
@@ -13,7 +13,7 @@ use keepers::Keeper;
 use maildirs::Separator;
 use mailstore::{Folder, Head, Notice, Outgoing, Refusal, Store};
 use octets::{List, Octets};
-use sievedwords::Place;
+use sievedwords::StoreLocation;
 use sqlite::Alter;
 
 /// What is read of a user's account.
@@ -156,16 +156,17 @@ fn none_of<S: Alter>(store: &mut Store<S>, user: &[u8]) -> Result<Option<Octets>
 
 /// What is found in the store at a place, which is taken for this read and handed back.
 pub fn read_once<Q: AccountRead, K: Keeper>(
-    place: Place<'_>,
+    location: StoreLocation<'_>,
     wanted: &Q,
     keeper: &mut K,
 ) -> Result<Q::Found, Fault>
     ensures back { K.is_out keeper.old ≡ false → K.is_out keeper.new ≡ false }
     ensures found { IsTrue K.tells → TurnsTables
-        (λ accounts later. (later ≡ accounts) × FindsIn (HasDenied K.refuses place.entry.path.now) (Q.user wanted.now) (Q.finds wanted.now) result accounts)
+        (λ accounts later. (later ≡ accounts) × FindsIn (HasDenied K.refuses location.entry.path.now) (Q.user wanted.now) (Q.finds wanted.now) result accounts)
         (K.holds keeper.old) (K.holds keeper.new) }
+    ensures given { OnOk result (HasGiven K.gives location.entry.path.now) }
 {
-    let mut store = taken(place, false, keeper)?;
+    let mut store = taken(location, false, keeper)?;
     let found = wanted.read(&mut store);
     keeper.hand_back(store);
     Ok(found?)

@@ -4,15 +4,15 @@ ghost use Rattle.std.specs.Io.KnownBytes.{Appends};
 ghost use Rattle.sqlite.specs.Held.{state};
 ghost use Rattle.keepers.specs.Taken.{IsTaken};
 ghost use Rattle.mailengine.specs.declared.answer.Answer.TheVariants.{Delivered, Added};
-ghost use Rattle.mailengine.specs.declared.event.Event.TheVariants.{Deliver, AddUser};
+ghost use Rattle.mailengine.specs.declared.event.Event.TheVariants as machine;
 ghost use Rattle.reportlines.specs.Reports.{with_end, delivery_report};
 ghost use Rattle.sievedrun.specs.Draining.{TurnsTables};
-ghost use Rattle.sievedrun.specs.Faults.{IsFailure};
+ghost use Rattle.sievedrun.specs.Faults.{IsCutOff};
 ghost use Rattle.sievedrun.specs.Promise.{status_after};
-ghost use Rattle.sievedrun.specs.Serving.{HasDenied};
-ghost use Rattle.sievedrun.specs.Streams.{AppendsFront};
+ghost use Rattle.sievedrun.specs.Serving.{HasDenied, HasGiven};
+ghost use Rattle.sievedrun.specs.Streams.{InputFailed};
 ghost use Rattle.sievedrun.specs.Values.{IsNoNumber, HasNoNumber, IsNoSalt};
-ghost use Rattle.sievedrun.specs.Words.{Adds, Posts, Puts, DoesEvent, DoesRead, DoesInit, ShowsMessage, LacksMessage};
+ghost use Rattle.sievedrun.specs.Words.{Adds, Posts, PostFailed, Puts, DoesEvent, DoesRead, DoesInit, ShowsMessage, LacksMessage};
 
 use crate::account_read::{MessageOf, read_once};
 use crate::fault::Fault;
@@ -23,43 +23,22 @@ use mailengine::{Envelope, Report, add_user, deliver};
 use mailstore::Store;
 use octets::Octets;
 use reportlines::of_report;
-use sievedwords::Place;
+use sievedwords::{AddUser, Deliver, Init, Show, StoreLocation};
 use std::alloc::{AllocError, Global};
 use std::io::{Read, Write};
 
-/// The account that `adduser` is to add, as it is written in the words.
-#[derive(Clone, Copy)]
-pub struct NewUser<'a> {
-    /// The salt in hexadecimal digits.
-    pub salt: &'a str,
-    pub name: &'a str,
-    pub address: &'a str,
-}
-
-/// What `deliver` is told of a message, as it is written in the words.
-#[derive(Clone, Copy)]
-pub struct Posting<'a> {
-    /// The envelope's sender.
-    pub from: &'a [u8],
-    /// The envelope's recipient.
-    pub to: &'a [u8],
-    /// The moment in seconds since 1970, in decimal; the clock's where it is left out.
-    pub at: Option<&'a str>,
-    /// The account's name.
-    pub user: &'a str,
-}
-
 /// `init`: a new store.
 pub fn run_init<W: Write, K: Keeper>(
-    place: Place<'_>,
+    asked: Init<'_>,
     output: &mut W,
     keeper: &mut K,
 ) -> Result<(), Fault>
     ensures back { K.is_out keeper.old ≡ false → K.is_out keeper.new ≡ false }
-    ensures does { IsTrue K.tells → DoesInit (HasDenied K.refuses place.entry.path.now) (W.contents output.old) (W.contents output.new) result
+    ensures does { IsTrue K.tells → DoesInit (HasDenied K.refuses asked.entry.location.path.now) (W.contents output.old) (W.contents output.new) result
         (K.holds keeper.old) (K.holds keeper.new) }
+    ensures given { OnOk result (HasGiven K.gives asked.entry.location.path.now) }
 {
-    let store = taken(place, true, keeper)?;
+    let store = taken(asked.location, true, keeper)?;
     keeper.hand_back(store);
     write_all(output, b"ready\n")
 }
@@ -67,27 +46,27 @@ pub fn run_init<W: Write, K: Keeper>(
 /// `adduser`: a new account. Its password is the first line of the input.
 pub fn run_adduser<R: Read, W: Write, K: Keeper>(
     alloc: Global,
-    place: Place<'_>,
-    user: NewUser<'_>,
+    asked: AddUser<'_>,
     input: &mut R,
     output: &mut W,
     keeper: &mut K,
 ) -> Result<(), Fault>
     ensures unread { status_after result ≡ 64 → input.new ≡ input.old }
     ensures back { K.is_out keeper.old ≡ false → K.is_out keeper.new ≡ false }
-    ensures does { IsTrue K.tells → DoesEvent (IsNoSalt user.entry.salt.now) (HasDenied K.refuses place.entry.path.now)
-        (Adds user.entry.salt.now user.entry.name.now user.entry.address.now (R.remaining input.old))
+    ensures does { IsTrue K.tells → DoesEvent InputFailed (IsNoSalt asked.entry.salt.now) (HasDenied K.refuses asked.entry.location.path.now)
+        (Adds asked.entry.salt.now asked.entry.name.now asked.entry.address.now (R.remaining input.old))
         (W.contents output.old) (W.contents output.new) result (K.holds keeper.old) (K.holds keeper.new) }
+    ensures given { OnOk result (HasGiven K.gives asked.entry.location.path.now) }
 {
-    let salt = salt_of(user.salt)?;
-    let line = added_line(alloc, user.name)?;
+    let salt = salt_of(asked.salt)?;
+    let line = added_line(alloc, asked.name)?;
     let octets = read_all(alloc, input)?;
     let password = first_line(octets.as_slice());
     add(
         alloc,
-        place,
-        user.name.as_bytes(),
-        user.address.as_bytes(),
+        asked.location,
+        asked.name.as_bytes(),
+        asked.address.as_bytes(),
         salt,
         password,
         keeper,
@@ -98,7 +77,7 @@ pub fn run_adduser<R: Read, W: Write, K: Keeper>(
 /// The account is added, in a store that is taken and handed back.
 fn add<K: Keeper>(
     alloc: Global,
-    place: Place<'_>,
+    location: StoreLocation<'_>,
     name: &[u8],
     address: &[u8],
     salt: [u8; 16],
@@ -108,9 +87,10 @@ fn add<K: Keeper>(
     ensures late { status_after result ≢ 64 }
     ensures back { K.is_out keeper.old ≡ false → K.is_out keeper.new ≡ false }
     ensures puts { IsTrue K.tells → TurnsTables
-        (Puts (HasDenied K.refuses place.entry.path.now) (AddUser name.now address.now salt password.now) (λ done. Added) result) (K.holds keeper.old) (K.holds keeper.new) }
+        (Puts (HasDenied K.refuses location.entry.path.now) (machine.AddUser name.now address.now salt password.now) (λ done. Added) result) (K.holds keeper.old) (K.holds keeper.new) }
+    ensures given { OnOk result (HasGiven K.gives location.entry.path.now) }
 {
-    let mut store = taken(place, false, keeper)?;
+    let mut store = taken(location, false, keeper)?;
     let added = add_user(alloc, &mut store, name, address, salt, password);
     keeper.hand_back(store);
     Ok(added?)
@@ -131,8 +111,7 @@ fn added_line(alloc: Global, name: &str) -> Result<Octets, AllocError>
 /// could be closed.
 pub fn run_deliver<R: Read, W: Write, K: Keeper>(
     alloc: Global,
-    place: Place<'_>,
-    posting: Posting<'_>,
+    asked: Deliver<'_>,
     clock: Option<u64>,
     input: &mut R,
     output: &mut W,
@@ -140,17 +119,19 @@ pub fn run_deliver<R: Read, W: Write, K: Keeper>(
 ) -> Result<(), Fault>
     ensures unread { status_after result ≡ 64 → input.new ≡ input.old }
     ensures back { K.is_out keeper.old ≡ false → K.is_out keeper.new ≡ false }
-    ensures does { IsTrue K.tells → DoesEvent (HasNoNumber (option_copied posting.entry.at)) (HasDenied K.refuses place.entry.path.now)
-        (Posts posting.entry.from.now posting.entry.to.now (option_copied posting.entry.at) posting.entry.user.now clock (R.remaining input.old))
+    ensures does { IsTrue K.tells → DoesEvent (PostFailed (option_copied asked.entry.at) clock) (HasNoNumber (option_copied asked.entry.at))
+        (HasDenied K.refuses asked.entry.location.path.now)
+        (Posts asked.entry.from.now asked.entry.to.now (option_copied asked.entry.at) asked.entry.user.now clock (R.remaining input.old))
         (W.contents output.old) (W.contents output.new) result (K.holds keeper.old) (K.holds keeper.new) }
+    ensures given { OnOk result (HasGiven K.gives asked.entry.location.path.now) }
 {
-    let moment = moment_of(posting.at, clock)?;
-    let envelope = envelope_of(alloc, posting.from, posting.to)?;
+    let moment = moment_of(asked.at, clock)?;
+    let envelope = envelope_of(alloc, asked.from, asked.to)?;
     let message = read_all(alloc, input)?;
     let report = post(
         alloc,
-        place,
-        posting.user.as_bytes(),
+        asked.location,
+        asked.user.as_bytes(),
         envelope,
         message.as_slice(),
         moment,
@@ -162,7 +143,7 @@ pub fn run_deliver<R: Read, W: Write, K: Keeper>(
 /// The message is delivered, in a store that is taken and handed back.
 fn post<K: Keeper>(
     alloc: Global,
-    place: Place<'_>,
+    location: StoreLocation<'_>,
     user: &[u8],
     envelope: Envelope,
     message: &[u8],
@@ -172,9 +153,10 @@ fn post<K: Keeper>(
     ensures late { status_after result ≢ 64 }
     ensures back { K.is_out keeper.old ≡ false → K.is_out keeper.new ≡ false }
     ensures puts { IsTrue K.tells → TurnsTables
-        (Puts (HasDenied K.refuses place.entry.path.now) (Deliver user.now envelope message.now moment) Delivered result) (K.holds keeper.old) (K.holds keeper.new) }
+        (Puts (HasDenied K.refuses location.entry.path.now) (machine.Deliver user.now envelope message.now moment) Delivered result) (K.holds keeper.old) (K.holds keeper.new) }
+    ensures given { OnOk result (HasGiven K.gives location.entry.path.now) }
 {
-    let mut store = taken(place, false, keeper)?;
+    let mut store = taken(location, false, keeper)?;
     let delivered = deliver(alloc, &mut store, user, envelope, message, moment);
     keeper.hand_back(store);
     Ok(delivered?)
@@ -182,8 +164,7 @@ fn post<K: Keeper>(
 
 fn print_report<W: Write>(alloc: Global, report: &Report, output: &mut W) -> Result<(), Fault>
     ensures ok { OnOk result (Appends (W.contents output.old) (W.contents output.new) (delivery_report report.now)) }
-    ensures err { OnErr result (AppendsFront (W.contents output.old) (W.contents output.new) (delivery_report report.now)) }
-    ensures fault { IfErr result IsFailure }
+    ensures cut { IfErr result (λ fault. IsCutOff fault (W.contents output.old) (W.contents output.new) (delivery_report report.now)) }
 {
     let text = of_report(alloc, report)?;
     write_all(output, text.as_slice())
@@ -191,33 +172,37 @@ fn print_report<W: Write>(alloc: Global, report: &Report, output: &mut W) -> Res
 
 /// `show`: a message of a user's folder, by its number from 1. No other is read.
 pub fn run_show<W: Write, K: Keeper>(
-    place: Place<'_>,
-    user: &str,
-    folder: &str,
-    number: &str,
+    asked: Show<'_>,
     output: &mut W,
     keeper: &mut K,
 ) -> Result<(), Fault>
     ensures back { K.is_out keeper.old ≡ false → K.is_out keeper.new ≡ false }
-    ensures does { IsTrue K.tells → DoesRead (IsNoNumber number.now) (HasDenied K.refuses place.entry.path.now) user.now
-        (ShowsMessage folder.now number.now) (LacksMessage folder.now number.now)
+    ensures does { IsTrue K.tells → DoesRead (IsNoNumber asked.entry.number.now) (HasDenied K.refuses asked.entry.location.path.now) asked.entry.user.now
+        (ShowsMessage asked.entry.folder.now asked.entry.number.now) (LacksMessage asked.entry.folder.now asked.entry.number.now)
         (W.contents output.old) (W.contents output.new) result (K.holds keeper.old) (K.holds keeper.new) }
+    ensures given { OnOk result (HasGiven K.gives asked.entry.location.path.now) }
 {
-    let number = decimal(number)?;
-    let Some(message) = read_once(place, &MessageOf(user, folder, number), keeper)? else {
+    let number = decimal(asked.number)?;
+    let wanted = MessageOf(asked.user, asked.folder, number);
+    let Some(message) = read_once(asked.location, &wanted, keeper)? else {
         return Err(Fault::NoMessage);
     };
     write_all(output, message.as_slice())
 }
 
 /// The store at a place: the one that is there, or with `fresh` a new one.
-pub fn taken<K: Keeper>(place: Place<'_>, fresh: bool, keeper: &mut K) -> Result<Store<K::S>, Fault>
+pub fn taken<K: Keeper>(
+    location: StoreLocation<'_>,
+    fresh: bool,
+    keeper: &mut K,
+) -> Result<Store<K::S>, Fault>
     ensures late { status_after result ≢ 64 }
     ensures taken { IfOk result (λ store. IsTrue K.tells → IsTaken fresh (K.holds keeper.old) (state K.S.Store store).now) }
     ensures refused { OnErr result (IsTrue K.tells → K.holds keeper.new ≡ K.holds keeper.old) }
     ensures kept { OnErr result (K.is_out keeper.new ≡ K.is_out keeper.old) }
-    ensures denied { OnErr result (HasDenied K.refuses place.entry.path.now) }
+    ensures given { OnOk result (HasGiven K.gives location.entry.path.now) }
+    ensures denied { IfErr result (HasDenied K.refuses location.entry.path.now) }
 {
-    keeper.wait_for_lock(place.waits);
-    Ok(keeper.take(place.path, fresh)?)
+    keeper.wait_for_lock(location.waits);
+    Ok(keeper.take(location.path, fresh)?)
 }

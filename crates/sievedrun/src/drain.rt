@@ -1,10 +1,10 @@
 //! The word on what leaves a folder: its messages go into a sink, and then out of the store.
-ghost use Rattle.std.specs.Prelude.{◌≡◌, ◌⊎◌, false, IfErr, IfOk, IsTrue, option_copied};
+ghost use Rattle.std.specs.Prelude.{◌≡◌, ◌⊎◌, ℕ, List, false, IfErr, IfOk, OnOk, IsTrue, option_copied};
 ghost use Rattle.sqlite.specs.Held.{state};
 ghost use Rattle.sievedrun.specs.Draining.{IsMost, MovesFirst, MovesAll, Drains, MovesTables, HasDrained};
 ghost use Rattle.sievedrun.specs.Draining as draining;
 ghost use Rattle.sievedrun.specs.Faults.{no_user, IsSudden};
-ghost use Rattle.sievedrun.specs.Serving.{HasDenied};
+ghost use Rattle.sievedrun.specs.Serving.{HasDenied, HasGiven};
 ghost use Rattle.sievedrun.specs.Values.{HasNoNumber};
 
 use crate::commands::taken;
@@ -16,41 +16,29 @@ use mailengine::first_message;
 use mailsinks::{MailSink, SinkError};
 use mailstore::{Refusal, Store};
 use octets::{Octets, write_decimal};
-use sievedwords::Place;
+use sievedwords::Drain;
 use sqlite::Alter;
 use std::alloc::{AllocError, Global};
 use std::io::Write;
-
-/// What `drain` is told, as it is written in the words.
-#[derive(Clone, Copy)]
-pub struct Draining<'a> {
-    /// How many messages move at most, in decimal; all of the folder's where it is left out.
-    pub most: Option<&'a str>,
-    /// The account's name.
-    pub user: &'a str,
-    /// The folder's name.
-    pub folder: &'a str,
-    /// The path of the Maildir.
-    pub maildir: &'a str,
-}
 
 /// `drain`: a folder's messages move into a Maildir, the first ones first. Where the words or the path are wrong no store is
 /// taken.
 pub fn run_drain<W: Write, K: Keeper, T: MailSink>(
     alloc: Global,
-    place: Place<'_>,
-    asked: Draining<'_>,
+    asked: Drain<'_>,
     output: &mut W,
     keeper: &mut K,
     sink: &mut T,
 ) -> Result<(), Fault>
     ensures back { K.is_out keeper.old ≡ false → K.is_out keeper.new ≡ false }
-    ensures drains { IsTrue K.tells → HasDrained (HasDenied K.refuses place.entry.path.now) asked.entry T.tells (T.kept sink.old) (T.kept sink.new)
+    ensures drains { IsTrue K.tells → HasDrained (HasDenied K.refuses asked.entry.location.path.now) asked.entry T.tells (T.kept sink.old) (T.kept sink.new)
         (W.contents output.old) (W.contents output.new) result (K.holds keeper.old) (K.holds keeper.new) }
+    ensures given { OnOk result (HasGiven K.gives asked.entry.location.path.now) }
+    ensures placed { OnOk result (T.is_at sink.new asked.entry.maildir.now) }
 {
     let most = most_of(asked.most)?;
     sink.open(asked.maildir)?;
-    let moved = drain_store(place, asked, most, keeper, sink)?;
+    let moved = drain_store(asked, most, keeper, sink)?;
     let line = drained_line(alloc, moved)?;
     write_all(output, line.as_slice())
 }
@@ -58,6 +46,7 @@ pub fn run_drain<W: Write, K: Keeper, T: MailSink>(
 /// How many messages the words ask for, at most.
 fn most_of(digits: Option<&str>) -> Result<u64, Fault>
     ensures ok { IfOk result (IsMost (option_copied digits.entry)) }
+    ensures right { OnOk result (HasNoNumber (option_copied digits.entry) → ⊥) }
     ensures fault { IfErr result (λ fault. fault ≡ Fault.BadArgument) }
     ensures none { IfErr result (λ fault. HasNoNumber (option_copied digits.entry)) }
 {
@@ -69,19 +58,20 @@ fn most_of(digits: Option<&str>) -> Result<u64, Fault>
 
 /// The messages move out of a store that is taken and handed back. Answers how many moved.
 fn drain_store<K: Keeper, T: MailSink>(
-    place: Place<'_>,
-    asked: Draining<'_>,
+    asked: Drain<'_>,
     most: u64,
     keeper: &mut K,
     sink: &mut T,
 ) -> Result<u64, Fault>
     ensures back { K.is_out keeper.old ≡ false → K.is_out keeper.new ≡ false }
-    ensures moves { IsTrue K.tells → MovesTables (HasDenied K.refuses place.entry.path.now) asked.entry T.tells (T.kept sink.old) (T.kept sink.new) most result
+    ensures moves { IsTrue K.tells → MovesTables (HasDenied K.refuses asked.entry.location.path.now) asked.entry T.tells (T.kept sink.old) (T.kept sink.new) most result
         (K.holds keeper.old) (K.holds keeper.new) }
+    ensures given { OnOk result (HasGiven K.gives asked.entry.location.path.now) }
+    ensures stays { (path : List ℕ) → T.is_at sink.old path → T.is_at sink.new path }
 {
     let user = asked.user.as_bytes();
     let folder = asked.folder.as_bytes();
-    let mut store = taken(place, false, keeper)?;
+    let mut store = taken(asked.location, false, keeper)?;
     let drained = drain(&mut store, user, folder, most, sink);
     keeper.hand_back(store);
     drained
@@ -109,6 +99,7 @@ fn move_first<S: Alter, T: MailSink>(
     sink: &mut T,
 ) -> Result<bool, Fault>
     ensures moves { MovesFirst user.now folder.now T.tells (T.kept sink.old) (T.kept sink.new) result (state S.Store store.old) (state S.Store store.new) }
+    ensures stays { (path : List ℕ) → T.is_at sink.old path → T.is_at sink.new path }
     ensures fault { IfErr result IsSudden }
 {
     let first = match first_message(store, user, folder) {
@@ -157,6 +148,7 @@ fn move_all<S: Alter, T: MailSink>(
     sink: &mut T,
 ) -> Result<u64, Fault>
     ensures moves { MovesAll user.now folder.now T.tells (T.kept sink.old) (T.kept sink.new) most result (state S.Store store.old) (state S.Store store.new) }
+    ensures stays { (path : List ℕ) → T.is_at sink.old path → T.is_at sink.new path }
     ensures fault { IfErr result IsSudden }
 {
     for moved in 0..most {
@@ -182,6 +174,7 @@ fn drain<S: Alter, T: MailSink>(
     sink: &mut T,
 ) -> Result<u64, Fault>
     ensures moves { Drains user.now folder.now T.tells (T.kept sink.old) (T.kept sink.new) most result (state S.Store store.old) (state S.Store store.new) }
+    ensures stays { (path : List ℕ) → T.is_at sink.old path → T.is_at sink.new path }
     ensures fault { IfErr result (λ fault. IsSudden fault ⊎ (fault ≡ no_user)) }
 {
     let Some(_account) = store.account(user)? else {

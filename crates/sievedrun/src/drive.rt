@@ -1,18 +1,17 @@
 //! A run of the program: the words, and what comes of them.
-ghost use Rattle.std.specs.Prelude.{◌≡◌, ◌≢◌, false, None, IsTrue, IfSome};
-ghost use Rattle.sievedrun.specs.Faults.{status_of, line_of, store_failed};
+ghost use Rattle.std.specs.Prelude.{◌≡◌, false, None, IsTrue, IfSome, OnOk};
+ghost use Rattle.sievedrun.specs.Faults.{status_of, line_of, troubles, AreTold};
 ghost use Rattle.sievedrun.specs.Promise.{status_after};
-ghost use Rattle.sievedrun.specs.Serving.{HasDenied};
-ghost use Rattle.sievedrun.specs.Streams.{AppendsFirst};
+ghost use Rattle.sievedrun.specs.Serving.{HasDenied, HasGiven};
+ghost use Rattle.sievedrun.specs.Streams.{IsTold};
 ghost use Rattle.sievedrun.specs.Trial.{Runs};
 ghost use Rattle.sievedrun.specs.Values.{envelope_with};
-ghost use Rattle.sievedrun.specs.Words.{Does, Looks, RunsAny};
+ghost use Rattle.sievedrun.specs.Words.{Does, IsSaid, IsUnread, Reaches, RunsWords};
 
-use crate::account_read::NoticesOf;
-use crate::commands::{NewUser, Posting, run_adduser, run_deliver, run_init, run_show};
-use crate::drain::{Draining, run_drain};
+use crate::commands::{run_adduser, run_deliver, run_init, run_show};
+use crate::drain::run_drain;
 use crate::fault::{Fault, refuse};
-use crate::listing::{run_folders, run_listing};
+use crate::listing::{run_folders, run_notices};
 use crate::queue::{run_done, run_queue};
 use crate::stream::write_all;
 use crate::trial::try_run;
@@ -23,7 +22,7 @@ use clap::error::ErrorKind;
 use keepers::Keeper;
 use mailsinks::MailSink;
 use mailstore::Refusal;
-use sievedwords::{Asked, CommandLine, ReadError, read};
+use sievedwords::{CommandLine, ReadError, Subcommand, Try, read};
 use std::alloc::{AllocError, Global};
 use std::format;
 use std::io::{Read, Write};
@@ -49,44 +48,46 @@ pub fn drive<R: Read, W: Write, F: Write, K: Keeper, T: MailSink>(
 ) -> u8
     ensures unread { result ≡ 64 → input.new ≡ input.old }
     ensures back { K.is_out keeper.old ≡ false → K.is_out keeper.new ≡ false }
-    ensures runs { IsTrue K.tells → RunsAny (HasDenied K.refuses) clock (R.remaining input.old) T.tells (T.kept sink.old) (T.kept sink.new)
-        (W.contents output.old) (W.contents output.new) (F.contents faults.old) (F.contents faults.new) result (K.holds keeper.old) (K.holds keeper.new) }
+    ensures runs { IsTrue K.tells → RunsWords (HasDenied K.refuses) (HasGiven K.gives) (T.is_at sink.new) clock (R.remaining input.old) T.tells (T.kept sink.old)
+        (T.kept sink.new) (W.contents output.old) (W.contents output.new) (F.contents faults.old) (F.contents faults.new) result
+        (K.holds keeper.old) (K.holds keeper.new) words.now }
     ensures asked { K.unclosed keeper.old ≡ None → K.unclosed keeper.new ≡ None }
 {
-    match read(alloc, words) {
-        Ok(Asked::Try { from, to }) => try_mail(alloc, from, to, input, output, faults),
-        Ok(asked) => {
+    let asked = match read(alloc, words) {
+        Ok(asked) => asked,
+        Err(error) => return tell_unread(alloc, error, output, faults),
+    };
+    match asked {
+        Subcommand::Try(asked) => try_mail(alloc, asked, input, output, faults),
+        _ => {
             let done = act(alloc, asked, input, output, keeper, clock, sink);
             conclude(done, faults, keeper, sink)
         }
-        Err(ReadError::Said(error)) => tell(alloc, &error, output, faults),
-        Err(ReadError::NotText) => refuse(faults, Fault::BadArgument),
     }
 }
 
 /// Tries a script on a message that comes with this envelope, and answers the exit status.
 fn try_mail<R: Read, W: Write, F: Write>(
     alloc: Global,
-    from: &[u8],
-    to: &[u8],
+    asked: Try<'_>,
     input: &mut R,
     output: &mut W,
     faults: &mut F,
 ) -> u8
     ensures unread { result ≡ 64 → input.new ≡ input.old }
-    ensures runs { Runs (envelope_with from.now to.now) (R.remaining input.old) (W.contents output.old) (W.contents output.new)
+    ensures runs { Runs (envelope_with asked.entry.from.now asked.entry.to.now) (R.remaining input.old) (W.contents output.old) (W.contents output.new)
         (F.contents faults.old) (F.contents faults.new) result }
 {
-    match envelope_of(alloc, from, to) {
+    match envelope_of(alloc, asked.from, asked.to) {
         Ok(envelope) => try_run(alloc, envelope, input, output, faults),
         Err(_) => refuse(faults, Fault::Refused(Refusal::Memory)),
     }
 }
 
-/// Does what a word asks for that works on a store. A word that writes none is none of these.
+/// Does what a word asks for that works on a store. `try` and those that serve do none.
 fn act<R: Read, W: Write, K: Keeper, T: MailSink>(
     alloc: Global,
-    asked: Asked<'_>,
+    asked: Subcommand<'_>,
     input: &mut R,
     output: &mut W,
     keeper: &mut K,
@@ -97,85 +98,21 @@ fn act<R: Read, W: Write, K: Keeper, T: MailSink>(
     ensures back { K.is_out keeper.old ≡ false → K.is_out keeper.new ≡ false }
     ensures does { IsTrue K.tells → Does (HasDenied K.refuses) clock (R.remaining input.old) T.tells (T.kept sink.old) (T.kept sink.new)
         (W.contents output.old) (W.contents output.new) asked.entry result (K.holds keeper.old) (K.holds keeper.new) }
+    ensures reaches { OnOk result (Reaches (HasGiven K.gives) (T.is_at sink.new) asked.entry) }
 {
     match asked {
-        Asked::Init(place) => run_init(place, output, keeper),
-        Asked::AddUser {
-            place,
-            salt,
-            name,
-            address,
-        } => {
-            let user = NewUser {
-                salt,
-                name,
-                address,
-            };
-            run_adduser(alloc, place, user, input, output, keeper)
+        Subcommand::Init(asked) => run_init(asked, output, keeper),
+        Subcommand::AddUser(asked) => run_adduser(alloc, asked, input, output, keeper),
+        Subcommand::Deliver(asked) => run_deliver(alloc, asked, clock, input, output, keeper),
+        Subcommand::Folders(asked) => run_folders(alloc, asked, output, keeper),
+        Subcommand::Show(asked) => run_show(asked, output, keeper),
+        Subcommand::Queue(asked) => run_queue(alloc, asked, output, keeper),
+        Subcommand::Done(asked) => run_done(alloc, asked, output, keeper),
+        Subcommand::Notices(asked) => run_notices(alloc, asked, output, keeper),
+        Subcommand::Drain(asked) => run_drain(alloc, asked, output, keeper, sink),
+        Subcommand::Try(_) | Subcommand::Serve(_) | Subcommand::Session(_) => {
+            Err(Fault::BadArgument)
         }
-        Asked::Deliver {
-            place,
-            from,
-            to,
-            at,
-            user,
-        } => {
-            let posting = Posting { from, to, at, user };
-            run_deliver(alloc, place, posting, clock, input, output, keeper)
-        }
-        Asked::Done { place, user, id } => run_done(alloc, place, user, id, output, keeper),
-        Asked::Drain {
-            place,
-            most,
-            user,
-            folder,
-            maildir,
-        } => {
-            let draining = Draining {
-                most,
-                user,
-                folder,
-                maildir,
-            };
-            run_drain(alloc, place, draining, output, keeper, sink)
-        }
-        _ => look(alloc, asked, output, keeper),
-    }
-}
-
-/// Prints what a word asks for of a store, which stays as it is. Any other word is refused.
-fn look<W: Write, K: Keeper>(
-    alloc: Global,
-    asked: Asked<'_>,
-    output: &mut W,
-    keeper: &mut K,
-) -> Result<(), Fault>
-    ensures back { K.is_out keeper.old ≡ false → K.is_out keeper.new ≡ false }
-    ensures looks { IsTrue K.tells → Looks (HasDenied K.refuses) (W.contents output.old) (W.contents output.new) asked.entry result
-        (K.holds keeper.old) (K.holds keeper.new) }
-{
-    match asked {
-        Asked::Folders {
-            place,
-            user,
-            directories,
-            separator,
-        } => run_folders(alloc, place, user, directories, separator, output, keeper),
-        Asked::Show {
-            place,
-            user,
-            folder,
-            number,
-        } => run_show(place, user, folder, number, output, keeper),
-        Asked::Queue { place, user, id } => run_queue(alloc, place, user, id, output, keeper),
-        Asked::Notices { place, user } => run_listing(
-            alloc,
-            place,
-            &NoticesOf(user),
-            output,
-            keeper,
-        ),
-        _ => Err(Fault::BadArgument),
     }
 }
 
@@ -188,8 +125,7 @@ fn conclude<F: Write, K: Keeper, T: MailSink>(
     sink: &T,
 ) -> u8
     ensures status { result ≡ status_after done }
-    ensures told { done ≢ Err store_failed → IfSome (K.unclosed keeper.old)
-        (λ refusal. AppendsFirst (F.contents faults.old) (F.contents faults.new) (line_of (Fault.Refused refusal))) }
+    ensures told { AreTold (F.contents faults.old) (F.contents faults.new) (troubles (K.unclosed keeper.old) done) }
     ensures asked { K.unclosed keeper.new ≡ None }
     ensures same { IsTrue K.tells → K.holds keeper.new ≡ K.holds keeper.old }
     ensures kept { K.is_out keeper.new ≡ K.is_out keeper.old }
@@ -200,8 +136,10 @@ fn conclude<F: Write, K: Keeper, T: MailSink>(
             tell_unclosed(faults, unclosed, keeper);
             0
         }
-        Err(fault @ Fault::Refused(Refusal::Store)) => tell_fault(faults, fault, keeper, sink),
         Err(fault) => {
+            if fault.is_store_failure() {
+                return tell_fault(faults, fault, keeper, sink);
+            }
             tell_unclosed(faults, unclosed, keeper);
             tell_fault(faults, fault, keeper, sink)
         }
@@ -210,7 +148,8 @@ fn conclude<F: Write, K: Keeper, T: MailSink>(
 
 /// Tells why the store couldn't be closed, where it couldn't.
 fn tell_unclosed<F: Write, K: Keeper>(faults: &mut F, unclosed: Option<Refusal>, keeper: &K)
-    ensures { IfSome unclosed (λ refusal. AppendsFirst (F.contents faults.old) (F.contents faults.new) (line_of (Fault.Refused refusal))) }
+    ensures some { IfSome unclosed (λ refusal. IsTold (F.contents faults.old) (F.contents faults.new) (line_of (Fault.Refused refusal))) }
+    ensures none { unclosed ≡ None → F.contents faults.new ≡ F.contents faults.old }
 {
     if let Some(refusal) = unclosed {
         Trouble::of_store(Fault::Refused(refusal), keeper).tell(faults);
@@ -225,7 +164,7 @@ fn tell_fault<F: Write, K: Keeper, T: MailSink>(
     sink: &T,
 ) -> u8
     ensures status { result ≡ status_of fault }
-    ensures line { AppendsFirst (F.contents faults.old) (F.contents faults.new) (line_of fault) }
+    ensures line { IsTold (F.contents faults.old) (F.contents faults.new) (line_of fault) }
 {
     let trouble = match fault {
         Fault::Stream | Fault::NoMaildir => Trouble {
@@ -238,8 +177,25 @@ fn tell_fault<F: Write, K: Keeper, T: MailSink>(
     fault.status()
 }
 
+/// Tells why words ask for nothing.
+fn tell_unread<W: Write, F: Write>(
+    alloc: Global,
+    error: ReadError,
+    output: &mut W,
+    faults: &mut F,
+) -> u8
+    ensures { IsUnread error (W.contents output.old) (W.contents output.new) (F.contents faults.old) (F.contents faults.new) result }
+{
+    match error {
+        ReadError::Said(error) => tell(alloc, &error, output, faults),
+        ReadError::NotText | ReadError::Unknown => refuse(faults, Fault::BadArgument),
+    }
+}
+
 /// Tells what `clap` has to say: of wrong words on the faults, of help and version on the output.
-fn tell<W: Write, F: Write>(alloc: Global, error: &Error, output: &mut W, faults: &mut F) -> u8 {
+fn tell<W: Write, F: Write>(alloc: Global, error: &Error, output: &mut W, faults: &mut F) -> u8
+    ensures { IsSaid error.now (W.contents output.old) (W.contents output.new) (F.contents faults.old) (F.contents faults.new) result }
+{
     if error.kind() == ErrorKind::OutOfMemory {
         return refuse(faults, Fault::Refused(Refusal::Memory));
     }

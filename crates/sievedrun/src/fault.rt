@@ -1,8 +1,8 @@
 //! What goes wrong, as the program tells it.
-ghost use Rattle.std.specs.Prelude.{◌≡◌};
-ghost use Rattle.sievedrun.specs.Faults.{status_of, line_of};
+ghost use Rattle.std.specs.Prelude.{◌≡◌, ◌≢◌, false, IsTrue};
+ghost use Rattle.sievedrun.specs.Faults.{status_of, line_of, store_failed};
 ghost use Rattle.sievedrun.specs.declared.fault.Fault.TheVariants.{Refused};
-ghost use Rattle.sievedrun.specs.Streams.{AppendsFront};
+ghost use Rattle.sievedrun.specs.Streams.{IsWritten};
 
 use crate::stream;
 use keepers::Held;
@@ -50,6 +50,14 @@ impl Fault {
             Fault::Refused(Refusal::Memory | Refusal::Store) | Fault::Busy | Fault::Stream => 75,
             _ => 65,
         }
+    }
+
+    /// Whether it is that the store failed.
+    pub fn is_store_failure(self) -> bool
+        ensures failed { IsTrue result → self ≡ store_failed }
+        ensures other { result ≡ false → self ≢ store_failed }
+    {
+        matches!(self, Fault::Refused(Refusal::Store))
     }
 
     /// The line that tells of it on standard error.
@@ -140,7 +148,7 @@ impl From<SinkError> for Fault {
 /// Tells of a fault, and gives its exit status. Where that can't be written the status alone tells.
 pub fn refuse<F: Write>(faults: &mut F, fault: Fault) -> u8
     ensures status { result ≡ status_of fault }
-    ensures line { AppendsFront (F.contents faults.old) (F.contents faults.new) (line_of fault) }
+    ensures line { IsWritten (F.contents faults.old) (F.contents faults.new) (line_of fault) }
 {
     let _ = stream::write_all(faults, fault.line());
     fault.status()

@@ -3,8 +3,8 @@ ghost use Rattle.std.specs.Prelude.{◌≡◌, ◌++◌, ℕ, List, codes, decim
 ghost use Rattle.mailstore.specs.Account.{Account};
 ghost use Rattle.mailstore.specs.Tally.{count_of};
 ghost use Rattle.reportlines.specs.Reports.{with_end};
-ghost use Rattle.sievedrun.specs.Serving.{HasDenied};
-ghost use Rattle.sievedrun.specs.Words.{DoesFolders, DoesRead, LacksNothing, folder_line, directory_line, folder_listing};
+ghost use Rattle.sievedrun.specs.Serving.{HasDenied, HasGiven};
+ghost use Rattle.sievedrun.specs.Words.{DoesFolders, DoesRead, LacksNothing, ListsNotices, folder_line, directory_line, folder_listing};
 
 use crate::account_read::{AccountRead, DirectoriesOf, FoldersOf, NoticesOf, QueueOf, read_once};
 use crate::fault::Fault;
@@ -15,7 +15,7 @@ use maildirs::{Separator, directory_of};
 use mailstore::{Folder, Head, Notice};
 use octets::{List, Octets, write_decimal};
 use reportlines::{of_notices, of_queue};
-use sievedwords::Place;
+use sievedwords::{Folders, Notices, StoreLocation};
 use std::alloc::{AllocError, Global};
 use std::io::Write;
 
@@ -121,16 +121,17 @@ fn add_directory(text: &mut Octets, directory: &[u8], folder: &Folder) -> Result
 /// Prints what is listed.
 pub fn run_listing<Q: Listing, W: Write, K: Keeper>(
     alloc: Global,
-    place: Place<'_>,
+    location: StoreLocation<'_>,
     wanted: &Q,
     output: &mut W,
     keeper: &mut K,
 ) -> Result<(), Fault>
     ensures back { K.is_out keeper.old ≡ false → K.is_out keeper.new ≡ false }
-    ensures does { IsTrue K.tells → DoesRead ⊥ (HasDenied K.refuses place.entry.path.now) (Q.user wanted.now) (Q.shows wanted.now) LacksNothing
+    ensures does { IsTrue K.tells → DoesRead ⊥ (HasDenied K.refuses location.entry.path.now) (Q.user wanted.now) (Q.shows wanted.now) LacksNothing
         (W.contents output.old) (W.contents output.new) result (K.holds keeper.old) (K.holds keeper.new) }
+    ensures given { OnOk result (HasGiven K.gives location.entry.path.now) }
 {
-    let found = read_once(place, wanted, keeper)?;
+    let found = read_once(location, wanted, keeper)?;
     let text = wanted.lines(alloc, &found)?;
     write_all(output, text.as_slice())
 }
@@ -139,29 +140,49 @@ pub fn run_listing<Q: Listing, W: Write, K: Keeper>(
 /// these alone.
 pub fn run_folders<W: Write, K: Keeper>(
     alloc: Global,
-    place: Place<'_>,
-    user: &str,
-    directories: bool,
-    separator: Option<&str>,
+    asked: Folders<'_>,
     output: &mut W,
     keeper: &mut K,
 ) -> Result<(), Fault>
     ensures back { K.is_out keeper.old ≡ false → K.is_out keeper.new ≡ false }
-    ensures does { IsTrue K.tells → DoesFolders (HasDenied K.refuses place.entry.path.now) (W.contents output.old) (W.contents output.new) user.now
-        directories (option_copied separator.entry) result (K.holds keeper.old) (K.holds keeper.new) }
+    ensures does { IsTrue K.tells → DoesFolders (HasDenied K.refuses asked.entry.location.path.now) (W.contents output.old) (W.contents output.new)
+        asked.entry.user.now asked.entry.directories (option_copied asked.entry.separator) result (K.holds keeper.old) (K.holds keeper.new) }
+    ensures given { OnOk result (HasGiven K.gives asked.entry.location.path.now) }
 {
-    if directories {
-        let separator = separator_of(separator)?;
-        return run_listing(
+    if asked.directories {
+        let separator = separator_of(asked.separator)?;
+        let wanted = DirectoriesOf(asked.user, separator);
+        return run_listing(alloc, asked.location, &wanted, output, keeper);
+    }
+    match asked.separator {
+        None => run_listing(
             alloc,
-            place,
-            &DirectoriesOf(user, separator),
+            asked.location,
+            &FoldersOf(asked.user),
             output,
             keeper,
-        );
-    }
-    match separator {
-        None => run_listing(alloc, place, &FoldersOf(user), output, keeper),
+        ),
         Some(_) => Err(Fault::BadArgument),
     }
+}
+
+/// `notices`: what went wrong in the user's deliveries.
+pub fn run_notices<W: Write, K: Keeper>(
+    alloc: Global,
+    asked: Notices<'_>,
+    output: &mut W,
+    keeper: &mut K,
+) -> Result<(), Fault>
+    ensures back { K.is_out keeper.old ≡ false → K.is_out keeper.new ≡ false }
+    ensures does { IsTrue K.tells → DoesRead ⊥ (HasDenied K.refuses asked.entry.location.path.now) asked.entry.user.now ListsNotices LacksNothing
+        (W.contents output.old) (W.contents output.new) result (K.holds keeper.old) (K.holds keeper.new) }
+    ensures given { OnOk result (HasGiven K.gives asked.entry.location.path.now) }
+{
+    run_listing(
+        alloc,
+        asked.location,
+        &NoticesOf(asked.user),
+        output,
+        keeper,
+    )
 }

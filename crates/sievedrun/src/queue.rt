@@ -1,11 +1,11 @@
 //! The words on one message of a user's queue: its octets, and that it went out.
-ghost use Rattle.std.specs.Prelude.{◌≡◌, ◌≢◌, ◌++◌, false, codes, decimal, IsTrue, IfOk, option_copied};
+ghost use Rattle.std.specs.Prelude.{◌≡◌, ◌≢◌, ◌++◌, false, codes, decimal, IsTrue, IfOk, OnOk, option_copied};
 ghost use Rattle.mailengine.specs.declared.answer.Answer.TheVariants.{Taken};
 ghost use Rattle.mailengine.specs.declared.event.Event.TheVariants.{TakeOut};
 ghost use Rattle.reportlines.specs.Reports.{with_end};
 ghost use Rattle.sievedrun.specs.Draining.{TurnsTables};
 ghost use Rattle.sievedrun.specs.Promise.{status_after};
-ghost use Rattle.sievedrun.specs.Serving.{HasDenied};
+ghost use Rattle.sievedrun.specs.Serving.{HasDenied, HasGiven};
 ghost use Rattle.sievedrun.specs.Values.{IsNoNumber};
 ghost use Rattle.sievedrun.specs.Words.{Dequeues, Puts, DoesEvent, DoesQueue, DoesRead, ShowsOutgoing, LacksOutgoing};
 
@@ -19,43 +19,43 @@ use keepers::Keeper;
 use mailengine::take_out;
 use mailstore::{Outgoing, Refusal};
 use octets::{Octets, write_decimal};
-use sievedwords::Place;
+use sievedwords::{Done, Queue, StoreLocation};
 use std::alloc::{AllocError, Global};
 use std::io::Write;
 
 /// `queue`: the user's messages on their way out, or the octets of the one with the number.
 pub fn run_queue<W: Write, K: Keeper>(
     alloc: Global,
-    place: Place<'_>,
-    user: &str,
-    id: Option<&str>,
+    asked: Queue<'_>,
     output: &mut W,
     keeper: &mut K,
 ) -> Result<(), Fault>
     ensures back { K.is_out keeper.old ≡ false → K.is_out keeper.new ≡ false }
-    ensures does { IsTrue K.tells → DoesQueue (HasDenied K.refuses place.entry.path.now) (W.contents output.old) (W.contents output.new) user.now
-        (option_copied id.entry) result (K.holds keeper.old) (K.holds keeper.new) }
+    ensures does { IsTrue K.tells → DoesQueue (HasDenied K.refuses asked.entry.location.path.now) (W.contents output.old) (W.contents output.new)
+        asked.entry.user.now (option_copied asked.entry.id) result (K.holds keeper.old) (K.holds keeper.new) }
+    ensures given { OnOk result (HasGiven K.gives asked.entry.location.path.now) }
 {
-    match id {
-        None => run_listing(alloc, place, &QueueOf(user), output, keeper),
-        Some(id) => run_queued(place, user, id, output, keeper),
+    match asked.id {
+        None => run_listing(alloc, asked.location, &QueueOf(asked.user), output, keeper),
+        Some(id) => run_queued(asked.location, asked.user, id, output, keeper),
     }
 }
 
 /// `queue` with a number: the octets of that message.
 fn run_queued<W: Write, K: Keeper>(
-    place: Place<'_>,
+    location: StoreLocation<'_>,
     user: &str,
     id: &str,
     output: &mut W,
     keeper: &mut K,
 ) -> Result<(), Fault>
     ensures back { K.is_out keeper.old ≡ false → K.is_out keeper.new ≡ false }
-    ensures does { IsTrue K.tells → DoesRead (IsNoNumber id.now) (HasDenied K.refuses place.entry.path.now) user.now (ShowsOutgoing id.now) (LacksOutgoing id.now)
+    ensures does { IsTrue K.tells → DoesRead (IsNoNumber id.now) (HasDenied K.refuses location.entry.path.now) user.now (ShowsOutgoing id.now) (LacksOutgoing id.now)
         (W.contents output.old) (W.contents output.new) result (K.holds keeper.old) (K.holds keeper.new) }
+    ensures given { OnOk result (HasGiven K.gives location.entry.path.now) }
 {
     let id = decimal(id)?;
-    let Some(row) = read_once(place, &OutgoingOf(user, id), keeper)? else {
+    let Some(row) = read_once(location, &OutgoingOf(user, id), keeper)? else {
         return Err(Fault::Refused(Refusal::NoRow));
     };
     write_all(output, row.message.as_slice())
@@ -64,25 +64,25 @@ fn run_queued<W: Write, K: Keeper>(
 /// `done`: a message leaves the queue, since it went out.
 pub fn run_done<W: Write, K: Keeper>(
     alloc: Global,
-    place: Place<'_>,
-    user: &str,
-    id: &str,
+    asked: Done<'_>,
     output: &mut W,
     keeper: &mut K,
 ) -> Result<(), Fault>
     ensures back { K.is_out keeper.old ≡ false → K.is_out keeper.new ≡ false }
-    ensures does { IsTrue K.tells → DoesEvent (IsNoNumber id.now) (HasDenied K.refuses place.entry.path.now) (Dequeues user.now id.now)
+    ensures does { IsTrue K.tells → DoesEvent ⊥ (IsNoNumber asked.entry.id.now) (HasDenied K.refuses asked.entry.location.path.now)
+        (Dequeues asked.entry.user.now asked.entry.id.now)
         (W.contents output.old) (W.contents output.new) result (K.holds keeper.old) (K.holds keeper.new) }
+    ensures given { OnOk result (HasGiven K.gives asked.entry.location.path.now) }
 {
-    let id = decimal(id)?;
+    let id = decimal(asked.id)?;
     let line = taken_line(alloc, id)?;
-    dequeue(place, user.as_bytes(), id, keeper)?;
+    dequeue(asked.location, asked.user.as_bytes(), id, keeper)?;
     write_all(output, line.as_slice())
 }
 
 /// The message with the number leaves the queue, in a store that is taken and handed back.
 fn dequeue<K: Keeper>(
-    place: Place<'_>,
+    location: StoreLocation<'_>,
     user: &[u8],
     id: u64,
     keeper: &mut K,
@@ -90,9 +90,10 @@ fn dequeue<K: Keeper>(
     ensures late { status_after result ≢ 64 }
     ensures back { K.is_out keeper.old ≡ false → K.is_out keeper.new ≡ false }
     ensures puts { IsTrue K.tells → TurnsTables
-        (Puts (HasDenied K.refuses place.entry.path.now) (TakeOut user.now id) Taken result) (K.holds keeper.old) (K.holds keeper.new) }
+        (Puts (HasDenied K.refuses location.entry.path.now) (TakeOut user.now id) Taken result) (K.holds keeper.old) (K.holds keeper.new) }
+    ensures given { OnOk result (HasGiven K.gives location.entry.path.now) }
 {
-    let mut store = taken(place, false, keeper)?;
+    let mut store = taken(location, false, keeper)?;
     let row = take_out(&mut store, user, id);
     keeper.hand_back(store);
     Ok(row?)

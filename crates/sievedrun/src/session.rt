@@ -1,5 +1,5 @@
 //! One client's session over a reader and a writer, and a store that is taken for the commands that came together.
-ghost use Rattle.std.specs.Prelude.{◌≡◌, ◌≢◌, ℕ, List, Option, Some, None, Result, is_ok, is_some, false, true, IsTrue, IfOk, IfSome, OnOk, OnErr};
+ghost use Rattle.std.specs.Prelude.{◌≡◌, ◌≢◌, ℕ, List, Option, Some, None, Result, is_ok, is_some, false, true, IsTrue, IfOk, IfErr, IfSome, OnOk, OnErr};
 ghost use Rattle.keepers.specs.declared.keeper.Held.TheVariants.{Busy};
 ghost use Rattle.sqlite.specs.Held.{state};
 ghost use Rattle.mailstore.specs.Account.{Accounts};
@@ -9,8 +9,10 @@ ghost use Rattle.mailstore.specs.Shows.{Offers};
 ghost use Rattle.sessions.specs.Clients.{is_ready};
 ghost use Rattle.sessions.specs.Steps.{Asked};
 ghost use Rattle.sievedrun.specs.declared.fault.Fault.{Fault};
+ghost use Rattle.sievedrun.specs.declared.fault.Fault.TheVariants.{Stream};
+ghost use Rattle.sievedrun.specs.Faults.{IsFailure};
 ghost use Rattle.sievedrun.specs.Promise.{status_after};
-ghost use Rattle.sievedrun.specs.Serving.{Answered, AreSeen, Converses, HasDenied, Hinders, PresentsSeen, Served};
+ghost use Rattle.sievedrun.specs.Serving.{Answered, AreSeen, Converses, IsDenied, Hinders, PresentsSeen, Served};
 ghost use Rattle.sievedrun.specs.Serving.{ServesBy, StepsOn, WritesAll, WritesFirst, seen};
 
 use crate::fault::{Fault, refuse};
@@ -20,7 +22,7 @@ use keepers::{Held, Keeper};
 use mailstore::{Refusal, Store};
 use octets::Octets;
 use sessions::{Order, Session, Stepped};
-use sievedwords::Place;
+use sievedwords::StoreLocation;
 use std::alloc::{AllocError, Global};
 use std::io;
 use std::io::{Read, Write};
@@ -53,6 +55,7 @@ pub fn serve_one<R: Read, W: Write, K: Keeper>(
     ensures back { K.is_out keeper.old ≡ false → K.is_out keeper.new ≡ false }
     ensures serves { IsTrue K.tells → K.is_out keeper.old ≡ false
         → ServesBy R.remaining input.old input.new W.contents output.old output.new K.refuses path.now K.holds keeper.old keeper.new result }
+    ensures fault { IfErr result IsFailure }
 {
     let mut faults = io::sink();
     serve_client(alloc, path, input, output, &mut faults, keeper)
@@ -71,6 +74,7 @@ pub fn serve_client<R: Read, W: Write, F: Write, K: Keeper>(
     ensures back { K.is_out keeper.old ≡ false → K.is_out keeper.new ≡ false }
     ensures serves { IsTrue K.tells → K.is_out keeper.old ≡ false
         → ServesBy R.remaining input.old input.new W.contents output.old output.new K.refuses path.now K.holds keeper.old keeper.new result }
+    ensures fault { IfErr result IsFailure }
 {
     let mut greeting = Octets::new(alloc);
     let mut session = Session::new(alloc, &mut greeting)?;
@@ -81,18 +85,18 @@ pub fn serve_client<R: Read, W: Write, F: Write, K: Keeper>(
 /// `session`: serves one client, and answers the exit status. What goes wrong is told on the faults.
 pub fn run_session<R: Read, W: Write, F: Write, K: Keeper>(
     alloc: Global,
-    place: Place<'_>,
+    location: StoreLocation<'_>,
     input: &mut R,
     output: &mut W,
     faults: &mut F,
     keeper: &mut K,
 ) -> u8
     ensures back { K.is_out keeper.old ≡ false → K.is_out keeper.new ≡ false }
-    ensures serves { IsTrue K.tells → K.is_out keeper.old ≡ false → (ending : Result (Unit {0}) Fault) × (result ≡ status_after ending)
-        × ServesBy R.remaining input.old input.new W.contents output.old output.new K.refuses place.entry.path.now K.holds keeper.old keeper.new ending }
+    ensures serves { IsTrue K.tells → K.is_out keeper.old ≡ false → (ending : Result (Unit {0}) Fault) × (result ≡ status_after ending) × IfErr ending IsFailure
+        × ServesBy R.remaining input.old input.new W.contents output.old output.new K.refuses location.entry.path.now K.holds keeper.old keeper.new ending }
 {
-    keeper.wait_for_lock(place.waits);
-    match serve_client(alloc, place.path, input, output, faults, keeper) {
+    keeper.wait_for_lock(location.waits);
+    match serve_client(alloc, location.path, input, output, faults, keeper) {
         Ok(()) => 0,
         Err(fault) => refuse(faults, fault),
     }
@@ -111,10 +115,11 @@ fn converse<R: Read, W: Write, F: Write, K: Keeper>(
     requires { session.old.client.closed ≡ false }
     ensures back { K.is_out keeper.old ≡ false → K.is_out keeper.new ≡ false }
     ensures serves { IsTrue K.tells → K.is_out keeper.old ≡ false → (accounts : Accounts) (first_in first_out : Option (List ℕ))
-        → Served (HasDenied K.refuses path.now) accounts first_in (R.remaining input.old) first_out (W.contents output.old) session.old.client
+        → Served (IsDenied K.refuses path.now) accounts first_in (R.remaining input.old) first_out (W.contents output.old) session.old.client
         (K.holds keeper.old)
-        → Converses (HasDenied K.refuses path.now) accounts first_in (R.remaining input.new) first_out (W.contents output.new) (K.holds keeper.new) result }
+        → Converses (IsDenied K.refuses path.now) accounts first_in (R.remaining input.new) first_out (W.contents output.new) (K.holds keeper.new) result }
     ensures none { IsTrue K.tells → (K.holds keeper.old).schema ≡ no_schema → (K.holds keeper.new).schema ≡ no_schema }
+    ensures fault { IfErr result IsFailure }
 {
     let mut piece = [0u8; PIECE];
     let mut trouble = FirstTrouble::none();
@@ -145,9 +150,10 @@ fn answer_all<W: Write, K: Keeper>(
 ) -> Result<(), Fault>
     ensures back { K.is_out keeper.old ≡ false → K.is_out keeper.new ≡ false }
     ensures answers { IsTrue K.tells → K.is_out keeper.old ≡ false → (accounts : Accounts) → Offers (K.holds keeper.old) accounts
-        → WritesAll (HasDenied K.refuses path.now) accounts session.old.client (W.contents output.old) (W.contents output.new) session.new.client
+        → WritesAll (IsDenied K.refuses path.now) accounts session.old.client (W.contents output.old) (W.contents output.new) session.new.client
         (K.holds keeper.new) result }
     ensures none { IsTrue K.tells → (K.holds keeper.old).schema ≡ no_schema → (K.holds keeper.new).schema ≡ no_schema }
+    ensures fault { IfErr result (λ fault. fault ≡ Stream) }
 {
     for _ in 0..u64::MAX {
         if !session.ready() {
@@ -171,9 +177,10 @@ fn answer_some<W: Write, K: Keeper>(
     requires { is_ready session.old.client ≡ true }
     ensures back { K.is_out keeper.old ≡ false → K.is_out keeper.new ≡ false }
     ensures answers { IsTrue K.tells → K.is_out keeper.old ≡ false → (accounts : Accounts) → Offers (K.holds keeper.old) accounts
-        → WritesFirst (HasDenied K.refuses path.now) accounts session.old.client (W.contents output.old) (W.contents output.new) session.new.client
+        → WritesFirst (IsDenied K.refuses path.now) accounts session.old.client (W.contents output.old) (W.contents output.new) session.new.client
         (K.holds keeper.new) result }
     ensures none { IsTrue K.tells → (K.holds keeper.old).schema ≡ no_schema → (K.holds keeper.new).schema ≡ no_schema }
+    ensures fault { IfErr result (λ fault. fault ≡ Stream) }
 {
     let mut answers = Octets::new(alloc);
     let answered = answer_under_lock(session, path, &mut answers, trouble, keeper);
@@ -196,9 +203,9 @@ fn answer_under_lock<K: Keeper>(
     requires { is_ready session.old.client ≡ true }
     ensures back { K.is_out keeper.old ≡ false → K.is_out keeper.new ≡ false }
     ensures answers { IsTrue K.tells → (accounts : Accounts) → Offers (K.holds keeper.old) accounts
-        → Answered (HasDenied K.refuses path.now) accounts session.old.client answers.old answers.new session.new.client (Offers (K.holds keeper.new)) }
+        → Answered (IsDenied K.refuses path.now) accounts session.old.client answers.old answers.new session.new.client (Offers (K.holds keeper.new)) }
     ensures stopped { result ≡ false → is_ready session.new.client ≡ true }
-    ensures cause { result ≡ false → K.is_out keeper.old ≡ false → Hinders (HasDenied K.refuses path.now) session.new.client }
+    ensures cause { result ≡ false → K.is_out keeper.old ≡ false → Hinders (IsDenied K.refuses path.now) session.new.client }
     ensures none { IsTrue K.tells → (K.holds keeper.old).schema ≡ no_schema → (K.holds keeper.new).schema ≡ no_schema }
     ensures asked { K.unclosed keeper.old ≡ None → K.unclosed keeper.new ≡ None }
 {
@@ -251,10 +258,10 @@ fn answer_ready<K: Keeper>(
     keeper: &mut K,
 ) -> Result<(), Held>
     ensures answers { IsTrue K.tells → (accounts : Accounts) → AreSeen (λ s. (state K.S.Store s).now) (K.holds keeper.old) store.old accounts
-        → Answered (HasDenied K.refuses path.now) accounts session.old.client answers.old answers.new session.new.client
+        → Answered (IsDenied K.refuses path.now) accounts session.old.client answers.old answers.new session.new.client
         (AreSeen (λ s. (state K.S.Store s).now) (K.holds keeper.new) store.new) }
     ensures stopped { OnErr result (is_ready session.new.client ≡ true) }
-    ensures cause { OnErr result (Hinders (HasDenied K.refuses path.now) session.new.client) }
+    ensures cause { OnErr result (Hinders (IsDenied K.refuses path.now) session.new.client) }
     ensures none { IsTrue K.tells → (K.holds keeper.old).schema ≡ no_schema → store.old ≡ None
         → (K.holds keeper.new ≡ K.holds keeper.old) × (store.new ≡ None) }
     ensures closed { K.unclosed keeper.new ≡ K.unclosed keeper.old }
@@ -281,7 +288,7 @@ fn answer_first<K: Keeper>(
         → StepsOn accounts session.old.client answers.old answers.new session.new.client
         (AreSeen (λ s. (state K.S.Store s).now) (K.holds keeper.new) store.new) (is_ok result) }
     ensures same { OnErr result ((session.new ≡ session.old) × (answers.new ≡ answers.old)) }
-    ensures cause { OnErr result (Hinders (HasDenied K.refuses path.now) session.new.client) }
+    ensures cause { OnErr result (Hinders (IsDenied K.refuses path.now) session.new.client) }
     ensures none { IsTrue K.tells → (K.holds keeper.old).schema ≡ no_schema → store.old ≡ None
         → (K.holds keeper.new ≡ K.holds keeper.old) × (store.new ≡ None) }
     ensures closed { K.unclosed keeper.new ≡ K.unclosed keeper.old }
@@ -309,7 +316,7 @@ fn answer_over_store<K: Keeper>(
         → StepsOn accounts session.old.client answers.old answers.new session.new.client
         (AreSeen (λ s. (state K.S.Store s).now) (K.holds keeper.new) store.new) (is_ok result) }
     ensures same { OnErr result ((session.new ≡ session.old) × (answers.new ≡ answers.old)) }
-    ensures cause { OnErr result (Hinders (HasDenied K.refuses path.now) session.new.client) }
+    ensures cause { OnErr result (Hinders (IsDenied K.refuses path.now) session.new.client) }
     ensures none { IsTrue K.tells → (K.holds keeper.old).schema ≡ no_schema → store.old ≡ None
         → (K.holds keeper.new ≡ K.holds keeper.old) × (store.new ≡ None) }
     ensures closed { K.unclosed keeper.new ≡ K.unclosed keeper.old }
@@ -333,7 +340,7 @@ fn open_store<K: Keeper>(
         → PresentsSeen (AreSeen (λ s. (state K.S.Store s).now) (K.holds keeper.old) store.old) (state K.S.Store taken).now) }
     ensures ours { OnOk result (IsTrue K.tells → store.old ≡ None → IsKnown (K.holds keeper.old)) }
     ensures refused { OnErr result ((IsTrue K.tells → K.holds keeper.new ≡ K.holds keeper.old) × (store.new ≡ store.old)) }
-    ensures denied { OnErr result (HasDenied K.refuses path.now) }
+    ensures denied { OnErr result (IsDenied K.refuses path.now) }
     ensures closed { K.unclosed keeper.new ≡ K.unclosed keeper.old }
 {
     match store.take() {

@@ -2,7 +2,7 @@
 ghost use Rattle.std.specs.Prelude.{◌≡◌, ◌+◌, ◌<◌, ◌≤◌, take, drop, length, vec_len, unwrap_or, IfOk, IfErr, OnOk, OnErr};
 ghost use Rattle.std.specs.Io.KnownBytes.{Appends, Consumes, IsAtEnd, Keeps};
 ghost use Rattle.sievedrun.specs.Faults.{IsFailure};
-ghost use Rattle.sievedrun.specs.Streams.{ReadsAll, AppendsFront};
+ghost use Rattle.sievedrun.specs.Streams.{ReadsAll, AppendsFront, InputFailed, ReadFailed, WriteFailed};
 
 use crate::fault::Fault;
 use std::alloc::{AllocError, Global};
@@ -19,6 +19,7 @@ const PIECE: usize = 262_144;
 pub fn read_all<R: Read>(alloc: Global, input: &mut R) -> Result<Vec<u8>, Fault>
     ensures ok { IfOk result (λ octets. ReadsAll (R.remaining input.old) octets.items) }
     ensures err { IfErr result IsFailure }
+    ensures failed { IfErr result (λ fault. fault ≡ Fault.Stream → InputFailed) }
 {
     let mut octets = Vec::new(alloc);
     let mut filled = 0;
@@ -57,6 +58,7 @@ pub fn read_at<R: Read>(input: &mut R, room: &mut [u8], at: usize) -> Result<Opt
         (take (unwrap_or more 0) (drop at room.new))) }
     ensures end { result ≡ Ok None → IsAtEnd (R.remaining input.new) }
     ensures fault { IfErr result (λ fault. fault ≡ Fault.Stream) }
+    ensures failed { OnErr result (ReadFailed (R.remaining input.new)) }
 {
     match input.read(&mut room[at..]) {
         Ok(0) => Ok(None),
@@ -83,6 +85,7 @@ fn allow_retry(error: &io::Error) -> Result<(), Fault>
 pub fn write_all<W: Write>(output: &mut W, text: &[u8]) -> Result<(), Fault>
     ensures ok { OnOk result (Appends (W.contents output.old) (W.contents output.new) text.now) }
     ensures err { OnErr result (AppendsFront (W.contents output.old) (W.contents output.new) text.now) }
+    ensures failed { OnErr result (WriteFailed (W.contents output.new)) }
     ensures fault { IfErr result (λ fault. fault ≡ Fault.Stream) }
 {
     let mut rest = text;
@@ -101,6 +104,7 @@ fn write_some<W: Write>(output: &mut W, text: &[u8]) -> Result<usize, Fault>
     ensures bound { IfOk result (λ n. n ≤ length text.now) }
     ensures ok { IfOk result (λ n. Appends (W.contents output.old) (W.contents output.new) (take n text.now)) }
     ensures err { OnErr result (Keeps (W.contents output.old) (W.contents output.new)) }
+    ensures failed { OnErr result (WriteFailed (W.contents output.new)) }
     ensures fault { IfErr result (λ fault. fault ≡ Fault.Stream) }
 {
     match output.write(text) {
@@ -115,6 +119,7 @@ fn write_some<W: Write>(output: &mut W, text: &[u8]) -> Result<usize, Fault>
 
 fn flushed<W: Write>(output: &mut W) -> Result<(), Fault>
     ensures kept { Keeps (W.contents output.old) (W.contents output.new) }
+    ensures failed { OnErr result (WriteFailed (W.contents output.new)) }
     ensures fault { IfErr result (λ fault. fault ≡ Fault.Stream) }
 {
     match output.flush() {

@@ -2,9 +2,9 @@
 ghost use Rattle.std.specs.Prelude.{◌≡◌, ◌≢◌, false, Some, None, IsTrue, IfSome};
 ghost use Rattle.std.specs.Io.KnownBytes.{Keeps};
 ghost use Rattle.sievedrun.specs.Faults.{line_of, store_failed};
-ghost use Rattle.sievedrun.specs.Streams.{AppendsFirst, AppendsSome};
+ghost use Rattle.sievedrun.specs.Streams.{IsTold, AppendsSome};
 
-use crate::fault::{Fault, refuse};
+use crate::fault::Fault;
 use crate::stream::write_all;
 use keepers::Keeper;
 use mailstore::Refusal;
@@ -31,13 +31,14 @@ impl Trouble {
         Trouble { fault, cause }
     }
 
-    /// Tells of it, on a line, and of its cause, where that is known, on a second one. Where that can't be written nothing more
-    /// can be done.
+    /// Tells of it, on a line, and of its cause, where that is known, on a second one. Where the first can't be written nothing
+    /// more can be done.
     pub fn tell<F: Write>(self, faults: &mut F)
-        ensures { AppendsFirst (F.contents faults.old) (F.contents faults.new) (line_of self.fault) }
+        ensures { IsTold (F.contents faults.old) (F.contents faults.new) (line_of self.fault) }
     {
-        refuse(faults, self.fault);
-        tell_cause(faults, self.cause);
+        if write_all(faults, self.fault.line()).is_ok() {
+            tell_cause(faults, self.cause);
+        }
     }
 }
 
@@ -91,7 +92,7 @@ impl FirstTrouble {
         ensures once { IsTrue self.old.is_told → F.contents faults.new ≡ F.contents faults.old }
         ensures none { self.old.trouble ≡ None → F.contents faults.new ≡ F.contents faults.old }
         ensures tells { self.old.is_told ≡ false
-            → IfSome self.old.trouble (λ trouble. AppendsFirst (F.contents faults.old) (F.contents faults.new) (line_of trouble.fault)) }
+            → IfSome self.old.trouble (λ trouble. IsTold (F.contents faults.old) (F.contents faults.new) (line_of trouble.fault)) }
         ensures same { self.new.trouble ≡ self.old.trouble }
         ensures told { IfSome self.old.trouble (λ trouble. IsTrue self.new.is_told) }
     {

@@ -1,5 +1,5 @@
 //! Values that stand in the words, and the first line of an input.
-ghost use Rattle.std.specs.Prelude.{◌≡◌, ◌⊎◌, None, IfOk, IfErr, option_copied};
+ghost use Rattle.std.specs.Prelude.{◌≡◌, ◌⊎◌, None, IfOk, IfErr, OnOk, option_copied};
 ghost use Rattle.std.specs.List.{prefix_len};
 ghost use Rattle.octets.specs.Decimal.{Writes};
 ghost use Rattle.sievedrun.specs.Promise as promise;
@@ -16,6 +16,7 @@ use std::alloc::{AllocError, Global};
 /// A number in decimal digits, without a sign.
 pub fn decimal(text: &str) -> Result<u64, Fault>
     ensures ok { IfOk result (λ number. Writes text.now number) }
+    ensures right { OnOk result (IsNoNumber text.now → ⊥) }
     ensures fault { IfErr result (λ fault. fault ≡ Fault.BadArgument) }
     ensures none { IfErr result (λ fault. IsNoNumber text.now) }
 {
@@ -61,7 +62,9 @@ pub fn salt_of(text: &str) -> Result<[u8; 16], Fault>
 /// The moment that the words have, or else the clock's, in seconds since 1970.
 pub fn moment_of(at: Option<&str>, clock: Option<u64>) -> Result<u64, Fault>
     ensures ok { IfOk result (IsMoment (option_copied at.entry) clock) }
-    ensures fault { IfErr result (λ fault. ((fault ≡ Fault.BadArgument) × HasNoNumber (option_copied at.entry)) ⊎ ((fault ≡ Fault.Stream) × (clock ≡ None))) }
+    ensures right { OnOk result (HasNoNumber (option_copied at.entry) → ⊥) }
+    ensures fault { IfErr result (λ fault. ((fault ≡ Fault.BadArgument) × HasNoNumber (option_copied at.entry))
+        ⊎ ((fault ≡ Fault.Stream) × (option_copied at.entry ≡ None) × (clock ≡ None))) }
 {
     match at {
         Some(text) => decimal(text),

@@ -1,8 +1,11 @@
-//! What may be given to a word.
+//! What may be given to a subcommand.
+ghost use Rattle.std.specs.Prelude.{◌≡◌};
+ghost use Rattle.sievedwords.specs.Ids.{id_of};
+
 use clap::{Arg, ArgAction};
 use std::alloc::Global;
 
-/// An argument of a word. What one word has to have and another may have is two of these.
+/// An argument of a subcommand. What one subcommand has to have and another may have is two of these.
 #[derive(Clone, Copy)]
 pub enum Argument {
     Db,
@@ -78,7 +81,10 @@ impl Argument {
         }
     }
 
-    fn name(self) -> &'static str {
+    /// What it is known by.
+    pub fn name(self) -> &'static str
+        ensures { result.now ≡ id_of self }
+    {
         match self {
             Argument::Db => "db",
             Argument::Wait => "wait",

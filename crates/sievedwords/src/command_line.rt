@@ -1,4 +1,7 @@
 //! The words of a command line: the octets that the system hands over, and the texts that `clap` reads.
+ghost use Rattle.std.specs.Prelude.{IsTrue};
+ghost use Rattle.sievedwords.specs.Asks.{HasNoText, IsAddress};
+
 use octets::Octets;
 use std::alloc::{AllocError, Global};
 use std::str;
@@ -49,6 +52,20 @@ impl CommandLine {
         words
             .filter(|(octets, text)| stands_in(text.as_str(), octets.as_slice()))
             .count()
+    }
+
+    /// Whether some word isn't UTF-8.
+    pub(crate) fn has_stand_ins(&self) -> bool
+        ensures { IsTrue result → HasNoText self.now }
+    {
+        self.stand_ins() > 0
+    }
+
+    /// The octets of an address with this value: its own, or those that it stands in for.
+    pub(crate) fn address<'a>(&'a self, value: &'a str) -> &'a [u8]
+        ensures { IsAddress self.now value.now result.now }
+    {
+        self.behind(value).unwrap_or(value.as_bytes())
     }
 
     /// The octets that a value of an option stands in for; none where it stands for itself.

@@ -2,10 +2,27 @@
 #![tactic(auto)]
 
 mod argument;
-mod asked;
-mod command;
 mod command_line;
-mod word;
+mod given;
+mod location;
+mod program;
+mod reading;
+mod row;
+mod subcommand;
 
-pub use asked::{Asked, Place, ReadError, read};
 pub use command_line::CommandLine;
+pub use location::StoreLocation;
+pub use reading::{ReadError, read};
+pub use subcommand::Subcommand;
+pub use subcommand::adduser::AddUser;
+pub use subcommand::deliver::Deliver;
+pub use subcommand::done::Done;
+pub use subcommand::drain::Drain;
+pub use subcommand::folders::Folders;
+pub use subcommand::init::Init;
+pub use subcommand::notices::Notices;
+pub use subcommand::queue::Queue;
+pub use subcommand::serve::Serve;
+pub use subcommand::session::Session;
+pub use subcommand::show::Show;
+pub use subcommand::try_script::Try;

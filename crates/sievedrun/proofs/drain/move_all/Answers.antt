@@ -6,19 +6,25 @@ use Rattle.sievedrun.proofs.MoveLemmas.{none_moved, one_more, no_more, stops, mo
 use Rattle.sievedrun.proofs.drain.move_all.Goals as goal
 
 pub loop-moved-init : goal.loop-moved-init
-loop-moved-init g c = none_moved c.args.user.now c.args.folder.now g.T.MailSink.tells (g.T.MailSink.kept c.args.sink.now) (state g.S.Store c.args.store.now)
+loop-moved-init g c = record {
+  moves = none_moved c.args.user.now c.args.folder.now g.T.MailSink.tells (g.T.MailSink.kept c.args.sink.now) (state g.S.Store c.args.store.now);
+  stays = λ path at. at;
+}
 
 pub loop-moved-preserved : goal.loop-moved-preserved
 loop-moved-preserved g c =
     let is : c.move_first.result ≡ Ok true = c.in_ok-move_first.was ∙ ap Ok c.if-not-branch.false in
-    one_more c.args.user.now c.args.folder.now g.T.MailSink.tells (g.T.MailSink.kept c.args.sink.now) (g.T.MailSink.kept c.loop-moved.sink) (g.T.MailSink.kept c.move_first.new.sink) c.loop-moved.moved
-    (state g.S.Store c.args.store.now) (state g.S.Store c.loop-moved.store) (state g.S.Store c.move_first.new.store) c.loop-moved.invariant c.move_first.result is c.move_first.ensures.moves
+    record {
+      moves = one_more c.args.user.now c.args.folder.now g.T.MailSink.tells (g.T.MailSink.kept c.args.sink.now) (g.T.MailSink.kept c.loop-moved.sink) (g.T.MailSink.kept c.move_first.new.sink) c.loop-moved.moved
+          (state g.S.Store c.args.store.now) (state g.S.Store c.loop-moved.store) (state g.S.Store c.move_first.new.store) c.loop-moved.invariant.moves c.move_first.result is c.move_first.ensures.moves;
+      stays = λ path at. c.move_first.ensures.stays path (c.loop-moved.invariant.stays path at);
+    }
 
 pub returns-then-not-branch-clause-moves : goal.returns-then-not-branch-clause-moves
 returns-then-not-branch-clause-moves g c =
     let is : c.move_first.result ≡ Ok false = c.in_ok-move_first.was ∙ ap Ok c.if-not-branch.true in
     no_more c.args.user.now c.args.folder.now g.T.MailSink.tells (g.T.MailSink.kept c.args.sink.now) (g.T.MailSink.kept c.loop-moved.sink) (g.T.MailSink.kept c.move_first.new.sink) c.loop-moved.moved
-    (state g.S.Store c.args.store.now) (state g.S.Store c.loop-moved.store) (state g.S.Store c.move_first.new.store) c.loop-moved.invariant c.move_first.result c.args.most is c.loop-moved-test.true c.move_first.ensures.moves
+    (state g.S.Store c.args.store.now) (state g.S.Store c.loop-moved.store) (state g.S.Store c.move_first.new.store) c.loop-moved.invariant.moves c.move_first.result c.args.most is c.loop-moved-test.true c.move_first.ensures.moves
 
 pub returns-in_err-move_first-clause-moves : goal.returns-in_err-move_first-clause-moves
 returns-in_err-move_first-clause-moves g c =
@@ -27,9 +33,9 @@ returns-in_err-move_first-clause-moves g c =
     let is : c.from_residual.result ≡ Err fault = search rules in
     subst (λ r. MovesMail c.args.user.now c.args.folder.now Grew (is_ok r) (AnyMoved c.args.user.now c.args.folder.now Grew c.args.most r) (state g.S.Store c.args.store.now) (state g.S.Store c.move_first.new.store)) (sym is)
     (stops c.args.user.now c.args.folder.now g.T.MailSink.tells (g.T.MailSink.kept c.args.sink.now) (g.T.MailSink.kept c.loop-moved.sink) (g.T.MailSink.kept c.move_first.new.sink) c.loop-moved.moved
-    (state g.S.Store c.args.store.now) (state g.S.Store c.loop-moved.store) (state g.S.Store c.move_first.new.store) c.loop-moved.invariant c.move_first.result fault fault c.args.most c.in_err-move_first.was c.move_first.ensures.moves)
+    (state g.S.Store c.args.store.now) (state g.S.Store c.loop-moved.store) (state g.S.Store c.move_first.new.store) c.loop-moved.invariant.moves c.move_first.result fault fault c.args.most c.in_err-move_first.was c.loop-moved-test.true c.move_first.ensures.moves)
 
 pub returns-clause-moves : goal.returns-clause-moves
 returns-clause-moves g c =
     let Grew = GrowsBy g.T.MailSink.tells (g.T.MailSink.kept c.args.sink.now) (g.T.MailSink.kept c.loop-moved.sink) in
-    most_moved c.args.user.now c.args.folder.now Grew c.args.most c.loop-moved.moved (state g.S.Store c.args.store.now) (state g.S.Store c.loop-moved.store) (omega arith) c.loop-moved.invariant
+    most_moved c.args.user.now c.args.folder.now Grew c.args.most c.loop-moved.moved (state g.S.Store c.args.store.now) (state g.S.Store c.loop-moved.store) (omega arith) c.loop-moved.invariant.moves

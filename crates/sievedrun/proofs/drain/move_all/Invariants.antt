@@ -1,5 +1,5 @@
 -- As many messages moved as there were turns.
-use Rattle.std.proofs.Common.{true}
+use Rattle.std.proofs.Common.{ℕ, List, true}
 use Rattle.sqlite.specs.Held.{state}
 use Rattle.sievedrun.specs.Draining.{GrowsBy, Moved, MovesMail}
 use Rattle.sievedrun.proofs.drain.move_all.Given as goal
@@ -7,4 +7,7 @@ use Rattle.sievedrun.proofs.drain.move_all.Given as goal
 abbrev pub invariant-loop-moved : goal.invariant-loop-moved
 invariant-loop-moved g l =
     let Grew = GrowsBy g.T.MailSink.tells (g.T.MailSink.kept l.initial.sink) (g.T.MailSink.kept l.sink) in
-    MovesMail l.user l.folder Grew true (Moved l.user l.folder Grew l.moved) (state g.S.Store l.initial.store) (state g.S.Store l.store)
+    record {
+      moves : MovesMail l.user l.folder Grew true (Moved l.user l.folder Grew l.moved) (state g.S.Store l.initial.store) (state g.S.Store l.store);
+      stays : (path : List ℕ) → g.T.MailSink.is_at l.initial.sink path → g.T.MailSink.is_at l.sink path;
+    }

@@ -1,10 +1,14 @@
 -- Each word does its own work.
-use Rattle.std.proofs.Common.{subst, sym}
-use Rattle.sievedrun.specs.Serving.{HasDenied}
-use Rattle.sievedrun.specs.Words.{Does}
+use Rattle.std.proofs.Common.{Result, Ok, Err, OnOk, subst, sym}
+use Rattle.sievedrun.specs.declared.fault.Fault.{Fault}
+use Rattle.sievedrun.specs.Serving.{HasDenied, HasGiven}
+use Rattle.sievedrun.specs.Words.{Does, Reaches}
 use Rattle.sievedrun.proofs.LeaveLemmas.{grown_none}
-use Rattle.sievedrun.proofs.WordLemmas.{looks_done}
 use Rattle.sievedrun.proofs.drive.act.Goals as goal
+
+both : (P Q : Type 0) (r : Result (Unit {0}) Fault) → OnOk r P → OnOk r Q → OnOk r (P × Q)
+both P Q (Ok done) p q = (p, q)
+both P Q (Err fault) p q = tt
 
 pub returns-in-Init-clause-does : goal.returns-in-Init-clause-does
 returns-in-Init-clause-does g c tells =
@@ -12,11 +16,19 @@ returns-in-Init-clause-does g c tells =
     subst (λ asked. Does (HasDenied g.K.Keeper.refuses) c.args.clock (g.R.Read.remaining c.args.input.now) g.T.MailSink.tells kept kept (g.W.Write.contents c.args.output.now) (g.W.Write.contents c.run_init.new.output) asked c.run_init.result
     (g.K.Keeper.holds c.args.keeper.now) (g.K.Keeper.holds c.run_init.new.keeper)) (sym c.in-Init.is) (grown_none g.T.MailSink.tells kept, c.run_init.ensures.does tells)
 
+pub returns-in-Init-clause-reaches : goal.returns-in-Init-clause-reaches
+returns-in-Init-clause-reaches g c =
+    subst (λ asked. OnOk c.run_init.result (Reaches (HasGiven g.K.Keeper.gives) (g.T.MailSink.is_at c.args.sink.now) asked)) (sym c.in-Init.is) (c.run_init.ensures.given)
+
 pub returns-in-AddUser-clause-does : goal.returns-in-AddUser-clause-does
 returns-in-AddUser-clause-does g c tells =
     let kept = g.T.MailSink.kept c.args.sink.now in
     subst (λ asked. Does (HasDenied g.K.Keeper.refuses) c.args.clock (g.R.Read.remaining c.args.input.now) g.T.MailSink.tells kept kept (g.W.Write.contents c.args.output.now) (g.W.Write.contents c.run_adduser.new.output) asked c.run_adduser.result
     (g.K.Keeper.holds c.args.keeper.now) (g.K.Keeper.holds c.run_adduser.new.keeper)) (sym c.in-AddUser.is) (grown_none g.T.MailSink.tells kept, c.run_adduser.ensures.does tells)
+
+pub returns-in-AddUser-clause-reaches : goal.returns-in-AddUser-clause-reaches
+returns-in-AddUser-clause-reaches g c =
+    subst (λ asked. OnOk c.run_adduser.result (Reaches (HasGiven g.K.Keeper.gives) (g.T.MailSink.is_at c.args.sink.now) asked)) (sym c.in-AddUser.is) (c.run_adduser.ensures.given)
 
 pub returns-in-Deliver-clause-does : goal.returns-in-Deliver-clause-does
 returns-in-Deliver-clause-does g c tells =
@@ -24,20 +36,66 @@ returns-in-Deliver-clause-does g c tells =
     subst (λ asked. Does (HasDenied g.K.Keeper.refuses) c.args.clock (g.R.Read.remaining c.args.input.now) g.T.MailSink.tells kept kept (g.W.Write.contents c.args.output.now) (g.W.Write.contents c.run_deliver.new.output) asked c.run_deliver.result
     (g.K.Keeper.holds c.args.keeper.now) (g.K.Keeper.holds c.run_deliver.new.keeper)) (sym c.in-Deliver.is) (grown_none g.T.MailSink.tells kept, c.run_deliver.ensures.does tells)
 
+pub returns-in-Deliver-clause-reaches : goal.returns-in-Deliver-clause-reaches
+returns-in-Deliver-clause-reaches g c =
+    subst (λ asked. OnOk c.run_deliver.result (Reaches (HasGiven g.K.Keeper.gives) (g.T.MailSink.is_at c.args.sink.now) asked)) (sym c.in-Deliver.is) (c.run_deliver.ensures.given)
+
+pub returns-in-Folders-clause-does : goal.returns-in-Folders-clause-does
+returns-in-Folders-clause-does g c tells =
+    let kept = g.T.MailSink.kept c.args.sink.now in
+    subst (λ asked. Does (HasDenied g.K.Keeper.refuses) c.args.clock (g.R.Read.remaining c.args.input.now) g.T.MailSink.tells kept kept (g.W.Write.contents c.args.output.now) (g.W.Write.contents c.run_folders.new.output) asked c.run_folders.result
+    (g.K.Keeper.holds c.args.keeper.now) (g.K.Keeper.holds c.run_folders.new.keeper)) (sym c.in-Folders.is) (grown_none g.T.MailSink.tells kept, c.run_folders.ensures.does tells)
+
+pub returns-in-Folders-clause-reaches : goal.returns-in-Folders-clause-reaches
+returns-in-Folders-clause-reaches g c =
+    subst (λ asked. OnOk c.run_folders.result (Reaches (HasGiven g.K.Keeper.gives) (g.T.MailSink.is_at c.args.sink.now) asked)) (sym c.in-Folders.is) (c.run_folders.ensures.given)
+
+pub returns-in-Show-clause-does : goal.returns-in-Show-clause-does
+returns-in-Show-clause-does g c tells =
+    let kept = g.T.MailSink.kept c.args.sink.now in
+    subst (λ asked. Does (HasDenied g.K.Keeper.refuses) c.args.clock (g.R.Read.remaining c.args.input.now) g.T.MailSink.tells kept kept (g.W.Write.contents c.args.output.now) (g.W.Write.contents c.run_show.new.output) asked c.run_show.result
+    (g.K.Keeper.holds c.args.keeper.now) (g.K.Keeper.holds c.run_show.new.keeper)) (sym c.in-Show.is) (grown_none g.T.MailSink.tells kept, c.run_show.ensures.does tells)
+
+pub returns-in-Show-clause-reaches : goal.returns-in-Show-clause-reaches
+returns-in-Show-clause-reaches g c =
+    subst (λ asked. OnOk c.run_show.result (Reaches (HasGiven g.K.Keeper.gives) (g.T.MailSink.is_at c.args.sink.now) asked)) (sym c.in-Show.is) (c.run_show.ensures.given)
+
+pub returns-in-Queue-clause-does : goal.returns-in-Queue-clause-does
+returns-in-Queue-clause-does g c tells =
+    let kept = g.T.MailSink.kept c.args.sink.now in
+    subst (λ asked. Does (HasDenied g.K.Keeper.refuses) c.args.clock (g.R.Read.remaining c.args.input.now) g.T.MailSink.tells kept kept (g.W.Write.contents c.args.output.now) (g.W.Write.contents c.run_queue.new.output) asked c.run_queue.result
+    (g.K.Keeper.holds c.args.keeper.now) (g.K.Keeper.holds c.run_queue.new.keeper)) (sym c.in-Queue.is) (grown_none g.T.MailSink.tells kept, c.run_queue.ensures.does tells)
+
+pub returns-in-Queue-clause-reaches : goal.returns-in-Queue-clause-reaches
+returns-in-Queue-clause-reaches g c =
+    subst (λ asked. OnOk c.run_queue.result (Reaches (HasGiven g.K.Keeper.gives) (g.T.MailSink.is_at c.args.sink.now) asked)) (sym c.in-Queue.is) (c.run_queue.ensures.given)
+
 pub returns-in-Done-clause-does : goal.returns-in-Done-clause-does
 returns-in-Done-clause-does g c tells =
     let kept = g.T.MailSink.kept c.args.sink.now in
     subst (λ asked. Does (HasDenied g.K.Keeper.refuses) c.args.clock (g.R.Read.remaining c.args.input.now) g.T.MailSink.tells kept kept (g.W.Write.contents c.args.output.now) (g.W.Write.contents c.run_done.new.output) asked c.run_done.result
     (g.K.Keeper.holds c.args.keeper.now) (g.K.Keeper.holds c.run_done.new.keeper)) (sym c.in-Done.is) (grown_none g.T.MailSink.tells kept, c.run_done.ensures.does tells)
 
+pub returns-in-Done-clause-reaches : goal.returns-in-Done-clause-reaches
+returns-in-Done-clause-reaches g c =
+    subst (λ asked. OnOk c.run_done.result (Reaches (HasGiven g.K.Keeper.gives) (g.T.MailSink.is_at c.args.sink.now) asked)) (sym c.in-Done.is) (c.run_done.ensures.given)
+
+pub returns-in-Notices-clause-does : goal.returns-in-Notices-clause-does
+returns-in-Notices-clause-does g c tells =
+    let kept = g.T.MailSink.kept c.args.sink.now in
+    subst (λ asked. Does (HasDenied g.K.Keeper.refuses) c.args.clock (g.R.Read.remaining c.args.input.now) g.T.MailSink.tells kept kept (g.W.Write.contents c.args.output.now) (g.W.Write.contents c.run_notices.new.output) asked c.run_notices.result
+    (g.K.Keeper.holds c.args.keeper.now) (g.K.Keeper.holds c.run_notices.new.keeper)) (sym c.in-Notices.is) (grown_none g.T.MailSink.tells kept, c.run_notices.ensures.does tells)
+
+pub returns-in-Notices-clause-reaches : goal.returns-in-Notices-clause-reaches
+returns-in-Notices-clause-reaches g c =
+    subst (λ asked. OnOk c.run_notices.result (Reaches (HasGiven g.K.Keeper.gives) (g.T.MailSink.is_at c.args.sink.now) asked)) (sym c.in-Notices.is) (c.run_notices.ensures.given)
+
 pub returns-in-Drain-clause-does : goal.returns-in-Drain-clause-does
 returns-in-Drain-clause-does g c tells =
-    subst (λ asked. Does (HasDenied g.K.Keeper.refuses) c.args.clock (g.R.Read.remaining c.args.input.now) g.T.MailSink.tells (g.T.MailSink.kept c.args.sink.now) (g.T.MailSink.kept c.run_drain.new.sink) (g.W.Write.contents c.args.output.now)
-    (g.W.Write.contents c.run_drain.new.output) asked c.run_drain.result (g.K.Keeper.holds c.args.keeper.now) (g.K.Keeper.holds c.run_drain.new.keeper)) (sym c.in-Drain.is) (c.run_drain.ensures.drains tells)
-
-pub returns-in_default-clause-does : goal.returns-in_default-clause-does
-returns-in_default-clause-does g c tells =
     let kept = g.T.MailSink.kept c.args.sink.now in
-    looks_done (HasDenied g.K.Keeper.refuses) c.args.clock (g.R.Read.remaining c.args.input.now) g.T.MailSink.tells kept kept (g.W.Write.contents c.args.output.now) (g.W.Write.contents c.look.new.output) c.args.asked c.look.result
-    (g.K.Keeper.holds c.args.keeper.now) (g.K.Keeper.holds c.look.new.keeper) c.in_default.not-Init c.in_default.not-AddUser c.in_default.not-Deliver c.in_default.not-Done c.in_default.not-Drain
-    (grown_none g.T.MailSink.tells kept) (c.look.ensures.looks tells)
+    subst (λ asked. Does (HasDenied g.K.Keeper.refuses) c.args.clock (g.R.Read.remaining c.args.input.now) g.T.MailSink.tells kept (g.T.MailSink.kept c.run_drain.new.sink) (g.W.Write.contents c.args.output.now) (g.W.Write.contents c.run_drain.new.output) asked c.run_drain.result
+    (g.K.Keeper.holds c.args.keeper.now) (g.K.Keeper.holds c.run_drain.new.keeper)) (sym c.in-Drain.is) (c.run_drain.ensures.drains tells)
+
+pub returns-in-Drain-clause-reaches : goal.returns-in-Drain-clause-reaches
+returns-in-Drain-clause-reaches g c =
+    subst (λ asked. OnOk c.run_drain.result (Reaches (HasGiven g.K.Keeper.gives) (g.T.MailSink.is_at c.run_drain.new.sink) asked)) (sym c.in-Drain.is) (both _ _ c.run_drain.result c.run_drain.ensures.given c.run_drain.ensures.placed)

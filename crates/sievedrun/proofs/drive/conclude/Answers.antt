@@ -1,23 +1,33 @@
 -- Why the store couldn't be closed is told first, and then the fault.
-use Rattle.std.proofs.Common.{Option, Some, None, IfSome, subst}
-use Rattle.mailstore.specs.declared.refusal.Refusal.{Refusal}
-use Rattle.sievedrun.specs.declared.fault.Fault.TheVariants.{Refused}
-use Rattle.sievedrun.specs.Faults.{line_of}
-use Rattle.sievedrun.specs.Streams.{AppendsFirst}
-use Rattle.sievedrun.proofs.StreamLemmas.{first_then, first_some}
+use Rattle.std.proofs.Common.{◌≡◌, Ok, Err, sym, subst}
+use Rattle.sievedrun.specs.Faults.{line_of, store_failed, troubles, AreTold}
+use Rattle.sievedrun.specs.Streams.{IsTold}
+use Rattle.sievedrun.proofs.RunLemmas.{told_done, told_failed, told_fault}
 use Rattle.sievedrun.proofs.drive.conclude.Goals as goal
 
-weaker : (o : Option Refusal) (P Q : Refusal → Type 0) → ((r : Refusal) → P r → Q r) → IfSome o P → IfSome o Q
-weaker None P Q more h = tt
-weaker (Some r) P Q more h = more r h
+pub returns-in-Ok-clause-told : goal.returns-in-Ok-clause-told
+returns-in-Ok-clause-told g c =
+    let old = g.F.Write.contents c.args.faults.now in
+    let new = g.F.Write.contents c.tell_unclosed.new.faults in
+    subst (λ done. AreTold old new (troubles (g.K.Keeper.unclosed c.args.keeper.now) done)) (sym c.in-Ok.is)
+    (subst (λ o. AreTold old new (troubles o (Ok tt))) c.take_close_error-unclosed.ensures.error
+    (told_done old new new c.take_close_error-unclosed.result c.tell_unclosed.ensures.some c.tell_unclosed.ensures.none))
 
-pub returns-in-Err-clause-told : goal.returns-in-Err-clause-told
-returns-in-Err-clause-told g c other =
+pub returns-then-is_store_failure-clause-told : goal.returns-then-is_store_failure-clause-told
+returns-then-is_store_failure-clause-told g c =
+    let old = g.F.Write.contents c.args.faults.now in
+    let new = g.F.Write.contents c.tell_fault.new.faults in
+    let unclosed = g.K.Keeper.unclosed c.args.keeper.now in
+    let failed : c.in-Err.fault ≡ store_failed = c.is_store_failure.ensures.failed c.if-is_store_failure.true in
+    subst (λ done. AreTold old new (troubles unclosed done)) (sym c.in-Err.is)
+    (subst (λ fault. AreTold old new (troubles unclosed (Err fault))) (sym failed) (told_failed old new new unclosed (subst (λ fault. IsTold old new (line_of fault)) failed c.tell_fault.ensures.line)))
+
+pub returns-else-is_store_failure-clause-told : goal.returns-else-is_store_failure-clause-told
+returns-else-is_store_failure-clause-told g c =
     let old = g.F.Write.contents c.args.faults.now in
     let mid = g.F.Write.contents c.tell_unclosed-in-Err.new.faults in
     let new = g.F.Write.contents c.tell_fault-in-Err.new.faults in
-    let fault = first_some mid new _ c.tell_fault-in-Err.ensures.line in
-    let Told : Option Refusal → Type 0 = λ o. IfSome o (λ refusal. AppendsFirst old new (line_of (Refused refusal))) in
-    subst Told c.take_close_error-unclosed.ensures.error
-    (weaker c.take_close_error-unclosed.result (λ refusal. AppendsFirst old mid (line_of (Refused refusal))) (λ refusal. AppendsFirst old new (line_of (Refused refusal)))
-    (λ refusal h. first_then old mid new (line_of (Refused refusal)) h fault) c.tell_unclosed-in-Err.ensures)
+    let fault = c.in-Err.fault in
+    subst (λ done. AreTold old new (troubles (g.K.Keeper.unclosed c.args.keeper.now) done)) (sym c.in-Err.is)
+    (subst (λ o. AreTold old new (troubles o (Err fault))) c.take_close_error-unclosed.ensures.error
+    (told_fault old mid new c.take_close_error-unclosed.result fault (c.is_store_failure.ensures.other c.if-is_store_failure.false) c.tell_unclosed-in-Err.ensures.some c.tell_unclosed-in-Err.ensures.none c.tell_fault-in-Err.ensures.line))

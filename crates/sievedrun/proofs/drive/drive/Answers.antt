@@ -1,34 +1,50 @@
 -- A run tries a script, does what a word does, or tells what is wrong with the words; its status is that of how it ended.
-use Rattle.std.proofs.Common.{refl, sym, ◌∙◌, subst, inl, inr}
-use Rattle.sievedrun.specs.Serving.{HasDenied}
+use Rattle.std.proofs.Common.{Ok, Err, refl, sym, ◌∙◌, subst}
+use Rattle.sievedwords.specs.Asks.{WasRead}
+use Rattle.sievedwords.specs.declared.subcommand.Subcommand.TheVariants.{Try}
+use Rattle.sievedrun.specs.Serving.{HasDenied, HasGiven}
 use Rattle.sievedrun.specs.Words.{Does}
 use Rattle.sievedrun.proofs.LeaveLemmas.{grown_none}
+use Rattle.sievedrun.proofs.RunLemmas.{ran}
 use Rattle.sievedrun.proofs.drive.drive.Goals as goal
 
-pub returns-in-Ok : goal.returns-in-Ok
-returns-in-Ok g c =
+pub returns-in_default : goal.returns-in_default
+returns-in_default g c =
     let told = c.conclude.ensures in
     let Denied = HasDenied g.K.Keeper.refuses in
+    let given = g.R.Read.remaining c.args.input.now in
+    let had = g.T.MailSink.kept c.args.sink.now in
+    let has = g.T.MailSink.kept c.act-done.new.sink in
+    let out_old = g.W.Write.contents c.args.output.now in
+    let out_new = g.W.Write.contents c.act-done.new.output in
+    let held = g.K.Keeper.holds c.args.keeper.now in
+    let asked = c.in-Ok.asked in
     record {
       unread = λ is. c.act-done.ensures.unread (sym told.status ∙ is);
       back = λ h. told.kept ∙ c.act-done.ensures.back h;
-      runs = λ tells.
-          inr (inl (
-            c.in-Ok.asked,
-            c.act-done.result,
-            told.status,
-            subst (λ db.
-                Does Denied c.args.clock (g.R.Read.remaining c.args.input.now) g.T.MailSink.tells (g.T.MailSink.kept c.args.sink.now) (g.T.MailSink.kept c.act-done.new.sink) (g.W.Write.contents c.args.output.now)
-                (g.W.Write.contents c.act-done.new.output) c.in-Ok.asked c.act-done.result (g.K.Keeper.holds c.args.keeper.now) db) (sym (told.same tells)) (c.act-done.ensures.does tells),
-          ));
+      runs = λ tells. (
+        Ok asked,
+        subst (WasRead c.args.words.now) c.in-Ok.is c.read.ensures,
+        ran Denied (HasGiven g.K.Keeper.gives) (g.T.MailSink.is_at c.act-done.new.sink) c.args.clock given g.T.MailSink.tells had has out_old out_new (g.F.Write.contents c.args.faults.now) (g.F.Write.contents c.conclude.new.faults) c.conclude.result held
+            (g.K.Keeper.holds c.conclude.new.keeper) asked c.in_default.not-Try (record {
+              ending = c.act-done.result;
+              ended = told.status;
+              unclosed = g.K.Keeper.unclosed c.act-done.new.keeper;
+              told = told.told;
+              did = subst (Does Denied c.args.clock given g.T.MailSink.tells had has out_old out_new asked c.act-done.result held) (sym (told.same tells)) (c.act-done.ensures.does tells);
+              reached = c.act-done.ensures.reaches;
+            }),
+      );
       asked = λ h. told.asked;
     }
 
-pub returns-in-Ok-Try-clause-runs : goal.returns-in-Ok-Try-clause-runs
-returns-in-Ok-Try-clause-runs g c tells = inl (c.in-Ok-Try.from.now, c.in-Ok-Try.to.now, c.try_mail.ensures.runs, (grown_none g.T.MailSink.tells (g.T.MailSink.kept c.args.sink.now), refl))
+pub returns-in-Try-clause-runs : goal.returns-in-Try-clause-runs
+returns-in-Try-clause-runs g c tells =
+    let line = c.args.words.now in
+    let read = subst (WasRead line) c.in-Ok.is c.read.ensures in
+    (Ok (Try c.in-Try.asked), subst (λ asked. WasRead line (Ok asked)) c.in-Try.is read, (c.try_mail.ensures.runs, (grown_none g.T.MailSink.tells (g.T.MailSink.kept c.args.sink.now), refl)))
 
-pub returns-in-Err-Said-clause-runs : goal.returns-in-Err-Said-clause-runs
-returns-in-Err-Said-clause-runs g c tells = inr (inr (grown_none g.T.MailSink.tells (g.T.MailSink.kept c.args.sink.now), refl))
-
-pub returns-in-Err-NotText-clause-runs : goal.returns-in-Err-NotText-clause-runs
-returns-in-Err-NotText-clause-runs g c tells = inr (inr (grown_none g.T.MailSink.tells (g.T.MailSink.kept c.args.sink.now), refl))
+pub returns-in-Err-clause-runs : goal.returns-in-Err-clause-runs
+returns-in-Err-clause-runs g c tells =
+    let read = subst (WasRead c.args.words.now) c.in-Err.is c.read.ensures in
+    (Err c.in-Err.error, read, (c.tell_unread.ensures, (grown_none g.T.MailSink.tells (g.T.MailSink.kept c.args.sink.now), refl)))

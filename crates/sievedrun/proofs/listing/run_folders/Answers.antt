@@ -1,41 +1,41 @@
 -- What separates the levels is read before anything else; what is listed is what was asked for.
-use Rattle.std.proofs.Common.{false, subst, sym, inl, inr, rules}
+use Rattle.std.proofs.Common.{false, subst, sym, rules}
 use Rattle.std.specs.Option.{option_copied}
 use Rattle.sievedrun.specs.Serving.{HasDenied}
 use Rattle.sievedrun.specs.Values.{HasNoSeparator}
 use Rattle.sievedrun.specs.Words.{DoesFolders, ListsFolders, ListsDirectories, LacksNothing, directory_line}
-use Rattle.sievedrun.proofs.WordLemmas.{read_hindered, read_told}
+use Rattle.sievedrun.proofs.WordLemmas.{read_hindered, read_told, wrong}
 use Rattle.sievedrun.proofs.listing.run_folders.Goals as goal
 
 pub returns-in_err-separator-clause-does : goal.returns-in_err-separator-clause-does
 returns-in_err-separator-clause-does g c tells =
-    let Denied = HasDenied g.K.Keeper.refuses c.args.place.path.now in
-    let levels = option_copied c.args.separator in
+    let Denied = HasDenied g.K.Keeper.refuses c.args.asked.location.path.now in
+    let levels = option_copied c.args.asked.separator in
     let out = g.W.Write.contents c.args.output.now in
     let held = g.K.Keeper.holds c.args.keeper.now in
-    subst (λ directories. DoesFolders Denied out out c.args.user.now directories levels c.from_residual.result held held) (sym c.if-directories.true)
-    (read_hindered (HasNoSeparator levels) Denied c.args.user.now (ListsDirectories levels) LacksNothing out held c.in_err-separator.field-0.0 c.from_residual.result (search rules)
-    (inr (inl (c.in_err-separator.ensures.fault, c.in_err-separator.ensures.none))))
+    subst (λ directories. DoesFolders Denied out out c.args.asked.user.now directories levels c.from_residual.result held held) (sym c.if-asked.true)
+    (read_hindered (HasNoSeparator levels) Denied c.args.asked.user.now (ListsDirectories levels) LacksNothing out held c.in_err-separator.field-0.0 c.from_residual.result (search rules)
+    (wrong ⊥ (HasNoSeparator levels) Denied _ c.in_err-separator.ensures.fault c.in_err-separator.ensures.none))
 
-pub returns-then-directories-clause-does : goal.returns-then-directories-clause-does
-returns-then-directories-clause-does g c tells =
-    let Denied = HasDenied g.K.Keeper.refuses c.args.place.path.now in
-    let levels = option_copied c.args.separator in
+pub returns-then-asked-clause-does : goal.returns-then-asked-clause-does
+returns-then-asked-clause-does g c tells =
+    let Denied = HasDenied g.K.Keeper.refuses c.args.asked.location.path.now in
+    let levels = option_copied c.args.asked.separator in
     let out = g.W.Write.contents c.args.output.now in
     let new = g.W.Write.contents c.run_listing.new.output in
     let held = g.K.Keeper.holds c.args.keeper.now in
     let left = g.K.Keeper.holds c.run_listing.new.keeper in
     let separator = c.in_ok-separator.separator in
-    subst (λ directories. DoesFolders Denied out new c.args.user.now directories levels c.run_listing.result held left) (sym c.if-directories.true)
-    (read_told (HasNoSeparator levels) Denied c.args.user.now (ListsFolders (directory_line separator)) (ListsDirectories levels) (λ a text lists. (separator, c.in_ok-separator.ensures.ok, lists)) out new c.run_listing.result held left
+    subst (λ directories. DoesFolders Denied out new c.args.asked.user.now directories levels c.run_listing.result held left) (sym c.if-asked.true)
+    (read_told (HasNoSeparator levels) Denied (λ none. none separator c.in_ok-separator.ensures.ok) c.args.asked.user.now (ListsFolders (directory_line separator)) (ListsDirectories levels) (λ a text lists. (separator, c.in_ok-separator.ensures.ok, lists)) out new c.run_listing.result held left
     (c.run_listing.ensures.does tells))
 
 pub returns-in-None-clause-does : goal.returns-in-None-clause-does
 returns-in-None-clause-does g c tells =
-    let Denied = HasDenied g.K.Keeper.refuses c.args.place.path.now in
+    let Denied = HasDenied g.K.Keeper.refuses c.args.asked.location.path.now in
     let out = g.W.Write.contents c.args.output.now in
     let new = g.W.Write.contents c.run_listing-in-None.new.output in
     let held = g.K.Keeper.holds c.args.keeper.now in
     let left = g.K.Keeper.holds c.run_listing-in-None.new.keeper in
-    subst (λ directories. DoesFolders Denied out new c.args.user.now directories (option_copied c.args.separator) c.run_listing-in-None.result held left) (sym c.if-directories.false)
-    (subst (λ levels. DoesFolders Denied out new c.args.user.now false (option_copied levels) c.run_listing-in-None.result held left) (sym c.in-None.is) (c.run_listing-in-None.ensures.does tells))
+    subst (λ directories. DoesFolders Denied out new c.args.asked.user.now directories (option_copied c.args.asked.separator) c.run_listing-in-None.result held left) (sym c.if-asked.false)
+    (subst (λ levels. DoesFolders Denied out new c.args.asked.user.now false (option_copied levels) c.run_listing-in-None.result held left) (sym c.in-None.is) (c.run_listing-in-None.ensures.does tells))

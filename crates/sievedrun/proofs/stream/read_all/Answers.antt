@@ -1,6 +1,7 @@
-use Rattle.std.proofs.Common.{◌≡◌, ◌+◌, ◌≤◌, length, take, drop, unwrap_or, ap, subst, ◌∙◌, rules, arith}
+use Rattle.std.proofs.Common.{◌≡◌, None, ◌+◌, ◌≤◌, length, take, drop, unwrap_or, ap, subst, ◌∙◌, rules, arith}
 use Rattle.std.proofs.lemmas.List.{with_items_is, places}
 use Rattle.std.specs.Io.KnownBytes.{Consumes}
+use Rattle.sievedrun.specs.Streams.{read_failed}
 use Rattle.sievedrun.proofs.StreamLemmas.{filled_on}
 use Rattle.sievedrun.proofs.stream.read_all.Goals as goal
 
@@ -16,3 +17,6 @@ loop-preserved g c =
     let front = read.front ∙ ap (take filled) c.as_mut_slice.ensures.value ∙ c.make_room.ensures.front in
     rw (with_items_is c.make_room.new.octets room whole)
     (omega (arith, fits, whole), filled_on _ _ _ c.loop.octets.items room filled more front c.loop.invariant.1 (subst (λ n. Consumes (g.R.Read.remaining c.loop.input) (g.R.Read.remaining c.read_at.new.input) (take n (drop filled room))) came read.read))
+
+pub returns-clause-failed : goal.returns-clause-failed
+returns-clause-failed g c is = (None, read_failed None)

@@ -1,11 +1,11 @@
 //! The command line, as `clap` reads it.
-use crate::word::{WORDS, Word};
+use crate::subcommand::Word;
 use clap::Command;
 use std::alloc::{AllocError, Global};
 
 /// The program with all words.
 pub fn sieved<'a>(alloc: Global) -> Result<Command<'a>, AllocError> {
-    with_words(alloc, program(alloc)?, &WORDS)
+    with_words(alloc, program(alloc)?, &Word::ALL)
 }
 
 /// A command with these words too.
@@ -16,7 +16,7 @@ fn with_words<'a>(
 ) -> Result<Command<'a>, AllocError> {
     let mut command = program;
     for word in words {
-        command = command.subcommand(word.command(alloc)?)?;
+        command = command.subcommand(word.row().command(alloc)?)?;
     }
     Ok(command)
 }

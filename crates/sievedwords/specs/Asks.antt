@@ -1,0 +1,178 @@
+-- What words ask for, by what `clap` found in them.
+use Rattle.std.specs.Prelude.{◌≡◌, ◌⊎◌, ℕ, Bool, true, false, List, [], codes, Option, Some, None, option_copied, unwrap_or, Result, Ok, Err}
+use Rattle.clap.specs.Words.{first_value, found_of, has_subcommand, one_text, rows_of, subcommand_name_of, subcommand_rows_of}
+use Rattle.clap.specs.declared.error.Error.{Error}
+use Rattle.clap.specs.declared.parser.matches.ArgMatches.{ArgMatches}
+use Rattle.sievedwords.specs.Ids.{IsNoWord, name_of}
+use Rattle.sievedwords.specs.declared.command_line.CommandLine.{CommandLine}
+use Rattle.sievedwords.specs.declared.location.StoreLocation.{StoreLocation}
+use Rattle.sievedwords.specs.declared.reading.ReadError.{ReadError}
+use Rattle.sievedwords.specs.declared.reading.ReadError.TheVariants.{Said, NotText, Unknown}
+use Rattle.sievedwords.specs.declared.subcommand.Subcommand.{Subcommand}
+use Rattle.sievedwords.specs.declared.subcommand.Subcommand.TheVariants as asked
+use Rattle.sievedwords.specs.declared.subcommand.Word.{Word}
+use Rattle.sievedwords.specs.declared.subcommand.Word.TheVariants as word
+use Rattle.sievedwords.specs.declared.subcommand.try_script.Try.{Try}
+use Rattle.sievedwords.specs.declared.subcommand.init.Init.{Init}
+use Rattle.sievedwords.specs.declared.subcommand.adduser.AddUser.{AddUser}
+use Rattle.sievedwords.specs.declared.subcommand.deliver.Deliver.{Deliver}
+use Rattle.sievedwords.specs.declared.subcommand.folders.Folders.{Folders}
+use Rattle.sievedwords.specs.declared.subcommand.show.Show.{Show}
+use Rattle.sievedwords.specs.declared.subcommand.queue.Queue.{Queue}
+use Rattle.sievedwords.specs.declared.subcommand.done.Done.{Done}
+use Rattle.sievedwords.specs.declared.subcommand.notices.Notices.{Notices}
+use Rattle.sievedwords.specs.declared.subcommand.drain.Drain.{Drain}
+use Rattle.sievedwords.specs.declared.subcommand.serve.Serve.{Serve}
+use Rattle.sievedwords.specs.declared.subcommand.session.Session.{Session}
+
+-- ---- what was given to a subcommand
+
+-- the value of an argument
+abbrev pub value_in : ArgMatches → List ℕ → Option (List ℕ)
+value_in m id = first_value (found_of m) id
+
+-- the value of an argument, or the empty one where it was left out
+abbrev pub text_in : ArgMatches → List ℕ → List ℕ
+text_in m id = unwrap_or (value_in m id) []
+
+-- a flag is there, or isn't
+pub record IsFlag (m : ArgMatches) (id : List ℕ) (flag : Bool) : Type 0 where
+  pub absent : one_text (found_of m) id ≡ None → flag ≡ false
+  pub set : one_text (found_of m) id ≡ Some (codes "true") → flag ≡ true
+  pub unset : one_text (found_of m) id ≡ Some (codes "false") → flag ≡ false
+
+-- in the command line these are the octets of the address with this value: its own, or those that it stands in for. The definition is shut, and only
+-- `CommandLine::address` says it
+pub IsAddress : CommandLine → List ℕ → List ℕ → Type 0
+IsAddress line value octets = Unit {0}
+
+-- for the proof of that function alone
+pub is_address : (line : CommandLine) (value octets : List ℕ) → IsAddress line value octets
+unfolding IsAddress
+is_address line value octets = tt
+
+pub record IsLocation (m : ArgMatches) (a : StoreLocation) : Type 0 where
+  pub path : a.path.now ≡ text_in m (codes "db")
+  pub waits : IsFlag m (codes "wait") a.waits
+
+-- ---- each subcommand, with what was given to it
+
+pub record IsTry (line : CommandLine) (m : ArgMatches) (a : Try) : Type 0 where
+  pub from : IsAddress line (text_in m (codes "from")) a.from.now
+  pub to : IsAddress line (text_in m (codes "to")) a.to.now
+
+pub record IsInit (line : CommandLine) (m : ArgMatches) (a : Init) : Type 0 where
+  pub location : IsLocation m a.location
+
+pub record IsAddUser (line : CommandLine) (m : ArgMatches) (a : AddUser) : Type 0 where
+  pub location : IsLocation m a.location
+  pub salt : a.salt.now ≡ text_in m (codes "salt")
+  pub name : a.name.now ≡ text_in m (codes "name")
+  pub address : a.address.now ≡ text_in m (codes "address")
+
+pub record IsDeliver (line : CommandLine) (m : ArgMatches) (a : Deliver) : Type 0 where
+  pub location : IsLocation m a.location
+  pub from : IsAddress line (text_in m (codes "from")) a.from.now
+  pub to : IsAddress line (text_in m (codes "to")) a.to.now
+  pub at : option_copied a.at ≡ value_in m (codes "at")
+  pub user : a.user.now ≡ text_in m (codes "user")
+
+pub record IsFolders (line : CommandLine) (m : ArgMatches) (a : Folders) : Type 0 where
+  pub location : IsLocation m a.location
+  pub user : a.user.now ≡ text_in m (codes "user")
+  pub directories : IsFlag m (codes "maildir") a.directories
+  pub separator : option_copied a.separator ≡ value_in m (codes "separator")
+
+pub record IsShow (line : CommandLine) (m : ArgMatches) (a : Show) : Type 0 where
+  pub location : IsLocation m a.location
+  pub user : a.user.now ≡ text_in m (codes "user")
+  pub folder : a.folder.now ≡ text_in m (codes "folder")
+  pub number : a.number.now ≡ text_in m (codes "number")
+
+pub record IsQueue (line : CommandLine) (m : ArgMatches) (a : Queue) : Type 0 where
+  pub location : IsLocation m a.location
+  pub user : a.user.now ≡ text_in m (codes "user")
+  pub id : option_copied a.id ≡ value_in m (codes "id")
+
+pub record IsDone (line : CommandLine) (m : ArgMatches) (a : Done) : Type 0 where
+  pub location : IsLocation m a.location
+  pub user : a.user.now ≡ text_in m (codes "user")
+  pub id : a.id.now ≡ text_in m (codes "id")
+
+pub record IsNotices (line : CommandLine) (m : ArgMatches) (a : Notices) : Type 0 where
+  pub location : IsLocation m a.location
+  pub user : a.user.now ≡ text_in m (codes "user")
+
+pub record IsDrain (line : CommandLine) (m : ArgMatches) (a : Drain) : Type 0 where
+  pub location : IsLocation m a.location
+  pub most : option_copied a.most ≡ value_in m (codes "most")
+  pub user : a.user.now ≡ text_in m (codes "user")
+  pub folder : a.folder.now ≡ text_in m (codes "folder")
+  pub maildir : a.maildir.now ≡ text_in m (codes "maildir")
+
+pub record IsServe (line : CommandLine) (m : ArgMatches) (a : Serve) : Type 0 where
+  pub location : IsLocation m a.location
+  pub port : a.port.now ≡ text_in m (codes "port")
+  pub sessions : option_copied a.sessions ≡ value_in m (codes "sessions")
+
+pub record IsSession (line : CommandLine) (m : ArgMatches) (a : Session) : Type 0 where
+  pub location : IsLocation m a.location
+
+-- a subcommand with what was given to it
+abbrev pub AsksFor : CommandLine → ArgMatches → Word → Subcommand → Type 0
+AsksFor line m word.Try (asked.Try a) = IsTry line m a
+AsksFor line m word.Init (asked.Init a) = IsInit line m a
+AsksFor line m word.AddUser (asked.AddUser a) = IsAddUser line m a
+AsksFor line m word.Deliver (asked.Deliver a) = IsDeliver line m a
+AsksFor line m word.Folders (asked.Folders a) = IsFolders line m a
+AsksFor line m word.Show (asked.Show a) = IsShow line m a
+AsksFor line m word.Queue (asked.Queue a) = IsQueue line m a
+AsksFor line m word.Done (asked.Done a) = IsDone line m a
+AsksFor line m word.Notices (asked.Notices a) = IsNotices line m a
+AsksFor line m word.Drain (asked.Drain a) = IsDrain line m a
+AsksFor line m word.Serve (asked.Serve a) = IsServe line m a
+AsksFor line m word.Session (asked.Session a) = IsSession line m a
+AsksFor line m w s = ⊥
+
+-- ---- the command line
+
+-- `clap` answered so to the texts of these words. The definition is shut, and only the one function that asks `clap` says it
+pub WasMatched : CommandLine → Result ArgMatches Error → Type 0
+WasMatched line answer = Unit {0}
+
+-- for the proof of that function alone
+pub was_matched : (line : CommandLine) (answer : Result ArgMatches Error) → WasMatched line answer
+unfolding WasMatched
+was_matched line answer = tt
+
+-- a word isn't UTF-8, and isn't an address. The definition is shut, and only the two functions that look for such a word say it
+pub HasNoText : CommandLine → Type 0
+HasNoText line = Unit {0}
+
+-- for the proofs of those functions alone
+pub has_no_text : (line : CommandLine) → HasNoText line
+unfolding HasNoText
+has_no_text line = tt
+
+-- `clap` found a subcommand, and this was given to it
+pub record Enters (m : ArgMatches) (name : List ℕ) (given : ArgMatches) : Type 0 where
+  pub named : subcommand_name_of m ≡ Some name
+  pub rows : subcommand_rows_of m ≡ Some (name, rows_of (found_of given))
+
+-- `try` with an empty envelope
+abbrev pub AsksForNothing : Subcommand → Type 0
+AsksForNothing (asked.Try a) = (a.from.now ≡ []) × (a.to.now ≡ [])
+AsksForNothing s = ⊥
+
+-- the words that `clap` matched so ask for a subcommand; without one it is `try` with an empty envelope
+abbrev pub AsksIn : CommandLine → ArgMatches → Subcommand → Type 0
+AsksIn line m s =
+    ((subcommand_name_of m ≡ None) × AsksForNothing s)
+    ⊎ ((w : Word) × (given : ArgMatches) × Enters m (name_of w) given × AsksFor line given w s)
+
+-- what these words ask for; or why they ask for nothing: `clap` refused them, or has a text to show; a word isn't UTF-8
+abbrev pub WasRead : CommandLine → Result Subcommand ReadError → Type 0
+WasRead line (Ok s) = (m : ArgMatches) × WasMatched line (Ok m) × AsksIn line m s
+WasRead line (Err (Said error)) = WasMatched line (Err error)
+WasRead line (Err NotText) = HasNoText line
+WasRead line (Err Unknown) = (m : ArgMatches) × (name : List ℕ) × WasMatched line (Ok m) × (subcommand_name_of m ≡ Some name) × IsNoWord name

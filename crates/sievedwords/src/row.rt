@@ -1,0 +1,27 @@
+//! The row of a subcommand in the help.
+use crate::argument::Argument;
+use clap::Command;
+use std::alloc::{AllocError, Global};
+
+/// A subcommand's name, its help, and what may be given to it.
+#[derive(Clone, Copy)]
+pub struct Row {
+    pub name: &'static str,
+    pub about: &'static str,
+    /// What it reads and prints, and its exit statuses.
+    pub more: &'static str,
+    pub arguments: &'static [Argument],
+}
+
+impl Row {
+    /// The subcommand as `clap` reads it.
+    pub fn command<'a>(&self, alloc: Global) -> Result<Command<'a>, AllocError> {
+        let mut command = Command::new(alloc, self.name)
+            .about(self.about)
+            .after_help(self.more);
+        for argument in self.arguments {
+            command = command.arg(argument.arg(alloc))?;
+        }
+        Ok(command)
+    }
+}

@@ -1,0 +1,143 @@
+//! The subcommands that there are.
+ghost use Rattle.std.specs.Prelude.{◌≡◌, IfSome, None};
+ghost use Rattle.sievedwords.specs.Asks.{AsksFor};
+ghost use Rattle.sievedwords.specs.Ids.{IsNoWord, name_of};
+
+pub mod adduser;
+pub mod deliver;
+pub mod done;
+pub mod drain;
+pub mod folders;
+pub mod init;
+pub mod notices;
+pub mod queue;
+pub mod serve;
+pub mod session;
+pub mod show;
+pub mod try_script;
+
+use self::adduser::{ADDUSER, AddUser};
+use self::deliver::{DELIVER, Deliver};
+use self::done::{DONE, Done};
+use self::drain::{DRAIN, Drain};
+use self::folders::{FOLDERS, Folders};
+use self::init::{INIT, Init};
+use self::notices::{NOTICES, Notices};
+use self::queue::{QUEUE, Queue};
+use self::serve::{SERVE, Serve};
+use self::session::{SESSION, Session};
+use self::show::{SHOW, Show};
+use self::try_script::{TRY, Try};
+use crate::given::Given;
+use crate::row::Row;
+
+/// A subcommand with what was given to it, as it was written.
+#[derive(Clone, Copy)]
+pub enum Subcommand<'a> {
+    Try(Try<'a>),
+    Init(Init<'a>),
+    AddUser(AddUser<'a>),
+    Deliver(Deliver<'a>),
+    Folders(Folders<'a>),
+    Show(Show<'a>),
+    Queue(Queue<'a>),
+    Done(Done<'a>),
+    Notices(Notices<'a>),
+    Drain(Drain<'a>),
+    Serve(Serve<'a>),
+    Session(Session<'a>),
+}
+
+/// The name of a subcommand.
+#[derive(Clone, Copy, Debug, PartialEq, Eq)]
+pub enum Word {
+    Try,
+    Init,
+    AddUser,
+    Deliver,
+    Folders,
+    Show,
+    Queue,
+    Done,
+    Notices,
+    Drain,
+    Serve,
+    Session,
+}
+
+impl Word {
+    /// All, in the order of the help.
+    pub const ALL: [Word; 12] = [
+        Word::Try,
+        Word::Init,
+        Word::AddUser,
+        Word::Deliver,
+        Word::Folders,
+        Word::Show,
+        Word::Queue,
+        Word::Done,
+        Word::Notices,
+        Word::Drain,
+        Word::Serve,
+        Word::Session,
+    ];
+
+    /// The subcommand with this name.
+    pub fn named(name: &str) -> Option<Word>
+        ensures named { IfSome result (λ word. name_of word ≡ name.now) }
+        ensures none { result ≡ None → IsNoWord name.now }
+    {
+        for word in Word::ALL {
+            if word.name() == name {
+                return Some(word);
+            }
+        }
+        None
+    }
+
+    pub fn name(self) -> &'static str
+        ensures { result.now ≡ name_of self }
+    {
+        self.row().name
+    }
+
+    /// Its row in the help.
+    pub fn row(self) -> &'static Row
+        ensures { result.now.name.now ≡ name_of self }
+    {
+        match self {
+            Word::Try => &TRY,
+            Word::Init => &INIT,
+            Word::AddUser => &ADDUSER,
+            Word::Deliver => &DELIVER,
+            Word::Folders => &FOLDERS,
+            Word::Show => &SHOW,
+            Word::Queue => &QUEUE,
+            Word::Done => &DONE,
+            Word::Notices => &NOTICES,
+            Word::Drain => &DRAIN,
+            Word::Serve => &SERVE,
+            Word::Session => &SESSION,
+        }
+    }
+
+    /// What it asks for with what was given to it.
+    pub fn read<'a>(self, given: &Given<'a, '_>) -> Subcommand<'a>
+        ensures { AsksFor given.now.line.now given.now.matches.now self result }
+    {
+        match self {
+            Word::Try => Subcommand::Try(Try::read(given)),
+            Word::Init => Subcommand::Init(Init::read(given)),
+            Word::AddUser => Subcommand::AddUser(AddUser::read(given)),
+            Word::Deliver => Subcommand::Deliver(Deliver::read(given)),
+            Word::Folders => Subcommand::Folders(Folders::read(given)),
+            Word::Show => Subcommand::Show(Show::read(given)),
+            Word::Queue => Subcommand::Queue(Queue::read(given)),
+            Word::Done => Subcommand::Done(Done::read(given)),
+            Word::Notices => Subcommand::Notices(Notices::read(given)),
+            Word::Drain => Subcommand::Drain(Drain::read(given)),
+            Word::Serve => Subcommand::Serve(Serve::read(given)),
+            Word::Session => Subcommand::Session(Session::read(given)),
+        }
+    }
+}

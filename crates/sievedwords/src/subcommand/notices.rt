@@ -1,0 +1,34 @@
+//! `notices`: what went wrong in a user's deliveries.
+ghost use Rattle.sievedwords.specs.Asks.{IsNotices};
+
+use crate::argument::Argument;
+use crate::given::Given;
+use crate::location::StoreLocation;
+use crate::row::Row;
+
+pub static NOTICES: Row = Row {
+    name: "notices",
+    about: "Lists what went wrong in a user's deliveries",
+    more: "Reads nothing. Prints `MOMENT TEXT` for each, the moment in seconds since 1970.
+Status 0: listed. 64: wrong words. 65: no such store. 67: no such user. 75: try again later.",
+    arguments: &[Argument::Db, Argument::Wait, Argument::User],
+};
+
+/// Whose notices are to be listed.
+#[derive(Clone, Copy)]
+pub struct Notices<'a> {
+    pub location: StoreLocation<'a>,
+    /// The account's name.
+    pub user: &'a str,
+}
+
+impl<'a> Notices<'a> {
+    pub fn read(given: &Given<'a, '_>) -> Notices<'a>
+        ensures { IsNotices given.now.line.now given.now.matches.now result }
+    {
+        Notices {
+            location: given.location(),
+            user: given.text(Argument::User),
+        }
+    }
+}

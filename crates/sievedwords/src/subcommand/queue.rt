@@ -1,0 +1,43 @@
+//! `queue`: a user's messages on their way out, or one of them.
+ghost use Rattle.sievedwords.specs.Asks.{IsQueue};
+
+use crate::argument::Argument;
+use crate::given::Given;
+use crate::location::StoreLocation;
+use crate::row::Row;
+
+pub static QUEUE: Row = Row {
+    name: "queue",
+    about: "Lists a user's messages on their way out, or shows one",
+    more: "Reads nothing. Prints `ID KIND <SENDER> <TARGET> OCTETS` for each, or with ID the message as it goes out.
+In an address an octet up to 32, 127, <, > or \\ is \\ and two hexadecimal digits, so that a line has five words.
+Status 0: listed or shown. 64: wrong words or number. 65: no such row or store. 67: no such user. 75: try again later.",
+    arguments: &[
+        Argument::Db,
+        Argument::Wait,
+        Argument::User,
+        Argument::AnyId,
+    ],
+};
+
+/// Whose queue is to be listed, or what of it is to be shown.
+#[derive(Clone, Copy)]
+pub struct Queue<'a> {
+    pub location: StoreLocation<'a>,
+    /// The account's name.
+    pub user: &'a str,
+    /// The number of the one message that is asked for, in decimal; all are listed where it is left out.
+    pub id: Option<&'a str>,
+}
+
+impl<'a> Queue<'a> {
+    pub fn read(given: &Given<'a, '_>) -> Queue<'a>
+        ensures { IsQueue given.now.line.now given.now.matches.now result }
+    {
+        Queue {
+            location: given.location(),
+            user: given.text(Argument::User),
+            id: given.value(Argument::AnyId),
+        }
+    }
+}
