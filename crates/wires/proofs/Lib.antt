@@ -1,3 +1,4 @@
 pub mod EndLemmas
+pub mod Examples
 pub mod LifeLemmas
 pub mod TalkLemmas

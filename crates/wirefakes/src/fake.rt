@@ -1,0 +1,223 @@
+//! The outside, in memory.
+ghost use Rattle.std.specs.Prelude.{◌≡◌, ◌<◌, [], ◌∷◌, ◌++◌, length, false, not, IsTrue, IfOk};
+ghost use Rattle.wires.specs.Told.{IsOwn, AfterRead, ReadFits};
+
+use crate::script::{Reading, Script};
+use octets::{List, Octets};
+use std::alloc::{AllocError, Global};
+use std::collections::VecDeque;
+use wires::act::Act;
+use wires::outcome::{Accepted, Fault, Input, Output, Wake};
+use wires::outside::{Clock, Outside, Sockets};
+
+/// No more octets are dropped at once.
+const MAX_DISCARD: usize = 4096;
+
+/// It follows a script, and keeps all acts for which it has room.
+#[derive(Drop)]
+pub struct Fake<N: Drop> {
+    pub alloc: Global,
+    pub script: Script,
+    /// What the clock showed last.
+    pub moment: u64,
+    pub acts: Vec<Act<N>>,
+    /// Whether it had no room for an act: from then on it tells nothing.
+    pub lost: bool,
+}
+
+impl<N: Drop> Fake<N> {
+    /// Nothing has happened yet.
+    pub fn new(alloc: Global, script: Script) -> Fake<N>
+        ensures acts { result.acts.items ≡ [] }
+        ensures tells { IsTrue (not result.lost) }
+    {
+        Fake {
+            alloc,
+            script,
+            moment: 0,
+            acts: Vec::new(alloc),
+            lost: false,
+        }
+    }
+
+    /// Keeps an act, or none from now on.
+    pub fn keep(&mut self, act: Act<N>)
+        ensures acts { IsTrue (not self.new.lost) → self.new.acts.items ≡ self.old.acts.items ++ act ∷ [] }
+        ensures kept { IsTrue (not self.new.lost) → IsTrue (not self.old.lost) }
+    {
+        if self.lost {
+            return;
+        }
+        if self.acts.push(act).is_err() {
+            self.lost = true;
+        }
+    }
+
+    /// Reads what there is; the octets stand first in the buffer.
+    fn hear(&mut self, id: u32, piece: &[u8], buffer: &mut [u8]) -> Input
+        requires some { 0 < length piece.now }
+        requires room { 0 < length buffer.old }
+        ensures fits { ReadFits buffer.new result }
+        ensures seen { IsTrue (not self.new.lost) → AfterRead self.old.acts.items id buffer.new result self.new.acts.items }
+        ensures kept { IsTrue (not self.new.lost) → IsTrue (not self.old.lost) }
+    {
+        let count = piece.len().min(buffer.len());
+        buffer[..count].copy_from_slice(&piece[..count]);
+        match Octets::from_slice(self.alloc, &buffer[..count]) {
+            Ok(heard) => self.keep(Act::Heard(id, heard)),
+            Err(_) => {
+                self.lost = true;
+            }
+        }
+        Input::Got(count)
+    }
+}
+
+/// Puts these at the end of what is ready, and gives a list of them.
+fn tell_wakes(
+    alloc: Global,
+    wakes: &[Wake],
+    ready: &mut VecDeque<Wake>,
+) -> Result<List<Wake>, AllocError>
+    requires { ready.old.items ≡ [] }
+    ensures { IfOk result (λ told. told ≡ ready.new.items) }
+{
+    let mut told = List::new(alloc);
+    for wake in wakes {
+        told.push(*wake)?;
+        if ready.push_back(*wake).is_err() {
+            return Err(AllocError);
+        }
+    }
+    Ok(told)
+}
+
+impl<N: Drop> Outside for Fake<N> {
+    type Note = N;
+
+    ghost tells = { λ fake. not fake.lost };
+
+    ghost seen = { λ fake. fake.acts.items };
+
+    ghost broken = { λ _. false };
+}
+
+impl<N: Drop> Sockets for Fake<N> {
+    fn wait(&mut self, _within: u32, ready: &mut VecDeque<Wake>) -> Result<(), Fault> {
+        let wakes = self.script.next_wakes(self.alloc);
+        match tell_wakes(self.alloc, wakes.as_slice(), ready) {
+            Ok(told) => self.keep(Act::Woke(told)),
+            Err(_) => {
+                self.lost = true;
+            }
+        }
+        Ok(())
+    }
+
+    fn accept(&mut self, kind: u32, id: u32) -> Accepted {
+        if self.script.comes(kind) {
+            self.keep(Act::Came(id, kind));
+            Accepted::Came
+        } else {
+            self.keep(Act::NoneCame(kind));
+            Accepted::Nobody
+        }
+    }
+
+    fn read(&mut self, id: u32, buffer: &mut [u8]) -> Input {
+        match self.script.next_reading(id) {
+            Some(Reading::Piece(piece)) => {
+                if piece.is_empty() {
+                    self.keep(Act::ReadBlocked(id));
+                    return Input::Nothing;
+                }
+                self.hear(id, piece.as_slice(), buffer)
+            }
+            Some(Reading::Over) => {
+                self.keep(Act::Over(id));
+                Input::Over
+            }
+            Some(Reading::Lost) => {
+                self.keep(Act::Lost(id));
+                Input::Lost
+            }
+            None => {
+                self.keep(Act::ReadBlocked(id));
+                Input::Nothing
+            }
+        }
+    }
+
+    fn discard(&mut self, id: u32) -> Input {
+        match self.script.next_reading(id) {
+            Some(Reading::Piece(piece)) => {
+                let count = piece.len().min(MAX_DISCARD);
+                if count == 0 {
+                    self.keep(Act::ReadBlocked(id));
+                    return Input::Nothing;
+                }
+                self.keep(Act::Dropped(id, count));
+                Input::Got(count)
+            }
+            Some(Reading::Over) => {
+                self.keep(Act::Over(id));
+                Input::Over
+            }
+            Some(Reading::Lost) => {
+                self.keep(Act::Lost(id));
+                Input::Lost
+            }
+            None => {
+                self.keep(Act::ReadBlocked(id));
+                Input::Nothing
+            }
+        }
+    }
+
+    fn write(&mut self, id: u32, octets: &[u8]) -> Output {
+        let count = self.script.next_room(id, octets.len());
+        if count == 0 {
+            self.keep(Act::WriteBlocked(id));
+            return Output::Nothing;
+        }
+        match Octets::from_slice(self.alloc, &octets[..count]) {
+            Ok(taken) => self.keep(Act::Sent(id, taken)),
+            Err(_) => {
+                self.lost = true;
+            }
+        }
+        Output::Taken(count)
+    }
+
+    fn shut(&mut self, id: u32) {
+        self.keep(Act::Shut(id));
+    }
+
+    fn close(&mut self, id: u32) {
+        self.keep(Act::Ended(id));
+    }
+
+    fn again(&mut self, id: u32) {
+        self.keep(Act::Again(id));
+    }
+
+    fn note(&mut self, act: Act<N>)
+        requires { IsOwn act }
+        ensures seen { IsTrue (not self.new.lost) → self.new.acts.items ≡ self.old.acts.items ++ act ∷ [] }
+        ensures kept { IsTrue (not self.new.lost) → IsTrue (not self.old.lost) }
+    {
+        self.keep(act);
+    }
+}
+
+impl<N: Drop> Clock for Fake<N> {
+    fn now(&mut self) -> u64 {
+        let moment = match self.script.moments.pop_front() {
+            Some(moment) => moment,
+            None => self.moment,
+        };
+        self.moment = moment;
+        self.keep(Act::Timed(moment));
+        moment
+    }
+}

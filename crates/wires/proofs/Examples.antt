@@ -1,0 +1,88 @@
+-- Right cases of the definitions, and near misses.
+use Rattle.std.proofs.Common.{◌≡◌, ℕ, ◌+◌, Bool, true, false, List, [], ◌∷◌, ◌++◌, Option, Some, None, refl, sym, ◌∙◌, arith}
+use Rattle.wires.specs.declared.act.Act.{Act}
+use Rattle.wires.specs.declared.act.Act.TheVariants.{Began, Timed, Waits, Roused, Ended}
+use Rattle.wires.specs.declared.machine.Want.TheVariants as want
+use Rattle.wires.specs.declared.outcome.Wake.{Wake}
+use Rattle.wires.specs.declared.outcome.Wake.TheVariants.{Knock, Ready}
+use Rattle.wires.specs.declared.service.Client.{Client}
+use Rattle.wires.specs.declared.service.Phase.TheVariants as phase
+use Rattle.wires.specs.declared.turn.Task.TheVariants.{Send, Hear, Step, Rest, HangUp, Drain, End}
+use Rattle.wires.specs.Moves.{Queues, Waiters, Ticks}
+use Rattle.wires.specs.Rules.{Rules}
+use Rattle.wires.specs.Talk.{Sends, Talks, is_late, newcomer, task, task_by}
+
+-- ---- what is to be done
+
+sent_before_the_hang_up : task_by (65 ∷ []) phase.Open 0 want.Done ≡ Send
+sent_before_the_hang_up = refl
+
+hung_up_then : task_by [] phase.Open 0 want.Done ≡ HangUp
+hung_up_then = refl
+
+waits_up_to_its_moment : task_by [] phase.Open 4 (want.Until 5) ≡ Rest
+waits_up_to_its_moment = refl
+
+goes_on_at_its_moment : task_by [] phase.Open 5 (want.Until 5) ≡ Step
+goes_on_at_its_moment = refl
+
+late_is_not_asked : task_by [] phase.Closing 5 want.More ≡ HangUp
+late_is_not_asked = refl
+
+drains_up_to_the_last : task_by [] (phase.Shut 1) 0 want.More ≡ Drain
+drains_up_to_the_last = refl
+
+ends_behind_it : task_by [] (phase.Shut 0) 0 want.More ≡ End
+ends_behind_it = refl
+
+-- a near miss: to hear where something waits
+hears_nothing_yet : {M N : Type 0} (rules : Rules M N) (m : M) → task rules m 0 1 (Some (newcomer 0 1 7 (65 ∷ []))) ≡ Hear → ⊥
+hears_nothing_yet rules m is = cc
+
+-- ---- who is late
+
+late_at_its_moment : is_late 5 5 (newcomer 0 1 7 []) ≡ true
+late_at_its_moment = refl
+
+not_a_moment_before : is_late 4 5 (newcomer 0 1 7 []) ≡ false
+not_a_moment_before = refl
+
+-- where something is to be sent, another moment counts
+not_while_it_is_sent : is_late 5 5 (newcomer 0 1 7 (65 ∷ [])) ≡ false
+not_while_it_is_sent = refl
+
+-- ---- what is ready, who waits, the moment
+
+abbrev two_told : List Wake
+two_told = Knock 7 ∷ Ready 1 ∷ []
+
+the_first_is_taken_up : (N : Type 0) → Queues {N = N} two_told (Began (Knock 7)) (Ready 1 ∷ [])
+the_first_is_taken_up N = refl
+
+-- near misses: out of order; the other one forgotten
+not_the_second : (N : Type 0) (later : List Wake) → Queues {N = N} two_told (Began (Ready 1)) later → ⊥
+not_the_second N later is = cc
+
+not_forgotten : (N : Type 0) → Queues {N = N} two_told (Began (Knock 7)) [] → ⊥
+not_forgotten N is = cc
+
+waits_once : (N : Type 0) → Waiters {N = N} (3 ∷ 4 ∷ []) (Waits 3) (3 ∷ 4 ∷ [])
+waits_once N = refl
+
+waits_last : (N : Type 0) → Waiters {N = N} (3 ∷ []) (Waits 4) (3 ∷ 4 ∷ [])
+waits_last N = refl
+
+waits_no_more : (N : Type 0) → Waiters {N = N} (3 ∷ 4 ∷ []) (Roused 3) (4 ∷ [])
+waits_no_more N = refl
+
+never_goes_back : (N : Type 0) → Ticks {N = N} 9 (Timed 8) 9
+never_goes_back N = refl
+
+-- ---- one connection
+
+-- near misses: nothing is sent; an end of another ends it
+sends_something : (o p : Option Client) → Sends 0 [] o p → ⊥
+sends_something o p h = omega (arith, h.some)
+
+ends_alone : (N : Type 0) → Talks {N = N} 0 1 (Some (newcomer 0 1 7 [])) (Ended 2) [] None → ⊥
+ends_alone N is = cc
