@@ -68,14 +68,18 @@ def table(count, refused, full, more=""):
 def each(count, call):
     """What comes of each request that is refused, counted."""
     with ThreadPoolExecutor(os.cpu_count()) as pool:
-        return Counter(pool.map(call, numbers(count)))
+        try:
+            return Counter(pool.map(call, numbers(count)))
+        except AssertionError:
+            pool.shutdown(cancel_futures=True)
+            raise
 
 
 # The words of the program, over a file.
 
 
-def word(room, *words, data=b"", scripts=(), maildir=False):
-    """Tries a word over copies of a store."""
+def word(room, *words, data=b"", scripts=(), maildir=False, spoil=None):
+    """Tries a word over copies of a store; `spoil` is what a faulty program would do to the store after it was refused."""
     base, look = by_path(files_of(room.folder)), Look(scripts)
     before = look.at(base)
 
@@ -87,6 +91,8 @@ def word(room, *words, data=b"", scripts=(), maildir=False):
             filled = [text.replace("FOLDER", folder) for text in words]
             command = [PROGRAM[0], filled[0], *(() if words[0] == "try" else ("--db", f"{folder}/mail.db")), *filled[1:]]
             ran = refusing(command, number, data)
+            if spoil and ran[0]:
+                spoil(folder)
             return ran, look.at(by_path(files_of(folder)))
 
     (status, said, told, count), after = run(0)
@@ -141,9 +147,9 @@ def adduser():
     return word(Room(), "adduser", "--salt", SALT[::-1], "bob", "bob@example.org", data=b"another\n")
 
 
-def deliver():
+def deliver(spoil=None):
     words = "--from", "bob@example.net", "--to", "alice@example.org", "--at", "1700000000", "alice"
-    return word(with_mail(), "deliver", *words, data=MAIL % 4, scripts=[b"main"])
+    return word(with_mail(), "deliver", *words, data=MAIL % 4, scripts=[b"main"], spoil=spoil)
 
 
 def folders():
@@ -259,6 +265,16 @@ def listed():
 
 def checked():
     return session(b"CHECKSCRIPT {%d+}\r\n%s\r\n" % (len(SCRIPT), SCRIPT), changes=False)
+
+
+def planted():
+    """A program that forgets a row of the queue once it was refused is found."""
+    try:
+        deliver(spoil=lambda folder: stops.ask(folder, "done", "alice", "1"))
+    except AssertionError as error:
+        assert "the store is in between" in str(error), error
+        return "found where a row is forgotten after a refusal"
+    raise AssertionError("a row is forgotten after a refusal, and that isn't found")
 
 
 def serve():
@@ -547,7 +563,7 @@ TEXTS = ["addresses", "targets", "bare", "spellings", "words", "texts", "tokens"
          "heads", "scripts", "tests", "vacations"]
 
 WORDS = (try_word, init, adduser, deliver, folders, show, queue, queue_row, done, notices, drain,
-         put, put_again, activate, delete, rename, get, listed, checked, serve)
+         put, put_again, activate, delete, rename, get, listed, checked, serve, planted)
 TRIALS = {trial.__name__.removesuffix("_word"): trial for trial in WORDS} | ENGINE
 TRIALS |= {f"text_{name}": lambda name=name: texts(name) for name in TEXTS}
 

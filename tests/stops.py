@@ -11,7 +11,8 @@ state of two moments is opened once. Nothing is thought durable that wasn't sync
 
 The trials: init, adduser, deliver, done, drain, session; `again`, where the power goes once more as what it left is opened;
 `unsynced`, a disk that loses a commit between its write and its sync, over which the next word reads the disk; and `planted`, in
-which a sync is left out of the log, or an answer moved before one, and a state has to be found that isn't as it should be.
+which a sync is left out of the log, an answer stands before one, or a commit before the last write, and a state has to be found
+that isn't as it should be.
 Without a word, all. Prints a line for each, a last one
 that counts them, and ends with 1 where one failed. `tests/run` runs it, with --quick: at most one call is lost, and no length
 stands. It needs python3 and strace; `unsynced` is run as root, and needs losetup, debugfs and mkfs.ext2.
@@ -666,6 +667,7 @@ def planted():
     log.calls = whole
     assert all(syncs.index(sync) in places for places in found.values()), (syncs.index(sync), found)
     told = ", ".join(f"found where it is {how}" if trials.QUICK else f"found where {len(places)} are {how}, one by one" for how, places in found.items())
+    told += "; " + planted_commit()
     return f"of {len(syncs)} syncs that have something to do the commit's is the {syncs.index(sync) + 1}th: {told}; {planted_in_drain()}"
 
 
@@ -678,6 +680,16 @@ def planted_in_drain():
         log.calls = whole[:at] + whole[at + 1:]
         assert is_found(log, look, judge), f"a sync of {target} is left out, and not found"
     return "of drain, found where a message or its folder isn't synced"
+
+
+def planted_commit():
+    """A program that commits before the last write: the logs of two deliveries as that of one."""
+    room, words = Room(), ("deliver", "--from", "bob@example.net", "--to", "alice@example.org", "alice")
+    first, last = (room.recorded(*words, data=MAIL % number)[0] for number in range(2))
+    first.calls = [call for call in first.calls if call.kind != "said"] + last.calls
+    look = Look([])
+    assert is_found(first, look, one_change(first, look)[0]), "a commit before the last write isn't found"
+    return "found where a commit stands before the last write"
 
 
 def is_found(log, look, judge):

@@ -18,7 +18,7 @@ pub const SENDER: &[u8] = b"bob@example.net";
 const LOGIN: &[u8] = b"AUTHENTICATE \"PLAIN\" \"AGFsaWNlAHNlY3JldA==\"\r\n";
 
 const SCRIPT: &[u8] =
-    b"PUTSCRIPT \"main\" {112+}\r\nrequire [\"fileinto\", \"vacation\"]; fileinto \"a\"; fileinto \"b\"; redirect \"carol@example.com\"; vacation \"Away.\";  \r\nSETACTIVE \"main\"\r\n";
+    b"PUTSCRIPT \"main\" {109+}\r\nrequire [\"fileinto\", \"vacation\"]; fileinto \"a\"; fileinto \"b\"; redirect \"carol@example.com\"; vacation \"Away.\";\r\nSETACTIVE \"main\"\r\n";
 
 const OTHER: &[u8] = b"PUTSCRIPT \"other\" {5+}\r\nkeep;\r\n";
 
