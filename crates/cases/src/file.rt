@@ -1,5 +1,5 @@
 //! Runs of the program on a store in a file, which another process may lock and read.
-use crate::run::{Run, add_run, answer};
+use crate::run::{CLOCK, Run, add_run, answer};
 use crate::stream::NEVER;
 use casefiles::{Answers, Tally, text_in, try_rows};
 use keepers::{FileKeeper, Keeper};
@@ -131,6 +131,7 @@ fn add_row<K: Keeper, T: MailSink>(
                 words: words.as_slice(),
                 input: input.as_slice(),
                 writes: NEVER,
+                clock: CLOCK,
             };
             add_locked(alloc, out, other, keeper, sink, run)
         }

@@ -15,7 +15,7 @@ use std::alloc::{AllocError, Global};
 use std::format;
 
 /// What the clock says, in seconds since 1970-01-01 UTC.
-const CLOCK: Option<u64> = Some(1_700_000_000);
+pub const CLOCK: Option<u64> = Some(1_700_000_000);
 
 /// What a run may tell, those too that no case can bring about.
 const FAULTS: [Fault; 16] = [
