@@ -41,6 +41,14 @@ impl<T: Drop> List<T> {
         List { items }
     }
 
+    /// The same items, without a copy.
+    pub fn into_vec(self) -> Vec<T>
+        ensures { result.items ≡ self }
+    {
+        let List { items } = self;
+        items
+    }
+
     /// The items, in order. Takes no memory.
     pub fn as_slice(&self) -> &[T]
         ensures { result.now ≡ self.now }
