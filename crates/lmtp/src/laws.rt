@@ -1,0 +1,7 @@
+//! Laws of the definitions, each the contract of a function that does nothing.
+ghost use Rattle.lmtp.specs.Texts.{TextsAgree};
+
+/// A text by its lines and a text octet by octet are the same: where it ends, and what it is.
+pub fn texts_agree()
+    ensures { TextsAgree }
+{}

@@ -1,0 +1,7 @@
+//! LMTP (RFC 2033) as items of a stream: command lines, and texts of messages.
+#![tactic(auto)]
+
+pub mod laws;
+pub mod text;
+
+pub use text::{Place, Text, Trouble};
