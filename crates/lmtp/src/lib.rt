@@ -2,6 +2,8 @@
 #![tactic(auto)]
 
 pub mod laws;
+pub mod line;
 pub mod text;
 
+pub use line::{Found, Skipped, first_line, skip_line};
 pub use text::{Place, Text, Trouble};
