@@ -1,3 +1,4 @@
 pub mod FeedLemmas
 pub mod LineLemmas
+pub mod PathLemmas
 pub mod TextLemmas

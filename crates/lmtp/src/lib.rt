@@ -3,6 +3,7 @@
 
 pub mod laws;
 pub mod line;
+pub mod path;
 pub mod text;
 
 pub use line::{Found, Skipped, first_line, skip_line};
