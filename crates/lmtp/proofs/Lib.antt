@@ -1,4 +1,5 @@
 pub mod FeedLemmas
 pub mod LineLemmas
 pub mod PathLemmas
+pub mod RouteLemmas
 pub mod TextLemmas

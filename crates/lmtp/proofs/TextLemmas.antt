@@ -189,11 +189,11 @@ others_of : List ℕ → List ℕ
 others_of [] = []
 others_of (octet ∷ rest) = rest
 
-same_first : (a b : ℕ) (xs ys : List ℕ) → a ∷ xs ≡ b ∷ ys → a ≡ b
+pub same_first : (a b : ℕ) (xs ys : List ℕ) → a ∷ xs ≡ b ∷ ys → a ≡ b
 unfolding first_of
 same_first a b xs ys same = ap first_of same
 
-same_others : (a b : ℕ) (xs ys : List ℕ) → a ∷ xs ≡ b ∷ ys → xs ≡ ys
+pub same_others : (a b : ℕ) (xs ys : List ℕ) → a ∷ xs ≡ b ∷ ys → xs ≡ ys
 unfolding others_of
 same_others a b xs ys same = ap others_of same
 

@@ -43,18 +43,25 @@ pub record IsRoute (route : List ℕ) : Type 0 where
 abbrev pub BeginsBare : List ℕ → Type 0
 BeginsBare address = (rest : List ℕ) → address ≡ 64 ∷ rest → ⊥
 
--- a text that begins with a path: `<`, perhaps a route, the address, `>`, and what stands behind it
-pub record IsPath (text address rest : List ℕ) : Type 0 where
+-- what stands behind a route, or all of a text without one; it doesn't begin with `@`
+pub record FollowsRoute (text bare : List ℕ) : Type 0 where
   pub route : List ℕ
   pub routed : (route ≡ []) ⊎ IsRoute route
-  pub is : IsAddress address
-  pub bare : BeginsBare address
-  pub written : text ≡ 60 ∷ (route ++ (address ++ 62 ∷ rest))
+  pub written : text ≡ route ++ bare
+  pub is : BeginsBare bare
 
 -- what a text has behind an address: the first `>` outside quotation marks ends it
 pub record EndsAddress (text address rest : List ℕ) : Type 0 where
   pub is : IsAddress address
   pub written : text ≡ address ++ 62 ∷ rest
+
+-- a text that begins with a path: `<`, perhaps a route, the address, `>`, and what stands behind it
+pub record IsPath (text address rest : List ℕ) : Type 0 where
+  pub inner : List ℕ
+  pub bare : List ℕ
+  pub opened : text ≡ 60 ∷ inner
+  pub follows : FollowsRoute inner bare
+  pub ends : EndsAddress bare address rest
 
 -- one octet of an address, and what may stand behind it: exactly what stands from there on
 abbrev pub StepsTo : Quoting → ℕ → Option Quoting → Type 0
