@@ -1,4 +1,6 @@
+pub mod CommandLemmas
 pub mod FeedLemmas
+pub mod FrontLemmas
 pub mod LineLemmas
 pub mod PathLemmas
 pub mod RouteLemmas

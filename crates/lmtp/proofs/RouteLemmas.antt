@@ -3,44 +3,12 @@ use Rattle.std.proofs.Common.{◌≡◌, ℕ, suc, ◌+◌, ◌≤◌, ◌&&◌,
 use Rattle.std.proofs.lemmas.List.{take-append-drop}
 use Rattle.std.specs.List.{list_all, prefix_len}
 use Rattle.lmtp.specs.Paths.{is_hop, IsRoute, BeginsBare, FollowsRoute, IsPath, EndsAddress}
-use Rattle.lmtp.proofs.TextLemmas.{same_first, same_others}
-
--- ---- the hops in front of a text
-
-and_first : (a b : Bool) → (a && b) ≡ true → a ≡ true
-and_first true b both = refl
-and_first false b both = both
-
-and_second : (a b : Bool) → (a && b) ≡ true → b ≡ true
-and_second true b both = both
-and_second false b both = absurd (cc both)
-
-up : (n : ℕ) → 1 + n ≡ suc n
-up n = omega arith
-
-prefix_by : (octet : ℕ) (text : List ℕ) → is_hop octet ≡ true → prefix_len is_hop (octet ∷ text) ≡ suc (prefix_len is_hop text)
-prefix_by octet text is = rw is (up (prefix_len is_hop text))
-
-all_hops_by : (octet : ℕ) (text : List ℕ) (test : Bool) → is_hop octet ≡ test → list_all is_hop (take (prefix_len is_hop text) text) ≡ true
-    → list_all is_hop (take (prefix_len is_hop (octet ∷ text)) (octet ∷ text)) ≡ true
-all_hops_by octet text true is later =
-    ap (λ n. list_all is_hop (take n (octet ∷ text))) (prefix_by octet text is)
-    ∙ (ap (λ b. b && list_all is_hop (take (prefix_len is_hop text) text)) is ∙ later)
-all_hops_by octet text false is later = ap (λ n. list_all is_hop (take n (octet ∷ text))) (none is)
-  where
-    none : is_hop octet ≡ false → prefix_len is_hop (octet ∷ text) ≡ 0
-    none is = rw is refl
-
-pub all_hops : (text : List ℕ) → list_all is_hop (take (prefix_len is_hop text) text) ≡ true
-all_hops [] = refl
-all_hops (octet ∷ text) = all_hops_by octet text (is_hop octet) refl (all_hops text)
+use Rattle.lmtp.proofs.FrontLemmas.{all_front, behind_is}
+use Rattle.lmtp.proofs.TextLemmas.{same_others}
 
 -- behind hops and a colon stands what stands there
 colon_behind : (hops bare : List ℕ) → list_all is_hop hops ≡ true → drop (prefix_len is_hop (hops ++ 58 ∷ bare)) (hops ++ 58 ∷ bare) ≡ 58 ∷ bare
-colon_behind [] bare each = refl
-colon_behind (octet ∷ hops) bare each =
-    ap (λ n. drop n (octet ∷ (hops ++ 58 ∷ bare))) (prefix_by octet (hops ++ 58 ∷ bare) (and_first (is_hop octet) (list_all is_hop hops) each))
-    ∙ colon_behind hops bare (and_second (is_hop octet) (list_all is_hop hops) each)
+colon_behind hops bare each = behind_is is_hop hops (58 ∷ bare) each refl
 
 -- ---- what follows a route
 
@@ -70,7 +38,7 @@ follows_hops text hops bare begins there is =
     let front = take (prefix_len is_hop hops) hops in
     record {
       route = 64 ∷ (front ++ 58 ∷ []);
-      routed = inr (record { hops = front; each = all_hops hops; written = refl });
+      routed = inr (record { hops = front; each = all_front is_hop hops; written = refl });
       written =
           begins ∙ ap (λ t. 64 ∷ t) (sym (take-append-drop (prefix_len is_hop hops) hops)
           ∙ (ap (λ t. front ++ t) there ∙ sym (append_assoc front (58 ∷ []) bare)));

@@ -5,6 +5,7 @@ pub mod laws;
 pub mod line;
 pub mod path;
 pub mod text;
+pub mod verb;
 
 pub use line::{Found, Skipped, first_line, skip_line};
 pub use text::{Place, Text, Trouble};
