@@ -1,3 +1,4 @@
+pub mod ArgumentLemmas
 pub mod CommandLemmas
 pub mod FeedLemmas
 pub mod FrontLemmas

@@ -1,6 +1,7 @@
 //! LMTP (RFC 2033) as items of a stream: command lines, and texts of messages.
 #![tactic(auto)]
 
+pub mod argument;
 pub mod laws;
 pub mod line;
 pub mod path;
