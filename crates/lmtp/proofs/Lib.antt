@@ -1,5 +1,6 @@
 pub mod ArgumentLemmas
 pub mod CommandLemmas
+pub mod Examples
 pub mod FeedLemmas
 pub mod FrontLemmas
 pub mod LineLemmas
