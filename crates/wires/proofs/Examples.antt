@@ -1,5 +1,5 @@
 -- Right cases of the definitions, and near misses.
-use Rattle.std.proofs.Common.{◌≡◌, true, false, List, [], ◌∷◌, Option, Some, None, refl, arith}
+use Rattle.std.proofs.Common.{◌≡◌, ℕ, true, false, List, [], ◌∷◌, Option, Some, None, refl, arith}
 use Rattle.wires.specs.declared.act.Act.TheVariants.{Began, Timed, Waits, Roused, Sent, Noted, Ended}
 use Rattle.wires.specs.declared.machine.Want.TheVariants as want
 use Rattle.wires.specs.declared.outcome.Wake.{Wake}
