@@ -33,7 +33,8 @@ pub trait Machine<O: Outside> {
     fn limit(&self, kind: u32) -> usize
         ensures { result ≡ rules.limit kind };
 
-    /// Which connection of that kind makes room for one that knocks, where so many are open.
+    /// Which connection of that kind makes room for one that knocks, where so many are open. It is asked again for each that
+    /// knocks: where it names one that has just come, those who knock push each other out.
     fn displaced(&self, kind: u32) -> Option<u32>
         ensures { result ≡ rules.displaced self.now kind };
 
