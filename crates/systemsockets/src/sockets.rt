@@ -165,6 +165,11 @@ impl<'n, N: Net + Clock> SystemSockets<'n, N> {
         }
     }
 
+    /// Has a wait tell again of those of that kind that wait to be accepted.
+    pub fn listen(&mut self, kind: u32) {
+        self.listen_again(kind as usize);
+    }
+
     /// Has a wait tell of those that stand at a listener.
     fn listen_again(&mut self, kind: usize) {
         let Some(door) = self.doors.get_mut(kind) else {

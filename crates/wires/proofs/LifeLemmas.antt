@@ -1,5 +1,5 @@
 -- Moves in turn, and what is true of them.
-use Rattle.std.proofs.Common.{◌≡◌, ◌⊎◌, inl, inr, ℕ, List, [], ◌∷◌, ◌++◌, None, refl, sym, ◌∙◌, ap, subst, append_assoc, append-nil}
+use Rattle.std.proofs.Common.{◌≡◌, ◌⊎◌, inl, inr, ℕ, List, [], ◌∷◌, ◌++◌, None, refl, sym, ◌∙◌, ◌+◌, length, length-append, ap, subst, append_assoc, append-nil, arith}
 use Rattle.std.specs.Ordering.{nat_cmp}
 use Rattle.std.specs.BTreeMap as tree
 use Rattle.std.specs.Map.{lookup}
@@ -37,6 +37,10 @@ then_one rules m mid n lives one = record {
 
 pub then_none : {M N R : Type 0} (rules : Rules M N R) (m mid n : Moment M N R) → Lives rules m mid → n ≡ mid → Lives rules m n
 then_none rules m mid n lives is = subst (λ k. Lives rules m k) (sym is) lives
+
+-- each adds one act
+pub one_longer : {N : Type 0} (first mid last : List (Act N)) (count : ℕ) (act : Act N) → length mid ≡ length first + count → last ≡ mid ++ act ∷ [] → length last ≡ length first + (count + 1)
+one_longer first mid last count act before grows = omega (arith, before, ap length grows ∙ length-append mid (act ∷ []))
 
 -- some first moves, and the others
 pub cut : {M N R : Type 0} (rules : Rules M N R) (m : Moment M N R) (some rest : List (Move N)) (n : Moment M N R) → Passes rules m (some ++ rest) n → (mid : Moment M N R) × Passes rules m some mid × Passes rules mid rest n

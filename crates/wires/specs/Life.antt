@@ -1,5 +1,5 @@
 -- What is true of a life: of all acts, and of each front of them.
-use Rattle.std.specs.Prelude.{◌≡◌, ◌⊎◌, ℕ, Bool, true, false, cond, List, [], ◌∷◌, ◌++◌, length, ◌≤◌, Option, Some, None, IsTrue}
+use Rattle.std.specs.Prelude.{◌≡◌, ◌⊎◌, ℕ, ◌+◌, Bool, true, false, cond, List, [], ◌∷◌, ◌++◌, length, ◌≤◌, Option, Some, None, IsTrue}
 use Rattle.std.specs.List.{list_any}
 use Rattle.wires.specs.declared.act.Act.{Act}
 use Rattle.wires.specs.declared.act.Act.TheVariants.{Late, Came, Displaced, Heard, Over, Sent, Lost, Noted, Full, Shut, Dropped, Ended}
@@ -33,6 +33,10 @@ pub record Lives {M N R : Type 0} (rules : Rules M N R) (m n : Moment M N R) : T
 -- the same, where it is told
 abbrev pub LivesIf : {O M N R : Type 0} → (O → Bool) → (O → List (Act N)) → (O → R) → Rules M N R → O → M → Service → O → M → Service → Type 0
 LivesIf tells seen rest rules o m s p n t = IsTrue (tells p) → Lives rules (at seen rest o m s) (at seen rest p n t)
+
+-- so many acts were added, where it is told
+abbrev pub AddsIf : {O N : Type 0} → (O → Bool) → (O → List (Act N)) → O → ℕ → O → Type 0
+AddsIf tells seen o count p = IsTrue (tells p) → length (seen p) ≡ length (seen o) + count
 
 -- a service with no connection, and nobody's turn
 pub record Fresh (s : Service) : Type 0 where
