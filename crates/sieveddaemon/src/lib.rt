@@ -1,0 +1,8 @@
+//! A daemon that serves many clients of ManageSieve (RFC 5804) side by side, over whatever is outside: it is the abstract
+//! machine of mailengine, running.
+#![tactic(auto)]
+
+pub mod daemon;
+pub mod desk;
+pub mod note;
+pub mod place;
