@@ -11,13 +11,14 @@ use Rattle.mailengine.specs.declared.event.Event.TheVariants.{Open, Give, Close}
 use Rattle.wires.specs.Rules.{Rules}
 use Rattle.wires.specs.Talk.{after_span}
 use Rattle.sieveddaemon.specs.Desk.{StillShows, IsDone, NothingDone}
-use Rattle.sieveddaemon.specs.Places.{client_at, want_of, due_of, new_place, place_given, place_behind}
-use Rattle.sieveddaemon.specs.Waiting.{Allows, said_with, greeting, idle}
+use Rattle.sieveddaemon.specs.Places.{client_at, want_of, due_of, new_place, place_given, place_behind, renewed, is_user}
+use Rattle.sieveddaemon.specs.Waiting.{Allows, IsDue, said_with, greeting, idle}
 use Rattle.sieveddaemon.specs.declared.daemon.Daemon.{Daemon}
 use Rattle.sieveddaemon.specs.declared.daemon.Holding.{Holding}
 use Rattle.sieveddaemon.specs.declared.note.Note.{Note}
 use Rattle.sieveddaemon.specs.declared.note.Note.TheVariants.{Did, Away, Freed, Spoke, Looked, Gave}
 use Rattle.sieveddaemon.specs.declared.place.Place.{Place}
+use Rattle.sieveddaemon.specs.declared.place.Waits.{Waits}
 
 -- the kind of the connections of ManageSieve, and how many of it there may be
 abbrev pub managesieve : ℕ
@@ -31,6 +32,10 @@ limit_of kind = if kind == managesieve then max_clients else 0
 
 abbrev pub place_at : Daemon → ℕ → Option Place
 place_at d id = tree.get nat_cmp d.places id
+
+-- something is known of a connection, and this holds of it
+abbrev pub AtPlace : Daemon → ℕ → (Place → Type 0) → Type 0
+AtPlace d id P = (place : Place) × (place_at d id ≡ Some place) × P place
 
 -- what is known of one connection changes, and of no other
 abbrev pub Places : Daemon → ℕ → Option Place → Daemon → Type 0
@@ -93,11 +98,24 @@ holding_behind now _ h = h
 pub record Goes {R : Type 0} (shows : R → Accounts → Type 0) (d : Daemon) (r : R) (now id : ℕ) (note : Note) (said : List ℕ) (e : Daemon) (q : R) : Type 0 where
   pub before : Place
   pub was : place_at d id ≡ Some before
-  pub allows : Allows now before.waits id note
+  pub allows : IsDue now before.waits → Allows now before.waits id note
   pub makes : Makes shows r d note q e
   pub says : said ≡ said_with before.waits note
   pub place : Places d id (Some (place_behind now before note (client_at e.clients.sessions id))) e
   pub holding : e.holding ≡ holding_behind now note d.holding
+
+-- ---- parts of that
+
+-- nothing more is known of a connection, and all else is as it was
+pub record Forgets (d : Daemon) (id : ℕ) (e : Daemon) : Type 0 where
+  pub clients : e.clients ≡ d.clients
+  pub place : Knows d id None e
+
+-- what a connection waits for changes, whatever it was, and all else is as it was
+pub record Renews (d : Daemon) (now id : ℕ) (w : Waits) (answered : Bool) (e : Daemon) : Type 0 where
+  pub clients : e.clients ≡ d.clients
+  pub holding : e.holding ≡ d.holding
+  pub place : (before : Place) → place_at d id ≡ Some before → Places d id (Some (renewed now before w answered (is_user (client_at d.clients.sessions id)))) e
 
 -- ---- work of its own: the store is given back
 

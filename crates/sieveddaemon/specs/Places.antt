@@ -1,9 +1,10 @@
 -- What the daemon wants of a connection, by which moment it is late, and what it knows of it after each act.
-use Rattle.std.specs.Prelude.{◌≡◌, ℕ, ◌-◌, ◌^◌, Bool, true, false, List, [], ◌∷◌, Option, Some, None, option_map, if◌then◌else◌}
+use Rattle.std.specs.Prelude.{◌≡◌, ℕ, ◌-◌, ◌^◌, ◌==◌, Bool, true, false, List, length, Option, Some, None, is_some, option_map, if◌then◌else◌}
 use Rattle.std.specs.Ordering.{nat_cmp}
 use Rattle.std.specs.BTreeMap as tree
 use Rattle.sessions.specs.Clients.{Client, is_ready}
 use Rattle.mailengine.specs.Hosts.{Kept}
+use Rattle.mailengine.specs.declared.answer.Answer.{Answer}
 use Rattle.mailengine.specs.declared.answer.Answer.TheVariants.{Out}
 use Rattle.wires.specs.Talk.{after_span}
 use Rattle.wires.specs.declared.machine.Want.{Want}
@@ -54,8 +55,7 @@ never = 2 ^ 64 - 1
 
 -- one that is logged in owes the rest of what it began, or now and then a command
 abbrev pub due_of_user : ℕ → List ℕ → ℕ
-due_of_user since [] = after_span since max_silence
-due_of_user since (octet ∷ unread) = after_span since max_command
+due_of_user since unread = if length unread == 0 then after_span since max_silence else after_span since max_command
 
 abbrev pub due_of_session : Place → Option (List ℕ) → List ℕ → ℕ
 due_of_session place None unread = after_span place.guest max_login
@@ -75,34 +75,33 @@ due_of _ _ = never
 abbrev pub new_place : ℕ → Place
 new_place now = record { waits = waits.Nothing; guest = now; since = now }
 
--- octets came, by what was unread before
-abbrev pub since_given : ℕ → ℕ → List ℕ → ℕ
-since_given now since [] = now
-since_given now since (octet ∷ unread) = since
+-- octets came: where nothing was unread they begin what comes next
+abbrev pub begun : ℕ → Place → Bool → Place
+begun now place begins = record place { since = if begins then now else place.since }
 
 abbrev pub place_given : ℕ → Place → Client → Place
-place_given now place c = record place { since = since_given now place.since c.unread }
+place_given now place c = begun now place (length c.unread == 0)
 
--- who is logged in is a guest from now on at the earliest
-abbrev pub guest_after : ℕ → ℕ → Option Client → ℕ
-guest_after now guest None = guest
-guest_after now guest (Some c) = guest_by now guest c.user
-  where
-    abbrev pub guest_by : ℕ → ℕ → Option (List ℕ) → ℕ
-    guest_by now guest None = guest
-    guest_by now guest (Some user) = now
+-- what is waited for changes: `answered`, where the next command is counted from now on; `user`, where somebody is logged in, who is a
+-- guest from now on at the earliest
+abbrev pub renewed : ℕ → Place → Waits → Bool → Bool → Place
+renewed now place w answered user =
+    record { waits = w; guest = if user then now else place.guest; since = if answered then now else place.since }
 
--- behind an answer, or what was kept back, the next command is counted from now on
-abbrev pub since_behind : ℕ → ℕ → Note → ℕ
-since_behind now since (Did others event (Out progress octets)) = now
-since_behind now since (Freed event answer) = now
-since_behind now since Spoke = now
-since_behind now since _ = since
+abbrev pub is_out : Answer → Bool
+is_out (Out progress octets) = true
+is_out _ = false
+
+abbrev pub is_answered : Note → Bool
+is_answered (Did others event answer) = is_out answer
+is_answered (Freed event answer) = is_out answer
+is_answered Spoke = true
+is_answered _ = false
+
+abbrev pub is_user : Option Client → Bool
+is_user None = false
+is_user (Some c) = is_some c.user
 
 -- behind a note, with the session that is there then
 abbrev pub place_behind : ℕ → Place → Note → Option Client → Place
-place_behind now place note c = record {
-  waits = waits_behind now place.waits note;
-  guest = guest_after now place.guest c;
-  since = since_behind now place.since note;
-}
+place_behind now place note c = renewed now place (waits_behind now place.waits note) (is_answered note) (is_user c)

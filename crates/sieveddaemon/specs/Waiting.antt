@@ -34,7 +34,7 @@ greeting = spelled (capabilities None)
 abbrev pub idle : List ℕ
 idle = spelled (farewell (codes "Idle."))
 
--- whether that is the answer to a login that failed
+-- whether that is the answer to a login that failed: no other answer of the table is spelled so
 abbrev pub is_failure : List ℕ → Bool
 is_failure octets =
     pointwise nat_eq octets (spelled (declined None (codes "Authentication failed.")))
@@ -44,6 +44,10 @@ is_failure octets =
 abbrev pub said_at_once : Answer → List ℕ
 said_at_once (Out progress octets) = if is_failure octets then [] else octets
 said_at_once _ = []
+
+abbrev pub is_refusal : Answer → Bool
+is_refusal (Refused refusal) = true
+is_refusal _ = false
 
 -- what is said with a note, by what was waited for
 abbrev pub said_with : Waits → Note → List ℕ
@@ -74,15 +78,34 @@ waits_behind now w _ = waits.Nothing
 
 -- ---- what may be done
 
--- at a moment, for a connection that waits so. Nothing: its first item is stepped, or the store is asked for it and away. The store:
--- the same, or behind five seconds the item is given up. Refused: it is given up. A reply: it is said, at its moment
+-- the store may be asked for what comes first: where nothing is waited for, or the store, for not yet five seconds
+abbrev pub MayAsk : ℕ → Waits → Type 0
+MayAsk now waits.Nothing = Unit {0}
+MayAsk now (waits.Store since again) = now < since + max_away
+MayAsk now _ = ⊥
+
+-- what comes first may be given up: where the store was asked for it for five seconds, or refused it
+abbrev pub MayGiveUp : ℕ → Waits → Type 0
+MayGiveUp now (waits.Store since again) = since + max_away ≤ now
+MayGiveUp now waits.Refused = Unit {0}
+MayGiveUp now _ = ⊥
+
+-- at a moment, for a connection that waits so: what comes first is stepped by the store, or that is away; or it is stepped at once, or
+-- given up; or what was kept back is said, at its moment
 abbrev pub Allows : ℕ → Waits → ℕ → Note → Type 0
-Allows now waits.Nothing id (Did others event answer) = event ≡ Step id
-Allows now waits.Nothing id Away = Unit {0}
+Allows now w id (Did others event answer) = MayAsk now w × (event ≡ Step id)
+Allows now w id Away = MayAsk now w
 Allows now waits.Nothing id (Freed event answer) = (event ≡ Step id) × IsMade answer
-Allows now (waits.Store since again) id (Did others event answer) = (now < since + max_away) × (event ≡ Step id)
-Allows now (waits.Store since again) id Away = now < since + max_away
-Allows now (waits.Store since again) id (Freed event answer) = (since + max_away ≤ now) × (event ≡ GiveUp id)
-Allows now waits.Refused id (Freed event answer) = event ≡ GiveUp id
+Allows now w id (Freed event answer) = MayGiveUp now w × (event ≡ GiveUp id)
 Allows now (waits.Reply until text) id Spoke = until ≤ now
 Allows now w id note = ⊥
+
+-- something was kept back
+abbrev pub IsReply : Waits → Type 0
+IsReply (waits.Reply until text) = Unit {0}
+IsReply _ = ⊥
+
+-- its moment has come, where one is waited for
+abbrev pub IsDue : ℕ → Waits → Type 0
+IsDue now (waits.Reply until text) = until ≤ now
+IsDue now w = Unit {0}

@@ -1,4 +1,6 @@
 //! The daemon: sessions, what each connection waits for, and whether the store is had.
+ghost use Rattle.std.specs.Prelude.{◌≡◌, []};
+
 use crate::place::Place;
 use mailengine::Clients;
 use std::alloc::Global;
@@ -22,4 +24,23 @@ pub struct Daemon {
     pub clients: Clients,
     pub places: BTreeMap<u32, Place>,
     pub holding: Holding,
+}
+
+impl Daemon {
+    /// No connections. Takes no memory.
+    pub fn new(alloc: Global) -> Daemon
+        ensures sessions { result.clients.sessions.entries ≡ [] }
+        ensures places { result.places.entries ≡ [] }
+    {
+        Daemon {
+            alloc,
+            clients: Clients::new(alloc),
+            places: BTreeMap::new(alloc),
+            holding: Holding {
+                had: false,
+                look: 0,
+                asked: 0,
+            },
+        }
+    }
 }

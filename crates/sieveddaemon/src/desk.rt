@@ -17,12 +17,15 @@ pub trait Desk: Outside<Note = Note> {
     /// Which accounts the store shows.
     ghost shows: { Self.Rest → Accounts → Type 0 };
 
+    /// The disk returned what was written.
+    ghost clean: { Self.Rest → Type 0 };
+
     /// Brings an event to the store and its sessions, and answers it once its change is there for good. None where the
     /// store isn't to be had now.
     fn carry(&mut self, id: u32, clients: &mut Clients, event: &Event) -> Option<Answer>
         requires { ¬ IsGivenUp event.now }
         ensures kept { IsTrue (Self.tells self.new) → IsTrue (Self.tells self.old) }
-        ensures carries { Carries Self.tells Self.seen Self.rest shows id event.now self.old clients.old.sessions result self.new clients.new.sessions };
+        ensures carries { Carries Self.tells Self.seen Self.rest shows clean id event.now self.old clients.old.sessions result self.new clients.new.sessions };
 
     /// Tells that an event of a connection was answered that asks no store. Nothing is done.
     fn tell_freed(&mut self, id: u32, event: &Event, answer: &Answer)
@@ -41,5 +44,8 @@ pub trait Desk: Outside<Note = Note> {
     fn look(&mut self, rests: bool) -> bool
         ensures kept { IsTrue (Self.tells self.new) → IsTrue (Self.tells self.old) }
         ensures rests { IsTrue rests → IsTrue result }
-        ensures looks { Looks Self.tells Self.seen Self.rest shows self.old result self.new };
+        ensures looks { Looks Self.tells Self.seen Self.rest shows clean self.old result self.new };
+
+    // Where it tells its acts, its disk doesn't lie.
+    ghost sure: { (desk : Self) → IsTrue (Self.tells desk) → clean (Self.rest desk) };
 }

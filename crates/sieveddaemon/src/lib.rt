@@ -4,5 +4,13 @@
 
 pub mod daemon;
 pub mod desk;
+pub mod life;
+mod machine;
 pub mod note;
+mod patience;
 pub mod place;
+mod session;
+mod step;
+mod want;
+
+pub use machine::{MANAGESIEVE, MAX_CLIENTS};
