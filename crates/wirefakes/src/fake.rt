@@ -14,8 +14,11 @@ use wires::outside::{Clock, Outside, Sockets};
 const MAX_DISCARD: usize = 4096;
 
 /// It follows a script, and keeps all acts for which it has room.
+///
+/// `rest` is a machine's own: no call on the sockets or the clock changes it. A machine's crate gives calls on it by a trait of
+/// its own over a `Fake`, or over an outside that holds one.
 #[derive(Drop)]
-pub struct Fake<N: Drop> {
+pub struct Fake<N: Drop, R: Drop> {
     pub alloc: Global,
     pub script: Script,
     /// What the clock showed last.
@@ -23,12 +26,15 @@ pub struct Fake<N: Drop> {
     pub acts: Vec<Act<N>>,
     /// Whether it had no room for an act: from then on it tells nothing.
     pub lost: bool,
+    /// All that is neither sockets nor clock.
+    pub rest: R,
 }
 
-impl<N: Drop> Fake<N> {
+impl<N: Drop, R: Drop> Fake<N, R> {
     /// Nothing has happened yet.
-    pub fn new(alloc: Global, script: Script) -> Fake<N>
+    pub fn new(alloc: Global, script: Script, rest: R) -> Fake<N, R>
         ensures acts { result.acts.items ≡ [] }
+        ensures rest { result.rest ≡ rest }
         ensures tells { IsTrue (not result.lost) }
     {
         Fake {
@@ -37,12 +43,14 @@ impl<N: Drop> Fake<N> {
             moment: 0,
             acts: Vec::new(alloc),
             lost: false,
+            rest,
         }
     }
 
     /// Keeps an act, or none from now on.
     pub fn keep(&mut self, act: Act<N>)
         ensures acts { IsTrue (not self.new.lost) → self.new.acts.items ≡ self.old.acts.items ++ act ∷ [] }
+        ensures left { self.new.rest ≡ self.old.rest }
         ensures kept { IsTrue (not self.new.lost) → IsTrue (not self.old.lost) }
     {
         if self.lost {
@@ -59,6 +67,7 @@ impl<N: Drop> Fake<N> {
         requires room { 0 < length buffer.old }
         ensures fits { ReadFits buffer.new result }
         ensures seen { IsTrue (not self.new.lost) → AfterRead self.old.acts.items id buffer.new result self.new.acts.items }
+        ensures left { self.new.rest ≡ self.old.rest }
         ensures kept { IsTrue (not self.new.lost) → IsTrue (not self.old.lost) }
     {
         let count = piece.len().min(buffer.len());
@@ -92,17 +101,21 @@ fn tell_wakes(
     Ok(told)
 }
 
-impl<N: Drop> Outside for Fake<N> {
+impl<N: Drop, R: Drop> Outside for Fake<N, R> {
     type Note = N;
+
+    type Rest = R;
 
     ghost tells = { λ fake. not fake.lost };
 
     ghost seen = { λ fake. fake.acts.items };
 
+    ghost rest = { λ fake. fake.rest };
+
     ghost broken = { λ _. false };
 }
 
-impl<N: Drop> Sockets for Fake<N> {
+impl<N: Drop, R: Drop> Sockets for Fake<N, R> {
     fn wait(&mut self, _within: u32, ready: &mut VecDeque<Wake>) -> Result<(), Fault> {
         let wakes = self.script.next_wakes(self.alloc);
         match tell_wakes(self.alloc, wakes.as_slice(), ready) {
@@ -204,13 +217,14 @@ impl<N: Drop> Sockets for Fake<N> {
     fn note(&mut self, act: Act<N>)
         requires { IsOwn act }
         ensures seen { IsTrue (not self.new.lost) → self.new.acts.items ≡ self.old.acts.items ++ act ∷ [] }
+        ensures left { self.new.rest ≡ self.old.rest }
         ensures kept { IsTrue (not self.new.lost) → IsTrue (not self.old.lost) }
     {
         self.keep(act);
     }
 }
 
-impl<N: Drop> Clock for Fake<N> {
+impl<N: Drop, R: Drop> Clock for Fake<N, R> {
     fn now(&mut self) -> u64 {
         let moment = match self.script.moments.pop_front() {
             Some(moment) => moment,

@@ -1,14 +1,13 @@
 -- Right cases of the definitions, and near misses.
-use Rattle.std.proofs.Common.{◌≡◌, ℕ, ◌+◌, Bool, true, false, List, [], ◌∷◌, ◌++◌, Option, Some, None, refl, sym, ◌∙◌, arith}
-use Rattle.wires.specs.declared.act.Act.{Act}
-use Rattle.wires.specs.declared.act.Act.TheVariants.{Began, Timed, Waits, Roused, Ended}
+use Rattle.std.proofs.Common.{◌≡◌, ℕ, true, false, List, [], ◌∷◌, Option, Some, None, refl, arith}
+use Rattle.wires.specs.declared.act.Act.TheVariants.{Began, Timed, Waits, Roused, Sent, Noted, Ended}
 use Rattle.wires.specs.declared.machine.Want.TheVariants as want
 use Rattle.wires.specs.declared.outcome.Wake.{Wake}
 use Rattle.wires.specs.declared.outcome.Wake.TheVariants.{Knock, Ready}
 use Rattle.wires.specs.declared.service.Client.{Client}
 use Rattle.wires.specs.declared.service.Phase.TheVariants as phase
 use Rattle.wires.specs.declared.turn.Task.TheVariants.{Send, Hear, Step, Rest, HangUp, Drain, End}
-use Rattle.wires.specs.Moves.{Queues, Waiters, Ticks}
+use Rattle.wires.specs.Moves.{Queues, Waiters, Ticks, Leaves}
 use Rattle.wires.specs.Rules.{Rules}
 use Rattle.wires.specs.Talk.{Sends, Talks, is_late, newcomer, task, task_by}
 
@@ -36,7 +35,7 @@ ends_behind_it : task_by [] (phase.Shut 0) 0 want.More ≡ End
 ends_behind_it = refl
 
 -- a near miss: to hear where something waits
-hears_nothing_yet : {M N : Type 0} (rules : Rules M N) (m : M) → task rules m 0 1 (Some (newcomer 0 1 7 (65 ∷ []))) ≡ Hear → ⊥
+hears_nothing_yet : {M N R : Type 0} (rules : Rules M N R) (m : M) → task rules m 0 1 (Some (newcomer 0 1 7 (65 ∷ []))) ≡ Hear → ⊥
 hears_nothing_yet rules m is = cc
 
 -- ---- who is late
@@ -77,6 +76,18 @@ waits_no_more N = refl
 
 never_goes_back : (N : Type 0) → Ticks {N = N} 9 (Timed 8) 9
 never_goes_back N = refl
+
+-- ---- what is neither sockets nor clock
+
+a_step_may_change_it : (N : Type 0) (note : N) → Leaves {R = ℕ} 7 (Noted 1 note) 8
+a_step_may_change_it N note = tt
+
+-- near misses: a send, or an end, changes it
+not_by_a_send : (N : Type 0) → Leaves {N = N} {R = ℕ} 7 (Sent 1 (65 ∷ [])) 8 → ⊥
+not_by_a_send N is = cc
+
+not_by_an_end : (N : Type 0) → Leaves {N = N} {R = ℕ} 7 (Ended 1) 8 → ⊥
+not_by_an_end N is = cc
 
 -- ---- one connection
 

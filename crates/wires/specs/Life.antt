@@ -1,10 +1,10 @@
 -- What is true of a life: of all acts, and of each front of them.
-use Rattle.std.specs.Prelude.{◌≡◌, ◌⊎◌, ℕ, Bool, true, false, cond, List, [], ◌∷◌, ◌++◌}
+use Rattle.std.specs.Prelude.{◌≡◌, ◌⊎◌, ℕ, Bool, true, false, cond, List, [], ◌∷◌, ◌++◌, IsTrue}
 use Rattle.wires.specs.declared.act.Act.{Act}
 use Rattle.wires.specs.declared.act.Act.TheVariants.{Late, Came, Heard, Over, Sent, Lost, Noted, Full, Shut, Dropped, Ended}
 use Rattle.wires.specs.declared.service.Service.{Service}
 use Rattle.wires.specs.declared.turn.Turn.TheVariants.{Free}
-use Rattle.wires.specs.Moves.{Moment, Moves}
+use Rattle.wires.specs.Moves.{Moment, Moves, at}
 use Rattle.wires.specs.Rules.{Rules}
 use Rattle.wires.specs.Talk.{same, client_of}
 
@@ -18,16 +18,20 @@ acts_of [] = []
 acts_of (move ∷ moves) = move.act ∷ acts_of moves
 
 -- moves in turn
-abbrev pub Passes : {M N : Type 0} → Rules M N → Moment M N → List (Move N) → Moment M N → Type 0
+abbrev pub Passes : {M N R : Type 0} → Rules M N R → Moment M N R → List (Move N) → Moment M N R → Type 0
 Passes rules m [] n = n ≡ m
-Passes {M = M} {N = N} rules m (move ∷ moves) n =
-    (mid : Moment M N) × (one : Moves rules m mid) × (one.act ≡ move.act) × (one.said ≡ move.said) × Passes rules mid moves n
+Passes {M = M} {N = N} {R = R} rules m (move ∷ moves) n =
+    (mid : Moment M N R) × (one : Moves rules m mid) × (one.act ≡ move.act) × (one.said ≡ move.said) × Passes rules mid moves n
 
 -- the acts seen grew by those of moves in turn
-pub record Lives {M N : Type 0} (rules : Rules M N) (m n : Moment M N) : Type 0 where
+pub record Lives {M N R : Type 0} (rules : Rules M N R) (m n : Moment M N R) : Type 0 where
   pub moves : List (Move N)
   pub grows : n.seen ≡ m.seen ++ acts_of moves
   pub passes : Passes rules m moves n
+
+-- the same, where it is told
+abbrev pub LivesIf : {O M N R : Type 0} → (O → Bool) → (O → List (Act N)) → (O → R) → Rules M N R → O → M → Service → O → M → Service → Type 0
+LivesIf tells seen rest rules o m s p n t = IsTrue (tells p) → Lives rules (at seen rest o m s) (at seen rest p n t)
 
 -- a service with no connection, and nobody's turn
 pub record Fresh (s : Service) : Type 0 where
@@ -68,9 +72,9 @@ IsFrontOf {X = X} xs ys = (rest : List X) × (xs ++ rest ≡ ys)
 -- ---- the laws
 
 -- at each front of the acts, what was sent on a connection is a front of what the machine said to it: nothing else, nothing twice
-abbrev pub OneConnection : {M N : Type 0} → Rules M N → Type 0
-OneConnection {M = M} {N = N} rules =
-    (m n : Moment M N) (some rest : List (Move N)) → Fresh m.service → Passes rules m (some ++ rest) n
+abbrev pub OneConnection : {M N R : Type 0} → Rules M N R → Type 0
+OneConnection {M = M} {N = N} {R = R} rules =
+    (m n : Moment M N R) (some rest : List (Move N)) → Fresh m.service → Passes rules m (some ++ rest) n
     → (id : ℕ) → IsFrontOf (told_of id some).sent (told_of id some).said
 
 -- whether an act changes a connection
@@ -90,9 +94,9 @@ Untouched id [] = Unit {0}
 Untouched id (move ∷ moves) = (concerns id move.act ≡ false) × Untouched id moves
 
 -- acts of others change nothing of a connection
-abbrev pub Apart : {M N : Type 0} → Rules M N → Type 0
-Apart {M = M} {N = N} rules =
-    (m n : Moment M N) (moves : List (Move N)) → Passes rules m moves n → (id : ℕ) → Untouched id moves
+abbrev pub Apart : {M N R : Type 0} → Rules M N R → Type 0
+Apart {M = M} {N = N} {R = R} rules =
+    (m n : Moment M N R) (moves : List (Move N)) → Passes rules m moves n → (id : ℕ) → Untouched id moves
     → client_of n.service id ≡ client_of m.service id
 
 -- its peer sends no more, a read or a write failed, memory was lacking, or it was late
@@ -116,7 +120,7 @@ pub record Farewell (t : Told) : Type 0 where
   pub shut : t.shut ≡ true
 
 -- each end has its cause right before it, or is a farewell
-abbrev pub EndsRight : {M N : Type 0} → Rules M N → Type 0
-EndsRight {M = M} {N = N} rules =
-    (m n : Moment M N) (before after : List (Move N)) (end : Move N) (id : ℕ) → Fresh m.service → Passes rules m (before ++ end ∷ after) n
+abbrev pub EndsRight : {M N R : Type 0} → Rules M N R → Type 0
+EndsRight {M = M} {N = N} {R = R} rules =
+    (m n : Moment M N R) (before after : List (Move N)) (end : Move N) (id : ℕ) → Fresh m.service → Passes rules m (before ++ end ∷ after) n
     → end.act ≡ Ended id → CausedBy id before ⊎ Farewell (told_of id before)

@@ -75,7 +75,7 @@ task_by [] phase.Open now wanted = task_wanted now wanted
 task_by [] phase.Closing now wanted = HangUp
 task_by [] (phase.Shut left) now wanted = if left == 0 then End else Drain
 
-abbrev pub task : {M N : Type 0} → Rules M N → M → ℕ → ℕ → Option Client → Task
+abbrev pub task : {M N R : Type 0} → Rules M N R → M → ℕ → ℕ → Option Client → Task
 task rules m now id (Some c) = task_by c.unsent c.phase now (rules.wants m id)
 task rules m now id None = Nothing
 

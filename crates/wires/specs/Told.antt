@@ -21,6 +21,10 @@ Tells seen act later = later ≡ seen ++ act ∷ []
 abbrev pub TellsIf : {O N : Type 0} → (O → Bool) → (O → List (Act N)) → O → Act N → O → Type 0
 TellsIf tells seen old act new = IsTrue (tells new) → Tells (seen old) act (seen new)
 
+-- all that is neither sockets nor clock is as it was, where it is told
+abbrev pub LeavesIf : {O R : Type 0} → (O → Bool) → (O → R) → O → O → Type 0
+LeavesIf tells rest old new = IsTrue (tells new) → rest new ≡ rest old
+
 abbrev pub AfterAccept : {N : Type 0} → List (Act N) → ℕ → ℕ → Accepted → List (Act N) → Type 0
 AfterAccept seen kind id accepted.Came later = Tells seen (Came id kind) later
 AfterAccept seen kind id accepted.Nobody later = Tells seen (NoneCame kind) later

@@ -1,7 +1,6 @@
 //! A life of the loop.
 ghost use Rattle.std.specs.Prelude.{IsTrue, OnErr};
-ghost use Rattle.wires.specs.Life.{Lives};
-ghost use Rattle.wires.specs.Moves.{moment};
+ghost use Rattle.wires.specs.Life.{LivesIf};
 
 use crate::machine::Machine;
 use crate::outcome::Fault;
@@ -20,7 +19,7 @@ pub fn serve<O: Sockets + Clock, M: Machine<O>>(
     acts: u64,
 ) -> Result<(), Fault>
     ensures kept { IsTrue (O.tells outside.new) → IsTrue (O.tells outside.old) }
-    ensures lives { IsTrue (O.tells outside.new) → Lives M.rules (moment (O.seen outside.old) machine.old service.old) (moment (O.seen outside.new) machine.new service.new) }
+    ensures lives { LivesIf O.tells O.seen O.rest M.rules outside.old machine.old service.old outside.new machine.new service.new }
     ensures broke { OnErr result (IsTrue (O.broken outside.new)) }
 {
     for round in 0..acts {

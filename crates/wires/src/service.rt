@@ -1,7 +1,7 @@
 //! The loop: one act a call.
 ghost use Rattle.std.specs.Prelude.{◌≡◌, ◌==◌, ℕ, ◌<◌, [], not, filter, find, true, Some, None, IsTrue, IsSome, OnErr};
 ghost use Rattle.std.specs.BTreeMap as tree;
-ghost use Rattle.wires.specs.Moves.{moment, Moves, MovesOr};
+ghost use Rattle.wires.specs.Moves.{MovesIf, MovesOrIf};
 ghost use Rattle.wires.specs.Talk.{client_of, kind_of, is_quiet, is_late, task, task_by, task_wanted, drained};
 ghost use Rattle.wires.specs.Turns.{Tasks, Enters, Answered, Given, Parted, Yields, MayEnd, Admits, MayWait, Calm, Rests, Quiet, open_of, turn_of, first_late, first_roused, goes_on};
 ghost use Rattle.wires.specs.declared.turn.Turn.TheVariants.{Free, Rested, Waked, Sweep, Door, Busy, Stuffed};
@@ -106,7 +106,7 @@ pub fn act<O: Sockets + Clock, M: Machine<O>>(
     service: &mut Service,
 ) -> Result<(), Fault>
     ensures kept { IsTrue (O.tells outside.new) → IsTrue (O.tells outside.old) }
-    ensures moves { IsTrue (O.tells outside.new) → MovesOr M.rules (moment (O.seen outside.old) machine.old service.old) (moment (O.seen outside.new) machine.new service.new) result }
+    ensures moves { MovesOrIf O.tells O.seen O.rest M.rules outside.old machine.old service.old outside.new machine.new service.new result }
     ensures broke { OnErr result (IsTrue (O.broken outside.new)) }
 {
     match service.turn {
@@ -146,7 +146,7 @@ fn calm_once<O: Sockets + Clock, M: Machine<O>>(
 ) -> Result<(), Fault>
     requires { Calm M.rules machine.old service.old }
     ensures kept { IsTrue (O.tells outside.new) → IsTrue (O.tells outside.old) }
-    ensures moves { IsTrue (O.tells outside.new) → MovesOr M.rules (moment (O.seen outside.old) machine.old service.old) (moment (O.seen outside.new) machine.new service.new) result }
+    ensures moves { MovesOrIf O.tells O.seen O.rest M.rules outside.old machine.old service.old outside.new machine.new service.new result }
     ensures broke { OnErr result (IsTrue (O.broken outside.new)) }
 {
     if !service.ready.is_empty() {
@@ -171,10 +171,10 @@ fn idle_once<O: Sockets + Clock, M: Machine<O>>(
     requires calm { Calm M.rules machine.old service.old }
     requires quiet { Quiet M.rules machine.old service.old }
     ensures kept { IsTrue (O.tells outside.new) → IsTrue (O.tells outside.old) }
-    ensures moves { IsTrue (O.tells outside.new) → MovesOr M.rules (moment (O.seen outside.old) machine.old service.old) (moment (O.seen outside.new) machine.new service.new) result }
+    ensures moves { MovesOrIf O.tells O.seen O.rest M.rules outside.old machine.old service.old outside.new machine.new service.new result }
     ensures broke { OnErr result (IsTrue (O.broken outside.new)) }
 {
-    if machine.has_work() {
+    if machine.has_work(service.moment) {
         work_once(outside, machine, service);
         return Ok(());
     }
@@ -189,7 +189,7 @@ fn rested_once<O: Sockets + Clock, M: Machine<O>>(
 ) -> Result<(), Fault>
     requires { service.old.turn ≡ Rested }
     ensures kept { IsTrue (O.tells outside.new) → IsTrue (O.tells outside.old) }
-    ensures moves { IsTrue (O.tells outside.new) → MovesOr M.rules (moment (O.seen outside.old) machine.old service.old) (moment (O.seen outside.new) machine.new service.new) result }
+    ensures moves { MovesOrIf O.tells O.seen O.rest M.rules outside.old machine.old service.old outside.new machine.new service.new result }
     ensures broke { OnErr result (IsTrue (O.broken outside.new)) }
 {
     if !service.ready.is_empty() {
@@ -213,7 +213,7 @@ fn time_once<O: Sockets + Clock, M: Machine<O>>(
 )
     requires { service.old.turn ≡ Waked }
     ensures kept { IsTrue (O.tells outside.new) → IsTrue (O.tells outside.old) }
-    ensures moves { IsTrue (O.tells outside.new) → Moves M.rules (moment (O.seen outside.old) machine.old service.old) (moment (O.seen outside.new) machine.new service.new) }
+    ensures moves { MovesIf O.tells O.seen O.rest M.rules outside.old machine.old service.old outside.new machine.new service.new }
 {
     let moment = outside.now();
     if service.moment < moment {
@@ -230,7 +230,7 @@ fn sweep_once<O: Sockets + Clock, M: Machine<O>>(
 ) -> Result<(), Fault>
     requires { service.old.turn ≡ Sweep }
     ensures kept { IsTrue (O.tells outside.new) → IsTrue (O.tells outside.old) }
-    ensures moves { IsTrue (O.tells outside.new) → MovesOr M.rules (moment (O.seen outside.old) machine.old service.old) (moment (O.seen outside.new) machine.new service.new) result }
+    ensures moves { MovesOrIf O.tells O.seen O.rest M.rules outside.old machine.old service.old outside.new machine.new service.new result }
     ensures broke { OnErr result (IsTrue (O.broken outside.new)) }
 {
     match first_that_is_late(machine, service) {
@@ -336,7 +336,7 @@ fn late_once<O: Sockets + Clock, M: Machine<O>>(
     requires turn { service.old.turn ≡ Sweep }
     requires late { first_late M.rules machine.old service.old ≡ Some id }
     ensures kept { IsTrue (O.tells outside.new) → IsTrue (O.tells outside.old) }
-    ensures moves { IsTrue (O.tells outside.new) → Moves M.rules (moment (O.seen outside.old) machine.old service.old) (moment (O.seen outside.new) machine.new service.new) }
+    ensures moves { MovesIf O.tells O.seen O.rest M.rules outside.old machine.old service.old outside.new machine.new service.new }
 {
     outside.note(Act::Late(id));
     let kind = kind_of_client(service, id);
@@ -368,7 +368,7 @@ fn part<O: Sockets + Clock, M: Machine<O>>(
     ensures { Parted M.rules machine.old service.old id machine.new service.new }
 {
     let mut out = Octets::new(service.alloc);
-    if machine.late(id, &mut out).is_err() {
+    if machine.late(service.moment, id, &mut out).is_err() {
         service.turn = Turn::Leaving(id, kind);
         return;
     }
@@ -390,7 +390,7 @@ fn begin_once<O: Sockets + Clock, M: Machine<O>>(
     requires rests { Rests M.rules machine.old service.old }
     requires some { ¬ (service.old.ready.items ≡ []) }
     ensures kept { IsTrue (O.tells outside.new) → IsTrue (O.tells outside.old) }
-    ensures moves { IsTrue (O.tells outside.new) → Moves M.rules (moment (O.seen outside.old) machine.old service.old) (moment (O.seen outside.new) machine.new service.new) }
+    ensures moves { MovesIf O.tells O.seen O.rest M.rules outside.old machine.old service.old outside.new machine.new service.new }
 {
     let Some(wake) = service.ready.pop_front() else {
         return;
@@ -410,7 +410,7 @@ fn rouse_once<O: Sockets + Clock, M: Machine<O>>(
     requires none { service.old.ready.items ≡ [] }
     requires first { first_roused M.rules machine.old service.old ≡ Some id }
     ensures kept { IsTrue (O.tells outside.new) → IsTrue (O.tells outside.old) }
-    ensures moves { IsTrue (O.tells outside.new) → Moves M.rules (moment (O.seen outside.old) machine.old service.old) (moment (O.seen outside.new) machine.new service.new) }
+    ensures moves { MovesIf O.tells O.seen O.rest M.rules outside.old machine.old service.old outside.new machine.new service.new }
 {
     outside.note(Act::Roused(id));
     forget(&mut service.waiting, id);
@@ -438,11 +438,11 @@ fn work_once<O: Sockets + Clock, M: Machine<O>>(
 )
     requires calm { Calm M.rules machine.old service.old }
     requires quiet { Quiet M.rules machine.old service.old }
-    requires work { M.rules.has_work machine.old ≡ true }
+    requires work { M.rules.has_work machine.old service.old.moment ≡ true }
     ensures kept { IsTrue (O.tells outside.new) → IsTrue (O.tells outside.old) }
-    ensures moves { IsTrue (O.tells outside.new) → Moves M.rules (moment (O.seen outside.old) machine.old service.old) (moment (O.seen outside.new) machine.new service.new) }
+    ensures moves { MovesIf O.tells O.seen O.rest M.rules outside.old machine.old service.old outside.new machine.new service.new }
 {
-    machine.work(outside);
+    machine.work(outside, service.moment);
     service.turn = Turn::Rested;
 }
 
@@ -455,7 +455,7 @@ fn wait_once<O: Sockets + Clock, M: Machine<O>>(
     requires quiet { Quiet M.rules machine.old service.old }
     requires may { MayWait M.rules machine.old service.old }
     ensures kept { IsTrue (O.tells outside.new) → IsTrue (O.tells outside.old) }
-    ensures moves { IsTrue (O.tells outside.new) → MovesOr M.rules (moment (O.seen outside.old) machine.old service.old) (moment (O.seen outside.new) machine.new service.new) result }
+    ensures moves { MovesOrIf O.tells O.seen O.rest M.rules outside.old machine.old service.old outside.new machine.new service.new result }
     ensures broke { OnErr result (IsTrue (O.broken outside.new)) }
 {
     outside.wait(machine.patience(), &mut service.ready)?;
@@ -485,7 +485,7 @@ fn door_once<O: Sockets + Clock, M: Machine<O>>(
 )
     requires { service.old.turn ≡ Door kind }
     ensures kept { IsTrue (O.tells outside.new) → IsTrue (O.tells outside.old) }
-    ensures moves { IsTrue (O.tells outside.new) → Moves M.rules (moment (O.seen outside.old) machine.old service.old) (moment (O.seen outside.new) machine.new service.new) }
+    ensures moves { MovesIf O.tells O.seen O.rest M.rules outside.old machine.old service.old outside.new machine.new service.new }
 {
     if count_open(service, kind) >= machine.limit(kind) {
         outside.note(Act::Crowded(kind));
@@ -512,7 +512,7 @@ fn accept_once<O: Sockets + Clock, M: Machine<O>>(
     requires admits { Admits M.rules service.old kind }
     requires next { id ≡ service.old.next }
     ensures kept { IsTrue (O.tells outside.new) → IsTrue (O.tells outside.old) }
-    ensures moves { IsTrue (O.tells outside.new) → Moves M.rules (moment (O.seen outside.old) machine.old service.old) (moment (O.seen outside.new) machine.new service.new) }
+    ensures moves { MovesIf O.tells O.seen O.rest M.rules outside.old machine.old service.old outside.new machine.new service.new }
 {
     match outside.accept(kind, id) {
         Accepted::Came => admit(machine, service, kind, id),
@@ -609,7 +609,7 @@ fn busy_once<O: Sockets + Clock, M: Machine<O>>(
 )
     requires { service.old.turn ≡ Busy id count }
     ensures kept { IsTrue (O.tells outside.new) → IsTrue (O.tells outside.old) }
-    ensures moves { IsTrue (O.tells outside.new) → Moves M.rules (moment (O.seen outside.old) machine.old service.old) (moment (O.seen outside.new) machine.new service.new) }
+    ensures moves { MovesIf O.tells O.seen O.rest M.rules outside.old machine.old service.old outside.new machine.new service.new }
 {
     if count >= MAX_ACTS {
         return again_once(outside, machine, service, id);
@@ -639,7 +639,7 @@ fn send_once<O: Sockets + Clock, M: Machine<O>>(
     requires turn { Tasks M.rules machine.old service.old id count Send }
     requires kind { kind ≡ kind_of (client_of service.old id) }
     ensures kept { IsTrue (O.tells outside.new) → IsTrue (O.tells outside.old) }
-    ensures moves { IsTrue (O.tells outside.new) → Moves M.rules (moment (O.seen outside.old) machine.old service.old) (moment (O.seen outside.new) machine.new service.new) }
+    ensures moves { MovesIf O.tells O.seen O.rest M.rules outside.old machine.old service.old outside.new machine.new service.new }
 {
     let Some(client) = service.clients.get_mut(&id) else {
         return;
@@ -671,7 +671,7 @@ fn hear_once<O: Sockets + Clock, M: Machine<O>>(
     requires turn { Tasks M.rules machine.old service.old id count Hear }
     requires kind { kind ≡ kind_of (client_of service.old id) }
     ensures kept { IsTrue (O.tells outside.new) → IsTrue (O.tells outside.old) }
-    ensures moves { IsTrue (O.tells outside.new) → Moves M.rules (moment (O.seen outside.old) machine.old service.old) (moment (O.seen outside.new) machine.new service.new) }
+    ensures moves { MovesIf O.tells O.seen O.rest M.rules outside.old machine.old service.old outside.new machine.new service.new }
 {
     let mut buffer = [0u8; MAX_PIECE];
     match outside.read(id, &mut buffer) {
@@ -735,7 +735,7 @@ fn step_once<O: Sockets + Clock, M: Machine<O>>(
     requires turn { Tasks M.rules machine.old service.old id count Step }
     requires kind { kind ≡ kind_of (client_of service.old id) }
     ensures kept { IsTrue (O.tells outside.new) → IsTrue (O.tells outside.old) }
-    ensures moves { IsTrue (O.tells outside.new) → Moves M.rules (moment (O.seen outside.old) machine.old service.old) (moment (O.seen outside.new) machine.new service.new) }
+    ensures moves { MovesIf O.tells O.seen O.rest M.rules outside.old machine.old service.old outside.new machine.new service.new }
 {
     let mut out = Octets::new(service.alloc);
     if machine.step(outside, service.moment, id, &mut out).is_ok() {
@@ -757,7 +757,7 @@ fn rest_once<O: Sockets + Clock, M: Machine<O>>(
     requires turn { (count : ℕ) × Tasks M.rules machine.old service.old id count Rest }
     requires kind { kind ≡ kind_of (client_of service.old id) }
     ensures kept { IsTrue (O.tells outside.new) → IsTrue (O.tells outside.old) }
-    ensures moves { IsTrue (O.tells outside.new) → Moves M.rules (moment (O.seen outside.old) machine.old service.old) (moment (O.seen outside.new) machine.new service.new) }
+    ensures moves { MovesIf O.tells O.seen O.rest M.rules outside.old machine.old service.old outside.new machine.new service.new }
 {
     if service.waiting.contains(&id) {
         outside.note(Act::Waits(id));
@@ -783,7 +783,7 @@ fn shut_once<O: Sockets + Clock, M: Machine<O>>(
 )
     requires { Tasks M.rules machine.old service.old id count HangUp }
     ensures kept { IsTrue (O.tells outside.new) → IsTrue (O.tells outside.old) }
-    ensures moves { IsTrue (O.tells outside.new) → Moves M.rules (moment (O.seen outside.old) machine.old service.old) (moment (O.seen outside.new) machine.new service.new) }
+    ensures moves { MovesIf O.tells O.seen O.rest M.rules outside.old machine.old service.old outside.new machine.new service.new }
 {
     let Some(client) = service.clients.get_mut(&id) else {
         return;
@@ -806,7 +806,7 @@ fn drain_once<O: Sockets + Clock, M: Machine<O>>(
     requires turn { Tasks M.rules machine.old service.old id count Drain }
     requires kind { kind ≡ kind_of (client_of service.old id) }
     ensures kept { IsTrue (O.tells outside.new) → IsTrue (O.tells outside.old) }
-    ensures moves { IsTrue (O.tells outside.new) → Moves M.rules (moment (O.seen outside.old) machine.old service.old) (moment (O.seen outside.new) machine.new service.new) }
+    ensures moves { MovesIf O.tells O.seen O.rest M.rules outside.old machine.old service.old outside.new machine.new service.new }
 {
     let Some(client) = service.clients.get_mut(&id) else {
         return;
@@ -857,7 +857,7 @@ fn again_once<O: Sockets + Clock, M: Machine<O>>(
 )
     requires { Yields M.rules machine.old service.old id }
     ensures kept { IsTrue (O.tells outside.new) → IsTrue (O.tells outside.old) }
-    ensures moves { IsTrue (O.tells outside.new) → Moves M.rules (moment (O.seen outside.old) machine.old service.old) (moment (O.seen outside.new) machine.new service.new) }
+    ensures moves { MovesIf O.tells O.seen O.rest M.rules outside.old machine.old service.old outside.new machine.new service.new }
 {
     outside.again(id);
     service.turn = Turn::Free;
@@ -873,7 +873,7 @@ fn full_once<O: Sockets + Clock, M: Machine<O>>(
 )
     requires { service.old.turn ≡ Stuffed id kind }
     ensures kept { IsTrue (O.tells outside.new) → IsTrue (O.tells outside.old) }
-    ensures moves { IsTrue (O.tells outside.new) → Moves M.rules (moment (O.seen outside.old) machine.old service.old) (moment (O.seen outside.new) machine.new service.new) }
+    ensures moves { MovesIf O.tells O.seen O.rest M.rules outside.old machine.old service.old outside.new machine.new service.new }
 {
     outside.note(Act::Full(id));
     service.turn = Turn::Leaving(id, kind);
@@ -889,10 +889,10 @@ fn end_once<O: Sockets + Clock, M: Machine<O>>(
 )
     requires { MayEnd M.rules machine.old service.old id kind }
     ensures kept { IsTrue (O.tells outside.new) → IsTrue (O.tells outside.old) }
-    ensures moves { IsTrue (O.tells outside.new) → Moves M.rules (moment (O.seen outside.old) machine.old service.old) (moment (O.seen outside.new) machine.new service.new) }
+    ensures moves { MovesIf O.tells O.seen O.rest M.rules outside.old machine.old service.old outside.new machine.new service.new }
 {
     outside.close(id);
-    machine.close(id);
+    machine.close(service.moment, id);
     let _ = service.clients.remove(&id);
     forget(&mut service.waiting, id);
     service.turn = Turn::Door(kind);
