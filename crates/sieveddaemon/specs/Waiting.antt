@@ -45,9 +45,9 @@ abbrev pub said_at_once : Answer → List ℕ
 said_at_once (Out progress octets) = if is_failure octets then [] else octets
 said_at_once _ = []
 
-abbrev pub is_refusal : Answer → Bool
-is_refusal (Refused refusal) = true
-is_refusal _ = false
+abbrev pub octets_of : Answer → List ℕ
+octets_of (Out progress octets) = octets
+octets_of _ = []
 
 -- what is said with a note, by what was waited for
 abbrev pub said_with : Waits → Note → List ℕ

@@ -1,5 +1,5 @@
 //! The store, as the daemon sees it.
-ghost use Rattle.std.specs.Prelude.{ℕ, ¬, IsTrue};
+ghost use Rattle.std.specs.Prelude.{ℕ, IsTrue};
 ghost use Rattle.mailstore.specs.Account.{Accounts};
 ghost use Rattle.mailengine.specs.Hosts.{IsGivenUp};
 ghost use Rattle.wires.specs.declared.act.Act.TheVariants.{Noted};

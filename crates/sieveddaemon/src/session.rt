@@ -3,14 +3,15 @@ ghost use Rattle.std.specs.Prelude.{◌≡◌, [], Some, OnOk, OnErr};
 ghost use Rattle.std.specs.Ordering.{nat_cmp};
 ghost use Rattle.std.specs.BTreeMap as tree;
 ghost use Rattle.sieveddaemon.specs.Places.{begun};
+ghost use Rattle.sieveddaemon.specs.Waiting as waiting;
 ghost use Rattle.sieveddaemon.specs.DaemonRules.{Opens, Gives, Closes, LacksFor};
 
 use crate::daemon::Daemon;
 use crate::place::{Place, Waits};
-use crate::step::{forget, is_refusal, lack};
+use crate::step::{forget, is_out, lack};
 use mailengine::{Answer, Event, apply_free};
 use octets::Octets;
-use std::alloc::AllocError;
+use std::alloc::{AllocError, Global};
 use std::collections::BTreeMap;
 
 /// One comes: it is greeted, and its session begins.
@@ -28,11 +29,25 @@ pub fn enter(daemon: &mut Daemon, now: u64, id: u32, out: &mut Octets) -> Result
         return lack(daemon, id);
     }
     match apply_free(&mut daemon.clients, &Event::Open(id)) {
-        Ok(Some(Answer::Out(_, greeting))) => {
-            *out = greeting;
+        Ok(Some(answer)) => {
+            if !is_out(&answer) {
+                return lack(daemon, id);
+            }
+            *out = octets_of(daemon.alloc, answer);
             Ok(())
         }
-        _ => lack(daemon, id),
+        Ok(None) => lack(daemon, id),
+        Err(AllocError) => lack(daemon, id),
+    }
+}
+
+/// What an answer has a client sent.
+fn octets_of(alloc: Global, answer: Answer) -> Octets
+    ensures { result ≡ waiting.octets_of answer }
+{
+    match answer {
+        Answer::Out(_, octets) => octets,
+        _ => Octets::new(alloc),
     }
 }
 
@@ -48,7 +63,7 @@ pub fn hear(daemon: &mut Daemon, now: u64, id: u32, piece: &[u8]) -> Result<(), 
     if !daemon.places.contains_key(&id) {
         return lack(daemon, id);
     }
-    if is_refusal(&daemon.clients.give(id, piece)) {
+    if !is_out(&daemon.clients.give(id, piece)) {
         return lack(daemon, id);
     }
     begin(&mut daemon.places, now, id, begins);

@@ -62,22 +62,12 @@ fn take_answer(now: u64, answer: Answer, out: &mut Octets) -> Waits
     }
 }
 
-/// Whether an answer is one of a session.
-fn is_out(answer: &Answer) -> bool
+/// Whether an answer is one of a session, and no refusal.
+pub fn is_out(answer: &Answer) -> bool
     ensures { result ≡ places.is_out answer.now }
 {
     match answer {
         Answer::Out(_, _) => true,
-        _ => false,
-    }
-}
-
-/// Whether it is a refusal.
-pub fn is_refusal(answer: &Answer) -> bool
-    ensures { result ≡ waiting.is_refusal answer.now }
-{
-    match answer {
-        Answer::Refused(_) => true,
         _ => false,
     }
 }
@@ -218,7 +208,7 @@ fn step_first<O: Desk>(
     match apply_free(&mut daemon.clients, &event) {
         Ok(None) => bring(daemon, outside, now, id, out),
         Ok(Some(answer)) => {
-            if is_refusal(&answer) {
+            if !is_out(&answer) {
                 return lack(daemon, id);
             }
             outside.tell_freed(id, &event, &answer);

@@ -1,0 +1,6 @@
+pub mod EventLemmas
+pub mod HeadlineLemmas
+pub mod LeadLemmas
+pub mod LineLemmas
+pub mod SentLemmas
+pub mod TurnLemmas
