@@ -214,6 +214,10 @@ impl<N: Drop, R: Drop> Sockets for Fake<N, R> {
         self.keep(Act::Again(id));
     }
 
+    fn listen(&mut self, kind: u32) {
+        self.keep(Act::Listened(kind));
+    }
+
     fn note(&mut self, act: Act<N>)
         requires { IsOwn act }
         ensures seen { IsTrue (not self.new.lost) → self.new.acts.items ≡ self.old.acts.items ++ act ∷ [] }

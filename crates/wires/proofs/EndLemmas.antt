@@ -1,7 +1,7 @@
 -- Why connections end: whose turn it is tells the last act.
 use Rattle.std.proofs.Common.{◌≡◌, inl, inr, ℕ, List, Option, Some, None}
 use Rattle.wires.specs.declared.act.Act.{Act}
-use Rattle.wires.specs.declared.act.Act.TheVariants.{Woke, Timed, Late, Began, Roused, Worked, Came, NoneCame, Crowded, InUse, Heard, ReadBlocked, Over, Sent, WriteBlocked, Lost, Noted, Waits, Full, Again, Shut, Dropped, Ended}
+use Rattle.wires.specs.declared.act.Act.TheVariants.{Woke, Timed, Late, Began, Roused, Worked, Came, NoneCame, Crowded, Displaced, Listened, InUse, Heard, ReadBlocked, Over, Sent, WriteBlocked, Lost, Noted, Waits, Full, Again, Shut, Dropped, Ended}
 use Rattle.wires.specs.declared.outcome.Wake.{Wake}
 use Rattle.wires.specs.declared.outcome.Wake.TheVariants.{Knock, Ready}
 use Rattle.wires.specs.declared.service.Client.{Client}
@@ -63,12 +63,14 @@ cause_of rules m k r q s u id kind (Late n) said t leaving = parting rules m k s
 cause_of rules m k r q s u id kind (Woke wakes) said t leaving = let is = t.3 in cc
 cause_of rules m k r q s u id kind (Timed moment) said t leaving = let is = t.2 in cc
 cause_of rules m k r q s u id kind (Began wake) said t leaving = absurd (by_wake id kind wake s u.turn t.2 leaving)
-cause_of rules m k r q s u id kind (Roused n) said t leaving = absurd (by_ready id n kind (client_of s n) u.turn t.4 leaving)
-cause_of rules m k r q s u id kind (Worked note) said t leaving = let is = t.5 in cc
+cause_of rules m k r q s u id kind (Roused n) said t leaving = absurd (by_ready id n kind (client_of s n) u.turn t.3 leaving)
+cause_of rules m k r q s u id kind (Worked note) said t leaving = let is = t.3 in cc
 cause_of rules m k r q s u id kind (Came n door) said t leaving = absurd (opens rules m k s.moment id n kind door said u t.3 leaving)
 cause_of rules m k r q s u id kind (NoneCame door) said t leaving = let is = t.2 in cc
-cause_of rules m k r q s u id kind (Crowded door) said t leaving = let is = t.3 in cc
-cause_of rules m k r q s u id kind (InUse n) said t leaving = let is = t.1.3 in cc
+cause_of rules m k r q s u id kind (Crowded door) said t leaving = let is = t.2 in cc
+cause_of rules m k r q s u id kind (Displaced n) said t leaving = parting rules m k s u id n kind said t.1 leaving
+cause_of rules m k r q s u id kind (Listened door) said t leaving = let is = t.3 in cc
+cause_of rules m k r q s u id kind (InUse n) said t leaving = let is = t.1.stays in cc
 cause_of rules m k r q s u id kind (Heard n piece) said t leaving = absurd (goes (rules.gives m s.moment n piece said k) (rules.lacks m n k) id n kind (kind_of (client_of s n)) t.count said u.turn t.goes leaving)
 cause_of rules m k r q s u id kind (ReadBlocked n) said t leaving = absurd (blocked rules m s id n kind u.turn t.1 leaving)
 cause_of rules m k r q s u id kind (Sent n octets) said t leaving = let is = t.1.2 in cc

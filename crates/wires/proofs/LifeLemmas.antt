@@ -39,7 +39,7 @@ pub then_none : {M N R : Type 0} (rules : Rules M N R) (m mid n : Moment M N R) 
 then_none rules m mid n lives is = subst (λ k. Lives rules m k) (sym is) lives
 
 -- some first moves, and the others
-cut : {M N R : Type 0} (rules : Rules M N R) (m : Moment M N R) (some rest : List (Move N)) (n : Moment M N R) → Passes rules m (some ++ rest) n → (mid : Moment M N R) × Passes rules m some mid × Passes rules mid rest n
+pub cut : {M N R : Type 0} (rules : Rules M N R) (m : Moment M N R) (some rest : List (Move N)) (n : Moment M N R) → Passes rules m (some ++ rest) n → (mid : Moment M N R) × Passes rules m some mid × Passes rules mid rest n
 cut rules m [] rest n passes = (m, refl, passes)
 cut rules m (move ∷ some) rest n passes =
     let more = cut rules passes.0 some rest n passes.4 in
@@ -47,13 +47,13 @@ cut rules m (move ∷ some) rest n passes =
 
 -- ---- what is true of one
 
-talks_of : {M N R : Type 0} (rules : Rules M N R) (m n : Moment M N R) (one : Moves rules m n) (move : Move N) (id : ℕ) → one.act ≡ move.act → one.said ≡ move.said
+pub talks_of : {M N R : Type 0} (rules : Rules M N R) (m n : Moment M N R) (one : Moves rules m n) (move : Move N) (id : ℕ) → one.act ≡ move.act → one.said ≡ move.said
     → Talks m.service.moment id (client_of m.service id) move.act move.said (client_of n.service id)
 talks_of rules m n one move id act said =
     subst (λ w. Talks m.service.moment id (client_of m.service id) move.act w (client_of n.service id)) said
     (subst (λ a. Talks m.service.moment id (client_of m.service id) a one.said (client_of n.service id)) act (one.talks id))
 
-turns_of : {M N R : Type 0} (rules : Rules M N R) (m n : Moment M N R) (one : Moves rules m n) (move : Move N) → one.act ≡ move.act → one.said ≡ move.said
+pub turns_of : {M N R : Type 0} (rules : Rules M N R) (m n : Moment M N R) (one : Moves rules m n) (move : Move N) → one.act ≡ move.act → one.said ≡ move.said
     → Turns rules m.machine m.rest m.service move.act move.said n.machine n.rest n.service
 turns_of rules m n one move act said =
     subst (λ w. Turns rules m.machine m.rest m.service move.act w n.machine n.rest n.service) said
@@ -67,7 +67,7 @@ agrees_on rules m (move ∷ moves) n id t passes agrees =
     agrees_on rules passes.0 moves n id (tell id t move.act move.said) passes.4
     (agrees_act rules m.machine passes.0.machine m.rest passes.0.rest m.service passes.0.service id t move.act move.said agrees (talks_of rules m passes.0 passes.1 move id passes.2 passes.3) (turns_of rules m passes.0 passes.1 move passes.2 passes.3))
 
-nobody : (s : Service) → s.clients.entries ≡ [] → (id : ℕ) → client_of s id ≡ None
+pub nobody : (s : Service) → s.clients.entries ≡ [] → (id : ℕ) → client_of s id ≡ None
 nobody s none id = ap (λ es. lookup (tree.is_at (nat_cmp id)) es) none
 
 agrees_all : {M N R : Type 0} (rules : Rules M N R) (m : Moment M N R) (moves : List (Move N)) (n : Moment M N R) (id : ℕ) → Fresh m.service → Passes rules m moves n → Agrees (told_of id moves) (client_of n.service id)

@@ -5,7 +5,7 @@ use Rattle.std.specs.declared.cmp.Ordering.TheVariants.{Less, Equal, Greater}
 use Rattle.std.specs.Ordering.{nat_cmp, is_eq}
 use Rattle.std.specs.FinMap.{nat_cmp-IsAntisymmetric}
 use Rattle.wires.specs.declared.act.Act.{Act}
-use Rattle.wires.specs.declared.act.Act.TheVariants.{Late, Came, Heard, Sent, Noted, Shut, Dropped, Ended}
+use Rattle.wires.specs.declared.act.Act.TheVariants.{Late, Came, Displaced, Heard, Sent, Noted, Shut, Dropped, Ended}
 use Rattle.wires.specs.declared.machine.Want.{Want}
 use Rattle.wires.specs.declared.machine.Want.TheVariants as want
 use Rattle.wires.specs.declared.service.Client.{Client}
@@ -181,6 +181,9 @@ agrees_act rules m k r q s u id t (Late n) said agrees talks turns =
 agrees_act rules m k r q s u id t (Sent n octets) said agrees talks turns =
     at_act (same n id) t (record t { sent = t.sent ++ octets }) (client_of s id) (client_of u id) (Sends s.moment octets (client_of s id) (client_of u id))
     (λ b h. sends t s.moment octets (client_of s id) (client_of u id) agrees h) agrees talks
+agrees_act rules m k r q s u id t (Displaced n) said agrees talks turns =
+    at_act (same n id) t (record t { said = t.said ++ said }) (client_of s id) (client_of u id) (OrNothing (Parts s.moment said (client_of s id) (client_of u id)) said (client_of s id) (client_of u id))
+    (λ b h. lates t s.moment said (client_of s id) (client_of u id) agrees h) agrees talks
 agrees_act rules m k r q s u id t (Shut n) said agrees talks turns =
     at_act (same n id) t (record t { shut = true }) (client_of s id) (client_of u id) (Shuts s.moment (client_of s id) (client_of u id))
     (λ b h. shuts t s.moment (client_of s id) (client_of u id) agrees h) agrees talks
@@ -218,6 +221,7 @@ untouched now id o p (Came n kind) said talks is = subst (λ b. At b (Comes now 
 untouched now id o p (Heard n piece) said talks is = subst (λ b. At b (OrNothing (Answers now said o p) said o p) (p ≡ o)) is talks
 untouched now id o p (Noted n note) said talks is = subst (λ b. At b (Answers now said o p) (p ≡ o)) is talks
 untouched now id o p (Late n) said talks is = subst (λ b. At b (OrNothing (Parts now said o p) said o p) (p ≡ o)) is talks
+untouched now id o p (Displaced n) said talks is = subst (λ b. At b (OrNothing (Parts now said o p) said o p) (p ≡ o)) is talks
 untouched now id o p (Sent n octets) said talks is = subst (λ b. At b (Sends now octets o p) (p ≡ o)) is talks
 untouched now id o p (Shut n) said talks is = subst (λ b. At b (Shuts now o p) (p ≡ o)) is talks
 untouched now id o p (Dropped n count) said talks is = subst (λ b. At b (Drops count o p) (p ≡ o)) is talks

@@ -1,7 +1,8 @@
 -- What is true of a life: of all acts, and of each front of them.
-use Rattle.std.specs.Prelude.{◌≡◌, ◌⊎◌, ℕ, Bool, true, false, cond, List, [], ◌∷◌, ◌++◌, IsTrue}
+use Rattle.std.specs.Prelude.{◌≡◌, ◌⊎◌, ℕ, Bool, true, false, cond, List, [], ◌∷◌, ◌++◌, length, ◌≤◌, Option, Some, None, IsTrue}
+use Rattle.std.specs.List.{list_any}
 use Rattle.wires.specs.declared.act.Act.{Act}
-use Rattle.wires.specs.declared.act.Act.TheVariants.{Late, Came, Heard, Over, Sent, Lost, Noted, Full, Shut, Dropped, Ended}
+use Rattle.wires.specs.declared.act.Act.TheVariants.{Late, Came, Displaced, Heard, Over, Sent, Lost, Noted, Full, Shut, Dropped, Ended}
 use Rattle.wires.specs.declared.service.Service.{Service}
 use Rattle.wires.specs.declared.turn.Turn.TheVariants.{Free}
 use Rattle.wires.specs.Moves.{Moment, Moves, at}
@@ -55,6 +56,7 @@ tell id t (Came n kind) said = cond (same n id) (record { said = said; sent = []
 tell id t (Heard n piece) said = cond (same n id) (record t { said = t.said ++ said }) t
 tell id t (Noted n note) said = cond (same n id) (record t { said = t.said ++ said }) t
 tell id t (Late n) said = cond (same n id) (record t { said = t.said ++ said }) t
+tell id t (Displaced n) said = cond (same n id) (record t { said = t.said ++ said }) t
 tell id t (Sent n octets) said = cond (same n id) (record t { sent = t.sent ++ octets }) t
 tell id t (Shut n) said = cond (same n id) (record t { shut = true }) t
 tell id t _ said = t
@@ -83,6 +85,7 @@ concerns id (Came n kind) = same n id
 concerns id (Heard n piece) = same n id
 concerns id (Noted n note) = same n id
 concerns id (Late n) = same n id
+concerns id (Displaced n) = same n id
 concerns id (Sent n octets) = same n id
 concerns id (Shut n) = same n id
 concerns id (Dropped n count) = same n id
@@ -99,12 +102,13 @@ Apart {M = M} {N = N} {R = R} rules =
     (m n : Moment M N R) (moves : List (Move N)) → Passes rules m moves n → (id : ℕ) → Untouched id moves
     → client_of n.service id ≡ client_of m.service id
 
--- its peer sends no more, a read or a write failed, memory was lacking, or it was late
+-- its peer sends no more, a read or a write failed, memory was lacking, it was late, or it made room for another
 abbrev pub IsCause : {N : Type 0} → ℕ → Act N → Type 0
 IsCause id (Over n) = n ≡ id
 IsCause id (Lost n) = n ≡ id
 IsCause id (Full n) = n ≡ id
 IsCause id (Late n) = n ≡ id
+IsCause id (Displaced n) = n ≡ id
 IsCause id _ = ⊥
 
 -- the last of some moves is a cause
@@ -124,3 +128,30 @@ abbrev pub EndsRight : {M N R : Type 0} → Rules M N R → Type 0
 EndsRight {M = M} {N = N} {R = R} rules =
     (m n : Moment M N R) (before after : List (Move N)) (end : Move N) (id : ℕ) → Fresh m.service → Passes rules m (before ++ end ∷ after) n
     → end.act ≡ Ended id → CausedBy id before ⊎ Farewell (told_of id before)
+
+-- ---- how many are open
+
+-- the kind of a connection where it is open: it came, and hasn't ended since
+abbrev pub kind_by : {N : Type 0} → ℕ → Option ℕ → Act N → Option ℕ
+kind_by id o (Came n kind) = cond (same n id) (Some kind) o
+kind_by id o (Ended n) = cond (same n id) None o
+kind_by id o _ = o
+
+abbrev pub kind_on : {N : Type 0} → ℕ → Option ℕ → List (Move N) → Option ℕ
+kind_on id o [] = o
+kind_on id o (move ∷ moves) = kind_on id (kind_by id o move.act) moves
+
+-- numbers that differ, of each of which this is true
+abbrev pub Distinct : (ℕ → Type 0) → List ℕ → Type 0
+Distinct Is [] = Unit {0}
+Distinct Is (id ∷ ids) = Is id × (list_any (λ other. same other id) ids ≡ false) × Distinct Is ids
+
+-- connections of a kind that are open behind some moves
+abbrev pub AreOpen : {N : Type 0} → ℕ → List (Move N) → List ℕ → Type 0
+AreOpen kind moves ids = Distinct (λ id. kind_on id None moves ≡ Some kind) ids
+
+-- at each front of the acts no more connections of a kind are open than the machine's limit says
+abbrev pub Bounded : {M N R : Type 0} → Rules M N R → Type 0
+Bounded {M = M} {N = N} {R = R} rules =
+    (m n : Moment M N R) (some rest : List (Move N)) → Fresh m.service → Passes rules m (some ++ rest) n
+    → (kind : ℕ) (ids : List ℕ) → AreOpen kind some ids → length ids ≤ rules.limit kind

@@ -69,5 +69,6 @@ at seen rest o m s = moment (seen o) (rest o) m s
 abbrev pub MovesIf : {O M N R : Type 0} → (O → Bool) → (O → List (Act N)) → (O → R) → Rules M N R → O → M → Service → O → M → Service → Type 0
 MovesIf tells seen rest rules o m s p n t = IsTrue (tells p) → Moves rules (at seen rest o m s) (at seen rest p n t)
 
-abbrev pub MovesOrIf : {O M N R T F : Type 0} → (O → Bool) → (O → List (Act N)) → (O → R) → Rules M N R → O → M → Service → O → M → Service → Result T F → Type 0
+abbrev pub MovesOrIf : {O M N R T F : Type 0} → (O → Bool) → (O → List (Act N)) → (O → R) → Rules M N R
+    → O → M → Service → O → M → Service → Result T F → Type 0
 MovesOrIf tells seen rest rules o m s p n t result = IsTrue (tells p) → MovesOr rules (at seen rest o m s) (at seen rest p n t) result

@@ -1,16 +1,17 @@
 -- What a machine makes of what happens.
-use Rattle.std.specs.Prelude.{◌≡◌, ℕ, Bool, List, [], ◌∷◌, ◌++◌, IsTrue}
+use Rattle.std.specs.Prelude.{◌≡◌, ℕ, Bool, List, [], ◌∷◌, ◌++◌, Option, IsTrue}
 use Rattle.wires.specs.declared.act.Act.{Act}
 use Rattle.wires.specs.declared.act.Act.TheVariants.{Noted, Worked}
 use Rattle.wires.specs.declared.machine.Want.{Want}
 
 -- of a machine M that notes N and acts on R, all of the outside that is neither sockets nor clock: how many connections of a
--- kind may be open; of a connection by its number what it wants, and the moment by which it is late; whether it has work of its
--- own at a moment. Then, for each happening (at a moment, where one stands first), what it says to that connection and the
--- machine after it; a step and work of its own may change R. A rule may allow more than one. `lates`: it was late, and ends.
--- `lacks`: memory was lacking for it
+-- kind may be open, and which of them makes room for another where that many are; of a connection by its number what it wants,
+-- and the moment by which it is late; whether it has work of its own at a moment. Then, for each happening (at a moment, where
+-- one stands first), what it says to that connection and the machine after it; a step and work of its own may change R. A rule
+-- may allow more than one. `lates`: it was late or made room, and ends. `lacks`: memory was lacking for it
 pub record Rules (M N R : Type 0) : Type 1 where
   pub limit : ℕ → ℕ
+  pub displaced : M → ℕ → Option ℕ
   pub wants : M → ℕ → Want
   pub has_work : M → ℕ → Bool
   pub deadline : M → ℕ → ℕ
@@ -23,7 +24,8 @@ pub record Rules (M N R : Type 0) : Type 1 where
   pub closes : M → ℕ → ℕ → M → Type 0
 
 -- a machine went on with a connection, and noted it in one act
-pub record Steps {M N R : Type 0} (rules : Rules M N R) (seen : List (Act N)) (m : M) (r : R) (now id : ℕ) (said : List ℕ) (later : List (Act N)) (n : M) (q : R) : Type 0 where
+pub record Steps {M N R : Type 0} (rules : Rules M N R) (seen : List (Act N)) (m : M) (r : R) (now id : ℕ) (said : List ℕ)
+    (later : List (Act N)) (n : M) (q : R) : Type 0 where
   pub note : N
   pub grows : later ≡ seen ++ Noted id note ∷ []
   pub steps : rules.steps m r now id note said n q

@@ -33,6 +33,10 @@ pub trait Machine<O: Outside> {
     fn limit(&self, kind: u32) -> usize
         ensures { result ≡ rules.limit kind };
 
+    /// Which connection of that kind makes room for one that knocks, where so many are open.
+    fn displaced(&self, kind: u32) -> Option<u32>
+        ensures { result ≡ rules.displaced self.now kind };
+
     /// What it wants of that connection, once all that it said is sent.
     fn wants(&self, id: u32) -> Want
         ensures { result ≡ rules.wants self.now id };
@@ -86,7 +90,7 @@ pub trait Machine<O: Outside> {
         ensures err { OnErr result (IdlesIf O.tells O.seen O.rest outside.old outside.new) }
         ensures lacks { OnErr result (rules.lacks self.old id self.new) };
 
-    /// A connection is late, and ends: what is said to it last.
+    /// A connection is late or makes room for another, and ends: what is said to it last.
     ///
     /// # Errors
     ///

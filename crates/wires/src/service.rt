@@ -2,8 +2,9 @@
 ghost use Rattle.std.specs.Prelude.{◌≡◌, ◌==◌, ℕ, ◌<◌, [], not, filter, find, true, Some, None, IsTrue, IsSome, OnErr};
 ghost use Rattle.std.specs.BTreeMap as tree;
 ghost use Rattle.wires.specs.Moves.{MovesIf, MovesOrIf};
-ghost use Rattle.wires.specs.Talk.{client_of, kind_of, is_quiet, is_late, task, task_by, task_wanted, drained};
-ghost use Rattle.wires.specs.Turns.{Tasks, Enters, Answered, Given, Parted, Yields, MayEnd, Admits, MayWait, Calm, Rests, Quiet, open_of, turn_of, first_late, first_roused, goes_on};
+ghost use Rattle.wires.specs.Talk.{client_of, kind_of, is_open_by, is_quiet, is_late, task, task_by, task_wanted, drained};
+ghost use Rattle.wires.specs.Turns.{Tasks, Enters, Answered, Given, Parted, Yields, MayEnd, Admits, NoPlace, MayWait, Calm, Rests, Quiet};
+ghost use Rattle.wires.specs.Turns.{open_of, is_open_of, makes_room, turn_of, first_late, first_roused, goes_on};
 ghost use Rattle.wires.specs.declared.turn.Turn.TheVariants.{Free, Rested, Waked, Sweep, Door, Busy, Stuffed};
 ghost use Rattle.wires.specs.declared.turn.Task.TheVariants.{Send, Hear, Step, Rest, HangUp, Drain};
 
@@ -117,8 +118,8 @@ pub fn act<O: Sockets + Clock, M: Machine<O>>(
             Ok(())
         }
         Turn::Sweep => sweep_once(outside, machine, service),
-        Turn::Door(kind) => {
-            door_once(outside, machine, service, kind);
+        Turn::Door(kind, knocked) => {
+            door_once(outside, machine, service, kind, knocked);
             Ok(())
         }
         Turn::Busy(id, count) => {
@@ -326,7 +327,7 @@ fn is_to_go_on(task: Task) -> bool
     }
 }
 
-/// Says that a connection is late: to one that reads the machine says something last, any other is closed.
+/// Says that a connection is late.
 fn late_once<O: Sockets + Clock, M: Machine<O>>(
     outside: &mut O,
     machine: &mut M,
@@ -339,6 +340,13 @@ fn late_once<O: Sockets + Clock, M: Machine<O>>(
     ensures moves { MovesIf O.tells O.seen O.rest M.rules outside.old machine.old service.old outside.new machine.new service.new }
 {
     outside.note(Act::Late(id));
+    dismiss(machine, service, id);
+}
+
+/// To one to which all is sent the machine says something last, any other is closed.
+fn dismiss<O: Sockets + Clock, M: Machine<O>>(machine: &mut M, service: &mut Service, id: u32)
+    ensures { Parted M.rules machine.old service.old id machine.new service.new }
+{
     let kind = kind_of_client(service, id);
     if is_quiet_at(service, id) {
         part(machine, service, id, kind)
@@ -422,7 +430,7 @@ fn turn_of_wake(service: &Service, wake: Wake) -> Turn
     ensures { result ≡ turn_of wake service.now }
 {
     match wake {
-        Wake::Knock(kind) => Turn::Door(kind),
+        Wake::Knock(kind) => Turn::Door(kind, true),
         Wake::Ready(id) => match service.clients.get(&id) {
             Some(_) => Turn::Busy(id, 0),
             None => Turn::Free,
@@ -482,15 +490,14 @@ fn door_once<O: Sockets + Clock, M: Machine<O>>(
     machine: &mut M,
     service: &mut Service,
     kind: u32,
+    knocked: bool,
 )
-    requires { service.old.turn ≡ Door kind }
+    requires { service.old.turn ≡ Door kind knocked }
     ensures kept { IsTrue (O.tells outside.new) → IsTrue (O.tells outside.old) }
     ensures moves { MovesIf O.tells O.seen O.rest M.rules outside.old machine.old service.old outside.new machine.new service.new }
 {
     if count_open(service, kind) >= machine.limit(kind) {
-        outside.note(Act::Crowded(kind));
-        service.turn = Turn::Free;
-        return;
+        return crowd_once(outside, machine, service, kind, knocked);
     }
     let id = service.next;
     if service.clients.contains_key(&id) {
@@ -499,6 +506,85 @@ fn door_once<O: Sockets + Clock, M: Machine<O>>(
         return;
     }
     accept_once(outside, machine, service, kind, id)
+}
+
+/// Where there is no place: has one make room for one that knocks. Where one could, but nobody has knocked since the last was
+/// accepted, it asks whether somebody does.
+fn crowd_once<O: Sockets + Clock, M: Machine<O>>(
+    outside: &mut O,
+    machine: &mut M,
+    service: &mut Service,
+    kind: u32,
+    knocked: bool,
+)
+    requires { NoPlace M.rules service.old kind knocked }
+    ensures kept { IsTrue (O.tells outside.new) → IsTrue (O.tells outside.old) }
+    ensures moves { MovesIf O.tells O.seen O.rest M.rules outside.old machine.old service.old outside.new machine.new service.new }
+{
+    let Some(id) = find_room(machine, service, kind) else {
+        outside.note(Act::Crowded(kind));
+        service.turn = Turn::Free;
+        return;
+    };
+    if knocked {
+        return displace_once(outside, machine, service, kind, id);
+    }
+    outside.listen(kind);
+    service.turn = Turn::Free;
+}
+
+/// Has one make room.
+fn displace_once<O: Sockets + Clock, M: Machine<O>>(
+    outside: &mut O,
+    machine: &mut M,
+    service: &mut Service,
+    kind: u32,
+    id: u32,
+)
+    requires none { NoPlace M.rules service.old kind true }
+    requires one { makes_room M.rules machine.old service.old kind ≡ Some id }
+    ensures kept { IsTrue (O.tells outside.new) → IsTrue (O.tells outside.old) }
+    ensures moves { MovesIf O.tells O.seen O.rest M.rules outside.old machine.old service.old outside.new machine.new service.new }
+{
+    outside.note(Act::Displaced(id));
+    dismiss(machine, service, id);
+}
+
+/// Who makes room for another of that kind.
+fn find_room<O: Sockets + Clock, M: Machine<O>>(
+    machine: &M,
+    service: &Service,
+    kind: u32,
+) -> Option<u32>
+    ensures { result ≡ makes_room M.rules machine.now service.now kind }
+{
+    let id = machine.displaced(kind)?;
+    if is_open_at(service, id, kind) {
+        Some(id)
+    } else {
+        None
+    }
+}
+
+/// Whether it is open, and of that kind.
+fn is_open_at(service: &Service, id: u32, kind: u32) -> bool
+    ensures { result ≡ is_open_of kind (client_of service.now id) }
+{
+    match service.clients.get(&id) {
+        Some(client) => is_client_open(client) && client.kind == kind,
+        None => false,
+    }
+}
+
+/// Whether it is the machine's.
+fn is_client_open(client: &Client) -> bool
+    ensures { result ≡ is_open_by client.now.phase }
+{
+    match client.phase {
+        Phase::Open => true,
+        Phase::Closing => false,
+        Phase::Shut(_) => false,
+    }
 }
 
 /// Accepts one, under the next number.
@@ -546,7 +632,7 @@ fn admit<O: Sockets + Clock, M: Machine<O>>(
         until: service.moment.wrapping_add(MAX_UNSENT),
     };
     if service.clients.insert(id, client).is_ok() {
-        service.turn = Turn::Door(kind);
+        service.turn = Turn::Door(kind, false);
     } else {
         service.turn = Turn::Stuffed(id, kind);
     }
@@ -895,5 +981,5 @@ fn end_once<O: Sockets + Clock, M: Machine<O>>(
     machine.close(service.moment, id);
     let _ = service.clients.remove(&id);
     forget(&mut service.waiting, id);
-    service.turn = Turn::Door(kind);
+    service.turn = Turn::Door(kind, false);
 }
