@@ -1,5 +1,5 @@
 -- Events of sessions: what is left as it was, and what is answered whatever accounts there are.
-use Rattle.std.proofs.Common.{◌≡◌, ◌⊎◌, inl, inr, ℕ, Bool, true, false, List, [], ◌∷◌, ◌++◌, Option, Some, None, option_map, Result, Ok, Err, IfOk, IfSome, IfNone, OnErr, refl, sym, ◌∙◌, ap, subst, append_assoc}
+use Rattle.std.proofs.Common.{◌≡◌, ◌⊎◌, inl, inr, ℕ, Bool, true, false, cond, List, [], ◌∷◌, ◌++◌, Option, Some, None, option_map, is_some, Result, Ok, Err, IfOk, IfSome, IfNone, OnOk, OnErr, refl, sym, ◌∙◌, ap, subst, append_assoc}
 use Rattle.std.specs.declared.alloc.AllocError.{AllocError}
 use Rattle.std.specs.Cmp.{nat_cmp_total}
 use Rattle.std.specs.FinMap.{FinMap, get, insert, remove, same_map, empty, get-empty, nat_cmp-IsAntisymmetric}
@@ -14,7 +14,12 @@ use Rattle.sessions.specs.Steps.{progress_of}
 use Rattle.mailengine.specs.Hosts.{Kept, HasClients, KeepsClients, IsSessionEvent, AsksStore, IsGivenUp, clients_of}
 use Rattle.mailengine.proofs.HostLemmas.{clients_are}
 use Rattle.sessions.specs.declared.progress.Progress.{Progress}
+use Rattle.wires.specs.Talk.{same}
+use Rattle.mailengine.specs.declared.clients.Clients.{Clients as CodeClients}
+use Rattle.sieveddaemon.specs.DaemonRules.{Places, place_at}
 use Rattle.sieveddaemon.specs.Places.{is_out}
+use Rattle.sieveddaemon.specs.declared.daemon.Daemon.{Daemon}
+use Rattle.sieveddaemon.specs.declared.place.Place.{Place}
 use Rattle.sieveddaemon.specs.Waiting.{greeting, octets_of}
 use Rattle.mailengine.specs.World.{World, Clients, Next, Runs, Happens, Opens, InSession, Becomes, Steps, IsRefused, MayRefuse, if_open, is_closed, with_session}
 use Rattle.mailengine.specs.declared.answer.Answer.{Answer}
@@ -134,3 +139,28 @@ pub closed : (s : ℕ) (result : Result (Option Answer) AllocError) (before afte
 closed s (Ok (Some answer)) before after made asks lacks = (answer, made)
 closed s (Ok None) before after made asks lacks = absurd asks
 closed s (Err fault) before after made asks lacks = absurd lacks
+
+-- ---- parts of what is known of connections
+
+pub err_any : {X E P : Type 0} → (r : Result X E) → P → OnErr r P
+err_any (Ok x) p = tt
+err_any (Err e) p = p
+
+-- a change, and then another, of one connection
+twice_by : (b : Bool) (one two o : Option Place) → cond b two (cond b one o) ≡ cond b two o
+twice_by true one two o = refl
+twice_by false one two o = refl
+
+pub known_twice : (d mid e : Daemon) (id : ℕ) (one two : Option Place) → Places d id one mid → Places mid id two e → Places d id two e
+known_twice d mid e id one two first then = λ k. then k ∙ ap (λ o. cond (same id k) two o) (first k) ∙ twice_by (same id k) one two (place_at d k)
+
+pub keeps_same : (a : Kept) (b c : CodeClients) → KeepsClients a b.sessions → c ≡ b → KeepsClients a c.sessions
+keeps_same a b c keeps is = subst (λ (x : CodeClients). KeepsClients a x.sessions) (sym is) keeps
+
+pub some_there : {X : Type 0} → (o : Option X) → true ≡ is_some o → (x : X) × (o ≡ Some x)
+some_there None is = absurd (let never : true ≡ false = is in cc)
+some_there (Some x) is = (x, refl)
+
+pub ok_then : {X E P Q : Type 0} → (r : Result X E) → OnOk r P → (P → Q) → OnOk r Q
+ok_then (Ok x) p f = f p
+ok_then (Err e) p f = tt

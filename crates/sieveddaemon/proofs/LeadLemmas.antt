@@ -7,7 +7,7 @@ use Rattle.mailengine.specs.declared.answer.Answer.{Answer}
 use Rattle.mailengine.specs.declared.event.Event.{Event}
 use Rattle.mailengine.specs.declared.event.Event.TheVariants.{Open, Give, Close}
 use Rattle.wires.specs.declared.act.Act.{Act}
-use Rattle.wires.specs.declared.act.Act.TheVariants.{Woke, Began, Timed, Late, Waits, Roused, Worked, Came, NoneCame, Crowded, InUse, Heard, ReadBlocked, Over, Sent, WriteBlocked, Lost, Noted, Full, Again, Shut, Dropped, Ended}
+use Rattle.wires.specs.declared.act.Act.TheVariants.{Woke, Began, Timed, Late, Waits, Roused, Worked, Came, NoneCame, Crowded, Displaced, Listened, InUse, Heard, ReadBlocked, Over, Sent, WriteBlocked, Lost, Noted, Full, Again, Shut, Dropped, Ended}
 use Rattle.wires.specs.declared.service.Service.{Service}
 use Rattle.wires.specs.Moves.{Leaves}
 use Rattle.wires.specs.Turns.{Turns, Opens as Enters, Goes, Lacks, Parting}
@@ -102,6 +102,8 @@ module _ {R : Type 0} (shows : R → Accounts → Type 0) (d e : Daemon) (r q : 
     leads (Noted id note) said w turns left is = noted note w is turns.0.makes
     leads (Worked note) said w turns left is = (w, refl, record { shown = turns.0.0 w.accounts is.shown; sessions = rested s.moment note turns.0.1 w.sessions is.sessions })
     leads (Late id) said w turns left is = (w, refl, same w is (late id said turns.2) left)
+    leads (Displaced id) said w turns left is = (w, refl, same w is (late id said turns.1) left)
+    leads (Listened kind) said w turns left is = (w, refl, same w is (kept turns.0.0) left)
     leads (Full id) said w turns left is = (w, refl, same w is (lacked id turns.1) left)
     leads (Woke wakes) said w turns left is = (w, refl, same w is (kept turns.0.0) left)
     leads (Timed moment) said w turns left is = (w, refl, same w is (kept turns.0.0) left)

@@ -3,4 +3,5 @@ pub mod HeadlineLemmas
 pub mod LeadLemmas
 pub mod LineLemmas
 pub mod SentLemmas
+pub mod StepLemmas
 pub mod TurnLemmas

@@ -6,7 +6,7 @@ use Rattle.std.specs.BTreeMap as tree
 use Rattle.mailstore.specs.Account.{Accounts}
 use Rattle.sessions.specs.Clients.{Client as SessionClient}
 use Rattle.wires.specs.declared.act.Act.{Act}
-use Rattle.wires.specs.declared.act.Act.TheVariants.{Woke, Began, Timed, Late, Waits, Roused, Worked, Came, NoneCame, Crowded, InUse, Heard, ReadBlocked, Over, Sent, WriteBlocked, Lost, Noted, Full, Again, Shut, Dropped, Ended}
+use Rattle.wires.specs.declared.act.Act.TheVariants.{Woke, Began, Timed, Late, Waits, Roused, Worked, Came, NoneCame, Crowded, Displaced, Listened, InUse, Heard, ReadBlocked, Over, Sent, WriteBlocked, Lost, Noted, Full, Again, Shut, Dropped, Ended}
 use Rattle.wires.specs.declared.machine.Want.{Want}
 use Rattle.wires.specs.declared.machine.Want.TheVariants as want
 use Rattle.wires.specs.declared.service.Client.{Client}
@@ -80,7 +80,7 @@ module _ {R : Type 0} (shows : R → Accounts → Type 0) (d e : Daemon) (r q : 
   unchanged is b k keeps tied = subst (λ (x : Daemon). TiedBy (place_at x id) (cond b k l).waits) (sym is) (tied_kept b (place_at d id) l k keeps tied)
 
   gone : (n : ℕ) → LacksFor d n e → (k : Line) → Tied d id l → Tied e id (cond (same n id) k l)
-  gone n lacks k tied = tied_gone (same n id) (place_at d id) (place_at e id) l k (lacks.place.places.0 id) tied
+  gone n lacks k tied = tied_gone (same n id) (place_at d id) (place_at e id) l k (lacks.place.places id) tied
 
   -- behind each act
   module _ (tied : Tied d id l) where
@@ -88,11 +88,11 @@ module _ {R : Type 0} (shows : R → Accounts → Type 0) (d e : Daemon) (r q : 
     still is = subst (λ (x : Daemon). Tied x id l) (sym is) tied
 
     came : (n kind : ℕ) (said : List ℕ) → Enters (daemon_rules shows) d s.moment n kind said e u → Tied e id (cond (same n id) new_line l)
-    came n kind said (inl o) = tied_put (same n id) (place_at d id) (place_at e id) (new_place s.moment) l new_line (o.0.place.places.0 id) (λ is. refl) tied
+    came n kind said (inl o) = tied_put (same n id) (place_at d id) (place_at e id) (new_place s.moment) l new_line (o.0.place.places id) (λ is. refl) tied
     came n kind said (inr o) = by o.2
       where
         by : Opens d s.moment n said e ⊎ LacksFor d n e → Tied e id (cond (same n id) new_line l)
-        by (inl opens) = tied_put (same n id) (place_at d id) (place_at e id) (new_place s.moment) l new_line (opens.place.places.0 id) (λ is. refl) tied
+        by (inl opens) = tied_put (same n id) (place_at d id) (place_at e id) (new_place s.moment) l new_line (opens.place.places id) (λ is. refl) tied
         by (inr lacks) = gone n lacks new_line tied
 
     -- what the line of n waits for, where it is ours
@@ -106,12 +106,12 @@ module _ {R : Type 0} (shows : R → Accounts → Type 0) (d e : Daemon) (r q : 
     heard : (n count : ℕ) (piece said : List ℕ) → Went (Gives d s.moment n piece said e) (LacksFor d n e) n (kind_of (client_of s n)) count said u.turn → Tied e id l
     heard n count piece said (inl g) =
         subst (λ k. Tied e id k) (same_line (same n id))
-        (tied_put (same n id) (place_at d id) (place_at e id) (place_given s.moment g.0.before g.0.client) l l (g.0.place.places.0 id) (λ is. ours n g.0.before g.0.was is) tied)
+        (tied_put (same n id) (place_at d id) (place_at e id) (place_given s.moment g.0.before g.0.client) l l (g.0.place.places id) (λ is. ours n g.0.before g.0.was is) tied)
     heard n count piece said (inr g) = subst (λ k. Tied e id k) (same_line (same n id)) (gone n g.0 l tied)
 
     goes : (n : ℕ) (note : Note) (said : List ℕ) → Goes shows d r s.moment n note said e q → Tied e id (cond (same n id) (noted s.moment l note) l)
     goes n note said g =
-        tied_put (same n id) (place_at d id) (place_at e id) (place_behind s.moment g.before note (client_at e.clients.sessions n)) l (noted s.moment l note) (g.place.0 id)
+        tied_put (same n id) (place_at d id) (place_at e id) (place_behind s.moment g.before note (client_at e.clients.sessions n)) l (noted s.moment l note) (g.place id)
         (λ is. ap (λ w. waits_behind s.moment w note) (ours n g.before g.was is)) tied
 
     late : (n : ℕ) (said : List ℕ) → Parting (daemon_rules shows) d s n said e u → Tied e id (cond (same n id) (record l { spelled = l.spelled ++ idle }) l)
@@ -135,9 +135,11 @@ module _ {R : Type 0} (shows : R → Accounts → Type 0) (d e : Daemon) (r q : 
     pub tied_after : (act : Act Note) (said : List ℕ) → Turns (daemon_rules shows) d r s act said e q u → Tied e id (tell id s.moment l act)
     tied_after (Came n kind) said t = came n kind said t.3
     tied_after (Heard n piece) said t = heard n t.count piece said t.goes
-    tied_after (Ended n) said t = subst (λ k. Tied e id k) (same_line (same n id)) (tied_gone (same n id) (place_at d id) (place_at e id) l l (t.0.place.places.0 id) tied)
+    tied_after (Ended n) said t = subst (λ k. Tied e id k) (same_line (same n id)) (tied_gone (same n id) (place_at d id) (place_at e id) l l (t.0.place.places id) tied)
     tied_after (Noted n note) said t = goes n note said t.0
     tied_after (Late n) said t = late n said t.2
+    tied_after (Displaced n) said t = late n said t.1
+    tied_after (Listened kind) said t = still t.0.0
     tied_after (Full n) said t = lacked n t.1
     tied_after (Worked note) said t = rested note t.0.1
     tied_after (Sent n octets) said t = unchanged t.0.0 (same n id) (record l { sent = l.sent ++ octets }) refl tied

@@ -4,7 +4,7 @@ use Rattle.std.specs.Cmp.{eq_by_cmp_equiv, nat_cmp_total}
 use Rattle.std.specs.Ordering.{nat_cmp, is_eq}
 use Rattle.mailstore.specs.Account.{Accounts}
 use Rattle.wires.specs.declared.act.Act.{Act}
-use Rattle.wires.specs.declared.act.Act.TheVariants.{Woke, Began, Timed, Late, Waits, Roused, Worked, Came, NoneCame, Crowded, InUse, Heard, ReadBlocked, Over, Sent, WriteBlocked, Lost, Noted, Full, Again, Shut, Dropped, Ended}
+use Rattle.wires.specs.declared.act.Act.TheVariants.{Woke, Began, Timed, Late, Waits, Roused, Worked, Came, NoneCame, Crowded, Displaced, Listened, InUse, Heard, ReadBlocked, Over, Sent, WriteBlocked, Lost, Noted, Full, Again, Shut, Dropped, Ended}
 use Rattle.wires.specs.declared.service.Client.{Client}
 use Rattle.wires.specs.declared.service.Service.{Service}
 use Rattle.wires.specs.declared.service.Phase.TheVariants as phase
@@ -15,7 +15,7 @@ use Rattle.wires.specs.Life.{IsFrontOf}
 use Rattle.wires.specs.Talk.{same, client_of, kind_of, is_quiet, task, newcomer, Comes, Answers, Sends, Parts, OrNothing, Shuts, Drops, At, Talks, drained, after_span, max_unsent, max_parting, max_dropped}
 use Rattle.wires.specs.Turns.{Turns, Goes as Went, Parting, Opens as Enters}
 use Rattle.wires.proofs.TalkLemmas.{one_number, unsent_of}
-use Rattle.sieveddaemon.specs.Acts.{Line, new_line, noted, tell}
+use Rattle.sieveddaemon.specs.Acts.{Line, new_line, noted, idled, tell}
 use Rattle.sieveddaemon.specs.DaemonRules.{daemon_rules, place_at, Opens, Gives, Goes, LacksFor}
 use Rattle.sieveddaemon.specs.Waiting.{said_with, greeting, idle}
 use Rattle.sieveddaemon.specs.declared.daemon.Daemon.{Daemon}
@@ -98,9 +98,6 @@ gone_one : (p : Option Client) → p ≡ None → Whole new_line p
 gone_one p is = let none : Whole new_line None = (greeting, refl) in subst (λ x. Whole new_line x) (sym is) none
 
 -- one that was late, and to which nothing is said: its end follows
-abbrev idled : Line → Line
-idled l = record l { spelled = l.spelled ++ idle }
-
 still_part : (l : Line) (o : Option Client) → Part l o → Part (idled l) o
 still_part l None part = (part.0 ++ idle, sym (append_assoc l.sent part.0 idle) ∙ ap (λ t. t ++ idle) part.1)
 still_part l (Some c) part = (part.0 ++ idle, sym (append_assoc (l.sent ++ c.unsent) part.0 idle) ∙ ap (λ t. t ++ idle) part.1)
@@ -185,6 +182,8 @@ module _ {R : Type 0} (shows : R → Accounts → Type 0) (d e : Daemon) (r q : 
       inl (at_same (same n id) (OrNothing (Answers s.moment said (client_of s id) (client_of u id)) said (client_of s id) (client_of u id)) (λ is c. hears n piece said is whole t c) whole talks)
   whole_after (Noted n note) said whole t talks = inl (at (same n id) (noted s.moment l note) (Answers s.moment said (client_of s id) (client_of u id)) (λ is c. notes n note said is whole t c) whole talks)
   whole_after (Late n) said whole t talks = late_at (same n id) n said refl whole t.2 talks
+  whole_after (Displaced n) said whole t talks = late_at (same n id) n said refl whole t.1 talks
+  whole_after (Listened kind) said whole t talks = stays whole talks
   whole_after (Sent n octets) said whole t talks =
       inl (at (same n id) (record l { sent = l.sent ++ octets }) (Sends s.moment octets (client_of s id) (client_of u id)) (λ is c. sent l s.moment octets (client_of s id) (client_of u id) whole c) whole talks)
   whole_after (Shut n) said whole t talks = inl (at_same (same n id) (Shuts s.moment (client_of s id) (client_of u id)) (λ is c. shut l s.moment (client_of s id) (client_of u id) whole c) whole talks)

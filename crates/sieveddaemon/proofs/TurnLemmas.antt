@@ -1,7 +1,7 @@
 -- Whose turn it is, and what a step is made for.
 use Rattle.std.proofs.Common.{◌≡◌, ◌⊎◌, inl, inr, ℕ, ◌<◌, ◌≤◌, ◌==◌, nat_lt, Bool, true, false, cond, List, [], ◌∷◌, Option, Some, None, refl, sym, ◌∙◌, ap, subst, arith, IsTrue}
 use Rattle.wires.specs.declared.act.Act.{Act}
-use Rattle.wires.specs.declared.act.Act.TheVariants.{Woke, Began, Timed, Late, Waits, Roused, Worked, Came, NoneCame, Crowded, InUse, Heard, ReadBlocked, Over, Sent, WriteBlocked, Lost, Noted, Full, Again, Shut, Dropped, Ended}
+use Rattle.wires.specs.declared.act.Act.TheVariants.{Woke, Began, Timed, Late, Waits, Roused, Worked, Came, NoneCame, Crowded, Displaced, Listened, InUse, Heard, ReadBlocked, Over, Sent, WriteBlocked, Lost, Noted, Full, Again, Shut, Dropped, Ended}
 use Rattle.wires.specs.declared.machine.Want.{Want}
 use Rattle.wires.specs.declared.machine.Want.TheVariants as want
 use Rattle.wires.specs.declared.service.Client.{Client}
@@ -66,11 +66,13 @@ module _ {M N R : Type 0} (rules : Rules M N R) (m n : M) (r q : R) (s u : Servi
   ends (Late k) said t = let at = t.0 in cc
   ends (Began wake) said t = rests t.1
   ends (Roused k) said t = rests t.1
-  ends (Worked note) said t = calm t.2
+  ends (Worked note) said t = calm t.2.calm
   ends (Came k door) said t = let at = t.0.door in cc
   ends (NoneCame door) said t = let at = t.1.door in cc
-  ends (Crowded door) said t = let at = t.1 in cc
-  ends (InUse k) said t = let at = t.1.1 in cc
+  ends (Crowded door) said t = let at = t.1.none.door in cc
+  ends (Displaced k) said t = let at = t.0.1.door in cc
+  ends (Listened door) said t = let at = t.1.door in cc
+  ends (InUse k) said t = let at = t.1.door in cc
   ends (Heard k piece) said t = tasks k t.count Hear t.wanted
   ends (ReadBlocked k) said t = reads k Free u.turn t.1
   ends (Over k) said t = reads k (Leaving k (kind_of (client_of s k))) u.turn t.1

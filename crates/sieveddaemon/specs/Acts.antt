@@ -7,7 +7,7 @@ use Rattle.mailengine.specs.declared.event.Event.{Event}
 use Rattle.mailengine.specs.declared.event.Event.TheVariants.{Open, Give, Close}
 use Rattle.wires.specs.Talk.{same}
 use Rattle.wires.specs.declared.act.Act.{Act}
-use Rattle.wires.specs.declared.act.Act.TheVariants.{Timed, Late, Came, Heard, Sent, Noted, Ended}
+use Rattle.wires.specs.declared.act.Act.TheVariants.{Timed, Late, Displaced, Came, Heard, Sent, Noted, Ended}
 use Rattle.sieveddaemon.specs.Desk.{DoneAt}
 use Rattle.sieveddaemon.specs.Waiting.{Allows, waits_behind, said_with, greeting, idle}
 use Rattle.sieveddaemon.specs.declared.note.Note.{Note}
@@ -89,11 +89,16 @@ moment_after now _ = now
 abbrev pub noted : ℕ → Line → Note → Line
 noted now l note = record l { waits = waits_behind now l.waits note; spelled = l.spelled ++ said_with l.waits note }
 
+-- it was late, or made room for another
+abbrev pub idled : Line → Line
+idled l = record l { spelled = l.spelled ++ idle }
+
 -- what an act tells of it, at a moment; others' acts nothing
 abbrev pub tell : ℕ → ℕ → Line → Act Note → Line
 tell id now l (Came n kind) = cond (same n id) new_line l
 tell id now l (Noted n note) = cond (same n id) (noted now l note) l
-tell id now l (Late n) = cond (same n id) (record l { spelled = l.spelled ++ idle }) l
+tell id now l (Late n) = cond (same n id) (idled l) l
+tell id now l (Displaced n) = cond (same n id) (idled l) l
 tell id now l (Sent n octets) = cond (same n id) (record l { sent = l.sent ++ octets }) l
 tell id now l _ = l
 

@@ -1,5 +1,5 @@
 -- What the daemon makes of what happens.
-use Rattle.std.specs.Prelude.{◌≡◌, ℕ, ◌<◌, ◌==◌, ◌&&◌, nat_le, Bool, true, false, List, [], Option, Some, None, if◌then◌else◌}
+use Rattle.std.specs.Prelude.{◌≡◌, ℕ, ◌<◌, ◌==◌, ◌&&◌, nat_le, Bool, true, false, cond, List, [], Option, Some, None, if◌then◌else◌}
 use Rattle.std.specs.Ordering.{nat_cmp}
 use Rattle.std.specs.BTreeMap as tree
 use Rattle.mailstore.specs.Account.{Accounts}
@@ -9,7 +9,7 @@ use Rattle.mailengine.specs.declared.answer.Answer.{Answer}
 use Rattle.mailengine.specs.declared.event.Event.{Event}
 use Rattle.mailengine.specs.declared.event.Event.TheVariants.{Open, Give, Close}
 use Rattle.wires.specs.Rules.{Rules}
-use Rattle.wires.specs.Talk.{after_span}
+use Rattle.wires.specs.Talk.{after_span, same}
 use Rattle.sieveddaemon.specs.Desk.{StillShows, IsDone, NothingDone}
 use Rattle.sieveddaemon.specs.Places.{client_at, want_of, due_of, new_place, place_given, place_behind, renewed, is_user}
 use Rattle.sieveddaemon.specs.Waiting.{Allows, IsDue, said_with, greeting, idle}
@@ -39,7 +39,7 @@ AtPlace d id P = (place : Place) × (place_at d id ≡ Some place) × P place
 
 -- what is known of one connection changes, and of no other
 abbrev pub Places : Daemon → ℕ → Option Place → Daemon → Type 0
-Places d id place e = tree.Updates nat_cmp d.places e.places id place
+Places d id place e = (other : ℕ) → place_at e other ≡ cond (same id other) place (place_at d other)
 
 -- the same, and nothing of the store
 pub record Knows (d : Daemon) (id : ℕ) (place : Option Place) (e : Daemon) : Type 0 where
@@ -89,9 +89,15 @@ Makes shows r d Spoke q e = NothingDone shows r d.clients.sessions q e.clients.s
 Makes shows r d (Freed event answer) q e = StillShows shows r q × IsSessionEvent event answer d.clients.sessions e.clients.sessions
 Makes shows r d _ q e = ⊥
 
+abbrev pub asked_at : ℕ → Holding
+asked_at now = record { had = true; look = now; asked = now }
+
+abbrev pub had_at : ℕ → Daemon → Daemon
+had_at now d = record d { holding = asked_at now }
+
 -- behind an event that asked the store it is had, and it is looked at once whether somebody waits for it
 abbrev pub holding_behind : ℕ → Note → Holding → Holding
-holding_behind now (Did others event answer) h = record { had = true; look = now; asked = now }
+holding_behind now (Did others event answer) h = asked_at now
 holding_behind now _ h = h
 
 -- what its connection waits for allows the note, which says what is done, what is said, and what is waited for then
@@ -141,6 +147,7 @@ Rests d now _ e = ⊥
 abbrev pub daemon_rules : {R : Type 0} → (R → Accounts → Type 0) → Rules Daemon Note R
 daemon_rules shows = record {
   limit = limit_of;
+  displaced = λ d kind. None;
   wants = λ d id. want_of (place_at d id) (client_at d.clients.sessions id);
   has_work = is_look_due;
   deadline = λ d id. due_of (place_at d id) (client_at d.clients.sessions id);

@@ -33,6 +33,10 @@ impl<O: Desk> Machine<O> for Daemon {
         if kind == MANAGESIEVE { MAX_CLIENTS } else { 0 }
     }
 
+    fn displaced(&self, _kind: u32) -> Option<u32> {
+        None
+    }
+
     fn wants(&self, id: u32) -> Want {
         match self.places.get(&id) {
             Some(place) => match self.clients.session(id) {

@@ -1,13 +1,14 @@
 //! The daemon goes on with a connection: one event, or one text that was kept back.
-ghost use Rattle.std.specs.Prelude.{◌≡◌, [], Some, IsTrue, IsSome, IsErr, OnOk, OnErr};
+ghost use Rattle.std.specs.Prelude.{◌≡◌, [], Some, false, IsTrue, IsSome, IsErr, OnOk, OnErr};
 ghost use Rattle.std.specs.Ordering.{nat_cmp};
 ghost use Rattle.std.specs.BTreeMap as tree;
 ghost use Rattle.wires.specs.Rules.{StepsIf, IdlesIf};
-ghost use Rattle.sieveddaemon.specs.DaemonRules.{daemon_rules, place_at, AtPlace, Forgets, Renews, LacksFor};
+ghost use Rattle.sieveddaemon.specs.DaemonRules.{daemon_rules, place_at, AtPlace, Forgets, Renews, LacksFor, had_at};
 ghost use Rattle.sieveddaemon.specs.Places as places;
 ghost use Rattle.sieveddaemon.specs.Places.{client_at, renewed};
 ghost use Rattle.sieveddaemon.specs.Waiting as waiting;
 ghost use Rattle.sieveddaemon.specs.Waiting.{MayAsk, MayGiveUp, said_at_once, waits_after, IsReply};
+ghost use Rattle.sieveddaemon.specs.declared.note.Note.TheVariants.{Away};
 ghost use Rattle.sieveddaemon.specs.declared.place.Waits.TheVariants.{Nothing};
 
 use crate::daemon::{Daemon, Holding};
@@ -154,6 +155,29 @@ fn asked_since(daemon: &Daemon, now: u64, id: u32) -> u64
     }
 }
 
+/// The same where the store answered: it is had then.
+fn settle_done(daemon: &mut Daemon, now: u64, id: u32, answer: Answer, out: &mut Octets)
+    requires { out.old ≡ [] }
+    ensures renews { Renews (had_at now daemon.old) now id (waits_after now answer) (places.is_out answer) daemon.new }
+    ensures said { out.new ≡ said_at_once answer }
+{
+    daemon.holding = Holding {
+        had: true,
+        look: now,
+        asked: now,
+    };
+    settle(daemon, now, id, answer, out)
+}
+
+/// A connection waits for the store.
+fn await_store(daemon: &mut Daemon, now: u64, id: u32)
+    ensures { (before : Place) → place_at daemon.old id ≡ Some before → Renews daemon.old now id (waiting.waits_behind now before.waits Away) false daemon.new }
+{
+    let since = asked_since(daemon, now, id);
+    let waits = Waits::Store(since, now.wrapping_add(RETRY_SPAN));
+    let _ = renew(daemon, now, id, waits, false);
+}
+
 // ---- one step
 
 /// What comes first is brought to the store.
@@ -173,20 +197,14 @@ fn bring<O: Desk>(
 {
     match outside.carry(id, &mut daemon.clients, &Event::Step(id)) {
         Some(answer) => {
-            daemon.holding = Holding {
-                had: true,
-                look: now,
-                asked: now,
-            };
-            settle(daemon, now, id, answer, out);
+            settle_done(daemon, now, id, answer, out);
+            Ok(())
         }
         None => {
-            let since = asked_since(daemon, now, id);
-            let waits = Waits::Store(since, now.wrapping_add(RETRY_SPAN));
-            let _ = renew(daemon, now, id, waits, false);
+            await_store(daemon, now, id);
+            Ok(())
         }
     }
-    Ok(())
 }
 
 /// What comes first is stepped: at once where it asks no store, else by the store.
