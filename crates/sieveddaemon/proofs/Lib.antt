@@ -1,4 +1,5 @@
 pub mod EventLemmas
+pub mod Examples
 pub mod HeadlineLemmas
 pub mod LeadLemmas
 pub mod LineLemmas

@@ -10,7 +10,7 @@ use Rattle.sieveddaemon.proofs.EventLemmas.{open_keeps, keeps_same, err_any, kno
 use Rattle.sieveddaemon.proofs.session.enter.Goals as goal
 
 pub returns-then-not-is_out-clause-err : goal.returns-then-not-is_out-clause-err
-returns-then-not-is_out-clause-err g c =
+returns-then-not-is_out-clause-err c =
     let none : is_out c.in-Ok-Some.answer ≡ false = search rules in
     let made : IsSessionEvent (Open c.args.id) c.in-Ok-Some.answer c.args.daemon.now.clients.sessions c.apply_free.new.clients.sessions = search rules in
     let kept = open_keeps c.args.id c.in-Ok-Some.answer c.args.daemon.now.clients.sessions c.apply_free.new.clients.sessions none made in
@@ -25,7 +25,7 @@ returns-then-not-is_out-clause-err g c =
     })
 
 pub returns-in-Ok-Some-clause-ok : goal.returns-in-Ok-Some-clause-ok
-returns-in-Ok-Some-clause-ok g c =
+returns-in-Ok-Some-clause-ok c =
     let out : is_out c.in-Ok-Some.answer ≡ true = search rules in
     let made : IsSessionEvent (Open c.args.id) c.in-Ok-Some.answer c.args.daemon.now.clients.sessions c.apply_free.new.clients.sessions = search rules in
     let put : tree.Updates nat_cmp c.args.daemon.now.places c.insert.new.self c.args.id (Some (new_place c.args.now)) = search rules in

@@ -8,23 +8,23 @@ use Rattle.sieveddaemon.proofs.EventLemmas.{give_keeps, keeps_same, err_any, som
 use Rattle.sieveddaemon.proofs.session.hear.Goals as goal
 
 pub returns-then-not-is_out-clause-err : goal.returns-then-not-is_out-clause-err
-returns-then-not-is_out-clause-err g c =
-    let none : is_out c.give_to.result ≡ false = search rules in
-    let kept = give_keeps c.args.id c.args.piece.now c.give_to.result c.args.daemon.now.clients.sessions c.give_to.new.clients.sessions none c.give_to.ensures in
+returns-then-not-is_out-clause-err c =
+    let none : is_out c.give.result ≡ false = search rules in
+    let kept = give_keeps c.args.id c.args.piece.now c.give.result c.args.daemon.now.clients.sessions c.give.new.self.sessions none c.give.ensures in
     err_any c.lack-then-not-is_out.result (record {
-      kept = keeps_same c.args.daemon.now.clients.sessions c.give_to.new.clients c.lack-then-not-is_out.new.daemon.clients kept c.lack-then-not-is_out.ensures.forgets.clients;
+      kept = keeps_same c.args.daemon.now.clients.sessions c.give.new.self c.lack-then-not-is_out.new.daemon.clients kept c.lack-then-not-is_out.ensures.forgets.clients;
       place = record { places = c.lack-then-not-is_out.ensures.forgets.place.places; holding = c.lack-then-not-is_out.ensures.forgets.place.holding };
     })
 
 pub returns-clause-ok : goal.returns-clause-ok
-returns-clause-ok g c =
+returns-clause-ok c =
     let there : true ≡ is_some (tree.get nat_cmp c.args.daemon.now.places c.args.id) = search rules in
     let place = some_there (tree.get nat_cmp c.args.daemon.now.places c.args.id) there in
     let session : tree.get nat_cmp c.args.daemon.now.clients.sessions c.args.id ≡ Some c.in-Some.session.now = search rules in
     let begins : c.unread_len-begins.result == 0 ≡ (length c.in-Some.session.now.client.unread == 0) = ap (λ n. n == 0) c.unread_len-begins.ensures in
     record {
       silent = refl;
-      event = (c.give_to.result, c.give_to.ensures);
+      event = (c.give.result, c.give.ensures);
       before = place.0;
       was = place.1;
       client = c.in-Some.session.now.client;

@@ -8,7 +8,7 @@ use Rattle.mailengine.specs.declared.answer.Answer.{Answer}
 use Rattle.sieveddaemon.proofs.session.leave.Goals as goal
 
 pub returns : goal.returns
-returns g c =
+returns c =
     let made = closed c.args.id c.apply_free.result c.forget.new.daemon.clients.sessions c.apply_free.new.clients.sessions c.apply_free.ensures.made c.apply_free.ensures.asks c.apply_free.ensures.lacks in
     record {
       event = (made.0, subst (λ (k : Clients). IsSessionEvent (Close c.args.id) made.0 k.sessions c.apply_free.new.clients.sessions) c.forget.ensures.clients made.1);
