@@ -162,9 +162,9 @@ module _ {R : Type 0} (shows : R → Accounts → Type 0) where
         let all = holds moves n passes in
         record {
           each_moment = λ some rest is.
-            let first = some_first m moves n some rest is passes in
-            let at = holds first.0 first.1 first.3 in
-            (at.0, subst (λ (acts : List (Act Note)). HoldsAfter (world_of start) m.service.moment acts at.0) first.2 at.1);
+              let first = some_first m moves n some rest is passes in
+              let at = holds first.0 first.1 first.3 in
+              (at.0, subst (λ (acts : List (Act Note)). HoldsAfter (world_of start) m.service.moment acts at.0) first.2 at.1);
           end = all.0;
           holds = all.1;
           shown = all.2;

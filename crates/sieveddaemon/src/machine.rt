@@ -12,7 +12,7 @@ use wires::machine::{Machine, Want};
 /// The kind of the connections of ManageSieve.
 pub const MANAGESIEVE: u32 = 0;
 
-/// So many clients of ManageSieve may be there at once. A session holds one item and a piece at most, 1 MiB and some.
+/// So many clients of ManageSieve may be there at once. A session holds one item and a piece at most: 2 MiB and 12 KiB.
 pub const MAX_CLIENTS: usize = 50;
 
 /// So many milliseconds pass from one look for who waits for the store to the next.
@@ -65,13 +65,7 @@ impl<O: Desk> Machine<O> for Daemon {
         patience_of(self)
     }
 
-    fn open(
-        &mut self,
-        now: u64,
-        _kind: u32,
-        id: u32,
-        out: &mut Octets,
-    ) -> Result<(), AllocError> {
+    fn open(&mut self, now: u64, _kind: u32, id: u32, out: &mut Octets) -> Result<(), AllocError> {
         enter(self, now, id, out)
     }
 

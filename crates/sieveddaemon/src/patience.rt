@@ -16,7 +16,11 @@ const AT_REST: u32 = 1000;
 
 /// For how many milliseconds it may rest where nothing happens.
 pub fn patience_of(daemon: &Daemon) -> u32 {
-    let rest = if daemon.holding.had { WHILE_HAD } else { AT_REST };
+    let rest = if daemon.holding.had {
+        WHILE_HAD
+    } else {
+        AT_REST
+    };
     daemon
         .places
         .values()

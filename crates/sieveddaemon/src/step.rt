@@ -102,7 +102,14 @@ fn replace_waits(
     };
     let guest = if user { now } else { place.guest };
     let since = if answered { now } else { place.since };
-    let before = replace(place, Place { waits, guest, since });
+    let before = replace(
+        place,
+        Place {
+            waits,
+            guest,
+            since,
+        },
+    );
     before.waits
 }
 

@@ -9,6 +9,6 @@ returns-clause-renews c = record {
   clients = refl;
   holding = refl;
   place = λ before was.
-    (subst (λ b. tree.Updates nat_cmp c.args.daemon.now.places c.replace_waits.new.places c.args.id (Some (renewed c.args.now before c.args.waits c.args.answered b)))
-    c.is_user-user.ensures (c.replace_waits.ensures.changed before was)).0;
+      (subst (λ b. tree.Updates nat_cmp c.args.daemon.now.places c.replace_waits.new.places c.args.id (Some (renewed c.args.now before c.args.waits c.args.answered b)))
+      c.is_user-user.ensures (c.replace_waits.ensures.changed before was)).0;
 }
