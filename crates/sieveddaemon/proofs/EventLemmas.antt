@@ -1,5 +1,5 @@
 -- Events of sessions: what is left as it was, and what is answered whatever accounts there are.
-use Rattle.std.proofs.Common.{◌≡◌, ◌⊎◌, inl, inr, ℕ, Bool, true, false, cond, List, [], ◌∷◌, ◌++◌, Option, Some, None, option_map, is_some, Result, Ok, Err, IfOk, IfSome, IfNone, OnOk, OnErr, refl, sym, ◌∙◌, ap, subst, append_assoc}
+use Rattle.std.proofs.Common.{◌≡◌, ◌⊎◌, inl, inr, ℕ, Bool, true, false, cond, List, [], ◌∷◌, ◌++◌, Option, Some, None, option_map, is_some, is_err, Result, Ok, Err, IfOk, IfSome, IfNone, OnOk, OnErr, refl, sym, ◌∙◌, ap, subst, append_assoc}
 use Rattle.std.specs.declared.alloc.AllocError.{AllocError}
 use Rattle.std.specs.Cmp.{nat_cmp_total}
 use Rattle.std.specs.FinMap.{FinMap, get, insert, remove, same_map, empty, get-empty, nat_cmp-IsAntisymmetric}
@@ -164,3 +164,7 @@ some_there (Some x) is = (x, refl)
 pub ok_then : {X E P Q : Type 0} → (r : Result X E) → OnOk r P → (P → Q) → OnOk r Q
 ok_then (Ok x) p f = f p
 ok_then (Err e) p f = tt
+
+pub went_well : {X E P : Type 0} → (r : Result X E) → is_err r ≡ false → OnOk r P → P
+went_well (Ok x) is p = p
+went_well (Err e) is p = absurd (let never : true ≡ false = is in cc)
