@@ -1,0 +1,127 @@
+-- Right cases of the definitions, and near misses.
+use Rattle.std.proofs.Common.{◌≡◌, ℕ, ◌+◌, ◌≤◌, ◌<◌, Bool, true, false, List, [], ◌∷◌, ◌++◌, Option, Some, None, codes, refl, sym, ◌∙◌, ap, arith, inl, inr}
+use Rattle.std.specs.FinMap.{get}
+use Rattle.msproto.specs.Replies.{spelled}
+use Rattle.mailstore.specs.declared.refusal.Refusal.TheVariants.{Store, Memory}
+use Rattle.sessions.specs.Clients.{Client}
+use Rattle.sessions.specs.Replies.{accepted, declined, farewell, try_later}
+use Rattle.sessions.specs.declared.progress.Progress.TheVariants.{Done, Close}
+use Rattle.mailengine.specs.World.{World, Clients, InSession, Steps, Next, Runs}
+use Rattle.mailengine.specs.declared.answer.Answer.{Answer}
+use Rattle.mailengine.specs.declared.answer.Answer.TheVariants.{Out, Refused}
+use Rattle.mailengine.specs.declared.event.Event.{Event}
+use Rattle.mailengine.specs.declared.event.Event.TheVariants.{Step, GiveUp}
+use Rattle.wires.specs.Life.{IsFrontOf}
+use Rattle.wires.specs.declared.act.Act.{Act}
+use Rattle.wires.specs.declared.act.Act.TheVariants.{Timed, Sent, Noted}
+use Rattle.sieveddaemon.specs.Acts.{Line, no_line, tell_on, AreRight, LeadsBy}
+use Rattle.sieveddaemon.specs.Desk.{AreOthers}
+use Rattle.sieveddaemon.specs.Places.{new_place, due_by, never, want_by}
+use Rattle.sieveddaemon.specs.Waiting.{Allows, said_at_once, is_failure}
+use Rattle.sieveddaemon.specs.declared.note.Note.{Note}
+use Rattle.sieveddaemon.specs.declared.note.Note.TheVariants.{Did, Away, Freed, Spoke}
+use Rattle.sieveddaemon.specs.declared.place.Waits.TheVariants as waits
+
+-- ---- what is said at once
+
+failed : List ℕ
+failed = spelled (declined None (codes "Authentication failed."))
+
+kept_back : said_at_once (Out Done (spelled (declined None (codes "Authentication failed.")))) ≡ []
+kept_back = refl
+
+the_last_kept_back : said_at_once (Out Close (spelled (farewell (codes "Too many failures.")))) ≡ []
+the_last_kept_back = refl
+
+-- near misses: a farewell that was asked for, and a client that is put off
+said_at_logout : is_failure (spelled (accepted (codes "Bye."))) ≡ false
+said_at_logout = refl
+
+said_to_who_is_put_off : is_failure (spelled try_later) ≡ false
+said_to_who_is_put_off = refl
+
+-- ---- what may be done
+
+given_up_for_a_refusal : Allows 7 waits.Refused 1 (Freed (GiveUp 1) (Out Done []))
+given_up_for_a_refusal = (tt, refl)
+
+-- near misses: given up for nothing; another connection's step; refused without asking; asked for while a reply is kept back; said before
+-- its moment
+not_for_nothing : (answer : Answer) → Allows 7 waits.Nothing 1 (Freed (GiveUp 1) answer) → ⊥
+not_for_nothing answer is = let never : GiveUp 1 ≡ Step 1 = is.0 in cc
+
+not_of_another : (others : List Event) (answer : Answer) → Allows 7 waits.Nothing 1 (Did others (Step 2) answer) → ⊥
+not_of_another others answer is = let never : Step 2 ≡ Step 1 = is.1 in cc
+
+not_refused_unasked : Allows 7 waits.Nothing 1 (Freed (Step 1) (Refused Store)) → ⊥
+not_refused_unasked is = is.1
+
+not_while_a_reply_waits : (text : List ℕ) → Allows 7 (waits.Reply 2000 text) 1 Away → ⊥
+not_while_a_reply_waits text is = is
+
+not_before_its_moment : (text : List ℕ) → Allows 1999 (waits.Reply 2000 text) 1 Spoke → ⊥
+not_before_its_moment text is = omega (arith, is)
+
+-- ---- acts of one connection
+
+abbrev puts_off : ℕ → List (Act Note)
+puts_off moment = Noted 1 Away ∷ Timed moment ∷ Noted 1 (Freed (GiveUp 1) (Out Done [])) ∷ []
+
+-- five seconds behind the first time that the store was away it is given up, and not a moment before
+put_off_then : AreRight 1 0 no_line (puts_off 5000)
+put_off_then = (tt, (tt, ((omega arith, refl), tt)))
+
+not_a_moment_before : AreRight 1 0 no_line (puts_off 4999) → ⊥
+not_a_moment_before is = omega (arith, is.1.1.0.0)
+
+-- an answer is sent behind its event
+abbrev answered : List (Act Note)
+answered = Noted 1 (Did [] (Step 1) (Out Done (79 ∷ []))) ∷ Sent 1 (79 ∷ []) ∷ []
+
+sent_behind : IsFrontOf (tell_on 1 0 no_line answered).sent (tell_on 1 0 no_line answered).spelled
+sent_behind = ([], refl)
+
+-- near misses: before its event; twice; to another
+abbrev early : List (Act Note)
+early = Sent 1 (79 ∷ []) ∷ []
+
+not_before : IsFrontOf (tell_on 1 0 no_line early).sent (tell_on 1 0 no_line early).spelled → ⊥
+not_before is = let no_octet : 79 ∷ is.0 ≡ [] = is.1 in cc
+
+abbrev twice : List (Act Note)
+twice = Noted 1 (Did [] (Step 1) (Out Done (79 ∷ []))) ∷ Sent 1 (79 ∷ []) ∷ Sent 1 (79 ∷ []) ∷ []
+
+not_twice : IsFrontOf (tell_on 1 0 no_line twice).sent (tell_on 1 0 no_line twice).spelled → ⊥
+not_twice is = let more : 79 ∷ 79 ∷ is.0 ≡ 79 ∷ [] = is.1 in cc
+
+abbrev elsewhere : List (Act Note)
+elsewhere = Noted 1 (Did [] (Step 1) (Out Done (79 ∷ []))) ∷ Sent 2 (79 ∷ []) ∷ []
+
+not_to_another : IsFrontOf (tell_on 2 0 no_line elsewhere).sent (tell_on 2 0 no_line elsewhere).spelled → ⊥
+not_to_another is = let no_octet : 79 ∷ is.0 ≡ [] = is.1 in cc
+
+-- ---- accounts
+
+-- near misses: others' change that isn't told; others' step of a session that is ours
+refused_at : (w v : World) (o : Option Client) → InSession w o (Steps w 1) (Refused Store) v → v ≡ w
+refused_at w v None steps = steps.stays
+refused_at w v (Some c) steps = let never : Refused Store ≡ Out steps.goes_on steps.octets = steps.says in cc
+
+no_run : (w v : World) (told : List Answer) → Runs w [] told v → v ≡ w
+no_run w v [] run = run
+no_run w v (answer ∷ told) run = absurd run
+
+others_are_told : (w v : World) → LeadsBy w (Did [] (Step 1) (Refused Store)) v → v ≡ w
+others_are_told w v led = by led.ours ∙ no_run w led.between led.told led.theirs
+  where
+    by : Next led.between (Step 1) (Refused Store) v → v ≡ led.between
+    by (inl steps) = refused_at led.between v (get led.between.sessions 1) steps
+    by (inr refused) = refused.stays
+
+not_ours : (sessions : Clients) (c : Client) → get sessions 1 ≡ Some c → AreOthers sessions (Step 1 ∷ []) → ⊥
+not_ours sessions c there is = let never : Some c ≡ None = sym there ∙ is.0 in cc
+
+-- ---- deadlines
+
+never_late_while_it_waits : (c : Client) → due_by (waits.Store 0 5) (new_place 0) c ≡ never
+never_late_while_it_waits c = refl

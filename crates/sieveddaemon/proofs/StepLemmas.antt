@@ -1,0 +1,141 @@
+-- Steps of a connection, put together from what is brought, told and known.
+use Rattle.std.proofs.Common.{◌≡◌, ◌∙◌, ℕ, Bool, true, false, cond, List, [], ◌∷◌, ◌++◌, Option, Some, None, OnOk, OnErr, Result, Ok, Err, IsTrue, refl, sym, ap, subst}
+use Rattle.mailstore.specs.Account.{Accounts}
+use Rattle.mailengine.specs.Hosts.{Kept, HasClients, KeepsClients, IsMade, IsSessionEvent}
+use Rattle.mailengine.specs.declared.answer.Answer.{Answer}
+use Rattle.mailengine.specs.declared.answer.Answer.TheVariants.{Out, Delivered, Added, Taken, MailTaken, Ignored, Refused}
+use Rattle.mailengine.specs.declared.clients.Clients.{Clients as CodeClients}
+use Rattle.mailengine.specs.declared.event.Event.{Event}
+use Rattle.mailengine.specs.declared.event.Event.TheVariants.{Step, GiveUp}
+use Rattle.wires.specs.declared.act.Act.{Act}
+use Rattle.wires.specs.declared.act.Act.TheVariants.{Noted}
+use Rattle.wires.specs.Rules.{Steps, StepsIf}
+use Rattle.wires.specs.Told.{TellsIf}
+use Rattle.sieveddaemon.specs.DaemonRules.{daemon_rules, place_at, AtPlace, Goes, Makes, Places, Renews, asked_at}
+use Rattle.sieveddaemon.specs.Desk.{Carries, IsDone, IsWorld, NothingDone, StillShows, StillShowsIf}
+use Rattle.sieveddaemon.specs.Places.{client_at, renewed, place_behind, is_out, is_user, is_answered}
+use Rattle.sieveddaemon.specs.Waiting.{Allows, IsDue, MayAsk, MayGiveUp, said_with, said_at_once, waits_after, waits_behind}
+use Rattle.sieveddaemon.specs.declared.daemon.Daemon.{Daemon}
+use Rattle.sieveddaemon.specs.declared.daemon.Holding.{Holding}
+use Rattle.sieveddaemon.specs.declared.note.Note.{Note}
+use Rattle.sieveddaemon.specs.declared.note.Note.TheVariants.{Did, Away, Freed, Spoke, Looked, Gave}
+use Rattle.sieveddaemon.specs.declared.place.Place.{Place}
+use Rattle.sieveddaemon.specs.declared.place.Waits.{Waits}
+use Rattle.sieveddaemon.specs.declared.place.Waits.TheVariants as waits
+
+some_one : {X : Type 0} (a b : X) → Some a ≡ Some b → a ≡ b
+some_one a b is = cc
+
+made_out : (answer : Answer) → is_out answer ≡ true → IsMade answer
+made_out (Out progress octets) is = tt
+made_out (Delivered report) is = tt
+made_out Added is = tt
+made_out (Taken row) is = tt
+made_out MailTaken is = tt
+made_out Ignored is = tt
+made_out (Refused refusal) is = let never : false ≡ true = is in absurd (let no_one : ⊥ = cc in no_one)
+
+-- the daemon with other sessions, and what is so of the store
+abbrev mid_of : Daemon → CodeClients → Holding → Daemon
+mid_of d c h = record d { clients = c; holding = h }
+
+-- what is known of the connection, with the session that is there then
+place_by : (d e : Daemon) (c : CodeClients) (h : Holding) (now id : ℕ) (w : Waits) (answered : Bool) (before : Place) → Renews (mid_of d c h) now id w answered e → place_at d id ≡ Some before
+    → Places d id (Some (renewed now before w answered (is_user (client_at e.clients.sessions id)))) e
+place_by d e c h now id w answered before r was =
+    subst (λ (k : CodeClients). Places d id (Some (renewed now before w answered (is_user (client_at k.sessions id)))) e) (sym r.clients) (r.place before was)
+
+module _ {O R : Type 0} (tells : O → Bool) (seen : O → List (Act Note)) (rest : O → R) (shows : R → Accounts → Type 0) (clean : R → Type 0) (sure : (o : O) → IsTrue (tells o) → clean (rest o))
+    (o p : O) (d e : Daemon) (c : CodeClients) (now id : ℕ) (said : List ℕ) where
+  -- an event was done by the store
+  pub did : (answer : Answer) → Carries tells seen rest shows clean id (Step id) o d.clients.sessions (Some answer) p c.sessions → AtPlace d id (λ place. MayAsk now place.waits)
+      → Renews (mid_of d c (asked_at now)) now id (waits_after now answer) (is_out answer) e → said ≡ said_at_once answer → StepsIf tells seen rest (daemon_rules shows) o d now id said p e
+  did answer carries may r says tell = record {
+    note = Did carries.0 (Step id) answer;
+    grows = carries.2 tell;
+    steps = record {
+      before = may.0;
+      was = may.1;
+      allows = λ due. (may.2, refl);
+      makes = subst (λ (k : CodeClients). IsDone shows carries.0 (Step id) answer (rest o) d.clients.sessions (rest p) k.sessions) (sym r.clients) (carries.1 (sure p tell));
+      says = says;
+      place = place_by d e c (asked_at now) now id (waits_after now answer) (is_out answer) may.0 r may.1;
+      holding = r.holding;
+    };
+  }
+
+  -- it was away
+  pub away : Carries tells seen rest shows clean id (Step id) o d.clients.sessions None p c.sessions → (may : AtPlace d id (λ place. MayAsk now place.waits))
+      → Renews (mid_of d c d.holding) now id (waits_behind now may.0.waits Away) false e → said ≡ [] → StepsIf tells seen rest (daemon_rules shows) o d now id said p e
+  away carries may r says tell = record {
+    note = Away;
+    grows = carries.1 tell;
+    steps = record {
+      before = may.0;
+      was = may.1;
+      allows = λ due. may.2;
+      makes = subst (λ (k : CodeClients). NothingDone shows (rest o) d.clients.sessions (rest p) k.sessions) (sym r.clients) (carries.0 (sure p tell));
+      says = says;
+      place = place_by d e c d.holding now id (waits_behind now may.0.waits Away) false may.0 r may.1;
+      holding = r.holding;
+    };
+  }
+
+  -- an event was answered that asks no store
+  pub freed : (event : Event) (answer : Answer) → ((place : Place) → place_at d id ≡ Some place → Allows now place.waits id (Freed event answer)) → (before : Place) → place_at d id ≡ Some before
+      → IsSessionEvent event answer d.clients.sessions c.sessions → TellsIf tells seen o (Noted id (Freed event answer)) p → StillShowsIf tells rest shows o p
+      → Renews (mid_of d c d.holding) now id (waits_after now answer) (is_out answer) e → said ≡ said_at_once answer → StepsIf tells seen rest (daemon_rules shows) o d now id said p e
+  freed event answer allows before was made told still r says tell = record {
+    note = Freed event answer;
+    grows = told tell;
+    steps = record {
+      before = before;
+      was = was;
+      allows = λ due. allows before was;
+      makes = (still tell, subst (λ (k : CodeClients). IsSessionEvent event answer d.clients.sessions k.sessions) (sym r.clients) made);
+      says = says;
+      place = place_by d e c d.holding now id (waits_after now answer) (is_out answer) before r was;
+      holding = r.holding;
+    };
+  }
+
+  -- a step from sessions that are as they were
+  kept_makes : (note : Note) → KeepsClients d.clients.sessions c.sessions → Makes shows (rest o) (mid_of d c d.holding) note (rest p) e → Makes shows (rest o) d note (rest p) e
+  kept_makes (Did others event answer) keeps makes = λ w stands. makes w (record { shown = stands.shown; sessions = keeps w.sessions stands.sessions })
+  kept_makes Away keeps makes = record { shown = makes.shown; kept = λ clients has. makes.kept clients (keeps clients has) }
+  kept_makes Spoke keeps makes = record { shown = makes.shown; kept = λ clients has. makes.kept clients (keeps clients has) }
+  kept_makes (Freed event answer) keeps makes = (makes.0, λ w has. makes.1 w (keeps w.sessions has))
+  kept_makes Looked keeps makes = makes
+  kept_makes Gave keeps makes = makes
+
+  pub behind : KeepsClients d.clients.sessions c.sessions → StepsIf tells seen rest (daemon_rules shows) o (mid_of d c d.holding) now id said p e → StepsIf tells seen rest (daemon_rules shows) o d now id said p e
+  behind keeps steps tell =
+      let s = steps tell in
+      let g = s.steps in
+      record {
+        note = s.note;
+        grows = s.grows;
+        steps = record { before = g.before; was = g.was; allows = g.allows; makes = kept_makes s.note keeps g.makes; says = g.says; place = g.place; holding = g.holding };
+      }
+
+-- given up, or stepped at once
+pub gives_up : (d : Daemon) (now id : ℕ) (answer : Answer) → AtPlace d id (λ place. MayGiveUp now place.waits) → (place : Place) → place_at d id ≡ Some place → Allows now place.waits id (Freed (GiveUp id) answer)
+gives_up d now id answer may place was =
+    let one : may.0 ≡ place = some_one may.0 place (sym may.1 ∙ was) in
+    by place.waits (subst (λ (x : Place). MayGiveUp now x.waits) one may.2)
+  where
+    by : (w : Waits) → MayGiveUp now w → Allows now w id (Freed (GiveUp id) answer)
+    by waits.Nothing may = absurd may
+    by (waits.Store since again) may = (may, refl)
+    by waits.Refused may = (may, refl)
+    by (waits.Reply until text) may = absurd may
+
+pub steps_free : (d : Daemon) (now id : ℕ) (answer : Answer) → is_out answer ≡ true → AtPlace d id (λ place. place.waits ≡ waits.Nothing) → (place : Place) → place_at d id ≡ Some place
+    → Allows now place.waits id (Freed (Step id) answer)
+steps_free d now id answer out may place was =
+    let one : may.0 ≡ place = some_one may.0 place (sym may.1 ∙ was) in
+    let nothing : place.waits ≡ waits.Nothing = ap (λ (x : Place). x.waits) (sym one) ∙ may.2 in
+    subst (λ w. Allows now w id (Freed (Step id) answer)) (sym nothing) (refl, made_out answer out)
+
+pub asks_free : (d : Daemon) (now id : ℕ) → AtPlace d id (λ place. place.waits ≡ waits.Nothing) → AtPlace d id (λ place. MayAsk now place.waits)
+asks_free d now id may = (may.0, may.1, subst (λ w. MayAsk now w) (sym may.2) tt)

@@ -1,0 +1,36 @@
+use Rattle.std.proofs.Common.{◌≡◌, ◌∙◌, ◌==◌, ap, sym, refl, subst, rules, true, false, Some, option_map, is_some, length}
+use Rattle.std.specs.Ordering.{nat_cmp}
+use Rattle.std.specs.BTreeMap as tree
+use Rattle.sessions.specs.Counts.{SessionView}
+use Rattle.sieveddaemon.specs.Places.{is_out, client_at, begun, place_given}
+use Rattle.sieveddaemon.specs.declared.place.Place.{Place}
+use Rattle.sieveddaemon.proofs.EventLemmas.{give_keeps, keeps_same, err_any, some_there}
+use Rattle.sieveddaemon.proofs.session.hear.Goals as goal
+
+pub returns-then-not-is_out-clause-err : goal.returns-then-not-is_out-clause-err
+returns-then-not-is_out-clause-err c =
+    let none : is_out c.give.result ≡ false = search rules in
+    let kept = give_keeps c.args.id c.args.piece.now c.give.result c.args.daemon.now.clients.sessions c.give.new.self.sessions none c.give.ensures in
+    err_any c.lack-then-not-is_out.result (record {
+      kept = keeps_same c.args.daemon.now.clients.sessions c.give.new.self c.lack-then-not-is_out.new.daemon.clients kept c.lack-then-not-is_out.ensures.forgets.clients;
+      place = record { places = c.lack-then-not-is_out.ensures.forgets.place.places; holding = c.lack-then-not-is_out.ensures.forgets.place.holding };
+    })
+
+pub returns-clause-ok : goal.returns-clause-ok
+returns-clause-ok c =
+    let there : true ≡ is_some (tree.get nat_cmp c.args.daemon.now.places c.args.id) = search rules in
+    let place = some_there (tree.get nat_cmp c.args.daemon.now.places c.args.id) there in
+    let session : tree.get nat_cmp c.args.daemon.now.clients.sessions c.args.id ≡ Some c.in-Some.session.now = search rules in
+    let begins : c.unread_len-begins.result == 0 ≡ (length c.in-Some.session.now.client.unread == 0) = ap (λ n. n == 0) c.unread_len-begins.ensures in
+    record {
+      silent = refl;
+      event = (c.give.result, c.give.ensures);
+      before = place.0;
+      was = place.1;
+      client = c.in-Some.session.now.client;
+      session = ap (λ o. option_map (λ (s : SessionView). s.client) o) session;
+      place = record {
+        places = (subst (λ b. tree.Updates nat_cmp c.args.daemon.now.places c.begin.new.places c.args.id (Some (begun c.args.now place.0 b))) begins (c.begin.ensures place.0 place.1)).0;
+        holding = refl;
+      };
+    }

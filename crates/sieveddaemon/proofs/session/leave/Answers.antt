@@ -1,0 +1,16 @@
+use Rattle.std.proofs.Common.{◌≡◌, ap, subst, sym}
+use Rattle.mailengine.specs.declared.clients.Clients.{Clients}
+use Rattle.mailengine.specs.declared.event.Event.TheVariants.{Close}
+use Rattle.sieveddaemon.specs.DaemonRules.{Happened}
+use Rattle.sieveddaemon.proofs.EventLemmas.{closed}
+use Rattle.mailengine.specs.Hosts.{IsSessionEvent}
+use Rattle.mailengine.specs.declared.answer.Answer.{Answer}
+use Rattle.sieveddaemon.proofs.session.leave.Goals as goal
+
+pub returns : goal.returns
+returns c =
+    let made = closed c.args.id c.apply_free.result c.forget.new.daemon.clients.sessions c.apply_free.new.clients.sessions c.apply_free.ensures.made c.apply_free.ensures.asks c.apply_free.ensures.lacks in
+    record {
+      event = (made.0, subst (λ (k : Clients). IsSessionEvent (Close c.args.id) made.0 k.sessions c.apply_free.new.clients.sessions) c.forget.ensures.clients made.1);
+      place = record { places = c.forget.ensures.place.places; holding = c.forget.ensures.place.holding };
+    }

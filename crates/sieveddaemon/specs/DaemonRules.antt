@@ -1,0 +1,161 @@
+-- What the daemon makes of what happens.
+use Rattle.std.specs.Prelude.{◌≡◌, ℕ, ◌<◌, ◌==◌, ◌&&◌, nat_le, Bool, true, false, cond, List, [], Option, Some, None, if◌then◌else◌}
+use Rattle.std.specs.Ordering.{nat_cmp}
+use Rattle.std.specs.BTreeMap as tree
+use Rattle.mailstore.specs.Account.{Accounts}
+use Rattle.sessions.specs.Clients.{Client}
+use Rattle.mailengine.specs.Hosts.{IsMade, IsSessionEvent, KeepsClients}
+use Rattle.mailengine.specs.declared.answer.Answer.{Answer}
+use Rattle.mailengine.specs.declared.event.Event.{Event}
+use Rattle.mailengine.specs.declared.event.Event.TheVariants.{Open, Give, Close}
+use Rattle.wires.specs.Rules.{Rules}
+use Rattle.wires.specs.Talk.{after_span, same}
+use Rattle.sieveddaemon.specs.Desk.{StillShows, IsDone, NothingDone}
+use Rattle.sieveddaemon.specs.Places.{client_at, want_of, due_of, new_place, place_given, place_behind, renewed, is_user}
+use Rattle.sieveddaemon.specs.Waiting.{Allows, IsDue, said_with, greeting, idle}
+use Rattle.sieveddaemon.specs.declared.daemon.Daemon.{Daemon}
+use Rattle.sieveddaemon.specs.declared.daemon.Holding.{Holding}
+use Rattle.sieveddaemon.specs.declared.note.Note.{Note}
+use Rattle.sieveddaemon.specs.declared.note.Note.TheVariants.{Did, Away, Freed, Spoke, Looked, Gave}
+use Rattle.sieveddaemon.specs.declared.place.Place.{Place}
+use Rattle.sieveddaemon.specs.declared.place.Waits.{Waits}
+
+-- the kind of the connections of ManageSieve, and how many of it there may be
+abbrev pub managesieve : ℕ
+managesieve = 0
+
+abbrev pub max_clients : ℕ
+max_clients = 50
+
+abbrev pub limit_of : ℕ → ℕ
+limit_of kind = if kind == managesieve then max_clients else 0
+
+abbrev pub place_at : Daemon → ℕ → Option Place
+place_at d id = tree.get nat_cmp d.places id
+
+-- something is known of a connection, and this holds of it
+abbrev pub AtPlace : Daemon → ℕ → (Place → Type 0) → Type 0
+AtPlace d id P = (place : Place) × (place_at d id ≡ Some place) × P place
+
+-- what is known of one connection changes, and of no other
+abbrev pub Places : Daemon → ℕ → Option Place → Daemon → Type 0
+Places d id place e = (other : ℕ) → place_at e other ≡ cond (same id other) place (place_at d other)
+
+-- the same, and nothing of the store
+pub record Knows (d : Daemon) (id : ℕ) (place : Option Place) (e : Daemon) : Type 0 where
+  pub places : Places d id place e
+  pub holding : e.holding ≡ d.holding
+
+-- an event of sessions alone was answered somehow
+abbrev pub Happened : Event → Daemon → Daemon → Type 0
+Happened event d e = (answer : Answer) × IsSessionEvent event answer d.clients.sessions e.clients.sessions
+
+-- ---- connections come, say something, and go
+
+-- one is greeted, and its session begins
+pub record Opens (d : Daemon) (now id : ℕ) (said : List ℕ) (e : Daemon) : Type 0 where
+  pub says : said ≡ greeting
+  pub event : Happened (Open id) d e
+  pub place : Knows d id (Some (new_place now)) e
+
+-- octets of one join its session, and nothing is said
+pub record Gives (d : Daemon) (now id : ℕ) (piece said : List ℕ) (e : Daemon) : Type 0 where
+  pub silent : said ≡ []
+  pub event : Happened (Give id piece) d e
+  pub before : Place
+  pub was : place_at d id ≡ Some before
+  pub client : Client
+  pub session : client_at d.clients.sessions id ≡ Some client
+  pub place : Knows d id (Some (place_given now before client)) e
+
+-- where memory was lacking for one nothing more is known of it, and each session is as it was
+pub record LacksFor (d : Daemon) (id : ℕ) (e : Daemon) : Type 0 where
+  pub kept : KeepsClients d.clients.sessions e.clients.sessions
+  pub place : Knows d id None e
+
+-- one is gone, and its session
+pub record Closes (d : Daemon) (id : ℕ) (e : Daemon) : Type 0 where
+  pub event : Happened (Close id) d e
+  pub place : Knows d id None e
+
+-- ---- the daemon goes on with one
+
+-- what a note says is done: an event by the store; nothing where it was away, or what was kept back is said; an event that asks no
+-- store, and is the same whatever accounts there are
+abbrev pub Makes : {R : Type 0} → (R → Accounts → Type 0) → R → Daemon → Note → R → Daemon → Type 0
+Makes shows r d (Did others event answer) q e = IsDone shows others event answer r d.clients.sessions q e.clients.sessions
+Makes shows r d Away q e = NothingDone shows r d.clients.sessions q e.clients.sessions
+Makes shows r d Spoke q e = NothingDone shows r d.clients.sessions q e.clients.sessions
+Makes shows r d (Freed event answer) q e = StillShows shows r q × IsSessionEvent event answer d.clients.sessions e.clients.sessions
+Makes shows r d _ q e = ⊥
+
+abbrev pub asked_at : ℕ → Holding
+asked_at now = record { had = true; look = now; asked = now }
+
+abbrev pub had_at : ℕ → Daemon → Daemon
+had_at now d = record d { holding = asked_at now }
+
+-- behind an event that asked the store it is had, and it is looked at once whether somebody waits for it
+abbrev pub holding_behind : ℕ → Note → Holding → Holding
+holding_behind now (Did others event answer) h = asked_at now
+holding_behind now _ h = h
+
+-- what its connection waits for allows the note, which says what is done, what is said, and what is waited for then
+pub record Goes {R : Type 0} (shows : R → Accounts → Type 0) (d : Daemon) (r : R) (now id : ℕ) (note : Note) (said : List ℕ) (e : Daemon) (q : R) : Type 0 where
+  pub before : Place
+  pub was : place_at d id ≡ Some before
+  pub allows : IsDue now before.waits → Allows now before.waits id note
+  pub makes : Makes shows r d note q e
+  pub says : said ≡ said_with before.waits note
+  pub place : Places d id (Some (place_behind now before note (client_at e.clients.sessions id))) e
+  pub holding : e.holding ≡ holding_behind now note d.holding
+
+-- ---- parts of that
+
+-- nothing more is known of a connection, and all else is as it was
+pub record Forgets (d : Daemon) (id : ℕ) (e : Daemon) : Type 0 where
+  pub clients : e.clients ≡ d.clients
+  pub place : Knows d id None e
+
+-- what a connection waits for changes, whatever it was, and all else is as it was
+pub record Renews (d : Daemon) (now id : ℕ) (w : Waits) (answered : Bool) (e : Daemon) : Type 0 where
+  pub clients : e.clients ≡ d.clients
+  pub holding : e.holding ≡ d.holding
+  pub place : (before : Place) → place_at d id ≡ Some before → Places d id (Some (renewed now before w answered (is_user (client_at d.clients.sessions id)))) e
+
+-- ---- work of its own: the store is given back
+
+-- so many milliseconds pass from one look for who waits for the store to the next, and so many without an event that asked it
+-- before it is given back at the latest
+abbrev pub look_span : ℕ
+look_span = 20
+
+abbrev pub max_rest : ℕ
+max_rest = 10000
+
+abbrev pub is_look_due : Daemon → ℕ → Bool
+is_look_due d now = d.holding.had && nat_le d.holding.look now
+
+-- where nobody waits it is kept, but for ten seconds at most
+abbrev pub Rests : Daemon → ℕ → Note → Daemon → Type 0
+Rests d now Looked e = (now < after_span d.holding.asked max_rest) × (e ≡ record d { holding = record d.holding { look = after_span now look_span } })
+Rests d now Gave e = e ≡ record d { holding = record d.holding { had = false } }
+Rests d now _ e = ⊥
+
+-- ---- all of it
+
+abbrev pub daemon_rules : {R : Type 0} → (R → Accounts → Type 0) → Rules Daemon Note R
+daemon_rules shows = record {
+  limit = limit_of;
+  displaced = λ d kind. None;
+  wants = λ d id. want_of (place_at d id) (client_at d.clients.sessions id);
+  has_work = is_look_due;
+  deadline = λ d id. due_of (place_at d id) (client_at d.clients.sessions id);
+  opens = λ d now kind id said e. Opens d now id said e;
+  gives = λ d now id piece said e. Gives d now id piece said e;
+  steps = λ d r now id note said e q. Goes shows d r now id note said e q;
+  lates = λ d now id said e. (said ≡ idle) × (e ≡ d);
+  works = λ d r now note e q. StillShows shows r q × Rests d now note e;
+  lacks = λ d id e. LacksFor d id e;
+  closes = λ d now id e. Closes d id e;
+}

@@ -1,0 +1,6 @@
+pub mod Acts
+pub mod DaemonRules
+pub mod Desk
+pub mod Headline
+pub mod Places
+pub mod Waiting

@@ -1,0 +1,107 @@
+-- What the daemon wants of a connection, by which moment it is late, and what it knows of it after each act.
+use Rattle.std.specs.Prelude.{◌≡◌, ℕ, ◌-◌, ◌^◌, ◌==◌, Bool, true, false, List, length, Option, Some, None, is_some, option_map, if◌then◌else◌}
+use Rattle.std.specs.Ordering.{nat_cmp}
+use Rattle.std.specs.BTreeMap as tree
+use Rattle.sessions.specs.Clients.{Client, is_ready}
+use Rattle.mailengine.specs.Hosts.{Kept}
+use Rattle.mailengine.specs.declared.answer.Answer.{Answer}
+use Rattle.mailengine.specs.declared.answer.Answer.TheVariants.{Out}
+use Rattle.wires.specs.Talk.{after_span}
+use Rattle.wires.specs.declared.machine.Want.{Want}
+use Rattle.wires.specs.declared.machine.Want.TheVariants.{More, Step, Until, Done}
+use Rattle.sieveddaemon.specs.Waiting.{waits_behind}
+use Rattle.sieveddaemon.specs.declared.note.Note.{Note}
+use Rattle.sieveddaemon.specs.declared.note.Note.TheVariants.{Did, Freed, Spoke}
+use Rattle.sieveddaemon.specs.declared.place.Place.{Place}
+use Rattle.sieveddaemon.specs.declared.place.Waits.{Waits}
+use Rattle.sieveddaemon.specs.declared.place.Waits.TheVariants as waits
+
+-- the session under a number, as contracts see it
+abbrev pub client_at : Kept → ℕ → Option Client
+client_at kept id = option_map (λ session. session.client) (tree.get nat_cmp kept id)
+
+-- ---- what is wanted
+
+-- a session that has ended nothing more; one with a whole item a step; any other octets
+abbrev pub want_of_session : Client → Want
+want_of_session c = if c.closed then Done else if is_ready c then Step else More
+
+abbrev pub want_by : Waits → Client → Want
+want_by waits.Nothing c = want_of_session c
+want_by (waits.Store since again) c = Until again
+want_by waits.Refused c = Step
+want_by (waits.Reply until text) c = Until until
+
+abbrev pub want_of : Option Place → Option Client → Want
+want_of (Some place) (Some c) = want_by place.waits c
+want_of _ _ = Done
+
+-- ---- when it is late
+
+-- so many milliseconds there are for a login in all, for a command from its first octet on, and for a client that is logged in and
+-- says nothing (RFC 5804, 1.2)
+abbrev pub max_login : ℕ
+max_login = 60000
+
+abbrev pub max_command : ℕ
+max_command = 300000
+
+abbrev pub max_silence : ℕ
+max_silence = 1800000
+
+-- of one that waits for something else nothing is owed: that wait has an end of its own
+abbrev pub never : ℕ
+never = 2 ^ 64 - 1
+
+-- one that is logged in owes the rest of what it began, or now and then a command
+abbrev pub due_of_user : ℕ → List ℕ → ℕ
+due_of_user since unread = if length unread == 0 then after_span since max_silence else after_span since max_command
+
+abbrev pub due_of_session : Place → Option (List ℕ) → List ℕ → ℕ
+due_of_session place None unread = after_span place.guest max_login
+due_of_session place (Some user) unread = due_of_user place.since unread
+
+abbrev pub due_by : Waits → Place → Client → ℕ
+due_by waits.Nothing place c = due_of_session place c.user c.unread
+due_by _ place c = never
+
+abbrev pub due_of : Option Place → Option Client → ℕ
+due_of (Some place) (Some c) = due_by place.waits place c
+due_of _ _ = never
+
+-- ---- what is known of it
+
+-- one that has just come
+abbrev pub new_place : ℕ → Place
+new_place now = record { waits = waits.Nothing; guest = now; since = now }
+
+-- octets came: where nothing was unread they begin what comes next
+abbrev pub begun : ℕ → Place → Bool → Place
+begun now place begins = record place { since = if begins then now else place.since }
+
+abbrev pub place_given : ℕ → Place → Client → Place
+place_given now place c = begun now place (length c.unread == 0)
+
+-- what is waited for changes: `answered`, where the next command is counted from now on; `user`, where somebody is logged in, who is a
+-- guest from now on at the earliest
+abbrev pub renewed : ℕ → Place → Waits → Bool → Bool → Place
+renewed now place w answered user =
+    record { waits = w; guest = if user then now else place.guest; since = if answered then now else place.since }
+
+abbrev pub is_out : Answer → Bool
+is_out (Out progress octets) = true
+is_out _ = false
+
+abbrev pub is_answered : Note → Bool
+is_answered (Did others event answer) = is_out answer
+is_answered (Freed event answer) = is_out answer
+is_answered Spoke = true
+is_answered _ = false
+
+abbrev pub is_user : Option Client → Bool
+is_user None = false
+is_user (Some c) = is_some c.user
+
+-- behind a note, with the session that is there then
+abbrev pub place_behind : ℕ → Place → Note → Option Client → Place
+place_behind now place note c = renewed now place (waits_behind now place.waits note) (is_answered note) (is_user c)

@@ -1,0 +1,111 @@
+-- What a connection waits for, what may be done for it then, and what is said.
+use Rattle.std.specs.Prelude.{◌≡◌, ℕ, ◌+◌, ◌≤◌, ◌<◌, nat_eq, Bool, true, false, ◌||◌, List, [], None, if◌then◌else◌, codes}
+use Rattle.std.specs.Cmp.Lexicographic.{pointwise}
+use Rattle.msproto.specs.Replies.{spelled}
+use Rattle.sessions.specs.Replies.{declined, farewell, capabilities}
+use Rattle.mailengine.specs.Hosts.{IsMade}
+use Rattle.mailengine.specs.declared.answer.Answer.{Answer}
+use Rattle.mailengine.specs.declared.answer.Answer.TheVariants.{Out, Refused}
+use Rattle.mailengine.specs.declared.event.Event.{Event}
+use Rattle.mailengine.specs.declared.event.Event.TheVariants.{Step, GiveUp}
+use Rattle.wires.specs.Talk.{after_span}
+use Rattle.sieveddaemon.specs.declared.note.Note.{Note}
+use Rattle.sieveddaemon.specs.declared.note.Note.TheVariants.{Did, Away, Freed, Spoke}
+use Rattle.sieveddaemon.specs.declared.place.Waits.{Waits}
+use Rattle.sieveddaemon.specs.declared.place.Waits.TheVariants as waits
+
+-- so many milliseconds the answer to a login that failed is kept back
+abbrev pub login_delay : ℕ
+login_delay = 2000
+
+-- so many milliseconds later the store is asked for again, and so many it is asked for in all
+abbrev pub retry_span : ℕ
+retry_span = 5
+
+abbrev pub max_away : ℕ
+max_away = 5000
+
+-- ---- what is said
+
+-- to who comes; to who was idle (RFC 5804, 1.2)
+abbrev pub greeting : List ℕ
+greeting = spelled (capabilities None)
+
+abbrev pub idle : List ℕ
+idle = spelled (farewell (codes "Idle."))
+
+-- whether that is the answer to a login that failed: no other answer of the table is spelled so
+abbrev pub is_failure : List ℕ → Bool
+is_failure octets =
+    pointwise nat_eq octets (spelled (declined None (codes "Authentication failed.")))
+    || pointwise nat_eq octets (spelled (farewell (codes "Too many failures.")))
+
+-- an answer is said at once, but for that to a login that failed; a refusal is not said
+abbrev pub said_at_once : Answer → List ℕ
+said_at_once (Out progress octets) = if is_failure octets then [] else octets
+said_at_once _ = []
+
+abbrev pub octets_of : Answer → List ℕ
+octets_of (Out progress octets) = octets
+octets_of _ = []
+
+-- what is said with a note, by what was waited for
+abbrev pub said_with : Waits → Note → List ℕ
+said_with w (Did others event answer) = said_at_once answer
+said_with w (Freed event answer) = said_at_once answer
+said_with (waits.Reply until text) Spoke = text
+said_with w _ = []
+
+-- ---- what is waited for then
+
+-- a login that failed waits for its moment, a command that was refused for its answer
+abbrev pub waits_after : ℕ → Answer → Waits
+waits_after now (Out progress octets) = if is_failure octets then waits.Reply (after_span now login_delay) octets else waits.Nothing
+waits_after now (Refused refusal) = waits.Refused
+waits_after now _ = waits.Nothing
+
+-- since when the store is asked for
+abbrev pub asked_since : ℕ → Waits → ℕ
+asked_since now (waits.Store since again) = since
+asked_since now _ = now
+
+-- what a connection waits for behind a note of it
+abbrev pub waits_behind : ℕ → Waits → Note → Waits
+waits_behind now w (Did others event answer) = waits_after now answer
+waits_behind now w (Freed event answer) = waits_after now answer
+waits_behind now w Away = waits.Store (asked_since now w) (after_span now retry_span)
+waits_behind now w _ = waits.Nothing
+
+-- ---- what may be done
+
+-- the store may be asked for what comes first: where nothing is waited for, or the store, for not yet five seconds
+abbrev pub MayAsk : ℕ → Waits → Type 0
+MayAsk now waits.Nothing = Unit {0}
+MayAsk now (waits.Store since again) = now < since + max_away
+MayAsk now _ = ⊥
+
+-- what comes first may be given up: where the store was asked for it for five seconds, or refused it
+abbrev pub MayGiveUp : ℕ → Waits → Type 0
+MayGiveUp now (waits.Store since again) = since + max_away ≤ now
+MayGiveUp now waits.Refused = Unit {0}
+MayGiveUp now _ = ⊥
+
+-- at a moment, for a connection that waits so: what comes first is stepped by the store, or that is away; or it is stepped at once, or
+-- given up; or what was kept back is said, at its moment
+abbrev pub Allows : ℕ → Waits → ℕ → Note → Type 0
+Allows now w id (Did others event answer) = MayAsk now w × (event ≡ Step id)
+Allows now w id Away = MayAsk now w
+Allows now waits.Nothing id (Freed event answer) = (event ≡ Step id) × IsMade answer
+Allows now w id (Freed event answer) = MayGiveUp now w × (event ≡ GiveUp id)
+Allows now (waits.Reply until text) id Spoke = until ≤ now
+Allows now w id note = ⊥
+
+-- something was kept back
+abbrev pub IsReply : Waits → Type 0
+IsReply (waits.Reply until text) = Unit {0}
+IsReply _ = ⊥
+
+-- its moment has come, where one is waited for
+abbrev pub IsDue : ℕ → Waits → Type 0
+IsDue now (waits.Reply until text) = until ≤ now
+IsDue now w = Unit {0}

@@ -1,0 +1,51 @@
+//! The store, as the daemon sees it.
+ghost use Rattle.std.specs.Prelude.{ℕ, IsTrue};
+ghost use Rattle.mailstore.specs.Account.{Accounts};
+ghost use Rattle.mailengine.specs.Hosts.{IsGivenUp};
+ghost use Rattle.wires.specs.declared.act.Act.TheVariants.{Noted};
+ghost use Rattle.wires.specs.Told.{TellsIf};
+ghost use Rattle.sieveddaemon.specs.declared.note.Note.TheVariants.{Freed, Spoke};
+ghost use Rattle.sieveddaemon.specs.Desk.{Carries, Looks, StillShowsIf};
+
+use crate::note::Note;
+use mailengine::{Answer, Clients, Event};
+use wires::outside::Outside;
+
+/// Where events are brought to a store that other processes use too. Each call but those that only tell asks for the store
+/// where it isn't had, and keeps it until it is given back.
+pub trait Desk: Outside<Note = Note> {
+    /// Which accounts the store shows.
+    ghost shows: { Self.Rest → Accounts → Type 0 };
+
+    /// The disk returned what was written.
+    ghost clean: { Self.Rest → Type 0 };
+
+    /// Brings an event to the store and its sessions, and answers it once its change is there for good. None where the
+    /// store isn't to be had now.
+    fn carry(&mut self, id: u32, clients: &mut Clients, event: &Event) -> Option<Answer>
+        requires { ¬ IsGivenUp event.now }
+        ensures kept { IsTrue (Self.tells self.new) → IsTrue (Self.tells self.old) }
+        ensures carries { Carries Self.tells Self.seen Self.rest shows clean id event.now self.old clients.old.sessions result self.new clients.new.sessions };
+
+    /// Tells that an event of a connection was answered that asks no store. Nothing is done.
+    fn tell_freed(&mut self, id: u32, event: &Event, answer: &Answer)
+        ensures kept { IsTrue (Self.tells self.new) → IsTrue (Self.tells self.old) }
+        ensures told { TellsIf Self.tells Self.seen self.old (Noted id (Freed event.now answer.now)) self.new }
+        ensures shown { StillShowsIf Self.tells Self.rest shows self.old self.new };
+
+    /// Tells that to a connection is said what was kept back. Nothing is done.
+    fn tell_spoke(&mut self, id: u32)
+        ensures kept { IsTrue (Self.tells self.new) → IsTrue (Self.tells self.old) }
+        ensures told { TellsIf Self.tells Self.seen self.old (Noted id Spoke) self.new }
+        ensures shown { StillShowsIf Self.tells Self.rest shows self.old self.new };
+
+    /// Looks whether somebody waits for the store, and gives it back where somebody does, or where it `rests`. Says whether
+    /// it was given back.
+    fn look(&mut self, rests: bool) -> bool
+        ensures kept { IsTrue (Self.tells self.new) → IsTrue (Self.tells self.old) }
+        ensures rests { IsTrue rests → IsTrue result }
+        ensures looks { Looks Self.tells Self.seen Self.rest shows clean self.old result self.new };
+
+    // Where it tells its acts, its disk doesn't lie.
+    ghost sure: { (desk : Self) → IsTrue (Self.tells desk) → clean (Self.rest desk) };
+}

@@ -1,0 +1,28 @@
+//! A daemon's life.
+ghost use Rattle.std.specs.Prelude.{IsTrue, OnErr};
+ghost use Rattle.sieveddaemon.specs.Headline.{Serves};
+
+use crate::daemon::Daemon;
+use crate::desk::Desk;
+use wires::life;
+use wires::outcome::Fault;
+use wires::outside::{Clock, Sockets};
+use wires::service::Service;
+
+/// Serves clients of ManageSieve, for so many acts.
+///
+/// # Errors
+///
+/// Where a wait failed.
+pub fn serve<O: Sockets + Clock + Desk>(
+    outside: &mut O,
+    daemon: &mut Daemon,
+    service: &mut Service,
+    acts: u64,
+) -> Result<(), Fault>
+    ensures kept { IsTrue (O.tells outside.new) → IsTrue (O.tells outside.old) }
+    ensures headline { Serves O.tells O.seen O.rest O.shows outside.old daemon.old service.old outside.new daemon.new }
+    ensures broke { OnErr result (IsTrue (O.broken outside.new)) }
+{
+    life::serve(outside, daemon, service, acts)
+}

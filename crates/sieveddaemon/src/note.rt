@@ -1,0 +1,30 @@
+//! What the daemon notes.
+use mailengine::{Answer, Event};
+use octets::List;
+
+/// What the daemon did when it went on with a connection, or by itself. One that tells its acts makes the value; over the
+/// system none is made.
+#[derive(Drop)]
+pub enum Note {
+    /// An event was brought to the store, and answered so.
+    Did {
+        /// By these other processes had changed the accounts, since the daemon had the store last; the sessions in them
+        /// come and go there.
+        others: List<Event>,
+        event: Event,
+        answer: Answer,
+    },
+    /// The store was asked for, and wasn't to be had.
+    Away,
+    /// An event that asks no store, whatever the accounts are, was answered so.
+    Freed {
+        event: Event,
+        answer: Answer,
+    },
+    /// What was kept back was said.
+    Spoke,
+    /// It was looked whether somebody waits for the store: nobody does.
+    Looked,
+    /// The store was given back.
+    Gave,
+}

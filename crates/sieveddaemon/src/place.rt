@@ -1,0 +1,25 @@
+//! What the daemon knows of a connection beside its session.
+use octets::Octets;
+
+/// What a connection waits for, beside its socket. Moments are in milliseconds.
+#[derive(Drop)]
+pub enum Waits {
+    /// Nothing.
+    Nothing,
+    /// The store, which wasn't to be had at the first moment, and is asked for again at the second.
+    Store(u64, u64),
+    /// The answer to a command that the store refused, or that lacked memory.
+    Refused,
+    /// The moment at which this is said.
+    Reply(u64, Octets),
+}
+
+/// What the daemon knows of a connection beside its session. Moments are in milliseconds.
+#[derive(Drop)]
+pub struct Place {
+    pub waits: Waits,
+    /// The moment since which nobody is logged in; where somebody is, that of the last answer.
+    pub guest: u64,
+    /// The moment of the last answer, or of the first octet after it.
+    pub since: u64,
+}

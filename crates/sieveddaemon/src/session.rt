@@ -1,0 +1,91 @@
+//! Connections that come, say something, and go.
+ghost use Rattle.std.specs.Prelude.{◌≡◌, [], Some, OnOk, OnErr};
+ghost use Rattle.std.specs.Ordering.{nat_cmp};
+ghost use Rattle.std.specs.BTreeMap as tree;
+ghost use Rattle.sieveddaemon.specs.Places.{begun};
+ghost use Rattle.sieveddaemon.specs.Waiting as waiting;
+ghost use Rattle.sieveddaemon.specs.DaemonRules.{Opens, Gives, Closes, LacksFor};
+
+use crate::daemon::Daemon;
+use crate::place::{Place, Waits};
+use crate::step::{forget, is_out, lack};
+use mailengine::{Answer, Event, apply_free};
+use octets::Octets;
+use std::alloc::{AllocError, Global};
+use std::collections::BTreeMap;
+
+/// One comes: it is greeted, and its session begins.
+pub fn enter(daemon: &mut Daemon, now: u64, id: u32, out: &mut Octets) -> Result<(), AllocError>
+    requires { out.old ≡ [] }
+    ensures ok { OnOk result (Opens daemon.old now id out.new daemon.new) }
+    ensures err { OnErr result (LacksFor daemon.old id daemon.new) }
+{
+    let place = Place {
+        waits: Waits::Nothing,
+        guest: now,
+        since: now,
+    };
+    if daemon.places.insert(id, place).is_err() {
+        return lack(daemon, id);
+    }
+    match apply_free(&mut daemon.clients, &Event::Open(id)) {
+        Ok(Some(answer)) => {
+            if !is_out(&answer) {
+                return lack(daemon, id);
+            }
+            *out = octets_of(daemon.alloc, answer);
+            Ok(())
+        }
+        Ok(None) => lack(daemon, id),
+        Err(AllocError) => lack(daemon, id),
+    }
+}
+
+/// What an answer has a client sent.
+fn octets_of(alloc: Global, answer: Answer) -> Octets
+    ensures { result ≡ waiting.octets_of answer }
+{
+    match answer {
+        Answer::Out(_, octets) => octets,
+        _ => Octets::new(alloc),
+    }
+}
+
+/// Octets of one come.
+pub fn hear(daemon: &mut Daemon, now: u64, id: u32, piece: &[u8]) -> Result<(), AllocError>
+    ensures ok { OnOk result (Gives daemon.old now id piece.now [] daemon.new) }
+    ensures err { OnErr result (LacksFor daemon.old id daemon.new) }
+{
+    let Some(session) = daemon.clients.session(id) else {
+        return lack(daemon, id);
+    };
+    let begins = session.unread_len() == 0;
+    if !daemon.places.contains_key(&id) {
+        return lack(daemon, id);
+    }
+    if !is_out(&daemon.clients.give(id, piece)) {
+        return lack(daemon, id);
+    }
+    begin(&mut daemon.places, now, id, begins);
+    Ok(())
+}
+
+/// Where the octets that came `begin` what comes next, it is counted from now on.
+fn begin(places: &mut BTreeMap<u32, Place>, now: u64, id: u32, begins: bool)
+    ensures { (before : Place) → tree.get nat_cmp places.old id ≡ Some before → tree.Updates nat_cmp places.old places.new id (Some (begun now before begins)) }
+{
+    let Some(place) = places.get_mut(&id) else {
+        return;
+    };
+    if begins {
+        place.since = now;
+    }
+}
+
+/// One is gone, and its session.
+pub fn leave(daemon: &mut Daemon, id: u32)
+    ensures { Closes daemon.old id daemon.new }
+{
+    forget(daemon, id);
+    let _ = apply_free(&mut daemon.clients, &Event::Close(id));
+}

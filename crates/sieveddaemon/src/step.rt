@@ -1,0 +1,322 @@
+//! The daemon goes on with a connection: one event, or one text that was kept back.
+ghost use Rattle.std.specs.Prelude.{◌≡◌, [], Some, false, IsTrue, IsSome, IsErr, OnOk, OnErr};
+ghost use Rattle.std.specs.Ordering.{nat_cmp};
+ghost use Rattle.std.specs.BTreeMap as tree;
+ghost use Rattle.wires.specs.Rules.{StepsIf, IdlesIf};
+ghost use Rattle.sieveddaemon.specs.DaemonRules.{daemon_rules, place_at, AtPlace, Forgets, Renews, LacksFor, had_at};
+ghost use Rattle.sieveddaemon.specs.Places as places;
+ghost use Rattle.sieveddaemon.specs.Places.{client_at, renewed};
+ghost use Rattle.sieveddaemon.specs.Waiting as waiting;
+ghost use Rattle.sieveddaemon.specs.Waiting.{MayAsk, MayGiveUp, said_at_once, waits_after, IsReply};
+ghost use Rattle.sieveddaemon.specs.declared.note.Note.TheVariants.{Away};
+ghost use Rattle.sieveddaemon.specs.declared.place.Waits.TheVariants.{Nothing};
+
+use crate::daemon::{Daemon, Holding};
+use crate::desk::Desk;
+use crate::place::{Place, Waits};
+use mailengine::{Answer, Clients, Event, apply_free};
+use octets::Octets;
+use std::alloc::AllocError;
+use std::collections::BTreeMap;
+use std::mem::replace;
+
+/// So many milliseconds the answer to a login that failed is kept back.
+const LOGIN_DELAY: u64 = 2000;
+
+/// So many milliseconds later the store is asked for again.
+const RETRY_SPAN: u64 = 5;
+
+/// For so many milliseconds the store is asked for in all.
+const MAX_AWAY: u64 = 5000;
+
+/// What is answered to a login that failed.
+const FAILED: &[u8] = b"NO \"Authentication failed.\"\r\n";
+
+/// The same at the third failure, which ends the session.
+const FAILED_LAST: &[u8] = b"BYE \"Too many failures.\"\r\n";
+
+// ---- what an answer comes to
+
+/// Whether that is the answer to a login that failed.
+fn is_failure(octets: &[u8]) -> bool
+    ensures { result ≡ waiting.is_failure octets.now }
+{
+    octets == FAILED || octets == FAILED_LAST
+}
+
+/// What is waited for behind an answer; what is said of it at once is put out.
+fn take_answer(now: u64, answer: Answer, out: &mut Octets) -> Waits
+    requires { out.old ≡ [] }
+    ensures waits { result ≡ waits_after now answer }
+    ensures said { out.new ≡ said_at_once answer }
+{
+    match answer {
+        Answer::Out(_, octets) => {
+            if is_failure(octets.as_slice()) {
+                return Waits::Reply(now.wrapping_add(LOGIN_DELAY), octets);
+            }
+            *out = octets;
+            Waits::Nothing
+        }
+        Answer::Refused(_) => Waits::Refused,
+        _ => Waits::Nothing,
+    }
+}
+
+/// Whether an answer is one of a session, and no refusal.
+pub fn is_out(answer: &Answer) -> bool
+    ensures { result ≡ places.is_out answer.now }
+{
+    match answer {
+        Answer::Out(_, _) => true,
+        _ => false,
+    }
+}
+
+// ---- what is known of one connection
+
+/// Whether somebody is logged in there.
+fn is_user(clients: &Clients, id: u32) -> bool
+    ensures { result ≡ places.is_user (client_at clients.now.sessions id) }
+{
+    match clients.session(id) {
+        Some(session) => session.is_logged_in(),
+        None => false,
+    }
+}
+
+/// Puts what a connection waits for in the place of what it waited for, which is given out.
+fn replace_waits(
+    places: &mut BTreeMap<u32, Place>,
+    now: u64,
+    id: u32,
+    waits: Waits,
+    answered: bool,
+    user: bool,
+) -> Waits
+    ensures changed { (before : Place) → tree.get nat_cmp places.old id ≡ Some before → tree.Updates nat_cmp places.old places.new id (Some (renewed now before waits answered user)) }
+    ensures before { (before : Place) → tree.get nat_cmp places.old id ≡ Some before → result ≡ before.waits }
+{
+    let Some(place) = places.get_mut(&id) else {
+        return Waits::Nothing;
+    };
+    let guest = if user { now } else { place.guest };
+    let since = if answered { now } else { place.since };
+    let before = replace(
+        place,
+        Place {
+            waits,
+            guest,
+            since,
+        },
+    );
+    before.waits
+}
+
+/// From now on a connection waits so; `answered`, where its next command is counted from now on.
+fn renew(daemon: &mut Daemon, now: u64, id: u32, waits: Waits, answered: bool) -> Waits
+    ensures renews { Renews daemon.old now id waits answered daemon.new }
+    ensures before { (before : Place) → place_at daemon.old id ≡ Some before → result ≡ before.waits }
+{
+    let user = is_user(&daemon.clients, id);
+    replace_waits(&mut daemon.places, now, id, waits, answered, user)
+}
+
+/// Nothing more is known of a connection.
+pub fn forget(daemon: &mut Daemon, id: u32)
+    ensures { Forgets daemon.old id daemon.new }
+{
+    let _ = daemon.places.remove(&id);
+}
+
+/// Memory is lacking for a connection.
+pub fn lack(daemon: &mut Daemon, id: u32) -> Result<(), AllocError>
+    ensures err { IsErr result }
+    ensures forgets { Forgets daemon.old id daemon.new }
+{
+    forget(daemon, id);
+    Err(AllocError)
+}
+
+/// What follows from an answer: what is said at once, and what is waited for.
+fn settle(daemon: &mut Daemon, now: u64, id: u32, answer: Answer, out: &mut Octets)
+    requires { out.old ≡ [] }
+    ensures renews { Renews daemon.old now id (waits_after now answer) (places.is_out answer) daemon.new }
+    ensures said { out.new ≡ said_at_once answer }
+{
+    let answered = is_out(&answer);
+    let waits = take_answer(now, answer, out);
+    let _ = renew(daemon, now, id, waits, answered);
+}
+
+/// Since when the store is asked for, for a connection.
+fn asked_since(daemon: &Daemon, now: u64, id: u32) -> u64
+    ensures { (before : Place) → place_at daemon.now id ≡ Some before → result ≡ waiting.asked_since now before.waits }
+{
+    let Some(place) = daemon.places.get(&id) else {
+        return now;
+    };
+    match &place.waits {
+        Waits::Store(since, _) => *since,
+        _ => now,
+    }
+}
+
+/// The same where the store answered: it is had then.
+fn settle_done(daemon: &mut Daemon, now: u64, id: u32, answer: Answer, out: &mut Octets)
+    requires { out.old ≡ [] }
+    ensures renews { Renews (had_at now daemon.old) now id (waits_after now answer) (places.is_out answer) daemon.new }
+    ensures said { out.new ≡ said_at_once answer }
+{
+    daemon.holding = Holding {
+        had: true,
+        look: now,
+        asked: now,
+    };
+    settle(daemon, now, id, answer, out)
+}
+
+/// A connection waits for the store.
+fn await_store(daemon: &mut Daemon, now: u64, id: u32)
+    ensures { (before : Place) → place_at daemon.old id ≡ Some before → Renews daemon.old now id (waiting.waits_behind now before.waits Away) false daemon.new }
+{
+    let since = asked_since(daemon, now, id);
+    let waits = Waits::Store(since, now.wrapping_add(RETRY_SPAN));
+    let _ = renew(daemon, now, id, waits, false);
+}
+
+// ---- one step
+
+/// What comes first is brought to the store.
+fn bring<O: Desk>(
+    daemon: &mut Daemon,
+    outside: &mut O,
+    now: u64,
+    id: u32,
+    out: &mut Octets,
+) -> Result<(), AllocError>
+    requires out { out.old ≡ [] }
+    requires may { AtPlace daemon.old id (λ place. MayAsk now place.waits) }
+    ensures kept { IsTrue (O.tells outside.new) → IsTrue (O.tells outside.old) }
+    ensures ok { OnOk result (StepsIf O.tells O.seen O.rest (daemon_rules O.shows) outside.old daemon.old now id out.new outside.new daemon.new) }
+    ensures err { OnErr result (IdlesIf O.tells O.seen O.rest outside.old outside.new) }
+    ensures lacks { OnErr result (LacksFor daemon.old id daemon.new) }
+{
+    match outside.carry(id, &mut daemon.clients, &Event::Step(id)) {
+        Some(answer) => {
+            settle_done(daemon, now, id, answer, out);
+            Ok(())
+        }
+        None => {
+            await_store(daemon, now, id);
+            Ok(())
+        }
+    }
+}
+
+/// What comes first is stepped: at once where it asks no store, else by the store.
+fn step_first<O: Desk>(
+    daemon: &mut Daemon,
+    outside: &mut O,
+    now: u64,
+    id: u32,
+    out: &mut Octets,
+) -> Result<(), AllocError>
+    requires out { out.old ≡ [] }
+    requires may { AtPlace daemon.old id (λ place. place.waits ≡ Nothing) }
+    ensures kept { IsTrue (O.tells outside.new) → IsTrue (O.tells outside.old) }
+    ensures ok { OnOk result (StepsIf O.tells O.seen O.rest (daemon_rules O.shows) outside.old daemon.old now id out.new outside.new daemon.new) }
+    ensures err { OnErr result (IdlesIf O.tells O.seen O.rest outside.old outside.new) }
+    ensures lacks { OnErr result (LacksFor daemon.old id daemon.new) }
+{
+    let event = Event::Step(id);
+    match apply_free(&mut daemon.clients, &event) {
+        Ok(None) => bring(daemon, outside, now, id, out),
+        Ok(Some(answer)) => {
+            if !is_out(&answer) {
+                return lack(daemon, id);
+            }
+            outside.tell_freed(id, &event, &answer);
+            settle(daemon, now, id, answer, out);
+            Ok(())
+        }
+        Err(AllocError) => lack(daemon, id),
+    }
+}
+
+/// What comes first is given up.
+fn give_up<O: Desk>(
+    daemon: &mut Daemon,
+    outside: &mut O,
+    now: u64,
+    id: u32,
+    out: &mut Octets,
+) -> Result<(), AllocError>
+    requires out { out.old ≡ [] }
+    requires may { AtPlace daemon.old id (λ place. MayGiveUp now place.waits) }
+    ensures kept { IsTrue (O.tells outside.new) → IsTrue (O.tells outside.old) }
+    ensures ok { OnOk result (StepsIf O.tells O.seen O.rest (daemon_rules O.shows) outside.old daemon.old now id out.new outside.new daemon.new) }
+    ensures err { OnErr result (IdlesIf O.tells O.seen O.rest outside.old outside.new) }
+    ensures lacks { OnErr result (LacksFor daemon.old id daemon.new) }
+{
+    let event = Event::GiveUp(id);
+    match apply_free(&mut daemon.clients, &event) {
+        Ok(Some(answer)) => {
+            outside.tell_freed(id, &event, &answer);
+            settle(daemon, now, id, answer, out);
+            Ok(())
+        }
+        Ok(None) => lack(daemon, id),
+        Err(AllocError) => lack(daemon, id),
+    }
+}
+
+/// What was kept back is said.
+fn speak<O: Desk>(daemon: &mut Daemon, outside: &mut O, now: u64, id: u32, out: &mut Octets)
+    requires out { out.old ≡ [] }
+    requires may { AtPlace daemon.old id (λ place. IsReply place.waits) }
+    ensures kept { IsTrue (O.tells outside.new) → IsTrue (O.tells outside.old) }
+    ensures ok { StepsIf O.tells O.seen O.rest (daemon_rules O.shows) outside.old daemon.old now id out.new outside.new daemon.new }
+{
+    outside.tell_spoke(id);
+    match renew(daemon, now, id, Waits::Nothing, true) {
+        Waits::Reply(_, text) => {
+            *out = text;
+        }
+        _ => {}
+    }
+}
+
+/// One step of a connection.
+pub fn step_once<O: Desk>(
+    daemon: &mut Daemon,
+    outside: &mut O,
+    now: u64,
+    id: u32,
+    out: &mut Octets,
+) -> Result<(), AllocError>
+    requires { out.old ≡ [] }
+    ensures kept { IsTrue (O.tells outside.new) → IsTrue (O.tells outside.old) }
+    ensures ok { OnOk result (StepsIf O.tells O.seen O.rest (daemon_rules O.shows) outside.old daemon.old now id out.new outside.new daemon.new) }
+    ensures err { OnErr result (IdlesIf O.tells O.seen O.rest outside.old outside.new) }
+    ensures lacks { OnErr result (LacksFor daemon.old id daemon.new) }
+{
+    let Some(place) = daemon.places.get(&id) else {
+        return lack(daemon, id);
+    };
+    match &place.waits {
+        Waits::Nothing => step_first(daemon, outside, now, id, out),
+        Waits::Store(since, _) => {
+            if now.saturating_sub(*since) < MAX_AWAY {
+                bring(daemon, outside, now, id, out)
+            } else {
+                give_up(daemon, outside, now, id, out)
+            }
+        }
+        Waits::Refused => give_up(daemon, outside, now, id, out),
+        Waits::Reply(_, _) => {
+            speak(daemon, outside, now, id, out);
+            Ok(())
+        }
+    }
+}

@@ -1,0 +1,63 @@
+//! What the daemon wants of a connection, and by which moment it is late.
+ghost use Rattle.std.specs.Prelude.{◌≡◌};
+ghost use Rattle.sieveddaemon.specs.Places as places;
+
+use crate::place::{Place, Waits};
+use sessions::Session;
+use wires::machine::Want;
+
+/// So many milliseconds there are for a login in all.
+const MAX_LOGIN: u64 = 60000;
+
+/// So many milliseconds there are for a command, from its first octet on.
+const MAX_COMMAND: u64 = 300000;
+
+/// For so many milliseconds a client that is logged in may say nothing (RFC 5804, 1.2).
+const MAX_SILENCE: u64 = 1800000;
+
+/// What is wanted of a connection that waits so.
+pub fn want_by(waits: &Waits, session: &Session) -> Want
+    ensures { result ≡ places.want_by waits.now session.now.client }
+{
+    match waits {
+        Waits::Nothing => want_of_session(session),
+        Waits::Store(_, again) => Want::Until(*again),
+        Waits::Refused => Want::Step,
+        Waits::Reply(until, _) => Want::Until(*until),
+    }
+}
+
+fn want_of_session(session: &Session) -> Want
+    ensures { result ≡ places.want_of_session session.now.client }
+{
+    if session.is_closed() {
+        Want::Done
+    } else if session.ready() {
+        Want::Step
+    } else {
+        Want::More
+    }
+}
+
+/// The moment by which a connection is late.
+pub fn due_by(place: &Place, session: &Session) -> u64
+    ensures { result ≡ places.due_by place.now.waits place.now session.now.client }
+{
+    match &place.waits {
+        Waits::Nothing => due_of_session(place, session),
+        _ => u64::MAX,
+    }
+}
+
+fn due_of_session(place: &Place, session: &Session) -> u64
+    ensures { result ≡ places.due_of_session place.now session.now.client.user session.now.client.unread }
+{
+    if !session.is_logged_in() {
+        return place.guest.wrapping_add(MAX_LOGIN);
+    }
+    if session.unread_len() == 0 {
+        place.since.wrapping_add(MAX_SILENCE)
+    } else {
+        place.since.wrapping_add(MAX_COMMAND)
+    }
+}
