@@ -4,6 +4,7 @@ pub mod Examples
 pub mod FeedLemmas
 pub mod FrontLemmas
 pub mod LineLemmas
+pub mod ParameterLemmas
 pub mod PathLemmas
 pub mod RouteLemmas
 pub mod TextLemmas

@@ -181,23 +181,21 @@ text_same sent text is =
 -- ---- where a text ends, its lines are found
 
 -- the first of some octets, and the others
-first_of : List ℕ → ℕ
+abbrev pub first_of : List ℕ → ℕ
 first_of [] = 0
 first_of (octet ∷ rest) = octet
 
-others_of : List ℕ → List ℕ
+abbrev pub others_of : List ℕ → List ℕ
 others_of [] = []
 others_of (octet ∷ rest) = rest
 
 pub same_first : (a b : ℕ) (xs ys : List ℕ) → a ∷ xs ≡ b ∷ ys → a ≡ b
-unfolding first_of
 same_first a b xs ys same = ap first_of same
 
 pub same_others : (a b : ℕ) (xs ys : List ℕ) → a ∷ xs ≡ b ∷ ys → xs ≡ ys
-unfolding others_of
 same_others a b xs ys same = ap others_of same
 
-not_none : (a : ℕ) (xs : List ℕ) → a ∷ xs ≡ [] → ⊥
+pub not_none : (a : ℕ) (xs : List ℕ) → a ∷ xs ≡ [] → ⊥
 not_none a xs same = grind (arith, same)
 
 none_longer : (octet : ℕ) (front back : List ℕ) → [] ≡ front ++ (octet ∷ back) → ⊥

@@ -5,6 +5,7 @@ use Rattle.std.specs.List.{list_all, flat_map}
 use Rattle.octets.specs.Decimal.{Writes}
 use Rattle.lmtp.specs.Commands.{IsWord, is_unspaced}
 use Rattle.lmtp.specs.Paths.{IsPath}
+use Rattle.lmtp.specs.declared.argument.Mail.{Mail}
 use Rattle.lmtp.specs.declared.argument.ArgumentFault.{ArgumentFault}
 use Rattle.lmtp.specs.declared.argument.ArgumentFault.TheVariants.{Syntax, Address, Parameter}
 
@@ -80,9 +81,27 @@ AreParameters (text ∷ texts) rest earlier size =
     (more : List ℕ) × (here : Option ℕ) × (rest ≡ 32 ∷ (text ++ more)) × (list_all is_unspaced text ≡ true) × Separated more
     × IsParameter text here × AreParameters texts more (or_earlier earlier here) size
 
+abbrev pub NoParameters : List ℕ → Option ℕ → Type 0
+NoParameters rest earlier = (texts : List (List ℕ)) (size : Option ℕ) → AreParameters texts rest earlier size → ⊥
+
+-- parameters that are all known, with the last size among them; or one that isn't
+abbrev pub ReadsParameters : List ℕ → Option ℕ → Result (Option ℕ) ArgumentFault → Type 0
+ReadsParameters rest earlier (Ok size) = (texts : List (List ℕ)) × AreParameters texts rest earlier size
+ReadsParameters rest earlier (Err fault) = (fault ≡ Parameter) × NoParameters rest earlier
+
 -- a sender, and the size that is announced
-pub record IsMail (argument address : List ℕ) (size : Option ℕ) : Type 0 where
-  pub rest : List ℕ
-  pub addressed : IsAddressed from_word TakesSender argument address rest
-  pub texts : List (List ℕ)
-  pub parameters : AreParameters texts rest None size
+pub record Sends : Type 0 where
+  pub from : List ℕ
+  pub size : Option ℕ
+
+-- a sender and known parameters; or what is wrong first
+abbrev pub ReadsMail : List ℕ → Result Sends ArgumentFault → Type 0
+ReadsMail argument (Ok mail) =
+    (rest : List ℕ) × IsAddressed from_word TakesSender argument mail.from rest × ReadsParameters rest None (Ok mail.size)
+ReadsMail argument (Err Parameter) =
+    (address rest : List ℕ) × IsAddressed from_word TakesSender argument address rest × NoParameters rest None
+ReadsMail argument (Err fault) = RefusesAddress from_word TakesSender argument fault
+
+abbrev pub mail_of : Result Mail ArgumentFault → Result Sends ArgumentFault
+mail_of (Ok mail) = Ok (record { from = mail.from.now; size = mail.size })
+mail_of (Err fault) = Err fault

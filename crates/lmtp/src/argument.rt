@@ -1,8 +1,10 @@
 //! What MAIL and RCPT are about.
-ghost use Rattle.std.specs.Prelude.{◌≡◌, ◌↔◌, ◌≤◌, ℕ, List, IsTrue, IfSome, IfNone, Ok, Err, length};
+ghost use Rattle.std.specs.Prelude.{◌≡◌, ◌↔◌, ◌≤◌, ℕ, List, Option, None, IsTrue, IfSome, IfNone, IfOk, IfErr, Ok, Err, length};
 ghost use Rattle.lmtp.specs.Arguments as s;
 
-use crate::path::read_path;
+use crate::path::{read_path, strip};
+use crate::verb::word_length;
+use octets::parse_decimal;
 
 /// The most octets of an address: this project's own limit.
 pub const MAX_ADDRESS: usize = 1024;
@@ -36,6 +38,87 @@ pub fn read_recipient(argument: &[u8]) -> Result<&[u8], ArgumentFault>
     } else {
         Err(ArgumentFault::Parameter)
     }
+}
+
+/// What MAIL is about.
+#[derive(Clone, Copy)]
+pub struct Mail<'a> {
+    /// The sender's address; empty for that of a bounce.
+    pub from: &'a [u8],
+    /// How many octets the message will have, where that is announced (RFC 1870).
+    pub size: Option<u64>,
+}
+
+/// What MAIL is about. One pass; takes no memory.
+pub fn read_mail(argument: &[u8]) -> Result<Mail<'_>, ArgumentFault>
+    ensures { s.ReadsMail argument.now (s.mail_of result) }
+{
+    let Some(text) = after_word(argument, b"FROM:") else {
+        return Err(ArgumentFault::Syntax);
+    };
+    let Some(path) = read_path(text) else {
+        return Err(ArgumentFault::Address);
+    };
+    if path.address.len() > MAX_ADDRESS {
+        return Err(ArgumentFault::Address);
+    }
+    match read_parameters(path.rest) {
+        Ok(size) => Ok(Mail {
+            from: path.address,
+            size,
+        }),
+        Err(fault) => Err(fault),
+    }
+}
+
+// The last size among parameters, a SP before each.
+fn read_parameters(rest: &[u8]) -> Result<Option<u64>, ArgumentFault>
+    ensures { s.ReadsParameters rest.now None result }
+{
+    let mut left = rest;
+    let mut size = None;
+    while !left.is_empty() {
+        let Some(more) = strip(left, b' ') else {
+            return Err(ArgumentFault::Parameter);
+        };
+        let count = word_length(more);
+        let Ok(here) = read_parameter(&more[..count]) else {
+            return Err(ArgumentFault::Parameter);
+        };
+        size = later(size, here);
+        left = &more[count..];
+    }
+    Ok(size)
+}
+
+// The later size, where there is one.
+fn later(earlier: Option<u64>, here: Option<u64>) -> Option<u64>
+    ensures { result ≡ s.or_earlier earlier here }
+{
+    match here {
+        Some(size) => Some(size),
+        None => earlier,
+    }
+}
+
+// A parameter: a size, or one that changes nothing here.
+fn read_parameter(text: &[u8]) -> Result<Option<u64>, ArgumentFault>
+    ensures found { IfOk result (λ size. s.IsParameter text.now size) }
+    ensures none { IfErr result (λ fault. (size : Option ℕ) → s.IsParameter text.now size → ⊥) }
+{
+    if let Some(digits) = after_word(text, b"SIZE=") {
+        return match parse_decimal(digits) {
+            Some(size) => Ok(Some(size)),
+            None => Err(ArgumentFault::Parameter),
+        };
+    }
+    if text.eq_ignore_ascii_case(b"BODY=7BIT")
+        || text.eq_ignore_ascii_case(b"BODY=8BITMIME")
+        || text.eq_ignore_ascii_case(b"SMTPUTF8")
+    {
+        return Ok(None);
+    }
+    Err(ArgumentFault::Parameter)
 }
 
 // Whether an address may be that of a recipient.

@@ -122,7 +122,7 @@ fn after_route(text: &[u8]) -> Option<&[u8]>
 }
 
 // What stands behind that octet in front.
-fn strip(text: &[u8], wanted: u8) -> Option<&[u8]>
+pub(crate) fn strip(text: &[u8], wanted: u8) -> Option<&[u8]>
     ensures found { IfSome result (λ rest. text.now ≡ wanted ∷ rest.now) }
     ensures none { IfNone result ((rest : List ℕ) → text.now ≡ wanted ∷ rest → ⊥) }
 {

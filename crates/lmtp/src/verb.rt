@@ -46,7 +46,7 @@ pub fn read_line(line: &[u8]) -> Option<CommandLine<'_>>
 }
 
 // How many octets the first word has.
-fn word_length(line: &[u8]) -> usize
+pub(crate) fn word_length(line: &[u8]) -> usize
     ensures value { result ≡ prefix_len s.is_unspaced line.now }
     ensures within { result ≤ length line.now }
 {
