@@ -1,5 +1,6 @@
 //! Laws of the definitions, each the contract of a function that does nothing.
 ghost use Rattle.lmtp.specs.Lines.{LinesStand};
+ghost use Rattle.lmtp.specs.Replies.{HostsFaultsPass};
 ghost use Rattle.lmtp.specs.Texts.{TextsAgree};
 
 /// A text by its lines and a text octet by octet are the same: where it ends, and what it is.
@@ -10,4 +11,9 @@ pub fn texts_agree()
 /// What stands first in a stream of command lines is one, and stays the same whatever octets follow.
 pub fn lines_stand()
     ensures { LinesStand }
+{}
+
+/// For a fault of this host a client is told to try again: no message is bounced for it.
+pub fn hosts_faults_pass()
+    ensures { HostsFaultsPass }
 {}

@@ -4,7 +4,9 @@
 pub mod argument;
 pub mod laws;
 pub mod line;
+pub mod order;
 pub mod path;
+pub mod reply;
 pub mod text;
 pub mod verb;
 
