@@ -9,6 +9,7 @@ use Rattle.mailengine.specs.declared.answer.Answer.{Answer}
 use Rattle.mailengine.specs.declared.event.Event.{Event}
 use Rattle.mailengine.specs.declared.event.Event.TheVariants.{Open, Give, Close}
 use Rattle.mailengine.proofs.AloneLemmas.{projection}
+use Rattle.mailengine.proofs.SoundLemmas.{runs_sound}
 use Rattle.mailengine.proofs.SpacingLemmas.{spacing}
 use Rattle.wires.specs.declared.act.Act.{Act}
 use Rattle.wires.specs.declared.act.Act.TheVariants.{Came, Heard, Noted, Ended}
@@ -151,6 +152,7 @@ module _ {R : Type 0} (shows : R → Accounts → Type 0) where
             agree = ran.2;
             alone = projection (events_in (acts_of moves)) ran.0 (world_of start) led.0 ran.1;
             spaced = spacing (events_in (acts_of moves)) ran.0 (world_of start) led.0 ran.1;
+            sound = λ are_sound. runs_sound (events_in (acts_of moves)) ran.0 (world_of start) led.0 are_sound ran.1;
             right = λ id. right_on m moves n id no_line passes (untied id);
             sent = λ id. sent_on m moves n id no_line passes (untied id) (unsaid id);
           },
