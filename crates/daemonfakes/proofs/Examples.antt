@@ -1,11 +1,10 @@
 -- Right cases of the definitions, and near misses.
-use Rattle.std.proofs.Common.{◌≡◌, ℕ, true, false, List, [], ◌∷◌, Option, Some, None, option_map, refl, sym, ◌∙◌, ap, subst, inl, inr}
+use Rattle.std.proofs.Common.{◌≡◌, ℕ, true, false, List, [], ◌∷◌, None, option_map, refl, sym, ◌∙◌, ap, subst, inl, inr}
 use Rattle.std.specs.FinMap.{empty, get, get-empty}
 use Rattle.std.specs.Ordering.{nat_cmp}
 use Rattle.std.specs.BTreeMap as tree
 use Rattle.std.specs.Map.{lookup}
 use Rattle.mailstore.specs.Account.{Accounts}
-use Rattle.sessions.specs.Clients.{Client}
 use Rattle.sessions.specs.declared.progress.Progress.TheVariants.{Done}
 use Rattle.mailengine.specs.Hosts.{Kept}
 use Rattle.mailengine.specs.World.{World, InSession, Steps, Next, Runs}

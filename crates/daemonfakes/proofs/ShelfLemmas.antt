@@ -1,13 +1,13 @@
 -- Events of others, and what follows them, on accounts that are kept in memory.
-use Rattle.std.proofs.Common.{◌≡◌, inl, inr, Bool, true, false, List, [], ◌∷◌, ◌++◌, refl, sym, ◌∙◌, ap, subst}
+use Rattle.std.proofs.Common.{◌≡◌, inl, inr, true, List, [], ◌∷◌, refl, ap}
 use Rattle.mailstore.specs.Account.{Accounts}
 use Rattle.mailengine.specs.Hosts.{Kept}
-use Rattle.mailengine.specs.World.{World, Clients, Next, Runs}
+use Rattle.mailengine.specs.World.{World, Clients, Next}
 use Rattle.mailengine.specs.declared.answer.Answer.{Answer}
 use Rattle.mailengine.specs.declared.event.Event.{Event}
 use Rattle.mailengine.specs.declared.event.Event.TheVariants.{Deliver, AddUser, TakeOut, TakeMail}
-use Rattle.sieveddaemon.specs.Desk.{IsWorld, AreOthers, IsOthers, IsDone}
-use Rattle.daemonfakes.specs.Shelves.{IsApplied, LetsAt, LetsOthers, is_of_accounts}
+use Rattle.sieveddaemon.specs.Desk.{IsOthers, IsDone}
+use Rattle.daemonfakes.specs.Shelves.{IsApplied, LetsOthers, is_of_accounts}
 
 -- no event
 pub lets_none : {S : Type 0} (holds : S → Accounts → Type 0) (s : S) (kept : Kept) → LetsOthers holds [] s kept s kept

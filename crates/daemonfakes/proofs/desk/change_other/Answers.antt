@@ -1,4 +1,4 @@
-use Rattle.std.proofs.Common.{◌≡◌, ◌∷◌, ◌∙◌, [], rules, sym, subst}
+use Rattle.std.proofs.Common.{◌≡◌, ◌∷◌, [], rules, sym, subst}
 use Rattle.daemonfakes.specs.Shelves.{LetsOthers}
 use Rattle.daemonfakes.proofs.ShelfLemmas.{lets_none, lets_one}
 use Rattle.daemonfakes.proofs.desk.change_other.Goals as goal

@@ -1,4 +1,4 @@
-use Rattle.std.proofs.Common.{◌≡◌, [], sym, subst}
+use Rattle.std.proofs.Common.{sym, subst}
 use Rattle.daemonfakes.specs.Shelves.{LetsOthers}
 use Rattle.daemonfakes.proofs.ShelfLemmas.{lets_none}
 use Rattle.daemonfakes.proofs.desk.DeskFake.let_other.Goals as goal

@@ -1,6 +1,5 @@
-use Rattle.std.proofs.Common.{◌≡◌, ◌∷◌, ◌++◌, ◌∙◌, [], IsTrue, not, sym, ap, subst}
-use Rattle.mailengine.specs.Hosts.{Kept}
-use Rattle.daemonfakes.specs.Shelves.{LetsOthers, IsApplied}
+use Rattle.std.proofs.Common.{◌≡◌, ◌∷◌, ◌++◌, ◌∙◌, [], sym, ap, subst}
+use Rattle.daemonfakes.specs.Shelves.{LetsOthers}
 use Rattle.sieveddaemon.specs.Desk.{IsDone}
 use Rattle.wires.specs.declared.act.Act.TheVariants.{Noted}
 use Rattle.sieveddaemon.specs.declared.note.Note.TheVariants.{Did}
