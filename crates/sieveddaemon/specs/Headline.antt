@@ -8,7 +8,6 @@ use Rattle.mailengine.specs.Spacing.{IsSpaced}
 use Rattle.mailengine.specs.World.{World, Runs}
 use Rattle.mailengine.specs.declared.answer.Answer.{Answer}
 use Rattle.wires.specs.Life.{Fresh, IsFrontOf}
-use Rattle.wires.specs.Moves.{at}
 use Rattle.wires.specs.declared.act.Act.{Act}
 use Rattle.wires.specs.declared.service.Service.{Service}
 use Rattle.sieveddaemon.specs.Acts.{LeadsOn, events_in, AnswersIn, no_line, tell_on, AreRight}
