@@ -1,13 +1,12 @@
 -- Events of sessions: what is left as it was, and what is answered whatever accounts there are.
-use Rattle.std.proofs.Common.{◌≡◌, ◌⊎◌, inl, inr, ℕ, Bool, true, false, cond, List, [], ◌∷◌, ◌++◌, Option, Some, None, option_map, is_some, is_err, Result, Ok, Err, IfOk, IfSome, IfNone, OnOk, OnErr, refl, sym, ◌∙◌, ap, subst, append_assoc}
+use Rattle.std.proofs.Common.{◌≡◌, inl, inr, ℕ, Bool, true, false, cond, List, [], ◌∷◌, ◌++◌, Option, Some, None, option_map, is_some, is_err, Result, Ok, Err, IfOk, IfSome, IfNone, OnOk, OnErr, refl, sym, ◌∙◌, ap, subst}
 use Rattle.std.specs.declared.alloc.AllocError.{AllocError}
 use Rattle.std.specs.Cmp.{nat_cmp_total}
-use Rattle.std.specs.FinMap.{FinMap, get, insert, remove, same_map, empty, get-empty, nat_cmp-IsAntisymmetric}
+use Rattle.std.specs.FinMap.{get, same_map, empty, get-empty, nat_cmp-IsAntisymmetric}
 use Rattle.std.specs.Map.{lookup}
 use Rattle.std.specs.Ordering.{nat_cmp}
 use Rattle.std.specs.BTreeMap as tree
-use Rattle.mailstore.specs.Account.{Accounts, no_accounts}
-use Rattle.mailstore.specs.declared.refusal.Refusal.{Refusal}
+use Rattle.mailstore.specs.Account.{no_accounts}
 use Rattle.mailstore.specs.declared.refusal.Refusal.TheVariants.{Memory}
 use Rattle.sessions.specs.Clients.{Client, client_given}
 use Rattle.sessions.specs.Steps.{progress_of}
@@ -21,11 +20,11 @@ use Rattle.sieveddaemon.specs.Places.{is_out}
 use Rattle.sieveddaemon.specs.declared.daemon.Daemon.{Daemon}
 use Rattle.sieveddaemon.specs.declared.place.Place.{Place}
 use Rattle.sieveddaemon.specs.Waiting.{greeting, octets_of}
-use Rattle.mailengine.specs.World.{World, Clients, Next, Runs, Happens, Opens, InSession, Becomes, Steps, IsRefused, MayRefuse, if_open, is_closed, with_session}
+use Rattle.mailengine.specs.World.{World, Clients, Next, Runs, Opens, InSession, Becomes, Steps, if_open, is_closed, with_session}
 use Rattle.mailengine.specs.declared.answer.Answer.{Answer}
 use Rattle.mailengine.specs.declared.answer.Answer.TheVariants.{Out, Ignored, Refused}
 use Rattle.mailengine.specs.declared.event.Event.{Event}
-use Rattle.mailengine.specs.declared.event.Event.TheVariants.{Open, Give, Step, GiveUp, Close}
+use Rattle.mailengine.specs.declared.event.Event.TheVariants.{Open, Give, Step, Close}
 
 -- ---- runs in turn
 

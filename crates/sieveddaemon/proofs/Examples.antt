@@ -1,8 +1,8 @@
 -- Right cases of the definitions, and near misses.
-use Rattle.std.proofs.Common.{◌≡◌, ℕ, ◌+◌, ◌≤◌, ◌<◌, Bool, true, false, List, [], ◌∷◌, ◌++◌, Option, Some, None, codes, refl, sym, ◌∙◌, ap, arith, inl, inr}
+use Rattle.std.proofs.Common.{◌≡◌, ℕ, false, List, [], ◌∷◌, Option, Some, None, codes, refl, sym, ◌∙◌, arith, inl, inr}
 use Rattle.std.specs.FinMap.{get}
 use Rattle.msproto.specs.Replies.{spelled}
-use Rattle.mailstore.specs.declared.refusal.Refusal.TheVariants.{Store, Memory}
+use Rattle.mailstore.specs.declared.refusal.Refusal.TheVariants.{Store}
 use Rattle.sessions.specs.Clients.{Client}
 use Rattle.sessions.specs.Replies.{accepted, declined, farewell, try_later}
 use Rattle.sessions.specs.declared.progress.Progress.TheVariants.{Done, Close}
@@ -14,9 +14,9 @@ use Rattle.mailengine.specs.declared.event.Event.TheVariants.{Step, GiveUp}
 use Rattle.wires.specs.Life.{IsFrontOf}
 use Rattle.wires.specs.declared.act.Act.{Act}
 use Rattle.wires.specs.declared.act.Act.TheVariants.{Timed, Sent, Noted}
-use Rattle.sieveddaemon.specs.Acts.{Line, no_line, tell_on, AreRight, LeadsBy}
+use Rattle.sieveddaemon.specs.Acts.{no_line, tell_on, AreRight, LeadsBy}
 use Rattle.sieveddaemon.specs.Desk.{AreOthers}
-use Rattle.sieveddaemon.specs.Places.{new_place, due_by, never, want_by}
+use Rattle.sieveddaemon.specs.Places.{new_place, due_by, never}
 use Rattle.sieveddaemon.specs.Waiting.{Allows, said_at_once, is_failure}
 use Rattle.sieveddaemon.specs.declared.note.Note.{Note}
 use Rattle.sieveddaemon.specs.declared.note.Note.TheVariants.{Did, Away, Freed, Spoke}

@@ -1,25 +1,23 @@
 -- From the moves of a life to its headline.
-use Rattle.std.proofs.Common.{◌≡◌, ◌⊎◌, inl, inr, ℕ, List, [], ◌∷◌, ◌++◌, Option, Some, None, refl, sym, ◌∙◌, ap, subst}
+use Rattle.std.proofs.Common.{◌≡◌, inl, ℕ, List, [], ◌∷◌, ◌++◌, Some, None, refl, sym, ◌∙◌, ap, subst}
 use Rattle.std.specs.Ordering.{nat_cmp}
 use Rattle.std.specs.BTreeMap as tree
 use Rattle.std.specs.Map.{lookup}
 use Rattle.mailstore.specs.Account.{Accounts}
 use Rattle.mailengine.specs.World.{World, Next, Runs}
 use Rattle.mailengine.specs.declared.answer.Answer.{Answer}
-use Rattle.mailengine.specs.declared.event.Event.{Event}
 use Rattle.mailengine.specs.declared.event.Event.TheVariants.{Open, Give, Close}
 use Rattle.mailengine.proofs.AloneLemmas.{projection}
+use Rattle.mailengine.proofs.SoundLemmas.{runs_sound}
 use Rattle.mailengine.proofs.SpacingLemmas.{spacing}
 use Rattle.wires.specs.declared.act.Act.{Act}
 use Rattle.wires.specs.declared.act.Act.TheVariants.{Came, Heard, Noted, Ended}
-use Rattle.wires.specs.declared.service.Service.{Service}
-use Rattle.wires.specs.Life.{Move, acts_of, Passes, Lives, Fresh, IsFrontOf}
+use Rattle.wires.specs.Life.{Move, acts_of, Passes, Fresh, IsFrontOf}
 use Rattle.wires.specs.Moves.{Moment, Moves}
-use Rattle.wires.specs.Rules.{Rules}
 use Rattle.wires.specs.Talk.{client_of}
 use Rattle.sieveddaemon.specs.Acts.{Line, no_line, LeadsBy, Leads, LeadsOn, events_by, events_at, events_in, AnswersBy, AnswersAt, AnswersIn, moment_after, tell, tell_on, IsRight, AreRight}
 use Rattle.sieveddaemon.specs.DaemonRules.{daemon_rules, place_at}
-use Rattle.sieveddaemon.specs.Desk.{DoneAt, IsWorld}
+use Rattle.sieveddaemon.specs.Desk.{IsWorld}
 use Rattle.sieveddaemon.specs.Headline.{world_of, HoldsAfter, Headline, IsNew}
 use Rattle.sieveddaemon.specs.declared.daemon.Daemon.{Daemon}
 use Rattle.sieveddaemon.specs.declared.note.Note.{Note}
@@ -151,6 +149,7 @@ module _ {R : Type 0} (shows : R → Accounts → Type 0) where
             agree = ran.2;
             alone = projection (events_in (acts_of moves)) ran.0 (world_of start) led.0 ran.1;
             spaced = spacing (events_in (acts_of moves)) ran.0 (world_of start) led.0 ran.1;
+            sound = λ are_sound. runs_sound (events_in (acts_of moves)) ran.0 (world_of start) led.0 are_sound ran.1;
             right = λ id. right_on m moves n id no_line passes (untied id);
             sent = λ id. sent_on m moves n id no_line passes (untied id) (unsaid id);
           },

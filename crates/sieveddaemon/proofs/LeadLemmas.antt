@@ -1,8 +1,8 @@
 -- What a move of the daemon makes of accounts and sessions.
-use Rattle.std.proofs.Common.{◌≡◌, ◌⊎◌, inl, inr, ℕ, Bool, true, false, List, [], ◌∷◌, ◌++◌, Option, Some, None, refl, sym, ◌∙◌, ap, subst}
+use Rattle.std.proofs.Common.{◌≡◌, ◌⊎◌, inl, inr, ℕ, List, refl, sym, subst}
 use Rattle.mailstore.specs.Account.{Accounts}
-use Rattle.mailengine.specs.Hosts.{Kept, HasClients, KeepsClients, IsSessionEvent}
-use Rattle.mailengine.specs.World.{World, Clients, Next, Runs}
+use Rattle.mailengine.specs.Hosts.{KeepsClients, IsSessionEvent}
+use Rattle.mailengine.specs.World.{World, Clients, Next}
 use Rattle.mailengine.specs.declared.answer.Answer.{Answer}
 use Rattle.mailengine.specs.declared.event.Event.{Event}
 use Rattle.mailengine.specs.declared.event.Event.TheVariants.{Open, Give, Close}
@@ -14,7 +14,7 @@ use Rattle.wires.specs.Turns.{Turns, Opens as Enters, Goes, Lacks, Parting}
 use Rattle.wires.specs.Talk.{client_of, kind_of}
 use Rattle.sieveddaemon.specs.Acts.{LeadsBy, Leads}
 use Rattle.sieveddaemon.specs.DaemonRules.{daemon_rules, Happened, Makes, Rests, Opens, Gives, LacksFor}
-use Rattle.sieveddaemon.specs.Desk.{IsWorld, IsDone, NothingDone, StillShows}
+use Rattle.sieveddaemon.specs.Desk.{IsWorld, StillShows}
 use Rattle.sieveddaemon.specs.declared.daemon.Daemon.{Daemon}
 use Rattle.sieveddaemon.specs.declared.note.Note.{Note}
 use Rattle.sieveddaemon.specs.declared.note.Note.TheVariants.{Did, Away, Freed, Spoke, Looked, Gave}

@@ -1,36 +1,27 @@
 -- What acts tell of one connection agrees with what the daemon and the loop keep of it.
-use Rattle.std.proofs.Common.{◌≡◌, ◌⊎◌, inl, inr, ℕ, ◌+◌, ◌%◌, ◌^◌, ◌≤◌, ◌<◌, nat_lt, Bool, true, false, cond, List, [], ◌∷◌, ◌++◌, Option, Some, None, refl, sym, ◌∙◌, ap, subst, append_assoc, append-nil, arith, rules}
-use Rattle.std.specs.Ordering.{nat_cmp, is_eq}
+use Rattle.std.proofs.Common.{◌≡◌, ◌⊎◌, inl, inr, ℕ, ◌≤◌, nat_lt, Bool, true, false, cond, List, ◌++◌, Option, Some, None, refl, sym, ◌∙◌, ap, subst}
 use Rattle.std.proofs.lemmas.Bool.{ltb-false}
-use Rattle.std.specs.BTreeMap as tree
 use Rattle.mailstore.specs.Account.{Accounts}
 use Rattle.sessions.specs.Clients.{Client as SessionClient}
 use Rattle.wires.specs.declared.act.Act.{Act}
 use Rattle.wires.specs.declared.act.Act.TheVariants.{Woke, Began, Timed, Late, Waits, Roused, Worked, Came, NoneCame, Crowded, Displaced, Listened, InUse, Heard, ReadBlocked, Over, Sent, WriteBlocked, Lost, Noted, Full, Again, Shut, Dropped, Ended}
-use Rattle.wires.specs.declared.machine.Want.{Want}
-use Rattle.wires.specs.declared.machine.Want.TheVariants as want
-use Rattle.wires.specs.declared.service.Client.{Client}
 use Rattle.wires.specs.declared.service.Service.{Service}
-use Rattle.wires.specs.declared.turn.Turn.{Turn}
-use Rattle.wires.specs.declared.turn.Turn.TheVariants.{Leaving}
-use Rattle.wires.specs.declared.turn.Task.{Task}
-use Rattle.wires.specs.declared.turn.Task.TheVariants.{Send, Hear, Step, Rest, HangUp}
-use Rattle.wires.specs.Life.{IsFrontOf}
+use Rattle.wires.specs.declared.turn.Task.TheVariants.{Step, Rest}
 use Rattle.wires.specs.Moves.{Ticks}
-use Rattle.wires.specs.Talk.{same, client_of, kind_of, is_quiet, task, task_wanted, newcomer, Comes, Answers, Sends, Parts, OrNothing, Shuts, Drops, At, Talks, drained, max_unsent, max_parting, max_dropped, after_span}
-use Rattle.wires.specs.Turns.{Turns, Tasks, GoesOn, Goes as Went, Lacks, Parting, Opens as Enters}
-use Rattle.wires.proofs.TalkLemmas.{one_number, unsent_of}
-use Rattle.sieveddaemon.specs.Acts.{Line, new_line, no_line, moment_after, noted, tell, tell_on, IsRight, AreRight}
-use Rattle.sieveddaemon.specs.DaemonRules.{daemon_rules, place_at, Makes, Rests, Opens, Gives, Goes, Closes, LacksFor}
+use Rattle.wires.specs.Talk.{same, client_of, kind_of, task_wanted}
+use Rattle.wires.specs.Turns.{Turns, GoesOn, Goes as Went, Lacks, Parting, Opens as Enters}
+use Rattle.wires.proofs.TalkLemmas.{one_number}
+use Rattle.sieveddaemon.specs.Acts.{Line, new_line, moment_after, noted, tell, IsRight}
+use Rattle.sieveddaemon.specs.DaemonRules.{daemon_rules, place_at, Rests, Opens, Gives, Goes, LacksFor}
 use Rattle.sieveddaemon.specs.Places.{client_at, want_of, want_by, place_given, place_behind, new_place}
-use Rattle.sieveddaemon.specs.Waiting.{Allows, IsDue, waits_behind, said_with, greeting, idle}
+use Rattle.sieveddaemon.specs.Waiting.{Allows, IsDue, waits_behind, idle}
 use Rattle.sieveddaemon.specs.declared.daemon.Daemon.{Daemon}
 use Rattle.sieveddaemon.specs.declared.note.Note.{Note}
 use Rattle.sieveddaemon.specs.declared.note.Note.TheVariants.{Looked, Gave, Did, Away, Freed, Spoke}
 use Rattle.sieveddaemon.specs.declared.place.Place.{Place}
 use Rattle.sieveddaemon.specs.declared.place.Waits.{Waits as Waiting}
 use Rattle.sieveddaemon.specs.declared.place.Waits.TheVariants as waits
-use Rattle.sieveddaemon.proofs.TurnLemmas.{IsEnd, ends, wanted_at}
+use Rattle.sieveddaemon.proofs.TurnLemmas.{wanted_at}
 
 -- ---- the moment
 

@@ -1,7 +1,6 @@
 -- What was sent on a connection is a front of what its acts spell.
-use Rattle.std.proofs.Common.{◌≡◌, ◌⊎◌, inl, inr, ℕ, ◌+◌, ◌%◌, ◌^◌, ◌<◌, Bool, true, false, cond, List, [], ◌∷◌, ◌++◌, Option, Some, None, refl, sym, ◌∙◌, ap, subst, append_assoc, append-nil}
+use Rattle.std.proofs.Common.{◌≡◌, ◌⊎◌, inl, inr, ℕ, Bool, true, false, cond, List, [], ◌++◌, Option, Some, None, refl, sym, ◌∙◌, ap, subst, append_assoc, append-nil}
 use Rattle.std.specs.Cmp.{eq_by_cmp_equiv, nat_cmp_total}
-use Rattle.std.specs.Ordering.{nat_cmp, is_eq}
 use Rattle.mailstore.specs.Account.{Accounts}
 use Rattle.wires.specs.declared.act.Act.{Act}
 use Rattle.wires.specs.declared.act.Act.TheVariants.{Woke, Began, Timed, Late, Waits, Roused, Worked, Came, NoneCame, Crowded, Displaced, Listened, InUse, Heard, ReadBlocked, Over, Sent, WriteBlocked, Lost, Noted, Full, Again, Shut, Dropped, Ended}
@@ -10,13 +9,13 @@ use Rattle.wires.specs.declared.service.Service.{Service}
 use Rattle.wires.specs.declared.service.Phase.TheVariants as phase
 use Rattle.wires.specs.declared.turn.Turn.{Turn}
 use Rattle.wires.specs.declared.turn.Turn.TheVariants.{Leaving}
-use Rattle.wires.specs.declared.turn.Task.TheVariants.{Hear, Send, Step}
+use Rattle.wires.specs.declared.turn.Task.TheVariants.{Hear, Step}
 use Rattle.wires.specs.Life.{IsFrontOf}
-use Rattle.wires.specs.Talk.{same, client_of, kind_of, is_quiet, task, newcomer, Comes, Answers, Sends, Parts, OrNothing, Shuts, Drops, At, Talks, drained, after_span, max_unsent, max_parting, max_dropped}
+use Rattle.wires.specs.Talk.{same, client_of, kind_of, newcomer, Comes, Answers, Sends, Parts, OrNothing, Shuts, Drops, At, Talks, after_span, max_unsent, max_parting}
 use Rattle.wires.specs.Turns.{Turns, Goes as Went, Parting, Opens as Enters}
 use Rattle.wires.proofs.TalkLemmas.{one_number, unsent_of}
 use Rattle.sieveddaemon.specs.Acts.{Line, new_line, noted, idled, tell}
-use Rattle.sieveddaemon.specs.DaemonRules.{daemon_rules, place_at, Opens, Gives, Goes, LacksFor}
+use Rattle.sieveddaemon.specs.DaemonRules.{daemon_rules, place_at, Gives, LacksFor}
 use Rattle.sieveddaemon.specs.Waiting.{said_with, greeting, idle}
 use Rattle.sieveddaemon.specs.declared.daemon.Daemon.{Daemon}
 use Rattle.sieveddaemon.specs.declared.note.Note.{Note}

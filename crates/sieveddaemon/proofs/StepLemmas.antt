@@ -1,7 +1,7 @@
 -- Steps of a connection, put together from what is brought, told and known.
-use Rattle.std.proofs.Common.{◌≡◌, ◌∙◌, ℕ, Bool, true, false, cond, List, [], ◌∷◌, ◌++◌, Option, Some, None, OnOk, OnErr, Result, Ok, Err, IsTrue, refl, sym, ap, subst}
+use Rattle.std.proofs.Common.{◌≡◌, ◌∙◌, ℕ, Bool, true, false, List, [], Some, None, IsTrue, refl, sym, ap, subst}
 use Rattle.mailstore.specs.Account.{Accounts}
-use Rattle.mailengine.specs.Hosts.{Kept, HasClients, KeepsClients, IsMade, IsSessionEvent}
+use Rattle.mailengine.specs.Hosts.{KeepsClients, IsMade, IsSessionEvent}
 use Rattle.mailengine.specs.declared.answer.Answer.{Answer}
 use Rattle.mailengine.specs.declared.answer.Answer.TheVariants.{Out, Delivered, Added, Taken, MailTaken, Ignored, Refused}
 use Rattle.mailengine.specs.declared.clients.Clients.{Clients as CodeClients}
@@ -9,12 +9,12 @@ use Rattle.mailengine.specs.declared.event.Event.{Event}
 use Rattle.mailengine.specs.declared.event.Event.TheVariants.{Step, GiveUp}
 use Rattle.wires.specs.declared.act.Act.{Act}
 use Rattle.wires.specs.declared.act.Act.TheVariants.{Noted}
-use Rattle.wires.specs.Rules.{Steps, StepsIf}
+use Rattle.wires.specs.Rules.{StepsIf}
 use Rattle.wires.specs.Told.{TellsIf}
-use Rattle.sieveddaemon.specs.DaemonRules.{daemon_rules, place_at, AtPlace, Goes, Makes, Places, Renews, asked_at}
-use Rattle.sieveddaemon.specs.Desk.{Carries, IsDone, IsWorld, NothingDone, StillShows, StillShowsIf}
-use Rattle.sieveddaemon.specs.Places.{client_at, renewed, place_behind, is_out, is_user, is_answered}
-use Rattle.sieveddaemon.specs.Waiting.{Allows, IsDue, MayAsk, MayGiveUp, said_with, said_at_once, waits_after, waits_behind}
+use Rattle.sieveddaemon.specs.DaemonRules.{daemon_rules, place_at, AtPlace, Makes, Places, Renews, asked_at}
+use Rattle.sieveddaemon.specs.Desk.{Carries, IsDone, NothingDone, StillShowsIf}
+use Rattle.sieveddaemon.specs.Places.{client_at, renewed, is_out, is_user}
+use Rattle.sieveddaemon.specs.Waiting.{Allows, MayAsk, MayGiveUp, said_at_once, waits_after, waits_behind}
 use Rattle.sieveddaemon.specs.declared.daemon.Daemon.{Daemon}
 use Rattle.sieveddaemon.specs.declared.daemon.Holding.{Holding}
 use Rattle.sieveddaemon.specs.declared.note.Note.{Note}

@@ -1,21 +1,20 @@
 -- Whose turn it is, and what a step is made for.
-use Rattle.std.proofs.Common.{◌≡◌, ◌⊎◌, inl, inr, ℕ, ◌<◌, ◌≤◌, ◌==◌, nat_lt, Bool, true, false, cond, List, [], ◌∷◌, Option, Some, None, refl, sym, ◌∙◌, ap, subst, arith, IsTrue}
+use Rattle.std.proofs.Common.{◌≡◌, inl, inr, ℕ, ◌==◌, Bool, true, false, cond, List, [], ◌∷◌, Option, Some, None, refl}
 use Rattle.wires.specs.declared.act.Act.{Act}
 use Rattle.wires.specs.declared.act.Act.TheVariants.{Woke, Began, Timed, Late, Waits, Roused, Worked, Came, NoneCame, Crowded, Displaced, Listened, InUse, Heard, ReadBlocked, Over, Sent, WriteBlocked, Lost, Noted, Full, Again, Shut, Dropped, Ended}
 use Rattle.wires.specs.declared.machine.Want.{Want}
-use Rattle.wires.specs.declared.machine.Want.TheVariants as want
 use Rattle.wires.specs.declared.service.Client.{Client}
 use Rattle.wires.specs.declared.service.Service.{Service}
 use Rattle.wires.specs.declared.service.Phase.{Phase}
 use Rattle.wires.specs.declared.service.Phase.TheVariants as phase
 use Rattle.wires.specs.declared.turn.Turn.{Turn}
-use Rattle.wires.specs.declared.turn.Turn.TheVariants.{Free, Leaving, Busy}
+use Rattle.wires.specs.declared.turn.Turn.TheVariants.{Free, Leaving}
 use Rattle.wires.specs.declared.turn.Task.{Task}
 use Rattle.wires.specs.declared.turn.Task.TheVariants.{Send, Hear, Step, Rest, HangUp, Drain, End, Nothing}
 use Rattle.wires.specs.Rules.{Rules}
 use Rattle.wires.specs.Talk.{client_of, is_quiet, is_quiet_by, task, task_by, task_wanted, kind_of}
 use Rattle.wires.proofs.TalkLemmas.{unsent_of}
-use Rattle.wires.specs.Turns.{Turns, Tasks, Calm, Rests, MayWait, Reads, Fails, Lacks, Parting, Yields, MayEnd}
+use Rattle.wires.specs.Turns.{Turns, Tasks, Calm, Rests, MayWait, Reads, Fails, Lacks, Yields, MayEnd}
 
 -- the end of a connection
 abbrev pub IsEnd : {N : Type 0} → ℕ → Act N → Type 0

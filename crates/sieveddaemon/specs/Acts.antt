@@ -1,5 +1,5 @@
 -- What acts make of accounts and sessions, and what they say of one connection.
-use Rattle.std.specs.Prelude.{◌≡◌, ℕ, Bool, true, false, cond, nat_lt, List, [], ◌∷◌, ◌++◌, if◌then◌else◌}
+use Rattle.std.specs.Prelude.{◌≡◌, ℕ, cond, nat_lt, List, [], ◌∷◌, ◌++◌, if◌then◌else◌}
 use Rattle.mailstore.specs.Account.{Accounts}
 use Rattle.mailengine.specs.World.{World, Next}
 use Rattle.mailengine.specs.declared.answer.Answer.{Answer}

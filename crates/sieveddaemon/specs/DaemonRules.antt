@@ -4,7 +4,7 @@ use Rattle.std.specs.Ordering.{nat_cmp}
 use Rattle.std.specs.BTreeMap as tree
 use Rattle.mailstore.specs.Account.{Accounts}
 use Rattle.sessions.specs.Clients.{Client}
-use Rattle.mailengine.specs.Hosts.{IsMade, IsSessionEvent, KeepsClients}
+use Rattle.mailengine.specs.Hosts.{IsSessionEvent, KeepsClients}
 use Rattle.mailengine.specs.declared.answer.Answer.{Answer}
 use Rattle.mailengine.specs.declared.event.Event.{Event}
 use Rattle.mailengine.specs.declared.event.Event.TheVariants.{Open, Give, Close}

@@ -3,11 +3,11 @@ use Rattle.std.specs.Prelude.{◌≡◌, ℕ, List, [], ◌++◌, Bool, IsTrue}
 use Rattle.std.specs.FinMap.{empty}
 use Rattle.mailstore.specs.Account.{Accounts}
 use Rattle.mailengine.specs.OwnActs.{IsAlone}
+use Rattle.mailengine.specs.Sound.{AreSound}
 use Rattle.mailengine.specs.Spacing.{IsSpaced}
 use Rattle.mailengine.specs.World.{World, Runs}
 use Rattle.mailengine.specs.declared.answer.Answer.{Answer}
 use Rattle.wires.specs.Life.{Fresh, IsFrontOf}
-use Rattle.wires.specs.Moves.{at}
 use Rattle.wires.specs.declared.act.Act.{Act}
 use Rattle.wires.specs.declared.service.Service.{Service}
 use Rattle.sieveddaemon.specs.Acts.{LeadsOn, events_in, AnswersIn, no_line, tell_on, AreRight}
@@ -30,6 +30,8 @@ pub record HoldsAfter (w : World) (now : ℕ) (acts : List (Act Note)) (v : Worl
   -- each user is alone in it, and answers to senders are spaced
   pub alone : IsAlone w (events_in acts) told v runs
   pub spaced : IsSpaced w (events_in acts) told v runs
+  -- sound accounts stay sound: each stored script is valid, the active one is there, no folder is empty
+  pub sound : AreSound w.accounts → AreSound v.accounts
   -- what is done for a connection is what it allows
   pub right : (id : ℕ) → AreRight id now no_line acts
   -- what was sent on it since it came is a front of what its own acts spell

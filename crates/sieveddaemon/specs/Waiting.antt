@@ -1,12 +1,11 @@
 -- What a connection waits for, what may be done for it then, and what is said.
-use Rattle.std.specs.Prelude.{◌≡◌, ℕ, ◌+◌, ◌≤◌, ◌<◌, nat_eq, Bool, true, false, ◌||◌, List, [], None, if◌then◌else◌, codes}
+use Rattle.std.specs.Prelude.{◌≡◌, ℕ, ◌+◌, ◌≤◌, ◌<◌, nat_eq, Bool, ◌||◌, List, [], None, if◌then◌else◌, codes}
 use Rattle.std.specs.Cmp.Lexicographic.{pointwise}
 use Rattle.msproto.specs.Replies.{spelled}
 use Rattle.sessions.specs.Replies.{declined, farewell, capabilities}
 use Rattle.mailengine.specs.Hosts.{IsMade}
 use Rattle.mailengine.specs.declared.answer.Answer.{Answer}
 use Rattle.mailengine.specs.declared.answer.Answer.TheVariants.{Out, Refused}
-use Rattle.mailengine.specs.declared.event.Event.{Event}
 use Rattle.mailengine.specs.declared.event.Event.TheVariants.{Step, GiveUp}
 use Rattle.wires.specs.Talk.{after_span}
 use Rattle.sieveddaemon.specs.declared.note.Note.{Note}

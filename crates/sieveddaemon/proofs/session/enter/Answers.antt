@@ -1,9 +1,8 @@
-use Rattle.std.proofs.Common.{◌≡◌, ◌∙◌, ap, sym, refl, rules, true, false, Some, None}
+use Rattle.std.proofs.Common.{◌≡◌, ◌∙◌, sym, refl, rules, true, false, Some, None}
 use Rattle.std.specs.Ordering.{nat_cmp}
 use Rattle.std.specs.BTreeMap as tree
 use Rattle.mailengine.specs.Hosts.{IsSessionEvent}
 use Rattle.mailengine.specs.declared.event.Event.TheVariants.{Open}
-use Rattle.sieveddaemon.specs.DaemonRules.{Places}
 use Rattle.sieveddaemon.specs.Places.{is_out, new_place}
 use Rattle.sieveddaemon.specs.declared.daemon.Daemon.{Daemon}
 use Rattle.sieveddaemon.proofs.EventLemmas.{open_keeps, keeps_same, err_any, known_twice, greeted, went_well}

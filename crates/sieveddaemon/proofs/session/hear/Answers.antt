@@ -1,9 +1,8 @@
-use Rattle.std.proofs.Common.{◌≡◌, ◌∙◌, ◌==◌, ap, sym, refl, subst, rules, true, false, Some, option_map, is_some, length}
+use Rattle.std.proofs.Common.{◌≡◌, ◌==◌, ap, refl, subst, rules, true, false, Some, option_map, is_some, length}
 use Rattle.std.specs.Ordering.{nat_cmp}
 use Rattle.std.specs.BTreeMap as tree
 use Rattle.sessions.specs.Counts.{SessionView}
-use Rattle.sieveddaemon.specs.Places.{is_out, client_at, begun, place_given}
-use Rattle.sieveddaemon.specs.declared.place.Place.{Place}
+use Rattle.sieveddaemon.specs.Places.{is_out, begun}
 use Rattle.sieveddaemon.proofs.EventLemmas.{give_keeps, keeps_same, err_any, some_there}
 use Rattle.sieveddaemon.proofs.session.hear.Goals as goal
 

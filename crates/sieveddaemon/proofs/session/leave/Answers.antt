@@ -1,10 +1,8 @@
-use Rattle.std.proofs.Common.{◌≡◌, ap, subst, sym}
+use Rattle.std.proofs.Common.{subst}
 use Rattle.mailengine.specs.declared.clients.Clients.{Clients}
 use Rattle.mailengine.specs.declared.event.Event.TheVariants.{Close}
-use Rattle.sieveddaemon.specs.DaemonRules.{Happened}
 use Rattle.sieveddaemon.proofs.EventLemmas.{closed}
 use Rattle.mailengine.specs.Hosts.{IsSessionEvent}
-use Rattle.mailengine.specs.declared.answer.Answer.{Answer}
 use Rattle.sieveddaemon.proofs.session.leave.Goals as goal
 
 pub returns : goal.returns

@@ -1,8 +1,6 @@
-use Rattle.std.proofs.Common.{◌≡◌, ◌∙◌, rules, Some, None, []}
+use Rattle.std.proofs.Common.{rules, Some, None}
 use Rattle.mailengine.specs.declared.event.Event.TheVariants.{Step}
-use Rattle.sieveddaemon.specs.DaemonRules.{AtPlace}
 use Rattle.sieveddaemon.specs.Desk.{Carries}
-use Rattle.sieveddaemon.specs.Waiting.{MayAsk}
 use Rattle.sieveddaemon.proofs.StepLemmas.{did, away}
 use Rattle.sieveddaemon.proofs.step.bring.Goals as goal
 

@@ -1,4 +1,4 @@
-use Rattle.std.proofs.Common.{◌≡◌, ◌∙◌, rules, Some, None, []}
+use Rattle.std.proofs.Common.{rules}
 use Rattle.mailengine.specs.Hosts.{IsSessionEvent}
 use Rattle.mailengine.specs.declared.event.Event.TheVariants.{GiveUp}
 use Rattle.sieveddaemon.proofs.StepLemmas.{freed, gives_up}

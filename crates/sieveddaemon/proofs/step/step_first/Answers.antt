@@ -1,4 +1,4 @@
-use Rattle.std.proofs.Common.{◌≡◌, ◌∙◌, rules, true, false, Some, None, []}
+use Rattle.std.proofs.Common.{◌≡◌, rules, true, false}
 use Rattle.mailengine.specs.Hosts.{IsSessionEvent, KeepsClients}
 use Rattle.mailengine.specs.declared.event.Event.TheVariants.{Step}
 use Rattle.sieveddaemon.specs.Places.{is_out}

@@ -1,0 +1,53 @@
+-- Events of others, and what follows them, on accounts that are kept in memory.
+use Rattle.std.proofs.Common.{◌≡◌, inl, inr, true, List, [], ◌∷◌, refl, ap}
+use Rattle.mailstore.specs.Account.{Accounts}
+use Rattle.mailengine.specs.Hosts.{Kept}
+use Rattle.mailengine.specs.World.{World, Clients, Next}
+use Rattle.mailengine.specs.declared.answer.Answer.{Answer}
+use Rattle.mailengine.specs.declared.event.Event.{Event}
+use Rattle.mailengine.specs.declared.event.Event.TheVariants.{Deliver, AddUser, TakeOut, TakeMail}
+use Rattle.sieveddaemon.specs.Desk.{IsOthers, IsDone}
+use Rattle.daemonfakes.specs.Shelves.{IsApplied, LetsOthers, is_of_accounts}
+
+-- no event
+pub lets_none : {S : Type 0} (holds : S → Accounts → Type 0) (s : S) (kept : Kept) → LetsOthers holds [] s kept s kept
+lets_none holds s kept = λ w is. (w, record { strangers = tt; told = []; runs = refl; apart = refl }, is)
+
+-- an event of accounts names no session, and leaves all that there are
+stranger : (sessions : Clients) (event : Event) → is_of_accounts event ≡ true → IsOthers sessions event
+stranger sessions (Deliver user envelope message moment) is = tt
+stranger sessions (AddUser name address salt password) is = tt
+stranger sessions (TakeOut user id) is = tt
+stranger sessions (TakeMail user folder) is = tt
+stranger sessions _ is = let never : ⊥ = cc in absurd never
+
+apart_at : (w next : World) (event : Event) (answer : Answer) → is_of_accounts event ≡ true → Next w event answer next → next.sessions ≡ w.sessions
+apart_at w next event answer is (inr refused) = ap (λ (v : World). v.sessions) refused.stays
+apart_at w next (Deliver user envelope message moment) answer is (inl made) = ap (λ (v : World). v.sessions) made.2
+apart_at w next (AddUser name address salt password) answer is (inl made) = ap (λ (v : World). v.sessions) made.2
+apart_at w next (TakeOut user id) answer is (inl made) = ap (λ (v : World). v.sessions) made.2
+apart_at w next (TakeMail user folder) answer is (inl made) = ap (λ (v : World). v.sessions) made.2
+apart_at w next _ answer is (inl made) = let never : ⊥ = cc in absurd never
+
+-- one
+pub lets_one : {S : Type 0} (holds : S → Accounts → Type 0) (event : Event) (answer : Answer) (s t : S) (before after : Kept) → is_of_accounts event ≡ true → IsApplied holds event answer s before t after
+    → LetsOthers holds (event ∷ []) s before t after
+lets_one holds event answer s t before after of_accounts applied = λ w is.
+    let made = applied w is in (
+      made.0,
+      record {
+        strangers = (stranger w.sessions event of_accounts, tt);
+        told = answer ∷ [];
+        runs = (made.0, made.1, refl);
+        apart = apart_at w made.0 event answer of_accounts made.1;
+      },
+      made.2,
+    )
+
+-- and then an event of the daemon's
+pub done_behind : {S : Type 0} (holds : S → Accounts → Type 0) (others : List Event) (event : Event) (answer : Answer) (s mid t : S) (before between after : Kept) → LetsOthers holds others s before mid between
+    → IsApplied holds event answer mid between t after → IsDone holds others event answer s before t after
+done_behind holds others event answer s mid t before between after lets applied = λ w is.
+    let let_them = lets w is in
+    let made = applied let_them.0 let_them.2 in
+    (made.0, record { strangers = let_them.1.strangers; told = let_them.1.told; between = let_them.0; theirs = let_them.1.runs; apart = let_them.1.apart; ours = made.1 }, made.2)

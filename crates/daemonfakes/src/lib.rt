@@ -1,0 +1,7 @@
+//! All that is outside of the daemon, in memory: it follows a script, and tells all acts.
+#![tactic(auto)]
+
+pub mod copies;
+pub mod desk;
+pub mod memory;
+pub mod shelf;

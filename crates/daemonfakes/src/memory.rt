@@ -1,0 +1,29 @@
+//! Accounts in a store in memory.
+ghost use Rattle.std.specs.Prelude.{◌≡◌};
+
+use crate::shelf::Shelf;
+use mailengine::{Answer, Clients, Event, Refusal, apply};
+use mailstore::Store;
+use sqlite::MemStore;
+use std::alloc::AllocError;
+
+/// A store of mailengine, in memory.
+#[derive(Drop)]
+pub struct MemShelf {
+    pub store: Store<MemStore>,
+}
+
+impl Shelf for MemShelf {
+    ghost use Rattle.sqlite.specs.Held.{state};
+    ghost use Rattle.sqlite.specs.Steps.{over_memory};
+    ghost use Rattle.sessions.specs.Acts.{HasAccounts};
+
+    ghost holds = { λ shelf accounts. HasAccounts (state over_memory shelf.store) accounts };
+
+    fn change(&mut self, clients: &mut Clients, event: &Event) -> Answer {
+        match apply(clients, &mut self.store, event) {
+            Ok(answer) => answer,
+            Err(AllocError) => Answer::Refused(Refusal::Memory),
+        }
+    }
+}
