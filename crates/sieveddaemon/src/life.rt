@@ -1,5 +1,6 @@
 //! A daemon's life.
-ghost use Rattle.std.specs.Prelude.{IsTrue, OnErr};
+ghost use Rattle.std.specs.Prelude.{IsTrue, OnOk, OnErr};
+ghost use Rattle.wires.specs.Life.{AddsIf};
 ghost use Rattle.sieveddaemon.specs.Headline.{Serves};
 
 use crate::daemon::Daemon;
@@ -9,7 +10,7 @@ use wires::outcome::Fault;
 use wires::outside::{Clock, Sockets};
 use wires::service::Service;
 
-/// Serves clients of ManageSieve, for so many acts.
+/// Serves clients of ManageSieve, for so many acts, neither fewer nor more.
 ///
 /// # Errors
 ///
@@ -21,6 +22,7 @@ pub fn serve<O: Sockets + Clock + Desk>(
     acts: u64,
 ) -> Result<(), Fault>
     ensures kept { IsTrue (O.tells outside.new) → IsTrue (O.tells outside.old) }
+    ensures passed { OnOk result (AddsIf O.tells O.seen outside.old acts outside.new) }
     ensures headline { Serves O.tells O.seen O.rest O.shows outside.old daemon.old service.old outside.new daemon.new }
     ensures broke { OnErr result (IsTrue (O.broken outside.new)) }
 {
