@@ -10,6 +10,10 @@ the engine over a store in memory, which the program of crates/cases makes: betw
 is read after it is as before where it was refused, and as after where not. Those of the third kind are single texts (a script, an
 address, a reply ..), of which the same program answers all or nothing.
 
+In the trials whose names end in `none_left` each request from the Nth one on is refused, so that what comes after it runs with no
+memory at all: the store is released, a client put off, a fault told. Of the engine's calls alone that can't be tried: the program that
+makes them takes memory to tell what came.
+
 A line for a trial says how many requests there were, at how many the answer was the refusal and at how many the full one; the last
 line counts the trials, and the status is 1 where one failed. `tests/run` runs it, with --quick: some forty requests of each, spread
 over all. It needs python3 and cc; what crates/cases tries needs its program, crates/cases/out/cases.
@@ -29,6 +33,8 @@ REFUSED = b"sieved: out of memory\n"
 STREAM = b"sieved: input or output failed\n"
 PUT_OFF = [b'NO (TRYLATER) "Try later."\r\n']
 STRANGER = [b'NO "Log in first."\r\n']
+# That not only one request is refused, but each one after it too.
+NONE_LEFT = {"REFUSE_ALL": "1"}
 TOP = tempfile.TemporaryDirectory(prefix="sieved-memory-", dir="/dev/shm" if os.path.isdir("/dev/shm") else None)
 
 
@@ -78,7 +84,7 @@ def each(count, call):
 # The words of the program, over a file.
 
 
-def word(room, *words, data=b"", scripts=(), maildir=False, spoil=None):
+def word(room, *words, data=b"", scripts=(), maildir=False, spoil=None, **more):
     """Tries a word over copies of a store; `spoil` is what a faulty program would do to the store after it was refused."""
     base, look = by_path(files_of(room.folder)), Look(scripts)
     before = look.at(base)
@@ -90,7 +96,7 @@ def word(room, *words, data=b"", scripts=(), maildir=False, spoil=None):
                 os.makedirs(f"{folder}/Maildir/{part}", exist_ok=True)
             filled = [text.replace("FOLDER", folder) for text in words]
             command = [PROGRAM[0], filled[0], *(() if words[0] == "try" else ("--db", f"{folder}/mail.db")), *filled[1:]]
-            ran = refusing(command, number, data)
+            ran = refusing(command, number, data, **more)
             if spoil and ran[0]:
                 spoil(folder)
             return ran, look.at(by_path(files_of(folder)))
@@ -134,9 +140,9 @@ def with_mail():
     return room
 
 
-def try_word():
+def try_word(**more):
     script = SCRIPT + b'if header :matches ["subject", "x-a"] ["*a*b*", "?*"] { fileinto "c"; }\r\n'
-    return word(Room(), "try", "--to", "alice@example.org", data=b"%d\n" % len(script) + script + MAIL % 1)
+    return word(Room(), "try", "--to", "alice@example.org", data=b"%d\n" % len(script) + script + MAIL % 1, **more)
 
 
 def init():
@@ -147,9 +153,9 @@ def adduser():
     return word(Room(), "adduser", "--salt", SALT[::-1], "bob", "bob@example.org", data=b"another\n")
 
 
-def deliver(spoil=None):
+def deliver(spoil=None, **more):
     words = "--from", "bob@example.net", "--to", "alice@example.org", "--at", "1700000000", "alice"
-    return word(with_mail(), "deliver", *words, data=MAIL % 4, scripts=[b"main"], spoil=spoil)
+    return word(with_mail(), "deliver", *words, data=MAIL % 4, scripts=[b"main"], spoil=spoil, **more)
 
 
 def folders():
@@ -168,8 +174,8 @@ def queue_row():
     return word(with_mail(), "queue", "alice", "1")
 
 
-def done():
-    return word(with_mail(), "done", "alice", "1")
+def done(**more):
+    return word(with_mail(), "done", "alice", "1", **more)
 
 
 def notices():
@@ -180,14 +186,14 @@ def notices():
     return word(room, "notices", "alice")
 
 
-def drain():
-    return word(with_mail(), "drain", "alice", "INBOX", "FOLDER/Maildir", maildir=True)
+def drain(**more):
+    return word(with_mail(), "drain", "alice", "INBOX", "FOLDER/Maildir", maildir=True, **more)
 
 
 # A session: each answer is the full one, or puts the client off.
 
 
-def session(*commands, changes=True):
+def session(*commands, changes=True, **more):
     """Tries one command after a login."""
     room, scripts = with_mail(), [b"main", b"other", b"new"]
     base, look = by_path(files_of(room.folder)), Look(scripts)
@@ -197,7 +203,7 @@ def session(*commands, changes=True):
     def run(number):
         with tempfile.TemporaryDirectory(dir=TOP.name) as folder:
             stops.lay(folder, base)
-            ran = refusing([PROGRAM[0], "session", "--db", f"{folder}/mail.db"], number, data)
+            ran = refusing([PROGRAM[0], "session", "--db", f"{folder}/mail.db"], number, data, **more)
             return ran, look.at(by_path(files_of(folder)))
 
     (status, whole, told, count), after = run(0)
@@ -206,7 +212,8 @@ def session(*commands, changes=True):
 
     def judge(number):
         (status, said, told, _), shown = run(number)
-        assert status in (0, 75) and told in (b"", REFUSED), f"request {number}: {status}, {told!r}"
+        # Where none is left, both the client's trouble with the store and how the session ended are told.
+        assert status in (0, 75) and told in (b"", REFUSED, *([2 * REFUSED] if more else [])), f"request {number}: {status}, {told!r}"
         given = replies(said)
         if given == answers:
             assert shown == after, f"request {number}: all was answered, and the store isn't as after: {shown!r:.300}"
@@ -216,12 +223,15 @@ def session(*commands, changes=True):
         is_done = given[:3] == answers[:3]
         is_silent = len(given) == 2 and given == answers[:2]
         assert shown == after if is_done else shown == before or is_silent and shown == after, f"request {number}: {said!r:.300}, {shown!r:.300}"
-        return "refused, as before" if shown == before else "refused, and done"
+        if shown == before:
+            return "put off" if PUT_OFF in given else "refused, as before"
+        return "refused, and done"
 
     found = each(count, judge)
-    silent = found["refused, and done"]
-    assert found["full"] and found["refused, as before"], found
-    return table(count, found["refused, as before"] + silent, found["full"], f"; of the refused ones {silent} once it was done" if silent else "")
+    silent, refused = found["refused, and done"], found["refused, as before"] + found["put off"]
+    assert found["full"] and refused and found["put off"], found
+    told = f"; of the refused ones {silent} once it was done" if silent else ""
+    return table(count, refused + silent, found["full"], f"{told}; at {found['put off']} the client was put off (`Session::give_up`)")
 
 
 def replies(said):
@@ -235,8 +245,8 @@ def replies(said):
             return found
 
 
-def put():
-    return session(put_script(b"new", LONG + b"discard;\r\n"))
+def put(**more):
+    return session(put_script(b"new", LONG + b"discard;\r\n"), **more)
 
 
 def put_again():
@@ -564,7 +574,9 @@ TEXTS = ["addresses", "targets", "bare", "spellings", "words", "texts", "tokens"
 
 WORDS = (try_word, init, adduser, deliver, folders, show, queue, queue_row, done, notices, drain,
          put, put_again, activate, delete, rename, get, listed, checked, serve, planted)
+AGAIN = (try_word, deliver, done, drain, put)
 TRIALS = {trial.__name__.removesuffix("_word"): trial for trial in WORDS} | ENGINE
+TRIALS |= {f"{trial.__name__.removesuffix('_word')}_none_left": lambda trial=trial: trial(**NONE_LEFT) for trial in AGAIN}
 TRIALS |= {f"text_{name}": lambda name=name: texts(name) for name in TEXTS}
 
 

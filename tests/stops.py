@@ -9,7 +9,8 @@ that are lost, all of them, or all but one; a write that is torn at a sector; on
 The program opens each. It has to show the accounts as before or as after, and once the word has answered as after. The same
 state of two moments is opened once. Nothing is thought durable that wasn't synced: a name needs a sync of its folder.
 
-The trials: init, adduser, deliver, done, drain, session; `again`, where the power goes once more as what it left is opened;
+The trials: init, adduser, deliver, done, drain, session; `upgrade_last` and `upgrade_fourth`, the first word over a store that a program of
+version 1 wrote (crates/cases/data); `again`, where the power goes once more as what it left is opened;
 `unsynced`, a disk that loses a commit between its write and its sync, over which the next word reads the disk; and `planted`, in
 which a sync is left out of the log, an answer stands before one, or a commit before the last write, and a state has to be found
 that isn't as it should be.
@@ -17,13 +18,13 @@ Without a word, all. Prints a line for each, a last one
 that counts them, and ends with 1 where one failed. `tests/run` runs it, with --quick: at most one call is lost, and no length
 stands. It needs python3 and strace; `unsynced` is run as root, and needs losetup, debugfs and mkfs.ext2.
 """
-import base64, hashlib, itertools, os, re, signal, sqlite3, subprocess, tempfile, time
+import base64, contextlib, hashlib, itertools, os, re, shutil, signal, sqlite3, subprocess, tempfile, time
 import managesieve, trials
 from collections import Counter, namedtuple
 from concurrent.futures import ThreadPoolExecutor
-from contextlib import contextmanager
 
 PROGRAM = [managesieve.SIEVED]
+DATA = os.path.abspath(f"{managesieve.HERE}/../crates/cases/data")
 SECTOR = 512
 SALT = "000102030405060708090a0b0c0d0e0f"
 LOG_HEAD = 41
@@ -540,6 +541,44 @@ def session():
     return sweep(log, look, judge)
 
 
+def upgrade(order):
+    """A store of version 1 is one of version 2 then: of each state all is shown that was there, with the copies' own numbers."""
+    room = Room(users=False)
+    shutil.copy(f"{DATA}/copies-{order}.db", f"{room.folder}/mail.db")
+    old = old_rows(f"{room.folder}/mail.db")
+    log, said = room.recorded("folders", "alice")
+    look = Look([])
+    whole = look.at(left_by(log, State(len(log.calls))))
+    assert said == whole[0][1] == b"INBOX 2\nlists 3\nwork/notes 3\n", (said, whole)
+    assert new_rows(dict(whole[0][-1])) == old, "the rows are others"
+    return sweep(log, look, lambda shown, answers: "all there" if shown == whole else None)
+
+
+def old_rows(db):
+    """The rows that a file of version 1 has: those of the copies as version 2 has them, and those of the tables that stay."""
+    with contextlib.closing(sqlite3.connect(f"file:{db}?mode=ro&immutable=1", uri=True)) as base:
+        assert base.execute("SELECT item, value FROM meta").fetchall() == [("version", 1)]
+        copies = base.execute("SELECT owner, folder, n, n, message FROM copy").fetchall()
+        return sorted(copies), *(sorted(base.execute(f"SELECT * FROM {table}").fetchall(), key=repr) for table in TABLES[1:6])
+
+
+def new_rows(found):
+    """The same of version 2, by its tables."""
+    assert found["meta"] == (("version", 2),) and len(found["message"]) == len(found["copy"]), found["meta"]
+    octets = {(owner, id): message for owner, id, message in found["message"]}
+    return sorted((*row, octets[row[0], row[3]]) for row in found["copy"]), *(list(found[table]) for table in TABLES[1:6])
+
+
+def upgrade_last():
+    """With the copies after the other tables."""
+    return upgrade("last")
+
+
+def upgrade_fourth():
+    """With the copies before the queue, the replies and the notices."""
+    return upgrade("fourth")
+
+
 def commit(log, look, after):
     """The call that makes the change stand once it is synced, and that sync: the first moment that shows it, where nothing is lost."""
     made = next(moment for moment in range(len(log.calls)) if look.at(left_by(log, State(moment)))[0] == after)
@@ -581,7 +620,7 @@ def unsynced():
     return f"{said['dropped'][1][:80]!r}; then as before; where the kernel's copy is kept the next word reads what isn't on the disk"
 
 
-@contextmanager
+@contextlib.contextmanager
 def weak_disk():
     """A file system on a file that loses its room: what is written then is lost, and a sync says so."""
     with tempfile.TemporaryDirectory(prefix="sieved-weak-") as top:
@@ -700,7 +739,7 @@ def is_found(log, look, judge):
     return False
 
 
-TRIALS = {trial.__name__: trial for trial in (init, adduser, deliver, done, drain, session, again, unsynced, planted)}
+TRIALS = {trial.__name__: trial for trial in (init, adduser, deliver, done, drain, session, upgrade_last, upgrade_fourth, again, unsynced, planted)}
 
 
 if __name__ == "__main__":

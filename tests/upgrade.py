@@ -3,14 +3,19 @@
 
   tests/upgrade.py [--quick] [--sieved SIEVED] [TRIAL ..]       SIEVED: the program, crates/sieved/out/sieved where none is named
 
-The trials: last, fourth, other, killed; without a word, all. The files are written by Python's sqlite3, with mail of three users. `killed` kills
-the program in the middle of the upgrade 100 times (`--quick`: 10); a kill counts where the log of the store has some octets, and fewer than the
-whole upgrade writes. Prints a line for each; the last one counts them, and the status is 1 where one failed. `tests/run` runs it, quick.
+The trials: last, fourth, other, killed, written; without a word, all. The files of the first four are written by Python's sqlite3, with mail
+of three users. `killed` kills the program in the middle of the upgrade 100 times (`--quick`: 10); a kill counts where the log of the store has
+some octets, and fewer than the whole upgrade writes. `written` takes the files that programs of version 1 wrote, one of each order
+(crates/cases/data/copies-last.db and copies-fourth.db). Where SIEVED_BEFORE names such a program there is one trial more, `refused`: it reads
+what became of its file. Prints a line for each; the last one counts them, and the status is 1 where one failed. `tests/run` runs it, quick.
 """
-import os, random, shutil, signal, sqlite3, subprocess, tempfile, time
+import base64, os, random, shutil, signal, sqlite3, subprocess, tempfile, time
 import trials
 from contextlib import closing
-from managesieve import SIEVED
+from managesieve import HERE, SIEVED
+
+DATA = os.path.abspath(f"{HERE}/../crates/cases/data")
+DOCS = os.path.abspath(f"{HERE}/../docs")
 
 BEGIN = [
     "CREATE TABLE meta (item TEXT NOT NULL PRIMARY KEY, value INTEGER NOT NULL) STRICT",
@@ -174,13 +179,103 @@ def killed():
     return f"all mail is there after each of {counted} kills in the middle, of {tried}"
 
 
+def asked(db, *words, given=b""):
+    """What a word prints that has nothing to tell."""
+    status, said, told = program(db, *words, given=given)
+    assert (status, told) == (0, b""), (words, status, said, told)
+    return said
+
+
+def session(db, user, *commands):
+    """What a client of ManageSieve is answered, from the login on."""
+    password = b"\0%s\0%s-secret" % (user, user)
+    given = b'AUTHENTICATE "PLAIN" "%s"\r\n' % base64.b64encode(password) + b"".join(command + b"\r\n" for command in commands) + b"LOGOUT\r\n"
+    said = asked(db, "session", given=given)
+    return said[said.index(b'OK "Logged in."'):]
+
+
+def shows_all(db, old):
+    """The program shows the mail, the scripts, the queue, the notices and the moment of the reply that the old rows have, one by one."""
+    copies, accounts, scripts, queue, replies, notices = old
+    for user, address, *_ in accounts:
+        name = user.decode()
+        own = [(folder, message) for owner, folder, _, _, message in copies if owner == user]
+        for folder in {folder for folder, _ in own}:
+            for number, message in enumerate([message for other, message in own if other == folder], 1):
+                assert asked(db, "show", name, folder.decode(), str(number)) == message, (user, folder, number)
+        kinds = {1: b"redirect", 2: b"reply"}
+        lines = [b"%d %s <%s> <%s> %d\n" % (id, kinds[kind], sender, target, len(message)) for owner, id, kind, sender, target, message in queue if owner == user]
+        assert asked(db, "queue", name) == b"".join(lines), user
+        for owner, id, *_, message in queue:
+            assert owner != user or asked(db, "queue", name, str(id)) == message, (user, id)
+        assert asked(db, "notices", name) == b"".join(b"%d %s\n" % (moment, text) for owner, _, moment, text in notices if owner == user), user
+        texts = [(script, text) for owner, script, text in scripts if owner == user]
+        said = session(db, user, b"LISTSCRIPTS", *(b'GETSCRIPT "%s"' % script for script, _ in texts))
+        assert all(b"{%d}\r\n%s\r\n" % (len(text), text) in said or b'"%s"' % text in said for _, text in texts), (user, said)
+        assert said.count(b"ACTIVE") == bool(texts), (user, said)
+    return len(copies), len(scripts), len(queue), len(replies), len(notices)
+
+
+def upgraded(folder, order):
+    """A file that a program of version 1 wrote, opened by this program: where it lies, and the rows that it had."""
+    db = f"{folder}/mail.db"
+    shutil.copy(f"{DATA}/copies-{order}.db", db)
+    old = rows(db, OLD_COPIES, *OTHERS)
+    assert rows(db, "SELECT value FROM meta", "SELECT group_concat(name) FROM (SELECT name FROM sqlite_master WHERE type = 'table' ORDER BY rootpage)") \
+        == [[(1,)], [(",".join(name_of(table) for table in ORDERS[order]),)]]
+    check(db, old[0], old[1:])
+    return db, old
+
+
+def name_of(table):
+    return table.split()[2]
+
+
+def written():
+    """Files that programs of version 1 wrote, with the copies last and fourth: all is shown, and the accounts go on as they were."""
+    counts = {}
+    for order in ORDERS:
+        with tempfile.TemporaryDirectory() as folder:
+            db, old = upgraded(folder, order)
+            counts[order] = shows_all(db, old)
+            words = "--from", "bob@example.net", "--to", "alice@example.org", "alice"
+            assert asked(db, "deliver", *words[:-1], "--at", "1700600000", "alice", given=b"Subject: a\r\nTo: alice@example.org\r\n\r\n") == b"file INBOX\nvacation quiet 9\n"
+            later = asked(db, "deliver", *words[:-1], "--at", "1700604800", "alice", given=b"Subject: b\r\nTo: alice@example.org\r\n\r\n")
+            assert later == b"file INBOX\nvacation sent\n", later
+            assert [line.split()[0] for line in asked(db, "queue", "alice").splitlines()] == [b"2", b"3"]
+            assert asked(db, "deliver", "--to", "b@example.org", "bob", given=b"new") == b"file INBOX\n"
+            assert asked(db, "show", "bob", "INBOX", "5") == b"new"
+            assert rows(db, "PRAGMA integrity_check", "PRAGMA foreign_key_check") == [[("ok",)], []]
+    assert counts["last"] == counts["fourth"], counts
+    return "of each order {} copies, {} scripts, {} rows of the queue, {} reply and {} notice are shown, and the accounts go on".format(*counts["last"])
+
+
+def refused():
+    """The program of before says that a store of version 2 is none, and `sieved-deliver` makes 75 of it; the store stays."""
+    before = os.environ["SIEVED_BEFORE"]
+    for order in ORDERS:
+        with tempfile.TemporaryDirectory() as folder:
+            db, _ = upgraded(folder, order)
+            with open(db, "rb") as file:
+                octets = file.read()
+            env = {**os.environ, "SIEVED": before, "SIEVED_DB": db, "SIEVED_MAIL": f"{folder}/mail", "SIEVED_DRAIN": f"{DOCS}/sieved-drain"}
+            for status, words in (65, [before, "folders", "--db", db, "alice"]), (75, [f"{DOCS}/sieved-deliver", "--to", "a@example.org", "alice"]):
+                done = subprocess.run(words, input=b"x", capture_output=True, timeout=120, env=env)
+                assert (done.returncode, done.stdout) == (status, b"") and b"sieved: not a sieved database\n" in done.stderr, (words, done)
+            with open(db, "rb") as file:
+                assert file.read() == octets, "the program of before wrote"
+    return "it says `not a sieved database`, which sieved-deliver makes 75, and leaves the file as it is"
+
+
 def remove(db):
     for name in db, f"{db}-wal", f"{db}-shm", f"{db}.lock":
         if os.path.exists(name):
             os.remove(name)
 
 
-TRIALS = {"last": lambda: opened("last"), "fourth": lambda: opened("fourth"), "other": other, "killed": killed}
+TRIALS = {"last": lambda: opened("last"), "fourth": lambda: opened("fourth"), "other": other, "killed": killed, "written": written}
+if "SIEVED_BEFORE" in os.environ:
+    TRIALS["refused"] = refused
 PROGRAM = SIEVED
 
 

@@ -1,11 +1,10 @@
 -- What a DROP TABLE makes of a database: the other tables hold what they held.
-use Rattle.std.proofs.Common.{◌≡◌, ℕ, false, IsTrue, List, [], slice_get, Some, None, Ok, refl, sym, ap, ◌∙◌, subst}
+use Rattle.std.proofs.Common.{◌≡◌, ℕ, false, List, [], slice_get, Some, Ok, sym, ap, ◌∙◌, subst}
 use Rattle.sqlite_schema.specs.declared.schema.Keys.TheVariants.{Enforced}
 use Rattle.sqlite_schema.specs.declared.schema.Table.{Table}
 use Rattle.sqlite_schema.specs.declared.schema.Schema.{Schema}
 use Rattle.sqlite_schema.specs.declared.command.Command.TheVariants.{DropTable}
 use Rattle.sqlite_schema.specs.Rules.{Fits}
-use Rattle.sqlite_rules.specs.Lists.{Has}
 use Rattle.sqlite_rules.proofs.ListLemmas.{all_has, has_filtered}
 use Rattle.sqlite_rules.proofs.RuleLemmas.{fits_obeyed}
 use Rattle.sqlite_catalog.specs.Change.{without_table}
@@ -14,9 +13,9 @@ use Rattle.sqlite.specs.Does.{Tally, AtPlace, Drops, Empties, Uncounts, is_acted
 use Rattle.sqlite.specs.Rows.{Task}
 use Rattle.sqlite_trees.specs.Tree.{Trees}
 use Rattle.sqlite.specs.Listing.{understood}
-use Rattle.sqlite.specs.State.{State, Writes, Executes, mode_of}
-use Rattle.sqlite.proofs.Callers.{IsPlain, command_of, statement_of, runs_as}
-use Rattle.mailtables.specs.Rows.{IsHeld, Tables, HoldsTables}
+use Rattle.sqlite.specs.State.{State, Executes, mode_of}
+use Rattle.sqlite.proofs.Callers.{IsPlain, command_of, runs_as}
+use Rattle.mailtables.specs.Rows.{IsHeld}
 use Rattle.mailtables.proofs.StepLemmas.{went, same_value}
 use Rattle.oldtables.specs.Inside.{LosesTable}
 

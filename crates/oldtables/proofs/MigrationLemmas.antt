@@ -1,5 +1,5 @@
 -- What the migration reads, and what it makes of the tables.
-use Rattle.std.proofs.Common.{◌≡◌, ◌⊎◌, ◌≤◌, ◌<◌, ◌+◌, ◌==◌, nat_le, arith, take, get_or, length, append-nil, append_assoc, ℕ, ℤ, Bool, true, false, cond, List, [], ◌∷◌, ◌++◌, map, filter, Option, Some, None, Ok, Err, Result, Vec, IfOk, IfErr, OnOk, IsTrue, IsPermutation, refl, sym, ap, ◌∙◌, subst, inl, inr}
+use Rattle.std.proofs.Common.{◌≡◌, ◌⊎◌, ◌≤◌, ◌<◌, ◌+◌, ◌==◌, nat_le, arith, take, get_or, length, append-nil, append_assoc, ℕ, ℤ, true, false, cond, List, [], ◌∷◌, ◌++◌, map, filter, Option, Some, None, Ok, Err, Result, Vec, IfOk, OnOk, IsTrue, IsPermutation, refl, sym, ap, ◌∙◌, subst, inl, inr}
 use Rattle.std.specs.declared.alloc.Global.{Global}
 use Rattle.std.proofs.lemmas.List.Sorted.{IsPermutation-map}
 use Rattle.sqlite_value.specs.declared.value.Value.TheVariants.{Int}
@@ -21,7 +21,7 @@ use Rattle.sqlite.specs.State.{State, Executes, HasCleanDisk, Shows, Shown, Show
 use Rattle.sqlite.proofs.InsideLemmas.{unchanged_keeps, keeps_then}
 use Rattle.mailtables.specs.Rows.{Tables, HoldsTables, IsHeld}
 use Rattle.mailtables.specs.Connection.{RunsInside, Makes, TurnsRows, HasNoneFrom, TurnsSchema}
-use Rattle.oldtables.specs.OldSchema.{IsOldSchema, old_schema, oldest_schema, oldest_4, drop_copy, old_copy, old_copy_tree, oldest_copy_tree, select_old_copies, old_cells, message_from, copy_from}
+use Rattle.oldtables.specs.OldSchema.{old_schema, oldest_schema, oldest_4, drop_copy, old_copy, old_copy_tree, oldest_copy_tree, select_old_copies, old_cells, message_from, copy_from}
 use Rattle.oldtables.specs.Migration.{AreOldCopies, LosesCopies, Remakes, TurnsNew, IsMigrated, before, refiled, filled, joined, renewed}
 use Rattle.mailtables.specs.MetaTable.{meta_tree, version_key, version_row}
 use Rattle.mailtables.specs.AccountTable.{account_tree}

@@ -1,5 +1,5 @@
 -- Version 1 with the copies fourth: what is read of the later tables, and what becomes of them.
-use Rattle.std.proofs.Common.{◌≡◌, ◌≤◌, ◌<◌, ◌+◌, ◌==◌, ℕ, ℤ, pos, true, false, List, [], ◌∷◌, ◌++◌, map, take, get_or, length, append-nil, append_assoc, Ok, Err, Result, Vec, IsTrue, IsPermutation, refl, sym, ap, ◌∙◌, subst, inl, inr, arith}
+use Rattle.std.proofs.Common.{◌≡◌, ◌<◌, ◌+◌, ◌==◌, ℕ, true, false, List, [], ◌∷◌, ◌++◌, map, take, get_or, length, append-nil, append_assoc, Ok, Vec, IsPermutation, refl, sym, ap, ◌∙◌, subst, inl, inr, arith}
 use Rattle.std.specs.declared.alloc.Global.{Global}
 use Rattle.std.proofs.lemmas.List.{take_more}
 use Rattle.std.proofs.lemmas.List.Sorted.{IsPermutation-map}
@@ -9,14 +9,11 @@ use Rattle.sqlite_rules.specs.Lists.{Has}
 use Rattle.sqlite_rules.proofs.ListLemmas.{all_has}
 use Rattle.sqlite_schema.specs.declared.schema.Table.{Table}
 use Rattle.sqlite_trees.specs.Tree.{with_tree}
-use Rattle.sqlite_trees.specs.declared.store.Store.{Ghosts}
 use Rattle.sqlite.specs.Effect.{Database}
-use Rattle.sqlite.specs.Held.{state}
-use Rattle.sqlite.specs.declared.transaction.Transaction.{Transaction}
 use Rattle.sqlite.specs.State.{State, Executes, Shown}
 use Rattle.mailtables.specs.Rows.{Tables, HoldsTables, IsHeld, added}
 use Rattle.mailtables.specs.Schema.{mail_schema, schema_3, schema_6}
-use Rattle.mailtables.specs.Connection.{TurnsRows, TurnsSchema, HasNoneFrom, RunsInside}
+use Rattle.mailtables.specs.Connection.{TurnsRows, TurnsSchema}
 use Rattle.oldtables.specs.OldSchema.{oldest_schema, oldest_4, oldest_5, oldest_6, oldest_copy_tree, old_copy_tree, oldest_outgoing_tree, oldest_reply_tree, oldest_notice_tree, select_old_queue, select_old_replies, select_old_notices, drop_outgoing, drop_reply, drop_notice, queue_columns, four_cells, old_cells}
 use Rattle.mailtables.specs.MetaTable.{meta_tree}
 use Rattle.mailtables.specs.AccountTable.{account_tree}
@@ -28,7 +25,7 @@ use Rattle.mailtables.specs.MessageTable.{message_tree}
 use Rattle.mailtables.specs.CopyTable.{copy_tree}
 use Rattle.oldtables.specs.declared.moving.Later.{Later}
 use Rattle.oldtables.specs.declared.moving.Queued.{Queued}
-use Rattle.oldtables.specs.Migration.{AreOldCopies, AreOldRows, AreLater, LosesCopies, RemakesAll, IsMoved, IsMigrated, TurnsNewest, before, joined, restored, filled, renewed, queued_cells}
+use Rattle.oldtables.specs.Migration.{AreOldCopies, AreOldRows, AreLater, RemakesAll, IsMoved, TurnsNewest, before, joined, restored, filled, renewed, queued_cells}
 use Rattle.mailtables.proofs.CellLemmas.{cast_int}
 use Rattle.mailtables.proofs.SchemaFacts.{no_works, outgoing_listed}
 use Rattle.mailtables.proofs.TextFacts.{six_terms, insert_outgoing_is, insert_outgoing_plain}
@@ -36,7 +33,7 @@ use Rattle.mailtables.proofs.StepLemmas.{on_insert, insert_holds}
 use Rattle.oldtables.proofs.DropLemmas.{drops}
 use Rattle.oldtables.proofs.OldFacts.{six_columns, four_columns, queue_names, reply_names, notice_names, selects_queue, selects_replies, selects_notices, drops_notice, drops_reply, drops_outgoing, without_notice, without_reply, without_outgoing, notice_not_acted_on, reply_not_acted_on, outgoing_not_acted_on}
 use Rattle.oldtables.proofs.MigrationLemmas.{rows_listed, stays_seen, none_before, IsCleared, migrated}
-use Rattle.oldtables.specs.Inside.{LosesTable, TurnsInside}
+use Rattle.oldtables.specs.Inside.{LosesTable}
 
 -- ---- what is read
 

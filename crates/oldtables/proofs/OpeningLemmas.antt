@@ -1,14 +1,13 @@
 -- What opening makes of a database of either version, from what it makes of each.
-use Rattle.std.proofs.Common.{◌≡◌, ◌⊎◌, ◌↔◌, ℕ, Bool, true, false, List, length, slice_get, Option, Some, None, Ok, Err, Result, IfOk, OnErr, IsTrue, refl, sym, ap, ◌∙◌, subst, inl, inr, arith}
+use Rattle.std.proofs.Common.{◌≡◌, ◌↔◌, ℕ, Bool, true, false, length, slice_get, Option, Some, None, Ok, Err, Result, IfOk, IsTrue, ap, inl, inr, arith}
 use Rattle.sqlite_schema.specs.declared.schema.Schema.{Schema}
 use Rattle.sqlite_schema.specs.declared.schema.Table.{Table}
-use Rattle.sqlite_trees.specs.Tree.{Trees}
 use Rattle.sqlite.specs.Effect.{Database}
-use Rattle.sqlite.specs.State.{State, HasCleanDisk, Survives}
+use Rattle.sqlite.specs.State.{State}
 use Rattle.sqlite.proofs.StateLemmas.{survives_weaker}
-use Rattle.mailtables.specs.Schema.{mail_schema, unindexed_schema, IsOurSchema}
-use Rattle.mailtables.specs.Connection.{SeesCommit, StaysSame}
-use Rattle.mailtables.specs.Ours.{IsOurs, IsOpenedAs, MayOpen, Opens}
+use Rattle.mailtables.specs.Schema.{IsOurSchema}
+use Rattle.mailtables.specs.Connection.{SeesCommit}
+use Rattle.mailtables.specs.Ours.{IsOurs, MayOpen, Opens}
 use Rattle.oldtables.specs.declared.opening.Layout.{Layout}
 use Rattle.oldtables.specs.declared.opening.Layout.TheVariants.{Current, CopiesLast, CopiesFourth}
 use Rattle.oldtables.specs.OldSchema.{old_schema, oldest_schema, IsOldSchema, IsOld}

@@ -1,8 +1,5 @@
 -- What opening makes of a database of version 1.
-use Rattle.std.proofs.Common.{◌≡◌, ◌↔◌, Bool, true, false, Ok, Err, Result, IfOk, OnOk, OnErr, IsTrue, refl, sym, ap, ◌∙◌, subst}
-use Rattle.sqlite_schema.specs.declared.schema.Schema.{Schema}
-use Rattle.sqlite_trees.specs.Tree.{Trees}
-use Rattle.sqlite.specs.Effect.{Database}
+use Rattle.std.proofs.Common.{◌≡◌, ◌↔◌, Bool, true, false, Ok, Err, Result, IfOk, OnOk, OnErr, IsTrue, refl, sym, ◌∙◌, subst}
 use Rattle.sqlite.specs.State.{State, HasCleanDisk, Survives}
 use Rattle.sqlite.proofs.StateLemmas.{survives_then, survives_weaker}
 use Rattle.mailtables.specs.Connection.{SeesCommit, IsSettled, StaysSame, Asks}

@@ -1,5 +1,5 @@
 -- How a database of version 1 becomes one of version 2.
-use Rattle.std.specs.Prelude.{◌≡◌, ◌⊎◌, ◌≤◌, nat_le, cond, Bool, true, false, ℕ, List, [], ◌∷◌, fold, ◌++◌, map, filter, not, Result, Ok, Err, IfOk, OnOk, OnErr, IsTrue, ◌↔◌, Vec, IsPermutation}
+use Rattle.std.specs.Prelude.{◌≡◌, nat_le, cond, Bool, true, false, ℕ, List, [], ◌∷◌, fold, ◌++◌, map, Result, IfOk, OnOk, OnErr, IsTrue, ◌↔◌, Vec, IsPermutation}
 use Rattle.std.specs.declared.alloc.Global.{Global}
 use Rattle.sqlite_value.specs.Order.{Row}
 use Rattle.sqlite_value.specs.declared.value.Value.TheVariants.{Int, Blob}

@@ -1,6 +1,5 @@
 use Rattle.std.proofs.Common.{◌≡◌, ◌+◌, refl, Ok, Err, take, rules, subst, arith}
 use Rattle.std.proofs.lemmas.List.{take_all}
-use Rattle.sqlite.specs.Held.{state}
 use Rattle.mailtables.specs.Connection.{RunsInside, TurnsRows}
 use Rattle.oldtables.specs.Migration.{filled, refiled, cells_of}
 use Rattle.oldtables.proofs.MigrationLemmas.{none_filled, keeps_failed, keeps_stopped, keeps_more, one_more_filled}

@@ -1,4 +1,4 @@
-use Rattle.std.proofs.Common.{◌≡◌, Ok, take}
+use Rattle.std.proofs.Common.{Ok, take}
 use Rattle.mailtables.specs.Connection.{RunsInside, TurnsRows}
 use Rattle.oldtables.specs.Migration.{filled}
 use Rattle.oldtables.proofs.migration.fill.Given as goal

@@ -1,4 +1,4 @@
-use Rattle.std.proofs.Common.{◌≡◌, Ok, take}
+use Rattle.std.proofs.Common.{Ok, take}
 use Rattle.mailtables.specs.Connection.{RunsInside, TurnsRows}
 use Rattle.mailtables.specs.QueueTable.{outgoing_tree}
 use Rattle.oldtables.specs.OldSchema.{queue_columns}

@@ -1,6 +1,5 @@
 use Rattle.std.proofs.Common.{◌≡◌, ◌+◌, refl, Ok, Err, take, rules, subst, arith}
 use Rattle.std.proofs.lemmas.List.{take_all}
-use Rattle.sqlite.specs.Held.{state}
 use Rattle.mailtables.specs.Connection.{RunsInside, TurnsRows}
 use Rattle.mailtables.specs.ReplyTable.{reply_tree}
 use Rattle.oldtables.specs.OldSchema.{four_cells}

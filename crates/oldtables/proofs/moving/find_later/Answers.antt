@@ -1,4 +1,4 @@
-use Rattle.std.proofs.Common.{◌≡◌, Ok, Err, rules}
+use Rattle.std.proofs.Common.{◌≡◌, Err, rules}
 use Rattle.sqlite.specs.Effect.{Database}
 use Rattle.oldtables.specs.OldSchema.{oldest_outgoing_tree, oldest_reply_tree, oldest_notice_tree, queue_columns, four_cells}
 use Rattle.oldtables.specs.Migration.{AreOldRows, AreLater}

@@ -1,6 +1,6 @@
-use Rattle.std.proofs.Common.{◌≡◌, true, false, Ok, Err, refl, rules}
+use Rattle.std.proofs.Common.{◌≡◌, true, Ok, refl, rules}
 use Rattle.sqlite.specs.Held.{state}
-use Rattle.oldtables.proofs.UpgradeLemmas.{old_refused, old_none, old_stopped, old_all}
+use Rattle.oldtables.proofs.UpgradeLemmas.{old_all}
 use Rattle.oldtables.proofs.upgrade.open_old.Goals as goal
 
 pub returns-clause-opens : goal.returns-clause-opens
