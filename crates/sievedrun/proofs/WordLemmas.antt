@@ -8,7 +8,7 @@ use Rattle.sqlite_schema.specs.declared.schema.Schema.{Schema}
 use Rattle.sqlite.specs.Effect.{Database}
 use Rattle.sqlite.specs.State.{State, HasCleanDisk}
 use Rattle.mailstore.specs.Account.{Account, Accounts, no_accounts, messages_in, row_with}
-use Rattle.mailstore.specs.Schema.{no_schema, mail_schema, IsOurSchema}
+use Rattle.mailstore.specs.Schema.{no_schema, IsOurSchema}
 use Rattle.mailstore.specs.OldSchema.{IsOldSchema}
 use Rattle.mailstore.specs.Opening.{IsKnown}
 use Rattle.mailstore.specs.Shows.{Presents, Offers, OpensAs}
@@ -289,7 +289,7 @@ put_denied Denied event told fault r is why held new same =
 -- it was denied once all of the input was read
 pub put_at_end : {X : Type 0} (Denied : Fault → Type 0) (left : Option (List ℕ)) → IsAtEnd left → (event : Event) (told : X → Answer) (r : Result X Fault) (held new : Database) → TurnsTables (Puts Denied event told r) held new
     → TurnsTables (Puts (DeniedAtEnd Denied left) event told r) held new
-put_at_end Denied left end event told r held new put = turned_wider (Puts Denied event told r) (Puts (DeniedAtEnd Denied left) event told r) held new (λ accounts later h. by r accounts later h) put
+put_at_end {X} Denied left end event told r held new put = turned_wider (Puts Denied event told r) (Puts (DeniedAtEnd Denied left) event told r) held new (λ accounts later h. by r accounts later h) put
   where
     late : (fault : Fault) → IsHindered ⊥ ⊥ Denied fault → IsHindered ⊥ ⊥ (DeniedAtEnd Denied left) fault
     late fault (inl e) = inl e
