@@ -75,28 +75,32 @@ def made(new):
         assert place.deliver(umask=umask)[0] == 0
         place.done("session", given=ASKING, umask=umask)
         os.remove(f"{place.db}.lock")
-        place.done("folders", "alice", umask=umask)
-        assert place.modes() == all_have(0o600), (umask, place.modes())
+        place.done("folders", "--wait", "alice", umask=umask)
+        assert place.modes() == {**all_have(0o600), "mail.db.wait": 0o600}, (umask, place.modes())
     absent = new()
     assert absent.run("folders", "alice", umask=0)[0] == 65
     assert absent.modes() == {"mail.db.lock": 0o600}, absent.modes()
-    return f"store, log and lock are 0600 under the umasks {', '.join('%03o' % umask for umask in UMASKS)}"
+    return f"store, log, lock and waiting file are 0600 under the umasks {', '.join('%03o' % umask for umask in UMASKS)}"
 
 
 def kept(new):
     for umask in UMASKS:
-        place = new().make()
-        for name in place.modes():
-            os.chmod(f"{place.folder}/{name}", 0o640)
-        assert place.deliver(umask=umask)[0] == 0
-        place.done("session", given=ASKING, umask=umask)
-        assert place.modes() == all_have(0o640), (umask, place.modes())
+        for waited in False, True:
+            place = new().make()
+            if waited:
+                place.done("folders", "--wait", "alice")
+            for name in place.modes():
+                os.chmod(f"{place.folder}/{name}", 0o640)
+            assert place.deliver(umask=umask)[0] == 0
+            place.done("session", given=ASKING, umask=umask)
+            place.done("folders", "--wait", "alice", umask=umask)
+            assert place.modes() == {**all_have(0o640), "mail.db.wait": 0o640 if waited else 0o600}, (umask, place.modes())
         empty = new()
         open(empty.db, "w").close()
         os.chmod(empty.db, 0o640)
         empty.make(umask=umask)
         assert empty.modes() == {"mail.db": 0o640, "mail.db-wal": 0o640, "mail.db.lock": 0o600}, (umask, empty.modes())
-    return "files that are there keep 0640; the log of a store with 0640 is made so"
+    return "files that are there keep 0640; the log of a store with 0640 is made so, a waiting file 0600"
 
 
 def traced(new):

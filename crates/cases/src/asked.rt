@@ -7,7 +7,7 @@ use std::alloc::{AllocError, Global};
 use std::format;
 
 /// What the words ask for, with the values in them; or whether what `clap` says is an error.
-pub fn told(alloc: Global, out: &mut Octets, words: &[u8]) -> Result<(), AllocError> {
+pub fn add_asked(alloc: Global, out: &mut Octets, words: &[u8]) -> Result<(), AllocError> {
     let words = CommandLine::new(alloc, words_of(alloc, words, "F")?)?;
     match read(alloc, &words) {
         Ok(asked) => add(out, asked),

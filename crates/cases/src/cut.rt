@@ -59,7 +59,7 @@ fn answers(
 ) -> Result<Octets, AllocError> {
     let events = events(alloc, stream, place)?;
     let ran = run(world, &events);
-    told(alloc, ran.answers.as_slice())
+    text_of(alloc, ran.answers.as_slice())
 }
 
 /// A client that sends a stream in two pieces. Each has as many steps after it as the stream has lines.
@@ -99,7 +99,7 @@ fn add_piece(
 }
 
 /// What is told in these answers.
-fn told(alloc: Global, answers: &[Answer]) -> Result<Octets, AllocError> {
+fn text_of(alloc: Global, answers: &[Answer]) -> Result<Octets, AllocError> {
     let mut told = Octets::new(alloc);
     for answer in answers {
         add_octets(&mut told, answer)?;

@@ -39,21 +39,21 @@ pub fn event(
 ) -> Result<Option<Event>, AllocError> {
     match section.name {
         "open" => Ok(Some(Event::Open(session(note)))),
-        "give" => given(alloc, section, note, true),
-        "piece" => given(alloc, section, note, false),
+        "give" => give(alloc, section, note, true),
+        "piece" => give(alloc, section, note, false),
         "step" => Ok(Some(Event::Step(session(note)))),
         "giveup" => Ok(Some(Event::GiveUp(session(note)))),
         "close" => Ok(Some(Event::Close(session(note)))),
         "adduser" => new_user(alloc, note, section.text),
         "deliver" => delivery(alloc, post, section, note),
-        "takeout" => row_taken(alloc, note),
-        "takemail" => mail_taken(alloc, note),
+        "takeout" => take_out(alloc, note),
+        "takemail" => take_mail(alloc, note),
         _ => Ok(None),
     }
 }
 
 /// Octets that come from a client, with each line end as CRLF where that is wanted.
-fn given(
+fn give(
     alloc: Global,
     section: &Section<'_>,
     note: &str,
@@ -102,7 +102,7 @@ fn envelope(alloc: Global, from: &str) -> Result<Envelope, AllocError> {
 }
 
 /// A row to be taken out: `USER ID`.
-fn row_taken(alloc: Global, note: &str) -> Result<Option<Event>, AllocError> {
+fn take_out(alloc: Global, note: &str) -> Result<Option<Event>, AllocError> {
     let (user, id) = cut(note, " ");
     let user = Octets::from_slice(alloc, user.as_bytes())?;
     Ok(Some(Event::TakeOut {
@@ -112,7 +112,7 @@ fn row_taken(alloc: Global, note: &str) -> Result<Option<Event>, AllocError> {
 }
 
 /// A folder whose first message is to be taken out: `USER FOLDER`.
-fn mail_taken(alloc: Global, note: &str) -> Result<Option<Event>, AllocError> {
+fn take_mail(alloc: Global, note: &str) -> Result<Option<Event>, AllocError> {
     let (user, folder) = cut(note, " ");
     let user = Octets::from_slice(alloc, user.as_bytes())?;
     let folder = Octets::from_slice(alloc, folder.as_bytes())?;

@@ -56,7 +56,7 @@ fn path_for(rt: &HostRuntime) -> io::Result<String> {
 
 /// Takes away the database with what lies beside it, the Maildir too.
 fn clear(rt: &HostRuntime, path: &str) -> Result<(), AllocError> {
-    for end in ["", "-wal", "-journal", ".lock"] {
+    for end in ["", "-wal", "-journal", ".lock", ".wait"] {
         remove(rt, path, end)?;
     }
     let _ = fs::remove_dir_all(rt, format!(in rt.alloc(); "{path}.d")?.as_str());

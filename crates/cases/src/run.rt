@@ -1,5 +1,5 @@
 //! Runs of the program: its words, its input, and what they leave.
-use crate::stream::{NEVER, Takes};
+use crate::stream::{NEVER, ShortWriter};
 use crate::talk;
 use casefiles::Part::{Number, Text};
 use casefiles::{Answers, add_parts, text_in, words_of};
@@ -196,14 +196,14 @@ pub fn add_run<K: Keeper, T: MailSink>(
 ) -> Result<(), AllocError> {
     let words = CommandLine::new(alloc, words_of(alloc, run.words, run.path)?)?;
     let mut left = run.input;
-    let mut output = Takes::new(alloc, run.writes);
-    let mut faults = Vec::new(alloc);
+    let mut output = ShortWriter::new(alloc, run.writes);
+    let mut errors = Vec::new(alloc);
     let status = drive(
         alloc,
         &words,
         &mut left,
         &mut output,
-        &mut faults,
+        &mut errors,
         keeper,
         run.clock,
         sink,
@@ -211,8 +211,8 @@ pub fn add_run<K: Keeper, T: MailSink>(
     add_all_left(
         out,
         status,
-        output.taken.as_slice(),
-        faults.as_slice(),
+        output.written.as_slice(),
+        errors.as_slice(),
         left.len(),
     )
 }
@@ -238,10 +238,10 @@ fn add_all_left(
     out: &mut Octets,
     status: u8,
     output: &[u8],
-    faults: &[u8],
+    errors: &[u8],
     unread: usize,
 ) -> Result<(), AllocError> {
-    add_left(out, status, output, faults)?;
+    add_left(out, status, output, errors)?;
     if unread == 0 {
         return Ok(());
     }
@@ -253,10 +253,10 @@ pub fn add_left<'a>(
     out: &mut Octets,
     status: u8,
     output: &'a [u8],
-    faults: &'a [u8],
+    errors: &'a [u8],
 ) -> Result<(), AllocError> {
-    let is_usage = faults.starts_with(b"error: ");
-    let faults = if is_usage { b"error: " } else { faults };
+    let is_usage = errors.starts_with(b"error: ");
+    let errors = if is_usage { b"error: " } else { errors };
     add_parts(
         out,
         &[
@@ -264,7 +264,7 @@ pub fn add_left<'a>(
             Text(b"|"),
             Text(output),
             Text(b"|"),
-            Text(faults),
+            Text(errors),
         ],
     )
 }

@@ -89,14 +89,14 @@ impl Lines for Tests<'_> {
         number: usize,
         line: &str,
     ) -> Result<(), AllocError> {
-        let script = discarding(alloc, line)?;
+        let script = discard_after(alloc, line)?;
         let got = answer(alloc, script.as_slice(), self.trial)?;
         tally.note(number, self.wanted, trimmed(got.as_slice()))
     }
 }
 
 /// A script that discards where a test holds.
-fn discarding(alloc: Global, test: &str) -> Result<Octets, AllocError> {
+fn discard_after(alloc: Global, test: &str) -> Result<Octets, AllocError> {
     let test = decoded(alloc, test)?;
     let mut script = Octets::new(alloc);
     add_parts(

@@ -20,7 +20,7 @@ pub fn try_all(alloc: Global, tally: &mut Tally, file: &str) -> Result<(), Alloc
 }
 
 /// A store without accounts.
-fn opened(alloc: Global) -> Result<Store<MemStore>, AllocError> {
+fn new_store(alloc: Global) -> Result<Store<MemStore>, AllocError> {
     let conn = Connection::open_in_memory(alloc)?;
     match Store::create(alloc, conn) {
         Ok(store) => Ok(store),
@@ -54,7 +54,7 @@ impl<'a> Sections<'a> for Talk<'a> {
         match section.name {
             "wanted" => self.try_answer(alloc, tally, section),
             "world" => self.renew(alloc),
-            "cut" => self.cut(alloc, section),
+            "cut" => self.add_cut(alloc, section),
             "scan" => add_scan(alloc, &mut self.told, section),
             "from" | "moment" => {
                 self.post = self.post.after(section);
@@ -69,7 +69,7 @@ impl<'a> Sections<'a> for Talk<'a> {
 impl<'a> Talk<'a> {
     /// A world without accounts, in which nothing is to happen yet.
     fn new(alloc: Global) -> Result<Talk<'a>, AllocError> {
-        let store = opened(alloc)?;
+        let store = new_store(alloc)?;
         Ok(Talk {
             world: World::new(alloc, store),
             told: Octets::new(alloc),
@@ -120,13 +120,13 @@ impl<'a> Talk<'a> {
 
     /// From now on the world is another one, without accounts.
     fn renew(&mut self, alloc: Global) -> Result<(), AllocError> {
-        let store = opened(alloc)?;
+        let store = new_store(alloc)?;
         self.world = World::new(alloc, store);
         Ok(())
     }
 
     /// Appends what a stream is answered, however it is cut.
-    fn cut(&mut self, alloc: Global, section: &Section<'_>) -> Result<(), AllocError> {
+    fn add_cut(&mut self, alloc: Global, section: &Section<'_>) -> Result<(), AllocError> {
         let stream = octets_in(alloc, section)?;
         add_answers(alloc, &mut self.world, &mut self.told, stream.as_slice())
     }

@@ -3,7 +3,7 @@ use crate::run::add_left;
 use casefiles::text_in;
 use mailengine::Envelope;
 use octets::{Octets, parse_decimal};
-use sievedrun::trial::try_run;
+use sievedrun::try_script::try_run;
 use std::alloc::{AllocError, Global};
 use std::io;
 use std::io::{ErrorKind, Read, Write};
@@ -44,20 +44,20 @@ fn add_tried(
         calls: reads,
         fails_as,
     };
-    let mut output = Takes::new(alloc, writes);
-    let mut faults = Vec::new(alloc);
+    let mut output = ShortWriter::new(alloc, writes);
+    let mut errors = Vec::new(alloc);
     let status = try_run(
         alloc,
-        unaddressed(alloc),
+        empty_envelope(alloc),
         &mut input,
         &mut output,
-        &mut faults,
+        &mut errors,
     );
-    add_left(out, status, output.taken.as_slice(), faults.as_slice())
+    add_left(out, status, output.written.as_slice(), errors.as_slice())
 }
 
 /// The envelope of no sender and no recipient. Takes no memory.
-fn unaddressed(alloc: Global) -> Envelope {
+fn empty_envelope(alloc: Global) -> Envelope {
     Envelope {
         from: Octets::new(alloc),
         to: Octets::new(alloc),
@@ -86,16 +86,16 @@ impl Read for Pieces<'_> {
 
 /// An output that takes three octets at a time, and fails from one of its calls on.
 #[derive(Drop)]
-pub struct Takes {
-    pub taken: Vec<u8>,
+pub struct ShortWriter {
+    pub written: Vec<u8>,
     calls: u64,
 }
 
-impl Takes {
-    /// Nothing was taken yet. Takes no memory.
-    pub fn new(alloc: Global, calls: u64) -> Takes {
-        Takes {
-            taken: Vec::new(alloc),
+impl ShortWriter {
+    /// Nothing is written yet. Takes no memory.
+    pub fn new(alloc: Global, calls: u64) -> ShortWriter {
+        ShortWriter {
+            written: Vec::new(alloc),
             calls,
         }
     }
@@ -109,11 +109,11 @@ impl Takes {
     }
 }
 
-impl Write for Takes {
+impl Write for ShortWriter {
     fn write(&mut self, buf: &[u8]) -> io::Result<usize> {
         self.count()?;
         let most = buf.len().min(3);
-        self.taken.extend_from_slice(&buf[..most])?;
+        self.written.extend_from_slice(&buf[..most])?;
         Ok(most)
     }
 

@@ -106,7 +106,7 @@ impl Answers for Rows {
         given: &[Octets],
     ) -> Result<(), AllocError> {
         match given {
-            [words] => asked::told(alloc, out, words.as_slice()),
+            [words] => asked::add_asked(alloc, out, words.as_slice()),
             [call, number] => stream::answer(alloc, out, call.as_slice(), number.as_slice()),
             _ => out.extend_from_slice(b"not that many columns"),
         }

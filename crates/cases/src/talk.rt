@@ -1,5 +1,5 @@
 //! Sessions of ManageSieve over a keeper: what one client is told.
-use crate::stream::{NEVER, Pieces, Takes};
+use crate::stream::{NEVER, Pieces, ShortWriter};
 use casefiles::Part::Text;
 use casefiles::add_parts;
 use keepers::Keeper;
@@ -28,10 +28,10 @@ pub fn add_sent<K: Keeper>(
     command: &[u8],
 ) -> Result<(), AllocError> {
     let sent = after_login(alloc, command)?;
-    let mut input = at_most(usize::MAX, sent.as_slice());
-    let mut output = Takes::new(alloc, NEVER);
+    let mut input = pieces_of(usize::MAX, sent.as_slice());
+    let mut output = ShortWriter::new(alloc, NEVER);
     let ended = serve_one(alloc, path, &mut input, &mut output, keeper);
-    let answers = after_greeting(output.taken.as_slice());
+    let answers = after_greeting(output.written.as_slice());
     match answers.strip_prefix(LOGGED_IN) {
         Some(answer) if ended.is_ok() => out.extend_from_slice(answer),
         _ => out.extend_from_slice(answers),
@@ -59,22 +59,22 @@ pub fn answer<K: Keeper>(
     let number = parse_decimal(number).unwrap_or(0);
     let most = usize::try_from(number).unwrap_or(0);
     let (input, writes, is_greeted) = match call {
-        "greet" => (at_most(most, input), NEVER, true),
-        "talk" => (at_most(most, input), NEVER, false),
-        "gone" => (broken(number, input), NEVER, false),
-        "deaf" => (at_most(usize::MAX, input), number, true),
-        "mute" => (at_most(1, input), number, true),
+        "greet" => (pieces_of(most, input), NEVER, true),
+        "talk" => (pieces_of(most, input), NEVER, false),
+        "gone" => (pieces_until(number, input), NEVER, false),
+        "deaf" => (pieces_of(usize::MAX, input), number, true),
+        "mute" => (pieces_of(1, input), number, true),
         _ => return out.extend_from_slice(b"no such call"),
     };
-    let (mut input, mut output) = (input, Takes::new(alloc, writes));
-    let mut faults = Vec::new(alloc);
-    let ended = serve_client(alloc, path, &mut input, &mut output, &mut faults, keeper);
-    add_told(alloc, out, ended, output.taken.as_slice(), is_greeted)?;
-    add_faults(out, faults.as_slice())
+    let (mut input, mut output) = (input, ShortWriter::new(alloc, writes));
+    let mut errors = Vec::new(alloc);
+    let ended = serve_client(alloc, path, &mut input, &mut output, &mut errors, keeper);
+    add_told(alloc, out, ended, output.written.as_slice(), is_greeted)?;
+    add_errors(out, errors.as_slice())
 }
 
 /// What gives that many octets at a time at most.
-fn at_most(most: usize, left: &[u8]) -> Pieces<'_> {
+fn pieces_of(most: usize, left: &[u8]) -> Pieces<'_> {
     Pieces {
         left,
         most,
@@ -84,7 +84,7 @@ fn at_most(most: usize, left: &[u8]) -> Pieces<'_> {
 }
 
 /// What gives its octets one by one, and fails from a call on.
-fn broken(calls: u64, left: &[u8]) -> Pieces<'_> {
+fn pieces_until(calls: u64, left: &[u8]) -> Pieces<'_> {
     Pieces {
         left,
         most: 1,
@@ -110,11 +110,11 @@ fn add_told(
 }
 
 /// Appends what was told of the store, if anything.
-fn add_faults(out: &mut Octets, faults: &[u8]) -> Result<(), AllocError> {
-    if faults.is_empty() {
+fn add_errors(out: &mut Octets, errors: &[u8]) -> Result<(), AllocError> {
+    if errors.is_empty() {
         return Ok(());
     }
-    add_parts(out, &[Text(b"|"), Text(faults)])
+    add_parts(out, &[Text(b"|"), Text(errors)])
 }
 
 /// Appends how the session ended.

@@ -10,7 +10,7 @@ use Rattle.mailstore.specs.Refusals.{IsTransient, IsMemoryBy, code_in}
 pub WasAnswered : {C : Type 0} → C → Result (Unit {0}) Error → Type 0
 WasAnswered conn closed = Unit {0}
 
--- for the proof of that function alone
+-- for the proof of that function alone, `file::close`: it is public since that proof stands in a file of its own
 pub was_answered : {C : Type 0} (conn : C) (closed : Result (Unit {0}) Error) → WasAnswered conn closed
 unfolding WasAnswered
 was_answered conn closed = tt

@@ -15,9 +15,9 @@ abbrev pub no_database : Database
 no_database = record { schema = no_schema; trees = no_trees }
 
 -- what a connection that is held sees; nothing while it is out
-abbrev pub held_by : Option (Held MemStore) → Database
-held_by (Some held) = (state over_memory held).now
-held_by None = no_database
+abbrev pub database_in : Option (Held MemStore) → Database
+database_in (Some held) = (state over_memory held).now
+database_in None = no_database
 
 -- what is told of the next close, of so many that come before the chosen one: that it failed, where it is the chosen one
 abbrev pub told_of_close : Option ℕ → Option Refusal

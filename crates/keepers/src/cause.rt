@@ -1,18 +1,30 @@
 //! What the system and SQLite say of a failure, as texts for a person.
-use mailsinks::cause::of_file;
 use sqlite::ErrorCode;
 use std::io::ErrorKind;
 
 /// Of a disk without room for the store, and how room is made.
 const NO_ROOM: &str = "disk is full: remove the reserve file beside the store";
 
+/// Of a file that can't be opened, written or renamed; none where nothing more is known of it.
+pub fn of_file(kind: ErrorKind) -> Option<&'static str> {
+    match kind {
+        ErrorKind::NotFound => Some("no such directory"),
+        ErrorKind::PermissionDenied => Some("permission denied"),
+        ErrorKind::ReadOnlyFilesystem => Some("file system is read-only"),
+        ErrorKind::StorageFull => Some("disk is full"),
+        ErrorKind::QuotaExceeded => Some("disk quota is used up"),
+        ErrorKind::FileTooLarge => Some("file would be too large"),
+        _ => None,
+    }
+}
+
 /// Of a lock's file that can't be opened or locked.
-pub fn of_lock(kind: ErrorKind) -> &'static str {
+pub(crate) fn of_lock(kind: ErrorKind) -> &'static str {
     of_file_of_store(kind).unwrap_or("lock file can't be used")
 }
 
 /// Of a file of the store, or beside it, that can't be made, opened or locked; none where nothing more is known of it.
-pub fn of_file_of_store(kind: ErrorKind) -> Option<&'static str> {
+pub(crate) fn of_file_of_store(kind: ErrorKind) -> Option<&'static str> {
     match kind {
         ErrorKind::StorageFull => Some(NO_ROOM),
         _ => of_file(kind),
@@ -20,7 +32,7 @@ pub fn of_file_of_store(kind: ErrorKind) -> Option<&'static str> {
 }
 
 /// Of a call that SQLite refused; none where its own name says no more.
-pub fn of_sqlite(code: ErrorCode) -> Option<&'static str> {
+pub(crate) fn of_sqlite(code: ErrorCode) -> Option<&'static str> {
     match code {
         ErrorCode::CannotOpen => Some("file can't be opened"),
         ErrorCode::SystemIoFailure => Some("disk can't be read or written"),

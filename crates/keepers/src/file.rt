@@ -4,7 +4,7 @@ ghost use Rattle.mailstore.specs.Refusals.{IsTransient};
 ghost use Rattle.keepers.specs.Closing.{WasAnswered, IsToldOf, IsToldOfClosing, code_at_end};
 
 use crate::cause::{of_file_of_store, of_lock, of_sqlite};
-use crate::keeper::{Held, Keeper, release, store_of};
+use crate::keeper::{Keeper, Unavailable, release, store_of};
 use mailstore::{Refusal, Store};
 use sqlite::{Connection, Error, ErrorCode, File as Database, FileStore};
 use std::fs::{File, OpenOptions, TryLockError};
@@ -17,7 +17,8 @@ const OWNER_ALONE: u32 = 0o600;
 
 /// Keeps the store of one file after the other: asks for the lock on `FILE.lock`, opens, and closes.
 ///
-/// The lock is given back when the store is handed back, or when the process ends. The file `FILE.lock` stays.
+/// The lock is given back when the store is handed back, or when the process ends. Where it is waited for, the lock on `FILE.wait` is
+/// held meanwhile. The files `FILE.lock` and `FILE.wait` stay.
 #[derive(Drop)]
 pub struct FileKeeper<'a> {
     rt: &'a HostRuntime,
@@ -31,7 +32,7 @@ pub struct FileKeeper<'a> {
 /// Why no store is given out, and what is known of it.
 #[derive(Clone, Copy)]
 struct Failure {
-    held: Held,
+    denial: Unavailable,
     cause: Option<&'static str>,
 }
 
@@ -48,15 +49,15 @@ impl<'a> FileKeeper<'a> {
     }
 
     /// Opens a store whose lock is held, and keeps what is known of a failure.
-    fn open(&mut self, path: &str, fresh: bool) -> Result<Store<FileStore<Database>>, Held>
+    fn open(&mut self, path: &str, fresh: bool) -> Result<Store<FileStore<Database>>, Unavailable>
         ensures kept { self.new.lock ≡ self.old.lock }
         ensures closed { self.new.unclosed ≡ self.old.unclosed }
     {
-        match opened(self.rt, path, fresh) {
+        match open_file(self.rt, path, fresh) {
             Ok(store) => Ok(store),
             Err(failure) => {
                 self.cause = failure.cause;
-                Err(failure.held)
+                Err(failure.denial)
             }
         }
     }
@@ -96,15 +97,15 @@ impl Keeper for FileKeeper<'_> {
         self.waits = waits;
     }
 
-    fn lock(&mut self, path: &str) -> Result<(), Held> {
-        match locked(self.rt, path, self.waits) {
+    fn lock(&mut self, path: &str) -> Result<(), Unavailable> {
+        match lock_file(self.rt, path, self.waits) {
             Ok(lock) => {
                 self.lock = Some(lock);
                 Ok(())
             }
             Err(failure) => {
                 self.cause = failure.cause;
-                Err(failure.held)
+                Err(failure.denial)
             }
         }
     }
@@ -113,16 +114,16 @@ impl Keeper for FileKeeper<'_> {
         self.lock = None;
     }
 
-    fn take(&mut self, path: &str, fresh: bool) -> Result<Store<FileStore<Database>>, Held> {
+    fn take(&mut self, path: &str, fresh: bool) -> Result<Store<FileStore<Database>>, Unavailable> {
         if self.lock.is_some() {
             return self.open(path, fresh);
         }
         self.lock(path)?;
         match self.open(path, fresh) {
             Ok(store) => Ok(store),
-            Err(held) => {
+            Err(denial) => {
                 self.lock = None;
-                Err(held)
+                Err(denial)
             }
         }
     }
@@ -175,9 +176,43 @@ fn first_code(said: Option<ErrorCode>, closed: &Result<(), Error>) -> Option<Err
     }
 }
 
-/// The lock on `FILE.lock`, which lasts until the file is dropped.
-fn locked(rt: &HostRuntime, path: &str, waits: bool) -> Result<File, Failure> {
-    let Ok(name) = format!(in rt.alloc(); "{path}.lock") else {
+/// The lock on `FILE.lock`, which lasts until the file is dropped. Who waits for it holds the lock on `FILE.wait` until then, so
+/// whoever has the store can see that somebody waits, and those who do come one after the other.
+fn lock_file(rt: &HostRuntime, path: &str, waits: bool) -> Result<File, Failure> {
+    if !waits {
+        return try_lock_beside(rt, path, "lock");
+    }
+    let turn = lock_beside(rt, path, "wait")?;
+    let lock = lock_beside(rt, path, "lock")?;
+    drop(turn);
+    Ok(lock)
+}
+
+/// The lock on a file beside the store, or Busy where another one has it.
+fn try_lock_beside(rt: &HostRuntime, path: &str, ending: &str) -> Result<File, Failure> {
+    let file = open_beside(rt, path, ending)?;
+    match file.try_lock() {
+        Ok(()) => Ok(file),
+        Err(TryLockError::WouldBlock) => Err(Failure {
+            denial: Unavailable::Busy,
+            cause: None,
+        }),
+        Err(TryLockError::Error(error)) => Err(lock_failure(error)),
+    }
+}
+
+/// The lock on a file beside the store, which is waited for where another one has it.
+fn lock_beside(rt: &HostRuntime, path: &str, ending: &str) -> Result<File, Failure> {
+    let file = open_beside(rt, path, ending)?;
+    match file.lock() {
+        Ok(()) => Ok(file),
+        Err(error) => Err(lock_failure(error)),
+    }
+}
+
+/// The empty file beside the store with this ending, which is made where it is absent.
+fn open_beside(rt: &HostRuntime, path: &str, ending: &str) -> Result<File, Failure> {
+    let Ok(name) = format!(in rt.alloc(); "{path}.{ending}") else {
         return Err(Failure::from(Refusal::Memory));
     };
     let opened = OpenOptions::new()
@@ -185,33 +220,20 @@ fn locked(rt: &HostRuntime, path: &str, waits: bool) -> Result<File, Failure> {
         .create(true)
         .mode(OWNER_ALONE)
         .open(rt, name.as_str());
-    let file = opened.map_err(unlocked)?;
-    let held = if waits {
-        file.lock().map_err(TryLockError::Error)
-    } else {
-        file.try_lock()
-    };
-    match held {
-        Ok(()) => Ok(file),
-        Err(TryLockError::WouldBlock) => Err(Failure {
-            held: Held::Busy,
-            cause: None,
-        }),
-        Err(TryLockError::Error(error)) => Err(unlocked(error)),
-    }
+    opened.map_err(lock_failure)
 }
 
 /// What the system says of a lock's file that it can't open or lock.
-fn unlocked(error: io::Error) -> Failure {
+fn lock_failure(error: io::Error) -> Failure {
     Failure {
-        held: Held::Refused(Refusal::Store),
+        denial: Unavailable::Refused(Refusal::Store),
         cause: Some(of_lock(error.kind())),
     }
 }
 
 /// The store of a file whose lock is held. Only a new one makes the file where it is absent. SQLite gives its log the
 /// permissions of the database's file.
-fn opened(
+fn open_file(
     rt: &HostRuntime,
     path: &str,
     fresh: bool,
@@ -221,13 +243,13 @@ fn opened(
     } else if is_absent(rt, path) {
         return Err(Failure::from(Refusal::NotOurs));
     }
-    let conn = Connection::open(rt, path).map_err(unopened)?;
+    let conn = Connection::open(rt, path).map_err(open_failure)?;
     match store_of(rt.alloc(), conn, fresh) {
         Ok(store) => Ok(store),
         Err((refusal, conn, code)) => {
             let _ = conn.close();
             Err(Failure {
-                held: Held::Refused(refusal),
+                denial: Unavailable::Refused(refusal),
                 cause: code.and_then(of_sqlite),
             })
         }
@@ -246,30 +268,30 @@ fn make_file(rt: &HostRuntime, path: &str) -> Result<(), Failure> {
         Ok(_) => Ok(()),
         Err(error) if error.kind() == ErrorKind::AlreadyExists => Ok(()),
         Err(error) => Err(Failure {
-            held: Held::Refused(Refusal::Store),
+            denial: Unavailable::Refused(Refusal::Store),
             cause: of_file_of_store(error.kind()),
         }),
     }
 }
 
 /// What SQLite says of a file that it can't open.
-fn unopened(error: Error) -> Failure {
-    let held = match error {
-        Error::SqliteFailure(ErrorCode::DatabaseBusy) => Held::Busy,
-        Error::SqliteFailure(ErrorCode::NotADatabase) => Held::Refused(Refusal::NotOurs),
-        _ => Held::Refused(Refusal::from(error)),
+fn open_failure(error: Error) -> Failure {
+    let denial = match error {
+        Error::SqliteFailure(ErrorCode::DatabaseBusy) => Unavailable::Busy,
+        Error::SqliteFailure(ErrorCode::NotADatabase) => Unavailable::Refused(Refusal::NotOurs),
+        _ => Unavailable::Refused(Refusal::from(error)),
     };
     let cause = match error {
         Error::SqliteFailure(code) => of_sqlite(code),
         _ => None,
     };
-    Failure { held, cause }
+    Failure { denial, cause }
 }
 
 impl From<Refusal> for Failure {
     fn from(refusal: Refusal) -> Failure {
         Failure {
-            held: Held::Refused(refusal),
+            denial: Unavailable::Refused(refusal),
             cause: None,
         }
     }

@@ -12,7 +12,7 @@ ghost use Rattle.mailstore.specs.Refusals.{IsTransient};
 ghost use Rattle.mailstore.specs.Opening.{IsKnown};
 ghost use Rattle.mailstore.specs.Shows.{Presents, OpensAs};
 ghost use Rattle.keepers.specs.Taken.{IsTaken};
-ghost use Rattle.keepers.specs.declared.keeper.Held.{Held};
+ghost use Rattle.keepers.specs.declared.keeper.Unavailable.{Unavailable};
 
 use mailstore::{Refusal, Store};
 use sqlite::{Alter, Connection, ErrorCode};
@@ -20,21 +20,21 @@ use std::alloc::Global;
 
 /// Why no store is given out.
 #[derive(Clone, Copy, Debug, PartialEq, Eq)]
-pub enum Held {
+pub enum Unavailable {
     /// Another one has it.
     Busy,
     /// It can't be opened or made.
     Refused(Refusal),
 }
 
-impl From<Refusal> for Held {
+impl From<Refusal> for Unavailable {
     ghost use Rattle.std.specs.Prelude.{◌≡◌};
-    ghost use Rattle.keepers.specs.declared.keeper.Held.TheVariants.{Refused};
+    ghost use Rattle.keepers.specs.declared.keeper.Unavailable.TheVariants.{Refused};
 
-    ghost from_gives = { λ refusal held. held ≡ Refused refusal };
+    ghost from_gives = { λ refusal denial. denial ≡ Refused refusal };
 
-    fn from(refusal: Refusal) -> Held {
-        Held::Refused(refusal)
+    fn from(refusal: Refusal) -> Unavailable {
+        Unavailable::Refused(refusal)
     }
 }
 
@@ -49,7 +49,7 @@ pub trait Keeper {
     /// What the tables hold between two calls, where it tells them.
     ghost holds: { Self → Database };
 
-    /// Whether the lock was taken, alone or with a store, and not given back yet.
+    /// Whether the lock is out, alone or with a store: it was acquired, and not given back yet.
     ghost is_out: { Self → Bool };
 
     /// Why the store that was handed back last couldn't be closed, until that is asked for.
@@ -64,7 +64,7 @@ pub trait Keeper {
 
     /// What is so of a keeper that refused the lock, which wasn't out, or the store at a path, and why. Only the refusals of `lock` and
     /// `take` say it, so who can say it of any keeper asked it for that path, and was refused so.
-    ghost refuses: { Self → List ℕ → Held → Type 0 } = { λ _ _ _. ⊤ };
+    ghost refuses: { Self → List ℕ → Unavailable → Type 0 } = { λ _ _ _. ⊤ };
 
     /// From now on a call of `lock` or `take` waits for a lock that another process has, or answers Busy.
     fn wait_for_lock(&mut self, waits: bool)
@@ -77,11 +77,11 @@ pub trait Keeper {
     /// # Errors
     ///
     /// `Busy` where another process has the lock and there is no waiting; else why it can't be had. The tables stay as they are.
-    fn lock(&mut self, path: &str) -> Result<(), Held>
+    fn lock(&mut self, path: &str) -> Result<(), Unavailable>
         ensures same { IsTrue tells → holds self.new ≡ holds self.old }
         ensures out { OnOk result (IsTrue (is_out self.new)) }
         ensures kept { OnErr result (is_out self.new ≡ is_out self.old) }
-        ensures denied { IfErr result (λ held. is_out self.old ≡ false → refuses self.old path.now held) }
+        ensures denied { IfErr result (λ denial. is_out self.old ≡ false → refuses self.old path.now denial) }
         ensures closed { unclosed self.new ≡ unclosed self.old };
 
     /// Gives the lock back, under which no store is out.
@@ -97,7 +97,7 @@ pub trait Keeper {
     ///
     /// `Busy` where another process has the store and there is no waiting; else why it can't be opened, or made. The
     /// tables stay as they are.
-    fn take(&mut self, path: &str, fresh: bool) -> Result<Store<Self::S>, Held>
+    fn take(&mut self, path: &str, fresh: bool) -> Result<Store<Self::S>, Unavailable>
         ensures taken { IfOk result (λ store. IsTrue tells → IsTaken fresh (holds self.old) (state Self.S.Store store).now) }
         ensures refused { OnErr result (IsTrue tells → holds self.new ≡ holds self.old) }
         ensures out { OnOk result (IsTrue (is_out self.new)) }

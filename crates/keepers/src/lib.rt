@@ -1,11 +1,11 @@
 //! Who keeps a store between two calls: a file with a lock beside it, or memory.
 #![tactic(auto)]
 
-mod cause;
+pub mod cause;
 mod file;
 mod keeper;
 mod memory;
 
 pub use file::FileKeeper;
-pub use keeper::{Held, Keeper};
+pub use keeper::{Keeper, Unavailable};
 pub use memory::MemoryKeeper;

@@ -2,7 +2,7 @@
 ghost use Rattle.std.specs.Prelude.{◌≡◌};
 ghost use Rattle.keepers.specs.Memory.{told_of_close, left_after};
 
-use crate::keeper::{Held, Keeper, store_of};
+use crate::keeper::{Keeper, Unavailable, store_of};
 use mailstore::{Refusal, Store};
 use sqlite::{Connection, MemStore};
 use std::alloc::{AllocError, Global};
@@ -85,11 +85,11 @@ impl Keeper for MemoryKeeper {
 
     ghost use Rattle.std.specs.Prelude.{true, refl};
     ghost use Rattle.sqlite.proofs.Callers.{memory_is_clean};
-    ghost use Rattle.keepers.specs.Memory.{held_by};
+    ghost use Rattle.keepers.specs.Memory.{database_in};
 
     ghost tells = { true };
 
-    ghost holds = { λ k. held_by k.conn };
+    ghost holds = { λ k. database_in k.conn };
 
     ghost is_out = { λ k. k.locked };
 
@@ -99,9 +99,9 @@ impl Keeper for MemoryKeeper {
 
     fn wait_for_lock(&mut self, _waits: bool) {}
 
-    fn lock(&mut self, _path: &str) -> Result<(), Held> {
+    fn lock(&mut self, _path: &str) -> Result<(), Unavailable> {
         if self.is_chosen() {
-            return Err(Held::Busy);
+            return Err(Unavailable::Busy);
         }
         self.locked = true;
         Ok(())
@@ -111,12 +111,12 @@ impl Keeper for MemoryKeeper {
         self.locked = false;
     }
 
-    fn take(&mut self, _path: &str, fresh: bool) -> Result<Store<MemStore>, Held> {
+    fn take(&mut self, _path: &str, fresh: bool) -> Result<Store<MemStore>, Unavailable> {
         if !self.locked && self.is_chosen() {
-            return Err(Held::Busy);
+            return Err(Unavailable::Busy);
         }
         let Some(conn) = self.conn.take() else {
-            return Err(Held::Busy);
+            return Err(Unavailable::Busy);
         };
         match store_of(self.alloc, conn, fresh) {
             Ok(store) => {
@@ -125,7 +125,7 @@ impl Keeper for MemoryKeeper {
             }
             Err((refusal, conn, _)) => {
                 self.conn = Some(conn);
-                Err(Held::Refused(refusal))
+                Err(Unavailable::Refused(refusal))
             }
         }
     }

@@ -1,7 +1,6 @@
 //! Who keeps the messages that leave a store: a Maildir, or memory.
 #![tactic(auto)]
 
-pub mod cause;
 mod file_name;
 pub mod laws;
 mod maildir;

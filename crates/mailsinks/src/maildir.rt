@@ -1,7 +1,6 @@
 //! A sink over a Maildir.
 ghost use Rattle.std.specs.Prelude.{◌≡◌, []};
 
-use crate::cause::of_file;
 use crate::file_name::name_of;
 use crate::sink::{MailSink, SinkError};
 use std::fs::File;
@@ -14,9 +13,9 @@ use std::{format, fs, io};
 #[derive(Drop)]
 pub struct Maildir<'a> {
     rt: &'a HostRuntime,
-    /// The path, where one was taken.
+    /// The path, where one was opened.
     path: Option<String>,
-    cause: Option<&'static str>,
+    cause: Option<ErrorKind>,
 }
 
 impl<'a> Maildir<'a> {
@@ -33,7 +32,7 @@ impl<'a> Maildir<'a> {
     fn refusal(&mut self, error: io::Error) -> SinkError
         ensures { self.new.path ≡ self.old.path }
     {
-        self.cause = of_file(error.kind());
+        self.cause = Some(error.kind());
         match error.kind() {
             ErrorKind::OutOfMemory => SinkError::Memory,
             _ => SinkError::Failed,
@@ -81,7 +80,7 @@ impl MailSink for Maildir<'_> {
         }
     }
 
-    fn cause(&self) -> Option<&'static str> {
+    fn cause(&self) -> Option<ErrorKind> {
         self.cause
     }
 }
@@ -128,18 +127,18 @@ fn write_and_move(rt: &HostRuntime, first: &str, last: &str, message: &[u8]) -> 
 
 /// A new file that holds the message, on the disk. What an earlier try left under that path is removed first.
 fn write_whole(rt: &HostRuntime, path: &str, message: &[u8]) -> io::Result<()> {
-    let mut file = made(rt, path)?;
+    let mut file = create_file(rt, path)?;
     file.write_all(message)?;
     file.sync_all()
 }
 
-/// A new file, without what was there under its path.
-fn made(rt: &HostRuntime, path: &str) -> io::Result<File> {
+/// Creates a file, without what was there under its path.
+fn create_file(rt: &HostRuntime, path: &str) -> io::Result<File> {
     match File::create_new(rt, path) {
         Err(error) if error.kind() == ErrorKind::AlreadyExists => {
             fs::remove_file(rt, path)?;
             File::create_new(rt, path)
         }
-        made => made,
+        created => created,
     }
 }

@@ -4,6 +4,7 @@ ghost use Rattle.std.specs.Prelude.{◌≡◌, []};
 use crate::sink::{MailSink, SinkError};
 use octets::{Octets, Texts};
 use std::alloc::Global;
+use std::io::ErrorKind;
 
 /// Keeps messages in memory, whatever path it is given, and fails at one call that was chosen.
 #[derive(Drop)]
@@ -12,7 +13,7 @@ pub struct MemorySink {
     alloc: Global,
     /// How many calls of `keep` come before the one that fails.
     fail_after: Option<u64>,
-    /// Whether each path is taken for one that isn't a Maildir's.
+    /// Whether no path is a Maildir's.
     refuses: bool,
 }
 
@@ -82,7 +83,7 @@ impl MailSink for MemorySink {
         Ok(())
     }
 
-    fn cause(&self) -> Option<&'static str> {
+    fn cause(&self) -> Option<ErrorKind> {
         None
     }
 }

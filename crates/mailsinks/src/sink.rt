@@ -1,8 +1,10 @@
 //! Where messages go that leave a store.
-ghost use Rattle.std.specs.Prelude.{◌≡◌, ⊤, ℕ, Bool, List, [], ◌∷◌, ◌++◌, IsTrue, OnOk, OnErr};
+ghost use Rattle.std.specs.Prelude.{◌≡◌, ⊤, ℕ, Bool, List, [], ◌∷◌, ◌++◌, IsTrue, IfErr, OnOk, OnErr};
+ghost use Rattle.mailsinks.specs.declared.sink.SinkError.{SinkError};
 ghost use Rattle.mailsinks.specs.Kept.{MayKeep};
 
 use std::alloc::AllocError;
+use std::io::ErrorKind;
 
 /// Why a message isn't kept.
 #[derive(Clone, Copy, Debug, PartialEq, Eq)]
@@ -34,26 +36,31 @@ pub trait MailSink {
     /// The messages that it keeps, in the order in which they came, where it tells them.
     ghost kept: { Self → List (List ℕ) };
 
-    /// What is so of a sink that took the place at a path, until it takes another. Only an Ok of `open` says it, so who can say it of
+    /// What is so of a sink that was opened at a path, until it is opened at another. Only an Ok of `open` says it, so who can say it of
     /// any sink opened it for that path.
     ghost is_at: { Self → List ℕ → Type 0 } = { λ _ _. ⊤ };
 
-    /// Takes the place at the path: what is kept from now on is kept there.
+    /// What is so of a sink that refused a call, and why. Only the refusals of `open` and `keep` say it, so who can say it of any sink
+    /// asked it, and was refused so.
+    ghost refuses: { Self → SinkError → Type 0 } = { λ _ _. ⊤ };
+
+    /// Opens the place at the path: what is kept from now on is kept there.
     ///
     /// # Errors
     ///
-    /// `NoMaildir` where the path isn't one; else why it can't be looked at. The place that was taken before stays.
+    /// `NoMaildir` where the path isn't one; else why it can't be looked at. The place that was open before stays.
     fn open(&mut self, path: &str) -> Result<(), SinkError>
         ensures placed { OnOk result (is_at self.new path.now) }
         ensures unmoved { OnErr result ((before : List ℕ) → is_at self.old before → is_at self.new before) }
-        ensures same { IsTrue tells → kept self.new ≡ kept self.old };
+        ensures same { IsTrue tells → kept self.new ≡ kept self.old }
+        ensures denied { IfErr result (refuses self.old) };
 
     /// Keeps the message that has this number in the user's folder, so that a crash after Ok doesn't lose it. What a try
     /// before kept of the same message under the same number isn't kept twice (a Maildir: while it is still in `new`).
     ///
     /// # Errors
     ///
-    /// `NoMaildir` where no place was taken; else why the message isn't kept for sure. It may be kept nevertheless.
+    /// `NoMaildir` where no place is open; else why the message isn't kept for sure. It may be kept nevertheless.
     fn keep(
         &mut self,
         user: &[u8],
@@ -63,8 +70,9 @@ pub trait MailSink {
     ) -> Result<(), SinkError>
         ensures stays { (path : List ℕ) → is_at self.old path → is_at self.new path }
         ensures kept { OnOk result (IsTrue tells → kept self.new ≡ kept self.old ++ message.now ∷ []) }
-        ensures refused { OnErr result (IsTrue tells → MayKeep (kept self.old) message.now (kept self.new)) };
+        ensures refused { OnErr result (IsTrue tells → MayKeep (kept self.old) message.now (kept self.new)) }
+        ensures denied { IfErr result (refuses self.old) };
 
-    /// What the system said of the last failure, for a person; none where nothing is known of it.
-    fn cause(&self) -> Option<&'static str>;
+    /// What the system said of the last failure; none where it said nothing.
+    fn cause(&self) -> Option<ErrorKind>;
 }

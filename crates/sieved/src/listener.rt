@@ -11,29 +11,29 @@ use std::{format, io};
 
 /// Listens on 127.0.0.1 and serves one client after the other, whatever became of the one before. The answer is the exit
 /// status: 0 after as many sessions as were asked for.
-pub fn serve<R, W: Write, F: Write, K: Keeper>(
+pub fn serve<R, W: Write, E: Write, K: Keeper>(
     rt: &R,
     alloc: Global,
     asked: Serve<'_>,
     output: &mut W,
-    faults: &mut F,
+    errors: &mut E,
     keeper: &mut K,
 ) -> u8
 where
     R: Net<Listener = TcpListener, Stream = TcpStream>,
 {
-    match served(rt, alloc, asked, output, faults, keeper) {
+    match listen_and_serve(rt, alloc, asked, output, errors, keeper) {
         Ok(()) => 0,
-        Err(fault) => refuse(faults, fault),
+        Err(fault) => refuse(errors, fault),
     }
 }
 
-fn served<R, W: Write, F: Write, K: Keeper>(
+fn listen_and_serve<R, W: Write, E: Write, K: Keeper>(
     rt: &R,
     alloc: Global,
     asked: Serve<'_>,
     output: &mut W,
-    faults: &mut F,
+    errors: &mut E,
     keeper: &mut K,
 ) -> Result<(), Fault>
 where
@@ -44,7 +44,7 @@ where
         Some(text) => Some(decimal(text)?),
         None => None,
     };
-    let Ok(listener) = bound(rt, alloc, port, output) else {
+    let Ok(listener) = listen(rt, alloc, port, output) else {
         return Err(Fault::Stream);
     };
     keeper.wait_for_lock(asked.location.waits);
@@ -53,13 +53,13 @@ where
         asked.location.path,
         &listener,
         sessions,
-        faults,
+        errors,
         keeper,
     )
 }
 
 /// A listener on the loopback address, of which the first line of the output tells.
-fn bound<R, W: Write>(rt: &R, alloc: Global, port: u16, output: &mut W) -> io::Result<TcpListener>
+fn listen<R, W: Write>(rt: &R, alloc: Global, port: u16, output: &mut W) -> io::Result<TcpListener>
 where
     R: Net<Listener = TcpListener, Stream = TcpStream>,
 {
@@ -71,13 +71,13 @@ where
 }
 
 /// Serves each client that connects, up to that many. A client that is gone before it is accepted isn't counted. The first
-/// trouble with the store that a client meets is told on the faults.
-fn serve_all<F: Write, K: Keeper>(
+/// trouble with the store that a client meets is told on the errors.
+fn serve_all<E: Write, K: Keeper>(
     alloc: Global,
     path: &str,
     listener: &TcpListener,
     sessions: Option<u64>,
-    faults: &mut F,
+    errors: &mut E,
     keeper: &mut K,
 ) -> Result<(), Fault> {
     let mut left = sessions;
@@ -91,7 +91,7 @@ fn serve_all<F: Write, K: Keeper>(
             Err(_) => return Err(Fault::Stream),
         };
         let (mut input, mut output) = (&stream, &stream);
-        let _ = serve_client(alloc, path, &mut input, &mut output, faults, keeper);
+        let _ = serve_client(alloc, path, &mut input, &mut output, errors, keeper);
         left = match left {
             Some(0 | 1) => return Ok(()),
             Some(more) => Some(more - 1),

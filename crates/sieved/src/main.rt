@@ -44,32 +44,32 @@ fn run(rt: &HostRuntime, words: &CommandLine) -> u8 {
 }
 
 /// Does what the words ask for, and answers the exit status.
-fn answer<N, R: Read, W: Write, F: Write, K: Keeper, T: MailSink>(
+fn answer<N, R: Read, W: Write, E: Write, K: Keeper, T: MailSink>(
     net: &N,
     alloc: Global,
     words: &CommandLine,
     clock: Option<u64>,
     input: &mut R,
     output: &mut W,
-    faults: &mut F,
+    errors: &mut E,
     keeper: &mut K,
     sink: &mut T,
 ) -> u8
 where
     N: Net<Listener = TcpListener, Stream = TcpStream>,
 {
-    match asked_of_server(alloc, words) {
-        Err(refused) => refuse(faults, Fault::from(refused)),
-        Ok(Some(Subcommand::Serve(asked))) => serve(net, alloc, asked, output, faults, keeper),
+    match server_subcommand(alloc, words) {
+        Err(refused) => refuse(errors, Fault::from(refused)),
+        Ok(Some(Subcommand::Serve(asked))) => serve(net, alloc, asked, output, errors, keeper),
         Ok(Some(Subcommand::Session(asked))) => {
-            run_session(alloc, asked.location, input, output, faults, keeper)
+            run_session(alloc, asked.location, input, output, errors, keeper)
         }
-        _ => drive(alloc, words, input, output, faults, keeper, clock, sink),
+        _ => drive(alloc, words, input, output, errors, keeper, clock, sink),
     }
 }
 
 /// What the words ask for, where the first is `serve` or `session` and the others are right.
-fn asked_of_server<'a>(
+fn server_subcommand<'a>(
     alloc: Global,
     words: &'a CommandLine,
 ) -> Result<Option<Subcommand<'a>>, AllocError> {

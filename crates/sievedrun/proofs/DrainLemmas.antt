@@ -9,25 +9,25 @@ use Rattle.mailsinks.specs.declared.sink.SinkError.{SinkError}
 use Rattle.mailsinks.specs.declared.sink.SinkError.TheVariants as sink
 use Rattle.mailstore.specs.Account.{Accounts}
 use Rattle.mailstore.specs.Promises.{IsFree}
-use Rattle.mailstore.specs.Schema.{mail_schema}
 use Rattle.mailstore.specs.Opening.{IsKnown}
+use Rattle.mailstore.specs.Shows.{OpensAs}
 use Rattle.sievedrun.specs.declared.fault.Fault.{Fault}
 use Rattle.sievedrun.specs.declared.fault.Fault.TheVariants.{Stream, NoMaildir}
 use Rattle.sievedwords.specs.declared.subcommand.drain.Drain.{Drain}
-use Rattle.sievedrun.specs.Faults.{no_user, status_of, fault_sunk, IsCutOff, IsSudden, IsHindered}
-use Rattle.sievedrun.specs.Draining.{mail_in, GrowsBy, StoppedShort, MovesMail, BrokeOff, Drained, Drains, TurnsTables, MovesTables, IsMost, StopsDraining, WordDrained, HasDrained, drained_line}
+use Rattle.sievedrun.specs.Faults.{no_user, status_of, sink_fault, IsCutOff, IsSudden, IsHindered}
+use Rattle.sievedrun.specs.Draining.{mail_in, GrowsBy, StoppedShort, MovesMail, BrokeOff, Drained, Drains, IsUnkept, TurnsTables, MovesTables, IsMost, StopsDraining, WordDrained, HasDrained, drained_line}
 use Rattle.sievedrun.specs.Values.{HasNoNumber}
 use Rattle.sievedrun.proofs.LeaveLemmas.{grown_none}
 use Rattle.sievedrun.proofs.MoveLemmas.{}
-use Rattle.sievedrun.proofs.WordLemmas.{carried_turned, stays_turned, turned_wider, no_memory, broken, denied, sudden_hinders, sudden_status, kept_same}
+use Rattle.sievedrun.proofs.WordLemmas.{carried_turned, stays_turned, turned_wider, no_memory, broken, denied, sudden_hinders, kept_same}
 
 -- ---- over tables
 
 module _ (user folder : List ℕ) (Grew : List (List ℕ) → Type 0) where
   -- a store was taken, messages were moved, and it was handed back
-  pub moves_turned : (answers_ok : Bool) (Became : Accounts → Accounts → Type 0) (held new : Database) (taken given : State) → (held.schema ≡ mail_schema → taken.now ≡ held) → IsKnown held → HasCleanDisk given → IsTrue given.is_open → new ≡ given.now
+  pub moves_turned : (answers_ok : Bool) (Became : Accounts → Accounts → Type 0) (held new : Database) (taken given : State) → OpensAs held taken.now → IsKnown held → HasCleanDisk given → IsTrue given.is_open → new ≡ given.now
       → MovesMail user folder Grew answers_ok Became taken given → TurnsTables Became held new
-  moves_turned answers_ok Became held new taken given seen ours clean live back moves = carried_turned held new taken given seen ours clean live back Became moves.carries
+  moves_turned answers_ok Became held new taken given opens ours clean live back moves = carried_turned held new taken given opens ours clean live back Became moves.carries
 
   -- before anything moved
   pub nothing_drained : (most : ℕ) (fault : Fault) (accounts : Accounts) → Grew [] → BrokeOff user folder Grew most fault accounts accounts
@@ -38,33 +38,33 @@ module _ (user folder : List ℕ) (Grew : List (List ℕ) → Type 0) where
   drained_before most count fault accounts later transient h = (count, record { left = h.1.moved.left; kept = inl h.1.moved.kept }, h.1.at_most, inr transient)
 
 -- why it wasn't drained to its end, by what the call over the store answered
-stops : (Denied : Fault → Type 0) (user : List ℕ) (q : Result ℕ Fault) → IfErr q (λ fault. IsSudden fault ⊎ (fault ≡ no_user)) → (accounts : Accounts) → (q ≡ Err no_user → IsFree user accounts)
-    → IfErr q (λ fault. StopsDraining ⊥ Denied user fault accounts)
-stops Denied user (Ok count) named accounts free = tt
-stops Denied user (Err fault) named accounts free = elim named [
-  | inl sudden ↦ inl (sudden_hinders ⊥ Denied fault sudden)
+stops : (Sunk : SinkError → Type 0) (Denied : Fault → Type 0) (user : List ℕ) (q : Result ℕ Fault) → IfErr q (λ fault. IsSudden (IsUnkept Sunk) fault ⊎ (fault ≡ no_user)) → (accounts : Accounts) → (q ≡ Err no_user → IsFree user accounts)
+    → IfErr q (λ fault. StopsDraining Sunk ⊥ Denied user fault accounts)
+stops Sunk Denied user (Ok count) named accounts free = tt
+stops Sunk Denied user (Err fault) named accounts free = elim named [
+  | inl sudden ↦ inl (sudden_hinders (IsUnkept Sunk) ⊥ Denied fault sudden)
   | inr none ↦ inr (inr (none, free (ap Err none), λ no. no))
 ]
 
 -- a store was taken for the word, drained, and handed back
-pub drained_turned : (Denied : Fault → Type 0) (asked : Drain) (user folder : List ℕ) → user ≡ asked.user.now → folder ≡ asked.folder.now → (tells : Bool) (had has : List (List ℕ)) (most : ℕ) (q r : Result ℕ Fault) → q ≡ r
-    → IfErr q (λ fault. IsSudden fault ⊎ (fault ≡ no_user)) → (held new : Database) (taken given : State) → (held.schema ≡ mail_schema → taken.now ≡ held) → IsKnown held → HasCleanDisk given → IsTrue given.is_open → new ≡ given.now
-    → Drains user folder tells had has most q taken given → MovesTables Denied asked tells had has most r held new
-drained_turned Denied asked user folder user_is folder_is tells had has most q r same named held new taken given seen ours clean live back moves =
+pub drained_turned : (Sunk : SinkError → Type 0) (Denied : Fault → Type 0) (asked : Drain) (user folder : List ℕ) → user ≡ asked.user.now → folder ≡ asked.folder.now → (tells : Bool) (had has : List (List ℕ)) (most : ℕ) (q r : Result ℕ Fault) → q ≡ r
+    → IfErr q (λ fault. IsSudden (IsUnkept Sunk) fault ⊎ (fault ≡ no_user)) → (held new : Database) (taken given : State) → OpensAs held taken.now → IsKnown held → HasCleanDisk given → IsTrue given.is_open → new ≡ given.now
+    → Drains user folder tells had has most q taken given → MovesTables Sunk Denied asked tells had has most r held new
+drained_turned Sunk Denied asked user folder user_is folder_is tells had has most q r same named held new taken given opens ours clean live back moves =
     let Grew = GrowsBy tells had has in
     let Became : Accounts → Accounts → Type 0 = λ accounts later. Drained user folder Grew most q accounts later × (q ≡ Err no_user → IsFree user accounts) in
-    let Wider : List ℕ → List ℕ → Result ℕ Fault → Accounts → Accounts → Type 0 = λ u f o accounts later. Drained u f Grew most o accounts later × IfErr o (λ fault. StopsDraining ⊥ Denied u fault accounts) in
-    let turned = turned_wider Became (Wider user folder q) held new (λ accounts later h. (h.0, stops Denied user q named accounts h.1)) (moves_turned user folder Grew (is_ok q) Became held new taken given seen ours clean live back moves) in
+    let Wider : List ℕ → List ℕ → Result ℕ Fault → Accounts → Accounts → Type 0 = λ u f o accounts later. Drained u f Grew most o accounts later × IfErr o (λ fault. StopsDraining Sunk ⊥ Denied u fault accounts) in
+    let turned = turned_wider Became (Wider user folder q) held new (λ accounts later h. (h.0, stops Sunk Denied user q named accounts h.1)) (moves_turned user folder Grew (is_ok q) Became held new taken given opens ours clean live back moves) in
     subst (λ o. TurnsTables (Wider asked.user.now asked.folder.now o) held new) same
     (subst (λ u. TurnsTables (Wider u asked.folder.now q) held new) user_is (subst (λ f. TurnsTables (Wider user f q) held new) folder_is turned))
 
 -- no store was given out
-pub drained_denied : (Denied : Fault → Type 0) (asked : Drain) (tells : Bool) (kept : List (List ℕ)) (most : ℕ) (fault : Fault) (r : Result ℕ Fault) → r ≡ Err fault → Denied fault → (held new : Database) → new ≡ held
-    → MovesTables Denied asked tells kept kept most r held new
-drained_denied Denied asked tells kept most fault r is why held new same =
-    subst (λ o. MovesTables Denied asked tells kept kept most o held new) (sym is)
-    (stays_turned (λ accounts later. Drained asked.user.now asked.folder.now (GrowsBy tells kept kept) most (Err fault) accounts later × StopsDraining ⊥ Denied asked.user.now fault accounts) held new same
-    (λ accounts. (nothing_drained asked.user.now asked.folder.now (GrowsBy tells kept kept) most fault accounts (grown_none tells kept), inl (denied (Unit {0}) ⊥ Denied fault why (λ no. no)))))
+pub drained_denied : (Sunk : SinkError → Type 0) (Denied : Fault → Type 0) (asked : Drain) (tells : Bool) (kept : List (List ℕ)) (most : ℕ) (fault : Fault) (r : Result ℕ Fault) → r ≡ Err fault → Denied fault → (held new : Database) → new ≡ held
+    → MovesTables Sunk Denied asked tells kept kept most r held new
+drained_denied Sunk Denied asked tells kept most fault r is why held new same =
+    subst (λ o. MovesTables Sunk Denied asked tells kept kept most o held new) (sym is)
+    (stays_turned (λ accounts later. Drained asked.user.now asked.folder.now (GrowsBy tells kept kept) most (Err fault) accounts later × StopsDraining Sunk ⊥ Denied asked.user.now fault accounts) held new same
+    (λ accounts. (nothing_drained asked.user.now asked.folder.now (GrowsBy tells kept kept) most fault accounts (grown_none tells kept), inl (denied (IsUnkept Sunk) ⊥ Denied fault why (λ no. no)))))
 
 -- a sink whose growth is told by another name
 module _ (user folder : List ℕ) (One Other : List (List ℕ) → Type 0) (told_so : (messages : List (List ℕ)) → One messages → Other messages) where
@@ -86,8 +86,8 @@ module _ (user folder : List ℕ) (One Other : List (List ℕ) → Type 0) (told
   drained_so most (Err fault) accounts later h = (h.0, stopped_so h.0 accounts later h.1, h.2, elim h.3 [ inl none ↦ inl (none.0, told_so [] none.1) | inr transient ↦ inr transient ])
 
 -- the word: the sink was opened, the store was drained, and the line was written
-module _ (Denied : Fault → Type 0) (asked : Drain) (tells : Bool) (had opened has : List (List ℕ)) (same : IsTrue tells → opened ≡ had) (most : ℕ) (digits : IsMost (option_copied asked.most) most) (right : HasNoNumber (option_copied asked.most) → ⊥) (q : Result ℕ Fault) (held new : Database)
-    (drained : MovesTables Denied asked tells opened has most q held new) where
+module _ (Sunk : SinkError → Type 0) (Denied : Fault → Type 0) (asked : Drain) (tells : Bool) (had opened has : List (List ℕ)) (same : IsTrue tells → opened ≡ had) (most : ℕ) (digits : IsMost (option_copied asked.most) most) (right : HasNoNumber (option_copied asked.most) → ⊥) (q : Result ℕ Fault) (held new : Database)
+    (drained : MovesTables Sunk Denied asked tells opened has most q held new) where
   abbrev Gained : List (List ℕ) → Type 0
   Gained = GrowsBy tells had has
 
@@ -95,68 +95,69 @@ module _ (Denied : Fault → Type 0) (asked : Drain) (tells : Bool) (had opened 
   NoMost = HasNoNumber (option_copied asked.most)
 
   abbrev Did : Option (List ℕ) → Option (List ℕ) → Result (Unit {0}) Fault → Database → Database → Type 0
-  Did = HasDrained Denied asked tells had has
+  Did = HasDrained Sunk Denied asked tells had has
 
   as_told : (messages : List (List ℕ)) → GrowsBy tells opened has messages → Gained messages
   as_told messages h told = h told ∙ ap (λ l. l ++ messages) (same told)
 
   abbrev Became : Result ℕ Fault → Accounts → Accounts → Type 0
-  Became r accounts later = Drained asked.user.now asked.folder.now Gained most r accounts later × IfErr r (λ fault. StopsDraining ⊥ Denied asked.user.now fault accounts)
+  Became r accounts later = Drained asked.user.now asked.folder.now Gained most r accounts later × IfErr r (λ fault. StopsDraining Sunk ⊥ Denied asked.user.now fault accounts)
 
   as_drained : (r : Result ℕ Fault) → q ≡ r → TurnsTables (Became r) held new
   as_drained r is = subst (λ o. TurnsTables (Became o) held new) is
-      (turned_wider (λ accounts later. Drained asked.user.now asked.folder.now (GrowsBy tells opened has) most q accounts later × IfErr q (λ fault. StopsDraining ⊥ Denied asked.user.now fault accounts)) (Became q) held new
+      (turned_wider (λ accounts later. Drained asked.user.now asked.folder.now (GrowsBy tells opened has) most q accounts later × IfErr q (λ fault. StopsDraining Sunk ⊥ Denied asked.user.now fault accounts)) (Became q) held new
       (λ accounts later h. (drained_so asked.user.now asked.folder.now (GrowsBy tells opened has) Gained as_told most q accounts later h.0, h.1)) drained)
 
-  still : (fault : Fault) → IsHindered (Unit {0}) ⊥ Denied fault → IsHindered (Unit {0}) NoMost Denied fault
+  still : (fault : Fault) → IsHindered (IsUnkept Sunk) ⊥ Denied fault → IsHindered (IsUnkept Sunk) NoMost Denied fault
   still fault h = elim h [
     | inl e ↦ inl e
     | inr more ↦ elim more [
       | inl e ↦ inr (inl e)
       | inr more ↦ elim more [
-        | inl e ↦ broken (Unit {0}) NoMost Denied fault e.0 tt
-        | inr more ↦ elim more [ inl none ↦ absurd none.1 | inr why ↦ denied (Unit {0}) NoMost Denied fault why.0 right ]
+        | inl e ↦ broken (IsUnkept Sunk) NoMost Denied fault e.0 e.1
+        | inr more ↦ elim more [ inl none ↦ absurd none.1 | inr why ↦ denied (IsUnkept Sunk) NoMost Denied fault why.0 right ]
       ]
     ]
   ]
 
-  stops_wider : (fault : Fault) (accounts : Accounts) → StopsDraining ⊥ Denied asked.user.now fault accounts → StopsDraining NoMost Denied asked.user.now fault accounts
+  stops_wider : (fault : Fault) (accounts : Accounts) → StopsDraining Sunk ⊥ Denied asked.user.now fault accounts → StopsDraining Sunk NoMost Denied asked.user.now fault accounts
   stops_wider fault accounts h = elim h [
     | inl hindered ↦ inl (still fault hindered)
-    | inr more ↦ elim more [ inl none ↦ inr (inl (none.0, right)) | inr free ↦ inr (inr (free.0, free.1, right)) ]
+    | inr more ↦ elim more [ inl none ↦ inr (inl (none.0, none.1, right)) | inr free ↦ inr (inr (free.0, free.1, right)) ]
   ]
 
   pub word_broke_off : (out : Option (List ℕ)) (fault : Fault) → q ≡ Err fault → Did out out (Err fault) held new
   word_broke_off out fault is =
-      turned_wider (Became (Err fault)) (WordDrained Denied asked Gained out out (Err fault)) held new
-      (λ accounts later h. (most, inl digits, h.0, inl (kept_same out), stops_wider fault accounts h.1)) (as_drained (Err fault) is)
+      turned_wider (Became (Err fault)) (WordDrained Sunk Denied asked Gained out out (Err fault)) held new
+      (λ accounts later h. (most, inl digits, h.0, inl (kept_same out, stops_wider fault accounts h.1))) (as_drained (Err fault) is)
 
   -- what comes after it fails, and a front of the line is printed
   pub word_failed : (old out : Option (List ℕ)) (count : ℕ) (fault : Fault) → q ≡ Ok count → IsCutOff fault old out (drained_line count) → Did old out (Err fault) held new
   unfolding drained_before
   word_failed old out count fault is cut =
-      let sudden : IsSudden fault = elim cut [ inl e ↦ inl e.0 | inr e ↦ inr (inr e.0) ] in
-      turned_wider (Became (Ok count)) (WordDrained Denied asked Gained old out (Err fault)) held new
-      (λ accounts later h.
-      (most, inl digits, drained_before asked.user.now asked.folder.now Gained most count fault accounts later (sudden_status fault sudden) h.0, inr cut, inl (sudden_hinders NoMost Denied fault sudden))) (as_drained (Ok count) is)
+      let transient : status_of fault ≡ 75 = elim cut [ inl e ↦ ap status_of e.0 | inr e ↦ ap status_of e.0 ] in
+      turned_wider (Became (Ok count)) (WordDrained Sunk Denied asked Gained old out (Err fault)) held new
+      (λ accounts later h. (most, inl digits, drained_before asked.user.now asked.folder.now Gained most count fault accounts later transient h.0, inr cut)) (as_drained (Ok count) is)
 
   pub word_written : (old out : Option (List ℕ)) (count : ℕ) (r : Result (Unit {0}) Fault) → q ≡ Ok count → OnOk r (Appends old out (drained_line count)) → IfErr r (λ fault. IsCutOff fault old out (drained_line count))
       → Did old out r held new
   word_written old out count (Ok done) is printed cut =
-      turned_wider (Became (Ok count)) (WordDrained Denied asked Gained old out (Ok done)) held new (λ accounts later h. (most, count, digits, h.0, printed)) (as_drained (Ok count) is)
+      turned_wider (Became (Ok count)) (WordDrained Sunk Denied asked Gained old out (Ok done)) held new (λ accounts later h. (most, count, digits, h.0, printed)) (as_drained (Ok count) is)
   word_written old out count (Err fault) is printed cut = word_failed old out count fault is cut
 
 -- before the store was taken
-pub word_refused : (Denied : Fault → Type 0) (asked : Drain) (tells : Bool) (had has : List (List ℕ)) (same : IsTrue tells → has ≡ had) (fault : Fault) → IsHindered (Unit {0}) (HasNoNumber (option_copied asked.most)) Denied fault ⊎ ((fault ≡ NoMaildir) × (HasNoNumber (option_copied asked.most) → ⊥))
-    → (out : Option (List ℕ)) (held : Database) → HasDrained Denied asked tells had has out out (Err fault) held held
-word_refused Denied asked tells had has same fault cause out held =
-    stays_turned (WordDrained Denied asked (GrowsBy tells had has) out out (Err fault)) held held refl
+pub word_refused : (Sunk : SinkError → Type 0) (Denied : Fault → Type 0) (asked : Drain) (tells : Bool) (had has : List (List ℕ)) (same : IsTrue tells → has ≡ had) (fault : Fault)
+    → IsHindered (IsUnkept Sunk) (HasNoNumber (option_copied asked.most)) Denied fault ⊎ ((fault ≡ NoMaildir) × Sunk sink.NoMaildir × (HasNoNumber (option_copied asked.most) → ⊥))
+    → (out : Option (List ℕ)) (held : Database) → HasDrained Sunk Denied asked tells had has out out (Err fault) held held
+word_refused Sunk Denied asked tells had has same fault cause out held =
+    stays_turned (WordDrained Sunk Denied asked (GrowsBy tells had has) out out (Err fault)) held held refl
     (λ accounts.
     let none = nothing_drained asked.user.now asked.folder.now (GrowsBy tells had has) 0 fault accounts (λ told. same told ∙ sym (append-nil had)) in
-    (0, inr refl, none, inl (kept_same out), elim cause [ inl hindered ↦ inl hindered | inr maildir ↦ inr (inl maildir) ]))
+    (0, inr refl, none, inl (kept_same out, elim cause [ inl hindered ↦ inl hindered | inr maildir ↦ inr (inl maildir) ])))
 
--- why the place for the messages couldn't be taken
-pub sunk_cause : (Wrong : Type 0) (Denied : Fault → Type 0) → (Wrong → ⊥) → (error : SinkError) → IsHindered (Unit {0}) Wrong Denied (fault_sunk error) ⊎ ((fault_sunk error ≡ NoMaildir) × (Wrong → ⊥))
-sunk_cause Wrong Denied right sink.Memory = inl (no_memory (Unit {0}) Wrong Denied)
-sunk_cause Wrong Denied right sink.NoMaildir = inr (refl, right)
-sunk_cause Wrong Denied right sink.Failed = inl (broken (Unit {0}) Wrong Denied Stream refl tt)
+-- why the place for the messages couldn't be opened
+pub sunk_cause : (Sunk : SinkError → Type 0) (Wrong : Type 0) (Denied : Fault → Type 0) → (Wrong → ⊥) → (error : SinkError) → Sunk error
+    → IsHindered (IsUnkept Sunk) Wrong Denied (sink_fault error) ⊎ ((sink_fault error ≡ NoMaildir) × Sunk sink.NoMaildir × (Wrong → ⊥))
+sunk_cause Sunk Wrong Denied right sink.Memory why = inl (no_memory (IsUnkept Sunk) Wrong Denied)
+sunk_cause Sunk Wrong Denied right sink.NoMaildir why = inr (refl, why, right)
+sunk_cause Sunk Wrong Denied right sink.Failed why = inl (broken (IsUnkept Sunk) Wrong Denied Stream refl (sink.Failed, why))

@@ -9,11 +9,11 @@ use Rattle.mailstore.specs.Account.{no_accounts}
 use Rattle.sessions.specs.declared.progress.Progress.TheVariants.{Done}
 use Rattle.sessions.specs.Clients.{Client, new_client, shut}
 use Rattle.sessions.specs.Replies.{done}
-use Rattle.keepers.specs.declared.keeper.Held.{Held}
-use Rattle.keepers.specs.declared.keeper.Held.TheVariants.{Busy}
+use Rattle.keepers.specs.declared.keeper.Unavailable.{Unavailable}
+use Rattle.keepers.specs.declared.keeper.Unavailable.TheVariants.{Busy}
 use Rattle.sessions.specs.Refusing.{WasRefused}
 use Rattle.sievedrun.specs.Framing.{IsFramed}
-use Rattle.sievedrun.specs.Serving.{Round, IsDenied, Hears, Steps, GivesUp, Leads, came_in, said_in}
+use Rattle.sievedrun.specs.Serving.{Round, HasGiven, IsDenied, Hears, Steps, GivesUp, Leads, came_in, said_in}
 
 five-digits : (k d : ℕ) → k < 1 → is_digit (get_or (codes "5") k d) ≡ true
 five-digits zero d k<1 = refl
@@ -58,13 +58,22 @@ abbrev noop_rounds : List Round
 noop_rounds =
     hears (codes "NO") (after (codes "NO")) ∷ hears (codes "OP" ++ crlf) (after (codes "NOOP" ++ crlf)) ∷ record { came = []; said = codes "OK \"Done.\"" ++ crlf; accounts = no_accounts; client = new_client } ∷ []
 
-noop : Leads ⊥ no_accounts new_client noop_rounds no_accounts new_client
+noop : Leads ⊥ ⊥ no_accounts new_client noop_rounds no_accounts new_client
 unfolding machine_rows
 noop = (
   inl (record { live = refl; waits = refl; short = lit≤ tt; silent = refl; joins = refl; same = refl }),
   (
     inl (record { live = refl; waits = refl; short = lit≤ tt; silent = refl; joins = refl; same = refl }),
-    (inr (inl (record { ready = refl; none = refl; progress = Done; step = record { reply = done; replies = refl; spelled = refl; session = refl; goes_on = refl; changed = refl } })), (refl, refl)),
+    (
+      inr (inl (record {
+        ready = refl;
+        none = refl;
+        progress = Done;
+        step = record { reply = done; replies = refl; spelled = refl; session = refl; goes_on = refl; changed = refl };
+        reach = inl (Done, λ accounts. record { reply = done; replies = refl; spelled = refl; session = refl; goes_on = refl; changed = refl });
+      })),
+      (refl, refl),
+    ),
   ),
 )
 
@@ -89,7 +98,7 @@ noop_late : (r : Round) → Hears no_accounts (after (codes "NOOP" ++ crlf)) r �
 unfolding machine_rows
 noop_late r h = let waits : true ≡ false = h.waits in cc
 
-half_answered : (r : Round) → Steps no_accounts (after (codes "NOOP")) r → ⊥
+half_answered : (r : Round) → Steps (Unit {0}) no_accounts (after (codes "NOOP")) r → ⊥
 unfolding machine_rows
 half_answered r s = let ready : false ≡ true = s.ready in cc
 
@@ -98,11 +107,21 @@ closed_hears : (r : Round) → Hears no_accounts (shut new_client) r → ⊥
 closed_hears r h = let live : true ≡ false = h.live in cc
 
 -- a denial at a path is none at another one
-abbrev RefusesA : ℕ → List ℕ → Held → Type 0
-RefusesA keeper path held = path ≡ codes "a.db"
+abbrev RefusesA : ℕ → List ℕ → Unavailable → Type 0
+RefusesA keeper path denial = path ≡ codes "a.db"
 
 denied_there : IsDenied RefusesA (codes "a.db")
 denied_there = (0, Busy, refl)
 
 denied_elsewhere : IsDenied RefusesA (codes "b.db") → ⊥
 denied_elsewhere h = let first : 98 ≡ 97 = ap (λ l. get_or l 0 0) h.2 in absurd (omega (arith, first))
+
+-- a store that was given at a path wasn't given at another one
+abbrev GivesA : ℕ → List ℕ → Type 0
+GivesA keeper path = path ≡ codes "a.db"
+
+given_there : HasGiven GivesA (codes "a.db")
+given_there = (0, refl)
+
+given_elsewhere : HasGiven GivesA (codes "b.db") → ⊥
+given_elsewhere h = let first : 98 ≡ 97 = ap (λ l. get_or l 0 0) h.1 in absurd (omega (arith, first))

@@ -1,6 +1,7 @@
 -- What comes of words that were read, and of what is told at the end.
 use Rattle.std.proofs.Common.{◌≡◌, ℕ, Bool, List, Option, Some, None, Ok, Err, IfSome, refl, subst}
 use Rattle.sqlite.specs.Effect.{Database}
+use Rattle.mailsinks.specs.declared.sink.SinkError.{SinkError}
 use Rattle.mailstore.specs.declared.refusal.Refusal.{Refusal}
 use Rattle.mailstore.specs.declared.refusal.Refusal.TheVariants as refusal
 use Rattle.sievedwords.specs.declared.subcommand.Subcommand.{Subcommand}
@@ -12,9 +13,9 @@ use Rattle.sievedrun.specs.Streams.{IsTold}
 use Rattle.sievedrun.specs.Words.{Does, Reaches, Works, RunsAs}
 
 -- a word that works on a store did
-module _ (Denied : List ℕ → Fault → Type 0) (Given At : List ℕ → Type 0) (clock : Option ℕ) (given : Option (List ℕ)) (tells : Bool) (had has : List (List ℕ)) (out_old out_new err_old err_new : Option (List ℕ)) (status : ℕ) (old new : Database) where
-  pub ran : (asked : Subcommand) → ((a : _) → asked ≡ word.Try a → ⊥) → Works (λ ending. Does Denied clock given tells had has out_old out_new asked ending old new) (Reaches Given At asked) err_old err_new status
-      → RunsAs Denied Given At clock given tells had has out_old out_new err_old err_new status old new (Ok asked)
+module _ (Denied : List ℕ → Fault → Type 0) (Sunk : SinkError → Type 0) (Given At : List ℕ → Type 0) (clock : Option ℕ) (given left : Option (List ℕ)) (tells : Bool) (had has : List (List ℕ)) (out_old out_new err_old err_new : Option (List ℕ)) (status : ℕ) (old new : Database) where
+  pub ran : (asked : Subcommand) → ((a : _) → asked ≡ word.Try a → ⊥) → Works (λ ending. Does Denied Sunk clock given left tells had has out_old out_new asked ending old new) (Reaches Given At asked) err_old err_new status
+      → RunsAs Denied Sunk Given At clock given left tells had has out_old out_new err_old err_new status old new (Ok asked)
   ran (word.Try a) other works = absurd (other a refl)
   ran asked other works = works
 

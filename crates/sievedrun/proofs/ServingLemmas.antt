@@ -18,55 +18,56 @@ use Rattle.sessions.specs.Replies.{capabilities}
 use Rattle.msproto.specs.Machine.{rows}
 use Rattle.msproto.specs.Replies.{spelled}
 use Rattle.sievedrun.specs.declared.fault.Fault.{Fault}
-use Rattle.keepers.specs.declared.keeper.Held.{Held}
-use Rattle.sievedrun.specs.Serving.{Round, IsDenied, Hinders, IsRound, Leads, came_in, said_in, largest_piece, BeginsWith, Passes, Answered, Writes, Interrupted, WritesFirst, StepsOn, Served, BreaksOff, AreSeen, PresentsSeen, seen}
+use Rattle.keepers.specs.declared.keeper.Unavailable.{Unavailable}
+use Rattle.sievedrun.specs.Serving.{Round, IsDenied, Hinders, IsRound, Leads, came_in, said_in, largest_piece, BeginsWith, Passes, Answered, Writes, Interrupted, WritesFirst, StepsOn, Served, BreaksOff, AreSeen, PresentsSeen, database_seen}
 use Rattle.sievedrun.specs.Streams.{AppendsFront}
 use Rattle.sievedrun.proofs.StreamLemmas.{nothing_read, nothing_written, read_on, written_on}
 
 -- ---- a step over a store that presents what was seen, open and over a disk that keeps what is written
 
-module _ (Seen : Accounts → Type 0) (taken given : State) (opens : PresentsSeen Seen taken.now) (clean : HasCleanDisk given) (live : IsTrue given.is_open) (c d : Client) (before after : List ℕ) where
-  pub step_made : (progress : Progress) (r : Result Progress Refusal) → r ≡ Ok progress → Carries (StepsTo c d r before after) taken given → (accounts : Accounts) → Seen accounts → StepsOn accounts c before after d (Presents given.now) true
+module _ (Given : Type 0) (Seen : Accounts → Type 0) (taken given : State) (opens : PresentsSeen Given Seen taken.now) (clean : HasCleanDisk given) (live : IsTrue given.is_open) (c d : Client) (before after : List ℕ) where
+  pub step_made : (progress : Progress) (r : Result Progress Refusal) → r ≡ Ok progress → Carries (StepsTo c d r before after) taken given → (accounts : Accounts) → Seen accounts → StepsOn Given accounts c before after d (λ a. Given × Presents given.now a) true
   step_made progress r is carries accounts shown =
-      let carried = carries clean accounts (λ _. opens accounts shown) in
+      let carried = carries clean accounts (λ _. (opens accounts shown).1) in
       let turn = subst (λ x. StepsTo c d x before after accounts carried.0) is carried.1 in
-      (progress, turn.0, carried.0, turn.1, turn.2, carried.2 live)
+      let got = (opens accounts shown).0 in
+      (progress, turn.0, carried.0, turn.1, turn.2, (got, carried.2 live), inr got)
 
-  pub step_refused : (refusal : Refusal) (r : Result Progress Refusal) → r ≡ Err refusal → Carries (StepsTo c d r before after) taken given → d ≡ c → after ≡ before → (accounts : Accounts) → Seen accounts → StepsOn accounts c before after d (Presents given.now) false
+  pub step_refused : (refusal : Refusal) (r : Result Progress Refusal) → r ≡ Err refusal → Carries (StepsTo c d r before after) taken given → d ≡ c → after ≡ before → (accounts : Accounts) → Seen accounts → StepsOn Given accounts c before after d (λ a. Given × Presents given.now a) false
   step_refused refusal r is carries same silent accounts shown =
-      let carried = carries clean accounts (λ _. opens accounts shown) in
+      let carried = carries clean accounts (λ _. (opens accounts shown).1) in
       let turn : carried.0 ≡ accounts = subst (λ x. StepsTo c d x before after accounts carried.0) is carried.1 in
-      (same, silent, subst (λ a. Presents given.now a) turn (carried.2 live))
+      (same, silent, ((opens accounts shown).0, subst (λ a. Presents given.now a) turn (carried.2 live)))
 
 -- ---- what is seen
 
 -- once it is given back it is offered
-pub offers_seen : {X : Type 0} (sees : X → Database) (held new : Database) (store : Option X) → new ≡ seen sees held store → (accounts : Accounts) → AreSeen sees held store accounts → Offers new accounts
-offers_seen sees held new None is accounts shown = subst (λ db. Offers db accounts) (sym is) shown
-offers_seen sees held new (Some store) is accounts shown = subst (λ db. Offers db accounts) (sym is) (inl (shown.0, inl shown.1, shown.2))
+pub offers_seen : {X : Type 0} (Given : Type 0) (sees : X → Database) (held new : Database) (store : Option X) → new ≡ database_seen sees held store → (accounts : Accounts) → AreSeen Given sees held store accounts → Offers new accounts
+offers_seen Given sees held new None is accounts shown = subst (λ db. Offers db accounts) (sym is) shown
+offers_seen Given sees held new (Some store) is accounts (got, shown) = subst (λ db. Offers db accounts) (sym is) (inl (shown.0, inl shown.1, shown.2))
 
 -- ---- why what comes first can't be answered
 
 -- the keeper denied its store
-pub denied_by : {X K : Type 0} (refuses : K → List ℕ → Held → Type 0) (keeper : K) (path : List ℕ) (r : Result X Held) → IfErr r (refuses keeper path) → OnErr r (IsDenied refuses path)
+pub denied_by : {X K : Type 0} (refuses : K → List ℕ → Unavailable → Type 0) (keeper : K) (path : List ℕ) (r : Result X Unavailable) → IfErr r (refuses keeper path) → OnErr r (IsDenied refuses path)
 denied_by refuses keeper path (Ok x) denied = tt
 denied_by refuses keeper path (Err held) denied = (keeper, held, denied)
 
 -- where that is so of a keeper that refused
-module _ (Denied : Type 0) where
+module _ (Denied Given : Type 0) where
   -- ---- rounds
 
-  pub leads_on : (accounts : Accounts) (c : Client) (rounds more : List Round) (mid : Accounts) (m : Client) (later : Accounts) (d : Client) → Leads Denied accounts c rounds mid m → Leads Denied mid m more later d → Leads Denied accounts c (rounds ++ more) later d
-  leads_on accounts c [] more mid m later d here next = subst (λ a. Leads Denied a c more later d) here.0 (subst (λ x. Leads Denied mid x more later d) here.1 next)
+  pub leads_on : (accounts : Accounts) (c : Client) (rounds more : List Round) (mid : Accounts) (m : Client) (later : Accounts) (d : Client) → Leads Denied Given accounts c rounds mid m → Leads Denied Given mid m more later d → Leads Denied Given accounts c (rounds ++ more) later d
+  leads_on accounts c [] more mid m later d here next = subst (λ a. Leads Denied Given a c more later d) here.0 (subst (λ x. Leads Denied Given mid x more later d) here.1 next)
   leads_on accounts c (r ∷ rounds) more mid m later d here next = (here.0, leads_on r.accounts r.client rounds more mid m later d here.1 next)
 
-  pub passes_on : (accounts : Accounts) (c m d : Client) (rounds more : List Round) (Mid Shown : Accounts → Type 0) (p : Passes Denied accounts c rounds m Mid) → Passes Denied p.later m more d Shown → Passes Denied accounts c (rounds ++ more) d Shown
+  pub passes_on : (accounts : Accounts) (c m d : Client) (rounds more : List Round) (Mid Shown : Accounts → Type 0) (p : Passes Denied Given accounts c rounds m Mid) → Passes Denied Given p.later m more d Shown → Passes Denied Given accounts c (rounds ++ more) d Shown
   passes_on accounts c m d rounds more Mid Shown p q = record { later = q.later; leads = leads_on accounts c rounds more p.later m q.later d p.leads q.leads; shown = q.shown }
 
-  pub passes_none : (accounts : Accounts) (c : Client) (Shown : Accounts → Type 0) → Shown accounts → Passes Denied accounts c [] c Shown
+  pub passes_none : (accounts : Accounts) (c : Client) (Shown : Accounts → Type 0) → Shown accounts → Passes Denied Given accounts c [] c Shown
   passes_none accounts c Shown shown = record { later = accounts; leads = (refl, refl); shown = shown }
 
-  pub passes_one : (accounts : Accounts) (c : Client) (r : Round) (Shown : Accounts → Type 0) → IsRound Denied accounts c r → Shown r.accounts → Passes Denied accounts c (r ∷ []) r.client Shown
+  pub passes_one : (accounts : Accounts) (c : Client) (r : Round) (Shown : Accounts → Type 0) → IsRound Denied Given accounts c r → Shown r.accounts → Passes Denied Given accounts c (r ∷ []) r.client Shown
   passes_one accounts c r Shown round shown = record { later = r.accounts; leads = (round, (refl, refl)); shown = shown }
 
   -- ---- what is written
@@ -88,11 +89,11 @@ module _ (Denied : Type 0) where
 
   -- ---- what was answered, and waits
 
-  pub answered_none : (accounts : Accounts) (c : Client) (waits : List ℕ) (Shown : Accounts → Type 0) → Shown accounts → Answered Denied accounts c waits waits c Shown
+  pub answered_none : (accounts : Accounts) (c : Client) (waits : List ℕ) (Shown : Accounts → Type 0) → Shown accounts → Answered Denied Given accounts c waits waits c Shown
   answered_none accounts c waits Shown shown = record { rounds = []; passes = passes_none accounts c Shown shown; none = refl; joins = sym (append-nil waits) }
 
-  pub answered_on : (accounts : Accounts) (c m d : Client) (waits waits2 waits3 : List ℕ) (Mid Shown : Accounts → Type 0) → Answered Denied accounts c waits waits2 m Mid
-      → ((a : Accounts) → Mid a → Answered Denied a m waits2 waits3 d Shown) → Answered Denied accounts c waits waits3 d Shown
+  pub answered_on : (accounts : Accounts) (c m d : Client) (waits waits2 waits3 : List ℕ) (Mid Shown : Accounts → Type 0) → Answered Denied Given accounts c waits waits2 m Mid
+      → ((a : Accounts) → Mid a → Answered Denied Given a m waits2 waits3 d Shown) → Answered Denied Given accounts c waits waits3 d Shown
   answered_on accounts c m d waits waits2 waits3 Mid Shown first then =
       let second = then first.passes.later first.passes.shown in
       record {
@@ -103,39 +104,39 @@ module _ (Denied : Type 0) where
       }
 
   -- a step answers what comes first
-  pub first_stepped : (accounts : Accounts) (c d : Client) (waits waits2 : List ℕ) (Shown : Accounts → Type 0) → is_ready c ≡ true → StepsOn accounts c waits waits2 d Shown true → Answered Denied accounts c waits waits2 d Shown
+  pub first_stepped : (accounts : Accounts) (c d : Client) (waits waits2 : List ℕ) (Shown : Accounts → Type 0) → is_ready c ≡ true → StepsOn Given accounts c waits waits2 d Shown true → Answered Denied Given accounts c waits waits2 d Shown
   first_stepped accounts c d waits waits2 Shown ready step =
       let r : Round = record { came = []; said = step.1; accounts = step.2; client = d } in
       record {
         rounds = r ∷ [];
-        passes = passes_one accounts c r Shown (inr (inl (record { ready = ready; none = refl; progress = step.0; step = step.4 }))) step.5;
+        passes = passes_one accounts c r Shown (inr (inl (record { ready = ready; none = refl; progress = step.0; step = step.4; reach = step.6 }))) step.5;
         none = refl;
         joins = step.3 ∙ ap (λ l. waits ++ l) (sym (append-nil step.1));
       }
 
   -- or nothing changed
-  pub step_answers : (accounts : Accounts) (c d : Client) (waits waits2 : List ℕ) (Shown : Accounts → Type 0) (made : Bool) → is_ready c ≡ true → StepsOn accounts c waits waits2 d Shown made → Answered Denied accounts c waits waits2 d Shown
+  pub step_answers : (accounts : Accounts) (c d : Client) (waits waits2 : List ℕ) (Shown : Accounts → Type 0) (made : Bool) → is_ready c ≡ true → StepsOn Given accounts c waits waits2 d Shown made → Answered Denied Given accounts c waits waits2 d Shown
   step_answers accounts c d waits waits2 Shown true ready step = first_stepped accounts c d waits waits2 Shown ready step
   step_answers accounts c d waits waits2 Shown false ready (same, silent, shown) =
-      subst (λ x. Answered Denied accounts c waits waits2 x Shown) (sym same) (subst (λ w. Answered Denied accounts c waits w c Shown) (sym silent) (answered_none accounts c waits Shown shown))
+      subst (λ x. Answered Denied Given accounts c waits waits2 x Shown) (sym same) (subst (λ w. Answered Denied Given accounts c waits w c Shown) (sym silent) (answered_none accounts c waits Shown shown))
 
   -- what was seen is given back
-  pub answered_back : {X : Type 0} (sees : X → Database) (held new : Database) (store : Option X) → new ≡ seen sees held store → (accounts : Accounts) (c d : Client) (waits waits2 : List ℕ)
-      → Answered Denied accounts c waits waits2 d (AreSeen sees held store) → Answered Denied accounts c waits waits2 d (Offers new)
+  pub answered_back : {X : Type 0} (sees : X → Database) (held new : Database) (store : Option X) → new ≡ database_seen sees held store → (accounts : Accounts) (c d : Client) (waits waits2 : List ℕ)
+      → Answered Denied Given accounts c waits waits2 d (AreSeen Given sees held store) → Answered Denied Given accounts c waits waits2 d (Offers new)
   answered_back sees held new store is accounts c d waits waits2 a = record {
     rounds = a.rounds;
-    passes = record { later = a.passes.later; leads = a.passes.leads; shown = offers_seen sees held new store is a.passes.later a.passes.shown };
+    passes = record { later = a.passes.later; leads = a.passes.leads; shown = offers_seen Given sees held new store is a.passes.later a.passes.shown };
     none = a.none;
     joins = a.joins;
   }
 
   -- ---- what was answered and written
 
-  pub writes_none : (accounts : Accounts) (c : Client) (out : Option (List ℕ)) (new : Database) → Offers new accounts → Writes Denied accounts c out out c new
+  pub writes_none : (accounts : Accounts) (c : Client) (out : Option (List ℕ)) (new : Database) → Offers new accounts → Writes Denied Given accounts c out out c new
   writes_none accounts c out new shown = record { rounds = []; passes = passes_none accounts c (Offers new) shown; none = refl; written = nothing_written out }
 
-  pub writes_on : (accounts : Accounts) (c m d : Client) (out out2 out3 : Option (List ℕ)) (mid new : Database) → Writes Denied accounts c out out2 m mid
-      → ((a : Accounts) → Offers mid a → Writes Denied a m out2 out3 d new) → Writes Denied accounts c out out3 d new
+  pub writes_on : (accounts : Accounts) (c m d : Client) (out out2 out3 : Option (List ℕ)) (mid new : Database) → Writes Denied Given accounts c out out2 m mid
+      → ((a : Accounts) → Offers mid a → Writes Denied Given a m out2 out3 d new) → Writes Denied Given accounts c out out3 d new
   writes_on accounts c m d out out2 out3 mid new first then =
       let second = then first.passes.later first.passes.shown in
       record {
@@ -145,8 +146,8 @@ module _ (Denied : Type 0) where
         written = subst (Appends out out3) (sym (said_on first.rounds second.rounds)) (written_on out out2 out3 (said_in first.rounds) (said_in second.rounds) first.written second.written);
       }
 
-  pub interrupted_on : (accounts : Accounts) (c m : Client) (out out2 out3 : Option (List ℕ)) (mid new : Database) → Writes Denied accounts c out out2 m mid
-      → ((a : Accounts) → Offers mid a → Interrupted Denied a m out2 out3 new) → Interrupted Denied accounts c out out3 new
+  pub interrupted_on : (accounts : Accounts) (c m : Client) (out out2 out3 : Option (List ℕ)) (mid new : Database) → Writes Denied Given accounts c out out2 m mid
+      → ((a : Accounts) → Offers mid a → Interrupted Denied Given a m out2 out3 new) → Interrupted Denied Given accounts c out out3 new
   interrupted_on accounts c m out out2 out3 mid new first then =
       let second = then first.passes.later first.passes.shown in
       record {
@@ -158,7 +159,7 @@ module _ (Denied : Type 0) where
       }
 
   -- what was written counts as interrupted, where no more is
-  pub interrupted_so : (accounts : Accounts) (c d : Client) (out out2 : Option (List ℕ)) (new : Database) → Writes Denied accounts c out out2 d new → Interrupted Denied accounts c out out2 new
+  pub interrupted_so : (accounts : Accounts) (c d : Client) (out out2 : Option (List ℕ)) (new : Database) → Writes Denied Given accounts c out out2 d new → Interrupted Denied Given accounts c out out2 new
   interrupted_so accounts c d out out2 new a = record {
     rounds = a.rounds;
     client = d;
@@ -170,14 +171,14 @@ module _ (Denied : Type 0) where
   -- ---- what comes first
 
   -- the answers are written, or that fails
-  pub first_written : (accounts : Accounts) (c d : Client) (out out2 : Option (List ℕ)) (waits : List ℕ) (new : Database) → Answered Denied accounts c [] waits d (Offers new)
-      → (r : Result (Unit {0}) Fault) → OnOk r (Appends out out2 waits) → OnErr r (AppendsFront out out2 waits) → WritesFirst Denied accounts c out out2 d new r
+  pub first_written : (accounts : Accounts) (c d : Client) (out out2 : Option (List ℕ)) (waits : List ℕ) (new : Database) → Answered Denied Given accounts c [] waits d (Offers new)
+      → (r : Result (Unit {0}) Fault) → OnOk r (Appends out out2 waits) → OnErr r (AppendsFront out out2 waits) → WritesFirst Denied Given accounts c out out2 d new r
   first_written accounts c d out out2 waits new a (Ok done) whole broken = record { rounds = a.rounds; passes = a.passes; none = a.none; written = subst (Appends out out2) a.joins whole }
   first_written accounts c d out out2 waits new a (Err fault) whole broken = record { rounds = a.rounds; client = d; passes = a.passes; none = a.none; written = subst (AppendsFront out out2) a.joins broken }
 
   -- it is given up, or that can't be written
   pub first_given_up : (accounts : Accounts) (c d : Client) (out out2 : Option (List ℕ)) (text : List ℕ) (new : Database) → is_ready c ≡ true → Hinders Denied c → Offers new accounts → text ≡ text_given_up c → d ≡ client_given_up c
-      → (r : Result (Unit {0}) Fault) → OnOk r (Appends out out2 text) → OnErr r (AppendsFront out out2 text) → WritesFirst Denied accounts c out out2 d new r
+      → (r : Result (Unit {0}) Fault) → OnOk r (Appends out out2 text) → OnErr r (AppendsFront out out2 text) → WritesFirst Denied Given accounts c out out2 d new r
   first_given_up accounts c d out out2 text new ready cause shown told drops (Ok done) whole broken =
       let r : Round = record { came = []; said = text; accounts = accounts; client = d } in
       record {
@@ -197,14 +198,14 @@ module _ (Denied : Type 0) where
       }
 
   -- what comes first is answered, or breaks off, after what was answered
-  pub first_on : (accounts : Accounts) (c m d : Client) (out out2 out3 : Option (List ℕ)) (mid new : Database) → Writes Denied accounts c out out2 m mid
-      → (r : Result (Unit {0}) Fault) → ((a : Accounts) → Offers mid a → WritesFirst Denied a m out2 out3 d new r) → WritesFirst Denied accounts c out out3 d new r
+  pub first_on : (accounts : Accounts) (c m d : Client) (out out2 out3 : Option (List ℕ)) (mid new : Database) → Writes Denied Given accounts c out out2 m mid
+      → (r : Result (Unit {0}) Fault) → ((a : Accounts) → Offers mid a → WritesFirst Denied Given a m out2 out3 d new r) → WritesFirst Denied Given accounts c out out3 d new r
   first_on accounts c m d out out2 out3 mid new first (Ok done) then = writes_on accounts c m d out out2 out3 mid new first then
   first_on accounts c m d out out2 out3 mid new first (Err fault) then = interrupted_on accounts c m out out2 out3 mid new first then
 
   -- a step that asks no store answers it
-  pub free_stepped : (c d : Client) (progress : Progress) (waits waits2 : List ℕ) (Shown : Accounts → Type 0) → StepsOver c d progress waits waits2 → (accounts : Accounts) → Shown accounts → StepsOn accounts c waits waits2 d Shown true
-  free_stepped c d progress waits waits2 Shown over accounts shown = (progress, over.octets, accounts, over.written, over.step accounts, shown)
+  pub free_stepped : (c d : Client) (progress : Progress) (waits waits2 : List ℕ) (Shown : Accounts → Type 0) → StepsOver c d progress waits waits2 → (accounts : Accounts) → Shown accounts → StepsOn Given accounts c waits waits2 d Shown true
+  free_stepped c d progress waits waits2 Shown over accounts shown = (progress, over.octets, accounts, over.written, over.step accounts, shown, inl (progress, over.step))
 
   -- what was taken off a reader stood first
   pub begins_with : (old new : Option (List ℕ)) (text : List ℕ) → Consumes old new text → BeginsWith old text
@@ -216,18 +217,18 @@ module _ (Denied : Type 0) where
 
   -- the greeting is written
   pub served_first : (accounts : Accounts) (input out out2 : Option (List ℕ)) (c : Client) (greeting : List ℕ) (new : Database) → Offers new accounts → c ≡ new_client → greeting ≡ spelled (capabilities None) → Appends out out2 greeting
-      → Served Denied accounts input input out out2 c new
+      → Served Denied Given accounts input input out out2 c new
   unfolding rows
   served_first accounts input out out2 c greeting new shown is told written = record {
     rounds = [];
-    passes = subst (λ x. Passes Denied accounts new_client [] x (Offers new)) (sym is) (passes_none accounts new_client (Offers new) shown);
+    passes = subst (λ x. Passes Denied Given accounts new_client [] x (Offers new)) (sym is) (passes_none accounts new_client (Offers new) shown);
     read = nothing_read input;
     written = subst (Appends out out2) (told ∙ sym (append-nil (spelled (capabilities None)))) written;
     answered = subst (λ x. is_ready x ≡ false) (sym is) refl;
   }
 
   -- a front of it is written, or none
-  pub broken_first : (accounts : Accounts) (input out out2 : Option (List ℕ)) (greeting : List ℕ) (new : Database) → Offers new accounts → greeting ≡ spelled (capabilities None) → AppendsFront out out2 greeting → BreaksOff Denied accounts input out out2 new
+  pub broken_first : (accounts : Accounts) (input out out2 : Option (List ℕ)) (greeting : List ℕ) (new : Database) → Offers new accounts → greeting ≡ spelled (capabilities None) → AppendsFront out out2 greeting → BreaksOff Denied Given accounts input out out2 new
   broken_first accounts input out out2 greeting new shown told front = record {
     rounds = [];
     client = new_client;
@@ -237,7 +238,7 @@ module _ (Denied : Type 0) where
   }
 
   -- nothing more comes of a session that was served so far
-  pub broken_served : (accounts : Accounts) (in_old in_new out out2 : Option (List ℕ)) (c : Client) (new : Database) → Served Denied accounts in_old in_new out out2 c new → BreaksOff Denied accounts in_old out out2 new
+  pub broken_served : (accounts : Accounts) (in_old in_new out out2 : Option (List ℕ)) (c : Client) (new : Database) → Served Denied Given accounts in_old in_new out out2 c new → BreaksOff Denied Given accounts in_old out out2 new
   broken_served accounts in_old in_new out out2 c new s = record {
     rounds = s.rounds;
     client = c;
@@ -247,7 +248,7 @@ module _ (Denied : Type 0) where
   }
 
   -- the end of the input was read
-  pub served_at_end : (accounts : Accounts) (in_old in_mid in_new out out2 : Option (List ℕ)) (c : Client) (new : Database) → Served Denied accounts in_old in_mid out out2 c new → Consumes in_mid in_new [] → Served Denied accounts in_old in_new out out2 c new
+  pub served_at_end : (accounts : Accounts) (in_old in_mid in_new out out2 : Option (List ℕ)) (c : Client) (new : Database) → Served Denied Given accounts in_old in_mid out out2 c new → Consumes in_mid in_new [] → Served Denied Given accounts in_old in_new out out2 c new
   served_at_end accounts in_old in_mid in_new out out2 c new s nothing = record {
     rounds = s.rounds;
     passes = s.passes;
@@ -257,12 +258,12 @@ module _ (Denied : Type 0) where
   }
 
   -- a piece came, and all that is whole was answered
-  module _ (accounts : Accounts) (in_old in_mid in_new out out2 out3 : Option (List ℕ)) (piece : List ℕ) (c m d : Client) (mid new : Database) (s : Served Denied accounts in_old in_mid out out2 c mid)
+  module _ (accounts : Accounts) (in_old in_mid in_new out out2 out3 : Option (List ℕ)) (piece : List ℕ) (c m d : Client) (mid new : Database) (s : Served Denied Given accounts in_old in_mid out out2 c mid)
       (took : Consumes in_mid in_new piece) (live : c.closed ≡ false) (short : length piece ≤ largest_piece) (joins : m ≡ client_given piece c) where
     abbrev heard : Round
     heard = record { came = piece; said = []; accounts = s.passes.later; client = m }
 
-    came : Passes Denied accounts new_client (s.rounds ++ heard ∷ []) m (Offers mid)
+    came : Passes Denied Given accounts new_client (s.rounds ++ heard ∷ []) m (Offers mid)
     came = passes_on accounts new_client c m s.rounds (heard ∷ []) (Offers mid) (Offers mid) s.passes (passes_one s.passes.later c heard (Offers mid) (inl (record { live = live; waits = s.answered; short = short; silent = refl; joins = joins; same = refl })) s.passes.shown)
 
     came_with : (more : List Round) → came_in more ≡ [] → came_in s.rounds ++ piece ≡ came_in ((s.rounds ++ heard ∷ []) ++ more)
@@ -277,7 +278,7 @@ module _ (Denied : Type 0) where
         let inner = flat_map-append (λ (r : Round). r.said) s.rounds (heard ∷ []) in
         append_assoc (spelled (capabilities None)) (said_in s.rounds) (said_in more) ∙ ap (λ l. spelled (capabilities None) ++ l) (sym (outer ∙ ap (λ l. l ++ said_in more) (inner ∙ append-nil (said_in s.rounds))))
 
-    pub served_on : ((a : Accounts) → Offers mid a → Writes Denied a m out2 out3 d new × (is_ready d ≡ false)) → Served Denied accounts in_old in_new out out3 d new
+    pub served_on : ((a : Accounts) → Offers mid a → Writes Denied Given a m out2 out3 d new × (is_ready d ≡ false)) → Served Denied Given accounts in_old in_new out out3 d new
     served_on then =
         let (more, idle) = then came.later came.shown in
         record {
@@ -288,7 +289,7 @@ module _ (Denied : Type 0) where
           answered = idle;
         }
 
-    pub broken_on : ((a : Accounts) → Offers mid a → Interrupted Denied a m out2 out3 new) → BreaksOff Denied accounts in_old out out3 new
+    pub broken_on : ((a : Accounts) → Offers mid a → Interrupted Denied Given a m out2 out3 new) → BreaksOff Denied Given accounts in_old out out3 new
     broken_on then =
         let more = then came.later came.shown in
         record {

@@ -5,6 +5,7 @@ use Rattle.hex.specs.Hex.{decode_pairs}
 use Rattle.octets.specs.Ascii.{is_digit}
 use Rattle.octets.specs.Decimal.{Writes}
 use Rattle.maildirs.specs.declared.separator.Separator.TheVariants.{Dot, Slash}
+use Rattle.mailsinks.specs.declared.sink.SinkError.{SinkError}
 use Rattle.mailstore.specs.Account.{Account, Accounts, row_with}
 use Rattle.mailstore.specs.Promises.{IsFree}
 use Rattle.mailstore.specs.declared.queue.Outgoing.{Outgoing}
@@ -12,13 +13,13 @@ use Rattle.mailstore.specs.declared.refusal.Refusal.{Refusal}
 use Rattle.mailstore.specs.declared.refusal.Refusal.TheVariants.{Memory}
 use Rattle.mailengine.specs.declared.answer.Answer.TheVariants as answer
 use Rattle.mailengine.specs.declared.event.Event.TheVariants.{Deliver, AddUser, TakeOut}
-use Rattle.sievedrun.specs.declared.fault.Fault.TheVariants.{Refused, Stream, NoMessage, Busy}
-use Rattle.sievedrun.specs.Draining.{StopsDraining}
+use Rattle.sievedrun.specs.declared.fault.Fault.TheVariants.{Refused, Stream, NoMessage, NoMaildir, Busy}
+use Rattle.sievedrun.specs.Draining.{IsUnkept, StopsDraining}
 use Rattle.sievedrun.specs.Faults.{memory, no_user, store_failed, line_of, troubles, IsHindered}
 use Rattle.sievedrun.specs.Streams.{IsTold, WriteFailed}
 use Rattle.sievedrun.specs.declared.fault.Fault.{Fault}
 use Rattle.sievedrun.specs.Values.{WritesSalt, IsMoment, IsSeparator, envelope_with}
-use Rattle.sievedrun.specs.Words.{Adds, Posts, Dequeues, Tells, HasMessage, ShowsOutgoing}
+use Rattle.sievedrun.specs.Words.{Adds, DeniedAtEnd, Posts, Dequeues, Tells, HasMessage, ShowsOutgoing}
 
 -- ---- values
 
@@ -138,28 +139,43 @@ numbered-zero a message h = cc
 abbrev nobody : Fault → Type 0
 nobody fault = ⊥
 
+-- no sink refused a call
+abbrev unsunk : SinkError → Type 0
+unsunk error = ⊥
+
 abbrev busily : Fault → Type 0
 busily fault = fault ≡ Busy
 
 -- an unknown user is told as one, and near miss: as something else that is absent
-stops-told : (accounts : Accounts) → IsFree alice accounts → StopsDraining ⊥ nobody alice no_user accounts
+stops-told : (accounts : Accounts) → IsFree alice accounts → StopsDraining unsunk ⊥ nobody alice no_user accounts
 stops-told accounts free = inr (inr (refl, free, λ no. no))
 
-not_hindered : (fault : Fault) → (fault ≡ memory → ⊥) → (fault ≡ store_failed → ⊥) → (fault ≡ Stream → ⊥) → IsHindered (Unit {0}) ⊥ nobody fault → ⊥
-not_hindered fault m f s (inl e) = m e
-not_hindered fault m f s (inr (inl e)) = f e
-not_hindered fault m f s (inr (inr (inl e))) = s e.0
-not_hindered fault m f s (inr (inr (inr (inl bad)))) = bad.1
-not_hindered fault m f s (inr (inr (inr (inr denied)))) = denied.0
+not_hindered : (fault : Fault) → (fault ≡ memory → ⊥) → (fault ≡ store_failed → ⊥) → IsHindered (IsUnkept unsunk) ⊥ nobody fault → ⊥
+not_hindered fault m f (inl e) = m e
+not_hindered fault m f (inr (inl e)) = f e
+not_hindered fault m f (inr (inr (inl e))) = e.1.1
+not_hindered fault m f (inr (inr (inr (inl bad)))) = bad.1
+not_hindered fault m f (inr (inr (inr (inr denied)))) = denied.0
 
-stops-other : (accounts : Accounts) → StopsDraining ⊥ nobody alice NoMessage accounts → ⊥
-stops-other accounts (inl hindered) = not_hindered NoMessage (λ e. cc) (λ e. cc) (λ e. cc) hindered
+stops-other : (accounts : Accounts) → StopsDraining unsunk ⊥ nobody alice NoMessage accounts → ⊥
+stops-other accounts (inl hindered) = not_hindered NoMessage (λ e. cc) (λ e. cc) hindered
 stops-other accounts (inr (inl e)) = let no = e.0 in cc
 stops-other accounts (inr (inr none)) = let e = none.0 in cc
 
+-- near misses: the Maildir's fault, and no sink refused a call
+stops-unsunk : (accounts : Accounts) → StopsDraining unsunk ⊥ nobody alice Stream accounts → ⊥
+stops-unsunk accounts (inl hindered) = not_hindered Stream (λ e. cc) (λ e. cc) hindered
+stops-unsunk accounts (inr (inl e)) = e.1
+stops-unsunk accounts (inr (inr none)) = let e = none.0 in cc
+
+stops-nowhere : (accounts : Accounts) → StopsDraining unsunk ⊥ nobody alice NoMaildir accounts → ⊥
+stops-nowhere accounts (inl hindered) = not_hindered NoMaildir (λ e. cc) (λ e. cc) hindered
+stops-nowhere accounts (inr (inl e)) = e.1
+stops-nowhere accounts (inr (inr none)) = let e = none.0 in cc
+
 -- near miss: busy, and nobody denied the store
-busy-undenied : IsHindered (Unit {0}) ⊥ nobody Busy → ⊥
-busy-undenied = not_hindered Busy (λ e. cc) (λ e. cc) (λ e. cc)
+busy-undenied : IsHindered (IsUnkept unsunk) ⊥ nobody Busy → ⊥
+busy-undenied = not_hindered Busy (λ e. cc) (λ e. cc)
 
 -- it was denied as busy, and is told so; near misses: told otherwise, and told where a value in the words is wrong
 busy-denied : IsHindered ⊥ ⊥ busily Busy
@@ -178,6 +194,17 @@ denied-early (inr (inl e)) = cc
 denied-early (inr (inr (inl e))) = e.1
 denied-early (inr (inr (inr (inl bad)))) = let no = bad.0 in cc
 denied-early (inr (inr (inr (inr denied)))) = denied.1 tt
+
+-- it was denied once all was read; near miss: denied while octets are left
+busy-at-end : IsHindered ⊥ ⊥ (DeniedAtEnd busily (Some [])) Busy
+busy-at-end = inr (inr (inr (inr ((refl, refl), λ no. no))))
+
+busy-unread : IsHindered ⊥ ⊥ (DeniedAtEnd busily (Some (codes "M"))) Busy → ⊥
+busy-unread (inl e) = cc
+busy-unread (inr (inl e)) = cc
+busy-unread (inr (inr (inl e))) = e.1
+busy-unread (inr (inr (inr (inl bad)))) = bad.1
+busy-unread (inr (inr (inr (inr denied)))) = let no = denied.0.1 in cc
 
 -- near miss: a read that failed, of a word that reads nothing
 unread-failed : IsHindered ⊥ ⊥ nobody Stream → ⊥

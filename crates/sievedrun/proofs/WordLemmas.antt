@@ -3,15 +3,15 @@ use Prim.Native.Nat.{zero}
 use Rattle.std.proofs.Common.{◌≡◌, ◌⊎◌, ℕ, suc, List, Option, Some, None, Result, Ok, Err, OnOk, OnErr, IfOk, IfErr, IsTrue, codes, slice_get, refl, sym, ◌∙◌, ap, subst, inl, inr}
 use Rattle.std.specs.FinMap.{get}
 use Rattle.std.specs.Io.KnownBytes as output
-use Rattle.std.specs.Io.KnownBytes.{Appends}
+use Rattle.std.specs.Io.KnownBytes.{Appends, IsAtEnd}
 use Rattle.sqlite_schema.specs.declared.schema.Schema.{Schema}
 use Rattle.sqlite.specs.Effect.{Database}
 use Rattle.sqlite.specs.State.{State, HasCleanDisk}
 use Rattle.mailstore.specs.Account.{Account, Accounts, no_accounts, messages_in, row_with}
-use Rattle.mailstore.specs.Schema.{no_schema, mail_schema, IsOurSchema}
+use Rattle.mailstore.specs.Schema.{no_schema, IsOurSchema}
 use Rattle.mailstore.specs.OldSchema.{IsOldSchema}
 use Rattle.mailstore.specs.Opening.{IsKnown}
-use Rattle.mailstore.specs.Shows.{Presents}
+use Rattle.mailstore.specs.Shows.{Presents, Offers, OpensAs}
 use Rattle.mailstore.specs.Promises.{IsFree, OfUser, Keeps, Reads}
 use Rattle.mailstore.specs.Refusals.{IsTransient}
 use Rattle.mailstore.specs.declared.refusal.Refusal.{Refusal}
@@ -35,7 +35,7 @@ use Rattle.sievedrun.specs.Draining.{TurnsTables}
 use Rattle.sievedrun.specs.Faults.{memory, status_of, IsCutOff, IsFailure, IsSudden, IsHindered}
 use Rattle.sievedrun.specs.Promise.{world_of}
 use Rattle.sievedrun.specs.Streams.{AppendsFront, WriteFailed}
-use Rattle.sievedrun.specs.Words.{Finishes, Tells, Makes, RefusesEvent, Puts, DoesEvent, Shows, FindsIn, HasNone, DoesRead, HasMessage, DoesInit, DoesNothing, LacksNothing}
+use Rattle.sievedrun.specs.Words.{Finishes, DeniedAtEnd, Tells, Makes, RefusesEvent, Puts, DoesEvent, Shows, FindsIn, HasNone, DoesRead, HasMessage, DoesInit, DoesNothing, LacksNothing}
 
 -- ---- the output
 
@@ -47,20 +47,28 @@ kept_same (Some held) = refl
 -- ---- faults
 
 -- a refusal that may come without visible cause comes without one that is seen
-pub sudden_refusal : (refusal : Refusal) → IsTransient refusal → IsSudden (Refused refusal)
-sudden_refusal refusal transient = elim transient [ inl e ↦ inl (ap Refused e) | inr e ↦ inr (inl (ap Refused e)) ]
+pub sudden_refusal : (Broken : Type 0) (refusal : Refusal) → IsTransient refusal → IsSudden Broken (Refused refusal)
+sudden_refusal Broken refusal transient = elim transient [ inl e ↦ inl (ap Refused e) | inr e ↦ inr (inl (ap Refused e)) ]
 
 -- another try may help then
-pub sudden_status : (fault : Fault) → IsSudden fault → status_of fault ≡ 75
-sudden_status fault sudden = elim sudden [ inl e ↦ ap status_of e | inr more ↦ elim more [ inl e ↦ ap status_of e | inr e ↦ ap status_of e ] ]
+pub sudden_status : (Broken : Type 0) (fault : Fault) → IsSudden Broken fault → status_of fault ≡ 75
+sudden_status Broken fault sudden = elim sudden [ inl e ↦ ap status_of e | inr more ↦ elim more [ inl e ↦ ap status_of e | inr e ↦ ap status_of e.0 ] ]
 
-pub sudden_statuses : {X : Type 0} (r : Result X Fault) → IfErr r IsSudden → IfErr r (λ fault. status_of fault ≡ 75)
-sudden_statuses (Ok x) h = tt
-sudden_statuses (Err fault) h = sudden_status fault h
+pub sudden_statuses : {X : Type 0} (Broken : Type 0) (r : Result X Fault) → IfErr r (IsSudden Broken) → IfErr r (λ fault. status_of fault ≡ 75)
+sudden_statuses Broken (Ok x) h = tt
+sudden_statuses Broken (Err fault) h = sudden_status Broken fault h
 
-pub sudden_or : {X : Type 0} (r : Result X Fault) (other : Fault) → IfErr r IsSudden → IfErr r (λ fault. IsSudden fault ⊎ (fault ≡ other))
-sudden_or (Ok x) other h = tt
-sudden_or (Err fault) other h = inl h
+pub sudden_or : {X : Type 0} (Broken : Type 0) (r : Result X Fault) (other : Fault) → IfErr r (IsSudden Broken) → IfErr r (λ fault. IsSudden Broken fault ⊎ (fault ≡ other))
+sudden_or Broken (Ok x) other h = tt
+sudden_or Broken (Err fault) other h = inl h
+
+-- where nothing can break, it comes wherever something can
+pub sudden_wider : (Broken : Type 0) (fault : Fault) → IsSudden ⊥ fault → IsSudden Broken fault
+sudden_wider Broken fault sudden = elim sudden [ inl e ↦ inl e | inr more ↦ elim more [ inl e ↦ inr (inl e) | inr none ↦ absurd none.1 ] ]
+
+-- where something broke, a failure is one
+pub failure_sudden : (Broken : Type 0) (fault : Fault) → IsFailure fault → Broken → IsSudden Broken fault
+failure_sudden Broken fault failure why = elim failure [ inl e ↦ inl e | inr e ↦ inr (inr (e, why)) ]
 
 module _ (Broken Wrong : Type 0) (Denied : Fault → Type 0) where
   pub no_memory : IsHindered Broken Wrong Denied memory
@@ -96,9 +104,9 @@ module _ (Broken Wrong : Type 0) (Denied : Fault → Type 0) where
     ]
   ]
 
--- where what is read may break, what comes without a cause that is seen is one
-pub sudden_hinders : (Wrong : Type 0) (Denied : Fault → Type 0) (fault : Fault) → IsSudden fault → IsHindered (Unit {0}) Wrong Denied fault
-sudden_hinders Wrong Denied fault sudden = elim sudden [ inl e ↦ inl e | inr more ↦ elim more [ inl e ↦ inr (inl e) | inr e ↦ broken (Unit {0}) Wrong Denied fault e tt ] ]
+-- what breaks suddenly keeps a word from its work
+pub sudden_hinders : (Broken Wrong : Type 0) (Denied : Fault → Type 0) (fault : Fault) → IsSudden Broken fault → IsHindered Broken Wrong Denied fault
+sudden_hinders Broken Wrong Denied fault sudden = elim sudden [ inl e ↦ inl e | inr more ↦ elim more [ inl e ↦ inr (inl e) | inr e ↦ broken Broken Wrong Denied fault e.0 e.1 ] ]
 
 -- a write that failed cut a text off
 pub cut_off : (old out : Option (List ℕ)) (text : List ℕ) (r : Result (Unit {0}) Fault) → OnErr r (AppendsFront old out text) → OnErr r (WriteFailed out) → IfErr r (λ fault. fault ≡ Stream) → IfErr r (λ fault. IsCutOff fault old out text)
@@ -127,7 +135,7 @@ ours_not_none db (inr old) none = older old.schema
 -- they were left alone
 pub stays_turned : (Became : Accounts → Accounts → Type 0) (old new : Database) → new ≡ old → ((accounts : Accounts) → Became accounts accounts) → TurnsTables Became old new
 stays_turned Became old new same became = record {
-  accounts = λ accounts p. (accounts, became accounts, subst (λ db. Presents db accounts) (sym same) p);
+  accounts = λ accounts p. (accounts, became accounts, inr (same, refl));
   none = λ blank. ap (λ (db : Database). db.schema) same ∙ blank;
 }
 
@@ -138,17 +146,17 @@ turned_wider Became Wider old new wider moves = record {
   none = moves.none;
 }
 
--- a store that saw what was held, where that had our schema, and was handed back, open and over a disk that keeps what is written
-module _ (held new : Database) (taken given : State) (seen : held.schema ≡ mail_schema → taken.now ≡ held) (ours : IsKnown held) (clean : HasCleanDisk given) (live : IsTrue given.is_open) (back : new ≡ given.now) where
-  stood : (accounts : Accounts) → Presents held accounts → Presents taken.now accounts
-  stood accounts p = subst (λ db. Presents db accounts) (sym (seen p.1.is)) p
+-- a store that saw what `open` makes of what was held, and was handed back, open and over a disk that keeps what is written
+module _ (held new : Database) (taken given : State) (opened : OpensAs held taken.now) (ours : IsKnown held) (clean : HasCleanDisk given) (live : IsTrue given.is_open) (back : new ≡ given.now) where
+  stood : (accounts : Accounts) → Offers held accounts → Presents taken.now accounts
+  stood accounts p = opened.shown accounts p
 
   -- its accounts turned
   pub carried_turned : (Became : Accounts → Accounts → Type 0) → Carries Became taken given → TurnsTables Became held new
   carried_turned Became carries = record {
     accounts = λ accounts p.
         let h = carries clean accounts (λ _. stood accounts p) in
-        (h.0, h.1, subst (λ db. Presents db h.0) (sym back) (h.2 live));
+        (h.0, h.1, inl (subst (λ db. Presents db h.0) (sym back) (h.2 live)));
     none = λ blank. absurd (ours_not_none held ours blank);
   }
 
@@ -160,7 +168,7 @@ module _ (held new : Database) (taken given : State) (seen : held.schema ≡ mai
     accounts = λ accounts p.
         let was = stood accounts p in
         let same = (reads.keeps.same clean (was.0, was.1)).now_is live in
-        (accounts, (refl, finds accounts (reads.found clean accounts was) (reads.absent clean accounts was)), subst (λ db. Presents db accounts) (sym back) (subst (λ db. Presents db accounts) (sym same) was));
+        (accounts, (refl, finds accounts (reads.found clean accounts was) (reads.absent clean accounts was)), inl (subst (λ db. Presents db accounts) (sym back) (subst (λ db. Presents db accounts) (sym same) was)));
     none = λ blank. absurd (ours_not_none held ours blank);
   }
 
@@ -277,6 +285,22 @@ pub put_denied : {X : Type 0} (Denied : Fault → Type 0) (event : Event) (told 
     → TurnsTables (Puts Denied event told r) held new
 put_denied Denied event told fault r is why held new same =
     stays_turned (Puts Denied event told r) held new same (λ accounts. subst (λ o. Puts Denied event told o accounts accounts) (sym is) (refl, inl (denied ⊥ ⊥ Denied fault why (λ no. no))))
+
+-- it was denied once all of the input was read
+pub put_at_end : {X : Type 0} (Denied : Fault → Type 0) (left : Option (List ℕ)) → IsAtEnd left → (event : Event) (told : X → Answer) (r : Result X Fault) (held new : Database) → TurnsTables (Puts Denied event told r) held new
+    → TurnsTables (Puts (DeniedAtEnd Denied left) event told r) held new
+put_at_end {X} Denied left end event told r held new put = turned_wider (Puts Denied event told r) (Puts (DeniedAtEnd Denied left) event told r) held new (λ accounts later h. by r accounts later h) put
+  where
+    late : (fault : Fault) → IsHindered ⊥ ⊥ Denied fault → IsHindered ⊥ ⊥ (DeniedAtEnd Denied left) fault
+    late fault (inl e) = inl e
+    late fault (inr (inl e)) = inr (inl e)
+    late fault (inr (inr (inl none))) = absurd none.1
+    late fault (inr (inr (inr (inl none)))) = absurd none.1
+    late fault (inr (inr (inr (inr why)))) = inr (inr (inr (inr ((why.0, end), why.1))))
+
+    by : (r : Result X Fault) (accounts later : Accounts) → Puts Denied event told r accounts later → Puts (DeniedAtEnd Denied left) event told r accounts later
+    by (Ok x) accounts later h = h
+    by (Err fault) accounts later h = (h.0, elim h.1 [ inl hindered ↦ inl (late fault hindered) | inr refused ↦ inr refused ])
 
 -- ---- a word that is an event
 module _ (Broken Wrong : Type 0) (Denied : Fault → Type 0) (Own : Event → Type 0) where

@@ -8,7 +8,9 @@ use Rattle.sqlite.specs.State.{State, HasCleanDisk, Survives}
 use Rattle.mailstore.specs.Account.{Account, Accounts, messages_in}
 use Rattle.mailstore.specs.Promises.{HasUser, IsFree}
 use Rattle.mailstore.specs.Schema.{no_schema}
-use Rattle.mailstore.specs.Shows.{Presents}
+use Rattle.mailsinks.specs.declared.sink.SinkError.{SinkError}
+use Rattle.mailsinks.specs.declared.sink.SinkError.TheVariants as sink
+use Rattle.mailstore.specs.Shows.{Presents, Offers}
 use Rattle.sessions.specs.Acts.{Carries, CrashLeaves}
 use Rattle.mailengine.specs.declared.event.Event.TheVariants.{TakeMail}
 use Rattle.mailengine.specs.declared.answer.Answer.TheVariants.{MailTaken}
@@ -38,9 +40,13 @@ Leave user folder count accounts later = Runs (world_of accounts) (replicate cou
 abbrev pub GrowsBy : Bool → List (List ℕ) → List (List ℕ) → List (List ℕ) → Type 0
 GrowsBy tells old new messages = IsTrue tells → new ≡ old ++ messages
 
--- tables that showed accounts then show what became of them; a database without tables stays so
+-- tables of today's version show what became of accounts; or the tables are as they were, and so are the accounts
+abbrev pub LeavesTables : Database → Database → Accounts → Accounts → Type 0
+LeavesTables old new accounts later = Presents new later ⊎ ((new ≡ old) × (later ≡ accounts))
+
+-- tables that offered accounts, of whichever version, then show what became of them; a database without tables stays so
 pub record TurnsTables (Became : Accounts → Accounts → Type 0) (old new : Database) : Type 0 where
-  pub accounts : (accounts : Accounts) → Presents old accounts → (later : Accounts) × Became accounts later × Presents new later
+  pub accounts : (accounts : Accounts) → Offers old accounts → (later : Accounts) × Became accounts later × LeavesTables old new accounts later
   pub none : old.schema ≡ no_schema → new.schema ≡ no_schema
 
 -- ---- the user's folder, and a sink that grew by such messages
@@ -127,25 +133,33 @@ IsMost (Some digits) most = Writes digits most
 abbrev pub drained_line : ℕ → List ℕ
 drained_line count = with_end (codes "drained " ++ decimal count)
 
--- why a folder isn't drained to its end: no account has the name; the place for the messages is no Maildir; or the word is kept from it
-abbrev pub StopsDraining : Type 0 → (Fault → Type 0) → List ℕ → Fault → Accounts → Type 0
-StopsDraining Wrong Denied user fault accounts =
-    IsHindered (Unit {0}) Wrong Denied fault ⊎ ((fault ≡ NoMaildir) × (Wrong → ⊥)) ⊎ ((fault ≡ no_user) × IsFree user accounts × (Wrong → ⊥))
+-- a sink refused a call so: what is so of one that did is so of some sink
+abbrev pub HasRefused : {T : Type 0} → (T → SinkError → Type 0) → SinkError → Type 0
+HasRefused refuses error = (asked : _) × refuses asked error
+
+-- a sink refused a call
+abbrev pub IsUnkept : (SinkError → Type 0) → Type 0
+IsUnkept Sunk = (error : SinkError) × Sunk error
+
+-- why a folder isn't drained to its end: no account has the name; the place for the messages is no Maildir; or the word is kept from it, by the sink too
+abbrev pub StopsDraining : (SinkError → Type 0) → Type 0 → (Fault → Type 0) → List ℕ → Fault → Accounts → Type 0
+StopsDraining Sunk Wrong Denied user fault accounts =
+    IsHindered (IsUnkept Sunk) Wrong Denied fault ⊎ ((fault ≡ NoMaildir) × Sunk sink.NoMaildir × (Wrong → ⊥)) ⊎ ((fault ≡ no_user) × IsFree user accounts × (Wrong → ⊥))
 
 -- over tables: a store of theirs was drained, and where it wasn't to its end the cause is told
-abbrev pub MovesTables : (Fault → Type 0) → Drain → Bool → List (List ℕ) → List (List ℕ) → ℕ → Result ℕ Fault → Database → Database → Type 0
-MovesTables Denied asked tells had has most result =
-    TurnsTables (λ accounts later. Drained asked.user.now asked.folder.now (GrowsBy tells had has) most result accounts later × IfErr result (λ fault. StopsDraining ⊥ Denied asked.user.now fault accounts))
+abbrev pub MovesTables : (SinkError → Type 0) → (Fault → Type 0) → Drain → Bool → List (List ℕ) → List (List ℕ) → ℕ → Result ℕ Fault → Database → Database → Type 0
+MovesTables Sunk Denied asked tells had has most result =
+    TurnsTables (λ accounts later. Drained asked.user.now asked.folder.now (GrowsBy tells had has) most result accounts later × IfErr result (λ fault. StopsDraining Sunk ⊥ Denied asked.user.now fault accounts))
 
--- after Ok the word did what it was asked for, and printed how many messages moved; after a fault those that moved stay so, a front of that is
--- printed, and the cause is told
-abbrev pub WordDrained : (Fault → Type 0) → Drain → (List (List ℕ) → Type 0) → Option (List ℕ) → Option (List ℕ) → Result (Unit {0}) Fault → Accounts → Accounts → Type 0
-WordDrained Denied asked Grew old new (Ok done) accounts later =
+-- after Ok the word did what it was asked for, and printed how many messages moved; after a fault those that moved stay so, and nothing is printed, and
+-- the cause is told; or that line wasn't printed whole
+abbrev pub WordDrained : (SinkError → Type 0) → (Fault → Type 0) → Drain → (List (List ℕ) → Type 0) → Option (List ℕ) → Option (List ℕ) → Result (Unit {0}) Fault → Accounts → Accounts → Type 0
+WordDrained Sunk Denied asked Grew old new (Ok done) accounts later =
     (most : ℕ) × (count : ℕ) × IsMost (option_copied asked.most) most × Drained asked.user.now asked.folder.now Grew most (Ok count) accounts later × Appends old new (drained_line count)
-WordDrained Denied asked Grew old new (Err fault) accounts later =
+WordDrained Sunk Denied asked Grew old new (Err fault) accounts later =
     (most : ℕ) × (IsMost (option_copied asked.most) most ⊎ (most ≡ 0)) × (broke : BrokeOff asked.user.now asked.folder.now Grew most fault accounts later)
-    × (Keeps old new ⊎ IsCutOff fault old new (drained_line broke.0)) × StopsDraining (HasNoNumber (option_copied asked.most)) Denied asked.user.now fault accounts
+    × ((Keeps old new × StopsDraining Sunk (HasNoNumber (option_copied asked.most)) Denied asked.user.now fault accounts) ⊎ IsCutOff fault old new (drained_line broke.0))
 
 -- and over tables
-abbrev pub HasDrained : (Fault → Type 0) → Drain → Bool → List (List ℕ) → List (List ℕ) → Option (List ℕ) → Option (List ℕ) → Result (Unit {0}) Fault → Database → Database → Type 0
-HasDrained Denied asked tells had has old new result = TurnsTables (WordDrained Denied asked (GrowsBy tells had has) old new result)
+abbrev pub HasDrained : (SinkError → Type 0) → (Fault → Type 0) → Drain → Bool → List (List ℕ) → List (List ℕ) → Option (List ℕ) → Option (List ℕ) → Result (Unit {0}) Fault → Database → Database → Type 0
+HasDrained Sunk Denied asked tells had has old new result = TurnsTables (WordDrained Sunk Denied asked (GrowsBy tells had has) old new result)

@@ -3,8 +3,8 @@ use Rattle.std.specs.Prelude.{◌≡◌, ◌⊎◌, ℕ, List, [], ◌∷◌, �
 use Rattle.std.specs.Io.KnownBytes.{Keeps}
 use Rattle.mailstore.specs.declared.refusal.Refusal.{Refusal}
 use Rattle.mailstore.specs.declared.refusal.Refusal.TheVariants as refusal
-use Rattle.keepers.specs.declared.keeper.Held.{Held}
-use Rattle.keepers.specs.declared.keeper.Held.TheVariants as held
+use Rattle.keepers.specs.declared.keeper.Unavailable.{Unavailable}
+use Rattle.keepers.specs.declared.keeper.Unavailable.TheVariants as denial
 use Rattle.mailsinks.specs.declared.sink.SinkError.{SinkError}
 use Rattle.mailsinks.specs.declared.sink.SinkError.TheVariants as sink
 use Rattle.sievedrun.specs.Streams.{IsCut, IsTold}
@@ -66,15 +66,15 @@ abbrev pub no_user : Fault
 no_user = Refused refusal.NoUser
 
 -- the fault that it is where no store is given out
-abbrev pub fault_held : Held → Fault
-fault_held held.Busy = Busy
-fault_held (held.Refused cause) = Refused cause
+abbrev pub denial_fault : Unavailable → Fault
+denial_fault denial.Busy = Busy
+denial_fault (denial.Refused cause) = Refused cause
 
 -- the fault that it is where a message can't be kept
-abbrev pub fault_sunk : SinkError → Fault
-fault_sunk sink.Memory = memory
-fault_sunk sink.NoMaildir = NoMaildir
-fault_sunk sink.Failed = Stream
+abbrev pub sink_fault : SinkError → Fault
+sink_fault sink.Memory = memory
+sink_fault sink.NoMaildir = NoMaildir
+sink_fault sink.Failed = Stream
 
 -- what a failure to read or to write, or lack of memory, is told as
 abbrev pub IsFailure : Fault → Type 0
@@ -86,9 +86,9 @@ IsUnanswered no_input (Refused refusal.Memory) = Unit {0}
 IsUnanswered no_input BadInput = no_input
 IsUnanswered no_input _ = ⊥
 
--- it comes without a cause that is seen: memory was refused, the store failed, a read or a write failed, or the clock
-abbrev pub IsSudden : Fault → Type 0
-IsSudden fault = (fault ≡ memory) ⊎ (fault ≡ store_failed) ⊎ (fault ≡ Stream)
+-- another try may help then: memory was refused, the store failed, or something else broke, which is told as a read or a write that failed
+abbrev pub IsSudden : Type 0 → Fault → Type 0
+IsSudden Broken fault = (fault ≡ memory) ⊎ (fault ≡ store_failed) ⊎ ((fault ≡ Stream) × Broken)
 
 -- what keeps any word from its work: memory was refused, or the store failed; what is read for it broke; a value in the words is wrong, and only this is
 -- told as bad argument; or the store was denied, which is told as it was, and only where no value is wrong

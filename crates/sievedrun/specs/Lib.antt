@@ -4,6 +4,6 @@ pub mod Framing
 pub mod Promise
 pub mod Serving
 pub mod Streams
-pub mod Trial
+pub mod TryScript
 pub mod Values
 pub mod Words

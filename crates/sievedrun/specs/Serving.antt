@@ -13,9 +13,9 @@ use Rattle.sessions.specs.GivenUp.{text_given_up, client_given_up}
 use Rattle.sessions.specs.Refusing.{WasRefused}
 use Rattle.sessions.specs.Replies.{capabilities}
 use Rattle.sessions.specs.Steps.{IsStep}
-use Rattle.keepers.specs.declared.keeper.Held.{Held}
+use Rattle.keepers.specs.declared.keeper.Unavailable.{Unavailable}
 use Rattle.sievedrun.specs.declared.fault.Fault.{Fault}
-use Rattle.sievedrun.specs.Faults.{fault_held}
+use Rattle.sievedrun.specs.Faults.{denial_fault}
 use Rattle.sievedrun.specs.Streams.{AppendsFront}
 
 -- a piece of the client's octets has at most that many
@@ -38,20 +38,25 @@ pub record Hears (accounts : Accounts) (c : Client) (r : Round) : Type 0 where
   pub joins : r.client ≡ client_given r.came c
   pub same : r.accounts ≡ accounts
 
--- what comes first was answered by a step
-pub record Steps (accounts : Accounts) (c : Client) (r : Round) : Type 0 where
+-- a step is answered so whatever the accounts are, and changes none: it asks no store
+abbrev pub AsksNothing : Client → List ℕ → Client → Type 0
+AsksNothing c said d = (progress : Progress) × ((accounts : Accounts) → IsStep accounts c progress said d accounts)
+
+-- what comes first was answered by a step, over a store that was given where it asks one
+pub record Steps (Given : Type 0) (accounts : Accounts) (c : Client) (r : Round) : Type 0 where
   pub ready : is_ready c ≡ true
   pub none : r.came ≡ []
   pub progress : Progress
   pub step : IsStep accounts c progress r.said r.client r.accounts
+  pub reach : AsksNothing c r.said r.client ⊎ Given
 
 -- a keeper refused the lock, which wasn't out, or its store at this path: what is so of one that did is so of some keeper
-abbrev pub IsDenied : {K : Type 0} → (K → List ℕ → Held → Type 0) → List ℕ → Type 0
-IsDenied refuses path = (keeper : _) × (held : Held) × refuses keeper path held
+abbrev pub IsDenied : {K : Type 0} → (K → List ℕ → Unavailable → Type 0) → List ℕ → Type 0
+IsDenied refuses path = (keeper : _) × (denial : Unavailable) × refuses keeper path denial
 
 -- the same, and this fault tells why
-abbrev pub HasDenied : {K : Type 0} → (K → List ℕ → Held → Type 0) → List ℕ → Fault → Type 0
-HasDenied refuses path fault = (keeper : _) × (held : Held) × refuses keeper path held × (fault ≡ fault_held held)
+abbrev pub HasDenied : {K : Type 0} → (K → List ℕ → Unavailable → Type 0) → List ℕ → Fault → Type 0
+HasDenied refuses path fault = (keeper : _) × (denial : Unavailable) × refuses keeper path denial × (fault ≡ denial_fault denial)
 
 -- a keeper gave its store out at this path
 abbrev pub HasGiven : {K : Type 0} → (K → List ℕ → Type 0) → List ℕ → Type 0
@@ -70,13 +75,13 @@ pub record GivesUp (Denied : Type 0) (accounts : Accounts) (c : Client) (r : Rou
   pub drops : r.client ≡ client_given_up c
   pub same : r.accounts ≡ accounts
 
-abbrev pub IsRound : Type 0 → Accounts → Client → Round → Type 0
-IsRound Denied accounts c r = Hears accounts c r ⊎ (Steps accounts c r ⊎ GivesUp Denied accounts c r)
+abbrev pub IsRound : Type 0 → Type 0 → Accounts → Client → Round → Type 0
+IsRound Denied Given accounts c r = Hears accounts c r ⊎ (Steps Given accounts c r ⊎ GivesUp Denied accounts c r)
 
 -- rounds in turn lead from accounts and a client to these
-abbrev pub Leads : Type 0 → Accounts → Client → List Round → Accounts → Client → Type 0
-Leads Denied accounts c [] later d = (later ≡ accounts) × (d ≡ c)
-Leads Denied accounts c (r ∷ rounds) later d = IsRound Denied accounts c r × Leads Denied r.accounts r.client rounds later d
+abbrev pub Leads : Type 0 → Type 0 → Accounts → Client → List Round → Accounts → Client → Type 0
+Leads Denied Given accounts c [] later d = (later ≡ accounts) × (d ≡ c)
+Leads Denied Given accounts c (r ∷ rounds) later d = IsRound Denied Given accounts c r × Leads Denied Given r.accounts r.client rounds later d
 
 -- all that came in the rounds, and all that was said
 abbrev pub came_in : List Round → List ℕ
@@ -91,96 +96,97 @@ BeginsWith None text = Unit {0}
 BeginsWith (Some left) text = (rest : List ℕ) × (left ≡ text ++ rest)
 
 -- rounds lead from accounts and a client to these, and the accounts are shown so
-pub record Passes (Denied : Type 0) (accounts : Accounts) (c : Client) (rounds : List Round) (d : Client) (Shown : Accounts → Type 0) : Type 0 where
+pub record Passes (Denied Given : Type 0) (accounts : Accounts) (c : Client) (rounds : List Round) (d : Client) (Shown : Accounts → Type 0) : Type 0 where
   pub later : Accounts
-  pub leads : Leads Denied accounts c rounds later d
+  pub leads : Leads Denied Given accounts c rounds later d
   pub shown : Shown later
 
 -- rounds in which nothing came led here: what waits to be written grew by what was said
-pub record Answered (Denied : Type 0) (accounts : Accounts) (c : Client) (waited waits : List ℕ) (d : Client) (Shown : Accounts → Type 0) : Type 0 where
+pub record Answered (Denied Given : Type 0) (accounts : Accounts) (c : Client) (waited waits : List ℕ) (d : Client) (Shown : Accounts → Type 0) : Type 0 where
   pub rounds : List Round
-  pub passes : Passes Denied accounts c rounds d Shown
+  pub passes : Passes Denied Given accounts c rounds d Shown
   pub none : came_in rounds ≡ []
   pub joins : waits ≡ waited ++ said_in rounds
 
 -- rounds in which nothing came led here, the tables offer the accounts, and what was said is written
-pub record Writes (Denied : Type 0) (accounts : Accounts) (c : Client) (out_old out_new : Option (List ℕ)) (d : Client) (new : Database) : Type 0 where
+pub record Writes (Denied Given : Type 0) (accounts : Accounts) (c : Client) (out_old out_new : Option (List ℕ)) (d : Client) (new : Database) : Type 0 where
   pub rounds : List Round
-  pub passes : Passes Denied accounts c rounds d (Offers new)
+  pub passes : Passes Denied Given accounts c rounds d (Offers new)
   pub none : came_in rounds ≡ []
   pub written : Appends out_old out_new (said_in rounds)
 
 -- the same, where a write failed: a front is written
-pub record Interrupted (Denied : Type 0) (accounts : Accounts) (c : Client) (out_old out_new : Option (List ℕ)) (new : Database) : Type 0 where
+pub record Interrupted (Denied Given : Type 0) (accounts : Accounts) (c : Client) (out_old out_new : Option (List ℕ)) (new : Database) : Type 0 where
   pub rounds : List Round
   pub client : Client
-  pub passes : Passes Denied accounts c rounds client (Offers new)
+  pub passes : Passes Denied Given accounts c rounds client (Offers new)
   pub none : came_in rounds ≡ []
   pub written : AppendsFront out_old out_new (said_in rounds)
 
 -- what comes first was answered and written, or a write failed
-abbrev pub WritesFirst : Type 0 → Accounts → Client → Option (List ℕ) → Option (List ℕ) → Client → Database → Result (Unit {0}) Fault → Type 0
-WritesFirst Denied accounts c out_old out_new d new (Ok done) = Writes Denied accounts c out_old out_new d new
-WritesFirst Denied accounts c out_old out_new d new (Err fault) = Interrupted Denied accounts c out_old out_new new
+abbrev pub WritesFirst : Type 0 → Type 0 → Accounts → Client → Option (List ℕ) → Option (List ℕ) → Client → Database → Result (Unit {0}) Fault → Type 0
+WritesFirst Denied Given accounts c out_old out_new d new (Ok done) = Writes Denied Given accounts c out_old out_new d new
+WritesFirst Denied Given accounts c out_old out_new d new (Err fault) = Interrupted Denied Given accounts c out_old out_new new
 
 -- all that is whole was answered and written, or a write failed
-abbrev pub WritesAll : Type 0 → Accounts → Client → Option (List ℕ) → Option (List ℕ) → Client → Database → Result (Unit {0}) Fault → Type 0
-WritesAll Denied accounts c out_old out_new d new (Ok done) = Writes Denied accounts c out_old out_new d new × (is_ready d ≡ false)
-WritesAll Denied accounts c out_old out_new d new (Err fault) = Interrupted Denied accounts c out_old out_new new
+abbrev pub WritesAll : Type 0 → Type 0 → Accounts → Client → Option (List ℕ) → Option (List ℕ) → Client → Database → Result (Unit {0}) Fault → Type 0
+WritesAll Denied Given accounts c out_old out_new d new (Ok done) = Writes Denied Given accounts c out_old out_new d new × (is_ready d ≡ false)
+WritesAll Denied Given accounts c out_old out_new d new (Err fault) = Interrupted Denied Given accounts c out_old out_new new
 
 -- what is seen: what an open store sees, or else what is held
-abbrev pub seen : {X : Type 0} → (X → Database) → Database → Option X → Database
-seen sees held None = held
-seen sees held (Some store) = sees store
+abbrev pub database_seen : {X : Type 0} → (X → Database) → Database → Option X → Database
+database_seen sees held None = held
+database_seen sees held (Some store) = sees store
 
--- what is seen shows accounts: an open store presents them, or else what is held offers them
-abbrev pub AreSeen : {X : Type 0} → (X → Database) → Database → Option X → Accounts → Type 0
-AreSeen sees held None = Offers held
-AreSeen sees held (Some store) = Presents (sees store)
+-- what is seen shows accounts: an open store, which was given, presents them, or else what is held offers them
+abbrev pub AreSeen : {X : Type 0} → Type 0 → (X → Database) → Database → Option X → Accounts → Type 0
+AreSeen Given sees held None accounts = Offers held accounts
+AreSeen Given sees held (Some store) accounts = Given × Presents (sees store) accounts
 
--- an open store presents whatever accounts were seen
-abbrev pub PresentsSeen : (Accounts → Type 0) → Database → Type 0
-PresentsSeen Seen now = (accounts : Accounts) → Seen accounts → Presents now accounts
+-- an open store was given, and presents whatever accounts were seen
+abbrev pub PresentsSeen : Type 0 → (Accounts → Type 0) → Database → Type 0
+PresentsSeen Given Seen now = (accounts : Accounts) → Seen accounts → Given × Presents now accounts
 
--- a step was made of the session, whose answer waits after what waited; or nothing changed
-abbrev pub StepsOn : Accounts → Client → List ℕ → List ℕ → Client → (Accounts → Type 0) → Bool → Type 0
-StepsOn accounts c waited waits d Shown true = (progress : Progress) × (octets : List ℕ) × (later : Accounts) × (waits ≡ waited ++ octets) × IsStep accounts c progress octets d later × Shown later
-StepsOn accounts c waited waits d Shown false = (d ≡ c) × (waits ≡ waited) × Shown accounts
+-- a step was made of the session, over a store that was given where it asks one, and its answer waits after what waited; or nothing changed
+abbrev pub StepsOn : Type 0 → Accounts → Client → List ℕ → List ℕ → Client → (Accounts → Type 0) → Bool → Type 0
+StepsOn Given accounts c waited waits d Shown true =
+    (progress : Progress) × (octets : List ℕ) × (later : Accounts) × (waits ≡ waited ++ octets) × IsStep accounts c progress octets d later × Shown later × (AsksNothing c octets d ⊎ Given)
+StepsOn Given accounts c waited waits d Shown false = (d ≡ c) × (waits ≡ waited) × Shown accounts
 
 -- a session led here from the greeting on: all that came was read and all that was said is written, and nothing that came is left to be answered
-pub record Served (Denied : Type 0) (accounts : Accounts) (in_old in_new out_old out_new : Option (List ℕ)) (c : Client) (new : Database) : Type 0 where
+pub record Served (Denied Given : Type 0) (accounts : Accounts) (in_old in_new out_old out_new : Option (List ℕ)) (c : Client) (new : Database) : Type 0 where
   pub rounds : List Round
-  pub passes : Passes Denied accounts new_client rounds c (Offers new)
+  pub passes : Passes Denied Given accounts new_client rounds c (Offers new)
   pub read : Consumes in_old in_new (came_in rounds)
   pub written : Appends out_old out_new (spelled (capabilities None) ++ said_in rounds)
   pub answered : is_ready c ≡ false
 
 -- the session ended: it is closed, or the input is at its end
-pub record Ends (Denied : Type 0) (accounts : Accounts) (in_old in_new out_old out_new : Option (List ℕ)) (new : Database) : Type 0 where
+pub record Ends (Denied Given : Type 0) (accounts : Accounts) (in_old in_new out_old out_new : Option (List ℕ)) (new : Database) : Type 0 where
   pub client : Client
-  pub served : Served Denied accounts in_old in_new out_old out_new client new
+  pub served : Served Denied Given accounts in_old in_new out_old out_new client new
   pub over : (client.closed ≡ true) ⊎ IsAtEnd in_new
 
 -- the session broke off, for want of memory, or by a read or a write that failed: a front of what was said is written
-pub record BreaksOff (Denied : Type 0) (accounts : Accounts) (in_old out_old out_new : Option (List ℕ)) (new : Database) : Type 0 where
+pub record BreaksOff (Denied Given : Type 0) (accounts : Accounts) (in_old out_old out_new : Option (List ℕ)) (new : Database) : Type 0 where
   pub rounds : List Round
   pub client : Client
-  pub passes : Passes Denied accounts new_client rounds client (Offers new)
+  pub passes : Passes Denied Given accounts new_client rounds client (Offers new)
   pub read : BeginsWith in_old (came_in rounds)
   pub written : AppendsFront out_old out_new (spelled (capabilities None) ++ said_in rounds)
 
 -- one whole session over accounts
-abbrev pub Converses : Type 0 → Accounts → Option (List ℕ) → Option (List ℕ) → Option (List ℕ) → Option (List ℕ) → Database → Result (Unit {0}) Fault → Type 0
-Converses Denied accounts in_old in_new out_old out_new new (Ok done) = Ends Denied accounts in_old in_new out_old out_new new
-Converses Denied accounts in_old in_new out_old out_new new (Err fault) = BreaksOff Denied accounts in_old out_old out_new new
+abbrev pub Converses : Type 0 → Type 0 → Accounts → Option (List ℕ) → Option (List ℕ) → Option (List ℕ) → Option (List ℕ) → Database → Result (Unit {0}) Fault → Type 0
+Converses Denied Given accounts in_old in_new out_old out_new new (Ok done) = Ends Denied Given accounts in_old in_new out_old out_new new
+Converses Denied Given accounts in_old in_new out_old out_new new (Err fault) = BreaksOff Denied Given accounts in_old out_old out_new new
 
 -- the same of tables: accounts that they offered were served; a database without tables stays so
-pub record Serves (Denied : Type 0) (in_old in_new out_old out_new : Option (List ℕ)) (old new : Database) (result : Result (Unit {0}) Fault) : Type 0 where
-  pub talks : (accounts : Accounts) → Offers old accounts → Converses Denied accounts in_old in_new out_old out_new new result
+pub record Serves (Denied Given : Type 0) (in_old in_new out_old out_new : Option (List ℕ)) (old new : Database) (result : Result (Unit {0}) Fault) : Type 0 where
+  pub talks : (accounts : Accounts) → Offers old accounts → Converses Denied Given accounts in_old in_new out_old out_new new result
   pub none : old.schema ≡ no_schema → new.schema ≡ no_schema
 
 -- the same of a reader, a writer and a keeper, by what is still to be read of the one, what was written to the other, and the tables of the third, which
--- says by `refuses` that it refused the lock or the store at the path
-abbrev pub ServesBy : {A B C : Type 0} → (A → Option (List ℕ)) → A → A → (B → Option (List ℕ)) → B → B → (C → List ℕ → Held → Type 0) → List ℕ → (C → Database) → C → C → Result (Unit {0}) Fault → Type 0
-ServesBy remaining in_old in_new contents out_old out_new refuses path holds old new result =
-    Serves (IsDenied refuses path) (remaining in_old) (remaining in_new) (contents out_old) (contents out_new) (holds old) (holds new) result
+-- says by `refuses` that it refused the lock or the store at the path, and by `gives` that it gave the store out there
+abbrev pub ServesBy : {A B C : Type 0} → (A → Option (List ℕ)) → A → A → (B → Option (List ℕ)) → B → B → (C → List ℕ → Unavailable → Type 0) → (C → List ℕ → Type 0) → List ℕ → (C → Database) → C → C → Result (Unit {0}) Fault → Type 0
+ServesBy remaining in_old in_new contents out_old out_new refuses gives path holds old new result =
+    Serves (IsDenied refuses path) (HasGiven gives path) (remaining in_old) (remaining in_new) (contents out_old) (contents out_new) (holds old) (holds new) result

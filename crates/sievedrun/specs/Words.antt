@@ -2,12 +2,13 @@
 use Prim.Native.Nat.{zero}
 use Rattle.std.specs.Prelude.{◌≡◌, ◌≢◌, ◌⊎◌, ℕ, suc, Bool, true, false, List, [], ◌++◌, codes, decimal, map, slice_get, Option, Some, None, option_copied, Result, Ok, Err, OnOk}
 use Rattle.std.specs.FinMap.{entries}
-use Rattle.std.specs.Io.KnownBytes.{Appends, Keeps}
+use Rattle.std.specs.Io.KnownBytes.{Appends, IsAtEnd, Keeps}
 use Rattle.std.specs.List.{flat_map}
 use Rattle.octets.specs.Decimal.{Writes}
 use Rattle.maildirs.specs.Directory.{directory}
 use Rattle.maildirs.specs.declared.separator.Separator.{Separator}
 use Rattle.sqlite.specs.Effect.{Database}
+use Rattle.mailsinks.specs.declared.sink.SinkError.{SinkError}
 use Rattle.mailstore.specs.Account.{Account, Accounts, no_accounts, messages_in, row_with}
 use Rattle.mailstore.specs.HeadRows.{head_of}
 use Rattle.mailstore.specs.Promises.{IsFree, OfUser}
@@ -36,7 +37,7 @@ use Rattle.sievedrun.specs.Draining.{GrowsBy, TurnsTables, HasDrained}
 use Rattle.sievedrun.specs.Faults.{no_user, status_of, line_of, troubles, AreTold, IsCutOff, IsHindered}
 use Rattle.sievedrun.specs.Promise.{first_line, world_of, status_after}
 use Rattle.sievedrun.specs.Streams.{ReadsAll, AppendsSome, InputFailed, IsWritten}
-use Rattle.sievedrun.specs.Trial.{Runs}
+use Rattle.sievedrun.specs.TryScript.{Runs}
 use Rattle.sievedrun.specs.Values.{IsNoNumber, HasNoNumber, WritesSalt, IsNoSalt, IsMoment, IsSeparator, HasNoSeparator, envelope_with}
 use Rattle.sievedrun.specs.declared.fault.Fault.{Fault}
 use Rattle.sievedrun.specs.declared.fault.Fault.TheVariants.{Refused, NoMessage, BadArgument}
@@ -220,18 +221,23 @@ DoesQueue Denied out_old out_new user (Some digits) result = DoesRead (IsNoNumbe
 abbrev pub PostFailed : Option (List ℕ) → Option ℕ → Type 0
 PostFailed at clock = InputFailed ⊎ ((at ≡ None) × (clock ≡ None))
 
--- whoever denies the store at a path, the clock, what was read, whether a sink tells what it keeps and what that was and is, and the output before and after
-module _ (Denied : List ℕ → Fault → Type 0) (clock : Option ℕ) (given : Option (List ℕ)) (tells : Bool) (had has : List (List ℕ)) (out_old out_new : Option (List ℕ)) where
+-- the store was denied once all of the input was read
+abbrev pub DeniedAtEnd : (Fault → Type 0) → Option (List ℕ) → Fault → Type 0
+DeniedAtEnd Denied left fault = Denied fault × IsAtEnd left
+
+-- whoever denies the store at a path, why a sink refused, the clock, what was to be read and what is left of it, whether a sink tells what it keeps and
+-- what that was and is, and the output before and after
+module _ (Denied : List ℕ → Fault → Type 0) (Sunk : SinkError → Type 0) (clock : Option ℕ) (given left : Option (List ℕ)) (tells : Bool) (had has : List (List ℕ)) (out_old out_new : Option (List ℕ)) where
   -- each word does its own work; only `init` makes a store, and only `drain` moves messages into the sink
   abbrev pub Does : Subcommand → Result (Unit {0}) Fault → Database → Database → Type 0
   Does (word.Init a) result old new = GrowsBy tells had has [] × DoesInit (Denied a.location.path.now) out_old out_new result old new
   Does (word.AddUser a) result old new =
-      GrowsBy tells had has [] × DoesEvent InputFailed (IsNoSalt a.salt.now) (Denied a.location.path.now) (Adds a.salt.now a.name.now a.address.now given) out_old out_new result old new
+      GrowsBy tells had has [] × DoesEvent InputFailed (IsNoSalt a.salt.now) (DeniedAtEnd (Denied a.location.path.now) left) (Adds a.salt.now a.name.now a.address.now given) out_old out_new result old new
   Does (word.Deliver a) result old new =
       GrowsBy tells had has []
-      × DoesEvent (PostFailed (option_copied a.at) clock) (HasNoNumber (option_copied a.at)) (Denied a.location.path.now) (Posts a.from.now a.to.now (option_copied a.at) a.user.now clock given) out_old out_new result old new
+      × DoesEvent (PostFailed (option_copied a.at) clock) (HasNoNumber (option_copied a.at)) (DeniedAtEnd (Denied a.location.path.now) left) (Posts a.from.now a.to.now (option_copied a.at) a.user.now clock given) out_old out_new result old new
   Does (word.Done a) result old new = GrowsBy tells had has [] × DoesEvent ⊥ (IsNoNumber a.id.now) (Denied a.location.path.now) (Dequeues a.user.now a.id.now) out_old out_new result old new
-  Does (word.Drain a) result old new = HasDrained (Denied a.location.path.now) a tells had has out_old out_new result old new
+  Does (word.Drain a) result old new = HasDrained Sunk (Denied a.location.path.now) a tells had has out_old out_new result old new
   Does (word.Folders a) result old new = GrowsBy tells had has [] × DoesFolders (Denied a.location.path.now) out_old out_new a.user.now a.directories (option_copied a.separator) result old new
   Does (word.Show a) result old new =
       GrowsBy tells had has [] × DoesRead (IsNoNumber a.number.now) (Denied a.location.path.now) a.user.now (ShowsMessage a.folder.now a.number.now) (LacksMessage a.folder.now a.number.now) out_old out_new result old new
@@ -311,11 +317,11 @@ pub record Works (Did : Result (Unit {0}) Fault → Type 0) (Reached : Type 0) (
   pub did : Did ending
   pub reached : OnOk ending Reached
 
-module _ (Denied : List ℕ → Fault → Type 0) (Given At : List ℕ → Type 0) (clock : Option ℕ) (given : Option (List ℕ)) (tells : Bool) (had has : List (List ℕ)) (out_old out_new err_old err_new : Option (List ℕ)) (status : ℕ) (old new : Database) where
+module _ (Denied : List ℕ → Fault → Type 0) (Sunk : SinkError → Type 0) (Given At : List ℕ → Type 0) (clock : Option ℕ) (given left : Option (List ℕ)) (tells : Bool) (had has : List (List ℕ)) (out_old out_new err_old err_new : Option (List ℕ)) (status : ℕ) (old new : Database) where
   -- what comes of words that were read so: a script was tried; a word did its work; or the words ask for nothing, which is told
   abbrev pub RunsAs : Result Subcommand ReadError → Type 0
   RunsAs (Ok (word.Try a)) = Runs (envelope_with a.from.now a.to.now) given out_old out_new err_old err_new status × Untouched tells had has old new
-  RunsAs (Ok asked) = Works (λ ending. Does Denied clock given tells had has out_old out_new asked ending old new) (Reaches Given At asked) err_old err_new status
+  RunsAs (Ok asked) = Works (λ ending. Does Denied Sunk clock given left tells had has out_old out_new asked ending old new) (Reaches Given At asked) err_old err_new status
   RunsAs (Err error) = IsUnread error out_old out_new err_old err_new status × Untouched tells had has old new
 
   -- a run of the program with these words

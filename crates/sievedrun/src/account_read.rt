@@ -7,7 +7,7 @@ ghost use Rattle.sievedrun.specs.Draining.{TurnsTables};
 ghost use Rattle.sievedrun.specs.Serving.{HasDenied, HasGiven};
 ghost use Rattle.sievedrun.specs.Words.{FindsIn};
 
-use crate::commands::taken;
+use crate::commands::take_store;
 use crate::fault::Fault;
 use keepers::Keeper;
 use maildirs::Separator;
@@ -166,7 +166,7 @@ pub fn read_once<Q: AccountRead, K: Keeper>(
         (K.holds keeper.old) (K.holds keeper.new) }
     ensures given { OnOk result (HasGiven K.gives location.entry.path.now) }
 {
-    let mut store = taken(location, false, keeper)?;
+    let mut store = take_store(location, false, keeper)?;
     let found = wanted.read(&mut store);
     keeper.hand_back(store);
     Ok(found?)

@@ -5,7 +5,7 @@ ghost use Rattle.sieveexec.specs.Runs.{outcome_view};
 ghost use Rattle.sievedrun.specs.declared.answer.Answer.TheVariants.{Report};
 ghost use Rattle.sievedrun.specs.Faults.{IsUnanswered, memory};
 ghost use Rattle.sievedrun.specs.Framing.{IsFramed};
-ghost use Rattle.sievedrun.specs.Trial.{Answers, IsNoInput, text_in};
+ghost use Rattle.sievedrun.specs.TryScript.{Answers, IsNoInput, text_in};
 
 use crate::fault::Fault;
 use crate::framing;

@@ -12,7 +12,7 @@ ghost use Rattle.sievedrun.specs.Promise.{status_after};
 ghost use Rattle.sievedrun.specs.Serving.{HasDenied, HasGiven};
 ghost use Rattle.sievedrun.specs.Streams.{InputFailed};
 ghost use Rattle.sievedrun.specs.Values.{IsNoNumber, HasNoNumber, IsNoSalt};
-ghost use Rattle.sievedrun.specs.Words.{Adds, Posts, PostFailed, Puts, DoesEvent, DoesRead, DoesInit, ShowsMessage, LacksMessage};
+ghost use Rattle.sievedrun.specs.Words.{Adds, Posts, PostFailed, DeniedAtEnd, Puts, DoesEvent, DoesRead, DoesInit, ShowsMessage, LacksMessage};
 
 use crate::account_read::{MessageOf, read_once};
 use crate::fault::Fault;
@@ -38,7 +38,7 @@ pub fn run_init<W: Write, K: Keeper>(
         (K.holds keeper.old) (K.holds keeper.new) }
     ensures given { OnOk result (HasGiven K.gives asked.entry.location.path.now) }
 {
-    let store = taken(asked.location, true, keeper)?;
+    let store = take_store(asked.location, true, keeper)?;
     keeper.hand_back(store);
     write_all(output, b"ready\n")
 }
@@ -53,7 +53,8 @@ pub fn run_adduser<R: Read, W: Write, K: Keeper>(
 ) -> Result<(), Fault>
     ensures unread { status_after result ≡ 64 → input.new ≡ input.old }
     ensures back { K.is_out keeper.old ≡ false → K.is_out keeper.new ≡ false }
-    ensures does { IsTrue K.tells → DoesEvent InputFailed (IsNoSalt asked.entry.salt.now) (HasDenied K.refuses asked.entry.location.path.now)
+    ensures does { IsTrue K.tells → DoesEvent InputFailed (IsNoSalt asked.entry.salt.now)
+        (DeniedAtEnd (HasDenied K.refuses asked.entry.location.path.now) (R.remaining input.new))
         (Adds asked.entry.salt.now asked.entry.name.now asked.entry.address.now (R.remaining input.old))
         (W.contents output.old) (W.contents output.new) result (K.holds keeper.old) (K.holds keeper.new) }
     ensures given { OnOk result (HasGiven K.gives asked.entry.location.path.now) }
@@ -90,7 +91,7 @@ fn add<K: Keeper>(
         (Puts (HasDenied K.refuses location.entry.path.now) (machine.AddUser name.now address.now salt password.now) (λ done. Added) result) (K.holds keeper.old) (K.holds keeper.new) }
     ensures given { OnOk result (HasGiven K.gives location.entry.path.now) }
 {
-    let mut store = taken(location, false, keeper)?;
+    let mut store = take_store(location, false, keeper)?;
     let added = add_user(alloc, &mut store, name, address, salt, password);
     keeper.hand_back(store);
     Ok(added?)
@@ -120,7 +121,7 @@ pub fn run_deliver<R: Read, W: Write, K: Keeper>(
     ensures unread { status_after result ≡ 64 → input.new ≡ input.old }
     ensures back { K.is_out keeper.old ≡ false → K.is_out keeper.new ≡ false }
     ensures does { IsTrue K.tells → DoesEvent (PostFailed (option_copied asked.entry.at) clock) (HasNoNumber (option_copied asked.entry.at))
-        (HasDenied K.refuses asked.entry.location.path.now)
+        (DeniedAtEnd (HasDenied K.refuses asked.entry.location.path.now) (R.remaining input.new))
         (Posts asked.entry.from.now asked.entry.to.now (option_copied asked.entry.at) asked.entry.user.now clock (R.remaining input.old))
         (W.contents output.old) (W.contents output.new) result (K.holds keeper.old) (K.holds keeper.new) }
     ensures given { OnOk result (HasGiven K.gives asked.entry.location.path.now) }
@@ -156,7 +157,7 @@ fn post<K: Keeper>(
         (Puts (HasDenied K.refuses location.entry.path.now) (machine.Deliver user.now envelope message.now moment) Delivered result) (K.holds keeper.old) (K.holds keeper.new) }
     ensures given { OnOk result (HasGiven K.gives location.entry.path.now) }
 {
-    let mut store = taken(location, false, keeper)?;
+    let mut store = take_store(location, false, keeper)?;
     let delivered = deliver(alloc, &mut store, user, envelope, message, moment);
     keeper.hand_back(store);
     Ok(delivered?)
@@ -191,7 +192,7 @@ pub fn run_show<W: Write, K: Keeper>(
 }
 
 /// The store at a place: the one that is there, or with `fresh` a new one.
-pub fn taken<K: Keeper>(
+pub fn take_store<K: Keeper>(
     location: StoreLocation<'_>,
     fresh: bool,
     keeper: &mut K,

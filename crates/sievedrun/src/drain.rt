@@ -1,13 +1,13 @@
 //! The word on what leaves a folder: its messages go into a sink, and then out of the store.
 ghost use Rattle.std.specs.Prelude.{◌≡◌, ◌⊎◌, ℕ, List, false, IfErr, IfOk, OnOk, IsTrue, option_copied};
 ghost use Rattle.sqlite.specs.Held.{state};
-ghost use Rattle.sievedrun.specs.Draining.{IsMost, MovesFirst, MovesAll, Drains, MovesTables, HasDrained};
+ghost use Rattle.sievedrun.specs.Draining.{IsMost, MovesFirst, MovesAll, Drains, MovesTables, HasDrained, HasRefused, IsUnkept};
 ghost use Rattle.sievedrun.specs.Draining as draining;
-ghost use Rattle.sievedrun.specs.Faults.{no_user, IsSudden};
+ghost use Rattle.sievedrun.specs.Faults.{no_user, IsFailure, IsSudden};
 ghost use Rattle.sievedrun.specs.Serving.{HasDenied, HasGiven};
 ghost use Rattle.sievedrun.specs.Values.{HasNoNumber};
 
-use crate::commands::taken;
+use crate::commands::take_store;
 use crate::fault::Fault;
 use crate::stream::write_all;
 use crate::values::decimal;
@@ -31,8 +31,8 @@ pub fn run_drain<W: Write, K: Keeper, T: MailSink>(
     sink: &mut T,
 ) -> Result<(), Fault>
     ensures back { K.is_out keeper.old ≡ false → K.is_out keeper.new ≡ false }
-    ensures drains { IsTrue K.tells → HasDrained (HasDenied K.refuses asked.entry.location.path.now) asked.entry T.tells (T.kept sink.old) (T.kept sink.new)
-        (W.contents output.old) (W.contents output.new) result (K.holds keeper.old) (K.holds keeper.new) }
+    ensures drains { IsTrue K.tells → HasDrained (HasRefused T.refuses) (HasDenied K.refuses asked.entry.location.path.now) asked.entry
+        T.tells (T.kept sink.old) (T.kept sink.new) (W.contents output.old) (W.contents output.new) result (K.holds keeper.old) (K.holds keeper.new) }
     ensures given { OnOk result (HasGiven K.gives asked.entry.location.path.now) }
     ensures placed { OnOk result (T.is_at sink.new asked.entry.maildir.now) }
 {
@@ -64,14 +64,14 @@ fn drain_store<K: Keeper, T: MailSink>(
     sink: &mut T,
 ) -> Result<u64, Fault>
     ensures back { K.is_out keeper.old ≡ false → K.is_out keeper.new ≡ false }
-    ensures moves { IsTrue K.tells → MovesTables (HasDenied K.refuses asked.entry.location.path.now) asked.entry T.tells (T.kept sink.old) (T.kept sink.new) most result
-        (K.holds keeper.old) (K.holds keeper.new) }
+    ensures moves { IsTrue K.tells → MovesTables (HasRefused T.refuses) (HasDenied K.refuses asked.entry.location.path.now) asked.entry
+        T.tells (T.kept sink.old) (T.kept sink.new) most result (K.holds keeper.old) (K.holds keeper.new) }
     ensures given { OnOk result (HasGiven K.gives asked.entry.location.path.now) }
     ensures stays { (path : List ℕ) → T.is_at sink.old path → T.is_at sink.new path }
 {
     let user = asked.user.as_bytes();
     let folder = asked.folder.as_bytes();
-    let mut store = taken(asked.location, false, keeper)?;
+    let mut store = take_store(asked.location, false, keeper)?;
     let drained = drain(&mut store, user, folder, most, sink);
     keeper.hand_back(store);
     drained
@@ -100,7 +100,7 @@ fn move_first<S: Alter, T: MailSink>(
 ) -> Result<bool, Fault>
     ensures moves { MovesFirst user.now folder.now T.tells (T.kept sink.old) (T.kept sink.new) result (state S.Store store.old) (state S.Store store.new) }
     ensures stays { (path : List ℕ) → T.is_at sink.old path → T.is_at sink.new path }
-    ensures fault { IfErr result IsSudden }
+    ensures fault { IfErr result (IsSudden (IsUnkept (HasRefused T.refuses))) }
 {
     let first = match first_message(store, user, folder) {
         Ok(first) => first,
@@ -110,7 +110,7 @@ fn move_first<S: Alter, T: MailSink>(
         return Ok(false);
     };
     if let Err(error) = sink.keep(user, folder, first.number, first.message.as_slice()) {
-        return Err(unkept(error));
+        return Err(sink_failure(error));
     }
     match store.take_mail(user, folder) {
         Ok(()) => Ok(true),
@@ -120,7 +120,7 @@ fn move_first<S: Alter, T: MailSink>(
 
 /// Why the folder of a user who was there a moment ago can't be read.
 fn failure_of(refusal: Refusal) -> Fault
-    ensures { IsSudden result }
+    ensures { IsSudden ⊥ result }
 {
     match refusal {
         Refusal::Memory => Fault::Refused(Refusal::Memory),
@@ -128,9 +128,9 @@ fn failure_of(refusal: Refusal) -> Fault
     }
 }
 
-/// Why a message isn't kept in a place that was taken.
-fn unkept(error: SinkError) -> Fault
-    ensures { IsSudden result }
+/// Why a message isn't kept by a sink that is open.
+fn sink_failure(error: SinkError) -> Fault
+    ensures { IsFailure result }
 {
     match error {
         SinkError::Memory => Fault::Refused(Refusal::Memory),
@@ -149,7 +149,7 @@ fn move_all<S: Alter, T: MailSink>(
 ) -> Result<u64, Fault>
     ensures moves { MovesAll user.now folder.now T.tells (T.kept sink.old) (T.kept sink.new) most result (state S.Store store.old) (state S.Store store.new) }
     ensures stays { (path : List ℕ) → T.is_at sink.old path → T.is_at sink.new path }
-    ensures fault { IfErr result IsSudden }
+    ensures fault { IfErr result (IsSudden (IsUnkept (HasRefused T.refuses))) }
 {
     for moved in 0..most {
         if !move_first(store, user, folder, sink)? {
@@ -175,7 +175,7 @@ fn drain<S: Alter, T: MailSink>(
 ) -> Result<u64, Fault>
     ensures moves { Drains user.now folder.now T.tells (T.kept sink.old) (T.kept sink.new) most result (state S.Store store.old) (state S.Store store.new) }
     ensures stays { (path : List ℕ) → T.is_at sink.old path → T.is_at sink.new path }
-    ensures fault { IfErr result (λ fault. IsSudden fault ⊎ (fault ≡ no_user)) }
+    ensures fault { IfErr result (λ fault. IsSudden (IsUnkept (HasRefused T.refuses)) fault ⊎ (fault ≡ no_user)) }
 {
     let Some(_account) = store.account(user)? else {
         return Err(Fault::Refused(Refusal::NoUser));

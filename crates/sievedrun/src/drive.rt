@@ -1,10 +1,11 @@
 //! A run of the program: the words, and what comes of them.
 ghost use Rattle.std.specs.Prelude.{◌≡◌, false, None, IsTrue, IfSome, OnOk};
+ghost use Rattle.sievedrun.specs.Draining.{HasRefused};
 ghost use Rattle.sievedrun.specs.Faults.{status_of, line_of, troubles, AreTold};
 ghost use Rattle.sievedrun.specs.Promise.{status_after};
 ghost use Rattle.sievedrun.specs.Serving.{HasDenied, HasGiven};
 ghost use Rattle.sievedrun.specs.Streams.{IsTold};
-ghost use Rattle.sievedrun.specs.Trial.{Runs};
+ghost use Rattle.sievedrun.specs.TryScript.{Runs};
 ghost use Rattle.sievedrun.specs.Values.{envelope_with};
 ghost use Rattle.sievedrun.specs.Words.{Does, IsSaid, IsUnread, Reaches, RunsWords};
 
@@ -14,12 +15,13 @@ use crate::fault::{Fault, refuse};
 use crate::listing::{run_folders, run_notices};
 use crate::queue::{run_done, run_queue};
 use crate::stream::write_all;
-use crate::trial::try_run;
 use crate::trouble::Trouble;
+use crate::try_script::try_run;
 use crate::values::envelope_of;
 use clap::Error;
 use clap::error::ErrorKind;
 use keepers::Keeper;
+use keepers::cause::of_file;
 use mailsinks::MailSink;
 use mailstore::Refusal;
 use sievedwords::{CommandLine, ReadError, Subcommand, Try, read};
@@ -31,56 +33,56 @@ use std::io::{Read, Write};
 const USAGE: u8 = 64;
 
 /// Does what the words after the program's name ask for, and answers the exit status. The message, the password or the
-/// script is read from the input, the answer is written to the output, and what goes wrong to the faults.
+/// script is read from the input, the answer is written to the output, and what goes wrong to the errors.
 ///
 /// `clock` is the moment in seconds since 1970, where the clock could be read. Where words or values are wrong nothing is
 /// read. The store is taken at most once, and handed back before the answer is written. Messages that leave it go into the
 /// sink.
-pub fn drive<R: Read, W: Write, F: Write, K: Keeper, T: MailSink>(
+pub fn drive<R: Read, W: Write, E: Write, K: Keeper, T: MailSink>(
     alloc: Global,
     words: &CommandLine,
     input: &mut R,
     output: &mut W,
-    faults: &mut F,
+    errors: &mut E,
     keeper: &mut K,
     clock: Option<u64>,
     sink: &mut T,
 ) -> u8
     ensures unread { result ≡ 64 → input.new ≡ input.old }
     ensures back { K.is_out keeper.old ≡ false → K.is_out keeper.new ≡ false }
-    ensures runs { IsTrue K.tells → RunsWords (HasDenied K.refuses) (HasGiven K.gives) (T.is_at sink.new) clock (R.remaining input.old) T.tells (T.kept sink.old)
-        (T.kept sink.new) (W.contents output.old) (W.contents output.new) (F.contents faults.old) (F.contents faults.new) result
-        (K.holds keeper.old) (K.holds keeper.new) words.now }
+    ensures runs { IsTrue K.tells → RunsWords (HasDenied K.refuses) (HasRefused T.refuses) (HasGiven K.gives) (T.is_at sink.new) clock
+        (R.remaining input.old) (R.remaining input.new) T.tells (T.kept sink.old) (T.kept sink.new) (W.contents output.old) (W.contents output.new)
+        (E.contents errors.old) (E.contents errors.new) result (K.holds keeper.old) (K.holds keeper.new) words.now }
     ensures asked { K.unclosed keeper.old ≡ None → K.unclosed keeper.new ≡ None }
 {
     let asked = match read(alloc, words) {
         Ok(asked) => asked,
-        Err(error) => return tell_unread(alloc, error, output, faults),
+        Err(error) => return tell_unread(alloc, error, output, errors),
     };
     match asked {
-        Subcommand::Try(asked) => try_mail(alloc, asked, input, output, faults),
+        Subcommand::Try(asked) => try_script(alloc, asked, input, output, errors),
         _ => {
             let done = act(alloc, asked, input, output, keeper, clock, sink);
-            conclude(done, faults, keeper, sink)
+            conclude(done, errors, keeper, sink)
         }
     }
 }
 
 /// Tries a script on a message that comes with this envelope, and answers the exit status.
-fn try_mail<R: Read, W: Write, F: Write>(
+fn try_script<R: Read, W: Write, E: Write>(
     alloc: Global,
     asked: Try<'_>,
     input: &mut R,
     output: &mut W,
-    faults: &mut F,
+    errors: &mut E,
 ) -> u8
     ensures unread { result ≡ 64 → input.new ≡ input.old }
     ensures runs { Runs (envelope_with asked.entry.from.now asked.entry.to.now) (R.remaining input.old) (W.contents output.old) (W.contents output.new)
-        (F.contents faults.old) (F.contents faults.new) result }
+        (E.contents errors.old) (E.contents errors.new) result }
 {
     match envelope_of(alloc, asked.from, asked.to) {
-        Ok(envelope) => try_run(alloc, envelope, input, output, faults),
-        Err(_) => refuse(faults, Fault::Refused(Refusal::Memory)),
+        Ok(envelope) => try_run(alloc, envelope, input, output, errors),
+        Err(_) => refuse(errors, Fault::Refused(Refusal::Memory)),
     }
 }
 
@@ -96,8 +98,9 @@ fn act<R: Read, W: Write, K: Keeper, T: MailSink>(
 ) -> Result<(), Fault>
     ensures unread { status_after result ≡ 64 → input.new ≡ input.old }
     ensures back { K.is_out keeper.old ≡ false → K.is_out keeper.new ≡ false }
-    ensures does { IsTrue K.tells → Does (HasDenied K.refuses) clock (R.remaining input.old) T.tells (T.kept sink.old) (T.kept sink.new)
-        (W.contents output.old) (W.contents output.new) asked.entry result (K.holds keeper.old) (K.holds keeper.new) }
+    ensures does { IsTrue K.tells → Does (HasDenied K.refuses) (HasRefused T.refuses) clock (R.remaining input.old) (R.remaining input.new)
+        T.tells (T.kept sink.old) (T.kept sink.new) (W.contents output.old) (W.contents output.new) asked.entry result
+        (K.holds keeper.old) (K.holds keeper.new) }
     ensures reaches { OnOk result (Reaches (HasGiven K.gives) (T.is_at sink.new) asked.entry) }
 {
     match asked {
@@ -118,14 +121,14 @@ fn act<R: Read, W: Write, K: Keeper, T: MailSink>(
 
 /// The status of what was done in a store, or of the fault. Told are: why the store couldn't be closed, and the fault, each
 /// with what the keeper or the sink knows of it. That a call was refused because the store failed tells of both.
-fn conclude<F: Write, K: Keeper, T: MailSink>(
+fn conclude<E: Write, K: Keeper, T: MailSink>(
     done: Result<(), Fault>,
-    faults: &mut F,
+    errors: &mut E,
     keeper: &mut K,
     sink: &T,
 ) -> u8
     ensures status { result ≡ status_after done }
-    ensures told { AreTold (F.contents faults.old) (F.contents faults.new) (troubles (K.unclosed keeper.old) done) }
+    ensures told { AreTold (E.contents errors.old) (E.contents errors.new) (troubles (K.unclosed keeper.old) done) }
     ensures asked { K.unclosed keeper.new ≡ None }
     ensures same { IsTrue K.tells → K.holds keeper.new ≡ K.holds keeper.old }
     ensures kept { K.is_out keeper.new ≡ K.is_out keeper.old }
@@ -133,85 +136,85 @@ fn conclude<F: Write, K: Keeper, T: MailSink>(
     let unclosed = keeper.take_close_error();
     match done {
         Ok(()) => {
-            tell_unclosed(faults, unclosed, keeper);
+            tell_unclosed(errors, unclosed, keeper);
             0
         }
         Err(fault) => {
             if fault.is_store_failure() {
-                return tell_fault(faults, fault, keeper, sink);
+                return tell_fault(errors, fault, keeper, sink);
             }
-            tell_unclosed(faults, unclosed, keeper);
-            tell_fault(faults, fault, keeper, sink)
+            tell_unclosed(errors, unclosed, keeper);
+            tell_fault(errors, fault, keeper, sink)
         }
     }
 }
 
 /// Tells why the store couldn't be closed, where it couldn't.
-fn tell_unclosed<F: Write, K: Keeper>(faults: &mut F, unclosed: Option<Refusal>, keeper: &K)
-    ensures some { IfSome unclosed (λ refusal. IsTold (F.contents faults.old) (F.contents faults.new) (line_of (Fault.Refused refusal))) }
-    ensures none { unclosed ≡ None → F.contents faults.new ≡ F.contents faults.old }
+fn tell_unclosed<E: Write, K: Keeper>(errors: &mut E, unclosed: Option<Refusal>, keeper: &K)
+    ensures some { IfSome unclosed (λ refusal. IsTold (E.contents errors.old) (E.contents errors.new) (line_of (Fault.Refused refusal))) }
+    ensures none { unclosed ≡ None → E.contents errors.new ≡ E.contents errors.old }
 {
     if let Some(refusal) = unclosed {
-        Trouble::of_store(Fault::Refused(refusal), keeper).tell(faults);
+        Trouble::of_store(Fault::Refused(refusal), keeper).tell(errors);
     }
 }
 
 /// Tells of a fault, with what the keeper or the sink knows of it, and gives its status.
-fn tell_fault<F: Write, K: Keeper, T: MailSink>(
-    faults: &mut F,
+fn tell_fault<E: Write, K: Keeper, T: MailSink>(
+    errors: &mut E,
     fault: Fault,
     keeper: &K,
     sink: &T,
 ) -> u8
     ensures status { result ≡ status_of fault }
-    ensures line { IsTold (F.contents faults.old) (F.contents faults.new) (line_of fault) }
+    ensures line { IsTold (E.contents errors.old) (E.contents errors.new) (line_of fault) }
 {
     let trouble = match fault {
         Fault::Stream | Fault::NoMaildir => Trouble {
             fault,
-            cause: sink.cause(),
+            cause: sink.cause().and_then(of_file),
         },
         _ => Trouble::of_store(fault, keeper),
     };
-    trouble.tell(faults);
+    trouble.tell(errors);
     fault.status()
 }
 
 /// Tells why words ask for nothing.
-fn tell_unread<W: Write, F: Write>(
+fn tell_unread<W: Write, E: Write>(
     alloc: Global,
     error: ReadError,
     output: &mut W,
-    faults: &mut F,
+    errors: &mut E,
 ) -> u8
-    ensures { IsUnread error (W.contents output.old) (W.contents output.new) (F.contents faults.old) (F.contents faults.new) result }
+    ensures { IsUnread error (W.contents output.old) (W.contents output.new) (E.contents errors.old) (E.contents errors.new) result }
 {
     match error {
-        ReadError::Said(error) => tell(alloc, &error, output, faults),
-        ReadError::NotText | ReadError::Unknown => refuse(faults, Fault::BadArgument),
+        ReadError::Said(error) => tell(alloc, &error, output, errors),
+        ReadError::NotText | ReadError::Unknown => refuse(errors, Fault::BadArgument),
     }
 }
 
-/// Tells what `clap` has to say: of wrong words on the faults, of help and version on the output.
-fn tell<W: Write, F: Write>(alloc: Global, error: &Error, output: &mut W, faults: &mut F) -> u8
-    ensures { IsSaid error.now (W.contents output.old) (W.contents output.new) (F.contents faults.old) (F.contents faults.new) result }
+/// Tells what `clap` has to say: of wrong words on the errors, of help and version on the output.
+fn tell<W: Write, E: Write>(alloc: Global, error: &Error, output: &mut W, errors: &mut E) -> u8
+    ensures { IsSaid error.now (W.contents output.old) (W.contents output.new) (E.contents errors.old) (E.contents errors.new) result }
 {
     if error.kind() == ErrorKind::OutOfMemory {
-        return refuse(faults, Fault::Refused(Refusal::Memory));
+        return refuse(errors, Fault::Refused(Refusal::Memory));
     }
-    let Ok(text) = shown(alloc, error) else {
-        return refuse(faults, Fault::Refused(Refusal::Memory));
+    let Ok(text) = text_of(alloc, error) else {
+        return refuse(errors, Fault::Refused(Refusal::Memory));
     };
     if error.use_stderr() {
-        let _ = write_all(faults, text.as_bytes());
+        let _ = write_all(errors, text.as_bytes());
         return USAGE;
     }
     match write_all(output, text.as_bytes()) {
         Ok(()) => 0,
-        Err(fault) => refuse(faults, fault),
+        Err(fault) => refuse(errors, fault),
     }
 }
 
-fn shown(alloc: Global, error: &Error) -> Result<String, AllocError> {
+fn text_of(alloc: Global, error: &Error) -> Result<String, AllocError> {
     Ok(format!(in alloc; "{error}")?)
 }

@@ -5,7 +5,7 @@ ghost use Rattle.sievedrun.specs.declared.fault.Fault.TheVariants.{Refused};
 ghost use Rattle.sievedrun.specs.Streams.{IsWritten};
 
 use crate::stream;
-use keepers::Held;
+use keepers::Unavailable;
 use mailsinks::SinkError;
 use mailstore::Refusal;
 use std::alloc::AllocError;
@@ -116,25 +116,25 @@ impl From<Refusal> for Fault {
     }
 }
 
-impl From<Held> for Fault {
+impl From<Unavailable> for Fault {
     ghost use Rattle.std.specs.Prelude.{◌≡◌};
-    ghost use Rattle.sievedrun.specs.Faults.{fault_held};
+    ghost use Rattle.sievedrun.specs.Faults.{denial_fault};
 
-    ghost from_gives = { λ held fault. fault ≡ fault_held held };
+    ghost from_gives = { λ denial fault. fault ≡ denial_fault denial };
 
-    fn from(held: Held) -> Fault {
-        match held {
-            Held::Busy => Fault::Busy,
-            Held::Refused(refusal) => Fault::Refused(refusal),
+    fn from(denial: Unavailable) -> Fault {
+        match denial {
+            Unavailable::Busy => Fault::Busy,
+            Unavailable::Refused(refusal) => Fault::Refused(refusal),
         }
     }
 }
 
 impl From<SinkError> for Fault {
     ghost use Rattle.std.specs.Prelude.{◌≡◌};
-    ghost use Rattle.sievedrun.specs.Faults.{fault_sunk};
+    ghost use Rattle.sievedrun.specs.Faults.{sink_fault};
 
-    ghost from_gives = { λ error fault. fault ≡ fault_sunk error };
+    ghost from_gives = { λ error fault. fault ≡ sink_fault error };
 
     fn from(error: SinkError) -> Fault {
         match error {
@@ -146,10 +146,10 @@ impl From<SinkError> for Fault {
 }
 
 /// Tells of a fault, and gives its exit status. Where that can't be written the status alone tells.
-pub fn refuse<F: Write>(faults: &mut F, fault: Fault) -> u8
+pub fn refuse<E: Write>(errors: &mut E, fault: Fault) -> u8
     ensures status { result ≡ status_of fault }
-    ensures line { IsWritten (F.contents faults.old) (F.contents faults.new) (line_of fault) }
+    ensures line { IsWritten (E.contents errors.old) (E.contents errors.new) (line_of fault) }
 {
-    let _ = stream::write_all(faults, fault.line());
+    let _ = stream::write_all(errors, fault.line());
     fault.status()
 }

@@ -26,7 +26,7 @@ pub fn split(input: &[u8]) -> Option<Framed<'_>>
         (script ≡ f.script.now) × (message ≡ f.message.now)) }
     ensures none { IfNone result ((script message : List ℕ) → IsFramed input.now script message → ⊥) }
 {
-    let (count, rest) = counted(input)?;
+    let (count, rest) = split_count(input)?;
     if count > rest.len() as u64 {
         return None;
     }
@@ -35,7 +35,7 @@ pub fn split(input: &[u8]) -> Option<Framed<'_>>
 }
 
 /// The number in the first line, and what follows that line.
-fn counted(input: &[u8]) -> Option<(u64, &[u8])>
+fn split_count(input: &[u8]) -> Option<(u64, &[u8])>
     ensures { MatchOption result ((number : ℕ) (rest : List ℕ) → Counts input.now number rest → ⊥)
         (λ r. Counts input.now r.0 r.1.now) }
 {

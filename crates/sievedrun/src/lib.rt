@@ -12,6 +12,6 @@ mod listing;
 mod queue;
 pub mod session;
 mod stream;
-pub mod trial;
 mod trouble;
+pub mod try_script;
 pub mod values;

@@ -10,7 +10,7 @@ ghost use Rattle.sievedrun.specs.Values.{IsNoNumber};
 ghost use Rattle.sievedrun.specs.Words.{Dequeues, Puts, DoesEvent, DoesQueue, DoesRead, ShowsOutgoing, LacksOutgoing};
 
 use crate::account_read::{OutgoingOf, QueueOf, read_once};
-use crate::commands::taken;
+use crate::commands::take_store;
 use crate::fault::Fault;
 use crate::listing::run_listing;
 use crate::stream::write_all;
@@ -75,7 +75,7 @@ pub fn run_done<W: Write, K: Keeper>(
     ensures given { OnOk result (HasGiven K.gives asked.entry.location.path.now) }
 {
     let id = decimal(asked.id)?;
-    let line = taken_line(alloc, id)?;
+    let line = done_line(alloc, id)?;
     dequeue(asked.location, asked.user.as_bytes(), id, keeper)?;
     write_all(output, line.as_slice())
 }
@@ -93,13 +93,13 @@ fn dequeue<K: Keeper>(
         (Puts (HasDenied K.refuses location.entry.path.now) (TakeOut user.now id) Taken result) (K.holds keeper.old) (K.holds keeper.new) }
     ensures given { OnOk result (HasGiven K.gives location.entry.path.now) }
 {
-    let mut store = taken(location, false, keeper)?;
+    let mut store = take_store(location, false, keeper)?;
     let row = take_out(&mut store, user, id);
     keeper.hand_back(store);
     Ok(row?)
 }
 
-fn taken_line(alloc: Global, id: u64) -> Result<Octets, AllocError>
+fn done_line(alloc: Global, id: u64) -> Result<Octets, AllocError>
     ensures { IfOk result (λ line. line ≡ with_end (codes "taken " ++ decimal id)) }
 {
     let mut line = Octets::from_slice(alloc, b"taken ")?;

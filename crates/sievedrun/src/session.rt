@@ -1,6 +1,6 @@
 //! One client's session over a reader and a writer, and a store that is taken for the commands that came together.
 ghost use Rattle.std.specs.Prelude.{◌≡◌, ◌≢◌, ℕ, List, Option, Some, None, Result, is_ok, is_some, false, true, IsTrue, IfOk, IfErr, IfSome, OnOk, OnErr};
-ghost use Rattle.keepers.specs.declared.keeper.Held.TheVariants.{Busy};
+ghost use Rattle.keepers.specs.declared.keeper.Unavailable.TheVariants.{Busy};
 ghost use Rattle.sqlite.specs.Held.{state};
 ghost use Rattle.mailstore.specs.Account.{Accounts};
 ghost use Rattle.mailstore.specs.Schema.{no_schema};
@@ -12,13 +12,13 @@ ghost use Rattle.sievedrun.specs.declared.fault.Fault.{Fault};
 ghost use Rattle.sievedrun.specs.declared.fault.Fault.TheVariants.{Stream};
 ghost use Rattle.sievedrun.specs.Faults.{IsFailure};
 ghost use Rattle.sievedrun.specs.Promise.{status_after};
-ghost use Rattle.sievedrun.specs.Serving.{Answered, AreSeen, Converses, IsDenied, Hinders, PresentsSeen, Served};
-ghost use Rattle.sievedrun.specs.Serving.{ServesBy, StepsOn, WritesAll, WritesFirst, seen};
+ghost use Rattle.sievedrun.specs.Serving.{Answered, AreSeen, Converses, HasGiven, IsDenied, Hinders, PresentsSeen, Served};
+ghost use Rattle.sievedrun.specs.Serving.{ServesBy, StepsOn, WritesAll, WritesFirst, database_seen};
 
 use crate::fault::{Fault, refuse};
 use crate::stream::{MAX_READS, read_at, write_all};
 use crate::trouble::{FirstTrouble, Trouble};
-use keepers::{Held, Keeper};
+use keepers::{Keeper, Unavailable};
 use mailstore::{Refusal, Store};
 use octets::Octets;
 use sessions::{Order, Session, Stepped};
@@ -54,70 +54,73 @@ pub fn serve_one<R: Read, W: Write, K: Keeper>(
 ) -> Result<(), Fault>
     ensures back { K.is_out keeper.old ≡ false → K.is_out keeper.new ≡ false }
     ensures serves { IsTrue K.tells → K.is_out keeper.old ≡ false
-        → ServesBy R.remaining input.old input.new W.contents output.old output.new K.refuses path.now K.holds keeper.old keeper.new result }
+        → ServesBy R.remaining input.old input.new W.contents output.old output.new K.refuses K.gives path.now K.holds keeper.old keeper.new result }
     ensures fault { IfErr result IsFailure }
 {
-    let mut faults = io::sink();
-    serve_client(alloc, path, input, output, &mut faults, keeper)
+    let mut errors = io::sink();
+    serve_client(alloc, path, input, output, &mut errors, keeper)
 }
 
-/// Serves one client as `serve_one` does, with the same errors. The first trouble with the store is told on the faults: why it
+/// Serves one client as `serve_one` does, with the same errors. The first trouble with the store is told on the errors: why it
 /// can't be had, refused a step or couldn't be closed. That another process has it is no trouble, and passes.
-pub fn serve_client<R: Read, W: Write, F: Write, K: Keeper>(
+pub fn serve_client<R: Read, W: Write, E: Write, K: Keeper>(
     alloc: Global,
     path: &str,
     input: &mut R,
     output: &mut W,
-    faults: &mut F,
+    errors: &mut E,
     keeper: &mut K,
 ) -> Result<(), Fault>
     ensures back { K.is_out keeper.old ≡ false → K.is_out keeper.new ≡ false }
     ensures serves { IsTrue K.tells → K.is_out keeper.old ≡ false
-        → ServesBy R.remaining input.old input.new W.contents output.old output.new K.refuses path.now K.holds keeper.old keeper.new result }
+        → ServesBy R.remaining input.old input.new W.contents output.old output.new K.refuses K.gives path.now K.holds keeper.old keeper.new result }
     ensures fault { IfErr result IsFailure }
 {
     let mut greeting = Octets::new(alloc);
     let mut session = Session::new(alloc, &mut greeting)?;
     write_all(output, greeting.as_slice())?;
-    converse(alloc, &mut session, path, input, output, faults, keeper)
+    converse(alloc, &mut session, path, input, output, errors, keeper)
 }
 
-/// `session`: serves one client, and answers the exit status. What goes wrong is told on the faults.
-pub fn run_session<R: Read, W: Write, F: Write, K: Keeper>(
+/// `session`: serves one client, and answers the exit status. What goes wrong is told on the errors.
+pub fn run_session<R: Read, W: Write, E: Write, K: Keeper>(
     alloc: Global,
     location: StoreLocation<'_>,
     input: &mut R,
     output: &mut W,
-    faults: &mut F,
+    errors: &mut E,
     keeper: &mut K,
 ) -> u8
     ensures back { K.is_out keeper.old ≡ false → K.is_out keeper.new ≡ false }
     ensures serves { IsTrue K.tells → K.is_out keeper.old ≡ false → (ending : Result (Unit {0}) Fault) × (result ≡ status_after ending) × IfErr ending IsFailure
-        × ServesBy R.remaining input.old input.new W.contents output.old output.new K.refuses location.entry.path.now K.holds keeper.old keeper.new ending }
+        × ServesBy R.remaining input.old input.new W.contents output.old output.new K.refuses K.gives location.entry.path.now K.holds keeper.old keeper.new
+        ending }
 {
     keeper.wait_for_lock(location.waits);
-    match serve_client(alloc, location.path, input, output, faults, keeper) {
+    match serve_client(alloc, location.path, input, output, errors, keeper) {
         Ok(()) => 0,
-        Err(fault) => refuse(faults, fault),
+        Err(fault) => refuse(errors, fault),
     }
 }
 
 /// Serves a client that was greeted, piece by piece.
-fn converse<R: Read, W: Write, F: Write, K: Keeper>(
+fn converse<R: Read, W: Write, E: Write, K: Keeper>(
     alloc: Global,
     session: &mut Session,
     path: &str,
     input: &mut R,
     output: &mut W,
-    faults: &mut F,
+    errors: &mut E,
     keeper: &mut K,
 ) -> Result<(), Fault>
     requires { session.old.client.closed ≡ false }
     ensures back { K.is_out keeper.old ≡ false → K.is_out keeper.new ≡ false }
     ensures serves { IsTrue K.tells → K.is_out keeper.old ≡ false → (accounts : Accounts) (first_in first_out : Option (List ℕ))
-        → Served (IsDenied K.refuses path.now) accounts first_in (R.remaining input.old) first_out (W.contents output.old) session.old.client
+        → Served (IsDenied K.refuses path.now) (HasGiven K.gives path.now) accounts first_in (R.remaining input.old) first_out
+        (W.contents output.old) session.old.client
         (K.holds keeper.old)
-        → Converses (IsDenied K.refuses path.now) accounts first_in (R.remaining input.new) first_out (W.contents output.new) (K.holds keeper.new) result }
+        → Converses (IsDenied K.refuses path.now) (HasGiven K.gives path.now) accounts first_in (R.remaining input.new) first_out
+        (W.contents output.new) (K.holds keeper.new) result }
     ensures none { IsTrue K.tells → (K.holds keeper.old).schema ≡ no_schema → (K.holds keeper.new).schema ≡ no_schema }
     ensures fault { IfErr result IsFailure }
 {
@@ -129,7 +132,7 @@ fn converse<R: Read, W: Write, F: Write, K: Keeper>(
         };
         session.give(&piece[..len])?;
         let answered = answer_all(alloc, session, path, output, &mut trouble, keeper);
-        trouble.tell(faults);
+        trouble.tell(errors);
         answered?;
         let is_over = session.is_closed();
         if is_over {
@@ -150,7 +153,8 @@ fn answer_all<W: Write, K: Keeper>(
 ) -> Result<(), Fault>
     ensures back { K.is_out keeper.old ≡ false → K.is_out keeper.new ≡ false }
     ensures answers { IsTrue K.tells → K.is_out keeper.old ≡ false → (accounts : Accounts) → Offers (K.holds keeper.old) accounts
-        → WritesAll (IsDenied K.refuses path.now) accounts session.old.client (W.contents output.old) (W.contents output.new) session.new.client
+        → WritesAll (IsDenied K.refuses path.now) (HasGiven K.gives path.now) accounts session.old.client (W.contents output.old)
+        (W.contents output.new) session.new.client
         (K.holds keeper.new) result }
     ensures none { IsTrue K.tells → (K.holds keeper.old).schema ≡ no_schema → (K.holds keeper.new).schema ≡ no_schema }
     ensures fault { IfErr result (λ fault. fault ≡ Stream) }
@@ -177,7 +181,8 @@ fn answer_some<W: Write, K: Keeper>(
     requires { is_ready session.old.client ≡ true }
     ensures back { K.is_out keeper.old ≡ false → K.is_out keeper.new ≡ false }
     ensures answers { IsTrue K.tells → K.is_out keeper.old ≡ false → (accounts : Accounts) → Offers (K.holds keeper.old) accounts
-        → WritesFirst (IsDenied K.refuses path.now) accounts session.old.client (W.contents output.old) (W.contents output.new) session.new.client
+        → WritesFirst (IsDenied K.refuses path.now) (HasGiven K.gives path.now) accounts session.old.client (W.contents output.old)
+        (W.contents output.new) session.new.client
         (K.holds keeper.new) result }
     ensures none { IsTrue K.tells → (K.holds keeper.old).schema ≡ no_schema → (K.holds keeper.new).schema ≡ no_schema }
     ensures fault { IfErr result (λ fault. fault ≡ Stream) }
@@ -203,14 +208,15 @@ fn answer_under_lock<K: Keeper>(
     requires { is_ready session.old.client ≡ true }
     ensures back { K.is_out keeper.old ≡ false → K.is_out keeper.new ≡ false }
     ensures answers { IsTrue K.tells → (accounts : Accounts) → Offers (K.holds keeper.old) accounts
-        → Answered (IsDenied K.refuses path.now) accounts session.old.client answers.old answers.new session.new.client (Offers (K.holds keeper.new)) }
+        → Answered (IsDenied K.refuses path.now) (HasGiven K.gives path.now) accounts session.old.client answers.old answers.new session.new.client
+        (Offers (K.holds keeper.new)) }
     ensures stopped { result ≡ false → is_ready session.new.client ≡ true }
     ensures cause { result ≡ false → K.is_out keeper.old ≡ false → Hinders (IsDenied K.refuses path.now) session.new.client }
     ensures none { IsTrue K.tells → (K.holds keeper.old).schema ≡ no_schema → (K.holds keeper.new).schema ≡ no_schema }
     ensures asked { K.unclosed keeper.old ≡ None → K.unclosed keeper.new ≡ None }
 {
-    if let Err(held) = keeper.lock(path) {
-        note_held(trouble, held, keeper);
+    if let Err(denial) = keeper.lock(path) {
+        note_denial(trouble, denial, keeper);
         return false;
     }
     let mut store = None;
@@ -221,8 +227,8 @@ fn answer_under_lock<K: Keeper>(
             note_refusal(trouble, unclosed, keeper);
             true
         }
-        Err(held) => {
-            note_held(trouble, held, keeper);
+        Err(denial) => {
+            note_denial(trouble, denial, keeper);
             false
         }
     }
@@ -231,7 +237,7 @@ fn answer_under_lock<K: Keeper>(
 /// Gives back what is out: a store with the lock, or the lock alone. Why the store couldn't be closed, if it couldn't: what was made of
 /// it stays.
 fn give_back<K: Keeper>(store: Option<Store<K::S>>, keeper: &mut K) -> Option<Refusal>
-    ensures held { IsTrue K.tells → K.holds keeper.new ≡ seen (λ s. (state K.S.Store s).now) (K.holds keeper.old) store }
+    ensures held { IsTrue K.tells → K.holds keeper.new ≡ database_seen (λ s. (state K.S.Store s).now) (K.holds keeper.old) store }
     ensures told { IfSome store (λ given. K.closes keeper.old given result) }
     ensures back { K.is_out keeper.new ≡ false }
     ensures asked { K.unclosed keeper.old ≡ None → K.unclosed keeper.new ≡ None }
@@ -256,10 +262,11 @@ fn answer_ready<K: Keeper>(
     answers: &mut Octets,
     store: &mut Option<Store<K::S>>,
     keeper: &mut K,
-) -> Result<(), Held>
-    ensures answers { IsTrue K.tells → (accounts : Accounts) → AreSeen (λ s. (state K.S.Store s).now) (K.holds keeper.old) store.old accounts
-        → Answered (IsDenied K.refuses path.now) accounts session.old.client answers.old answers.new session.new.client
-        (AreSeen (λ s. (state K.S.Store s).now) (K.holds keeper.new) store.new) }
+) -> Result<(), Unavailable>
+    ensures answers { IsTrue K.tells → (accounts : Accounts)
+        → AreSeen (HasGiven K.gives path.now) (λ s. (state K.S.Store s).now) (K.holds keeper.old) store.old accounts
+        → Answered (IsDenied K.refuses path.now) (HasGiven K.gives path.now) accounts session.old.client answers.old answers.new session.new.client
+        (AreSeen (HasGiven K.gives path.now) (λ s. (state K.S.Store s).now) (K.holds keeper.new) store.new) }
     ensures stopped { OnErr result (is_ready session.new.client ≡ true) }
     ensures cause { OnErr result (Hinders (IsDenied K.refuses path.now) session.new.client) }
     ensures none { IsTrue K.tells → (K.holds keeper.old).schema ≡ no_schema → store.old ≡ None
@@ -283,10 +290,11 @@ fn answer_first<K: Keeper>(
     answers: &mut Octets,
     store: &mut Option<Store<K::S>>,
     keeper: &mut K,
-) -> Result<(), Held>
-    ensures steps { IsTrue K.tells → (accounts : Accounts) → AreSeen (λ s. (state K.S.Store s).now) (K.holds keeper.old) store.old accounts
-        → StepsOn accounts session.old.client answers.old answers.new session.new.client
-        (AreSeen (λ s. (state K.S.Store s).now) (K.holds keeper.new) store.new) (is_ok result) }
+) -> Result<(), Unavailable>
+    ensures steps { IsTrue K.tells → (accounts : Accounts)
+        → AreSeen (HasGiven K.gives path.now) (λ s. (state K.S.Store s).now) (K.holds keeper.old) store.old accounts
+        → StepsOn (HasGiven K.gives path.now) accounts session.old.client answers.old answers.new session.new.client
+        (AreSeen (HasGiven K.gives path.now) (λ s. (state K.S.Store s).now) (K.holds keeper.new) store.new) (is_ok result) }
     ensures same { OnErr result ((session.new ≡ session.old) × (answers.new ≡ answers.old)) }
     ensures cause { OnErr result (Hinders (IsDenied K.refuses path.now) session.new.client) }
     ensures none { IsTrue K.tells → (K.holds keeper.old).schema ≡ no_schema → store.old ≡ None
@@ -298,7 +306,7 @@ fn answer_first<K: Keeper>(
         Ok(Stepped::Asks(order)) => answer_over_store(
             session, path, &order, answers, store, keeper,
         ),
-        Err(AllocError) => Err(Held::Refused(Refusal::Memory)),
+        Err(AllocError) => Err(Unavailable::Refused(Refusal::Memory)),
     }
 }
 
@@ -310,23 +318,24 @@ fn answer_over_store<K: Keeper>(
     answers: &mut Octets,
     store: &mut Option<Store<K::S>>,
     keeper: &mut K,
-) -> Result<(), Held>
+) -> Result<(), Unavailable>
     requires { Asked session.old.client order.now }
-    ensures steps { IsTrue K.tells → (accounts : Accounts) → AreSeen (λ s. (state K.S.Store s).now) (K.holds keeper.old) store.old accounts
-        → StepsOn accounts session.old.client answers.old answers.new session.new.client
-        (AreSeen (λ s. (state K.S.Store s).now) (K.holds keeper.new) store.new) (is_ok result) }
+    ensures steps { IsTrue K.tells → (accounts : Accounts)
+        → AreSeen (HasGiven K.gives path.now) (λ s. (state K.S.Store s).now) (K.holds keeper.old) store.old accounts
+        → StepsOn (HasGiven K.gives path.now) accounts session.old.client answers.old answers.new session.new.client
+        (AreSeen (HasGiven K.gives path.now) (λ s. (state K.S.Store s).now) (K.holds keeper.new) store.new) (is_ok result) }
     ensures same { OnErr result ((session.new ≡ session.old) × (answers.new ≡ answers.old)) }
     ensures cause { OnErr result (Hinders (IsDenied K.refuses path.now) session.new.client) }
     ensures none { IsTrue K.tells → (K.holds keeper.old).schema ≡ no_schema → store.old ≡ None
         → (K.holds keeper.new ≡ K.holds keeper.old) × (store.new ≡ None) }
     ensures closed { K.unclosed keeper.new ≡ K.unclosed keeper.old }
 {
-    let mut taken = open_store(path, store, keeper)?;
-    let made = session.step_asked(&mut taken, order, answers);
-    *store = Some(taken);
+    let mut opened = open_store(path, store, keeper)?;
+    let made = session.step_asked(&mut opened, order, answers);
+    *store = Some(opened);
     match made {
         Ok(_) => Ok(()),
-        Err(refusal) => Err(Held::Refused(refusal)),
+        Err(refusal) => Err(Unavailable::Refused(refusal)),
     }
 }
 
@@ -335,27 +344,28 @@ fn open_store<K: Keeper>(
     path: &str,
     store: &mut Option<Store<K::S>>,
     keeper: &mut K,
-) -> Result<Store<K::S>, Held>
-    ensures opened { IfOk result (λ taken. IsTrue K.tells
-        → PresentsSeen (AreSeen (λ s. (state K.S.Store s).now) (K.holds keeper.old) store.old) (state K.S.Store taken).now) }
+) -> Result<Store<K::S>, Unavailable>
+    ensures opened { IfOk result (λ opened. IsTrue K.tells
+        → PresentsSeen (HasGiven K.gives path.now) (AreSeen (HasGiven K.gives path.now) (λ s. (state K.S.Store s).now) (K.holds keeper.old) store.old)
+        (state K.S.Store opened).now) }
     ensures ours { OnOk result (IsTrue K.tells → store.old ≡ None → IsKnown (K.holds keeper.old)) }
     ensures refused { OnErr result ((IsTrue K.tells → K.holds keeper.new ≡ K.holds keeper.old) × (store.new ≡ store.old)) }
     ensures denied { OnErr result (IsDenied K.refuses path.now) }
     ensures closed { K.unclosed keeper.new ≡ K.unclosed keeper.old }
 {
     match store.take() {
-        Some(taken) => Ok(taken),
+        Some(opened) => Ok(opened),
         None => keeper.take(path, false),
     }
 }
 
 /// Notes why no store is given out, but for one that another process has.
-fn note_held<K: Keeper>(trouble: &mut FirstTrouble, held: Held, keeper: &K)
-    ensures busy { held ≡ Busy → trouble.new ≡ trouble.old }
-    ensures noted { held ≢ Busy → IsTrue (is_some trouble.new.trouble) }
+fn note_denial<K: Keeper>(trouble: &mut FirstTrouble, denial: Unavailable, keeper: &K)
+    ensures busy { denial ≡ Busy → trouble.new ≡ trouble.old }
+    ensures noted { denial ≢ Busy → IsTrue (is_some trouble.new.trouble) }
     ensures told { trouble.new.is_told ≡ trouble.old.is_told }
 {
-    if let Held::Refused(refusal) = held {
+    if let Unavailable::Refused(refusal) = denial {
         note_refusal(trouble, Some(refusal), keeper);
     }
 }

@@ -18,6 +18,7 @@ const PIECE: usize = 262_144;
 /// Reads to the end, in place and in large pieces, and copies nothing but where the vector grows.
 pub fn read_all<R: Read>(alloc: Global, input: &mut R) -> Result<Vec<u8>, Fault>
     ensures ok { IfOk result (λ octets. ReadsAll (R.remaining input.old) octets.items) }
+    ensures end { OnOk result (IsAtEnd (R.remaining input.new)) }
     ensures err { IfErr result IsFailure }
     ensures failed { IfErr result (λ fault. fault ≡ Fault.Stream → InputFailed) }
 {
@@ -91,7 +92,7 @@ pub fn write_all<W: Write>(output: &mut W, text: &[u8]) -> Result<(), Fault>
     let mut rest = text;
     for _ in 0..u64::MAX {
         if rest.is_empty() {
-            return flushed(output);
+            return flush(output);
         }
         let written = write_some(output, rest)?;
         rest = rest.split_at(written).1;
@@ -117,7 +118,7 @@ fn write_some<W: Write>(output: &mut W, text: &[u8]) -> Result<usize, Fault>
     }
 }
 
-fn flushed<W: Write>(output: &mut W) -> Result<(), Fault>
+fn flush<W: Write>(output: &mut W) -> Result<(), Fault>
     ensures kept { Keeps (W.contents output.old) (W.contents output.new) }
     ensures failed { OnErr result (WriteFailed (W.contents output.new)) }
     ensures fault { IfErr result (λ fault. fault ≡ Fault.Stream) }

@@ -33,31 +33,31 @@ impl Trouble {
 
     /// Tells of it, on a line, and of its cause, where that is known, on a second one. Where the first can't be written nothing
     /// more can be done.
-    pub fn tell<F: Write>(self, faults: &mut F)
-        ensures { IsTold (F.contents faults.old) (F.contents faults.new) (line_of self.fault) }
+    pub fn tell<E: Write>(self, errors: &mut E)
+        ensures { IsTold (E.contents errors.old) (E.contents errors.new) (line_of self.fault) }
     {
-        if write_all(faults, self.fault.line()).is_ok() {
-            tell_cause(faults, self.cause);
+        if write_all(errors, self.fault.line()).is_ok() {
+            tell_cause(errors, self.cause);
         }
     }
 }
 
 /// The line on a cause.
-fn tell_cause<F: Write>(faults: &mut F, cause: Option<&'static str>)
-    ensures { AppendsSome (F.contents faults.old) (F.contents faults.new) }
+fn tell_cause<E: Write>(errors: &mut E, cause: Option<&'static str>)
+    ensures { AppendsSome (E.contents errors.old) (E.contents errors.new) }
 {
     if let Some(text) = cause {
-        write_some(faults, b"sieved: ");
-        write_some(faults, text.as_bytes());
-        write_some(faults, b"\n");
+        write_some(errors, b"sieved: ");
+        write_some(errors, text.as_bytes());
+        write_some(errors, b"\n");
     }
 }
 
 /// Writes a text, or as much of it as can be written.
-fn write_some<F: Write>(faults: &mut F, text: &[u8])
-    ensures { AppendsSome (F.contents faults.old) (F.contents faults.new) }
+fn write_some<E: Write>(errors: &mut E, text: &[u8])
+    ensures { AppendsSome (E.contents errors.old) (E.contents errors.new) }
 {
-    let _ = write_all(faults, text);
+    let _ = write_all(errors, text);
 }
 
 /// The first trouble that a connection has with the store, which is told once; those after it aren't.
@@ -88,11 +88,11 @@ impl FirstTrouble {
     }
 
     /// Tells of it, where there is one that wasn't told yet.
-    pub fn tell<F: Write>(&mut self, faults: &mut F)
-        ensures once { IsTrue self.old.is_told → F.contents faults.new ≡ F.contents faults.old }
-        ensures none { self.old.trouble ≡ None → F.contents faults.new ≡ F.contents faults.old }
+    pub fn tell<E: Write>(&mut self, errors: &mut E)
+        ensures once { IsTrue self.old.is_told → E.contents errors.new ≡ E.contents errors.old }
+        ensures none { self.old.trouble ≡ None → E.contents errors.new ≡ E.contents errors.old }
         ensures tells { self.old.is_told ≡ false
-            → IfSome self.old.trouble (λ trouble. IsTold (F.contents faults.old) (F.contents faults.new) (line_of trouble.fault)) }
+            → IfSome self.old.trouble (λ trouble. IsTold (E.contents errors.old) (E.contents errors.new) (line_of trouble.fault)) }
         ensures same { self.new.trouble ≡ self.old.trouble }
         ensures told { IfSome self.old.trouble (λ trouble. IsTrue self.new.is_told) }
     {
@@ -100,7 +100,7 @@ impl FirstTrouble {
             return;
         }
         if let Some(trouble) = self.trouble {
-            trouble.tell(faults);
+            trouble.tell(errors);
             self.is_told = true;
         }
     }

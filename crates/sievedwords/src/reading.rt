@@ -30,7 +30,7 @@ pub enum ReadError {
 pub fn read<'a>(alloc: Global, words: &'a CommandLine) -> Result<Subcommand<'a>, ReadError>
     ensures { WasRead words.now result }
 {
-    let matches = match matched(alloc, words) {
+    let matches = match match_words(alloc, words) {
         Ok(matches) => matches,
         Err(error) if is_said(words, &error) => return Err(ReadError::Said(error)),
         Err(_) => return Err(ReadError::NotText),
@@ -42,7 +42,7 @@ pub fn read<'a>(alloc: Global, words: &'a CommandLine) -> Result<Subcommand<'a>,
         line: words,
         matches: found,
     };
-    let Some(word) = Word::named(name) else {
+    let Some(word) = Word::from_name(name) else {
         return Err(ReadError::Unknown);
     };
     if given.is_text_elsewhere() {
@@ -53,7 +53,7 @@ pub fn read<'a>(alloc: Global, words: &'a CommandLine) -> Result<Subcommand<'a>,
 }
 
 /// What `clap` finds in the words.
-fn matched<'a>(alloc: Global, words: &'a CommandLine) -> Result<ArgMatches<'a>, Error>
+fn match_words<'a>(alloc: Global, words: &'a CommandLine) -> Result<ArgMatches<'a>, Error>
     ensures { WasMatched words.now result }
 {
     sieved(alloc)?.try_get_matches_from(words.texts())

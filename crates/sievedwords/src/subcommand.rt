@@ -83,7 +83,7 @@ impl Word {
     ];
 
     /// The subcommand with this name.
-    pub fn named(name: &str) -> Option<Word>
+    pub fn from_name(name: &str) -> Option<Word>
         ensures named { IfSome result (λ word. name_of word ≡ name.now) }
         ensures none { result ≡ None → IsNoWord name.now }
     {

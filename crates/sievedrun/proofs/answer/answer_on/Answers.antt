@@ -4,7 +4,7 @@ use Rattle.sieveexec.specs.Runs.{outcome_view}
 use Rattle.reportlines.specs.Reports.{report_of}
 use Rattle.sievedrun.specs.declared.answer.Answer.TheVariants.{Report}
 use Rattle.sievedrun.specs.Framing.{IsFramed}
-use Rattle.sievedrun.specs.Trial.{Answers}
+use Rattle.sievedrun.specs.TryScript.{Answers}
 use Rattle.sievedrun.proofs.answer.answer_on.Goals as goal
 
 pub returns-in-Ok-clause-answer : goal.returns-in-Ok-clause-answer

@@ -8,7 +8,7 @@ use Rattle.sievedrun.proofs.commands.run_init.Goals as goal
 pub returns-in_err-store-clause-does : goal.returns-in_err-store-clause-does
 returns-in_err-store-clause-does g c tells =
     init_denied (HasDenied g.K.Keeper.refuses c.args.asked.location.path.now) (g.W.Write.contents c.args.output.now) c.in_err-store.field-0.0 c.from_residual.result (search rules) c.in_err-store.ensures.denied
-    (g.K.Keeper.holds c.args.keeper.now) (g.K.Keeper.holds c.taken.new.keeper) (c.in_err-store.ensures.refused tells)
+    (g.K.Keeper.holds c.args.keeper.now) (g.K.Keeper.holds c.take_store.new.keeper) (c.in_err-store.ensures.refused tells)
 
 pub returns-clause-does : goal.returns-clause-does
 returns-clause-does g c tells =

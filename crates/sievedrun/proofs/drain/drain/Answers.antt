@@ -2,7 +2,7 @@
 use Rattle.std.proofs.Common.{◌≡◌, ◌⊎◌, Ok, Err, IfErr, inl, inr, ◌∙◌, ap, subst, sym, rules}
 use Rattle.sqlite.specs.Held.{state}
 use Rattle.mailstore.specs.Refusals.{IsTransient}
-use Rattle.sievedrun.specs.Draining.{Drains}
+use Rattle.sievedrun.specs.Draining.{Drains, HasRefused, IsUnkept}
 use Rattle.sievedrun.specs.declared.fault.Fault.TheVariants.{Refused}
 use Rattle.sievedrun.specs.Faults.{status_of, no_user, IsSudden}
 use Rattle.sievedrun.proofs.LeaveLemmas.{grown_none}
@@ -14,10 +14,10 @@ pub returns-in_err-_account-clause-fault : goal.returns-in_err-_account-clause-f
 returns-in_err-_account-clause-fault g c =
     let refusal = c.in_err-_account.field-0.0 in
     let is : c.from_residual.result ≡ Err (Refused refusal) = search rules in
-    subst (λ r. IfErr r (λ fault. IsSudden fault ⊎ (fault ≡ no_user))) (sym is) (inl (sudden_refusal refusal c.in_err-_account.ensures.named))
+    subst (λ r. IfErr r (λ fault. IsSudden (IsUnkept (HasRefused g.T.MailSink.refuses)) fault ⊎ (fault ≡ no_user))) (sym is) (inl (sudden_refusal (IsUnkept (HasRefused g.T.MailSink.refuses)) refusal c.in_err-_account.ensures.named))
 
 pub returns-clause-fault : goal.returns-clause-fault
-returns-clause-fault g c = sudden_or c.move_all.result no_user c.move_all.ensures.fault
+returns-clause-fault g c = sudden_or (IsUnkept (HasRefused g.T.MailSink.refuses)) c.move_all.result no_user c.move_all.ensures.fault
 
 pub returns-in_err-_account-clause-moves : goal.returns-in_err-_account-clause-moves
 returns-in_err-_account-clause-moves g c =
@@ -37,4 +37,4 @@ returns-in_default-clause-moves g c =
 pub returns-clause-moves : goal.returns-clause-moves
 returns-clause-moves g c =
     drained_then c.args.user.now c.args.folder.now g.T.MailSink.tells (g.T.MailSink.kept c.args.sink.now) (g.T.MailSink.kept c.move_all.new.sink) c.args.most (state g.S.Store c.args.store.now) (state g.S.Store c.account.new.self) c.account.result
-    c.account.ensures (state g.S.Store c.move_all.new.store) c.in-Some._account (c.in_ok-_account.was ∙ ap Ok c.in-Some.is) c.move_all.result (sudden_statuses c.move_all.result c.move_all.ensures.fault) c.move_all.ensures.moves
+    c.account.ensures (state g.S.Store c.move_all.new.store) c.in-Some._account (c.in_ok-_account.was ∙ ap Ok c.in-Some.is) c.move_all.result (sudden_statuses (IsUnkept (HasRefused g.T.MailSink.refuses)) c.move_all.result c.move_all.ensures.fault) c.move_all.ensures.moves

@@ -4,8 +4,10 @@ use Rattle.mailsinks.specs.Kept.{MayKeep}
 use Rattle.sqlite.specs.Held.{state}
 use Rattle.mailengine.proofs.MailTakingLemmas.{mail_written}
 use Rattle.sievedrun.specs.declared.fault.Fault.TheVariants.{Refused}
+use Rattle.sievedrun.specs.Draining.{HasRefused, IsUnkept}
 use Rattle.sievedrun.proofs.LeaveLemmas.{grown_none}
 use Rattle.sievedrun.proofs.MoveLemmas.{not_read, none_read, not_kept, moved_one, not_taken}
+use Rattle.sievedrun.proofs.WordLemmas.{failure_sudden, sudden_refusal, sudden_wider}
 use Rattle.sievedrun.proofs.drain.move_first.Goals as goal
 
 pub returns-in-Err-clause-moves : goal.returns-in-Err-clause-moves
@@ -21,7 +23,7 @@ returns-in_default-clause-moves g c =
 pub returns-in-Err-keep-clause-moves : goal.returns-in-Err-keep-clause-moves
 returns-in-Err-keep-clause-moves g c =
     not_kept c.args.user.now c.args.folder.now g.T.MailSink.tells (g.T.MailSink.kept c.args.sink.now) (g.T.MailSink.kept c.keep.new.self) (state g.S.Store c.args.store.now) (state g.S.Store c.first_message.new.store) c.first_message.result
-    c.in-Ok.first c.in-Ok.is c.first_message.ensures.first.reads c.in-Some.first c.in-Some.is c.unkept.result (λ told. subst (λ m. MayKeep (g.T.MailSink.kept c.args.sink.now) m (g.T.MailSink.kept c.keep.new.self)) c.as_slice.ensures (c.in-Err-keep.ensures.refused told))
+    c.in-Ok.first c.in-Ok.is c.first_message.ensures.first.reads c.in-Some.first c.in-Some.is c.sink_failure.result (λ told. subst (λ m. MayKeep (g.T.MailSink.kept c.args.sink.now) m (g.T.MailSink.kept c.keep.new.self)) c.as_slice.ensures (c.in-Err-keep.ensures.refused told))
 
 pub returns-in-Ok-take_mail-clause-moves : goal.returns-in-Ok-take_mail-clause-moves
 returns-in-Ok-take_mail-clause-moves g c =
@@ -39,3 +41,13 @@ returns-clause-moves g c =
     (state g.S.Store c.take_mail.new.self) c.take_mail.result c.take_mail.ensures.writes c.take_mail.ensures.named)
     (λ told. c.in_default-keep.ensures.kept told ∙ ap (λ m. g.T.MailSink.kept c.args.sink.now ++ m ∷ []) c.as_slice.ensures) c.in-Err-take_mail.refusal (Refused c.in-Err-take_mail.refusal)
     c.in-Err-take_mail.is
+
+pub returns-in-Err-clause-fault : goal.returns-in-Err-clause-fault
+returns-in-Err-clause-fault g c = sudden_wider (IsUnkept (HasRefused g.T.MailSink.refuses)) c.failure_of.result c.failure_of.ensures
+
+pub returns-in-Err-keep-clause-fault : goal.returns-in-Err-keep-clause-fault
+returns-in-Err-keep-clause-fault g c =
+    failure_sudden (IsUnkept (HasRefused g.T.MailSink.refuses)) c.sink_failure.result c.sink_failure.ensures (c.in-Err-keep.error, (c.args.sink.now, c.in-Err-keep.ensures.denied))
+
+pub returns-clause-fault : goal.returns-clause-fault
+returns-clause-fault g c = sudden_refusal (IsUnkept (HasRefused g.T.MailSink.refuses)) c.in-Err-take_mail.refusal c.in-Err-take_mail.ensures.named

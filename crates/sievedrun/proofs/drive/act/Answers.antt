@@ -1,6 +1,7 @@
 -- Each word does its own work.
 use Rattle.std.proofs.Common.{Result, Ok, Err, OnOk, subst, sym}
 use Rattle.sievedrun.specs.declared.fault.Fault.{Fault}
+use Rattle.sievedrun.specs.Draining.{HasRefused}
 use Rattle.sievedrun.specs.Serving.{HasDenied, HasGiven}
 use Rattle.sievedrun.specs.Words.{Does, Reaches}
 use Rattle.sievedrun.proofs.LeaveLemmas.{grown_none}
@@ -13,7 +14,7 @@ both P Q (Err fault) p q = tt
 pub returns-in-Init-clause-does : goal.returns-in-Init-clause-does
 returns-in-Init-clause-does g c tells =
     let kept = g.T.MailSink.kept c.args.sink.now in
-    subst (λ asked. Does (HasDenied g.K.Keeper.refuses) c.args.clock (g.R.Read.remaining c.args.input.now) g.T.MailSink.tells kept kept (g.W.Write.contents c.args.output.now) (g.W.Write.contents c.run_init.new.output) asked c.run_init.result
+    subst (λ asked. Does (HasDenied g.K.Keeper.refuses) (HasRefused g.T.MailSink.refuses) c.args.clock (g.R.Read.remaining c.args.input.now) (g.R.Read.remaining c.args.input.now) g.T.MailSink.tells kept kept (g.W.Write.contents c.args.output.now) (g.W.Write.contents c.run_init.new.output) asked c.run_init.result
     (g.K.Keeper.holds c.args.keeper.now) (g.K.Keeper.holds c.run_init.new.keeper)) (sym c.in-Init.is) (grown_none g.T.MailSink.tells kept, c.run_init.ensures.does tells)
 
 pub returns-in-Init-clause-reaches : goal.returns-in-Init-clause-reaches
@@ -23,7 +24,7 @@ returns-in-Init-clause-reaches g c =
 pub returns-in-AddUser-clause-does : goal.returns-in-AddUser-clause-does
 returns-in-AddUser-clause-does g c tells =
     let kept = g.T.MailSink.kept c.args.sink.now in
-    subst (λ asked. Does (HasDenied g.K.Keeper.refuses) c.args.clock (g.R.Read.remaining c.args.input.now) g.T.MailSink.tells kept kept (g.W.Write.contents c.args.output.now) (g.W.Write.contents c.run_adduser.new.output) asked c.run_adduser.result
+    subst (λ asked. Does (HasDenied g.K.Keeper.refuses) (HasRefused g.T.MailSink.refuses) c.args.clock (g.R.Read.remaining c.args.input.now) (g.R.Read.remaining c.run_adduser.new.input) g.T.MailSink.tells kept kept (g.W.Write.contents c.args.output.now) (g.W.Write.contents c.run_adduser.new.output) asked c.run_adduser.result
     (g.K.Keeper.holds c.args.keeper.now) (g.K.Keeper.holds c.run_adduser.new.keeper)) (sym c.in-AddUser.is) (grown_none g.T.MailSink.tells kept, c.run_adduser.ensures.does tells)
 
 pub returns-in-AddUser-clause-reaches : goal.returns-in-AddUser-clause-reaches
@@ -33,7 +34,7 @@ returns-in-AddUser-clause-reaches g c =
 pub returns-in-Deliver-clause-does : goal.returns-in-Deliver-clause-does
 returns-in-Deliver-clause-does g c tells =
     let kept = g.T.MailSink.kept c.args.sink.now in
-    subst (λ asked. Does (HasDenied g.K.Keeper.refuses) c.args.clock (g.R.Read.remaining c.args.input.now) g.T.MailSink.tells kept kept (g.W.Write.contents c.args.output.now) (g.W.Write.contents c.run_deliver.new.output) asked c.run_deliver.result
+    subst (λ asked. Does (HasDenied g.K.Keeper.refuses) (HasRefused g.T.MailSink.refuses) c.args.clock (g.R.Read.remaining c.args.input.now) (g.R.Read.remaining c.run_deliver.new.input) g.T.MailSink.tells kept kept (g.W.Write.contents c.args.output.now) (g.W.Write.contents c.run_deliver.new.output) asked c.run_deliver.result
     (g.K.Keeper.holds c.args.keeper.now) (g.K.Keeper.holds c.run_deliver.new.keeper)) (sym c.in-Deliver.is) (grown_none g.T.MailSink.tells kept, c.run_deliver.ensures.does tells)
 
 pub returns-in-Deliver-clause-reaches : goal.returns-in-Deliver-clause-reaches
@@ -43,7 +44,7 @@ returns-in-Deliver-clause-reaches g c =
 pub returns-in-Folders-clause-does : goal.returns-in-Folders-clause-does
 returns-in-Folders-clause-does g c tells =
     let kept = g.T.MailSink.kept c.args.sink.now in
-    subst (λ asked. Does (HasDenied g.K.Keeper.refuses) c.args.clock (g.R.Read.remaining c.args.input.now) g.T.MailSink.tells kept kept (g.W.Write.contents c.args.output.now) (g.W.Write.contents c.run_folders.new.output) asked c.run_folders.result
+    subst (λ asked. Does (HasDenied g.K.Keeper.refuses) (HasRefused g.T.MailSink.refuses) c.args.clock (g.R.Read.remaining c.args.input.now) (g.R.Read.remaining c.args.input.now) g.T.MailSink.tells kept kept (g.W.Write.contents c.args.output.now) (g.W.Write.contents c.run_folders.new.output) asked c.run_folders.result
     (g.K.Keeper.holds c.args.keeper.now) (g.K.Keeper.holds c.run_folders.new.keeper)) (sym c.in-Folders.is) (grown_none g.T.MailSink.tells kept, c.run_folders.ensures.does tells)
 
 pub returns-in-Folders-clause-reaches : goal.returns-in-Folders-clause-reaches
@@ -53,7 +54,7 @@ returns-in-Folders-clause-reaches g c =
 pub returns-in-Show-clause-does : goal.returns-in-Show-clause-does
 returns-in-Show-clause-does g c tells =
     let kept = g.T.MailSink.kept c.args.sink.now in
-    subst (λ asked. Does (HasDenied g.K.Keeper.refuses) c.args.clock (g.R.Read.remaining c.args.input.now) g.T.MailSink.tells kept kept (g.W.Write.contents c.args.output.now) (g.W.Write.contents c.run_show.new.output) asked c.run_show.result
+    subst (λ asked. Does (HasDenied g.K.Keeper.refuses) (HasRefused g.T.MailSink.refuses) c.args.clock (g.R.Read.remaining c.args.input.now) (g.R.Read.remaining c.args.input.now) g.T.MailSink.tells kept kept (g.W.Write.contents c.args.output.now) (g.W.Write.contents c.run_show.new.output) asked c.run_show.result
     (g.K.Keeper.holds c.args.keeper.now) (g.K.Keeper.holds c.run_show.new.keeper)) (sym c.in-Show.is) (grown_none g.T.MailSink.tells kept, c.run_show.ensures.does tells)
 
 pub returns-in-Show-clause-reaches : goal.returns-in-Show-clause-reaches
@@ -63,7 +64,7 @@ returns-in-Show-clause-reaches g c =
 pub returns-in-Queue-clause-does : goal.returns-in-Queue-clause-does
 returns-in-Queue-clause-does g c tells =
     let kept = g.T.MailSink.kept c.args.sink.now in
-    subst (λ asked. Does (HasDenied g.K.Keeper.refuses) c.args.clock (g.R.Read.remaining c.args.input.now) g.T.MailSink.tells kept kept (g.W.Write.contents c.args.output.now) (g.W.Write.contents c.run_queue.new.output) asked c.run_queue.result
+    subst (λ asked. Does (HasDenied g.K.Keeper.refuses) (HasRefused g.T.MailSink.refuses) c.args.clock (g.R.Read.remaining c.args.input.now) (g.R.Read.remaining c.args.input.now) g.T.MailSink.tells kept kept (g.W.Write.contents c.args.output.now) (g.W.Write.contents c.run_queue.new.output) asked c.run_queue.result
     (g.K.Keeper.holds c.args.keeper.now) (g.K.Keeper.holds c.run_queue.new.keeper)) (sym c.in-Queue.is) (grown_none g.T.MailSink.tells kept, c.run_queue.ensures.does tells)
 
 pub returns-in-Queue-clause-reaches : goal.returns-in-Queue-clause-reaches
@@ -73,7 +74,7 @@ returns-in-Queue-clause-reaches g c =
 pub returns-in-Done-clause-does : goal.returns-in-Done-clause-does
 returns-in-Done-clause-does g c tells =
     let kept = g.T.MailSink.kept c.args.sink.now in
-    subst (λ asked. Does (HasDenied g.K.Keeper.refuses) c.args.clock (g.R.Read.remaining c.args.input.now) g.T.MailSink.tells kept kept (g.W.Write.contents c.args.output.now) (g.W.Write.contents c.run_done.new.output) asked c.run_done.result
+    subst (λ asked. Does (HasDenied g.K.Keeper.refuses) (HasRefused g.T.MailSink.refuses) c.args.clock (g.R.Read.remaining c.args.input.now) (g.R.Read.remaining c.args.input.now) g.T.MailSink.tells kept kept (g.W.Write.contents c.args.output.now) (g.W.Write.contents c.run_done.new.output) asked c.run_done.result
     (g.K.Keeper.holds c.args.keeper.now) (g.K.Keeper.holds c.run_done.new.keeper)) (sym c.in-Done.is) (grown_none g.T.MailSink.tells kept, c.run_done.ensures.does tells)
 
 pub returns-in-Done-clause-reaches : goal.returns-in-Done-clause-reaches
@@ -83,7 +84,7 @@ returns-in-Done-clause-reaches g c =
 pub returns-in-Notices-clause-does : goal.returns-in-Notices-clause-does
 returns-in-Notices-clause-does g c tells =
     let kept = g.T.MailSink.kept c.args.sink.now in
-    subst (λ asked. Does (HasDenied g.K.Keeper.refuses) c.args.clock (g.R.Read.remaining c.args.input.now) g.T.MailSink.tells kept kept (g.W.Write.contents c.args.output.now) (g.W.Write.contents c.run_notices.new.output) asked c.run_notices.result
+    subst (λ asked. Does (HasDenied g.K.Keeper.refuses) (HasRefused g.T.MailSink.refuses) c.args.clock (g.R.Read.remaining c.args.input.now) (g.R.Read.remaining c.args.input.now) g.T.MailSink.tells kept kept (g.W.Write.contents c.args.output.now) (g.W.Write.contents c.run_notices.new.output) asked c.run_notices.result
     (g.K.Keeper.holds c.args.keeper.now) (g.K.Keeper.holds c.run_notices.new.keeper)) (sym c.in-Notices.is) (grown_none g.T.MailSink.tells kept, c.run_notices.ensures.does tells)
 
 pub returns-in-Notices-clause-reaches : goal.returns-in-Notices-clause-reaches
@@ -93,7 +94,7 @@ returns-in-Notices-clause-reaches g c =
 pub returns-in-Drain-clause-does : goal.returns-in-Drain-clause-does
 returns-in-Drain-clause-does g c tells =
     let kept = g.T.MailSink.kept c.args.sink.now in
-    subst (λ asked. Does (HasDenied g.K.Keeper.refuses) c.args.clock (g.R.Read.remaining c.args.input.now) g.T.MailSink.tells kept (g.T.MailSink.kept c.run_drain.new.sink) (g.W.Write.contents c.args.output.now) (g.W.Write.contents c.run_drain.new.output) asked c.run_drain.result
+    subst (λ asked. Does (HasDenied g.K.Keeper.refuses) (HasRefused g.T.MailSink.refuses) c.args.clock (g.R.Read.remaining c.args.input.now) (g.R.Read.remaining c.args.input.now) g.T.MailSink.tells kept (g.T.MailSink.kept c.run_drain.new.sink) (g.W.Write.contents c.args.output.now) (g.W.Write.contents c.run_drain.new.output) asked c.run_drain.result
     (g.K.Keeper.holds c.args.keeper.now) (g.K.Keeper.holds c.run_drain.new.keeper)) (sym c.in-Drain.is) (c.run_drain.ensures.drains tells)
 
 pub returns-in-Drain-clause-reaches : goal.returns-in-Drain-clause-reaches

@@ -7,16 +7,16 @@ use Rattle.sievedrun.proofs.drive.conclude.Goals as goal
 
 pub returns-in-Ok-clause-told : goal.returns-in-Ok-clause-told
 returns-in-Ok-clause-told g c =
-    let old = g.F.Write.contents c.args.faults.now in
-    let new = g.F.Write.contents c.tell_unclosed.new.faults in
+    let old = g.E.Write.contents c.args.errors.now in
+    let new = g.E.Write.contents c.tell_unclosed.new.errors in
     subst (λ done. AreTold old new (troubles (g.K.Keeper.unclosed c.args.keeper.now) done)) (sym c.in-Ok.is)
     (subst (λ o. AreTold old new (troubles o (Ok tt))) c.take_close_error-unclosed.ensures.error
     (told_done old new new c.take_close_error-unclosed.result c.tell_unclosed.ensures.some c.tell_unclosed.ensures.none))
 
 pub returns-then-is_store_failure-clause-told : goal.returns-then-is_store_failure-clause-told
 returns-then-is_store_failure-clause-told g c =
-    let old = g.F.Write.contents c.args.faults.now in
-    let new = g.F.Write.contents c.tell_fault.new.faults in
+    let old = g.E.Write.contents c.args.errors.now in
+    let new = g.E.Write.contents c.tell_fault.new.errors in
     let unclosed = g.K.Keeper.unclosed c.args.keeper.now in
     let failed : c.in-Err.fault ≡ store_failed = c.is_store_failure.ensures.failed c.if-is_store_failure.true in
     subst (λ done. AreTold old new (troubles unclosed done)) (sym c.in-Err.is)
@@ -24,9 +24,9 @@ returns-then-is_store_failure-clause-told g c =
 
 pub returns-else-is_store_failure-clause-told : goal.returns-else-is_store_failure-clause-told
 returns-else-is_store_failure-clause-told g c =
-    let old = g.F.Write.contents c.args.faults.now in
-    let mid = g.F.Write.contents c.tell_unclosed-in-Err.new.faults in
-    let new = g.F.Write.contents c.tell_fault-in-Err.new.faults in
+    let old = g.E.Write.contents c.args.errors.now in
+    let mid = g.E.Write.contents c.tell_unclosed-in-Err.new.errors in
+    let new = g.E.Write.contents c.tell_fault-in-Err.new.errors in
     let fault = c.in-Err.fault in
     subst (λ done. AreTold old new (troubles (g.K.Keeper.unclosed c.args.keeper.now) done)) (sym c.in-Err.is)
     (subst (λ o. AreTold old new (troubles o (Err fault))) c.take_close_error-unclosed.ensures.error

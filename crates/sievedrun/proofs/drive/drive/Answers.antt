@@ -2,6 +2,7 @@
 use Rattle.std.proofs.Common.{Ok, Err, refl, sym, ◌∙◌, subst}
 use Rattle.sievedwords.specs.Asks.{WasRead}
 use Rattle.sievedwords.specs.declared.subcommand.Subcommand.TheVariants.{Try}
+use Rattle.sievedrun.specs.Draining.{HasRefused}
 use Rattle.sievedrun.specs.Serving.{HasDenied, HasGiven}
 use Rattle.sievedrun.specs.Words.{Does}
 use Rattle.sievedrun.proofs.LeaveLemmas.{grown_none}
@@ -25,13 +26,13 @@ returns-in_default g c =
       runs = λ tells. (
         Ok asked,
         subst (WasRead c.args.words.now) c.in-Ok.is c.read.ensures,
-        ran Denied (HasGiven g.K.Keeper.gives) (g.T.MailSink.is_at c.act-done.new.sink) c.args.clock given g.T.MailSink.tells had has out_old out_new (g.F.Write.contents c.args.faults.now) (g.F.Write.contents c.conclude.new.faults) c.conclude.result held
+        ran Denied (HasRefused g.T.MailSink.refuses) (HasGiven g.K.Keeper.gives) (g.T.MailSink.is_at c.act-done.new.sink) c.args.clock given (g.R.Read.remaining c.act-done.new.input) g.T.MailSink.tells had has out_old out_new (g.E.Write.contents c.args.errors.now) (g.E.Write.contents c.conclude.new.errors) c.conclude.result held
             (g.K.Keeper.holds c.conclude.new.keeper) asked c.in_default.not-Try (record {
               ending = c.act-done.result;
               ended = told.status;
               unclosed = g.K.Keeper.unclosed c.act-done.new.keeper;
               told = told.told;
-              did = subst (Does Denied c.args.clock given g.T.MailSink.tells had has out_old out_new asked c.act-done.result held) (sym (told.same tells)) (c.act-done.ensures.does tells);
+              did = subst (Does Denied (HasRefused g.T.MailSink.refuses) c.args.clock given (g.R.Read.remaining c.act-done.new.input) g.T.MailSink.tells had has out_old out_new asked c.act-done.result held) (sym (told.same tells)) (c.act-done.ensures.does tells);
               reached = c.act-done.ensures.reaches;
             }),
       );
@@ -42,7 +43,7 @@ pub returns-in-Try-clause-runs : goal.returns-in-Try-clause-runs
 returns-in-Try-clause-runs g c tells =
     let line = c.args.words.now in
     let read = subst (WasRead line) c.in-Ok.is c.read.ensures in
-    (Ok (Try c.in-Try.asked), subst (λ asked. WasRead line (Ok asked)) c.in-Try.is read, (c.try_mail.ensures.runs, (grown_none g.T.MailSink.tells (g.T.MailSink.kept c.args.sink.now), refl)))
+    (Ok (Try c.in-Try.asked), subst (λ asked. WasRead line (Ok asked)) c.in-Try.is read, (c.try_script.ensures.runs, (grown_none g.T.MailSink.tells (g.T.MailSink.kept c.args.sink.now), refl)))
 
 pub returns-in-Err-clause-runs : goal.returns-in-Err-clause-runs
 returns-in-Err-clause-runs g c tells =

@@ -13,7 +13,7 @@ use Rattle.sievedrun.proofs.queue.dequeue.Goals as goal
 pub returns-in_err-store-clause-puts : goal.returns-in_err-store-clause-puts
 returns-in_err-store-clause-puts g c tells =
     put_denied (HasDenied g.K.Keeper.refuses c.args.location.path.now) (TakeOut c.args.user.now c.args.id) Taken c.in_err-store.field-0.0 c.from_residual.result (search rules)
-    c.in_err-store.ensures.denied (g.K.Keeper.holds c.args.keeper.now) (g.K.Keeper.holds c.taken.new.keeper) (c.in_err-store.ensures.refused tells)
+    c.in_err-store.ensures.denied (g.K.Keeper.holds c.args.keeper.now) (g.K.Keeper.holds c.take_store.new.keeper) (c.in_err-store.ensures.refused tells)
 
 pub returns-in_err-row-clause-puts : goal.returns-in_err-row-clause-puts
 returns-in_err-row-clause-puts g c tells =
@@ -24,7 +24,7 @@ returns-in_err-row-clause-puts g c tells =
     let event = TakeOut c.args.user.now c.args.id in
     let is : c.from_residual-in_err-row.result ≡ Err (Refused refusal) = search rules in
     subst (λ r. TurnsTables (Puts Denied event Taken r) (g.K.Keeper.holds c.args.keeper.now) (g.K.Keeper.holds c.hand_back.new.self)) (sym is)
-    (carried_turned (g.K.Keeper.holds c.args.keeper.now) (g.K.Keeper.holds c.hand_back.new.self) (state g.K.S.Store c.in_ok-store.store) (state g.K.S.Store c.take_out-row.new.store) got.1 got.2 sure.0 sure.1
+    (carried_turned (g.K.Keeper.holds c.args.keeper.now) (g.K.Keeper.holds c.hand_back.new.self) (state g.K.S.Store c.in_ok-store.store) (state g.K.S.Store c.take_out-row.new.store) got.0 got.2 sure.0 sure.1
     (c.hand_back.ensures.held tells) (Puts Denied event Taken (Err (Refused refusal)))
     (λ clean accounts shown.
     let turned = c.in_err-row.ensures.acts.carries clean accounts shown in
@@ -35,7 +35,7 @@ returns-clause-puts g c tells =
     let got = c.in_ok-store.ensures.taken tells in
     let sure = g.met.K.Keeper.sure c.take_out-row.new.store tells in
     let Denied = HasDenied g.K.Keeper.refuses c.args.location.path.now in
-    carried_turned (g.K.Keeper.holds c.args.keeper.now) (g.K.Keeper.holds c.hand_back.new.self) (state g.K.S.Store c.in_ok-store.store) (state g.K.S.Store c.take_out-row.new.store) got.1 got.2 sure.0 sure.1
+    carried_turned (g.K.Keeper.holds c.args.keeper.now) (g.K.Keeper.holds c.hand_back.new.self) (state g.K.S.Store c.in_ok-store.store) (state g.K.S.Store c.take_out-row.new.store) got.0 got.2 sure.0 sure.1
     (c.hand_back.ensures.held tells) _
     (λ clean accounts shown.
     let turned = c.in_ok-row.ensures.acts.carries clean accounts shown in

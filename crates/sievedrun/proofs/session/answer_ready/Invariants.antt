@@ -3,13 +3,13 @@ use Rattle.std.proofs.Common.{◌≡◌, None, IsTrue}
 use Rattle.sqlite.specs.Held.{state}
 use Rattle.mailstore.specs.Account.{Accounts}
 use Rattle.mailstore.specs.Schema.{no_schema}
-use Rattle.sievedrun.specs.Serving.{Answered, AreSeen, IsDenied}
+use Rattle.sievedrun.specs.Serving.{Answered, AreSeen, HasGiven, IsDenied}
 use Rattle.sievedrun.proofs.session.answer_ready.Given as goal
 
 abbrev pub invariant-loop : goal.invariant-loop
 invariant-loop g l = record {
-  answered : IsTrue g.K.Keeper.tells → (accounts : Accounts) → AreSeen (λ s. (state g.K.S.Store s).now) (g.K.Keeper.holds l.initial.keeper) l.initial.store accounts
-      → Answered (IsDenied g.K.Keeper.refuses l.path) accounts l.initial.session.client l.initial.answers l.answers l.session.client (AreSeen (λ s. (state g.K.S.Store s).now) (g.K.Keeper.holds l.keeper) l.store);
+  answered : IsTrue g.K.Keeper.tells → (accounts : Accounts) → AreSeen (HasGiven g.K.Keeper.gives l.path) (λ s. (state g.K.S.Store s).now) (g.K.Keeper.holds l.initial.keeper) l.initial.store accounts
+      → Answered (IsDenied g.K.Keeper.refuses l.path) (HasGiven g.K.Keeper.gives l.path) accounts l.initial.session.client l.initial.answers l.answers l.session.client (AreSeen (HasGiven g.K.Keeper.gives l.path) (λ s. (state g.K.S.Store s).now) (g.K.Keeper.holds l.keeper) l.store);
   none : IsTrue g.K.Keeper.tells → (g.K.Keeper.holds l.initial.keeper).schema ≡ no_schema → l.initial.store ≡ None → (g.K.Keeper.holds l.keeper ≡ g.K.Keeper.holds l.initial.keeper) × (l.store ≡ None);
   closed : g.K.Keeper.unclosed l.keeper ≡ g.K.Keeper.unclosed l.initial.keeper;
 }

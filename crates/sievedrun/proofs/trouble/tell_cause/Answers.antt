@@ -4,8 +4,8 @@ use Rattle.sievedrun.proofs.trouble.tell_cause.Goals as goal
 
 pub returns-in-Some : goal.returns-in-Some
 returns-in-Some g c =
-    let old = g.F.Write.contents c.args.faults.now in
-    let first = g.F.Write.contents c.write_some.new.faults in
-    let second = g.F.Write.contents c.write_some-in-Some.new.faults in
-    let new = g.F.Write.contents c.write_some-in-Some-2.new.faults in
+    let old = g.E.Write.contents c.args.errors.now in
+    let first = g.E.Write.contents c.write_some.new.errors in
+    let second = g.E.Write.contents c.write_some-in-Some.new.errors in
+    let new = g.E.Write.contents c.write_some-in-Some-2.new.errors in
     some_then old second new (some_then old first second c.write_some.ensures c.write_some-in-Some.ensures) c.write_some-in-Some-2.ensures

@@ -5,7 +5,7 @@ use Rattle.sqlite.specs.Held.{state}
 use Rattle.sqlite.specs.Steps.{over_memory}
 use Rattle.mailstore.specs.Opening.{IsKnown}
 use Rattle.mailstore.specs.Shows.{OpensAs}
-use Rattle.keepers.specs.Memory.{held_by}
+use Rattle.keepers.specs.Memory.{database_in}
 use Rattle.keepers.proofs.TakenLemmas.{is_taken}
 use Rattle.keepers.proofs.memory.MemoryKeeperKeeper.take.Goals as goal
 
@@ -14,14 +14,14 @@ returns-in-Ok-clause-taken c _ =
     let was : c.args.self.now.conn ≡ Some c.in-Some.conn = search rules in
     let made = c.in-Ok.ensures in
     let clean = memory_is_clean c.in-Ok.store in
-    is_taken c.args.fresh (held_by c.args.self.now.conn) (state over_memory c.in-Ok.store).now
-    (λ stale. subst (λ o. OpensAs (held_by o) (state over_memory c.in-Ok.store).now) (sym was) (made.opened clean stale))
-    (λ stale ours. (made.same clean stale (sym (ap (λ o. (held_by o).schema) was) ∙ ours)).now_is refl ∙ sym (ap held_by was))
-    (λ stale. subst (λ o. IsKnown (held_by o)) (sym was) (made.ours clean stale))
+    is_taken c.args.fresh (database_in c.args.self.now.conn) (state over_memory c.in-Ok.store).now
+    (λ stale. subst (λ o. OpensAs (database_in o) (state over_memory c.in-Ok.store).now) (sym was) (made.opened clean stale))
+    (λ stale ours. (made.same clean stale (sym (ap (λ o. (database_in o).schema) was) ∙ ours)).now_is refl ∙ sym (ap database_in was))
+    (λ stale. subst (λ o. IsKnown (database_in o)) (sym was) (made.ours clean stale))
     (λ fresh. made.made clean fresh)
-    (λ fresh. ap (λ o. (held_by o).schema) was ∙ made.blank fresh)
+    (λ fresh. ap (λ o. (database_in o).schema) was ∙ made.blank fresh)
 
 pub returns-in-Err-clause-refused : goal.returns-in-Err-clause-refused
 returns-in-Err-clause-refused c _ =
     let was : c.args.self.now.conn ≡ Some c.in-Some.conn = search rules in
-    (c.in-Err.ensures.refused (memory_is_clean c.in-Err.conn)).now_is refl ∙ sym (ap held_by was)
+    (c.in-Err.ensures.refused (memory_is_clean c.in-Err.conn)).now_is refl ∙ sym (ap database_in was)

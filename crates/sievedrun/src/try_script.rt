@@ -1,6 +1,6 @@
 //! One script tried on one message.
 ghost use Rattle.std.specs.Prelude.{◌≡◌};
-ghost use Rattle.sievedrun.specs.Trial.{LeavesOutput, Runs};
+ghost use Rattle.sievedrun.specs.TryScript.{LeavesOutput, Runs};
 
 use crate::answer::{Answer, answer_to};
 use crate::fault::{Fault, refuse};
@@ -10,23 +10,23 @@ use std::alloc::Global;
 use std::io::{Read, Write};
 
 /// Reads a script and a message from the input, and prints on the output what the script does with the message under
-/// the envelope. What goes wrong is told on the faults. The answer is the exit status.
+/// the envelope. What goes wrong is told on the errors. The answer is the exit status.
 ///
 /// The message's octets aren't copied. Reads at most 40,000,000 times.
-pub fn try_run<R: Read, W: Write, F: Write>(
+pub fn try_run<R: Read, W: Write, E: Write>(
     alloc: Global,
     envelope: Envelope,
     input: &mut R,
     output: &mut W,
-    faults: &mut F,
+    errors: &mut E,
 ) -> u8
     ensures { Runs envelope (R.remaining input.old) (W.contents output.old) (W.contents output.new)
-        (F.contents faults.old) (F.contents faults.new) result }
+        (E.contents errors.old) (E.contents errors.new) result }
 {
     match print_answer(alloc, envelope, input, output) {
         Ok(Answer::Report(_)) => 0,
         Ok(Answer::Refusal(_)) => 65,
-        Err(fault) => refuse(faults, fault),
+        Err(fault) => refuse(errors, fault),
     }
 }
 

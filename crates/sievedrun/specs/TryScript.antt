@@ -75,13 +75,13 @@ LeavesOutput envelope given old new (Err Stream) =
 LeavesOutput envelope given old new (Err _) = ⊥
 
 -- what is told of a fault, or a front of it where a write of it failed
-abbrev pub LeavesFaults : Option (List ℕ) → Option (List ℕ) → Result Answer Fault → Type 0
-LeavesFaults old new (Ok _) = Keeps old new
-LeavesFaults old new (Err fault) = IsWritten old new (line_of fault)
+abbrev pub LeavesErrors : Option (List ℕ) → Option (List ℕ) → Result Answer Fault → Type 0
+LeavesErrors old new (Ok _) = Keeps old new
+LeavesErrors old new (Err fault) = IsWritten old new (line_of fault)
 
--- a whole run: how it ended, what status tells of it, and what it left on the output and on the faults
-pub record Runs (envelope : Envelope) (given : Option (List ℕ)) (output_old output_new faults_old faults_new : Option (List ℕ)) (status : ℕ) : Type 0 where
+-- a whole run: how it ended, what status tells of it, and what it left on the output and on the errors
+pub record Runs (envelope : Envelope) (given : Option (List ℕ)) (output_old output_new errors_old errors_new : Option (List ℕ)) (status : ℕ) : Type 0 where
   pub ending : Result Answer Fault
   pub told : status ≡ status_at ending
   pub output : LeavesOutput envelope given output_old output_new ending
-  pub faults : LeavesFaults faults_old faults_new ending
+  pub errors : LeavesErrors errors_old errors_new ending
