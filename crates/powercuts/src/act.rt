@@ -1,18 +1,19 @@
-//! What changes the accounts, as events.
+//! What changes the accounts, as events over a store.
+use crate::base::{COPIES_FOURTH, COPIES_LAST, CURRENT};
 use mailengine::{Envelope, Event};
 use octets::Octets;
 use std::alloc::{AllocError, Global};
 
 /// The account that is there.
-pub const USER: &[u8] = b"alice";
+const USER: &[u8] = b"alice";
 
-pub const ADDRESS: &[u8] = b"alice@example.org";
+const ADDRESS: &[u8] = b"alice@example.org";
 
-/// Its password.
-pub const PASSWORD: &[u8] = b"secret";
+/// The password of each account.
+const PASSWORD: &[u8] = b"secret";
 
 /// The sender of its mail.
-pub const SENDER: &[u8] = b"bob@example.net";
+const SENDER: &[u8] = b"bob@example.net";
 
 /// RFC 5804, 2.1; RFC 4616, 2.
 const LOGIN: &[u8] = b"AUTHENTICATE \"PLAIN\" \"AGFsaWNlAHNlY3JldA==\"\r\n";
@@ -36,7 +37,7 @@ const MOMENT: u64 = 1_700_000_000;
 /// A session's number.
 const SESSION: u32 = 1;
 
-/// One change of the accounts.
+/// One change of a store.
 #[derive(Clone, Copy)]
 pub enum Act {
     /// PUTSCRIPT in place of the active script.
@@ -48,15 +49,21 @@ pub enum Act {
     TakeMail,
     /// A delivery into two folders, with a redirect and a vacation reply.
     Deliver,
+    /// The opening of a store of version 1, with the copies last.
+    OpenLast,
+    /// The same, with the copies fourth.
+    OpenFourth,
 }
 
-pub const ACTS: [Act; 6] = [
+pub const ACTS: [Act; 8] = [
     Act::PutScript,
     Act::DeleteScript,
     Act::AddUser,
     Act::TakeOut,
     Act::TakeMail,
     Act::Deliver,
+    Act::OpenLast,
+    Act::OpenFourth,
 ];
 
 impl Act {
@@ -68,10 +75,29 @@ impl Act {
             Act::TakeOut => "take_out",
             Act::TakeMail => "take_mail",
             Act::Deliver => "deliver",
+            Act::OpenLast => "open, copies last",
+            Act::OpenFourth => "open, copies fourth",
         }
     }
 
-    /// The events of the act; the last one is the change.
+    /// The statements that make the store.
+    pub fn base(self) -> &'static [&'static str] {
+        match self {
+            Act::OpenLast => &COPIES_LAST,
+            Act::OpenFourth => &COPIES_FOURTH,
+            _ => &CURRENT,
+        }
+    }
+
+    /// What happens in the store before: two scripts, one of them active, and mail. A store of version 1 is as it was made.
+    pub fn earlier(self, alloc: Global) -> Result<Vec<Event>, AllocError> {
+        match self {
+            Act::OpenLast | Act::OpenFourth => Ok(Vec::new(alloc)),
+            _ => earlier(alloc),
+        }
+    }
+
+    /// The events of the act; the last one is the change. None where opening the store is it.
     pub fn events(self, alloc: Global) -> Result<Vec<Event>, AllocError> {
         let mut events = Vec::new(alloc);
         match self {
@@ -81,13 +107,13 @@ impl Act {
             Act::TakeOut => events.push(row_taken(alloc)?)?,
             Act::TakeMail => events.push(mail_taken(alloc)?)?,
             Act::Deliver => events.push(delivery(alloc, MAIL)?)?,
+            Act::OpenLast | Act::OpenFourth => {}
         }
         Ok(events)
     }
 }
 
-/// What happens before: two scripts, one of them active, and mail.
-pub fn earlier(alloc: Global) -> Result<Vec<Event>, AllocError> {
+fn earlier(alloc: Global) -> Result<Vec<Event>, AllocError> {
     let mut events = Vec::new(alloc);
     add_commands(alloc, &mut events, SCRIPT, 2)?;
     add_commands(alloc, &mut events, OTHER, 1)?;

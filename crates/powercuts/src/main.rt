@@ -2,9 +2,10 @@
 //! are as before and as after. Once the change was answered they have to be as after.
 #![tactic(auto)]
 
-mod account;
 mod act;
+mod base;
 mod image;
+mod rows;
 mod sweep;
 mod visit;
 

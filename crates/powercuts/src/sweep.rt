@@ -1,5 +1,5 @@
 //! Stops at each call of the log's file and of the database's, and what is found then.
-use crate::act::{Act, earlier};
+use crate::act::Act;
 use crate::image::Image;
 use crate::visit::{Errand, open_files};
 use mailengine::Event;
@@ -55,7 +55,7 @@ enum Counted {
     Db,
 }
 
-/// An act over a store, and what the store shows before it and after it.
+/// An act over a store, and what the store shows before it and after it: the version is in it.
 #[derive(Drop)]
 struct Trial {
     base: Image,
@@ -150,10 +150,10 @@ fn found_in(alloc: Global, trial: &Trial, image: &Image) -> Result<Found, AllocE
 
 /// A store with an account, its scripts and its mail; and what it shows before the act, and after it.
 fn trial_of(alloc: Global, act: Act) -> Result<Trial, AllocError> {
-    let first = earlier(alloc)?;
-    let base = image_after(alloc, &Image::empty(alloc), &first, true)?;
+    let made = image_after(alloc, &Image::empty(alloc), Errand::Make(act.base()))?;
+    let base = base_of(alloc, act, made)?;
     let events = act.events(alloc)?;
-    let last = image_after(alloc, &base, &events, false)?;
+    let last = image_after(alloc, &base, Errand::Change(&events))?;
     let before = shown_by(alloc, &base)?.ok_or(AllocError)?;
     let after = shown_by(alloc, &last)?.ok_or(AllocError)?;
     Ok(Trial {
@@ -164,16 +164,20 @@ fn trial_of(alloc: Global, act: Act) -> Result<Trial, AllocError> {
     })
 }
 
-/// What events leave that nothing stops.
-fn image_after(
-    alloc: Global,
-    base: &Image,
-    events: &[Event],
-    is_new: bool,
-) -> Result<Image, AllocError> {
+/// The store after what happens before the act; as it was made where that is nothing, and not opened yet.
+fn base_of(alloc: Global, act: Act, made: Image) -> Result<Image, AllocError> {
+    let earlier = act.earlier(alloc)?;
+    if earlier.is_empty() {
+        return Ok(made);
+    }
+    image_after(alloc, &made, Errand::Change(&earlier))
+}
+
+/// What an errand leaves that nothing stops.
+fn image_after(alloc: Global, base: &Image, errand: Errand<'_>) -> Result<Image, AllocError> {
     let files = base.files(alloc, u64::MAX, u64::MAX)?;
-    let (done, files) = open_files(alloc, files, Errand { is_new, events });
-    if !done.is_answered {
+    let (visit, files) = open_files(alloc, files, errand);
+    if !visit.is_done {
         return Err(AllocError);
     }
     Image::seen(alloc, &files)
@@ -182,11 +186,7 @@ fn image_after(
 /// What the store shows that is opened over these files, if it can be opened.
 fn shown_by(alloc: Global, image: &Image) -> Result<Option<Octets>, AllocError> {
     let files = image.files(alloc, u64::MAX, u64::MAX)?;
-    let errand = Errand {
-        is_new: false,
-        events: &[],
-    };
-    let (visit, _) = open_files(alloc, files, errand);
+    let (visit, _) = open_files(alloc, files, Errand::Look);
     Ok(visit.shown)
 }
 
@@ -202,15 +202,11 @@ fn stop_at(
         Counted::Log => base.files(alloc, calls, u64::MAX)?,
         Counted::Db => base.files(alloc, u64::MAX, calls)?,
     };
-    let errand = Errand {
-        is_new: false,
-        events,
-    };
-    let (visit, mut files) = open_files(alloc, files, errand);
+    let (visit, mut files) = open_files(alloc, files, Errand::Change(events));
     let seen = Image::seen(alloc, &files)?;
     let synced = Image::synced(alloc, &mut files)?;
     Ok(Stop {
-        is_answered: visit.is_answered,
+        is_answered: visit.is_done,
         seen,
         synced,
     })

@@ -1,124 +1,129 @@
-//! A store that is opened over files, and what comes of it.
-use crate::account::shown;
-use crate::act::{ADDRESS, PASSWORD, USER};
+//! A database that is opened over files, and what comes of it.
+use crate::image::CutFiles;
+use crate::rows::{ALL, VERSION, found};
 use mailengine::{Answer, Event, Progress, Ran, World, run};
 use mailstore::Store;
 use octets::Octets;
-use saslplain::digest;
 use sqlite::{Alter, Connection, Options};
-use sqlite_disk::{Disk, Files};
+use sqlite_disk::Disk;
 use std::alloc::Global;
 
-const SALT: &[u8] = b"salt";
-
-/// What is to happen in a store.
+/// What is to happen in a database.
 #[derive(Clone, Copy)]
-pub struct Errand<'a> {
-    /// Whether it is a new one, in which an account is made first.
-    pub is_new: bool,
-    pub events: &'a [Event],
+pub enum Errand<'a> {
+    /// Statements, whatever the database is.
+    Make(&'a [&'a str]),
+    /// The store is opened, and then events happen in it.
+    Change(&'a [Event]),
+    /// It is opened, and read.
+    Look,
 }
 
 /// What came of it.
 #[derive(Drop)]
 pub struct Visit {
-    /// Whether the last event was answered, and not refused.
-    pub is_answered: bool,
-    /// What the store shows, where nothing was to happen.
+    /// Whether all was done: each event was answered, and the last one not refused.
+    pub is_done: bool,
+    /// The version that was found, and the rows of the store that was opened, where it was looked at.
     pub shown: Option<Octets>,
 }
 
-impl Visit {
-    /// The store couldn't be opened.
-    fn none() -> Visit {
-        Visit {
-            is_answered: false,
-            shown: None,
-        }
-    }
-}
-
-/// Opens a store over files, lets the events happen, and gives the files back as they are then, without closing the store.
-pub fn open_files<D: Disk + Drop>(
-    alloc: Global,
-    files: Files<D>,
-    errand: Errand<'_>,
-) -> (Visit, Files<D>) {
+/// Opens a database over files, does there what is to be done, and gives the files back as they are then, without closing it.
+pub fn open_files(alloc: Global, files: CutFiles, errand: Errand<'_>) -> (Visit, CutFiles) {
+    let none = Visit {
+        is_done: false,
+        shown: None,
+    };
     if !files.may_be_used() {
-        return (Visit::none(), files);
+        return (none, files);
     }
     match Connection::open_files(alloc, files, Options::new(1)) {
-        Err((_, left)) => (Visit::none(), left.into_files()),
+        Err((_, left)) => (none, left.into_files()),
         Ok(conn) => {
-            let (visit, conn) = open_over(alloc, conn, errand);
+            let (visit, conn) = visited(alloc, conn, errand);
             (visit, conn.into_store().close())
         }
     }
 }
 
-fn open_over<S: Alter + Drop>(
+fn visited<S: Alter>(
     alloc: Global,
     conn: Connection<S>,
     errand: Errand<'_>,
 ) -> (Visit, Connection<S>) {
-    match opened(alloc, conn, errand.is_new) {
-        Err(conn) => (Visit::none(), conn),
-        Ok(store) => {
-            let (visit, store) = run_in(alloc, store, errand.events);
-            (visit, store.release())
-        }
+    match errand {
+        Errand::Make(texts) => make(conn, texts),
+        Errand::Change(events) => change(alloc, conn, events),
+        Errand::Look => look(alloc, conn),
     }
 }
 
-fn run_in<S: Alter + Drop>(alloc: Global, store: Store<S>, events: &[Event]) -> (Visit, Store<S>) {
-    let mut world = World::new(alloc, store);
-    let ran = run(&mut world, events);
-    let mut store = world.into_store();
-    let shown = if events.is_empty() {
-        shown(alloc, &mut store).ok()
+fn make<S: Alter>(conn: Connection<S>, texts: &[&str]) -> (Visit, Connection<S>) {
+    let mut conn = conn;
+    let mut is_done = true;
+    for text in texts {
+        is_done = is_done && conn.execute_batch(text).is_ok();
+    }
+    (
+        Visit {
+            is_done,
+            shown: None,
+        },
+        conn,
+    )
+}
+
+fn look<S: Alter>(alloc: Global, conn: Connection<S>) -> (Visit, Connection<S>) {
+    let mut conn = conn;
+    let version = found(alloc, &mut conn, &VERSION);
+    let (opened, mut conn) = change(alloc, conn, &[]);
+    let rows = found(alloc, &mut conn, &ALL);
+    let shown = if opened.is_done {
+        joined(version, rows)
     } else {
         None
     };
-    let visit = Visit {
-        is_answered: is_answered(&ran),
-        shown,
-    };
-    (visit, store)
+    (
+        Visit {
+            is_done: opened.is_done,
+            shown,
+        },
+        conn,
+    )
 }
 
-/// The store of a database, or a new one with an account, whose password is digested once.
-fn opened<S: Alter + Drop>(
+/// What follows, behind the version; none where there is none of the two.
+fn joined(version: Option<Octets>, rows: Option<Octets>) -> Option<Octets> {
+    let (mut all, rows) = (version?, rows?);
+    all.extend_from_slice(rows.as_slice()).ok()?;
+    Some(all)
+}
+
+fn change<S: Alter>(
     alloc: Global,
     conn: Connection<S>,
-    is_new: bool,
-) -> Result<Store<S>, Connection<S>> {
-    let opened = if is_new {
-        Store::create(alloc, conn)
-    } else {
-        Store::open(alloc, conn)
+    events: &[Event],
+) -> (Visit, Connection<S>) {
+    let (is_done, conn) = match Store::open(alloc, conn) {
+        Err((_, conn, _)) => (false, conn),
+        Ok(store) => {
+            let mut world = World::new(alloc, store);
+            let ran = run(&mut world, events);
+            (is_whole(&ran), world.into_store().release())
+        }
     };
-    match opened {
-        Err((_, conn, _)) => Err(conn),
-        Ok(store) if is_new => with_account(store),
-        Ok(store) => Ok(store),
-    }
+    (
+        Visit {
+            is_done,
+            shown: None,
+        },
+        conn,
+    )
 }
 
-fn with_account<S: Alter + Drop>(store: Store<S>) -> Result<Store<S>, Connection<S>> {
-    let mut store = store;
-    let digest = digest(SALT, 1, PASSWORD);
-    match store.add_user(USER, ADDRESS, SALT, 1, &digest) {
-        Ok(()) => Ok(store),
-        Err(_) => Err(store.release()),
-    }
-}
-
-/// Whether all events were answered, and the last one not refused.
-fn is_answered(ran: &Ran) -> bool {
-    match ran.answers.last() {
-        Some(answer) => ran.whole && is_done(answer),
-        None => false,
-    }
+/// Whether each event was answered, and the last one not refused.
+fn is_whole(ran: &Ran) -> bool {
+    ran.whole && ran.answers.last().is_none_or(is_done)
 }
 
 fn is_done(answer: &Answer) -> bool {
