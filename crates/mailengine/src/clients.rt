@@ -1,5 +1,8 @@
 //! Sessions by their numbers, and what happens to one.
 ghost use Rattle.std.specs.Prelude.{◌≡◌, [], IfOk, IfSome, IfNone, IsTrue};
+ghost use Rattle.std.specs.BTreeMap as tree;
+ghost use Rattle.std.specs.Option.{option_copied};
+ghost use Rattle.std.specs.Ordering.{nat_cmp};
 ghost use Rattle.sqlite.specs.Held.{state};
 ghost use Rattle.sqlite.specs.State.{HasCleanDisk};
 ghost use Rattle.mailengine.specs.declared.event.Event.TheVariants.{Open, Give, Step, GiveUp, Close};
@@ -28,6 +31,23 @@ impl Clients {
         Clients {
             sessions: BTreeMap::new(alloc),
             alloc,
+        }
+    }
+
+    /// The session under a number, if one is open. Takes no memory.
+    pub fn session(&self, number: u32) -> Option<&Session>
+        ensures { option_copied result ≡ tree.get nat_cmp self.now.sessions number }
+    {
+        self.sessions.get(&number)
+    }
+
+    /// Octets come from a client, without a copy of the piece: the event [`Event::Give`](crate::Event::Give).
+    pub fn give(&mut self, number: u32, piece: &[u8]) -> Answer
+        ensures { IsSessionEvent (Give number piece.now) result self.old.sessions self.new.sessions }
+    {
+        match give(self.alloc, &mut self.sessions, number, piece) {
+            Ok(answer) => answer,
+            Err(refusal) => Answer::Refused(refusal),
         }
     }
 }

@@ -137,13 +137,8 @@ fn decision_on<'a, S: Alter>(
         }
         ScriptCommand::Named(command) => command,
     };
-    let kept = kept_scripts(store, user)?;
-    let decision = decide(
-        alloc,
-        kept.names.as_slice(),
-        slice_of(&kept.active),
-        command,
-    )?;
+    let KeptScripts { names, active } = kept_scripts(store, user)?;
+    let decision = decide(alloc, names, slice_of(&active), command)?;
     Ok(decision)
 }
 

@@ -13,7 +13,6 @@ pub mod scripts;
 pub mod session;
 pub mod sort;
 pub mod turn;
-mod unread;
 
 pub use decision::{Change, Decision};
 pub use progress::{First, Progress, Stepped};

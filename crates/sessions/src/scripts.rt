@@ -15,7 +15,7 @@ use crate::replies::{accepted, declined, faulty, listed};
 use crate::script_name::is_script_name;
 use crate::sort::NamedCommand;
 use msproto::{Code, Line, Reply};
-use octets::{List, Octets};
+use octets::{List, Octets, Texts};
 use sievelex::{ScriptError, ScriptFault};
 use sievesyntax::check;
 use std::alloc::{AllocError, Global};
@@ -28,25 +28,27 @@ pub const MAX_SCRIPTS: usize = 32;
 
 /// Decides a command by the names of the account's scripts, in the order of their octets, and by which one is active.
 ///
-/// Time is linear in the names, and for `PUTSCRIPT` that of `check` besides. Lack of memory is the only error.
+/// Time is linear in the names, and for `PUTSCRIPT` that of `check` besides. The names that are listed aren't copied. Lack of memory is
+/// the only error.
 pub fn decide<'a>(
     alloc: Global,
-    names: &[Octets],
+    names: Texts,
     active: Option<&[u8]>,
     command: &'a NamedCommand,
 ) -> Result<Decision<'a>, AllocError>
-    ensures { IfOk result (IsDecision (AreScripts names.now (r.value_of active.entry)) (of_named command.now)) }
+    ensures { IfOk result (IsDecision (AreScripts names (r.value_of active.entry)) (of_named command.now)) }
 {
+    let there = names.as_slice();
     match command {
-        NamedCommand::HaveSpace { name, size } => have_space(alloc, names, name.as_slice(), *size),
+        NamedCommand::HaveSpace { name, size } => have_space(alloc, there, name.as_slice(), *size),
         NamedCommand::PutScript { name, script } => {
-            put_script(alloc, names, name.as_slice(), script.as_slice())
+            put_script(alloc, there, name.as_slice(), script.as_slice())
         }
         NamedCommand::ListScripts => list_scripts(alloc, names, active),
-        NamedCommand::SetActive(name) => set_active(alloc, names, name.as_slice()),
-        NamedCommand::DeleteScript(name) => delete_script(alloc, names, active, name.as_slice()),
+        NamedCommand::SetActive(name) => set_active(alloc, there, name.as_slice()),
+        NamedCommand::DeleteScript(name) => delete_script(alloc, there, active, name.as_slice()),
         NamedCommand::RenameScript { old, new } => {
-            rename_script(alloc, names, old.as_slice(), new.as_slice())
+            rename_script(alloc, there, old.as_slice(), new.as_slice())
         }
     }
 }
@@ -124,10 +126,10 @@ fn put_script<'a>(
 // `LISTSCRIPTS` (RFC 5804, 2.7).
 fn list_scripts<'a>(
     alloc: Global,
-    names: &[Octets],
+    names: Texts,
     active: Option<&[u8]>,
 ) -> Result<Decision<'a>, AllocError>
-    ensures { IfOk result (IsDecision (AreScripts names.now (r.value_of active.entry)) command.ListScripts) }
+    ensures { IfOk result (IsDecision (AreScripts names (r.value_of active.entry)) command.ListScripts) }
 {
     let lines = lines_of(alloc, names, active)?;
     Ok(Decision {
@@ -136,17 +138,12 @@ fn list_scripts<'a>(
     })
 }
 
-fn lines_of(
-    alloc: Global,
-    names: &[Octets],
-    active: Option<&[u8]>,
-) -> Result<List<Line>, AllocError>
-    ensures { IfOk result (λ lines. lines ≡ s.script_lines (r.value_of active.entry) names.now) }
+fn lines_of(alloc: Global, names: Texts, active: Option<&[u8]>) -> Result<List<Line>, AllocError>
+    ensures { IfOk result (λ lines. lines ≡ s.script_lines (r.value_of active.entry) names) }
 {
     let mut lines = List::from_vec(Vec::with_capacity(alloc, names.len())?);
-    for name in names {
+    for name in names.into_vec() {
         let active = is_active(active, name.as_slice());
-        let name = name.try_clone(alloc)?;
         lines.push(Line::Script { name, active })?;
     }
     Ok(lines)

@@ -1,5 +1,5 @@
 //! One client's session.
-ghost use Rattle.std.specs.Prelude.{◌≡◌, ◌≤◌, ◌++◌, cond, true, false, None, Some, IfOk, IfErr, OnOk, OnErr};
+ghost use Rattle.std.specs.Prelude.{◌≡◌, ◌≤◌, ◌++◌, cond, true, false, None, Some, is_some, length, IfOk, IfErr, OnOk, OnErr};
 ghost use Rattle.msproto.specs.Replies.{spelled};
 ghost use Rattle.sessions.specs.Clients.{client_given, is_item, is_ready, reach_in, without_first, left};
 ghost use Rattle.sessions.specs.Counts.{new_session, given_more, looked_in, scanned_past, scanned_in_step};
@@ -20,10 +20,9 @@ use crate::progress::{First, Progress, Stepped};
 use crate::replies::capabilities;
 use crate::sort::{LoginCommand, Order, ScriptCommand};
 use crate::turn::{Sequel, Turn};
-use crate::unread::Unread;
 use mailstore::{Refusal, Store};
 use msproto::{Reach, Scan, command_at, spell};
-use octets::Octets;
+use octets::{Octets, Pending};
 use sqlite::Alter;
 use std::alloc::{AllocError, Global};
 use std::marker::Model;
@@ -48,7 +47,7 @@ pub struct Session {
     alloc: Global,
     user: Option<Octets>,
     failures: u32,
-    unread: Unread,
+    unread: Pending,
     pending: bool,
     closed: bool,
     scan: Scan,
@@ -83,7 +82,7 @@ impl Session {
             alloc,
             user: None,
             failures: 0,
-            unread: Unread::new(alloc),
+            unread: Pending::new(alloc),
             pending: false,
             closed: false,
             scan: Scan::new(false),
@@ -152,6 +151,20 @@ impl Session {
         ensures { result ≡ self.now.client.closed }
     {
         self.closed
+    }
+
+    /// Whether somebody is logged in. Takes no memory.
+    pub fn is_logged_in(&self) -> bool
+        ensures { result ≡ is_some self.now.client.user }
+    {
+        self.user.is_some()
+    }
+
+    /// How many octets came and are not yet taken off. Takes no memory.
+    pub fn unread_len(&self) -> usize
+        ensures { result ≡ length self.now.client.unread }
+    {
+        self.unread.as_slice().len()
     }
 
     /// Drops the first item, which can't be answered now, and a pending challenge with it, and gives what to answer: where

@@ -1,5 +1,12 @@
 //! All that is outside of the loop, in memory: it follows a script, and tells all acts.
 #![tactic(auto)]
 
+pub mod desk;
+pub mod echo;
 pub mod fake;
+pub mod peer;
+pub mod play;
+mod quoted;
+pub mod schedule;
 pub mod script;
+pub mod stage;

@@ -1,7 +1,7 @@
 -- Why connections end: whose turn it is tells the last act.
 use Rattle.std.proofs.Common.{◌≡◌, inl, inr, ℕ, List, Option, Some, None}
 use Rattle.wires.specs.declared.act.Act.{Act}
-use Rattle.wires.specs.declared.act.Act.TheVariants.{Woke, Timed, Late, Began, Roused, Worked, Came, NoneCame, Crowded, InUse, Heard, ReadBlocked, Over, Sent, WriteBlocked, Lost, Noted, Waits, Full, Again, Shut, Dropped, Ended}
+use Rattle.wires.specs.declared.act.Act.TheVariants.{Woke, Timed, Late, Began, Roused, Worked, Came, NoneCame, Crowded, Displaced, Listened, InUse, Heard, ReadBlocked, Over, Sent, WriteBlocked, Lost, Noted, Waits, Full, Again, Shut, Dropped, Ended}
 use Rattle.wires.specs.declared.outcome.Wake.{Wake}
 use Rattle.wires.specs.declared.outcome.Wake.TheVariants.{Knock, Ready}
 use Rattle.wires.specs.declared.service.Client.{Client}
@@ -21,7 +21,7 @@ by_wake : (id kind : ℕ) (wake : Wake) (s : Service) (turn : Turn) → turn ≡
 by_wake id kind (Knock k) s turn is leaving = cc
 by_wake id kind (Ready n) s turn is leaving = by_ready id n kind (client_of s n) turn is leaving
 
-opens : {M N : Type 0} (rules : Rules M N) (m k : M) (now id n kind door : ℕ) (said : List ℕ) (u : Service) → Opens rules m now n door said k u → u.turn ≡ Leaving id kind → ⊥
+opens : {M N R : Type 0} (rules : Rules M N R) (m k : M) (now id n kind door : ℕ) (said : List ℕ) (u : Service) → Opens rules m now n door said k u → u.turn ≡ Leaving id kind → ⊥
 opens rules m k now id n kind door said u (inl o) leaving = let is = o.2 in cc
 opens rules m k now id n kind door said u (inr o) leaving = let is = o.1 in cc
 
@@ -32,50 +32,52 @@ goes done lacks id n kind k count said turn (inr g) leaving = let is = g.2 in cc
 one_left : (id n kind k : ℕ) (turn : Turn) → turn ≡ Leaving n k → turn ≡ Leaving id kind → n ≡ id
 one_left id n kind k turn is leaving = cc
 
-reads : {M N : Type 0} (rules : Rules M N) (m : M) (s : Service) (id n kind k : ℕ) (turn : Turn) → Reads rules m s n (Leaving n k) turn → turn ≡ Leaving id kind → n ≡ id
+reads : {M N R : Type 0} (rules : Rules M N R) (m : M) (s : Service) (id n kind k : ℕ) (turn : Turn) → Reads rules m s n (Leaving n k) turn → turn ≡ Leaving id kind → n ≡ id
 reads rules m s id n kind k turn (inl r) leaving = one_left id n kind k turn r.2 leaving
 reads rules m s id n kind k turn (inr r) leaving = one_left id n kind k turn r.2 leaving
 
-fails : {M N : Type 0} (rules : Rules M N) (m : M) (s : Service) (id n kind k : ℕ) (turn : Turn) → Fails rules m s n (Leaving n k) turn → turn ≡ Leaving id kind → n ≡ id
+fails : {M N R : Type 0} (rules : Rules M N R) (m : M) (s : Service) (id n kind k : ℕ) (turn : Turn) → Fails rules m s n (Leaving n k) turn → turn ≡ Leaving id kind → n ≡ id
 fails rules m s id n kind k turn (inl f) leaving = one_left id n kind k turn f.2 leaving
 fails rules m s id n kind k turn (inr r) leaving = reads rules m s id n kind k turn r leaving
 
-blocked : {M N : Type 0} (rules : Rules M N) (m : M) (s : Service) (id n kind : ℕ) (turn : Turn) → Reads rules m s n Free turn → turn ≡ Leaving id kind → ⊥
+blocked : {M N R : Type 0} (rules : Rules M N R) (m : M) (s : Service) (id n kind : ℕ) (turn : Turn) → Reads rules m s n Free turn → turn ≡ Leaving id kind → ⊥
 blocked rules m s id n kind turn (inl r) leaving = let is = r.2 in cc
 blocked rules m s id n kind turn (inr r) leaving = let is = r.2 in cc
 
-lacks : {M N : Type 0} (rules : Rules M N) (m k : M) (s u : Service) (id n kind : ℕ) → Lacks rules m s n k u → u.turn ≡ Leaving id kind → n ≡ id
+lacks : {M N R : Type 0} (rules : Rules M N R) (m k : M) (s u : Service) (id n kind : ℕ) → Lacks rules m s n k u → u.turn ≡ Leaving id kind → n ≡ id
 lacks rules m k s u id n kind (inl l) leaving = one_left id n kind l.0 u.turn l.3 leaving
 lacks rules m k s u id n kind (inr (inl l)) leaving = one_left id n kind (kind_of (client_of s n)) u.turn l.1.2 leaving
 lacks rules m k s u id n kind (inr (inr l)) leaving = one_left id n kind (kind_of (client_of s n)) u.turn l.1.2 leaving
 
-parting : {M N : Type 0} (rules : Rules M N) (m k : M) (s u : Service) (id n kind : ℕ) (said : List ℕ) → Parting rules m s n said k u → u.turn ≡ Leaving id kind → n ≡ id
+parting : {M N R : Type 0} (rules : Rules M N R) (m k : M) (s u : Service) (id n kind : ℕ) (said : List ℕ) → Parting rules m s n said k u → u.turn ≡ Leaving id kind → n ≡ id
 parting rules m k s u id n kind said (inl p) leaving = let is = p.2 in cc
 parting rules m k s u id n kind said (inr (inl p)) leaving = one_left id n kind (kind_of (client_of s n)) u.turn p.1 leaving
 parting rules m k s u id n kind said (inr (inr p)) leaving = one_left id n kind (kind_of (client_of s n)) u.turn p.1 leaving
 
 -- behind an act a connection has to be closed only where the act is the cause
-pub cause_of : {M N : Type 0} (rules : Rules M N) (m k : M) (s u : Service) (id kind : ℕ) (act : Act N) (said : List ℕ) → Turns rules m s act said k u → u.turn ≡ Leaving id kind → IsCause id act
-cause_of rules m k s u id kind (Over n) said t leaving = reads rules m s id n kind (kind_of (client_of s n)) u.turn t.1 leaving
-cause_of rules m k s u id kind (Lost n) said t leaving = fails rules m s id n kind (kind_of (client_of s n)) u.turn t.1 leaving
-cause_of rules m k s u id kind (Full n) said t leaving = lacks rules m k s u id n kind t.1 leaving
-cause_of rules m k s u id kind (Late n) said t leaving = parting rules m k s u id n kind said t.2 leaving
-cause_of rules m k s u id kind (Woke wakes) said t leaving = let is = t.3 in cc
-cause_of rules m k s u id kind (Timed moment) said t leaving = let is = t.2 in cc
-cause_of rules m k s u id kind (Began wake) said t leaving = absurd (by_wake id kind wake s u.turn t.2 leaving)
-cause_of rules m k s u id kind (Roused n) said t leaving = absurd (by_ready id n kind (client_of s n) u.turn t.4 leaving)
-cause_of rules m k s u id kind (Worked note) said t leaving = let is = t.5 in cc
-cause_of rules m k s u id kind (Came n door) said t leaving = absurd (opens rules m k s.moment id n kind door said u t.3 leaving)
-cause_of rules m k s u id kind (NoneCame door) said t leaving = let is = t.2 in cc
-cause_of rules m k s u id kind (Crowded door) said t leaving = let is = t.3 in cc
-cause_of rules m k s u id kind (InUse n) said t leaving = let is = t.1.3 in cc
-cause_of rules m k s u id kind (Heard n piece) said t leaving = absurd (goes (rules.gives m s.moment n piece said k) (rules.lacks m n k) id n kind (kind_of (client_of s n)) t.count said u.turn t.goes leaving)
-cause_of rules m k s u id kind (ReadBlocked n) said t leaving = absurd (blocked rules m s id n kind u.turn t.1 leaving)
-cause_of rules m k s u id kind (Sent n octets) said t leaving = let is = t.1.2 in cc
-cause_of rules m k s u id kind (WriteBlocked n) said t leaving = let is = t.1.2 in cc
-cause_of rules m k s u id kind (Noted n note) said t leaving = let is = t.1.2 in cc
-cause_of rules m k s u id kind (Waits n) said t leaving = let is = t.1.2 in cc
-cause_of rules m k s u id kind (Again n) said t leaving = let is = t.2 in cc
-cause_of rules m k s u id kind (Shut n) said t leaving = let is = t.1.2 in cc
-cause_of rules m k s u id kind (Dropped n count) said t leaving = let is = t.1.2 in cc
-cause_of rules m k s u id kind (Ended n) said t leaving = let is = t.2.2 in cc
+pub cause_of : {M N R : Type 0} (rules : Rules M N R) (m k : M) (r q : R) (s u : Service) (id kind : ℕ) (act : Act N) (said : List ℕ) → Turns rules m r s act said k q u → u.turn ≡ Leaving id kind → IsCause id act
+cause_of rules m k r q s u id kind (Over n) said t leaving = reads rules m s id n kind (kind_of (client_of s n)) u.turn t.1 leaving
+cause_of rules m k r q s u id kind (Lost n) said t leaving = fails rules m s id n kind (kind_of (client_of s n)) u.turn t.1 leaving
+cause_of rules m k r q s u id kind (Full n) said t leaving = lacks rules m k s u id n kind t.1 leaving
+cause_of rules m k r q s u id kind (Late n) said t leaving = parting rules m k s u id n kind said t.2 leaving
+cause_of rules m k r q s u id kind (Woke wakes) said t leaving = let is = t.3 in cc
+cause_of rules m k r q s u id kind (Timed moment) said t leaving = let is = t.2 in cc
+cause_of rules m k r q s u id kind (Began wake) said t leaving = absurd (by_wake id kind wake s u.turn t.2 leaving)
+cause_of rules m k r q s u id kind (Roused n) said t leaving = absurd (by_ready id n kind (client_of s n) u.turn t.3 leaving)
+cause_of rules m k r q s u id kind (Worked note) said t leaving = let is = t.3 in cc
+cause_of rules m k r q s u id kind (Came n door) said t leaving = absurd (opens rules m k s.moment id n kind door said u t.3 leaving)
+cause_of rules m k r q s u id kind (NoneCame door) said t leaving = let is = t.2 in cc
+cause_of rules m k r q s u id kind (Crowded door) said t leaving = let is = t.2 in cc
+cause_of rules m k r q s u id kind (Displaced n) said t leaving = parting rules m k s u id n kind said t.1 leaving
+cause_of rules m k r q s u id kind (Listened door) said t leaving = let is = t.3 in cc
+cause_of rules m k r q s u id kind (InUse n) said t leaving = let is = t.1.stays in cc
+cause_of rules m k r q s u id kind (Heard n piece) said t leaving = absurd (goes (rules.gives m s.moment n piece said k) (rules.lacks m n k) id n kind (kind_of (client_of s n)) t.count said u.turn t.goes leaving)
+cause_of rules m k r q s u id kind (ReadBlocked n) said t leaving = absurd (blocked rules m s id n kind u.turn t.1 leaving)
+cause_of rules m k r q s u id kind (Sent n octets) said t leaving = let is = t.1.2 in cc
+cause_of rules m k r q s u id kind (WriteBlocked n) said t leaving = let is = t.1.2 in cc
+cause_of rules m k r q s u id kind (Noted n note) said t leaving = let is = t.1.2 in cc
+cause_of rules m k r q s u id kind (Waits n) said t leaving = let is = t.1.2 in cc
+cause_of rules m k r q s u id kind (Again n) said t leaving = let is = t.2 in cc
+cause_of rules m k r q s u id kind (Shut n) said t leaving = let is = t.1.2 in cc
+cause_of rules m k r q s u id kind (Dropped n count) said t leaving = let is = t.1.2 in cc
+cause_of rules m k r q s u id kind (Ended n) said t leaving = let is = t.2.2 in cc

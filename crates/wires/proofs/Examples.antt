@@ -1,16 +1,17 @@
 -- Right cases of the definitions, and near misses.
-use Rattle.std.proofs.Common.{◌≡◌, ℕ, ◌+◌, Bool, true, false, List, [], ◌∷◌, ◌++◌, Option, Some, None, refl, sym, ◌∙◌, arith}
-use Rattle.wires.specs.declared.act.Act.{Act}
-use Rattle.wires.specs.declared.act.Act.TheVariants.{Began, Timed, Waits, Roused, Ended}
+use Rattle.std.proofs.Common.{◌≡◌, ℕ, true, false, List, [], ◌∷◌, Option, Some, None, refl, arith}
+use Rattle.wires.specs.declared.act.Act.TheVariants.{Began, Timed, Waits, Roused, Came, Sent, Noted, Ended}
 use Rattle.wires.specs.declared.machine.Want.TheVariants as want
 use Rattle.wires.specs.declared.outcome.Wake.{Wake}
 use Rattle.wires.specs.declared.outcome.Wake.TheVariants.{Knock, Ready}
 use Rattle.wires.specs.declared.service.Client.{Client}
 use Rattle.wires.specs.declared.service.Phase.TheVariants as phase
 use Rattle.wires.specs.declared.turn.Task.TheVariants.{Send, Hear, Step, Rest, HangUp, Drain, End}
-use Rattle.wires.specs.Moves.{Queues, Waiters, Ticks}
+use Rattle.wires.specs.Moves.{Queues, Waiters, Ticks, Leaves}
+use Rattle.wires.specs.Life.{Move, AreOpen}
 use Rattle.wires.specs.Rules.{Rules}
 use Rattle.wires.specs.Talk.{Sends, Talks, is_late, newcomer, task, task_by}
+use Rattle.wires.specs.Turns.{is_open_of}
 
 -- ---- what is to be done
 
@@ -36,7 +37,7 @@ ends_behind_it : task_by [] (phase.Shut 0) 0 want.More ≡ End
 ends_behind_it = refl
 
 -- a near miss: to hear where something waits
-hears_nothing_yet : {M N : Type 0} (rules : Rules M N) (m : M) → task rules m 0 1 (Some (newcomer 0 1 7 (65 ∷ []))) ≡ Hear → ⊥
+hears_nothing_yet : {M N R : Type 0} (rules : Rules M N R) (m : M) → task rules m 0 1 (Some (newcomer 0 1 7 (65 ∷ []))) ≡ Hear → ⊥
 hears_nothing_yet rules m is = cc
 
 -- ---- who is late
@@ -77,6 +78,54 @@ waits_no_more N = refl
 
 never_goes_back : (N : Type 0) → Ticks {N = N} 9 (Timed 8) 9
 never_goes_back N = refl
+
+-- ---- what is neither sockets nor clock
+
+a_step_may_change_it : (N : Type 0) (note : N) → Leaves {R = ℕ} 7 (Noted 1 note) 8
+a_step_may_change_it N note = tt
+
+-- near misses: a send, or an end, changes it
+not_by_a_send : (N : Type 0) → Leaves {N = N} {R = ℕ} 7 (Sent 1 (65 ∷ [])) 8 → ⊥
+not_by_a_send N is = cc
+
+not_by_an_end : (N : Type 0) → Leaves {N = N} {R = ℕ} 7 (Ended 1) 8 → ⊥
+not_by_an_end N is = cc
+
+-- ---- who makes room
+
+-- near misses: one that isn't there, and one that was told something last
+not_one_that_is_gone : is_open_of 7 None ≡ false
+not_one_that_is_gone = refl
+
+not_one_that_ends : is_open_of 7 (Some (record (newcomer 0 1 7 []) { phase = phase.Closing })) ≡ false
+not_one_that_ends = refl
+
+not_one_of_another_kind : is_open_of 8 (Some (newcomer 0 1 7 [])) ≡ false
+not_one_of_another_kind = refl
+
+one_that_is_open : is_open_of 7 (Some (newcomer 0 1 7 [])) ≡ true
+one_that_is_open = refl
+
+-- ---- how many are open
+
+abbrev came : ℕ → ℕ → Move ℕ
+came id kind = record { act = Came id kind; said = [] }
+
+abbrev gone : ℕ → Move ℕ
+gone id = record { act = Ended id; said = [] }
+
+two_are_open : AreOpen 7 (came 1 7 ∷ came 2 7 ∷ []) (1 ∷ 2 ∷ [])
+two_are_open = (refl, refl, (refl, refl, tt))
+
+-- near misses: one counts once; not behind its end; not as another kind
+not_twice : AreOpen 7 (came 1 7 ∷ []) (1 ∷ 1 ∷ []) → ⊥
+not_twice told = let is = told.1 in cc
+
+not_behind_its_end : AreOpen 7 (came 1 7 ∷ gone 1 ∷ []) (1 ∷ []) → ⊥
+not_behind_its_end told = let is = told.0 in cc
+
+not_another_kind : AreOpen 8 (came 1 7 ∷ []) (1 ∷ []) → ⊥
+not_another_kind told = let is = told.0 in cc
 
 -- ---- one connection
 

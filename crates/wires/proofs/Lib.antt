@@ -1,3 +1,4 @@
+pub mod BoundLemmas
 pub mod EndLemmas
 pub mod Examples
 pub mod LifeLemmas

@@ -5,7 +5,7 @@ use Rattle.std.specs.declared.cmp.Ordering.TheVariants.{Less, Equal, Greater}
 use Rattle.std.specs.Ordering.{nat_cmp, is_eq}
 use Rattle.std.specs.FinMap.{nat_cmp-IsAntisymmetric}
 use Rattle.wires.specs.declared.act.Act.{Act}
-use Rattle.wires.specs.declared.act.Act.TheVariants.{Late, Came, Heard, Sent, Noted, Shut, Dropped, Ended}
+use Rattle.wires.specs.declared.act.Act.TheVariants.{Late, Came, Displaced, Heard, Sent, Noted, Shut, Dropped, Ended}
 use Rattle.wires.specs.declared.machine.Want.{Want}
 use Rattle.wires.specs.declared.machine.Want.TheVariants as want
 use Rattle.wires.specs.declared.service.Client.{Client}
@@ -48,11 +48,11 @@ quiet_by : (unsent : List ℕ) (at : Phase) → is_quiet_by unsent at ≡ true �
 quiet_by [] at is = refl
 quiet_by (x ∷ unsent) at is = let never : ⊥ = cc in absurd never
 
-hear_quiet : {M N : Type 0} (rules : Rules M N) (m : M) (now id : ℕ) (o : Option Client) → task rules m now id o ≡ Hear → unsent_of o ≡ []
+hear_quiet : {M N R : Type 0} (rules : Rules M N R) (m : M) (now id : ℕ) (o : Option Client) → task rules m now id o ≡ Hear → unsent_of o ≡ []
 hear_quiet rules m now id None is = refl
 hear_quiet rules m now id (Some c) is = hear_by c.unsent c.phase now (rules.wants m id) is
 
-step_quiet : {M N : Type 0} (rules : Rules M N) (m : M) (now id : ℕ) (o : Option Client) → task rules m now id o ≡ Step → unsent_of o ≡ []
+step_quiet : {M N R : Type 0} (rules : Rules M N R) (m : M) (now id : ℕ) (o : Option Client) → task rules m now id o ≡ Step → unsent_of o ≡ []
 step_quiet rules m now id None is = refl
 step_quiet rules m now id (Some c) is = step_by c.unsent c.phase now (rules.wants m id) is
 
@@ -165,28 +165,31 @@ lates : (t : Told) (now : ℕ) (said : List ℕ) (o p : Option Client) → Agree
 lates t now said o p agrees (inl h) = parts t now said o p agrees (quiet o h.quiet) h
 lates t now said o p agrees (inr h) = silent t said o p agrees h.0 h.1
 
-pub agrees_act : {M N : Type 0} (rules : Rules M N) (m k : M) (s u : Service) (id : ℕ) (t : Told) (act : Act N) (said : List ℕ) → Agrees t (client_of s id)
-    → Talks s.moment id (client_of s id) act said (client_of u id) → Turns rules m s act said k u → Agrees (tell id t act said) (client_of u id)
-agrees_act rules m k s u id t (Came n kind) said agrees talks turns =
+pub agrees_act : {M N R : Type 0} (rules : Rules M N R) (m k : M) (r q : R) (s u : Service) (id : ℕ) (t : Told) (act : Act N) (said : List ℕ) → Agrees t (client_of s id)
+    → Talks s.moment id (client_of s id) act said (client_of u id) → Turns rules m r s act said k q u → Agrees (tell id t act said) (client_of u id)
+agrees_act rules m k r q s u id t (Came n kind) said agrees talks turns =
     at_act (same n id) t (record { said = said; sent = []; shut = false }) (client_of s id) (client_of u id) (Comes s.moment n kind said (client_of s id) (client_of u id)) (λ b h. comes s.moment n kind said (client_of s id) (client_of u id) h) agrees talks
-agrees_act rules m k s u id t (Heard n piece) said agrees talks turns =
+agrees_act rules m k r q s u id t (Heard n piece) said agrees talks turns =
     at_act (same n id) t (record t { said = t.said ++ said }) (client_of s id) (client_of u id) (OrNothing (Answers s.moment said (client_of s id) (client_of u id)) said (client_of s id) (client_of u id))
     (λ b h. hears t s.moment said (client_of s id) (client_of u id) agrees (subst (λ i. unsent_of (client_of s i) ≡ []) (one_number n id b) (hear_quiet rules m s.moment n (client_of s n) turns.wanted.task)) h) agrees talks
-agrees_act rules m k s u id t (Noted n note) said agrees talks turns =
+agrees_act rules m k r q s u id t (Noted n note) said agrees talks turns =
     at_act (same n id) t (record t { said = t.said ++ said }) (client_of s id) (client_of u id) (Answers s.moment said (client_of s id) (client_of u id))
     (λ b h. answers t s.moment said (client_of s id) (client_of u id) agrees (subst (λ i. unsent_of (client_of s i) ≡ []) (one_number n id b) (step_quiet rules m s.moment n (client_of s n) turns.1.1.task)) h) agrees talks
-agrees_act rules m k s u id t (Late n) said agrees talks turns =
+agrees_act rules m k r q s u id t (Late n) said agrees talks turns =
     at_act (same n id) t (record t { said = t.said ++ said }) (client_of s id) (client_of u id) (OrNothing (Parts s.moment said (client_of s id) (client_of u id)) said (client_of s id) (client_of u id))
     (λ b h. lates t s.moment said (client_of s id) (client_of u id) agrees h) agrees talks
-agrees_act rules m k s u id t (Sent n octets) said agrees talks turns =
+agrees_act rules m k r q s u id t (Sent n octets) said agrees talks turns =
     at_act (same n id) t (record t { sent = t.sent ++ octets }) (client_of s id) (client_of u id) (Sends s.moment octets (client_of s id) (client_of u id))
     (λ b h. sends t s.moment octets (client_of s id) (client_of u id) agrees h) agrees talks
-agrees_act rules m k s u id t (Shut n) said agrees talks turns =
+agrees_act rules m k r q s u id t (Displaced n) said agrees talks turns =
+    at_act (same n id) t (record t { said = t.said ++ said }) (client_of s id) (client_of u id) (OrNothing (Parts s.moment said (client_of s id) (client_of u id)) said (client_of s id) (client_of u id))
+    (λ b h. lates t s.moment said (client_of s id) (client_of u id) agrees h) agrees talks
+agrees_act rules m k r q s u id t (Shut n) said agrees talks turns =
     at_act (same n id) t (record t { shut = true }) (client_of s id) (client_of u id) (Shuts s.moment (client_of s id) (client_of u id))
     (λ b h. shuts t s.moment (client_of s id) (client_of u id) agrees h) agrees talks
-agrees_act rules m k s u id t (Dropped n count) said agrees talks turns = drops_at (same n id) t count (client_of s id) (client_of u id) agrees talks
-agrees_act rules m k s u id t (Ended n) said agrees talks turns = ends (same n id) t (client_of s id) (client_of u id) agrees talks
-agrees_act rules m k s u id t _ said agrees talks turns = stays t (client_of s id) (client_of u id) agrees talks
+agrees_act rules m k r q s u id t (Dropped n count) said agrees talks turns = drops_at (same n id) t count (client_of s id) (client_of u id) agrees talks
+agrees_act rules m k r q s u id t (Ended n) said agrees talks turns = ends (same n id) t (client_of s id) (client_of u id) agrees talks
+agrees_act rules m k r q s u id t _ said agrees talks turns = stays t (client_of s id) (client_of u id) agrees talks
 
 -- ---- one that is closed in its turn
 
@@ -204,7 +207,7 @@ shut_end [] phase.Open now want.Done is = let never : ⊥ = cc in absurd never
 shut_end [] phase.Closing now wanted is = let never : ⊥ = cc in absurd never
 shut_end [] (phase.Shut left) now wanted is = refl
 
-pub farewell : {M N : Type 0} (rules : Rules M N) (m : M) (now id : ℕ) (t : Told) (o : Option Client) → Agrees t o → task rules m now id o ≡ End → Farewell t
+pub farewell : {M N R : Type 0} (rules : Rules M N R) (m : M) (now id : ℕ) (t : Told) (o : Option Client) → Agrees t o → task rules m now id o ≡ End → Farewell t
 farewell rules m now id t None agrees is = let never : ⊥ = cc in absurd never
 farewell rules m now id t (Some c) agrees is = record {
   sent = all_sent t c agrees (end_by c.unsent c.phase now (rules.wants m id) is);
@@ -218,6 +221,7 @@ untouched now id o p (Came n kind) said talks is = subst (λ b. At b (Comes now 
 untouched now id o p (Heard n piece) said talks is = subst (λ b. At b (OrNothing (Answers now said o p) said o p) (p ≡ o)) is talks
 untouched now id o p (Noted n note) said talks is = subst (λ b. At b (Answers now said o p) (p ≡ o)) is talks
 untouched now id o p (Late n) said talks is = subst (λ b. At b (OrNothing (Parts now said o p) said o p) (p ≡ o)) is talks
+untouched now id o p (Displaced n) said talks is = subst (λ b. At b (OrNothing (Parts now said o p) said o p) (p ≡ o)) is talks
 untouched now id o p (Sent n octets) said talks is = subst (λ b. At b (Sends now octets o p) (p ≡ o)) is talks
 untouched now id o p (Shut n) said talks is = subst (λ b. At b (Shuts now o p) (p ≡ o)) is talks
 untouched now id o p (Dropped n count) said talks is = subst (λ b. At b (Drops count o p) (p ≡ o)) is talks

@@ -1,10 +1,11 @@
 -- What is true of a life: of all acts, and of each front of them.
-use Rattle.std.specs.Prelude.{◌≡◌, ◌⊎◌, ℕ, Bool, true, false, cond, List, [], ◌∷◌, ◌++◌}
+use Rattle.std.specs.Prelude.{◌≡◌, ◌⊎◌, ℕ, ◌+◌, Bool, true, false, cond, List, [], ◌∷◌, ◌++◌, length, ◌≤◌, Option, Some, None, IsTrue}
+use Rattle.std.specs.List.{list_any}
 use Rattle.wires.specs.declared.act.Act.{Act}
-use Rattle.wires.specs.declared.act.Act.TheVariants.{Late, Came, Heard, Over, Sent, Lost, Noted, Full, Shut, Dropped, Ended}
+use Rattle.wires.specs.declared.act.Act.TheVariants.{Late, Came, Displaced, Heard, Over, Sent, Lost, Noted, Full, Shut, Dropped, Ended}
 use Rattle.wires.specs.declared.service.Service.{Service}
 use Rattle.wires.specs.declared.turn.Turn.TheVariants.{Free}
-use Rattle.wires.specs.Moves.{Moment, Moves}
+use Rattle.wires.specs.Moves.{Moment, Moves, at}
 use Rattle.wires.specs.Rules.{Rules}
 use Rattle.wires.specs.Talk.{same, client_of}
 
@@ -18,16 +19,24 @@ acts_of [] = []
 acts_of (move ∷ moves) = move.act ∷ acts_of moves
 
 -- moves in turn
-abbrev pub Passes : {M N : Type 0} → Rules M N → Moment M N → List (Move N) → Moment M N → Type 0
+abbrev pub Passes : {M N R : Type 0} → Rules M N R → Moment M N R → List (Move N) → Moment M N R → Type 0
 Passes rules m [] n = n ≡ m
-Passes {M = M} {N = N} rules m (move ∷ moves) n =
-    (mid : Moment M N) × (one : Moves rules m mid) × (one.act ≡ move.act) × (one.said ≡ move.said) × Passes rules mid moves n
+Passes {M = M} {N = N} {R = R} rules m (move ∷ moves) n =
+    (mid : Moment M N R) × (one : Moves rules m mid) × (one.act ≡ move.act) × (one.said ≡ move.said) × Passes rules mid moves n
 
 -- the acts seen grew by those of moves in turn
-pub record Lives {M N : Type 0} (rules : Rules M N) (m n : Moment M N) : Type 0 where
+pub record Lives {M N R : Type 0} (rules : Rules M N R) (m n : Moment M N R) : Type 0 where
   pub moves : List (Move N)
   pub grows : n.seen ≡ m.seen ++ acts_of moves
   pub passes : Passes rules m moves n
+
+-- the same, where it is told
+abbrev pub LivesIf : {O M N R : Type 0} → (O → Bool) → (O → List (Act N)) → (O → R) → Rules M N R → O → M → Service → O → M → Service → Type 0
+LivesIf tells seen rest rules o m s p n t = IsTrue (tells p) → Lives rules (at seen rest o m s) (at seen rest p n t)
+
+-- so many acts were added, where it is told
+abbrev pub AddsIf : {O N : Type 0} → (O → Bool) → (O → List (Act N)) → O → ℕ → O → Type 0
+AddsIf tells seen o count p = IsTrue (tells p) → length (seen p) ≡ length (seen o) + count
 
 -- a service with no connection, and nobody's turn
 pub record Fresh (s : Service) : Type 0 where
@@ -51,6 +60,7 @@ tell id t (Came n kind) said = cond (same n id) (record { said = said; sent = []
 tell id t (Heard n piece) said = cond (same n id) (record t { said = t.said ++ said }) t
 tell id t (Noted n note) said = cond (same n id) (record t { said = t.said ++ said }) t
 tell id t (Late n) said = cond (same n id) (record t { said = t.said ++ said }) t
+tell id t (Displaced n) said = cond (same n id) (record t { said = t.said ++ said }) t
 tell id t (Sent n octets) said = cond (same n id) (record t { sent = t.sent ++ octets }) t
 tell id t (Shut n) said = cond (same n id) (record t { shut = true }) t
 tell id t _ said = t
@@ -68,9 +78,9 @@ IsFrontOf {X = X} xs ys = (rest : List X) × (xs ++ rest ≡ ys)
 -- ---- the laws
 
 -- at each front of the acts, what was sent on a connection is a front of what the machine said to it: nothing else, nothing twice
-abbrev pub OneConnection : {M N : Type 0} → Rules M N → Type 0
-OneConnection {M = M} {N = N} rules =
-    (m n : Moment M N) (some rest : List (Move N)) → Fresh m.service → Passes rules m (some ++ rest) n
+abbrev pub OneConnection : {M N R : Type 0} → Rules M N R → Type 0
+OneConnection {M = M} {N = N} {R = R} rules =
+    (m n : Moment M N R) (some rest : List (Move N)) → Fresh m.service → Passes rules m (some ++ rest) n
     → (id : ℕ) → IsFrontOf (told_of id some).sent (told_of id some).said
 
 -- whether an act changes a connection
@@ -79,6 +89,7 @@ concerns id (Came n kind) = same n id
 concerns id (Heard n piece) = same n id
 concerns id (Noted n note) = same n id
 concerns id (Late n) = same n id
+concerns id (Displaced n) = same n id
 concerns id (Sent n octets) = same n id
 concerns id (Shut n) = same n id
 concerns id (Dropped n count) = same n id
@@ -90,17 +101,18 @@ Untouched id [] = Unit {0}
 Untouched id (move ∷ moves) = (concerns id move.act ≡ false) × Untouched id moves
 
 -- acts of others change nothing of a connection
-abbrev pub Apart : {M N : Type 0} → Rules M N → Type 0
-Apart {M = M} {N = N} rules =
-    (m n : Moment M N) (moves : List (Move N)) → Passes rules m moves n → (id : ℕ) → Untouched id moves
+abbrev pub Apart : {M N R : Type 0} → Rules M N R → Type 0
+Apart {M = M} {N = N} {R = R} rules =
+    (m n : Moment M N R) (moves : List (Move N)) → Passes rules m moves n → (id : ℕ) → Untouched id moves
     → client_of n.service id ≡ client_of m.service id
 
--- its peer sends no more, a read or a write failed, memory was lacking, or it was late
+-- its peer sends no more, a read or a write failed, memory was lacking, it was late, or it made room for another
 abbrev pub IsCause : {N : Type 0} → ℕ → Act N → Type 0
 IsCause id (Over n) = n ≡ id
 IsCause id (Lost n) = n ≡ id
 IsCause id (Full n) = n ≡ id
 IsCause id (Late n) = n ≡ id
+IsCause id (Displaced n) = n ≡ id
 IsCause id _ = ⊥
 
 -- the last of some moves is a cause
@@ -116,7 +128,34 @@ pub record Farewell (t : Told) : Type 0 where
   pub shut : t.shut ≡ true
 
 -- each end has its cause right before it, or is a farewell
-abbrev pub EndsRight : {M N : Type 0} → Rules M N → Type 0
-EndsRight {M = M} {N = N} rules =
-    (m n : Moment M N) (before after : List (Move N)) (end : Move N) (id : ℕ) → Fresh m.service → Passes rules m (before ++ end ∷ after) n
+abbrev pub EndsRight : {M N R : Type 0} → Rules M N R → Type 0
+EndsRight {M = M} {N = N} {R = R} rules =
+    (m n : Moment M N R) (before after : List (Move N)) (end : Move N) (id : ℕ) → Fresh m.service → Passes rules m (before ++ end ∷ after) n
     → end.act ≡ Ended id → CausedBy id before ⊎ Farewell (told_of id before)
+
+-- ---- how many are open
+
+-- the kind of a connection where it is open: it came, and hasn't ended since
+abbrev pub kind_by : {N : Type 0} → ℕ → Option ℕ → Act N → Option ℕ
+kind_by id o (Came n kind) = cond (same n id) (Some kind) o
+kind_by id o (Ended n) = cond (same n id) None o
+kind_by id o _ = o
+
+abbrev pub kind_on : {N : Type 0} → ℕ → Option ℕ → List (Move N) → Option ℕ
+kind_on id o [] = o
+kind_on id o (move ∷ moves) = kind_on id (kind_by id o move.act) moves
+
+-- numbers that differ, of each of which this is true
+abbrev pub Distinct : (ℕ → Type 0) → List ℕ → Type 0
+Distinct Is [] = Unit {0}
+Distinct Is (id ∷ ids) = Is id × (list_any (λ other. same other id) ids ≡ false) × Distinct Is ids
+
+-- connections of a kind that are open behind some moves
+abbrev pub AreOpen : {N : Type 0} → ℕ → List (Move N) → List ℕ → Type 0
+AreOpen kind moves ids = Distinct (λ id. kind_on id None moves ≡ Some kind) ids
+
+-- at each front of the acts no more connections of a kind are open than the machine's limit says
+abbrev pub Bounded : {M N R : Type 0} → Rules M N R → Type 0
+Bounded {M = M} {N = N} {R = R} rules =
+    (m n : Moment M N R) (some rest : List (Move N)) → Fresh m.service → Passes rules m (some ++ rest) n
+    → (kind : ℕ) (ids : List ℕ) → AreOpen kind some ids → length ids ≤ rules.limit kind

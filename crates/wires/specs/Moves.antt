@@ -1,22 +1,23 @@
 -- What one call of the loop adds.
-use Rattle.std.specs.Prelude.{◌≡◌, ℕ, ◌==◌, nat_lt, not, filter, if◌then◌else◌, List, [], ◌∷◌, ◌++◌, Result, Ok, Err}
+use Rattle.std.specs.Prelude.{◌≡◌, ℕ, Bool, ◌==◌, nat_lt, not, filter, if◌then◌else◌, List, [], ◌∷◌, ◌++◌, Result, Ok, Err, IsTrue}
 use Rattle.std.specs.List.{list_any}
 use Rattle.wires.specs.declared.act.Act.{Act}
-use Rattle.wires.specs.declared.act.Act.TheVariants.{Woke, Began, Timed, Waits, Roused, Ended}
+use Rattle.wires.specs.declared.act.Act.TheVariants.{Woke, Began, Timed, Waits, Roused, Worked, Noted, Ended}
 use Rattle.wires.specs.declared.outcome.Wake.{Wake}
 use Rattle.wires.specs.declared.service.Service.{Service}
 use Rattle.wires.specs.Rules.{Rules}
 use Rattle.wires.specs.Talk.{Talks, client_of}
 use Rattle.wires.specs.Turns.{Turns}
 
--- all acts so far, the machine, and the connections
-pub record Moment (M N : Type 0) : Type 0 where
+-- all acts so far, all outside that is neither sockets nor clock, the machine, and the connections
+pub record Moment (M N R : Type 0) : Type 0 where
   pub seen : List (Act N)
+  pub rest : R
   pub machine : M
   pub service : Service
 
-abbrev pub moment : {M N : Type 0} → List (Act N) → M → Service → Moment M N
-moment seen machine service = record { seen = seen; machine = machine; service = service }
+abbrev pub moment : {M N R : Type 0} → List (Act N) → R → M → Service → Moment M N R
+moment seen rest machine service = record { seen = seen; rest = rest; machine = machine; service = service }
 
 -- what a wait told is taken up one by one, in its order, and nothing of it is forgotten
 abbrev pub Queues : {N : Type 0} → List Wake → Act N → List Wake → Type 0
@@ -36,18 +37,38 @@ abbrev pub Ticks : {N : Type 0} → ℕ → Act N → ℕ → Type 0
 Ticks now (Timed moment) later = later ≡ (if nat_lt now moment then moment else now)
 Ticks now _ later = later ≡ now
 
--- one act was added, which is right for what is ready, who waits, the moment, each connection, and the turn and the machine
-pub record Moves {M N : Type 0} (rules : Rules M N) (m n : Moment M N) : Type 0 where
+-- what is neither sockets nor clock is changed by the machine alone, where it notes something
+abbrev pub Leaves : {N R : Type 0} → R → Act N → R → Type 0
+Leaves r (Noted id note) q = Unit {0}
+Leaves r (Worked note) q = Unit {0}
+Leaves r _ q = q ≡ r
+
+-- one act was added, which is right for what is ready, who waits, the moment, each connection, the turn and the machine, and for
+-- all else that is outside
+pub record Moves {M N R : Type 0} (rules : Rules M N R) (m n : Moment M N R) : Type 0 where
   pub act : Act N
   pub said : List ℕ
   pub grows : n.seen ≡ m.seen ++ act ∷ []
+  pub leaves : Leaves m.rest act n.rest
   pub queues : Queues m.service.ready.items act n.service.ready.items
   pub waiters : Waiters m.service.waiting.items act n.service.waiting.items
   pub ticks : Ticks m.service.moment act n.service.moment
   pub talks : (id : ℕ) → Talks m.service.moment id (client_of m.service id) act said (client_of n.service id)
-  pub turns : Turns rules m.machine m.service act said n.machine n.service
+  pub turns : Turns rules m.machine m.rest m.service act said n.machine n.rest n.service
 
 -- the same, or where a wait failed nothing
-abbrev pub MovesOr : {M N T F : Type 0} → Rules M N → Moment M N → Moment M N → Result T F → Type 0
+abbrev pub MovesOr : {M N R T F : Type 0} → Rules M N R → Moment M N R → Moment M N R → Result T F → Type 0
 MovesOr rules m n (Ok done) = Moves rules m n
 MovesOr rules m n (Err fault) = n ≡ m
+
+-- the moment at an outside, by what it tells
+abbrev pub at : {O M N R : Type 0} → (O → List (Act N)) → (O → R) → O → M → Service → Moment M N R
+at seen rest o m s = moment (seen o) (rest o) m s
+
+-- one call, where it is told: a move, or where a wait failed nothing
+abbrev pub MovesIf : {O M N R : Type 0} → (O → Bool) → (O → List (Act N)) → (O → R) → Rules M N R → O → M → Service → O → M → Service → Type 0
+MovesIf tells seen rest rules o m s p n t = IsTrue (tells p) → Moves rules (at seen rest o m s) (at seen rest p n t)
+
+abbrev pub MovesOrIf : {O M N R T F : Type 0} → (O → Bool) → (O → List (Act N)) → (O → R) → Rules M N R
+    → O → M → Service → O → M → Service → Result T F → Type 0
+MovesOrIf tells seen rest rules o m s p n t result = IsTrue (tells p) → MovesOr rules (at seen rest o m s) (at seen rest p n t) result

@@ -1,34 +1,48 @@
 -- What a machine makes of what happens.
-use Rattle.std.specs.Prelude.{◌≡◌, ℕ, Bool, List, [], ◌∷◌, ◌++◌}
+use Rattle.std.specs.Prelude.{◌≡◌, ℕ, Bool, List, [], ◌∷◌, ◌++◌, Option, IsTrue}
 use Rattle.wires.specs.declared.act.Act.{Act}
 use Rattle.wires.specs.declared.act.Act.TheVariants.{Noted, Worked}
 use Rattle.wires.specs.declared.machine.Want.{Want}
 
--- of a machine M that notes N: how many connections of a kind may be open; of a connection by its number what it wants, and the
--- moment by which it is late; whether it has work of its own. Then, for each happening (at a moment, where one stands first),
--- what it says to that connection and the machine after it. A rule may allow more than one. `lates`: it was late, and ends.
--- `lacks`: memory was lacking for it
-pub record Rules (M N : Type 0) : Type 1 where
+-- of a machine M that notes N and acts on R, all of the outside that is neither sockets nor clock: how many connections of a
+-- kind may be open, and which of them makes room for another where that many are; of a connection by its number what it wants,
+-- and the moment by which it is late; whether it has work of its own at a moment. Then, for each happening (at a moment, where
+-- one stands first), what it says to that connection and the machine after it; a step and work of its own may change R. A rule
+-- may allow more than one. `lates`: it was late or made room, and ends. `lacks`: memory was lacking for it
+pub record Rules (M N R : Type 0) : Type 1 where
   pub limit : ℕ → ℕ
+  pub displaced : M → ℕ → Option ℕ
   pub wants : M → ℕ → Want
-  pub has_work : M → Bool
+  pub has_work : M → ℕ → Bool
   pub deadline : M → ℕ → ℕ
   pub opens : M → ℕ → ℕ → ℕ → List ℕ → M → Type 0
   pub gives : M → ℕ → ℕ → List ℕ → List ℕ → M → Type 0
-  pub steps : M → ℕ → ℕ → N → List ℕ → M → Type 0
-  pub lates : M → ℕ → List ℕ → M → Type 0
-  pub works : M → N → M → Type 0
+  pub steps : M → R → ℕ → ℕ → N → List ℕ → M → R → Type 0
+  pub lates : M → ℕ → ℕ → List ℕ → M → Type 0
+  pub works : M → R → ℕ → N → M → R → Type 0
   pub lacks : M → ℕ → M → Type 0
-  pub closes : M → ℕ → M → Type 0
+  pub closes : M → ℕ → ℕ → M → Type 0
 
 -- a machine went on with a connection, and noted it in one act
-pub record Steps {M N : Type 0} (rules : Rules M N) (seen : List (Act N)) (m : M) (now id : ℕ) (said : List ℕ) (later : List (Act N)) (n : M) : Type 0 where
+pub record Steps {M N R : Type 0} (rules : Rules M N R) (seen : List (Act N)) (m : M) (r : R) (now id : ℕ) (said : List ℕ)
+    (later : List (Act N)) (n : M) (q : R) : Type 0 where
   pub note : N
   pub grows : later ≡ seen ++ Noted id note ∷ []
-  pub steps : rules.steps m now id note said n
+  pub steps : rules.steps m r now id note said n q
 
 -- the same of its own work
-pub record Works {M N : Type 0} (rules : Rules M N) (seen : List (Act N)) (m : M) (later : List (Act N)) (n : M) : Type 0 where
+pub record Works {M N R : Type 0} (rules : Rules M N R) (seen : List (Act N)) (m : M) (r : R) (now : ℕ) (later : List (Act N)) (n : M) (q : R) : Type 0 where
   pub note : N
   pub grows : later ≡ seen ++ Worked note ∷ []
-  pub works : rules.works m note n
+  pub works : rules.works m r now note n q
+
+-- the same, where it is told
+abbrev pub StepsIf : {O M N R : Type 0} → (O → Bool) → (O → List (Act N)) → (O → R) → Rules M N R → O → M → ℕ → ℕ → List ℕ → O → M → Type 0
+StepsIf tells seen rest rules o m now id said p n = IsTrue (tells p) → Steps rules (seen o) m (rest o) now id said (seen p) n (rest p)
+
+abbrev pub WorksIf : {O M N R : Type 0} → (O → Bool) → (O → List (Act N)) → (O → R) → Rules M N R → O → M → ℕ → O → M → Type 0
+WorksIf tells seen rest rules o m now p n = IsTrue (tells p) → Works rules (seen o) m (rest o) now (seen p) n (rest p)
+
+-- nothing was done outside, where it is told
+abbrev pub IdlesIf : {O N R : Type 0} → (O → Bool) → (O → List (Act N)) → (O → R) → O → O → Type 0
+IdlesIf tells seen rest o p = IsTrue (tells p) → (seen p ≡ seen o) × (rest p ≡ rest o)

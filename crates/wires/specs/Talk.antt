@@ -1,9 +1,10 @@
 -- One connection, act by act: what is heard of it, said to it and sent on it. It knows no other connection.
-use Rattle.std.specs.Prelude.{◌≡◌, ◌⊎◌, ℕ, ◌+◌, ◌-◌, ◌%◌, ◌^◌, ◌<◌, ◌==◌, nat_lt, not, Bool, true, false, if◌then◌else◌, List, [], ◌∷◌, ◌++◌, length, Option, Some, None}
+use Rattle.std.specs.Prelude.{◌≡◌, ◌⊎◌, ℕ, ◌+◌, ◌-◌, ◌%◌, ◌^◌, ◌<◌, ◌==◌, nat_lt, not, Bool, true, false, if◌then◌else◌, List, []}
+use Rattle.std.specs.Prelude.{◌∷◌, ◌++◌, length, Option, Some, None}
 use Rattle.std.specs.BTreeMap as tree
 use Rattle.std.specs.Ordering.{nat_cmp, is_eq}
 use Rattle.wires.specs.declared.act.Act.{Act}
-use Rattle.wires.specs.declared.act.Act.TheVariants.{Late, Came, Heard, Sent, Noted, Shut, Dropped, Ended}
+use Rattle.wires.specs.declared.act.Act.TheVariants.{Late, Came, Displaced, Heard, Sent, Noted, Shut, Dropped, Ended}
 use Rattle.wires.specs.declared.machine.Want.{Want}
 use Rattle.wires.specs.declared.machine.Want.TheVariants as want
 use Rattle.wires.specs.declared.service.Client.{Client}
@@ -34,6 +35,11 @@ is_quiet_by (x ∷ unsent) at = false
 abbrev pub is_quiet : Option Client → Bool
 is_quiet (Some c) = is_quiet_by c.unsent c.phase
 is_quiet None = false
+
+abbrev pub is_open_by : Phase → Bool
+is_open_by phase.Open = true
+is_open_by phase.Closing = false
+is_open_by (phase.Shut left) = false
 
 abbrev pub is_closing_by : Phase → Bool
 is_closing_by phase.Open = false
@@ -75,7 +81,7 @@ task_by [] phase.Open now wanted = task_wanted now wanted
 task_by [] phase.Closing now wanted = HangUp
 task_by [] (phase.Shut left) now wanted = if left == 0 then End else Drain
 
-abbrev pub task : {M N : Type 0} → Rules M N → M → ℕ → ℕ → Option Client → Task
+abbrev pub task : {M N R : Type 0} → Rules M N R → M → ℕ → ℕ → Option Client → Task
 task rules m now id (Some c) = task_by c.unsent c.phase now (rules.wants m id)
 task rules m now id None = Nothing
 
@@ -113,7 +119,7 @@ pub record Sends (now : ℕ) (octets : List ℕ) (o p : Option Client) : Type 0 
   pub front : before.unsent ≡ octets ++ rest
   pub after : p ≡ Some (record before { unsent = rest; until = after_span now max_unsent })
 
--- to one that was late, and to which nothing waits, something is said last
+-- to one that was late or makes room for another, and to which nothing waits, something is said last
 pub record Parts (now : ℕ) (said : List ℕ) (o p : Option Client) : Type 0 where
   pub quiet : is_quiet o ≡ true
   pub before : Client
@@ -123,6 +129,12 @@ pub record Parts (now : ℕ) (said : List ℕ) (o p : Option Client) : Type 0 wh
 -- the same, or nothing is said and nothing changes
 abbrev pub OrNothing : Type 0 → List ℕ → Option Client → Option Client → Type 0
 OrNothing says said o p = says ⊎ ((said ≡ []) × (p ≡ o))
+
+abbrev pub MayAnswer : ℕ → List ℕ → Option Client → Option Client → Type 0
+MayAnswer now said o p = OrNothing (Answers now said o p) said o p
+
+abbrev pub MayPart : ℕ → List ℕ → Option Client → Option Client → Type 0
+MayPart now said o p = OrNothing (Parts now said o p) said o p
 
 -- this side was shut: from now on what comes is dropped
 pub record Shuts (now : ℕ) (o p : Option Client) : Type 0 where
@@ -148,15 +160,17 @@ At false changes stays = stays
 -- what an act makes of the connection `id` at a moment; `said` is what the machine says at it
 abbrev pub Talks : {N : Type 0} → ℕ → ℕ → Option Client → Act N → List ℕ → Option Client → Type 0
 Talks now id o (Came n kind) said p = At (same n id) (Comes now n kind said o p) (p ≡ o)
-Talks now id o (Heard n piece) said p = At (same n id) (OrNothing (Answers now said o p) said o p) (p ≡ o)
+Talks now id o (Heard n piece) said p = At (same n id) (MayAnswer now said o p) (p ≡ o)
 Talks now id o (Noted n note) said p = At (same n id) (Answers now said o p) (p ≡ o)
 Talks now id o (Sent n octets) said p = At (same n id) (Sends now octets o p) (p ≡ o)
-Talks now id o (Late n) said p = At (same n id) (OrNothing (Parts now said o p) said o p) (p ≡ o)
+Talks now id o (Late n) said p = At (same n id) (MayPart now said o p) (p ≡ o)
+Talks now id o (Displaced n) said p = At (same n id) (MayPart now said o p) (p ≡ o)
 Talks now id o (Shut n) said p = At (same n id) (Shuts now o p) (p ≡ o)
 Talks now id o (Dropped n count) said p = At (same n id) (Drops count o p) (p ≡ o)
 Talks now id o (Ended n) said p = At (same n id) (p ≡ None) (p ≡ o)
 Talks now id o _ said p = p ≡ o
 
--- what is said to one connection waits, others are as they were, and so is all else
-abbrev pub Speaks : ℕ → List ℕ → Service → Service → Type 0
-Speaks id said s t = (other : ℕ) → At (same id other) (Answers s.moment said (client_of s other) (client_of t other)) (client_of t other ≡ client_of s other)
+-- one connection changes so, others are as they were
+abbrev pub Alone : ℕ → (Option Client → Option Client → Type 0) → Service → Service → Type 0
+Alone id Changes s t =
+    (other : ℕ) → At (same id other) (Changes (client_of s other) (client_of t other)) (client_of t other ≡ client_of s other)

@@ -1,7 +1,8 @@
 -- What one call on the outside adds to the acts.
 use Rattle.std.specs.Prelude.{◌≡◌, ℕ, ◌≤◌, ◌<◌, Bool, List, [], ◌∷◌, ◌++◌, length, take, IsTrue}
 use Rattle.wires.specs.declared.act.Act.{Act}
-use Rattle.wires.specs.declared.act.Act.TheVariants.{Began, Late, Waits, Roused, Came, NoneCame, Crowded, InUse, Heard, ReadBlocked, Over, Sent, WriteBlocked, Lost, Full, Dropped}
+use Rattle.wires.specs.declared.act.Act.TheVariants.{Began, Late, Waits, Roused, Came, NoneCame, Crowded, Displaced, InUse, Heard}
+use Rattle.wires.specs.declared.act.Act.TheVariants.{ReadBlocked, Over, Sent, WriteBlocked, Lost, Full, Dropped}
 use Rattle.wires.specs.declared.outcome.Accepted.{Accepted}
 use Rattle.wires.specs.declared.outcome.Accepted.TheVariants as accepted
 use Rattle.wires.specs.declared.outcome.Input.{Input}
@@ -20,6 +21,10 @@ Tells seen act later = later ≡ seen ++ act ∷ []
 -- the same, where it is told
 abbrev pub TellsIf : {O N : Type 0} → (O → Bool) → (O → List (Act N)) → O → Act N → O → Type 0
 TellsIf tells seen old act new = IsTrue (tells new) → Tells (seen old) act (seen new)
+
+-- all that is neither sockets nor clock is as it was, where it is told
+abbrev pub LeavesIf : {O R : Type 0} → (O → Bool) → (O → R) → O → O → Type 0
+LeavesIf tells rest old new = IsTrue (tells new) → rest new ≡ rest old
 
 abbrev pub AfterAccept : {N : Type 0} → List (Act N) → ℕ → ℕ → Accepted → List (Act N) → Type 0
 AfterAccept seen kind id accepted.Came later = Tells seen (Came id kind) later
@@ -50,6 +55,7 @@ IsOwn (Late id) = Unit {0}
 IsOwn (Waits id) = Unit {0}
 IsOwn (Roused id) = Unit {0}
 IsOwn (Crowded kind) = Unit {0}
+IsOwn (Displaced id) = Unit {0}
 IsOwn (InUse id) = Unit {0}
 IsOwn (Full id) = Unit {0}
 IsOwn _ = ⊥

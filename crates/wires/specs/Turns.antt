@@ -1,8 +1,11 @@
 -- Whose turn it is, act by act, and what the machine is asked for.
-use Rattle.std.specs.Prelude.{◌≡◌, ◌⊎◌, ℕ, ◌+◌, ◌%◌, ◌^◌, ◌≤◌, ◌<◌, ◌==◌, Bool, true, false, List, [], length, filter, find, option_map, Option, Some, None, IsSome}
+use Rattle.std.specs.Prelude.{◌≡◌, ◌⊎◌, ℕ, ◌+◌, ◌%◌, ◌^◌, ◌≤◌, ◌<◌, ◌==◌, Bool, true, false, List, [], length, filter, find}
+use Rattle.std.specs.Prelude.{option_map, if◌then◌else◌, ◌&&◌, Option, Some, None, IsSome}
 use Rattle.std.specs.BTreeMap as tree
 use Rattle.wires.specs.declared.act.Act.{Act}
-use Rattle.wires.specs.declared.act.Act.TheVariants.{Woke, Timed, Late, Began, Roused, Worked, Came, NoneCame, Crowded, InUse, Heard, ReadBlocked, Over, Sent, WriteBlocked, Lost, Noted, Waits, Full, Again, Shut, Dropped, Ended}
+use Rattle.wires.specs.declared.act.Act.TheVariants.{Woke, Timed, Late, Began, Roused, Worked, Came, NoneCame, Crowded, Displaced}
+use Rattle.wires.specs.declared.act.Act.TheVariants.{Listened, InUse, Heard, ReadBlocked, Over, Sent, WriteBlocked, Lost, Noted}
+use Rattle.wires.specs.declared.act.Act.TheVariants.{Waits, Full, Again, Shut, Dropped, Ended}
 use Rattle.wires.specs.declared.outcome.Wake.{Wake}
 use Rattle.wires.specs.declared.outcome.Wake.TheVariants.{Knock, Ready}
 use Rattle.wires.specs.declared.service.Client.{Client}
@@ -12,7 +15,7 @@ use Rattle.wires.specs.declared.turn.Turn.TheVariants.{Free, Rested, Waked, Swee
 use Rattle.wires.specs.declared.turn.Task.{Task}
 use Rattle.wires.specs.declared.turn.Task.TheVariants.{Send, Hear, Step, Rest, HangUp, Drain, End, Nothing}
 use Rattle.wires.specs.Rules.{Rules}
-use Rattle.wires.specs.Talk.{same, client_of, kind_of, is_quiet, is_closing, is_late, task, newcomer, At, Answers, Parts, OrNothing, Speaks}
+use Rattle.wires.specs.Talk.{same, client_of, kind_of, is_quiet, is_closing, is_late, task, is_open_by, newcomer, Answers, Alone, MayAnswer, MayPart}
 use Rattle.wires.specs.Told.{largest_piece}
 
 -- after so many acts in a row of one connection another has its turn
@@ -24,11 +27,11 @@ abbrev pub open_of : ℕ → Service → ℕ
 open_of kind s = length (filter (λ (c : Client). c.kind == kind) (tree.values s.clients))
 
 -- one more of that kind may come
-abbrev pub HasPlace : {M N : Type 0} → Rules M N → ℕ → Service → Type 0
+abbrev pub HasPlace : {M N R : Type 0} → Rules M N R → ℕ → Service → Type 0
 HasPlace rules kind s = open_of kind s < rules.limit kind
 
 -- it is the turn of this connection, and that is to be done on it
-pub record Tasks {M N : Type 0} (rules : Rules M N) (m : M) (s : Service) (id count : ℕ) (wanted : Task) : Type 0 where
+pub record Tasks {M N R : Type 0} (rules : Rules M N R) (m : M) (s : Service) (id count : ℕ) (wanted : Task) : Type 0 where
   pub busy : s.turn ≡ Busy id count
   pub few : count < fair
   pub task : task rules m s.moment id (client_of s id) ≡ wanted
@@ -39,11 +42,11 @@ turn_by id (Some c) = Busy id 0
 turn_by id None = Free
 
 abbrev pub turn_of : Wake → Service → Turn
-turn_of (Knock kind) s = Door kind
+turn_of (Knock kind) s = Door kind true
 turn_of (Ready id) s = turn_by id (client_of s id)
 
 -- a connection that is late, the first by number
-abbrev pub first_late : {M N : Type 0} → Rules M N → M → Service → Option ℕ
+abbrev pub first_late : {M N R : Type 0} → Rules M N R → M → Service → Option ℕ
 first_late rules m s = option_map (λ (c : Client). c.id) (find (λ (c : Client). is_late s.moment (rules.deadline m c.id) c) (tree.values s.clients))
 
 -- the first of those who wait that has something to do now
@@ -51,43 +54,62 @@ abbrev pub goes_on : Task → Bool
 goes_on Rest = false
 goes_on _ = true
 
-abbrev pub first_roused : {M N : Type 0} → Rules M N → M → Service → Option ℕ
+abbrev pub first_roused : {M N R : Type 0} → Rules M N R → M → Service → Option ℕ
 first_roused rules m s = find (λ id. goes_on (task rules m s.moment id (client_of s id))) s.waiting.items
 
 -- nobody's turn, and nobody is late whom the last reading of the clock showed
-abbrev pub Calm : {M N : Type 0} → Rules M N → M → Service → Type 0
+abbrev pub Calm : {M N R : Type 0} → Rules M N R → M → Service → Type 0
 Calm rules m s = (s.turn ≡ Free) ⊎ ((s.turn ≡ Sweep) × (first_late rules m s ≡ None))
 
-abbrev pub Rests : {M N : Type 0} → Rules M N → M → Service → Type 0
+abbrev pub Rests : {M N R : Type 0} → Rules M N R → M → Service → Type 0
 Rests rules m s = Calm rules m s ⊎ (s.turn ≡ Rested)
 
 -- nothing is left of what the last wait told, and none of those who wait has something to do
-pub record Quiet {M N : Type 0} (rules : Rules M N) (m : M) (s : Service) : Type 0 where
+pub record Quiet {M N R : Type 0} (rules : Rules M N R) (m : M) (s : Service) : Type 0 where
   pub none : s.ready.items ≡ []
   pub nobody : first_roused rules m s ≡ None
 
 -- a wait follows where the machine has no work, or has just done some
-abbrev pub MayWait : {M N : Type 0} → Rules M N → M → Service → Type 0
-MayWait rules m s = (s.turn ≡ Rested) ⊎ (Calm rules m s × (rules.has_work m ≡ false))
+abbrev pub MayWait : {M N R : Type 0} → Rules M N R → M → Service → Type 0
+MayWait rules m s = (s.turn ≡ Rested) ⊎ (Calm rules m s × (rules.has_work m s.moment ≡ false))
 
 -- at the door: one may come, under a number that is free
-pub record Admits {M N : Type 0} (rules : Rules M N) (s : Service) (kind : ℕ) : Type 0 where
-  pub door : s.turn ≡ Door kind
+pub record Admits {M N R : Type 0} (rules : Rules M N R) (s : Service) (kind : ℕ) : Type 0 where
+  pub knocked : Bool
+  pub door : s.turn ≡ Door kind knocked
   pub place : HasPlace rules kind s
   pub free : client_of s s.next ≡ None
+
+-- at the door: no more may come
+pub record NoPlace {M N R : Type 0} (rules : Rules M N R) (s : Service) (kind : ℕ) (knocked : Bool) : Type 0 where
+  pub door : s.turn ≡ Door kind knocked
+  pub full : ¬ HasPlace rules kind s
+
+-- it is open, and of that kind
+abbrev pub is_open_of : ℕ → Option Client → Bool
+is_open_of kind (Some c) = is_open_by c.phase && (c.kind == kind)
+is_open_of kind None = false
+
+-- the one that makes room for another of that kind: whom the machine names, if it is open and of that kind
+abbrev pub room_by : ℕ → Service → Option ℕ → Option ℕ
+room_by kind s (Some id) = if is_open_of kind (client_of s id) then Some id else None
+room_by kind s None = None
+
+abbrev pub makes_room : {M N R : Type 0} → Rules M N R → M → Service → ℕ → Option ℕ
+makes_room rules m s kind = room_by kind s (rules.displaced m kind)
 
 -- the next number
 abbrev pub after_number : ℕ → ℕ
 after_number id = (id + 1) % 2 ^ 32
 
 -- one that came is there and the door goes on, or memory was lacking for it
-abbrev pub Opens : {M N : Type 0} → Rules M N → M → ℕ → ℕ → ℕ → List ℕ → M → Service → Type 0
+abbrev pub Opens : {M N R : Type 0} → Rules M N R → M → ℕ → ℕ → ℕ → List ℕ → M → Service → Type 0
 Opens rules m now id kind said n t =
-    (rules.opens m now kind id said n × (client_of t id ≡ Some (newcomer now id kind said)) × (t.turn ≡ Door kind))
+    (rules.opens m now kind id said n × (client_of t id ≡ Some (newcomer now id kind said)) × (t.turn ≡ Door kind false))
     ⊎ ((client_of t id ≡ None) × (t.turn ≡ Stuffed id kind) × (rules.opens m now kind id said n ⊎ rules.lacks m id n))
 
 -- one that came, and what is said to it
-pub record Enters {M N : Type 0} (rules : Rules M N) (m : M) (s : Service) (id kind : ℕ) (n : M) (t : Service) : Type 0 where
+pub record Enters {M N R : Type 0} (rules : Rules M N R) (m : M) (s : Service) (id kind : ℕ) (n : M) (t : Service) : Type 0 where
   pub said : List ℕ
   pub opens : Opens rules m s.moment id kind said n t
   pub others : (other : ℕ) → same id other ≡ false → client_of t other ≡ client_of s other
@@ -101,7 +123,7 @@ abbrev pub Goes : Type 0 → Type 0 → ℕ → ℕ → ℕ → List ℕ → Tur
 Goes done lacks id kind count said turn = (done × (turn ≡ Busy id (count + 1))) ⊎ (lacks × (said ≡ []) × (turn ≡ Stuffed id kind))
 
 -- a piece is heard only where nothing waits to be sent and the machine wants more
-pub record Hears {M N : Type 0} (rules : Rules M N) (m : M) (s : Service) (id : ℕ) (piece said : List ℕ) (n : M) (t : Service) : Type 0 where
+pub record Hears {M N R : Type 0} (rules : Rules M N R) (m : M) (s : Service) (id : ℕ) (piece said : List ℕ) (n : M) (t : Service) : Type 0 where
   pub count : ℕ
   pub wanted : Tasks rules m s id count Hear
   pub some : 0 < length piece
@@ -111,16 +133,16 @@ pub record Hears {M N : Type 0} (rules : Rules M N) (m : M) (s : Service) (id : 
 -- what is said to a connection is to be sent, and its turn goes on
 pub record Answered (id count : ℕ) (said : List ℕ) (s t : Service) : Type 0 where
   pub turn : t.turn ≡ Busy id (count + 1)
-  pub speaks : Speaks id said s t
+  pub speaks : Alone id (Answers s.moment said) s t
   pub ready : t.ready ≡ s.ready
   pub waiting : t.waiting ≡ s.waiting
   pub moment : t.moment ≡ s.moment
 
 -- a piece that was heard, and what the machine made of it
-pub record Given {M N : Type 0} (rules : Rules M N) (m : M) (s : Service) (id count : ℕ) (piece : List ℕ) (n : M) (t : Service) : Type 0 where
+pub record Given {M N R : Type 0} (rules : Rules M N R) (m : M) (s : Service) (id count : ℕ) (piece : List ℕ) (n : M) (t : Service) : Type 0 where
   pub said : List ℕ
   pub goes : Goes (rules.gives m s.moment id piece said n) (rules.lacks m id n) id (kind_of (client_of s id)) count said t.turn
-  pub talks : (other : ℕ) → At (same id other) (OrNothing (Answers s.moment said (client_of s other) (client_of t other)) said (client_of s other) (client_of t other)) (client_of t other ≡ client_of s other)
+  pub talks : Alone id (MayAnswer s.moment said) s t
   pub ready : t.ready ≡ s.ready
   pub waiting : t.waiting ≡ s.waiting
   pub moment : t.moment ≡ s.moment
@@ -130,74 +152,104 @@ abbrev pub Silent : {M : Type 0} → M → List ℕ → M → Type 0
 Silent m said n = (n ≡ m) × (said ≡ [])
 
 -- one act of a connection whose turn goes on
-abbrev pub GoesOn : {M N : Type 0} → Rules M N → M → Service → ℕ → Task → Turn → Type 0
+abbrev pub GoesOn : {M N R : Type 0} → Rules M N R → M → Service → ℕ → Task → Turn → Type 0
 GoesOn rules m s id wanted turn = (count : ℕ) × Tasks rules m s id count wanted × (turn ≡ Busy id (count + 1))
 
 -- one that ends its turn by that
-abbrev pub Stops : {M N : Type 0} → Rules M N → M → Service → ℕ → Task → Turn → Turn → Type 0
+abbrev pub Stops : {M N R : Type 0} → Rules M N R → M → Service → ℕ → Task → Turn → Turn → Type 0
 Stops rules m s id wanted to turn = (count : ℕ) × Tasks rules m s id count wanted × (turn ≡ to)
 
 -- a read may find nothing, or an end, where it is to be heard or drained
-abbrev pub Reads : {M N : Type 0} → Rules M N → M → Service → ℕ → Turn → Turn → Type 0
+abbrev pub Reads : {M N R : Type 0} → Rules M N R → M → Service → ℕ → Turn → Turn → Type 0
 Reads rules m s id to turn = Stops rules m s id Hear to turn ⊎ Stops rules m s id Drain to turn
 
 -- a read or a write may fail
-abbrev pub Fails : {M N : Type 0} → Rules M N → M → Service → ℕ → Turn → Turn → Type 0
+abbrev pub Fails : {M N R : Type 0} → Rules M N R → M → Service → ℕ → Turn → Turn → Type 0
 Fails rules m s id to turn = Stops rules m s id Send to turn ⊎ Reads rules m s id to turn
 
 -- memory may be lacking for it: it came or was heard without, or can't go on
-abbrev pub Lacks : {M N : Type 0} → Rules M N → M → Service → ℕ → M → Service → Type 0
+abbrev pub Lacks : {M N R : Type 0} → Rules M N R → M → Service → ℕ → M → Service → Type 0
 Lacks rules m s id n t =
     ((kind : ℕ) × (s.turn ≡ Stuffed id kind) × (n ≡ m) × (t.turn ≡ Leaving id kind))
     ⊎ ((rules.lacks m id n × Stops rules m s id Step (Leaving id (kind_of (client_of s id))) t.turn)
     ⊎ ((n ≡ m) × Stops rules m s id Rest (Leaving id (kind_of (client_of s id))) t.turn))
 
--- to one that is late and to which nothing waits something is said last; any other, or where memory is lacking, is closed
-abbrev pub Parting : {M N : Type 0} → Rules M N → M → Service → ℕ → List ℕ → M → Service → Type 0
+-- to one that is late or makes room and to which nothing waits something is said last; any other, or where memory is lacking, is closed
+abbrev pub Parting : {M N R : Type 0} → Rules M N R → M → Service → ℕ → List ℕ → M → Service → Type 0
 Parting rules m s id said n t =
-    ((is_quiet (client_of s id) ≡ true) × rules.lates m id said n × (t.turn ≡ Busy id 0) × (is_closing (client_of t id) ≡ true))
+    ((is_quiet (client_of s id) ≡ true) × rules.lates m s.moment id said n × (t.turn ≡ Busy id 0) × (is_closing (client_of t id) ≡ true))
     ⊎ ((said ≡ []) × (t.turn ≡ Leaving id (kind_of (client_of s id))) × ((n ≡ m) × (is_quiet (client_of s id) ≡ false)))
     ⊎ ((said ≡ []) × (t.turn ≡ Leaving id (kind_of (client_of s id))) × rules.lacks m id n)
 
--- what the machine says last to one that was late
-pub record Parted {M N : Type 0} (rules : Rules M N) (m : M) (s : Service) (id : ℕ) (n : M) (t : Service) : Type 0 where
+-- what the machine says last to one that was late or makes room
+pub record Parted {M N R : Type 0} (rules : Rules M N R) (m : M) (s : Service) (id : ℕ) (n : M) (t : Service) : Type 0 where
   pub said : List ℕ
   pub parting : Parting rules m s id said n t
-  pub talks : (other : ℕ) → At (same id other) (OrNothing (Parts s.moment said (client_of s other) (client_of t other)) said (client_of s other) (client_of t other)) (client_of t other ≡ client_of s other)
+  pub talks : Alone id (MayPart s.moment said) s t
   pub ready : t.ready ≡ s.ready
   pub waiting : t.waiting ≡ s.waiting
   pub moment : t.moment ≡ s.moment
 
 -- another has its turn after so many acts, and not before; or where it isn't there
-abbrev pub Yields : {M N : Type 0} → Rules M N → M → Service → ℕ → Type 0
+abbrev pub Yields : {M N R : Type 0} → Rules M N R → M → Service → ℕ → Type 0
 Yields rules m s id = ((count : ℕ) × (s.turn ≡ Busy id count) × (fair ≤ count)) ⊎ ((count : ℕ) × Tasks rules m s id count Nothing)
 
 -- it is closed right behind a cause, or where the machine is done with it, all is sent and its peer had time
-abbrev pub MayEnd : {M N : Type 0} → Rules M N → M → Service → ℕ → ℕ → Type 0
+abbrev pub MayEnd : {M N R : Type 0} → Rules M N R → M → Service → ℕ → ℕ → Type 0
 MayEnd rules m s id kind = (s.turn ≡ Leaving id kind) ⊎ ((count : ℕ) × Tasks rules m s id count End × (kind ≡ kind_of (client_of s id)))
 
+-- one that waits goes on where nothing is left of what the last wait told, the first that has something to do
+pub record Rouses {M N R : Type 0} (rules : Rules M N R) (m : M) (s : Service) (id : ℕ) : Type 0 where
+  pub none : s.ready.items ≡ []
+  pub first : first_roused rules m s ≡ Some id
+
+-- the machine works where nobody else has something to do, and it has
+pub record MayWork {M N R : Type 0} (rules : Rules M N R) (m : M) (s : Service) : Type 0 where
+  pub calm : Calm rules m s
+  pub quiet : Quiet rules m s
+  pub work : rules.has_work m s.moment ≡ true
+
+-- the next number is that of a connection, and is passed over
+pub record Passed {M N R : Type 0} (rules : Rules M N R) (s : Service) (id : ℕ) (t : Service) : Type 0 where
+  pub kind : ℕ
+  pub knocked : Bool
+  pub door : s.turn ≡ Door kind knocked
+  pub place : HasPlace rules kind s
+  pub number : id ≡ s.next
+  pub taken : IsSome (client_of s id)
+  pub next : t.next ≡ after_number id
+  pub stays : t.turn ≡ Door kind knocked
+
+-- there is no place, and nobody makes room
+pub record Crowds {M N R : Type 0} (rules : Rules M N R) (m : M) (s : Service) (kind : ℕ) : Type 0 where
+  pub knocked : Bool
+  pub none : NoPlace rules s kind knocked
+  pub nobody : makes_room rules m s kind ≡ None
+
 -- the acts that a turn allows, what the machine says at them and becomes, and whose turn follows
-abbrev pub Turns : {M N : Type 0} → Rules M N → M → Service → Act N → List ℕ → M → Service → Type 0
-Turns rules m s (Woke wakes) said n t = Silent m said n × MayWait rules m s × Quiet rules m s × (t.turn ≡ Waked)
-Turns rules m s (Timed moment) said n t = Silent m said n × (s.turn ≡ Waked) × (t.turn ≡ Sweep)
-Turns rules m s (Late id) said n t = (s.turn ≡ Sweep) × (first_late rules m s ≡ Some id) × Parting rules m s id said n t
-Turns rules m s (Began wake) said n t = Silent m said n × Rests rules m s × (t.turn ≡ turn_of wake s)
-Turns rules m s (Roused id) said n t = Silent m said n × Rests rules m s × (s.ready.items ≡ []) × (first_roused rules m s ≡ Some id) × (t.turn ≡ turn_by id (client_of s id))
-Turns rules m s (Worked note) said n t = rules.works m note n × (said ≡ []) × Calm rules m s × Quiet rules m s × (rules.has_work m ≡ true) × (t.turn ≡ Rested)
-Turns rules m s (Came id kind) said n t = Admits rules s kind × (id ≡ s.next) × (t.next ≡ after_number id) × Opens rules m s.moment id kind said n t
-Turns rules m s (NoneCame kind) said n t = Silent m said n × Admits rules s kind × (t.turn ≡ Free)
-Turns rules m s (Crowded kind) said n t = Silent m said n × (s.turn ≡ Door kind) × (¬ HasPlace rules kind s) × (t.turn ≡ Free)
-Turns rules m s (InUse id) said n t = Silent m said n × ((kind : ℕ) × (s.turn ≡ Door kind) × HasPlace rules kind s × (t.turn ≡ Door kind)) × (id ≡ s.next) × IsSome (client_of s id) × (t.next ≡ after_number id)
-Turns rules m s (Heard id piece) said n t = Hears rules m s id piece said n t
-Turns rules m s (ReadBlocked id) said n t = Silent m said n × Reads rules m s id Free t.turn
-Turns rules m s (Over id) said n t = Silent m said n × Reads rules m s id (Leaving id (kind_of (client_of s id))) t.turn
-Turns rules m s (Sent id octets) said n t = Silent m said n × GoesOn rules m s id Send t.turn
-Turns rules m s (WriteBlocked id) said n t = Silent m said n × Stops rules m s id Send Free t.turn
-Turns rules m s (Lost id) said n t = Silent m said n × Fails rules m s id (Leaving id (kind_of (client_of s id))) t.turn
-Turns rules m s (Noted id note) said n t = rules.steps m s.moment id note said n × GoesOn rules m s id Step t.turn
-Turns rules m s (Waits id) said n t = Silent m said n × Stops rules m s id Rest Free t.turn
-Turns rules m s (Full id) said n t = (said ≡ []) × Lacks rules m s id n t
-Turns rules m s (Again id) said n t = Silent m said n × Yields rules m s id × (t.turn ≡ Free)
-Turns rules m s (Shut id) said n t = Silent m said n × GoesOn rules m s id HangUp t.turn
-Turns rules m s (Dropped id count) said n t = Silent m said n × GoesOn rules m s id Drain t.turn
-Turns rules m s (Ended id) said n t = rules.closes m id n × (said ≡ []) × ((kind : ℕ) × MayEnd rules m s id kind × (t.turn ≡ Door kind))
+abbrev pub Turns : {M N R : Type 0} → Rules M N R → M → R → Service → Act N → List ℕ → M → R → Service → Type 0
+Turns rules m r s (Woke wakes) said n q t = Silent m said n × MayWait rules m s × Quiet rules m s × (t.turn ≡ Waked)
+Turns rules m r s (Timed moment) said n q t = Silent m said n × (s.turn ≡ Waked) × (t.turn ≡ Sweep)
+Turns rules m r s (Late id) said n q t = (s.turn ≡ Sweep) × (first_late rules m s ≡ Some id) × Parting rules m s id said n t
+Turns rules m r s (Began wake) said n q t = Silent m said n × Rests rules m s × (t.turn ≡ turn_of wake s)
+Turns rules m r s (Roused id) said n q t = Silent m said n × Rests rules m s × Rouses rules m s id × (t.turn ≡ turn_by id (client_of s id))
+Turns rules m r s (Worked note) said n q t = rules.works m r s.moment note n q × (said ≡ []) × MayWork rules m s × (t.turn ≡ Rested)
+Turns rules m r s (Came id kind) said n q t = Admits rules s kind × (id ≡ s.next) × (t.next ≡ after_number id) × Opens rules m s.moment id kind said n t
+Turns rules m r s (NoneCame kind) said n q t = Silent m said n × Admits rules s kind × (t.turn ≡ Free)
+Turns rules m r s (Crowded kind) said n q t = Silent m said n × Crowds rules m s kind × (t.turn ≡ Free)
+Turns rules m r s (Displaced id) said n q t = ((kind : ℕ) × NoPlace rules s kind true × (makes_room rules m s kind ≡ Some id)) × Parting rules m s id said n t
+Turns rules m r s (Listened kind) said n q t = Silent m said n × NoPlace rules s kind false × IsSome (makes_room rules m s kind) × (t.turn ≡ Free)
+Turns rules m r s (InUse id) said n q t = Silent m said n × Passed rules s id t
+Turns rules m r s (Heard id piece) said n q t = Hears rules m s id piece said n t
+Turns rules m r s (ReadBlocked id) said n q t = Silent m said n × Reads rules m s id Free t.turn
+Turns rules m r s (Over id) said n q t = Silent m said n × Reads rules m s id (Leaving id (kind_of (client_of s id))) t.turn
+Turns rules m r s (Sent id octets) said n q t = Silent m said n × GoesOn rules m s id Send t.turn
+Turns rules m r s (WriteBlocked id) said n q t = Silent m said n × Stops rules m s id Send Free t.turn
+Turns rules m r s (Lost id) said n q t = Silent m said n × Fails rules m s id (Leaving id (kind_of (client_of s id))) t.turn
+Turns rules m r s (Noted id note) said n q t = rules.steps m r s.moment id note said n q × GoesOn rules m s id Step t.turn
+Turns rules m r s (Waits id) said n q t = Silent m said n × Stops rules m s id Rest Free t.turn
+Turns rules m r s (Full id) said n q t = (said ≡ []) × Lacks rules m s id n t
+Turns rules m r s (Again id) said n q t = Silent m said n × Yields rules m s id × (t.turn ≡ Free)
+Turns rules m r s (Shut id) said n q t = Silent m said n × GoesOn rules m s id HangUp t.turn
+Turns rules m r s (Dropped id count) said n q t = Silent m said n × GoesOn rules m s id Drain t.turn
+Turns rules m r s (Ended id) said n q t = rules.closes m s.moment id n × (said ≡ []) × ((kind : ℕ) × MayEnd rules m s id kind × (t.turn ≡ Door kind false))

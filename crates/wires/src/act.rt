@@ -26,6 +26,10 @@ pub enum Act<N> {
     NoneCame(u32),
     /// There was no place for another one of that `kind`.
     Crowded(u32),
+    /// There was none, and `id` makes room for one that knocks.
+    Displaced(u32),
+    /// There was none, and a wait is to tell again of those of that `kind` who knock.
+    Listened(u32),
     /// The next number is that of an open connection, and is passed over.
     InUse(u32),
     /// These octets of `id` were read.

@@ -1,5 +1,5 @@
 //! Laws of what is served, each the contract of a function that does nothing.
-ghost use Rattle.wires.specs.Life.{OneConnection, Apart, EndsRight};
+ghost use Rattle.wires.specs.Life.{OneConnection, Apart, EndsRight, Bounded};
 
 use crate::machine::Machine;
 use crate::outside::Outside;
@@ -12,6 +12,11 @@ pub fn one_connection<O: Outside, M: Machine<O>>()
 /// Acts of others change nothing of a connection.
 pub fn apart<O: Outside, M: Machine<O>>()
     ensures { Apart M.rules }
+{}
+
+/// At each front of the acts no more connections of a kind are open than `Machine::limit` says.
+pub fn bounded<O: Outside, M: Machine<O>>()
+    ensures { Bounded M.rules }
 {}
 
 /// Each end has its cause right before it, or is a farewell: all that was said was sent, and this side was shut.

@@ -1,14 +1,13 @@
 //! A life of the loop.
-ghost use Rattle.std.specs.Prelude.{IsTrue, OnErr};
-ghost use Rattle.wires.specs.Life.{Lives};
-ghost use Rattle.wires.specs.Moves.{moment};
+ghost use Rattle.std.specs.Prelude.{IsTrue, OnOk, OnErr};
+ghost use Rattle.wires.specs.Life.{AddsIf, LivesIf};
 
 use crate::machine::Machine;
 use crate::outcome::Fault;
 use crate::outside::{Clock, Sockets};
 use crate::service::{Service, act};
 
-/// Serves connections, for so many acts.
+/// Serves connections, for so many acts, neither fewer nor more.
 ///
 /// # Errors
 ///
@@ -20,7 +19,8 @@ pub fn serve<O: Sockets + Clock, M: Machine<O>>(
     acts: u64,
 ) -> Result<(), Fault>
     ensures kept { IsTrue (O.tells outside.new) → IsTrue (O.tells outside.old) }
-    ensures lives { IsTrue (O.tells outside.new) → Lives M.rules (moment (O.seen outside.old) machine.old service.old) (moment (O.seen outside.new) machine.new service.new) }
+    ensures passed { OnOk result (AddsIf O.tells O.seen outside.old acts outside.new) }
+    ensures lives { LivesIf O.tells O.seen O.rest M.rules outside.old machine.old service.old outside.new machine.new service.new }
     ensures broke { OnErr result (IsTrue (O.broken outside.new)) }
 {
     for round in 0..acts {

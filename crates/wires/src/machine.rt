@@ -1,6 +1,6 @@
 //! What is served.
 ghost use Rattle.std.specs.Prelude.{◌≡◌, [], IsTrue, OnOk, OnErr};
-ghost use Rattle.wires.specs.Rules.{Rules, Steps, Works};
+ghost use Rattle.wires.specs.Rules.{Rules, StepsIf, WorksIf, IdlesIf};
 
 use crate::outside::Outside;
 use octets::Octets;
@@ -24,13 +24,19 @@ pub enum Want {
 /// An abstract machine: connections come, send octets and go, and each time it says something to that connection. It is kept
 /// by `rules`, which are all that is known of it.
 ///
-/// While it goes on with what it heard it may do something outside, and it notes that in one act.
+/// While it goes on with what it heard it may do something outside, on what is neither sockets nor clock, and it notes that in
+/// one act. `now` is the latest moment that the clock showed, in milliseconds.
 pub trait Machine<O: Outside> {
-    ghost rules: { Rules Self O.Note };
+    ghost rules: { Rules Self O.Note O.Rest };
 
     /// How many connections of that kind may be open at once.
     fn limit(&self, kind: u32) -> usize
         ensures { result ≡ rules.limit kind };
+
+    /// Which connection of that kind makes room for one that knocks, where so many are open. It is asked again for each that
+    /// knocks: where it names one that has just come, those who knock push each other out.
+    fn displaced(&self, kind: u32) -> Option<u32>
+        ensures { result ≡ rules.displaced self.now kind };
 
     /// What it wants of that connection, once all that it said is sent.
     fn wants(&self, id: u32) -> Want
@@ -40,9 +46,9 @@ pub trait Machine<O: Outside> {
     fn deadline(&self, id: u32) -> u64
         ensures { result ≡ rules.deadline self.now id };
 
-    /// Whether it has something of its own to do.
-    fn has_work(&self) -> bool
-        ensures { result ≡ rules.has_work self.now };
+    /// Whether it has something of its own to do at that moment.
+    fn has_work(&self, now: u64) -> bool
+        ensures { result ≡ rules.has_work self.now now };
 
     /// For how many milliseconds it may rest where nothing happens.
     fn patience(&self) -> u32;
@@ -71,7 +77,7 @@ pub trait Machine<O: Outside> {
     ///
     /// # Errors
     ///
-    /// Where memory is lacking: nothing is noted, and that connection is ended.
+    /// Where memory is lacking: nothing is done outside, and that connection is ended.
     fn step(
         &mut self,
         outside: &mut O,
@@ -81,26 +87,26 @@ pub trait Machine<O: Outside> {
     ) -> Result<(), AllocError>
         requires { out.old ≡ [] }
         ensures kept { IsTrue (O.tells outside.new) → IsTrue (O.tells outside.old) }
-        ensures ok { OnOk result (IsTrue (O.tells outside.new) → Steps rules (O.seen outside.old) self.old now id out.new (O.seen outside.new) self.new) }
-        ensures err { OnErr result (IsTrue (O.tells outside.new) → O.seen outside.new ≡ O.seen outside.old) }
+        ensures ok { OnOk result (StepsIf O.tells O.seen O.rest rules outside.old self.old now id out.new outside.new self.new) }
+        ensures err { OnErr result (IdlesIf O.tells O.seen O.rest outside.old outside.new) }
         ensures lacks { OnErr result (rules.lacks self.old id self.new) };
 
-    /// A connection is late, and ends: what is said to it last.
+    /// A connection is late or makes room for another, and ends: what is said to it last.
     ///
     /// # Errors
     ///
     /// Where memory is lacking: nothing is said to it.
-    fn late(&mut self, id: u32, out: &mut Octets) -> Result<(), AllocError>
+    fn late(&mut self, now: u64, id: u32, out: &mut Octets) -> Result<(), AllocError>
         requires { out.old ≡ [] }
-        ensures ok { OnOk result (rules.lates self.old id out.new self.new) }
+        ensures ok { OnOk result (rules.lates self.old now id out.new self.new) }
         ensures err { OnErr result (rules.lacks self.old id self.new) };
 
     /// It does something of its own, and notes what it does outside.
-    fn work(&mut self, outside: &mut O)
+    fn work(&mut self, outside: &mut O, now: u64)
         ensures kept { IsTrue (O.tells outside.new) → IsTrue (O.tells outside.old) }
-        ensures works { IsTrue (O.tells outside.new) → Works rules (O.seen outside.old) self.old (O.seen outside.new) self.new };
+        ensures works { WorksIf O.tells O.seen O.rest rules outside.old self.old now outside.new self.new };
 
     /// A connection is gone.
-    fn close(&mut self, id: u32)
-        ensures { rules.closes self.old id self.new };
+    fn close(&mut self, now: u64, id: u32)
+        ensures { rules.closes self.old now id self.new };
 }

@@ -1,7 +1,7 @@
 //! All that is outside: one list of acts, and the sockets.
 ghost use Rattle.std.specs.Prelude.{◌≡◌, Bool, List, [], ◌<◌, length, IsTrue, OnOk, OnErr};
-ghost use Rattle.wires.specs.Told.{IsOwn, TellsIf, AfterAccept, AfterRead, AfterDiscard, AfterWrite, ReadFits, DiscardFits, WriteFits};
-ghost use Rattle.wires.specs.declared.act.Act.TheVariants.{Woke, Timed, Again, Shut, Ended};
+ghost use Rattle.wires.specs.Told.{IsOwn, TellsIf, LeavesIf, AfterAccept, AfterRead, AfterDiscard, AfterWrite, ReadFits, DiscardFits, WriteFits};
+ghost use Rattle.wires.specs.declared.act.Act.TheVariants.{Woke, Timed, Again, Listened, Shut, Ended};
 ghost use Rattle.wires.specs.declared.act.Act.{Act};
 
 use crate::act::Act;
@@ -16,11 +16,17 @@ pub trait Outside {
     /// What a machine notes.
     type Note: Drop;
 
+    /// What contracts see of all that is neither sockets nor clock; no code holds one.
+    type Rest;
+
     /// Whether it tells what happens. Where it no longer does it never does again.
     ghost tells: { Self → Bool };
 
     /// All acts so far, in their order, where it tells them.
     ghost seen: { Self → List (Act Self.Note) };
+
+    /// All of the outside that is neither sockets nor clock: what a machine keeps there, and acts on.
+    ghost rest: { Self → Self.Rest };
 
     /// Whether a wait has failed.
     ghost broken: { Self → Bool };
@@ -39,11 +45,13 @@ pub trait Sockets: Outside {
         ensures err { OnErr result (IsTrue (Self.tells self.new) → Self.seen self.new ≡ Self.seen self.old) }
         ensures same { OnErr result (ready.new ≡ ready.old) }
         ensures broke { OnErr result (IsTrue (Self.broken self.new)) }
+        ensures left { LeavesIf Self.tells Self.rest self.old self.new }
         ensures kept { IsTrue (Self.tells self.new) → IsTrue (Self.tells self.old) };
 
     /// Accepts a connection of that kind that waits, under this number.
     fn accept(&mut self, kind: u32, id: u32) -> Accepted
         ensures seen { IsTrue (Self.tells self.new) → AfterAccept (Self.seen self.old) kind id result (Self.seen self.new) }
+        ensures left { LeavesIf Self.tells Self.rest self.old self.new }
         ensures kept { IsTrue (Self.tells self.new) → IsTrue (Self.tells self.old) };
 
     /// Reads of a connection what there is, at most as many octets as the buffer has.
@@ -51,12 +59,14 @@ pub trait Sockets: Outside {
         requires { 0 < length buffer.old }
         ensures fits { ReadFits buffer.new result }
         ensures seen { IsTrue (Self.tells self.new) → AfterRead (Self.seen self.old) id buffer.new result (Self.seen self.new) }
+        ensures left { LeavesIf Self.tells Self.rest self.old self.new }
         ensures kept { IsTrue (Self.tells self.new) → IsTrue (Self.tells self.old) };
 
     /// Reads of a connection what there is, and drops it; at most 4,096 octets.
     fn discard(&mut self, id: u32) -> Input
         ensures fits { DiscardFits result }
         ensures seen { IsTrue (Self.tells self.new) → AfterDiscard (Self.seen self.old) id result (Self.seen self.new) }
+        ensures left { LeavesIf Self.tells Self.rest self.old self.new }
         ensures kept { IsTrue (Self.tells self.new) → IsTrue (Self.tells self.old) };
 
     /// Gives octets to the system, to be sent.
@@ -64,27 +74,38 @@ pub trait Sockets: Outside {
         requires { 0 < length octets.now }
         ensures fits { WriteFits octets.now result }
         ensures seen { IsTrue (Self.tells self.new) → AfterWrite (Self.seen self.old) id octets.now result (Self.seen self.new) }
+        ensures left { LeavesIf Self.tells Self.rest self.old self.new }
         ensures kept { IsTrue (Self.tells self.new) → IsTrue (Self.tells self.old) };
 
     /// Tells a connection's peer that no more is sent.
     fn shut(&mut self, id: u32)
         ensures seen { TellsIf Self.tells Self.seen self.old (Shut id) self.new }
+        ensures left { LeavesIf Self.tells Self.rest self.old self.new }
         ensures kept { IsTrue (Self.tells self.new) → IsTrue (Self.tells self.old) };
 
     /// Closes a connection.
     fn close(&mut self, id: u32)
         ensures seen { TellsIf Self.tells Self.seen self.old (Ended id) self.new }
+        ensures left { LeavesIf Self.tells Self.rest self.old self.new }
         ensures kept { IsTrue (Self.tells self.new) → IsTrue (Self.tells self.old) };
 
     /// Has a wait tell of the connection again.
     fn again(&mut self, id: u32)
         ensures seen { TellsIf Self.tells Self.seen self.old (Again id) self.new }
+        ensures left { LeavesIf Self.tells Self.rest self.old self.new }
+        ensures kept { IsTrue (Self.tells self.new) → IsTrue (Self.tells self.old) };
+
+    /// Has a wait tell again of those who knock at that kind's listener, if somebody does.
+    fn listen(&mut self, kind: u32)
+        ensures seen { TellsIf Self.tells Self.seen self.old (Listened kind) self.new }
+        ensures left { LeavesIf Self.tells Self.rest self.old self.new }
         ensures kept { IsTrue (Self.tells self.new) → IsTrue (Self.tells self.old) };
 
     /// Notes what the loop does by itself.
     fn note(&mut self, act: Act<Self::Note>)
         requires { IsOwn act }
         ensures seen { TellsIf Self.tells Self.seen self.old act self.new }
+        ensures left { LeavesIf Self.tells Self.rest self.old self.new }
         ensures kept { IsTrue (Self.tells self.new) → IsTrue (Self.tells self.old) };
 }
 
@@ -93,5 +114,6 @@ pub trait Clock: Outside {
     /// The moment, in milliseconds since some moment of its own.
     fn now(&mut self) -> u64
         ensures seen { TellsIf Self.tells Self.seen self.old (Timed result) self.new }
+        ensures left { LeavesIf Self.tells Self.rest self.old self.new }
         ensures kept { IsTrue (Self.tells self.new) → IsTrue (Self.tells self.old) };
 }

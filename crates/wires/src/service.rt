@@ -1,9 +1,10 @@
 //! The loop: one act a call.
 ghost use Rattle.std.specs.Prelude.{◌≡◌, ◌==◌, ℕ, ◌<◌, [], not, filter, find, true, Some, None, IsTrue, IsSome, OnErr};
 ghost use Rattle.std.specs.BTreeMap as tree;
-ghost use Rattle.wires.specs.Moves.{moment, Moves, MovesOr};
-ghost use Rattle.wires.specs.Talk.{client_of, kind_of, is_quiet, is_late, task, task_by, task_wanted, drained};
-ghost use Rattle.wires.specs.Turns.{Tasks, Enters, Answered, Given, Parted, Yields, MayEnd, Admits, MayWait, Calm, Rests, Quiet, open_of, turn_of, first_late, first_roused, goes_on};
+ghost use Rattle.wires.specs.Moves.{MovesIf, MovesOrIf};
+ghost use Rattle.wires.specs.Talk.{client_of, kind_of, is_open_by, is_quiet, is_late, task, task_by, task_wanted, drained};
+ghost use Rattle.wires.specs.Turns.{Tasks, Enters, Answered, Given, Parted, Yields, MayEnd, Admits, NoPlace, MayWait, Calm, Rests, Quiet};
+ghost use Rattle.wires.specs.Turns.{open_of, is_open_of, makes_room, turn_of, first_late, first_roused, goes_on};
 ghost use Rattle.wires.specs.declared.turn.Turn.TheVariants.{Free, Rested, Waked, Sweep, Door, Busy, Stuffed};
 ghost use Rattle.wires.specs.declared.turn.Task.TheVariants.{Send, Hear, Step, Rest, HangUp, Drain};
 
@@ -106,7 +107,7 @@ pub fn act<O: Sockets + Clock, M: Machine<O>>(
     service: &mut Service,
 ) -> Result<(), Fault>
     ensures kept { IsTrue (O.tells outside.new) → IsTrue (O.tells outside.old) }
-    ensures moves { IsTrue (O.tells outside.new) → MovesOr M.rules (moment (O.seen outside.old) machine.old service.old) (moment (O.seen outside.new) machine.new service.new) result }
+    ensures moves { MovesOrIf O.tells O.seen O.rest M.rules outside.old machine.old service.old outside.new machine.new service.new result }
     ensures broke { OnErr result (IsTrue (O.broken outside.new)) }
 {
     match service.turn {
@@ -117,8 +118,8 @@ pub fn act<O: Sockets + Clock, M: Machine<O>>(
             Ok(())
         }
         Turn::Sweep => sweep_once(outside, machine, service),
-        Turn::Door(kind) => {
-            door_once(outside, machine, service, kind);
+        Turn::Door(kind, knocked) => {
+            door_once(outside, machine, service, kind, knocked);
             Ok(())
         }
         Turn::Busy(id, count) => {
@@ -146,7 +147,7 @@ fn calm_once<O: Sockets + Clock, M: Machine<O>>(
 ) -> Result<(), Fault>
     requires { Calm M.rules machine.old service.old }
     ensures kept { IsTrue (O.tells outside.new) → IsTrue (O.tells outside.old) }
-    ensures moves { IsTrue (O.tells outside.new) → MovesOr M.rules (moment (O.seen outside.old) machine.old service.old) (moment (O.seen outside.new) machine.new service.new) result }
+    ensures moves { MovesOrIf O.tells O.seen O.rest M.rules outside.old machine.old service.old outside.new machine.new service.new result }
     ensures broke { OnErr result (IsTrue (O.broken outside.new)) }
 {
     if !service.ready.is_empty() {
@@ -171,10 +172,10 @@ fn idle_once<O: Sockets + Clock, M: Machine<O>>(
     requires calm { Calm M.rules machine.old service.old }
     requires quiet { Quiet M.rules machine.old service.old }
     ensures kept { IsTrue (O.tells outside.new) → IsTrue (O.tells outside.old) }
-    ensures moves { IsTrue (O.tells outside.new) → MovesOr M.rules (moment (O.seen outside.old) machine.old service.old) (moment (O.seen outside.new) machine.new service.new) result }
+    ensures moves { MovesOrIf O.tells O.seen O.rest M.rules outside.old machine.old service.old outside.new machine.new service.new result }
     ensures broke { OnErr result (IsTrue (O.broken outside.new)) }
 {
-    if machine.has_work() {
+    if machine.has_work(service.moment) {
         work_once(outside, machine, service);
         return Ok(());
     }
@@ -189,7 +190,7 @@ fn rested_once<O: Sockets + Clock, M: Machine<O>>(
 ) -> Result<(), Fault>
     requires { service.old.turn ≡ Rested }
     ensures kept { IsTrue (O.tells outside.new) → IsTrue (O.tells outside.old) }
-    ensures moves { IsTrue (O.tells outside.new) → MovesOr M.rules (moment (O.seen outside.old) machine.old service.old) (moment (O.seen outside.new) machine.new service.new) result }
+    ensures moves { MovesOrIf O.tells O.seen O.rest M.rules outside.old machine.old service.old outside.new machine.new service.new result }
     ensures broke { OnErr result (IsTrue (O.broken outside.new)) }
 {
     if !service.ready.is_empty() {
@@ -213,7 +214,7 @@ fn time_once<O: Sockets + Clock, M: Machine<O>>(
 )
     requires { service.old.turn ≡ Waked }
     ensures kept { IsTrue (O.tells outside.new) → IsTrue (O.tells outside.old) }
-    ensures moves { IsTrue (O.tells outside.new) → Moves M.rules (moment (O.seen outside.old) machine.old service.old) (moment (O.seen outside.new) machine.new service.new) }
+    ensures moves { MovesIf O.tells O.seen O.rest M.rules outside.old machine.old service.old outside.new machine.new service.new }
 {
     let moment = outside.now();
     if service.moment < moment {
@@ -230,7 +231,7 @@ fn sweep_once<O: Sockets + Clock, M: Machine<O>>(
 ) -> Result<(), Fault>
     requires { service.old.turn ≡ Sweep }
     ensures kept { IsTrue (O.tells outside.new) → IsTrue (O.tells outside.old) }
-    ensures moves { IsTrue (O.tells outside.new) → MovesOr M.rules (moment (O.seen outside.old) machine.old service.old) (moment (O.seen outside.new) machine.new service.new) result }
+    ensures moves { MovesOrIf O.tells O.seen O.rest M.rules outside.old machine.old service.old outside.new machine.new service.new result }
     ensures broke { OnErr result (IsTrue (O.broken outside.new)) }
 {
     match first_that_is_late(machine, service) {
@@ -326,7 +327,7 @@ fn is_to_go_on(task: Task) -> bool
     }
 }
 
-/// Says that a connection is late: to one that reads the machine says something last, any other is closed.
+/// Says that a connection is late.
 fn late_once<O: Sockets + Clock, M: Machine<O>>(
     outside: &mut O,
     machine: &mut M,
@@ -336,9 +337,16 @@ fn late_once<O: Sockets + Clock, M: Machine<O>>(
     requires turn { service.old.turn ≡ Sweep }
     requires late { first_late M.rules machine.old service.old ≡ Some id }
     ensures kept { IsTrue (O.tells outside.new) → IsTrue (O.tells outside.old) }
-    ensures moves { IsTrue (O.tells outside.new) → Moves M.rules (moment (O.seen outside.old) machine.old service.old) (moment (O.seen outside.new) machine.new service.new) }
+    ensures moves { MovesIf O.tells O.seen O.rest M.rules outside.old machine.old service.old outside.new machine.new service.new }
 {
     outside.note(Act::Late(id));
+    dismiss(machine, service, id);
+}
+
+/// To one to which all is sent the machine says something last, any other is closed.
+fn dismiss<O: Sockets + Clock, M: Machine<O>>(machine: &mut M, service: &mut Service, id: u32)
+    ensures { Parted M.rules machine.old service.old id machine.new service.new }
+{
     let kind = kind_of_client(service, id);
     if is_quiet_at(service, id) {
         part(machine, service, id, kind)
@@ -368,7 +376,7 @@ fn part<O: Sockets + Clock, M: Machine<O>>(
     ensures { Parted M.rules machine.old service.old id machine.new service.new }
 {
     let mut out = Octets::new(service.alloc);
-    if machine.late(id, &mut out).is_err() {
+    if machine.late(service.moment, id, &mut out).is_err() {
         service.turn = Turn::Leaving(id, kind);
         return;
     }
@@ -390,7 +398,7 @@ fn begin_once<O: Sockets + Clock, M: Machine<O>>(
     requires rests { Rests M.rules machine.old service.old }
     requires some { ¬ (service.old.ready.items ≡ []) }
     ensures kept { IsTrue (O.tells outside.new) → IsTrue (O.tells outside.old) }
-    ensures moves { IsTrue (O.tells outside.new) → Moves M.rules (moment (O.seen outside.old) machine.old service.old) (moment (O.seen outside.new) machine.new service.new) }
+    ensures moves { MovesIf O.tells O.seen O.rest M.rules outside.old machine.old service.old outside.new machine.new service.new }
 {
     let Some(wake) = service.ready.pop_front() else {
         return;
@@ -410,7 +418,7 @@ fn rouse_once<O: Sockets + Clock, M: Machine<O>>(
     requires none { service.old.ready.items ≡ [] }
     requires first { first_roused M.rules machine.old service.old ≡ Some id }
     ensures kept { IsTrue (O.tells outside.new) → IsTrue (O.tells outside.old) }
-    ensures moves { IsTrue (O.tells outside.new) → Moves M.rules (moment (O.seen outside.old) machine.old service.old) (moment (O.seen outside.new) machine.new service.new) }
+    ensures moves { MovesIf O.tells O.seen O.rest M.rules outside.old machine.old service.old outside.new machine.new service.new }
 {
     outside.note(Act::Roused(id));
     forget(&mut service.waiting, id);
@@ -422,7 +430,7 @@ fn turn_of_wake(service: &Service, wake: Wake) -> Turn
     ensures { result ≡ turn_of wake service.now }
 {
     match wake {
-        Wake::Knock(kind) => Turn::Door(kind),
+        Wake::Knock(kind) => Turn::Door(kind, true),
         Wake::Ready(id) => match service.clients.get(&id) {
             Some(_) => Turn::Busy(id, 0),
             None => Turn::Free,
@@ -438,11 +446,11 @@ fn work_once<O: Sockets + Clock, M: Machine<O>>(
 )
     requires calm { Calm M.rules machine.old service.old }
     requires quiet { Quiet M.rules machine.old service.old }
-    requires work { M.rules.has_work machine.old ≡ true }
+    requires work { M.rules.has_work machine.old service.old.moment ≡ true }
     ensures kept { IsTrue (O.tells outside.new) → IsTrue (O.tells outside.old) }
-    ensures moves { IsTrue (O.tells outside.new) → Moves M.rules (moment (O.seen outside.old) machine.old service.old) (moment (O.seen outside.new) machine.new service.new) }
+    ensures moves { MovesIf O.tells O.seen O.rest M.rules outside.old machine.old service.old outside.new machine.new service.new }
 {
-    machine.work(outside);
+    machine.work(outside, service.moment);
     service.turn = Turn::Rested;
 }
 
@@ -455,7 +463,7 @@ fn wait_once<O: Sockets + Clock, M: Machine<O>>(
     requires quiet { Quiet M.rules machine.old service.old }
     requires may { MayWait M.rules machine.old service.old }
     ensures kept { IsTrue (O.tells outside.new) → IsTrue (O.tells outside.old) }
-    ensures moves { IsTrue (O.tells outside.new) → MovesOr M.rules (moment (O.seen outside.old) machine.old service.old) (moment (O.seen outside.new) machine.new service.new) result }
+    ensures moves { MovesOrIf O.tells O.seen O.rest M.rules outside.old machine.old service.old outside.new machine.new service.new result }
     ensures broke { OnErr result (IsTrue (O.broken outside.new)) }
 {
     outside.wait(machine.patience(), &mut service.ready)?;
@@ -482,15 +490,14 @@ fn door_once<O: Sockets + Clock, M: Machine<O>>(
     machine: &mut M,
     service: &mut Service,
     kind: u32,
+    knocked: bool,
 )
-    requires { service.old.turn ≡ Door kind }
+    requires { service.old.turn ≡ Door kind knocked }
     ensures kept { IsTrue (O.tells outside.new) → IsTrue (O.tells outside.old) }
-    ensures moves { IsTrue (O.tells outside.new) → Moves M.rules (moment (O.seen outside.old) machine.old service.old) (moment (O.seen outside.new) machine.new service.new) }
+    ensures moves { MovesIf O.tells O.seen O.rest M.rules outside.old machine.old service.old outside.new machine.new service.new }
 {
     if count_open(service, kind) >= machine.limit(kind) {
-        outside.note(Act::Crowded(kind));
-        service.turn = Turn::Free;
-        return;
+        return crowd_once(outside, machine, service, kind, knocked);
     }
     let id = service.next;
     if service.clients.contains_key(&id) {
@@ -499,6 +506,85 @@ fn door_once<O: Sockets + Clock, M: Machine<O>>(
         return;
     }
     accept_once(outside, machine, service, kind, id)
+}
+
+/// Where there is no place: has one make room for one that knocks. Where one could, but nobody has knocked since the last was
+/// accepted, it asks whether somebody does.
+fn crowd_once<O: Sockets + Clock, M: Machine<O>>(
+    outside: &mut O,
+    machine: &mut M,
+    service: &mut Service,
+    kind: u32,
+    knocked: bool,
+)
+    requires { NoPlace M.rules service.old kind knocked }
+    ensures kept { IsTrue (O.tells outside.new) → IsTrue (O.tells outside.old) }
+    ensures moves { MovesIf O.tells O.seen O.rest M.rules outside.old machine.old service.old outside.new machine.new service.new }
+{
+    let Some(id) = find_room(machine, service, kind) else {
+        outside.note(Act::Crowded(kind));
+        service.turn = Turn::Free;
+        return;
+    };
+    if knocked {
+        return displace_once(outside, machine, service, kind, id);
+    }
+    outside.listen(kind);
+    service.turn = Turn::Free;
+}
+
+/// Has one make room.
+fn displace_once<O: Sockets + Clock, M: Machine<O>>(
+    outside: &mut O,
+    machine: &mut M,
+    service: &mut Service,
+    kind: u32,
+    id: u32,
+)
+    requires none { NoPlace M.rules service.old kind true }
+    requires one { makes_room M.rules machine.old service.old kind ≡ Some id }
+    ensures kept { IsTrue (O.tells outside.new) → IsTrue (O.tells outside.old) }
+    ensures moves { MovesIf O.tells O.seen O.rest M.rules outside.old machine.old service.old outside.new machine.new service.new }
+{
+    outside.note(Act::Displaced(id));
+    dismiss(machine, service, id);
+}
+
+/// Who makes room for another of that kind.
+fn find_room<O: Sockets + Clock, M: Machine<O>>(
+    machine: &M,
+    service: &Service,
+    kind: u32,
+) -> Option<u32>
+    ensures { result ≡ makes_room M.rules machine.now service.now kind }
+{
+    let id = machine.displaced(kind)?;
+    if is_open_at(service, id, kind) {
+        Some(id)
+    } else {
+        None
+    }
+}
+
+/// Whether it is open, and of that kind.
+fn is_open_at(service: &Service, id: u32, kind: u32) -> bool
+    ensures { result ≡ is_open_of kind (client_of service.now id) }
+{
+    match service.clients.get(&id) {
+        Some(client) => is_client_open(client) && client.kind == kind,
+        None => false,
+    }
+}
+
+/// Whether it is the machine's.
+fn is_client_open(client: &Client) -> bool
+    ensures { result ≡ is_open_by client.now.phase }
+{
+    match client.phase {
+        Phase::Open => true,
+        Phase::Closing => false,
+        Phase::Shut(_) => false,
+    }
 }
 
 /// Accepts one, under the next number.
@@ -512,7 +598,7 @@ fn accept_once<O: Sockets + Clock, M: Machine<O>>(
     requires admits { Admits M.rules service.old kind }
     requires next { id ≡ service.old.next }
     ensures kept { IsTrue (O.tells outside.new) → IsTrue (O.tells outside.old) }
-    ensures moves { IsTrue (O.tells outside.new) → Moves M.rules (moment (O.seen outside.old) machine.old service.old) (moment (O.seen outside.new) machine.new service.new) }
+    ensures moves { MovesIf O.tells O.seen O.rest M.rules outside.old machine.old service.old outside.new machine.new service.new }
 {
     match outside.accept(kind, id) {
         Accepted::Came => admit(machine, service, kind, id),
@@ -546,7 +632,7 @@ fn admit<O: Sockets + Clock, M: Machine<O>>(
         until: service.moment.wrapping_add(MAX_UNSENT),
     };
     if service.clients.insert(id, client).is_ok() {
-        service.turn = Turn::Door(kind);
+        service.turn = Turn::Door(kind, false);
     } else {
         service.turn = Turn::Stuffed(id, kind);
     }
@@ -609,7 +695,7 @@ fn busy_once<O: Sockets + Clock, M: Machine<O>>(
 )
     requires { service.old.turn ≡ Busy id count }
     ensures kept { IsTrue (O.tells outside.new) → IsTrue (O.tells outside.old) }
-    ensures moves { IsTrue (O.tells outside.new) → Moves M.rules (moment (O.seen outside.old) machine.old service.old) (moment (O.seen outside.new) machine.new service.new) }
+    ensures moves { MovesIf O.tells O.seen O.rest M.rules outside.old machine.old service.old outside.new machine.new service.new }
 {
     if count >= MAX_ACTS {
         return again_once(outside, machine, service, id);
@@ -639,7 +725,7 @@ fn send_once<O: Sockets + Clock, M: Machine<O>>(
     requires turn { Tasks M.rules machine.old service.old id count Send }
     requires kind { kind ≡ kind_of (client_of service.old id) }
     ensures kept { IsTrue (O.tells outside.new) → IsTrue (O.tells outside.old) }
-    ensures moves { IsTrue (O.tells outside.new) → Moves M.rules (moment (O.seen outside.old) machine.old service.old) (moment (O.seen outside.new) machine.new service.new) }
+    ensures moves { MovesIf O.tells O.seen O.rest M.rules outside.old machine.old service.old outside.new machine.new service.new }
 {
     let Some(client) = service.clients.get_mut(&id) else {
         return;
@@ -671,7 +757,7 @@ fn hear_once<O: Sockets + Clock, M: Machine<O>>(
     requires turn { Tasks M.rules machine.old service.old id count Hear }
     requires kind { kind ≡ kind_of (client_of service.old id) }
     ensures kept { IsTrue (O.tells outside.new) → IsTrue (O.tells outside.old) }
-    ensures moves { IsTrue (O.tells outside.new) → Moves M.rules (moment (O.seen outside.old) machine.old service.old) (moment (O.seen outside.new) machine.new service.new) }
+    ensures moves { MovesIf O.tells O.seen O.rest M.rules outside.old machine.old service.old outside.new machine.new service.new }
 {
     let mut buffer = [0u8; MAX_PIECE];
     match outside.read(id, &mut buffer) {
@@ -735,7 +821,7 @@ fn step_once<O: Sockets + Clock, M: Machine<O>>(
     requires turn { Tasks M.rules machine.old service.old id count Step }
     requires kind { kind ≡ kind_of (client_of service.old id) }
     ensures kept { IsTrue (O.tells outside.new) → IsTrue (O.tells outside.old) }
-    ensures moves { IsTrue (O.tells outside.new) → Moves M.rules (moment (O.seen outside.old) machine.old service.old) (moment (O.seen outside.new) machine.new service.new) }
+    ensures moves { MovesIf O.tells O.seen O.rest M.rules outside.old machine.old service.old outside.new machine.new service.new }
 {
     let mut out = Octets::new(service.alloc);
     if machine.step(outside, service.moment, id, &mut out).is_ok() {
@@ -757,7 +843,7 @@ fn rest_once<O: Sockets + Clock, M: Machine<O>>(
     requires turn { (count : ℕ) × Tasks M.rules machine.old service.old id count Rest }
     requires kind { kind ≡ kind_of (client_of service.old id) }
     ensures kept { IsTrue (O.tells outside.new) → IsTrue (O.tells outside.old) }
-    ensures moves { IsTrue (O.tells outside.new) → Moves M.rules (moment (O.seen outside.old) machine.old service.old) (moment (O.seen outside.new) machine.new service.new) }
+    ensures moves { MovesIf O.tells O.seen O.rest M.rules outside.old machine.old service.old outside.new machine.new service.new }
 {
     if service.waiting.contains(&id) {
         outside.note(Act::Waits(id));
@@ -783,7 +869,7 @@ fn shut_once<O: Sockets + Clock, M: Machine<O>>(
 )
     requires { Tasks M.rules machine.old service.old id count HangUp }
     ensures kept { IsTrue (O.tells outside.new) → IsTrue (O.tells outside.old) }
-    ensures moves { IsTrue (O.tells outside.new) → Moves M.rules (moment (O.seen outside.old) machine.old service.old) (moment (O.seen outside.new) machine.new service.new) }
+    ensures moves { MovesIf O.tells O.seen O.rest M.rules outside.old machine.old service.old outside.new machine.new service.new }
 {
     let Some(client) = service.clients.get_mut(&id) else {
         return;
@@ -806,7 +892,7 @@ fn drain_once<O: Sockets + Clock, M: Machine<O>>(
     requires turn { Tasks M.rules machine.old service.old id count Drain }
     requires kind { kind ≡ kind_of (client_of service.old id) }
     ensures kept { IsTrue (O.tells outside.new) → IsTrue (O.tells outside.old) }
-    ensures moves { IsTrue (O.tells outside.new) → Moves M.rules (moment (O.seen outside.old) machine.old service.old) (moment (O.seen outside.new) machine.new service.new) }
+    ensures moves { MovesIf O.tells O.seen O.rest M.rules outside.old machine.old service.old outside.new machine.new service.new }
 {
     let Some(client) = service.clients.get_mut(&id) else {
         return;
@@ -857,7 +943,7 @@ fn again_once<O: Sockets + Clock, M: Machine<O>>(
 )
     requires { Yields M.rules machine.old service.old id }
     ensures kept { IsTrue (O.tells outside.new) → IsTrue (O.tells outside.old) }
-    ensures moves { IsTrue (O.tells outside.new) → Moves M.rules (moment (O.seen outside.old) machine.old service.old) (moment (O.seen outside.new) machine.new service.new) }
+    ensures moves { MovesIf O.tells O.seen O.rest M.rules outside.old machine.old service.old outside.new machine.new service.new }
 {
     outside.again(id);
     service.turn = Turn::Free;
@@ -873,7 +959,7 @@ fn full_once<O: Sockets + Clock, M: Machine<O>>(
 )
     requires { service.old.turn ≡ Stuffed id kind }
     ensures kept { IsTrue (O.tells outside.new) → IsTrue (O.tells outside.old) }
-    ensures moves { IsTrue (O.tells outside.new) → Moves M.rules (moment (O.seen outside.old) machine.old service.old) (moment (O.seen outside.new) machine.new service.new) }
+    ensures moves { MovesIf O.tells O.seen O.rest M.rules outside.old machine.old service.old outside.new machine.new service.new }
 {
     outside.note(Act::Full(id));
     service.turn = Turn::Leaving(id, kind);
@@ -889,11 +975,11 @@ fn end_once<O: Sockets + Clock, M: Machine<O>>(
 )
     requires { MayEnd M.rules machine.old service.old id kind }
     ensures kept { IsTrue (O.tells outside.new) → IsTrue (O.tells outside.old) }
-    ensures moves { IsTrue (O.tells outside.new) → Moves M.rules (moment (O.seen outside.old) machine.old service.old) (moment (O.seen outside.new) machine.new service.new) }
+    ensures moves { MovesIf O.tells O.seen O.rest M.rules outside.old machine.old service.old outside.new machine.new service.new }
 {
     outside.close(id);
-    machine.close(id);
+    machine.close(service.moment, id);
     let _ = service.clients.remove(&id);
     forget(&mut service.waiting, id);
-    service.turn = Turn::Door(kind);
+    service.turn = Turn::Door(kind, false);
 }

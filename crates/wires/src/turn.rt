@@ -10,8 +10,8 @@ pub enum Turn {
     Waked,
     /// Nobody's: the clock was read, and who is late comes first.
     Sweep,
-    /// That of those who come, of a kind.
-    Door(u32),
+    /// That of those who come, of a kind, and whether somebody knocked and none was accepted since.
+    Door(u32, bool),
     /// A connection's, after so many acts of it.
     Busy(u32, u32),
     /// That of a connection for which memory is lacking, and its kind.

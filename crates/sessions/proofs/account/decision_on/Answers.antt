@@ -17,5 +17,5 @@ returns-in-Get g c =
 pub returns : goal.returns
 returns g c =
     let decides = c.in_ok-decision.ensures in
-    reads_answer c.args.user.now (λ (kept : KeptScripts) (a : Account). AreScripts kept.names kept.active a) (Decides (of_script c.args.command.now)) (state g.S.Store c.args.store.now) (state g.S.Store c.kept_scripts.new.store) c.kept_scripts.result c.in_ok-kept.kept c.in_ok-kept.was
-    (Ok _) tt (λ a fits. decides_named c.args.command.now c.in-Named.command _ _ a c.in-Named.is decides (c.as_slice-2.ensures ∙ fits.0, fits.1 ∙ sym c.slice_of.ensures)) c.kept_scripts.ensures
+    reads_answer c.args.user.now (λ (kept : KeptScripts) (a : Account). AreScripts kept.names kept.active a) (Decides (of_script c.args.command.now)) (state g.S.Store c.args.store.now) (state g.S.Store c.kept_scripts.new.store) c.kept_scripts.result c.in_ok-names.field-0 c.in_ok-names.was
+    (Ok _) tt (λ a fits. decides_named c.args.command.now c.in-Named.command _ _ a c.in-Named.is decides (fits.0, fits.1 ∙ sym c.slice_of.ensures)) c.kept_scripts.ensures

@@ -1,0 +1,76 @@
+-- What the definitions say of a few lines and texts, and of what is near them.
+use Rattle.std.proofs.Common.{◌≡◌, ℕ, true, false, List, [], ◌∷◌, ◌++◌, inl, inr, refl, codes, arith}
+use Rattle.lmtp.specs.Commands.{IsWord, word_of, argument_in}
+use Rattle.lmtp.specs.Lines.{HasNoLineEnd, line_end}
+use Rattle.lmtp.specs.Paths.{IsAddress, IsRoute, Stands, is_plain, is_quotable}
+use Rattle.lmtp.specs.Texts.{place_after, text_after}
+use Rattle.lmtp.specs.declared.path.Quoting.TheVariants.{Outside}
+use Rattle.lmtp.specs.declared.text.Place.TheVariants.{Start, DotReturn, Inside, Ended}
+use Rattle.lmtp.specs.declared.verb.Verb.TheVariants.{Lhlo, Mail}
+
+-- ---- texts
+
+-- `a` CRLF `.` CRLF ends, and is `a` CRLF
+ends : place_after Start (97 ∷ 13 ∷ 10 ∷ 46 ∷ 13 ∷ 10 ∷ []) ≡ Ended
+ends = refl
+
+text : text_after Start (97 ∷ 13 ∷ 10 ∷ 46 ∷ 13 ∷ 10 ∷ []) ≡ 97 ∷ 13 ∷ 10 ∷ []
+text = refl
+
+-- its first CRLF may be that of DATA
+empty : place_after Start (46 ∷ 13 ∷ 10 ∷ []) ≡ Ended
+empty = refl
+
+-- a dot in front of a line is taken off, one alone
+dotted : text_after Start (46 ∷ 46 ∷ 120 ∷ 13 ∷ 10 ∷ 46 ∷ 13 ∷ 10 ∷ []) ≡ 46 ∷ 120 ∷ 13 ∷ 10 ∷ []
+dotted = refl
+
+-- near misses: a dot between LFs, behind an LF, before an LF, and a dot and a CR alone end nothing
+between_feeds : place_after Start (97 ∷ 10 ∷ 46 ∷ 10 ∷ []) ≡ Inside
+between_feeds = refl
+
+behind_feed : place_after Start (97 ∷ 10 ∷ 46 ∷ 13 ∷ 10 ∷ []) ≡ Start
+behind_feed = refl
+
+before_feed : place_after Start (97 ∷ 13 ∷ 10 ∷ 46 ∷ 10 ∷ []) ≡ Inside
+before_feed = refl
+
+return_alone : place_after Start (46 ∷ 13 ∷ []) ≡ DotReturn
+return_alone = refl
+
+-- a CR behind such a dot is of the text, where no LF follows
+kept_return : text_after Start (46 ∷ 13 ∷ 97 ∷ []) ≡ 13 ∷ 97 ∷ []
+kept_return = refl
+
+-- ---- words and arguments
+
+any_case : IsWord (word_of Lhlo) (codes "lHLo")
+any_case = refl
+
+another : IsWord (word_of Lhlo) (codes "EHLO") → ⊥
+another same = absurd (grind (arith, same))
+
+argument : argument_in (codes "  FROM:<a@b> ") ≡ codes "FROM:<a@b>"
+argument = refl
+
+-- ---- addresses
+
+bare : IsAddress (codes "a@b")
+bare = inr (refl, inr (refl, inr (refl, tt)))
+
+quoted : IsAddress (codes "\"a >\"@b")
+quoted = inl (refl, inr (inr (refl, inr (inr (refl, inr (inr (refl, inl (refl, inr (refl, inr (refl, tt))))))))))
+
+-- near misses: a space and a bracket outside quotation marks
+space : is_plain 32 ≡ false
+space = refl
+
+bracket : is_plain 62 ≡ false
+bracket = refl
+
+-- an octet over 127 stands there, DEL doesn't
+wide : is_plain 195 ≡ true
+wide = refl
+
+delete : is_quotable 127 ≡ false
+delete = refl

@@ -1,0 +1,13 @@
+use Rattle.std.proofs.Common.{◌≡◌, ◌-◌, ◌≤◌, length, take}
+use Rattle.lmtp.specs.Texts.{Feeds}
+use Rattle.lmtp.proofs.text.Text.feed.Given as goal
+
+abbrev pub invariant-loop-self : goal.invariant-loop-self
+invariant-loop-self l = record {
+  within : l.taken ≤ length l.piece;
+  feeds : Feeds l.fn.self (take l.taken l.piece) l.self;
+  limit : l.self.limit ≡ l.fn.self.limit;
+}
+
+abbrev pub decreases-loop-self : goal.decreases-loop-self
+decreases-loop-self l = length l.piece - l.taken

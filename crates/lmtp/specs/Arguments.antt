@@ -1,0 +1,88 @@
+-- What MAIL and RCPT are about (RFC 5321, sections 4.1.1.2 and 4.1.1.3; SIZE: RFC 1870; BODY: RFC 6152; SMTPUTF8: RFC 6531).
+use Rattle.std.specs.Prelude.{◌≡◌, ◌≢◌, ◌⊎◌, ℕ, ◌≤◌, ◌<◌, ◌^◌, true, List, [], ◌∷◌, ◌++◌, length, Option, Some, None, Result, Ok, Err, codes}
+use Rattle.std.specs.Borrow.{Bor}
+use Rattle.std.specs.List.{list_all, flat_map}
+use Rattle.octets.specs.Decimal.{Writes}
+use Rattle.lmtp.specs.Commands.{IsWord, is_unspaced}
+use Rattle.lmtp.specs.Paths.{IsPath}
+use Rattle.lmtp.specs.declared.argument.ArgumentFault.{ArgumentFault}
+use Rattle.lmtp.specs.declared.argument.ArgumentFault.TheVariants.{Syntax, Address, Parameter}
+
+-- the most octets of an address: this project's own limit
+abbrev pub max_address : ℕ
+max_address = 1024
+
+-- a text that begins with a word, in upper or lower case, and what stands behind it
+pub record IsAfter (word text rest : List ℕ) : Type 0 where
+  pub front : List ℕ
+  pub is : IsWord word front
+  pub written : text ≡ front ++ rest
+
+-- an address that may be taken: of a sender any, of a recipient not the empty one
+abbrev pub TakesSender : List ℕ → Type 0
+TakesSender address = length address ≤ max_address
+
+abbrev pub TakesRecipient : List ℕ → Type 0
+TakesRecipient address = (length address ≤ max_address) × (address ≢ [])
+
+-- `FROM:` or `TO:`, a path with such an address, and what stands behind it
+pub record IsAddressed (word : List ℕ) (Takes : List ℕ → Type 0) (argument address rest : List ℕ) : Type 0 where
+  pub path : List ℕ
+  pub after : IsAfter word argument path
+  pub is : IsPath path address rest
+  pub takes : Takes address
+
+-- it doesn't begin with the word, or there is no path with such an address
+abbrev pub RefusesAddress : List ℕ → (List ℕ → Type 0) → List ℕ → ArgumentFault → Type 0
+RefusesAddress word Takes argument Syntax = (path : List ℕ) → IsAfter word argument path → ⊥
+RefusesAddress word Takes argument Address = (address rest : List ℕ) → IsAddressed word Takes argument address rest → ⊥
+RefusesAddress word Takes argument Parameter = ⊥
+
+-- ---- what RCPT is about
+
+abbrev pub to_word : List ℕ
+to_word = codes "TO:"
+
+-- a recipient, and nothing behind its path; no parameter of RCPT is known
+abbrev pub ReadsRecipient : List ℕ → Result (List ℕ) ArgumentFault → Type 0
+ReadsRecipient argument (Ok address) = IsAddressed to_word TakesRecipient argument address []
+ReadsRecipient argument (Err Parameter) = (address rest : List ℕ) × IsAddressed to_word TakesRecipient argument address rest × (rest ≢ [])
+ReadsRecipient argument (Err fault) = RefusesAddress to_word TakesRecipient argument fault
+
+-- the octets that a result has, without where they stand
+abbrev pub octets_of : {F : Type 0} → Result (Bor (List ℕ)) F → Result (List ℕ) F
+octets_of (Ok octets) = Ok octets.now
+octets_of (Err fault) = Err fault
+
+-- ---- what MAIL is about
+
+abbrev pub from_word : List ℕ
+from_word = codes "FROM:"
+
+-- a parameter: the size that the message will have, in octets, or one that changes nothing here
+abbrev pub IsParameter : List ℕ → Option ℕ → Type 0
+IsParameter text (Some size) = (digits : List ℕ) × IsAfter (codes "SIZE=") text digits × Writes digits size × (size < 2 ^ 64)
+IsParameter text None = IsWord (codes "BODY=7BIT") text ⊎ (IsWord (codes "BODY=8BITMIME") text ⊎ IsWord (codes "SMTPUTF8") text)
+
+-- the later size, where there is one
+abbrev pub or_earlier : Option ℕ → Option ℕ → Option ℕ
+or_earlier earlier None = earlier
+or_earlier earlier (Some size) = Some size
+
+-- nothing, or what SP begins
+abbrev pub Separated : List ℕ → Type 0
+Separated rest = (rest ≡ []) ⊎ ((more : List ℕ) × (rest ≡ 32 ∷ more))
+
+-- parameters, a SP before each, and the last size among them
+abbrev pub AreParameters : List (List ℕ) → List ℕ → Option ℕ → Option ℕ → Type 0
+AreParameters [] rest earlier size = (rest ≡ []) × (size ≡ earlier)
+AreParameters (text ∷ texts) rest earlier size =
+    (more : List ℕ) × (here : Option ℕ) × (rest ≡ 32 ∷ (text ++ more)) × (list_all is_unspaced text ≡ true) × Separated more
+    × IsParameter text here × AreParameters texts more (or_earlier earlier here) size
+
+-- a sender, and the size that is announced
+pub record IsMail (argument address : List ℕ) (size : Option ℕ) : Type 0 where
+  pub rest : List ℕ
+  pub addressed : IsAddressed from_word TakesSender argument address rest
+  pub texts : List (List ℕ)
+  pub parameters : AreParameters texts rest None size

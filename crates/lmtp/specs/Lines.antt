@@ -1,0 +1,45 @@
+-- Lines, which end at CRLF and nowhere else (RFC 5321, section 2.3.8).
+use Rattle.std.specs.Prelude.{◌≡◌, ◌≢◌, ◌⊎◌, ℕ, ◌+◌, ◌<◌, ◌≤◌, List, [], ◌∷◌, ◌++◌, length, take, drop}
+use Rattle.lmtp.specs.declared.line.Found.{Found}
+use Rattle.lmtp.specs.declared.line.Found.TheVariants.{Need, Line, TooLong}
+use Rattle.lmtp.specs.declared.line.Skipped.{Skipped}
+use Rattle.lmtp.specs.declared.line.Skipped.TheVariants.{Whole, Part}
+
+-- CRLF
+abbrev pub line_end : List ℕ
+line_end = 13 ∷ 10 ∷ []
+
+-- no CRLF stands in a text
+abbrev pub HasNoLineEnd : List ℕ → Type 0
+HasNoLineEnd text = (front back : List ℕ) → text ≡ front ++ (line_end ++ back) → ⊥
+
+-- a line without its CRLF: with the CR behind it it has no CRLF. A CR or an LF alone is an octet of the line
+abbrev pub IsLine : List ℕ → Type 0
+IsLine line = HasNoLineEnd (line ++ 13 ∷ [])
+
+-- the octets before the first line end of a stream, and what stands behind it
+pub record IsFirstLine (stream line rest : List ℕ) : Type 0 where
+  pub whole : IsLine line
+  pub written : stream ≡ line ++ (line_end ++ rest)
+
+-- ---- command lines
+
+-- a command line has at most so many octets, with its CRLF
+abbrev pub max_line : ℕ
+max_line = 2048
+
+-- what stands first in a stream of command lines: no whole line yet, the octets of one, or more than a line may have
+abbrev pub Finds : Found → List ℕ → Type 0
+Finds Need stream = HasNoLineEnd stream × (length stream < max_line)
+Finds (Line count) stream = IsFirstLine stream (take count stream) (drop (count + 2) stream) × (count + 2 ≤ max_line) × (count + 2 ≤ length stream)
+Finds TooLong stream = HasNoLineEnd (take max_line stream) × (max_line ≤ length stream)
+
+-- octets of a line that is too long are dropped: up to its CRLF, or all of them, but for a CR at their end
+abbrev pub Skips : Skipped → List ℕ → Type 0
+Skips (Whole count) stream = (line : List ℕ) × IsFirstLine stream line (drop count stream) × (count ≡ length line + 2)
+Skips (Part count) stream = (count ≤ length stream) × HasNoLineEnd stream × ((drop count stream ≡ []) ⊎ (drop count stream ≡ 13 ∷ []))
+
+-- each stream has one first line or none, whatever follows, and octets that are dropped make no line end with those that follow
+pub record LinesStand : Type 0 where
+  pub one : (a b : Found) (stream : List ℕ) → Finds a stream → Finds b stream → a ≡ b
+  pub stays : (found : Found) (stream more : List ℕ) → found ≢ Need → Finds found stream → Finds found (stream ++ more)

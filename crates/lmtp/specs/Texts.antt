@@ -1,0 +1,103 @@
+-- The text of a message behind DATA, as it is sent (RFC 5321, section 4.5.2): its lines, a dot before each that begins with one, and a line
+-- that is a dot alone.
+use Rattle.std.specs.Prelude.{◌≡◌, ◌≢◌, ℕ, ◌<◌, ◌==◌, if◌then◌else◌, List, [], ◌∷◌, ◌++◌, length, Option, Some, None, Result, Ok, Err}
+use Rattle.std.specs.List.{All, flat_map}
+use Rattle.lmtp.specs.Lines.{line_end, IsLine}
+use Rattle.lmtp.specs.declared.text.Place.{Place}
+use Rattle.lmtp.specs.declared.text.Place.TheVariants.{Start, Dot, DotReturn, Inside, Return, Ended}
+use Rattle.lmtp.specs.declared.text.Text.{Text}
+use Rattle.lmtp.specs.declared.text.Trouble.{Trouble}
+use Rattle.lmtp.specs.declared.text.Trouble.TheVariants.{TooLarge, Memory}
+
+-- ---- what a text is, by its lines
+
+-- a line with its CRLF
+abbrev pub with_end : List ℕ → List ℕ
+with_end line = line ++ line_end
+
+-- a line as it was before it was sent: a dot in front is taken off
+abbrev pub undotted : List ℕ → List ℕ
+undotted [] = []
+undotted (octet ∷ rest) = if octet == 46 then rest else octet ∷ rest
+
+-- a line of a text that is sent: any but one that is a dot alone
+pub record IsSentLine (line : List ℕ) : Type 0 where
+  pub whole : IsLine line
+  pub other : line ≢ 46 ∷ []
+
+-- what is sent is these lines, and a dot alone; the text is the lines, each without a dot in front
+pub record IsText (sent text : List ℕ) : Type 0 where
+  pub lines : List (List ℕ)
+  pub each : All IsSentLine lines
+  pub written : sent ≡ flat_map with_end lines ++ with_end (46 ∷ [])
+  pub means : text ≡ flat_map (λ line. with_end (undotted line)) lines
+
+-- ---- the same octet by octet
+
+-- where the next octet stands, after one that stood there
+abbrev pub after : Place → ℕ → Place
+after Start octet = if octet == 46 then Dot else (if octet == 13 then Return else Inside)
+after Dot octet = if octet == 13 then DotReturn else Inside
+after DotReturn octet = if octet == 10 then Ended else (if octet == 13 then Return else Inside)
+after Inside octet = if octet == 13 then Return else Inside
+after Return octet = if octet == 10 then Start else (if octet == 13 then Return else Inside)
+after Ended octet = Ended
+
+-- what the text has more after it
+abbrev pub gained : Place → ℕ → List ℕ
+gained Start octet = if octet == 46 then [] else octet ∷ []
+gained Dot octet = if octet == 13 then [] else octet ∷ []
+gained DotReturn octet = if octet == 10 then [] else 13 ∷ octet ∷ []
+gained Inside octet = octet ∷ []
+gained Return octet = octet ∷ []
+gained Ended octet = []
+
+-- where the next octet stands after these
+abbrev pub place_after : Place → List ℕ → Place
+place_after place [] = place
+place_after place (octet ∷ rest) = place_after (after place octet) rest
+
+-- and the text so far
+abbrev pub text_after : Place → List ℕ → List ℕ
+text_after place [] = []
+text_after place (octet ∷ rest) = gained place octet ++ text_after (after place octet) rest
+
+-- the last of these octets ends the text, and none before it
+abbrev pub EndsAt : Place → List ℕ → Type 0
+EndsAt place [] = place ≡ Ended
+EndsAt place (octet ∷ rest) = (place ≢ Ended) × EndsAt (after place octet) rest
+
+-- both say the same
+pub record TextsAgree : Type 0 where
+  pub ends : (sent text : List ℕ) → IsText sent text → EndsAt Start sent
+  pub same : (sent text : List ℕ) → IsText sent text → text_after Start sent ≡ text
+  pub only : (sent : List ℕ) → EndsAt Start sent → IsText sent (text_after Start sent)
+
+-- ---- a text that comes in pieces
+
+-- none of these octets stands behind the end
+abbrev pub RunsFrom : Place → List ℕ → Type 0
+RunsFrom place [] = Unit {0}
+RunsFrom place (octet ∷ rest) = (place ≢ Ended) × RunsFrom (after place octet) rest
+
+-- what is kept of it, unless it is too large or there was no memory for it
+abbrev pub Keeps : Text → List ℕ → Option Trouble → Type 0
+Keeps t text None = t.kept ≡ text
+Keeps t text (Some TooLarge) = t.limit < length text
+Keeps t text (Some Memory) = Unit {0}
+
+-- it stands for these octets
+pub record StandsFor (t : Text) (sent : List ℕ) : Type 0 where
+  pub runs : RunsFrom Start sent
+  pub place : t.place ≡ place_after Start sent
+  pub keeps : Keeps t (text_after Start sent) t.trouble
+
+-- it took these octets more
+abbrev pub Feeds : Text → List ℕ → Text → Type 0
+Feeds t octets u = (sent : List ℕ) → StandsFor t sent → StandsFor u (sent ++ octets)
+
+-- a text of a message was sent, or why it isn't kept: it has more octets than the limit, or memory was lacking
+abbrev pub Finishes : ℕ → List ℕ → Result (List ℕ) Trouble → Type 0
+Finishes limit sent (Ok text) = IsText sent text
+Finishes limit sent (Err TooLarge) = (text : List ℕ) × IsText sent text × (limit < length text)
+Finishes limit sent (Err Memory) = Unit {0}

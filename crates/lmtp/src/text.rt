@@ -1,0 +1,232 @@
+//! The text of a message.
+ghost use Rattle.std.specs.Prelude.{if◌then◌else◌, ◌≡◌, ◌≢◌, ◌↔◌, ℕ, ◌==◌, true, ◌<◌, ◌≤◌, ◌++◌, ◌∷◌, [], List, Some, length, take, slice_index, IsTrue};
+ghost use Rattle.lmtp.specs.declared.text.Place.TheVariants.{Ended as ended};
+ghost use Rattle.lmtp.specs.Texts as s;
+
+use memchr::memchr;
+use octets::Octets;
+use std::alloc::Global;
+
+/// Where the next octet of a text stands.
+#[derive(Clone, Copy, Debug, PartialEq, Eq)]
+pub enum Place {
+    /// At a line's front.
+    Start,
+    /// Behind a dot at a line's front.
+    Dot,
+    /// Behind such a dot and a CR.
+    DotReturn,
+    /// In a line.
+    Inside,
+    /// Behind a CR in a line.
+    Return,
+    /// The text has ended.
+    Ended,
+}
+
+/// Why a text isn't kept.
+#[derive(Clone, Copy, Debug, PartialEq, Eq)]
+pub enum Trouble {
+    /// It has more octets than the limit.
+    TooLarge,
+    /// There was no memory for it.
+    Memory,
+}
+
+/// The text of a message, from the octets behind DATA up to the line that is a dot alone (RFC 5321, section 4.5.2). A line ends at
+/// CRLF: a CR or an LF alone is an octet of the text, and so is a NUL.
+#[derive(Drop)]
+pub struct Text {
+    pub(crate) kept: Octets,
+    pub(crate) place: Place,
+    pub(crate) trouble: Option<Trouble>,
+    pub(crate) limit: usize,
+    alloc: Global,
+}
+
+impl Text {
+    /// A text of at most so many octets, before the first one. Takes no memory.
+    pub fn new(alloc: Global, limit: usize) -> Text
+        ensures stands { s.StandsFor result [] }
+        ensures limit { result.limit ≡ limit }
+    {
+        Text {
+            kept: Octets::new(alloc),
+            place: Place::Start,
+            trouble: None,
+            limit,
+            alloc,
+        }
+    }
+
+    /// Whether the text has ended.
+    pub fn has_ended(&self) -> bool
+        ensures { IsTrue result ↔ (self.now.place ≡ ended) }
+    {
+        match self.place {
+            Place::Ended => true,
+            _ => false,
+        }
+    }
+
+    /// Takes the octets of a piece in turn until the text has ended, and gives how many it took: all of them where it hasn't.
+    ///
+    /// Time is linear in the octets taken. Where there is no memory, or more octets than the limit, the text is dropped and the
+    /// others are taken as before.
+    pub fn feed(&mut self, piece: &[u8]) -> usize
+        ensures within { result ≤ length piece.now }
+        ensures feeds { s.Feeds self.old (take result piece.now) self.new }
+        ensures whole { self.new.place ≢ ended → result ≡ length piece.now }
+        ensures limit { self.new.limit ≡ self.old.limit }
+    {
+        let mut taken = 0;
+        while !self.has_ended() {
+            let count = self.feed_some(&piece[taken..]);
+            if count == 0 {
+                return taken;
+            }
+            taken += count;
+        }
+        taken
+    }
+
+    /// The text that has ended.
+    ///
+    /// # Errors
+    ///
+    /// Why it isn't kept.
+    pub fn finish(self) -> Result<Octets, Trouble>
+        requires { self.place ≡ ended }
+        ensures { (sent : List ℕ) → s.StandsFor self sent → s.Finishes self.limit sent result }
+    {
+        match self.trouble {
+            None => Ok(self.kept),
+            Some(trouble) => Err(trouble),
+        }
+    }
+
+    // Takes a run of octets in one step, or else one octet; none where there is none.
+    fn feed_some(&mut self, octets: &[u8]) -> usize
+        requires { self.old.place ≢ ended }
+        ensures within { result ≤ length octets.now }
+        ensures feeds { s.Feeds self.old (take result octets.now) self.new }
+        ensures none { result ≡ 0 → length octets.now ≡ 0 }
+        ensures limit { self.new.limit ≡ self.old.limit }
+    {
+        let count = self.feed_run(octets);
+        if count > 0 {
+            return count;
+        }
+        let Some((octet, _)) = octets.split_first() else {
+            return 0;
+        };
+        self.turn(*octet);
+        1
+    }
+
+    // Takes the octets before the next CR, where these are inside a line. Gives how many.
+    fn feed_run(&mut self, octets: &[u8]) -> usize
+        ensures within { result ≤ length octets.now }
+        ensures feeds { s.Feeds self.old (take result octets.now) self.new }
+        ensures place { self.new.place ≡ self.old.place }
+        ensures limit { self.new.limit ≡ self.old.limit }
+    {
+        let Place::Inside = self.place else {
+            return 0;
+        };
+        let count = run_length(octets);
+        self.append(&octets[..count]);
+        count
+    }
+
+    // Takes one octet.
+    fn turn(&mut self, octet: u8)
+        requires { self.old.place ≢ ended }
+        ensures feeds { s.Feeds self.old (octet ∷ []) self.new }
+        ensures limit { self.new.limit ≡ self.old.limit }
+    {
+        self.gain(octet);
+        self.place = self.place.after(octet);
+    }
+
+    // What the text has more after one octet joins it.
+    fn gain(&mut self, octet: u8)
+        ensures keeps { (text : List ℕ) → s.Keeps self.old text self.old.trouble → s.Keeps self.new (text ++ s.gained self.old.place octet) self.new.trouble }
+        ensures place { self.new.place ≡ self.old.place }
+        ensures limit { self.new.limit ≡ self.old.limit }
+    {
+        match self.place {
+            Place::Start => self.append_unless(octet, b'.'),
+            Place::Dot => self.append_unless(octet, b'\r'),
+            Place::DotReturn if octet == b'\n' => {}
+            Place::DotReturn => self.append(&[b'\r', octet]),
+            Place::Inside => self.append(&[octet]),
+            Place::Return => self.append(&[octet]),
+            Place::Ended => {}
+        }
+    }
+
+    // An octet joins the text, but that one.
+    fn append_unless(&mut self, octet: u8, but: u8)
+        ensures keeps { (text : List ℕ) → s.Keeps self.old text self.old.trouble → s.Keeps self.new (text ++ (if octet == but then [] else octet ∷ [])) self.new.trouble }
+        ensures place { self.new.place ≡ self.old.place }
+        ensures limit { self.new.limit ≡ self.old.limit }
+    {
+        if octet != but {
+            self.append(&[octet]);
+        }
+    }
+
+    // Octets join the text, or it isn't kept.
+    fn append(&mut self, octets: &[u8])
+        ensures keeps { (text : List ℕ) → s.Keeps self.old text self.old.trouble → s.Keeps self.new (text ++ octets.now) self.new.trouble }
+        ensures place { self.new.place ≡ self.old.place }
+        ensures limit { self.new.limit ≡ self.old.limit }
+    {
+        if self.trouble.is_some() {
+            return;
+        }
+        if octets.len() > self.limit.saturating_sub(self.kept.len()) {
+            self.drop_text(Trouble::TooLarge);
+        } else if self.kept.extend_from_slice(octets).is_err() {
+            self.drop_text(Trouble::Memory);
+        }
+    }
+
+    // The text isn't kept.
+    fn drop_text(&mut self, trouble: Trouble)
+        ensures trouble { self.new.trouble ≡ Some trouble }
+        ensures place { self.new.place ≡ self.old.place }
+        ensures limit { self.new.limit ≡ self.old.limit }
+    {
+        self.kept = Octets::new(self.alloc);
+        self.trouble = Some(trouble);
+    }
+}
+
+// How many octets stand before the first CR.
+fn run_length(octets: &[u8]) -> usize
+    ensures within { result ≤ length octets.now }
+    ensures other { (j : ℕ) → j < result → (slice_index octets.now j == 13) ≡ true → ⊥ }
+{
+    match memchr(b'\r', octets) {
+        Some(count) => count,
+        None => octets.len(),
+    }
+}
+
+impl Place {
+    // Where the next octet stands, after one that stood here.
+    fn after(self, octet: u8) -> Place
+        ensures { result ≡ s.after self octet }
+    {
+        match (self, octet) {
+            (Place::Ended, _) | (Place::DotReturn, b'\n') => Place::Ended,
+            (Place::Return, b'\n') => Place::Start,
+            (Place::Start, b'.') => Place::Dot,
+            (Place::Dot, b'\r') => Place::DotReturn,
+            (_, b'\r') => Place::Return,
+            _ => Place::Inside,
+        }
+    }
+}

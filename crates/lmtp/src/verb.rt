@@ -1,0 +1,104 @@
+//! The commands' words.
+ghost use Rattle.std.specs.Prelude.{◌≡◌, ◌≤◌, ℕ, List, IfSome, IfNone, length};
+ghost use Rattle.std.specs.List.{prefix_len};
+ghost use Rattle.lmtp.specs.declared.verb.Verb.{Verb as VerbValue};
+ghost use Rattle.lmtp.specs.Commands as s;
+
+use octets::trim_blanks;
+
+/// The word of a command (RFC 5321, section 4.1.1; RFC 2033, section 4.1). `HELO` and `EHLO` are those of SMTP, which LMTP hasn't.
+#[derive(Clone, Copy, Debug, PartialEq, Eq)]
+pub enum Verb {
+    Lhlo,
+    Mail,
+    Rcpt,
+    Data,
+    Rset,
+    Noop,
+    Vrfy,
+    Help,
+    Quit,
+    Helo,
+    Ehlo,
+}
+
+/// A command's word, and what stands behind it.
+#[derive(Clone, Copy)]
+pub struct CommandLine<'a> {
+    pub verb: Verb,
+    /// What stands behind the word, without blanks at its ends.
+    pub argument: &'a [u8],
+}
+
+/// The command that a line is, without its CRLF; none where its first word is none. One pass; takes no memory.
+pub fn read_line(line: &[u8]) -> Option<CommandLine<'_>>
+    ensures found { IfSome result (λ command. s.IsCommandLine line.now command.verb command.argument.now) }
+    ensures none { IfNone result ((verb : VerbValue) (argument : List ℕ) → s.IsCommandLine line.now verb argument → ⊥) }
+{
+    let count = word_length(line);
+    match verb_of(&line[..count]) {
+        Some(verb) => Some(CommandLine {
+            verb,
+            argument: argument_of(&line[count..]),
+        }),
+        None => None,
+    }
+}
+
+// How many octets the first word has.
+fn word_length(line: &[u8]) -> usize
+    ensures value { result ≡ prefix_len s.is_unspaced line.now }
+    ensures within { result ≤ length line.now }
+{
+    line.iter().take_while(|octet| **octet != b' ').count()
+}
+
+// What stands behind the word: nothing, or what follows the SP in front.
+fn argument_of(tail: &[u8]) -> &[u8]
+    ensures { result.now ≡ s.argument_in tail.now }
+{
+    match tail.split_first() {
+        Some((_, rest)) => trim_blanks(rest),
+        None => tail,
+    }
+}
+
+fn verb_of(word: &[u8]) -> Option<Verb>
+    ensures found { IfSome result (λ verb. s.IsWord (s.word_of verb) word.now) }
+    ensures none { IfNone result ((verb : VerbValue) → s.IsWord (s.word_of verb) word.now → ⊥) }
+{
+    if word.eq_ignore_ascii_case(b"LHLO") {
+        return Some(Verb::Lhlo);
+    }
+    if word.eq_ignore_ascii_case(b"MAIL") {
+        return Some(Verb::Mail);
+    }
+    if word.eq_ignore_ascii_case(b"RCPT") {
+        return Some(Verb::Rcpt);
+    }
+    if word.eq_ignore_ascii_case(b"DATA") {
+        return Some(Verb::Data);
+    }
+    if word.eq_ignore_ascii_case(b"RSET") {
+        return Some(Verb::Rset);
+    }
+    if word.eq_ignore_ascii_case(b"NOOP") {
+        return Some(Verb::Noop);
+    }
+    if word.eq_ignore_ascii_case(b"VRFY") {
+        return Some(Verb::Vrfy);
+    }
+    if word.eq_ignore_ascii_case(b"HELP") {
+        return Some(Verb::Help);
+    }
+    if word.eq_ignore_ascii_case(b"QUIT") {
+        return Some(Verb::Quit);
+    }
+    if word.eq_ignore_ascii_case(b"HELO") {
+        return Some(Verb::Helo);
+    }
+    if word.eq_ignore_ascii_case(b"EHLO") {
+        return Some(Verb::Ehlo);
+    }
+    None
+}

@@ -1,0 +1,11 @@
+//! Sockets of the system, for the loop of `wires`: listeners, each for a kind of connection, and their connections, each under a
+//! number. None of them blocks; the system is asked which are ready.
+#![tactic(auto)]
+
+pub mod listener;
+pub mod sockets;
+pub mod stream;
+
+pub use listener::Listener;
+pub use sockets::SystemSockets;
+pub use stream::Stream;

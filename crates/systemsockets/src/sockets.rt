@@ -1,0 +1,303 @@
+//! Listeners and their connections.
+ghost use Rattle.std.specs.Prelude.{◌≡◌, ◌<◌, [], length, OnErr};
+ghost use Rattle.wires.specs.Told.{ReadFits, DiscardFits, WriteFits};
+
+use crate::listener::Listener;
+use crate::stream::Stream;
+use mio::{Events, Interest, Poll, Token};
+use std::alloc::Global;
+use std::collections::{BTreeMap, VecDeque};
+use std::io;
+use std::io::ErrorKind;
+use std::net::Net;
+use std::time::{Clock, Duration, Instant};
+use wires::outcome::{Accepted, Fault, Input, Output, Wake};
+
+/// The tokens of connections come after those of listeners.
+const FIRST_CONNECTION: usize = 64;
+
+/// At most so many events are taken from the system at once.
+const MAX_EVENTS: usize = 64;
+
+/// So many milliseconds a listener rests after a connection that couldn't be accepted (no descriptor was left, say).
+const REST: u64 = 100;
+
+/// No more octets are dropped at once.
+const MAX_DISCARD: usize = 4096;
+
+/// A listener, and the moment up to which it rests, in milliseconds, where it does.
+#[derive(Drop)]
+struct Door {
+    listener: Listener,
+    rests_until: Option<u64>,
+}
+
+/// Listeners, one for each kind of connection (its number is its place), and their connections by their numbers. No call but `wait`
+/// blocks. What the system does can't be seen by a contract.
+#[derive(Drop)]
+pub struct SystemSockets<'n, N: Net + Clock> {
+    system: &'n N,
+    started: Instant,
+    /// What the clock showed last, in milliseconds since the start.
+    moment: u64,
+    poll: Poll,
+    events: Events,
+    /// What the last poll told, as far as it wasn't handed out yet.
+    told: VecDeque<Wake>,
+    doors: Vec<Door>,
+    streams: BTreeMap<u32, Stream>,
+}
+
+impl<'n, N: Net + Clock> SystemSockets<'n, N> {
+    /// No connections, and these listeners, at most 64.
+    ///
+    /// # Errors
+    ///
+    /// Where memory or a descriptor is lacking, or the clock can't be read.
+    pub fn new(
+        system: &'n N,
+        alloc: Global,
+        listeners: Vec<Listener>,
+    ) -> io::Result<SystemSockets<'n, N>> {
+        let mut sockets = SystemSockets {
+            system,
+            started: Instant::now(system)?,
+            moment: 0,
+            poll: Poll::new(system)?,
+            events: Events::with_capacity(alloc, MAX_EVENTS)?,
+            told: VecDeque::with_capacity(alloc, MAX_EVENTS)?,
+            doors: Vec::with_capacity(alloc, listeners.len())?,
+            streams: BTreeMap::new(alloc),
+        };
+        for listener in listeners {
+            sockets.watch(listener)?;
+        }
+        Ok(sockets)
+    }
+
+    /// Has waits tell of a listener, under the next kind.
+    fn watch(&mut self, listener: Listener) -> io::Result<()> {
+        let mut door = Door {
+            listener,
+            rests_until: None,
+        };
+        let token = Token(self.doors.len().min(FIRST_CONNECTION - 1));
+        self.poll
+            .registry()
+            .register(&mut door.listener, token, Interest::READABLE)?;
+        self.doors.push(door)?;
+        Ok(())
+    }
+
+    /// The moment, in milliseconds since the start; the last one that could be read where the clock can't be read now.
+    pub fn now(&mut self) -> u64 {
+        if let Ok(now) = Instant::now(self.system) {
+            let passed = now.duration_since(self.started).as_millis();
+            self.moment = u64::try_from(passed).unwrap_or(u64::MAX);
+        }
+        self.moment
+    }
+
+    /// Waits until something may be done, or for so many milliseconds, and puts what the system then tells into `ready`, in its order.
+    ///
+    /// # Errors
+    ///
+    /// Where the system can't wait.
+    pub fn wait(&mut self, within: u32, ready: &mut VecDeque<Wake>) -> Result<(), Fault>
+        requires { ready.old.items ≡ [] }
+        ensures { OnErr result (ready.new ≡ ready.old) }
+    {
+        if self.told.is_empty() && self.ask(within).is_err() {
+            return Err(Fault::Wait);
+        }
+        for _ in 0..MAX_EVENTS {
+            let Some(wake) = self.told.front() else {
+                break;
+            };
+            if ready.push_back(*wake).is_err() {
+                break;
+            }
+            let _ = self.told.pop_front();
+        }
+        Ok(())
+    }
+
+    /// Asks the system what is ready.
+    fn ask(&mut self, within: u32) -> io::Result<()> {
+        let within = (within as u64).min(self.shortest_rest());
+        self.poll
+            .poll(&mut self.events, Some(Duration::from_millis(within)))?;
+        for event in &self.events {
+            if let Some(wake) = wake_of(event.token()) {
+                self.told.push_back(wake)?;
+            }
+        }
+        self.end_rests();
+        Ok(())
+    }
+
+    /// For how many milliseconds the listener that rests shortest does; the greatest number where none rests.
+    fn shortest_rest(&mut self) -> u64 {
+        if self.doors.iter().all(|door| door.rests_until.is_none()) {
+            return u64::MAX;
+        }
+        let now = self.now();
+        let mut shortest = u64::MAX;
+        for door in self.doors.iter() {
+            if let Some(until) = door.rests_until {
+                shortest = shortest.min(until.saturating_sub(now));
+            }
+        }
+        shortest
+    }
+
+    /// Has waits tell again of each listener whose rest is over.
+    fn end_rests(&mut self) {
+        let now = self.moment;
+        for kind in 0..self.doors.len() {
+            let over = match self.doors.get(kind) {
+                Some(door) => door.rests_until.is_some_and(|until| until <= now),
+                None => false,
+            };
+            if over {
+                self.listen_again(kind);
+            }
+        }
+    }
+
+    /// Has a wait tell again of those of that kind that wait to be accepted.
+    pub fn listen(&mut self, kind: u32) {
+        self.listen_again(kind as usize);
+    }
+
+    /// Has a wait tell of those that stand at a listener.
+    fn listen_again(&mut self, kind: usize) {
+        let Some(door) = self.doors.get_mut(kind) else {
+            return;
+        };
+        door.rests_until = None;
+        let token = Token(kind);
+        let _ = self
+            .poll
+            .registry()
+            .reregister(&mut door.listener, token, Interest::READABLE);
+    }
+
+    /// Accepts a connection of that kind that waits, under this number. After a failure its listener rests, and a wait tells of it again.
+    pub fn accept(&mut self, kind: u32, id: u32) -> Accepted {
+        let kind = kind as usize;
+        let Some(door) = self.doors.get(kind) else {
+            return Accepted::Nobody;
+        };
+        match door.listener.accept() {
+            Ok(stream) => self.keep(kind, id, stream),
+            Err(error) if error.kind() == ErrorKind::WouldBlock => Accepted::Nobody,
+            Err(_) => self.rest(kind),
+        }
+    }
+
+    /// Keeps a stream, of which waits tell from now on.
+    fn keep(&mut self, kind: usize, id: u32, mut stream: Stream) -> Accepted {
+        let registered = self
+            .poll
+            .registry()
+            .register(&mut stream, token_of(id), both_ways());
+        if registered.is_err() || self.streams.insert(id, stream).is_err() {
+            return self.rest(kind);
+        }
+        Accepted::Came
+    }
+
+    /// A listener rests.
+    fn rest(&mut self, kind: usize) -> Accepted {
+        let until = self.now().saturating_add(REST);
+        if let Some(door) = self.doors.get_mut(kind) {
+            door.rests_until = Some(until);
+        }
+        Accepted::Nobody
+    }
+
+    /// Reads of a connection what there is, at most as many octets as the buffer has.
+    pub fn read(&mut self, id: u32, buffer: &mut [u8]) -> Input
+        requires { 0 < length buffer.old }
+        ensures { ReadFits buffer.new result }
+    {
+        let Some(stream) = self.streams.get_mut(&id) else {
+            return Input::Lost;
+        };
+        match stream.read(buffer) {
+            Ok(0) => Input::Over,
+            Ok(count) => Input::Got(count.min(buffer.len())),
+            Err(error) if error.kind() == ErrorKind::WouldBlock => Input::Nothing,
+            Err(_) => Input::Lost,
+        }
+    }
+
+    /// Reads of a connection what there is, and drops it; at most 4,096 octets.
+    pub fn discard(&mut self, id: u32) -> Input
+        ensures { DiscardFits result }
+    {
+        let mut buffer = [0; MAX_DISCARD];
+        self.read(id, &mut buffer)
+    }
+
+    /// Gives octets to the system, to be sent.
+    pub fn write(&mut self, id: u32, octets: &[u8]) -> Output
+        requires { 0 < length octets.now }
+        ensures { WriteFits octets.now result }
+    {
+        let Some(stream) = self.streams.get_mut(&id) else {
+            return Output::Lost;
+        };
+        match stream.write(octets) {
+            Ok(0) => Output::Lost,
+            Ok(count) => Output::Taken(count.min(octets.len())),
+            Err(error) if error.kind() == ErrorKind::WouldBlock => Output::Nothing,
+            Err(_) => Output::Lost,
+        }
+    }
+
+    /// Tells a connection's peer that no more is sent.
+    pub fn shut(&mut self, id: u32) {
+        if let Some(stream) = self.streams.get(&id) {
+            let _ = stream.shut();
+        }
+    }
+
+    /// Closes a connection.
+    pub fn close(&mut self, id: u32) {
+        let _ = self.streams.remove(&id);
+    }
+
+    /// Has a wait tell of the connection again.
+    pub fn again(&mut self, id: u32) {
+        if let Some(stream) = self.streams.get_mut(&id) {
+            let _ = self
+                .poll
+                .registry()
+                .reregister(stream, token_of(id), both_ways());
+        }
+    }
+}
+
+/// The token of a connection.
+fn token_of(id: u32) -> Token {
+    Token(id as usize + FIRST_CONNECTION)
+}
+
+/// What an event with a token tells.
+fn wake_of(token: Token) -> Option<Wake> {
+    let Token(number) = token;
+    if number < FIRST_CONNECTION {
+        return Some(Wake::Knock(number as u32));
+    }
+    match u32::try_from(number - FIRST_CONNECTION) {
+        Ok(id) => Some(Wake::Ready(id)),
+        Err(_) => None,
+    }
+}
+
+/// Reading and writing.
+fn both_ways() -> Interest {
+    Interest::READABLE | Interest::WRITABLE
+}

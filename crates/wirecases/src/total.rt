@@ -1,0 +1,48 @@
+//! The entries that are the echo's own: `total N`, what the total is, and `ticks N`, how often the machine worked.
+use octets::{List, Octets, write_decimal};
+use std::alloc::{AllocError, Global};
+use wirefakes::desk::Note;
+use wirefakes::play::{Check, Owner};
+use wirefakes::schedule::split_word;
+use wirefakes::stage::Stage;
+use wires::act::Act;
+
+/// Looks at the total.
+#[derive(Drop)]
+pub struct Totals {
+    pub alloc: Global,
+}
+
+impl Owner<Note, u64> for Totals {
+    fn own(
+        &mut self,
+        stage: &mut Stage<Note, u64>,
+        line: usize,
+        text: &[u8],
+        checks: &mut List<Check>,
+    ) -> Result<(), AllocError> {
+        let (word, wanted) = split_word(text);
+        let mut got = Octets::new(self.alloc);
+        match word {
+            b"total" => write_decimal(&mut got, stage.fake.rest)?,
+            b"ticks" => write_decimal(&mut got, count_ticks(stage.fake.acts.as_slice()))?,
+            _ => got.extend_from_slice(b"no such entry")?,
+        }
+        checks.push(Check {
+            line,
+            wanted: Octets::from_slice(self.alloc, wanted)?,
+            got,
+        })
+    }
+}
+
+/// How often the machine did work of its own.
+fn count_ticks(acts: &[Act<Note>]) -> u64 {
+    let mut count: u64 = 0;
+    for act in acts {
+        if let Act::Worked(_) = act {
+            count = count.saturating_add(1);
+        }
+    }
+    count
+}

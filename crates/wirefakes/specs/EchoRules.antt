@@ -1,0 +1,55 @@
+-- What the echo makes of what happens.
+use Rattle.std.specs.Prelude.{◌≡◌, ℕ, ◌+◌, ◌%◌, ◌^◌, ◌==◌, ◌&&◌, nat_lt, not, if◌then◌else◌, List, [], ◌∷◌, find, option_map, Option, Some, None}
+use Rattle.std.specs.BTreeMap as tree
+use Rattle.std.specs.Ordering.{nat_cmp}
+use Rattle.wires.specs.declared.machine.Want.{Want}
+use Rattle.wires.specs.declared.machine.Want.TheVariants as want
+use Rattle.wires.specs.Rules.{Rules}
+use Rattle.wirefakes.specs.declared.desk.Note.{Note}
+use Rattle.wirefakes.specs.declared.desk.Note.TheVariants.{Answered, Added, Ticked}
+use Rattle.wirefakes.specs.declared.echo.Guest.{Guest}
+use Rattle.wirefakes.specs.declared.echo.Echo.{Echo}
+
+abbrev pub guest_of : Echo → ℕ → Option Guest
+guest_of m id = tree.get nat_cmp m.guests id
+
+abbrev pub want_by : Option Guest → Want
+want_by (Some g) = g.want
+want_by None = want.Done
+
+abbrev pub deadline_by : Option Guest → ℕ
+deadline_by (Some g) = g.deadline
+deadline_by None = 0
+
+-- of the third kind the first that hasn't said a line makes room
+abbrev pub displaced_by : Echo → ℕ → Option ℕ
+displaced_by m kind = if kind == 3 then option_map (λ (g : Guest). g.id) (find (λ (g : Guest). (g.kind == 3) && not g.known) (tree.values m.guests)) else None
+
+-- what a step or its own work makes of the total
+abbrev pub Totals : Note → ℕ → ℕ → Type 0
+Totals Answered total later = later ≡ total
+Totals (Added count) total later = later ≡ (total + count) % 2 ^ 64
+Totals Ticked total later = later ≡ total
+
+-- `hi`, `end`, and CRLF
+abbrev pub greeting : List ℕ
+greeting = 104 ∷ 105 ∷ 13 ∷ 10 ∷ []
+
+abbrev pub farewell : List ℕ
+farewell = 101 ∷ 110 ∷ 100 ∷ 13 ∷ 10 ∷ []
+
+abbrev pub echo_rules : Rules Echo Note ℕ
+echo_rules = record {
+  limit = λ kind. if kind == 1 then 64 else 2;
+  displaced = displaced_by;
+  wants = λ m id. want_by (guest_of m id);
+  has_work = λ m now. not (nat_lt now m.due);
+  deadline = λ m id. deadline_by (guest_of m id);
+  opens = λ m now kind id said n. (said ≡ greeting) × (n.due ≡ m.due);
+  gives = λ m now id piece said n. (said ≡ []) × (n.due ≡ m.due);
+  steps = λ m r now id note said n q. Totals note r q × (n.due ≡ m.due);
+  lates = λ m now id said n. (said ≡ farewell) × (n.due ≡ m.due);
+  works = λ m r now note n q. (note ≡ Ticked) × (q ≡ r) × (n.due ≡ (now + 1000) % 2 ^ 64);
+  lacks = λ m id n. n.due ≡ m.due;
+  closes = λ m now id n. (guest_of n id ≡ None) × (n.due ≡ m.due);
+}

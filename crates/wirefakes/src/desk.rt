@@ -1,0 +1,59 @@
+//! What the echo acts on: a total.
+ghost use Rattle.std.specs.Prelude.{◌≡◌, ◌+◌, ◌%◌, ◌^◌, IsTrue};
+ghost use Rattle.wires.specs.Told.{TellsIf, LeavesIf};
+ghost use Rattle.wires.specs.declared.act.Act.TheVariants.{Noted, Worked};
+ghost use Rattle.wirefakes.specs.declared.desk.Note.TheVariants.{Answered, Added, Ticked};
+
+use crate::stage::Stage;
+use wires::act::Act;
+use wires::outside::Outside;
+
+/// What the echo notes.
+#[derive(Clone, Copy, Debug, PartialEq, Eq)]
+pub enum Note {
+    /// It did nothing but answer.
+    Answered,
+    /// It added so much to the total.
+    Added(u64),
+    /// A second passed.
+    Ticked,
+}
+
+/// A total, beside sockets and a clock.
+pub trait Desk: Outside<Note = Note, Rest = u64> {
+    /// Adds to the total, which begins anew behind 2^64 - 1, and gives it.
+    fn add(&mut self, id: u32, count: u64) -> u64
+        ensures told { TellsIf Self.tells Self.seen self.old (Noted id (Added count)) self.new }
+        ensures total { IsTrue (Self.tells self.new) → Self.rest self.new ≡ (Self.rest self.old + count) % 2 ^ 64 }
+        ensures result { IsTrue (Self.tells self.new) → result ≡ Self.rest self.new }
+        ensures kept { IsTrue (Self.tells self.new) → IsTrue (Self.tells self.old) };
+
+    /// Notes that nothing was done but to answer.
+    fn answered(&mut self, id: u32)
+        ensures told { TellsIf Self.tells Self.seen self.old (Noted id Answered) self.new }
+        ensures left { LeavesIf Self.tells Self.rest self.old self.new }
+        ensures kept { IsTrue (Self.tells self.new) → IsTrue (Self.tells self.old) };
+
+    /// Notes that a second passed.
+    fn ticked(&mut self)
+        ensures told { TellsIf Self.tells Self.seen self.old (Worked Ticked) self.new }
+        ensures left { LeavesIf Self.tells Self.rest self.old self.new }
+        ensures kept { IsTrue (Self.tells self.new) → IsTrue (Self.tells self.old) };
+}
+
+impl Desk for Stage<Note, u64> {
+    fn add(&mut self, id: u32, count: u64) -> u64 {
+        let total = self.fake.rest.wrapping_add(count);
+        self.fake.rest = total;
+        self.keep(Act::Noted(id, Note::Added(count)));
+        total
+    }
+
+    fn answered(&mut self, id: u32) {
+        self.keep(Act::Noted(id, Note::Answered));
+    }
+
+    fn ticked(&mut self) {
+        self.keep(Act::Worked(Note::Ticked));
+    }
+}

@@ -1,0 +1,294 @@
+//! A machine that says back each line.
+ghost use Rattle.std.specs.Prelude.{◌≡◌, ◌<◌, ◌==◌, ◌&&◌, [], length, IfSome, find, option_map, if◌then◌else◌, not, None, Some};
+ghost use Rattle.std.specs.BTreeMap as tree;
+ghost use Rattle.wirefakes.specs.EchoRules.{echo_rules, displaced_by, want_by, deadline_by, guest_of};
+
+use crate::desk::Desk;
+use octets::{Octets, Pending, parse_decimal, write_decimal};
+use std::alloc::{AllocError, Global};
+use std::collections::BTreeMap;
+use wires::machine::{Machine, Want};
+
+/// No line is longer.
+const MAX_LINE: usize = 100;
+
+/// An answer takes no more octets.
+const MAX_ANSWER: usize = 128;
+
+/// A line is to come within so many milliseconds.
+const MAX_SILENCE: u64 = 60000;
+
+/// The machine works each time so many milliseconds have passed.
+const PERIOD: u64 = 1000;
+
+/// A client.
+#[derive(Drop)]
+pub struct Guest {
+    pub id: u32,
+    pub kind: u32,
+    /// Whether a line came from it, or it was told something last.
+    pub known: bool,
+    /// What it said and wasn't answered yet.
+    pub unread: Pending,
+    pub want: Want,
+    /// How long it waits, where it does.
+    pub span: Option<u64>,
+    /// The moment by which it is late.
+    pub deadline: u64,
+}
+
+/// All clients.
+#[derive(Drop)]
+pub struct Echo {
+    pub alloc: Global,
+    pub guests: BTreeMap<u32, Guest>,
+    /// When it works next.
+    pub due: u64,
+}
+
+/// What a line asks for, besides its answer.
+#[derive(Clone, Copy, Debug, PartialEq, Eq)]
+enum Asked {
+    Nothing,
+    /// To add that to the total.
+    Sum(u64),
+}
+
+impl Echo {
+    /// Nobody is there.
+    pub fn new(alloc: Global) -> Echo {
+        Echo {
+            alloc,
+            guests: BTreeMap::new(alloc),
+            due: PERIOD,
+        }
+    }
+
+    fn first_unknown(&self) -> Option<u32>
+        ensures { result ≡ displaced_by self.now 3 }
+    {
+        let first = self
+            .guests
+            .values()
+            .find(|guest| guest.kind == 3 && !guest.known);
+        match first {
+            Some(guest) => Some(guest.id),
+            None => None,
+        }
+    }
+
+    /// Takes the first line of a client, and gives what it asks for.
+    fn take(&mut self, now: u64, id: u32, out: &mut Octets) -> Result<Asked, AllocError>
+        ensures { self.new.due ≡ self.old.due }
+    {
+        let alloc = self.alloc;
+        out.reserve(MAX_ANSWER)?;
+        match self.guests.get_mut(&id) {
+            Some(guest) => guest.take(alloc, now, out),
+            None => Ok(Asked::Nothing),
+        }
+    }
+}
+
+impl Guest {
+    /// What it wants next.
+    fn look(&mut self) {
+        self.want = next_want(self.unread.as_slice());
+    }
+
+    fn take(&mut self, alloc: Global, now: u64, out: &mut Octets) -> Result<Asked, AllocError> {
+        self.deadline = now.wrapping_add(MAX_SILENCE);
+        match self.span {
+            Some(span) => {
+                self.span = None;
+                self.look();
+                say_waited(out, span)?;
+                Ok(Asked::Nothing)
+            }
+            None => self.take_line(alloc, now, out),
+        }
+    }
+
+    fn take_line(
+        &mut self,
+        alloc: Global,
+        now: u64,
+        out: &mut Octets,
+    ) -> Result<Asked, AllocError> {
+        let Some(end) = line_end(self.unread.as_slice()) else {
+            self.want = Want::Done;
+            out.extend_from_slice(b"too long\r\n")?;
+            return Ok(Asked::Nothing);
+        };
+        let line = Octets::from_slice(alloc, &self.unread.as_slice()[..end])?;
+        self.unread.drop_front(end + 1);
+        self.known = true;
+        self.look();
+        self.answer(now, without_cr(line.as_slice()), out)
+    }
+
+    fn answer(&mut self, now: u64, line: &[u8], out: &mut Octets) -> Result<Asked, AllocError> {
+        if let Some(count) = number_behind(line, b"add ") {
+            return Ok(Asked::Sum(count));
+        }
+        if let Some(span) = number_behind(line, b"wait ") {
+            self.span = Some(span);
+            self.want = Want::Until(now.wrapping_add(span));
+            return Ok(Asked::Nothing);
+        }
+        if line == b"bye".as_slice() {
+            self.want = Want::Done;
+        }
+        out.extend_from_slice(line)?;
+        out.extend_from_slice(b"\r\n")?;
+        Ok(Asked::Nothing)
+    }
+}
+
+/// What one wants who said this, which wasn't answered yet.
+fn next_want(unread: &[u8]) -> Want {
+    if unread.len() > MAX_LINE || unread.contains(&b'\n') {
+        Want::Step
+    } else {
+        Want::More
+    }
+}
+
+/// How long the first line is without its LF; none where it is too long.
+fn line_end(unread: &[u8]) -> Option<usize>
+    ensures { IfSome result (λ end. end < length unread.now) }
+{
+    let end = unread.iter().position(|octet| *octet == b'\n')?;
+    if end > MAX_LINE {
+        return None;
+    }
+    Some(end)
+}
+
+fn without_cr(line: &[u8]) -> &[u8] {
+    match line {
+        [front @ .., b'\r'] => front,
+        _ => line,
+    }
+}
+
+fn number_behind(line: &[u8], word: &[u8]) -> Option<u64> {
+    match line.strip_prefix(word) {
+        Some(rest) => parse_decimal(rest),
+        None => None,
+    }
+}
+
+fn say_waited(out: &mut Octets, span: u64) -> Result<(), AllocError> {
+    out.extend_from_slice(b"waited ")?;
+    write_decimal(out, span)?;
+    out.extend_from_slice(b"\r\n")
+}
+
+fn say_total(out: &mut Octets, total: u64) -> Result<(), AllocError> {
+    out.extend_from_slice(b"total ")?;
+    write_decimal(out, total)?;
+    out.extend_from_slice(b"\r\n")
+}
+
+impl<O: Desk> Machine<O> for Echo {
+    ghost rules = { echo_rules };
+
+    fn limit(&self, kind: u32) -> usize {
+        if kind == 1 { 64 } else { 2 }
+    }
+
+    fn displaced(&self, kind: u32) -> Option<u32> {
+        if kind == 3 {
+            self.first_unknown()
+        } else {
+            None
+        }
+    }
+
+    fn wants(&self, id: u32) -> Want {
+        match self.guests.get(&id) {
+            Some(guest) => guest.want,
+            None => Want::Done,
+        }
+    }
+
+    fn deadline(&self, id: u32) -> u64 {
+        match self.guests.get(&id) {
+            Some(guest) => guest.deadline,
+            None => 0,
+        }
+    }
+
+    fn has_work(&self, now: u64) -> bool {
+        now >= self.due
+    }
+
+    fn patience(&self) -> u32 {
+        PERIOD as u32
+    }
+
+    fn open(&mut self, now: u64, kind: u32, id: u32, out: &mut Octets) -> Result<(), AllocError> {
+        let guest = Guest {
+            id,
+            kind,
+            known: false,
+            unread: Pending::new(self.alloc),
+            want: Want::More,
+            span: None,
+            deadline: now.wrapping_add(MAX_SILENCE),
+        };
+        if self.guests.insert(id, guest).is_err() {
+            return Err(AllocError);
+        }
+        out.extend_from_slice(b"hi\r\n")
+    }
+
+    fn give(
+        &mut self,
+        now: u64,
+        id: u32,
+        piece: &[u8],
+        out: &mut Octets,
+    ) -> Result<(), AllocError> {
+        let Some(guest) = self.guests.get_mut(&id) else {
+            return Ok(());
+        };
+        guest.unread.extend_from_slice(piece)?;
+        guest.look();
+        Ok(())
+    }
+
+    fn step(
+        &mut self,
+        outside: &mut O,
+        now: u64,
+        id: u32,
+        out: &mut Octets,
+    ) -> Result<(), AllocError> {
+        match self.take(now, id, out)? {
+            Asked::Sum(count) => {
+                let total = outside.add(id, count);
+                let _ = say_total(out, total);
+            }
+            Asked::Nothing => outside.answered(id),
+        }
+        Ok(())
+    }
+
+    fn late(&mut self, now: u64, id: u32, out: &mut Octets) -> Result<(), AllocError> {
+        if let Some(guest) = self.guests.get_mut(&id) {
+            guest.known = true;
+        }
+        out.extend_from_slice(b"end\r\n")
+    }
+
+    fn work(&mut self, outside: &mut O, now: u64) {
+        outside.ticked();
+        self.due = now.wrapping_add(PERIOD);
+    }
+
+    fn close(&mut self, now: u64, id: u32) {
+        let _ = self.guests.remove(&id);
+    }
+}

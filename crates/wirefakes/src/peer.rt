@@ -1,0 +1,113 @@
+//! A client of a schedule.
+ghost use Rattle.std.specs.Prelude.{◌≡◌, ◌≤◌, length};
+
+use crate::script::Reading;
+use octets::{Octets, Pending};
+use std::alloc::{AllocError, Global};
+use std::collections::VecDeque;
+
+/// What comes of a client once all that it said is read.
+#[derive(Clone, Copy, Debug, PartialEq, Eq)]
+pub enum Side {
+    /// It may say more.
+    Open,
+    /// It says no more.
+    Over,
+    /// Its connection failed.
+    Failed,
+}
+
+/// A client, as it is at the other end.
+#[derive(Drop)]
+pub struct Peer {
+    pub name: Octets,
+    /// Of which listener it is.
+    pub kind: u32,
+    /// Its number, once it was accepted.
+    pub id: Option<u32>,
+    /// What it said and nobody read yet.
+    pub pieces: VecDeque<Pending>,
+    pub side: Side,
+    /// How many octets it takes yet; it takes all where they aren't counted.
+    pub room: Option<usize>,
+    /// Whether a wait is to tell of it.
+    pub news: bool,
+    /// What was sent to it since it was looked at.
+    pub sent: Octets,
+    /// Whether it sees that no more is sent.
+    pub shut: bool,
+    pub closed: bool,
+}
+
+impl Peer {
+    /// One that knocks.
+    pub fn new(alloc: Global, name: Octets, kind: u32) -> Peer {
+        Peer {
+            name,
+            kind,
+            id: None,
+            pieces: VecDeque::new(alloc),
+            side: Side::Open,
+            room: None,
+            news: false,
+            sent: Octets::new(alloc),
+            shut: false,
+            closed: false,
+        }
+    }
+
+    /// Whether it has this number and isn't closed.
+    pub fn is_at(&self, id: u32) -> bool {
+        !self.closed && self.id == Some(id)
+    }
+
+    /// Whether it knocks there.
+    pub fn knocks_at(&self, kind: u32) -> bool {
+        self.kind == kind && self.id.is_none()
+    }
+
+    /// Whether more may be done on it.
+    pub fn has_more(&self) -> bool {
+        !self.pieces.is_empty() || self.side != Side::Open || self.room != Some(0)
+    }
+
+    /// What a read of at most so many octets comes to; nothing where there is nothing yet.
+    pub fn read(&mut self, alloc: Global, most: usize) -> Result<Option<Reading>, AllocError> {
+        if self.side == Side::Failed {
+            return Ok(Some(Reading::Lost));
+        }
+        let Some(piece) = self.pieces.front_mut() else {
+            return Ok(end_of(self.side));
+        };
+        let count = piece.len().min(most);
+        let heard = Octets::from_slice(alloc, &piece.as_slice()[..count])?;
+        piece.drop_front(count);
+        if piece.is_empty() {
+            let _ = self.pieces.pop_front();
+        }
+        Ok(Some(Reading::Piece(heard)))
+    }
+
+    /// How many of these octets it takes.
+    pub fn take(&mut self, octets: &[u8]) -> Result<usize, AllocError>
+        ensures { (count : _) → result ≡ Ok count → count ≤ length octets.now }
+    {
+        let count = match self.room {
+            Some(room) => room.min(octets.len()),
+            None => octets.len(),
+        };
+        self.sent.extend_from_slice(&octets[..count])?;
+        if let Some(room) = self.room {
+            self.room = Some(room.saturating_sub(count));
+        }
+        Ok(count)
+    }
+}
+
+fn end_of(side: Side) -> Option<Reading> {
+    match side {
+        Side::Open => None,
+        Side::Over => Some(Reading::Over),
+        Side::Failed => Some(Reading::Lost),
+    }
+}

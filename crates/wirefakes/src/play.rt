@@ -1,0 +1,217 @@
+//! Plays a schedule on a machine.
+use crate::peer::{Peer, Side};
+use crate::schedule::{Deed, Entry, Schedule};
+use crate::stage::Stage;
+use octets::{List, Octets, Pending};
+use std::alloc::{AllocError, Global};
+use wires::machine::Machine;
+use wires::service::{Service, act};
+
+/// So many acts may follow until all is done that can be done.
+const MAX_ACTS: u32 = 10_000_000;
+
+/// What was wanted at a line of a schedule, and what came.
+#[derive(Drop)]
+pub struct Check {
+    /// The number of the line, counted from 1; 0 at the end.
+    pub line: usize,
+    pub wanted: Octets,
+    pub got: Octets,
+}
+
+/// What makes something of the entries that are the machine's own.
+pub trait Owner<N: Drop, R: Drop> {
+    /// One such entry; `checks` gets what it wants and what came.
+    fn own(
+        &mut self,
+        stage: &mut Stage<N, R>,
+        line: usize,
+        text: &[u8],
+        checks: &mut List<Check>,
+    ) -> Result<(), AllocError>;
+}
+
+/// What a schedule is played on.
+#[derive(Drop)]
+pub struct Player<N: Drop, R: Drop, M: Drop, W: Drop> {
+    pub alloc: Global,
+    pub stage: Stage<N, R>,
+    pub machine: M,
+    pub service: Service,
+    pub owner: W,
+    /// All that was wanted so far, and what came.
+    pub checks: List<Check>,
+}
+
+impl<N: Drop, R: Drop, M: Machine<Stage<N, R>> + Drop, W: Owner<N, R> + Drop> Player<N, R, M, W> {
+    /// Plays all entries, one after the other.
+    ///
+    /// # Errors
+    ///
+    /// Lack of memory.
+    pub fn play(&mut self, schedule: &Schedule) -> Result<(), AllocError> {
+        for entry in schedule.entries.as_slice() {
+            self.play_entry(entry.0, &entry.1)?;
+        }
+        self.settle(0)?;
+        self.check_rest()
+    }
+
+    fn play_entry(&mut self, line: usize, entry: &Entry) -> Result<(), AllocError> {
+        match entry {
+            Entry::Of(name, deed) => self.play_deed(line, name.as_slice(), deed),
+            Entry::Clock(moment) => {
+                self.stage.set_clock(*moment);
+                Ok(())
+            }
+            Entry::Pause => self.settle(line),
+            Entry::Own(text) => {
+                self.owner
+                    .own(&mut self.stage, line, text.as_slice(), &mut self.checks)
+            }
+        }
+    }
+
+    /// Lets the machine do all that it can do.
+    fn settle(&mut self, line: usize) -> Result<(), AllocError> {
+        for round in 0..MAX_ACTS {
+            if self.stage.is_settled() {
+                return Ok(());
+            }
+            if act(&mut self.stage, &mut self.machine, &mut self.service).is_err() {
+                return self.check(line, b"a wait", b"its failure");
+            }
+        }
+        self.check(line, b"rest", b"no rest")
+    }
+
+    fn check(&mut self, line: usize, wanted: &[u8], got: &[u8]) -> Result<(), AllocError> {
+        let check = Check {
+            line,
+            wanted: Octets::from_slice(self.alloc, wanted)?,
+            got: Octets::from_slice(self.alloc, got)?,
+        };
+        self.checks.push(check)
+    }
+
+    fn play_deed(&mut self, line: usize, name: &[u8], deed: &Deed) -> Result<(), AllocError> {
+        match deed {
+            Deed::Comes(kind) => {
+                let name = Octets::from_slice(self.alloc, name)?;
+                self.stage.come(name, *kind)
+            }
+            Deed::Has(_) | Deed::IsOpen | Deed::IsShut | Deed::IsClosed => {
+                self.settle(line)?;
+                self.look(line, name, deed)
+            }
+            _ => self.act_as(line, name, deed),
+        }
+    }
+
+    /// A client does something.
+    fn act_as(&mut self, line: usize, name: &[u8], deed: &Deed) -> Result<(), AllocError> {
+        self.stage.idle = 0;
+        match find_peer(&mut self.stage.peers, name) {
+            Some(peer) => act_by(self.alloc, peer, deed),
+            None => self.check(line, b"a client that came", name),
+        }
+    }
+
+    /// What a client got.
+    fn look(&mut self, line: usize, name: &[u8], deed: &Deed) -> Result<(), AllocError> {
+        let alloc = self.alloc;
+        match find_peer(&mut self.stage.peers, name) {
+            Some(peer) => {
+                let (wanted, got) = seen_by(alloc, peer, deed)?;
+                self.checks.push(Check { line, wanted, got })
+            }
+            None => self.check(line, b"a client that came", name),
+        }
+    }
+
+    /// Nothing was sent that no entry has named.
+    fn check_rest(&mut self) -> Result<(), AllocError> {
+        for peer in self.stage.peers.as_slice() {
+            let check = Check {
+                line: 0,
+                wanted: Octets::new(self.alloc),
+                got: peer.sent.try_clone(self.alloc)?,
+            };
+            self.checks.push(check)?;
+        }
+        Ok(())
+    }
+}
+
+fn find_peer<'a>(peers: &'a mut Vec<Peer>, name: &[u8]) -> Option<&'a mut Peer> {
+    let at = peers.iter().position(|peer| peer.name.as_slice() == name)?;
+    peers.get_mut(at)
+}
+
+fn act_by(alloc: Global, peer: &mut Peer, deed: &Deed) -> Result<(), AllocError> {
+    peer.news = true;
+    match deed {
+        Deed::Says(text) => return say(alloc, peer, text.as_slice()),
+        Deed::Goes => {
+            peer.side = Side::Over;
+        }
+        Deed::Fails => {
+            peer.side = Side::Failed;
+        }
+        Deed::TakesNothing => {
+            peer.room = Some(0);
+        }
+        Deed::Takes(count) => {
+            peer.room = Some(peer.room.unwrap_or(0).saturating_add(*count));
+        }
+        Deed::TakesAll => {
+            peer.room = None;
+        }
+        _ => {}
+    }
+    Ok(())
+}
+
+fn say(alloc: Global, peer: &mut Peer, text: &[u8]) -> Result<(), AllocError> {
+    if text.is_empty() {
+        return Ok(());
+    }
+    let piece = Pending::from_octets(Octets::from_slice(alloc, text)?);
+    if peer.pieces.push_back(piece).is_err() {
+        return Err(AllocError);
+    }
+    Ok(())
+}
+
+/// What an entry wants, and what came.
+fn seen_by(alloc: Global, peer: &mut Peer, deed: &Deed) -> Result<(Octets, Octets), AllocError> {
+    match deed {
+        Deed::Has(text) => {
+            let got = peer.sent.try_clone(alloc)?;
+            peer.sent = Octets::new(alloc);
+            Ok((text.try_clone(alloc)?, got))
+        }
+        _ => {
+            let got = Octets::from_slice(alloc, state_of(peer))?;
+            Ok((Octets::from_slice(alloc, state_wanted(deed))?, got))
+        }
+    }
+}
+
+fn state_of(peer: &Peer) -> &'static [u8] {
+    if peer.closed {
+        b"closed"
+    } else if peer.shut {
+        b"shut"
+    } else {
+        b"open"
+    }
+}
+
+fn state_wanted(deed: &Deed) -> &'static [u8] {
+    match deed {
+        Deed::IsClosed => b"closed",
+        Deed::IsShut => b"shut",
+        _ => b"open",
+    }
+}

@@ -1,0 +1,314 @@
+//! The outside that a schedule is played on.
+ghost use Rattle.std.specs.Prelude.{◌≡◌, ◌≤◌, ◌∷◌, ◌++◌, [], length, false, not, IsTrue};
+ghost use Rattle.wires.specs.Told.{IsOwn};
+
+use crate::fake::Fake;
+use crate::peer::{Peer, Side};
+use crate::script::{Reading, Script};
+use octets::Octets;
+use std::alloc::{AllocError, Global};
+use std::collections::VecDeque;
+use wires::act::Act;
+use wires::outcome::{Accepted, Fault, Input, Output, Wake};
+use wires::outside::{Clock, Outside, Sockets};
+
+/// No more octets are dropped at once.
+const MAX_DISCARD: usize = 4096;
+
+/// Clients, and all acts for which it has room. A wait tells once of each who has something new, as the system does.
+#[derive(Drop)]
+pub struct Stage<N: Drop, R: Drop> {
+    /// Keeps the acts, the moment and the rest.
+    pub fake: Fake<N, R>,
+    /// All who came, in their order.
+    pub peers: Vec<Peer>,
+    /// The kinds of listeners of which a wait is to tell.
+    pub knocks: Vec<u32>,
+    /// How many waits in a row told nothing, while nothing else happened.
+    pub idle: u32,
+}
+
+impl<N: Drop, R: Drop> Stage<N, R> {
+    /// Nobody is there.
+    pub fn new(alloc: Global, rest: R) -> Stage<N, R> {
+        Stage {
+            fake: Fake::new(alloc, Script::new(alloc), rest),
+            peers: Vec::new(alloc),
+            knocks: Vec::new(alloc),
+            idle: 0,
+        }
+    }
+
+    /// Whether all was done that can be done by now.
+    pub fn is_settled(&self) -> bool {
+        self.idle > 1
+    }
+
+    /// Keeps an act of the machine.
+    pub fn keep(&mut self, act: Act<N>)
+        ensures acts { IsTrue (not self.new.fake.lost) → self.new.fake.acts.items ≡ self.old.fake.acts.items ++ act ∷ [] }
+        ensures left { self.new.fake.rest ≡ self.old.fake.rest }
+        ensures kept { IsTrue (not self.new.fake.lost) → IsTrue (not self.old.fake.lost) }
+    {
+        self.idle = 0;
+        self.fake.keep(act);
+    }
+
+    /// A client knocks.
+    pub fn come(&mut self, name: Octets, kind: u32) -> Result<(), AllocError> {
+        self.idle = 0;
+        self.peers.push(Peer::new(self.fake.alloc, name, kind))?;
+        self.knock(kind)
+    }
+
+    /// A wait is to tell of that listener.
+    fn knock(&mut self, kind: u32) -> Result<(), AllocError>
+        ensures { self.new.fake ≡ self.old.fake }
+    {
+        if self.knocks.contains(&kind) {
+            return Ok(());
+        }
+        self.knocks.push(kind)?;
+        Ok(())
+    }
+
+    /// The clock shows this moment.
+    pub fn set_clock(&mut self, moment: u64) {
+        self.idle = 0;
+        self.fake.moment = moment;
+    }
+}
+
+/// What a wait tells: of listeners first, then of clients, in the order in which they came.
+fn tell_news(
+    alloc: Global,
+    knocks: &mut Vec<u32>,
+    peers: &mut Vec<Peer>,
+) -> Result<Vec<Wake>, AllocError> {
+    let mut wakes = Vec::new(alloc);
+    for kind in knocks.as_slice() {
+        tell_knock(&mut wakes, *kind, peers)?;
+    }
+    knocks.clear();
+    for peer in peers.iter_mut() {
+        tell_of(&mut wakes, peer)?;
+    }
+    Ok(wakes)
+}
+
+/// Of a listener it is told where somebody knocks there now.
+fn tell_knock(wakes: &mut Vec<Wake>, kind: u32, peers: &Vec<Peer>) -> Result<(), AllocError> {
+    if anyone_knocks(peers, kind) {
+        wakes.push(Wake::Knock(kind))?;
+    }
+    Ok(())
+}
+
+fn tell_of(wakes: &mut Vec<Wake>, peer: &mut Peer) -> Result<(), AllocError> {
+    let Some(id) = peer.id else {
+        return Ok(());
+    };
+    if peer.news && !peer.closed {
+        wakes.push(Wake::Ready(id))?;
+    }
+    peer.news = false;
+    Ok(())
+}
+
+/// The first that knocks there is accepted, under this number.
+fn admit(peers: &mut Vec<Peer>, kind: u32, id: u32) -> bool {
+    for peer in peers.iter_mut() {
+        if peer.knocks_at(kind) {
+            peer.id = Some(id);
+            peer.news = true;
+            return true;
+        }
+    }
+    false
+}
+
+/// What a read comes to.
+fn read_of(
+    alloc: Global,
+    peers: &mut Vec<Peer>,
+    id: u32,
+    most: usize,
+) -> Result<Option<Reading>, AllocError> {
+    for peer in peers.iter_mut() {
+        if peer.is_at(id) {
+            return peer.read(alloc, most);
+        }
+    }
+    Ok(None)
+}
+
+/// How many of these octets are taken; none counts as a failure where the connection failed.
+fn take_of(peers: &mut Vec<Peer>, id: u32, octets: &[u8]) -> Result<usize, AllocError>
+    ensures { (count : _) → result ≡ Ok count → count ≤ length octets.now }
+{
+    for peer in peers.iter_mut() {
+        if peer.is_at(id) {
+            return peer.take(octets);
+        }
+    }
+    Ok(0)
+}
+
+fn has_failed(peers: &Vec<Peer>, id: u32) -> bool {
+    for peer in peers {
+        if peer.is_at(id) {
+            return peer.side == Side::Failed;
+        }
+    }
+    false
+}
+
+fn shut_at(peers: &mut Vec<Peer>, id: u32) {
+    for peer in peers.iter_mut() {
+        if peer.is_at(id) {
+            peer.shut = true;
+        }
+    }
+}
+
+fn close_at(peers: &mut Vec<Peer>, id: u32) {
+    for peer in peers.iter_mut() {
+        if peer.is_at(id) {
+            peer.shut = true;
+            peer.closed = true;
+        }
+    }
+}
+
+fn again_at(peers: &mut Vec<Peer>, id: u32) {
+    for peer in peers.iter_mut() {
+        if peer.is_at(id) {
+            peer.news = peer.has_more();
+        }
+    }
+}
+
+fn anyone_knocks(peers: &Vec<Peer>, kind: u32) -> bool {
+    for peer in peers {
+        if peer.knocks_at(kind) {
+            return true;
+        }
+    }
+    false
+}
+
+impl<N: Drop, R: Drop> Outside for Stage<N, R> {
+    type Note = N;
+
+    type Rest = R;
+
+    ghost tells = { λ stage. not stage.fake.lost };
+
+    ghost seen = { λ stage. stage.fake.acts.items };
+
+    ghost rest = { λ stage. stage.fake.rest };
+
+    ghost broken = { λ _. false };
+}
+
+impl<N: Drop, R: Drop> Sockets for Stage<N, R> {
+    fn wait(&mut self, _within: u32, ready: &mut VecDeque<Wake>) -> Result<(), Fault> {
+        match tell_news(self.fake.alloc, &mut self.knocks, &mut self.peers) {
+            Ok(wakes) => {
+                self.idle = if wakes.is_empty() {
+                    self.idle.saturating_add(1)
+                } else {
+                    0
+                };
+                self.fake.answer_wait(wakes.as_slice(), ready);
+            }
+            Err(_) => {
+                self.fake.lost = true;
+            }
+        }
+        Ok(())
+    }
+
+    fn accept(&mut self, kind: u32, id: u32) -> Accepted {
+        self.idle = 0;
+        if admit(&mut self.peers, kind, id) {
+            self.fake.keep(Act::Came(id, kind));
+            Accepted::Came
+        } else {
+            self.fake.keep(Act::NoneCame(kind));
+            Accepted::Nobody
+        }
+    }
+
+    fn read(&mut self, id: u32, buffer: &mut [u8]) -> Input {
+        self.idle = 0;
+        match read_of(self.fake.alloc, &mut self.peers, id, buffer.len()) {
+            Ok(reading) => self.fake.answer_read(id, reading, buffer),
+            Err(_) => self.fake.answer_read(id, Some(Reading::Lost), buffer),
+        }
+    }
+
+    fn discard(&mut self, id: u32) -> Input {
+        self.idle = 0;
+        match read_of(self.fake.alloc, &mut self.peers, id, MAX_DISCARD) {
+            Ok(reading) => self.fake.answer_discard(id, reading),
+            Err(_) => self.fake.answer_discard(id, Some(Reading::Lost)),
+        }
+    }
+
+    fn write(&mut self, id: u32, octets: &[u8]) -> Output {
+        self.idle = 0;
+        if has_failed(&self.peers, id) {
+            self.fake.keep(Act::Lost(id));
+            return Output::Lost;
+        }
+        match take_of(&mut self.peers, id, octets) {
+            Ok(count) => self.fake.answer_write(id, octets, count),
+            Err(_) => {
+                self.fake.keep(Act::Lost(id));
+                Output::Lost
+            }
+        }
+    }
+
+    fn shut(&mut self, id: u32) {
+        self.idle = 0;
+        shut_at(&mut self.peers, id);
+        self.fake.keep(Act::Shut(id));
+    }
+
+    fn close(&mut self, id: u32) {
+        self.idle = 0;
+        close_at(&mut self.peers, id);
+        self.fake.keep(Act::Ended(id));
+    }
+
+    fn again(&mut self, id: u32) {
+        self.idle = 0;
+        again_at(&mut self.peers, id);
+        self.fake.keep(Act::Again(id));
+    }
+
+    fn listen(&mut self, kind: u32) {
+        self.idle = 0;
+        if self.knock(kind).is_err() {
+            self.fake.lost = true;
+        }
+        self.fake.keep(Act::Listened(kind));
+    }
+
+    fn note(&mut self, act: Act<N>)
+        requires { IsOwn act }
+        ensures seen { IsTrue (not self.new.fake.lost) → self.new.fake.acts.items ≡ self.old.fake.acts.items ++ act ∷ [] }
+        ensures left { self.new.fake.rest ≡ self.old.fake.rest }
+        ensures kept { IsTrue (not self.new.fake.lost) → IsTrue (not self.old.fake.lost) }
+    {
+        self.keep(act);
+    }
+}
+
+impl<N: Drop, R: Drop> Clock for Stage<N, R> {
+    fn now(&mut self) -> u64 {
+        self.fake.now()
+    }
+}

@@ -1,0 +1,371 @@
+-- How many connections are open.
+use Rattle.std.proofs.Common.{◌≡◌, ◌⊎◌, inl, inr, ℕ, suc, ◌≤◌, ◌<◌, ◌+◌, ◌==◌, Bool, true, false, cond, ◌||◌, List, [], ◌∷◌, length, filter, Option, Some, None, refl, sym, ◌∙◌, ap, subst, arith}
+use Rattle.std.specs.BTreeMap.{is_at}
+use Rattle.std.specs.Cmp.{nat_cmp_is, unsigned_tied}
+use Rattle.std.specs.declared.cmp.Ordering.TheVariants.{Equal}
+use Rattle.std.specs.List.{list_any}
+use Rattle.std.specs.Map.{lookup, values_of}
+use Rattle.std.specs.Ordering.{nat_cmp, is_eq}
+use Rattle.wires.specs.declared.act.Act.{Act}
+use Rattle.wires.specs.declared.act.Act.TheVariants.{Woke, Timed, Late, Began, Roused, Worked, Came, NoneCame, Crowded, Displaced, Listened, InUse, Heard, ReadBlocked, Over, Sent, WriteBlocked, Lost, Noted, Waits, Full, Again, Shut, Dropped, Ended}
+use Rattle.wires.specs.declared.service.Client.{Client}
+use Rattle.wires.specs.declared.service.Service.{Service}
+use Rattle.wires.specs.declared.turn.Turn.{Turn}
+use Rattle.wires.specs.declared.turn.Turn.TheVariants.{Free, Rested, Waked, Sweep, Door, Busy, Stuffed, Leaving}
+use Rattle.wires.specs.Life.{Move, Passes, kind_by, kind_on, Distinct, Bounded}
+use Rattle.wires.specs.Moves.{Moment}
+use Rattle.wires.specs.Rules.{Rules}
+use Rattle.wires.specs.Talk.{same, client_of, kind_of, Comes, Answers, Sends, Parts, OrNothing, Shuts, Drops, At, Talks}
+use Rattle.wires.specs.Turns.{Turns, open_of, Yields, Admits, Opens, Reads, Fails, Lacks, MayEnd, Rests, Calm, MayWait}
+use Rattle.wires.proofs.LifeLemmas.{cut, talks_of, turns_of}
+use Rattle.wires.proofs.TalkLemmas.{one_number}
+
+-- ---- numbers that differ
+
+same-self : (n : ℕ) → same n n ≡ true
+same-self n = ap is_eq (sym (nat_cmp_is n n Equal refl))
+
+same-flips : (a b : ℕ) → same a b ≡ true → same b a ≡ true
+same-flips a b is = subst (λ n. same n a ≡ true) (one_number a b is) (same-self a)
+
+is_itself : (a b : ℕ) → a ≡ b → (a == b) ≡ true
+is_itself a b is = subst (λ n. (a == n) ≡ true) is (sym (unsigned_tied a a) ∙ same-self a)
+
+weaker : (P Q : ℕ → Type 0) (ids : List ℕ) → ((id : ℕ) → P id → Q id) → Distinct P ids → Distinct Q ids
+weaker P Q [] more d = tt
+weaker P Q (id ∷ ids) more d = (more id d.0, d.1, weaker P Q ids more d.2)
+
+abbrev without : ℕ → List ℕ → List ℕ
+without k [] = []
+without k (id ∷ ids) = cond (same id k) (without k ids) (id ∷ without k ids)
+
+or_left : (a b : Bool) → (a || b) ≡ false → a ≡ false
+or_left true b is = is
+or_left false b is = refl
+
+or_right : (a b : Bool) → (a || b) ≡ false → b ≡ false
+or_right true b is = let never : ⊥ = cc in absurd never
+or_right false b is = is
+
+or_both : (a b : Bool) → a ≡ false → b ≡ false → (a || b) ≡ false
+or_both true b is it = let never : ⊥ = cc in absurd never
+or_both false b is it = it
+
+still_none : (k id : ℕ) (ids : List ℕ) → list_any (λ other. same other id) ids ≡ false → list_any (λ other. same other id) (without k ids) ≡ false
+still_none k id [] none = refl
+still_none k id (x ∷ ids) none = go (same x k) (still_none k id ids (or_right (same x id) (list_any (λ other. same other id) ids) none))
+  where
+    go : (b : Bool) → list_any (λ other. same other id) (without k ids) ≡ false → list_any (λ other. same other id) (cond b (without k ids) (x ∷ without k ids)) ≡ false
+    go true rest = rest
+    go false rest = or_both (same x id) (list_any (λ other. same other id) (without k ids)) (or_left (same x id) (list_any (λ other. same other id) ids) none) rest
+
+others_differ : (P : ℕ → Type 0) (k : ℕ) (ids : List ℕ) → Distinct P ids → Distinct (λ id. P id × (same id k ≡ false)) (without k ids)
+others_differ P k [] d = tt
+others_differ P k (x ∷ ids) d = go (same x k) refl (others_differ P k ids d.2)
+  where
+    go : (b : Bool) → same x k ≡ b → Distinct (λ id. P id × (same id k ≡ false)) (without k ids) → Distinct (λ id. P id × (same id k ≡ false)) (cond b (without k ids) (x ∷ without k ids))
+    go true is rest = rest
+    go false is rest = ((d.0, is), still_none k x ids d.1, rest)
+
+none_taken_out : (k : ℕ) (ids : List ℕ) → list_any (λ other. same other k) ids ≡ false → length (without k ids) ≡ length ids
+none_taken_out k [] none = refl
+none_taken_out k (x ∷ ids) none = go (same x k) (or_left (same x k) (list_any (λ other. same other k) ids) none) (none_taken_out k ids (or_right (same x k) (list_any (λ other. same other k) ids) none))
+  where
+    go : (b : Bool) → b ≡ false → length (without k ids) ≡ length ids → length (cond b (without k ids) (x ∷ without k ids)) ≡ length (x ∷ ids)
+    go true is rest = let never : ⊥ = cc in absurd never
+    go false is rest = ap (λ n. suc n) rest
+
+one_taken_out : (P : ℕ → Type 0) (k : ℕ) (ids : List ℕ) → Distinct P ids → length ids ≤ length (without k ids) + 1
+one_taken_out P k [] d = omega arith
+one_taken_out P k (x ∷ ids) d = go (same x k) refl (one_taken_out P k ids d.2)
+  where
+    go : (b : Bool) → same x k ≡ b → length ids ≤ length (without k ids) + 1 → length (x ∷ ids) ≤ length (cond b (without k ids) (x ∷ without k ids)) + 1
+    go true is more =
+        let all : length (without k ids) ≡ length ids = none_taken_out k ids (subst (λ n. list_any (λ other. same other n) ids ≡ false) (one_number x k is) d.1) in
+        omega (arith, all)
+    go false is more = omega (arith, more)
+
+-- ---- connections of a kind among all
+
+abbrev pub is_of : ℕ → Option Client → Bool
+is_of kind None = false
+is_of kind (Some c) = c.kind == kind
+
+abbrev found : List (ℕ × Client) → ℕ → Option Client
+found es id = lookup (is_at (nat_cmp id)) es
+
+abbrev count_of : ℕ → List (ℕ × Client) → ℕ
+count_of kind es = length (filter (λ (c : Client). c.kind == kind) (values_of es))
+
+past_first : (kind : ℕ) (e : ℕ × Client) (es : List (ℕ × Client)) (id : ℕ) → same id e.0 ≡ false → is_of kind (found (e ∷ es) id) ≡ true → is_of kind (found es id) ≡ true
+past_first kind e es id is h = subst (λ b. is_of kind (cond b (Some e.1) (found es id)) ≡ true) is h
+
+past_other : (kind : ℕ) (e : ℕ × Client) (es : List (ℕ × Client)) (id : ℕ) → (e.1.kind == kind) ≡ false → is_of kind (found (e ∷ es) id) ≡ true → is_of kind (found es id) ≡ true
+past_other kind e es id is h = go (same id e.0) h
+  where
+    go : (b : Bool) → is_of kind (cond b (Some e.1) (found es id)) ≡ true → is_of kind (found es id) ≡ true
+    go true at = let never : ⊥ = cc in absurd never
+    go false at = at
+
+no_more : (kind : ℕ) (es : List (ℕ × Client)) (ids : List ℕ) → Distinct (λ id. is_of kind (found es id) ≡ true) ids → length ids ≤ count_of kind es
+no_more kind [] [] d = omega arith
+no_more kind [] (id ∷ ids) d = let is = d.0 in let never : ⊥ = cc in absurd never
+no_more kind (e ∷ es) ids d = go (e.1.kind == kind) refl (λ others differ. no_more kind es others differ)
+  where
+    go : (b : Bool) → (e.1.kind == kind) ≡ b
+        → ((others : List ℕ) → Distinct (λ id. is_of kind (found es id) ≡ true) others → length others ≤ count_of kind es)
+        → length ids ≤ length (cond b (e.1 ∷ filter (λ (c : Client). c.kind == kind) (values_of es)) (filter (λ (c : Client). c.kind == kind) (values_of es)))
+    go true is fewer =
+        let others = weaker (λ id. (is_of kind (found (e ∷ es) id) ≡ true) × (same id e.0 ≡ false)) (λ id. is_of kind (found es id) ≡ true) (without e.0 ids) (λ id h. past_first kind e es id h.1 h.0) (others_differ (λ id. is_of kind (found (e ∷ es) id) ≡ true) e.0 ids d) in
+        let some : length (without e.0 ids) ≤ count_of kind es = fewer (without e.0 ids) others in
+        let one : length ids ≤ length (without e.0 ids) + 1 = one_taken_out (λ id. is_of kind (found (e ∷ es) id) ≡ true) e.0 ids d in
+        omega (arith, some, one)
+    go false is fewer = fewer ids (weaker (λ id. is_of kind (found (e ∷ es) id) ≡ true) (λ id. is_of kind (found es id) ≡ true) ids (λ id h. past_other kind e es id is h) d)
+
+-- ---- one that came and for which memory was lacking
+
+abbrev pub stuck : Turn → Option ℕ
+stuck (Stuffed id kind) = Some id
+stuck (Leaving id kind) = Some id
+stuck _ = None
+
+not_stuck : (id : ℕ) (turn to : Turn) → turn ≡ to → stuck to ≡ None → stuck turn ≡ Some id → ⊥
+not_stuck id turn to is none h = let e : None ≡ Some id = sym none ∙ subst (λ t. stuck t ≡ Some id) is h in cc
+
+-- it is noted so, then it ends
+abbrev pub IsOver : {N : Type 0} → ℕ → Act N → Turn → Type 0
+IsOver id (Full n) turn = stuck turn ≡ Some id
+IsOver id (Ended n) turn = n ≡ id
+IsOver id _ turn = ⊥
+
+one_of : (id n : ℕ) (turn to : Turn) → turn ≡ to → stuck to ≡ Some n → stuck turn ≡ Some id → n ≡ id
+one_of id n turn to is some h = let e : Some n ≡ Some id = sym some ∙ subst (λ t. stuck t ≡ Some id) is h in cc
+
+calm : {M N R : Type 0} (rules : Rules M N R) (m : M) (s : Service) (id : ℕ) → Calm rules m s → stuck s.turn ≡ Some id → ⊥
+calm rules m s id (inl is) h = not_stuck id s.turn Free is refl h
+calm rules m s id (inr w) h = not_stuck id s.turn Sweep w.0 refl h
+
+rests : {M N R : Type 0} (rules : Rules M N R) (m : M) (s : Service) (id : ℕ) → Rests rules m s → stuck s.turn ≡ Some id → ⊥
+rests rules m s id (inl w) h = calm rules m s id w h
+rests rules m s id (inr is) h = not_stuck id s.turn Rested is refl h
+
+waits : {M N R : Type 0} (rules : Rules M N R) (m : M) (s : Service) (id : ℕ) → MayWait rules m s → stuck s.turn ≡ Some id → ⊥
+waits rules m s id (inl is) h = not_stuck id s.turn Rested is refl h
+waits rules m s id (inr w) h = calm rules m s id w.0 h
+
+reads : {M N R : Type 0} (rules : Rules M N R) (m : M) (s : Service) (id n : ℕ) (to turn : Turn) → Reads rules m s n to turn → stuck s.turn ≡ Some id → ⊥
+reads rules m s id n to turn (inl w) h = not_stuck id s.turn (Busy n w.0) w.1.busy refl h
+reads rules m s id n to turn (inr w) h = not_stuck id s.turn (Busy n w.0) w.1.busy refl h
+
+fails : {M N R : Type 0} (rules : Rules M N R) (m : M) (s : Service) (id n : ℕ) (to turn : Turn) → Fails rules m s n to turn → stuck s.turn ≡ Some id → ⊥
+fails rules m s id n to turn (inl w) h = not_stuck id s.turn (Busy n w.0) w.1.busy refl h
+fails rules m s id n to turn (inr w) h = reads rules m s id n to turn w h
+
+full : {M N R : Type 0} (rules : Rules M N R) (m k : M) (s u : Service) (id n : ℕ) → Lacks rules m s n k u → stuck s.turn ≡ Some id → stuck u.turn ≡ Some id
+full rules m k s u id n (inl l) h = subst (λ t. stuck t ≡ Some id) (sym l.3) (ap (λ i. Some i) (one_of id n s.turn (Stuffed n l.0) l.1 refl h))
+full rules m k s u id n (inr (inl l)) h = absurd (not_stuck id s.turn (Busy n l.1.0) l.1.1.busy refl h)
+full rules m k s u id n (inr (inr l)) h = absurd (not_stuck id s.turn (Busy n l.1.0) l.1.1.busy refl h)
+
+ended : {M N R : Type 0} (rules : Rules M N R) (m : M) (s : Service) (id n kind : ℕ) → MayEnd rules m s n kind → stuck s.turn ≡ Some id → n ≡ id
+ended rules m s id n kind (inl is) h = one_of id n s.turn (Leaving n kind) is refl h
+ended rules m s id n kind (inr w) h = absurd (not_stuck id s.turn (Busy n w.0) w.1.busy refl h)
+
+yields : {M N R : Type 0} (rules : Rules M N R) (m : M) (s : Service) (id n : ℕ) → Yields rules m s n → stuck s.turn ≡ Some id → ⊥
+yields rules m s id n (inl w) h = not_stuck id s.turn (Busy n w.0) w.1 refl h
+yields rules m s id n (inr w) h = not_stuck id s.turn (Busy n w.0) w.1.busy refl h
+
+over : {M N R : Type 0} (rules : Rules M N R) (m k : M) (r q : R) (s u : Service) (id : ℕ) (act : Act N) (said : List ℕ) → Turns rules m r s act said k q u → stuck s.turn ≡ Some id → IsOver id act u.turn
+over rules m k r q s u id (Full n) said t h = full rules m k s u id n t.1 h
+over rules m k r q s u id (Ended n) said t h = ended rules m s id n t.2.0 t.2.1 h
+over rules m k r q s u id (Woke wakes) said t h = waits rules m s id t.1 h
+over rules m k r q s u id (Timed moment) said t h = not_stuck id s.turn Waked t.1 refl h
+over rules m k r q s u id (Late n) said t h = not_stuck id s.turn Sweep t.0 refl h
+over rules m k r q s u id (Began wake) said t h = rests rules m s id t.1 h
+over rules m k r q s u id (Roused n) said t h = rests rules m s id t.1 h
+over rules m k r q s u id (Worked note) said t h = calm rules m s id t.2.calm h
+over rules m k r q s u id (Came n door) said t h = not_stuck id s.turn (Door door t.0.knocked) t.0.door refl h
+over rules m k r q s u id (NoneCame door) said t h = not_stuck id s.turn (Door door t.1.knocked) t.1.door refl h
+over rules m k r q s u id (Crowded door) said t h = not_stuck id s.turn (Door door t.1.knocked) t.1.none.door refl h
+over rules m k r q s u id (Displaced n) said t h = not_stuck id s.turn (Door t.0.0 true) t.0.1.door refl h
+over rules m k r q s u id (Listened door) said t h = not_stuck id s.turn (Door door false) t.1.door refl h
+over rules m k r q s u id (InUse n) said t h = not_stuck id s.turn (Door t.1.kind t.1.knocked) t.1.door refl h
+over rules m k r q s u id (Heard n piece) said t h = not_stuck id s.turn (Busy n t.count) t.wanted.busy refl h
+over rules m k r q s u id (ReadBlocked n) said t h = reads rules m s id n Free u.turn t.1 h
+over rules m k r q s u id (Over n) said t h = reads rules m s id n (Leaving n (kind_of (client_of s n))) u.turn t.1 h
+over rules m k r q s u id (Sent n octets) said t h = not_stuck id s.turn (Busy n t.1.0) t.1.1.busy refl h
+over rules m k r q s u id (WriteBlocked n) said t h = not_stuck id s.turn (Busy n t.1.0) t.1.1.busy refl h
+over rules m k r q s u id (Lost n) said t h = fails rules m s id n (Leaving n (kind_of (client_of s n))) u.turn t.1 h
+over rules m k r q s u id (Noted n note) said t h = not_stuck id s.turn (Busy n t.1.0) t.1.1.busy refl h
+over rules m k r q s u id (Waits n) said t h = not_stuck id s.turn (Busy n t.1.0) t.1.1.busy refl h
+over rules m k r q s u id (Again n) said t h = yields rules m s id n t.1 h
+over rules m k r q s u id (Shut n) said t h = not_stuck id s.turn (Busy n t.1.0) t.1.1.busy refl h
+over rules m k r q s u id (Dropped n count) said t h = not_stuck id s.turn (Busy n t.1.0) t.1.1.busy refl h
+
+-- ---- one that is open stands among all, or memory was lacking for it
+
+abbrev IsKept : ℕ → ℕ → Option Client → Turn → Type 0
+IsKept id kind o turn = (is_of kind o ≡ true) ⊎ (stuck turn ≡ Some id)
+
+answers_keeps : (now kind : ℕ) (said : List ℕ) (o p : Option Client) → Answers now said o p → is_of kind o ≡ true → is_of kind p ≡ true
+answers_keeps now kind said o p a is = subst (λ w. is_of kind w ≡ true) (sym a.after) (subst (λ w. is_of kind w ≡ true) a.was is)
+
+parts_keeps : (now kind : ℕ) (said : List ℕ) (o p : Option Client) → Parts now said o p → is_of kind o ≡ true → is_of kind p ≡ true
+parts_keeps now kind said o p a is = subst (λ w. is_of kind w ≡ true) (sym a.after) (subst (λ w. is_of kind w ≡ true) a.was is)
+
+sends_keeps : (now kind : ℕ) (octets : List ℕ) (o p : Option Client) → Sends now octets o p → is_of kind o ≡ true → is_of kind p ≡ true
+sends_keeps now kind octets o p a is = subst (λ w. is_of kind w ≡ true) (sym a.after) (subst (λ w. is_of kind w ≡ true) a.was is)
+
+shuts_keeps : (now kind : ℕ) (o p : Option Client) → Shuts now o p → is_of kind o ≡ true → is_of kind p ≡ true
+shuts_keeps now kind o p a is = subst (λ w. is_of kind w ≡ true) (sym a.after) (subst (λ w. is_of kind w ≡ true) a.was is)
+
+drops_keeps : (count kind : ℕ) (o p : Option Client) → Drops count o p → is_of kind o ≡ true → is_of kind p ≡ true
+drops_keeps count kind o p a is = subst (λ w. is_of kind w ≡ true) (sym a.after) (subst (λ w. is_of kind w ≡ true) a.was is)
+
+same_keeps : (kind : ℕ) (o p : Option Client) → p ≡ o → is_of kind o ≡ true → is_of kind p ≡ true
+same_keeps kind o p at is = subst (λ w. is_of kind w ≡ true) (sym at) is
+
+at_keeps : (b : Bool) (Changes : Type 0) (kind : ℕ) (o p : Option Client) → (Changes → is_of kind o ≡ true → is_of kind p ≡ true) → At b Changes (p ≡ o) → is_of kind o ≡ true → is_of kind p ≡ true
+at_keeps true Changes kind o p right at is = right at is
+at_keeps false Changes kind o p right at is = same_keeps kind o p at is
+
+or_nothing : (Says : Type 0) (said : List ℕ) (kind : ℕ) (o p : Option Client) → (Says → is_of kind o ≡ true → is_of kind p ≡ true) → OrNothing Says said o p → is_of kind o ≡ true → is_of kind p ≡ true
+or_nothing Says said kind o p right (inl says) is = right says is
+or_nothing Says said kind o p right (inr h) is = same_keeps kind o p h.1 is
+
+keeps_or : (id kind : ℕ) (o p : Option Client) (from to : Turn) → (is_of kind o ≡ true → is_of kind p ≡ true) → (stuck from ≡ Some id → stuck to ≡ Some id) → IsKept id kind o from → IsKept id kind p to
+keeps_or id kind o p from to right still (inl is) = inl (right is)
+keeps_or id kind o p from to right still (inr is) = inr (still is)
+
+some_is : (a b : ℕ) → Some a ≡ Some b → a ≡ b
+some_is a b is = cc
+
+opened : {M N R : Type 0} (rules : Rules M N R) (m k : M) (now n id door kind : ℕ) (said : List ℕ) (u : Service) → Opens rules m now n door said k u → n ≡ id → door ≡ kind → IsKept id kind (client_of u id) u.turn
+opened rules m k now n id door kind said u (inl h) is of =
+    inl (subst (λ i. is_of kind (client_of u i) ≡ true) is (subst (λ w. is_of kind w ≡ true) (sym h.1) (is_itself door kind of)))
+opened rules m k now n id door kind said u (inr h) is of = inr (subst (λ t. stuck t ≡ Some id) (sym h.1) (ap (λ i. Some i) is))
+
+kept_act : {M N R : Type 0} (rules : Rules M N R) (m k : M) (r q : R) (s u : Service) (id kind : ℕ) (o : Option ℕ) (act : Act N) (said : List ℕ) → Turns rules m r s act said k q u
+    → Talks s.moment id (client_of s id) act said (client_of u id) → (o ≡ Some kind → IsKept id kind (client_of s id) s.turn) → kind_by id o act ≡ Some kind → IsKept id kind (client_of u id) u.turn
+kept_act rules m k r q s u id kind o (Came n door) said t talks kept is = go (same n id) refl talks is
+  where
+    go : (b : Bool) → same n id ≡ b → At b (Comes s.moment n door said (client_of s id) (client_of u id)) (client_of u id ≡ client_of s id) → cond b (Some door) o ≡ Some kind → IsKept id kind (client_of u id) u.turn
+    go true at comes of = opened rules m k s.moment n id door kind said u t.3 (one_number n id at) (some_is door kind of)
+    go false at stays of = keeps_or id kind (client_of s id) (client_of u id) s.turn u.turn (same_keeps kind (client_of s id) (client_of u id) stays) (λ h. absurd (over rules m k r q s u id (Came n door) said t h)) (kept of)
+kept_act rules m k r q s u id kind o (Ended n) said t talks kept is = go (same n id) refl talks is
+  where
+    go : (b : Bool) → same n id ≡ b → At b (client_of u id ≡ None) (client_of u id ≡ client_of s id) → cond b None o ≡ Some kind → IsKept id kind (client_of u id) u.turn
+    go true at gone of = let never : ⊥ = cc in absurd never
+    go false at stays of = keeps_or id kind (client_of s id) (client_of u id) s.turn u.turn (same_keeps kind (client_of s id) (client_of u id) stays)
+        (λ h. let is_one : same n id ≡ true = subst (λ i. same i id ≡ true) (sym (over rules m k r q s u id (Ended n) said t h)) (same-self id) in let never : ⊥ = cc in absurd never) (kept of)
+kept_act rules m k r q s u id kind o (Full n) said t talks kept is =
+    keeps_or id kind (client_of s id) (client_of u id) s.turn u.turn (same_keeps kind (client_of s id) (client_of u id) talks) (λ h. over rules m k r q s u id (Full n) said t h) (kept is)
+kept_act rules m k r q s u id kind o (Heard n piece) said t talks kept is =
+    keeps_or id kind (client_of s id) (client_of u id) s.turn u.turn
+    (at_keeps (same n id) (OrNothing (Answers s.moment said (client_of s id) (client_of u id)) said (client_of s id) (client_of u id)) kind (client_of s id) (client_of u id)
+    (or_nothing (Answers s.moment said (client_of s id) (client_of u id)) said kind (client_of s id) (client_of u id) (answers_keeps s.moment kind said (client_of s id) (client_of u id))) talks)
+    (λ h. absurd (over rules m k r q s u id (Heard n piece) said t h)) (kept is)
+kept_act rules m k r q s u id kind o (Noted n note) said t talks kept is =
+    keeps_or id kind (client_of s id) (client_of u id) s.turn u.turn
+    (at_keeps (same n id) (Answers s.moment said (client_of s id) (client_of u id)) kind (client_of s id) (client_of u id) (answers_keeps s.moment kind said (client_of s id) (client_of u id)) talks)
+    (λ h. absurd (over rules m k r q s u id (Noted n note) said t h)) (kept is)
+kept_act rules m k r q s u id kind o (Late n) said t talks kept is =
+    keeps_or id kind (client_of s id) (client_of u id) s.turn u.turn
+    (at_keeps (same n id) (OrNothing (Parts s.moment said (client_of s id) (client_of u id)) said (client_of s id) (client_of u id)) kind (client_of s id) (client_of u id)
+    (or_nothing (Parts s.moment said (client_of s id) (client_of u id)) said kind (client_of s id) (client_of u id) (parts_keeps s.moment kind said (client_of s id) (client_of u id))) talks)
+    (λ h. absurd (over rules m k r q s u id (Late n) said t h)) (kept is)
+kept_act rules m k r q s u id kind o (Displaced n) said t talks kept is =
+    keeps_or id kind (client_of s id) (client_of u id) s.turn u.turn
+    (at_keeps (same n id) (OrNothing (Parts s.moment said (client_of s id) (client_of u id)) said (client_of s id) (client_of u id)) kind (client_of s id) (client_of u id)
+    (or_nothing (Parts s.moment said (client_of s id) (client_of u id)) said kind (client_of s id) (client_of u id) (parts_keeps s.moment kind said (client_of s id) (client_of u id))) talks)
+    (λ h. absurd (over rules m k r q s u id (Displaced n) said t h)) (kept is)
+kept_act rules m k r q s u id kind o (Sent n octets) said t talks kept is =
+    keeps_or id kind (client_of s id) (client_of u id) s.turn u.turn
+    (at_keeps (same n id) (Sends s.moment octets (client_of s id) (client_of u id)) kind (client_of s id) (client_of u id) (sends_keeps s.moment kind octets (client_of s id) (client_of u id)) talks)
+    (λ h. absurd (over rules m k r q s u id (Sent n octets) said t h)) (kept is)
+kept_act rules m k r q s u id kind o (Shut n) said t talks kept is =
+    keeps_or id kind (client_of s id) (client_of u id) s.turn u.turn
+    (at_keeps (same n id) (Shuts s.moment (client_of s id) (client_of u id)) kind (client_of s id) (client_of u id) (shuts_keeps s.moment kind (client_of s id) (client_of u id)) talks)
+    (λ h. absurd (over rules m k r q s u id (Shut n) said t h)) (kept is)
+kept_act rules m k r q s u id kind o (Dropped n count) said t talks kept is =
+    keeps_or id kind (client_of s id) (client_of u id) s.turn u.turn
+    (at_keeps (same n id) (Drops count (client_of s id) (client_of u id)) kind (client_of s id) (client_of u id) (drops_keeps count kind (client_of s id) (client_of u id)) talks)
+    (λ h. absurd (over rules m k r q s u id (Dropped n count) said t h)) (kept is)
+kept_act rules m k r q s u id kind o act said t talks kept is =
+    keeps_or id kind (client_of s id) (client_of u id) s.turn u.turn (same_keeps kind (client_of s id) (client_of u id) talks) (λ h. absurd (over rules m k r q s u id act said t h)) (kept is)
+
+-- ---- how many
+
+record Held {M N R : Type 0} (rules : Rules M N R) (open_kind : ℕ → Option ℕ) (s : Service) : Type 0 where
+  kept : (id kind : ℕ) → open_kind id ≡ Some kind → IsKept id kind (client_of s id) s.turn
+  few : (kind : ℕ) (ids : List ℕ) → Distinct (λ id. open_kind id ≡ Some kind) ids → length ids ≤ rules.limit kind
+
+differ-flips : (a b : ℕ) → same a b ≡ false → same b a ≡ false
+differ-flips a b is = go (same b a) refl
+  where
+    go : (v : Bool) → same b a ≡ v → v ≡ false
+    go true at = let one : same a b ≡ true = same-flips b a at in let never : ⊥ = cc in absurd never
+    go false at = refl
+
+at_door : (id kind : ℕ) (o : Option Client) (turn to : Turn) → turn ≡ to → stuck to ≡ None → IsKept id kind o turn → is_of kind o ≡ true
+at_door id kind o turn to is none (inl h) = h
+at_door id kind o turn to is none (inr h) = absurd (not_stuck id turn to is none h)
+
+open_before : (b : Bool) (door kind : ℕ) (o : Option ℕ) → b ≡ false → cond b (Some door) o ≡ Some kind → o ≡ Some kind
+open_before true door kind o is h = let never : ⊥ = cc in absurd never
+open_before false door kind o is h = h
+
+other_kind : (b : Bool) (door kind : ℕ) (o : Option ℕ) → (door == kind) ≡ false → cond b (Some door) o ≡ Some kind → o ≡ Some kind
+other_kind true door kind o is h = let one : (door == kind) ≡ true = is_itself door kind (some_is door kind h) in let never : ⊥ = cc in absurd never
+other_kind false door kind o is h = h
+
+still_open : (b : Bool) (kind : ℕ) (o : Option ℕ) → cond b None o ≡ Some kind → o ≡ Some kind
+still_open true kind o h = let never : ⊥ = cc in absurd never
+still_open false kind o h = h
+
+few_came : {M N R : Type 0} (rules : Rules M N R) (open_kind : ℕ → Option ℕ) (s : Service) (n door kind : ℕ) (ids : List ℕ) → Held rules open_kind s → Admits rules s door
+    → Distinct (λ id. kind_by {N = N} id (open_kind id) (Came n door) ≡ Some kind) ids → length ids ≤ rules.limit kind
+few_came {N = N} rules open_kind s n door kind ids held admits d = go (door == kind) refl
+  where
+    go : (b : Bool) → (door == kind) ≡ b → length ids ≤ rules.limit kind
+    go true is =
+        let others : Distinct (λ id. is_of kind (client_of s id) ≡ true) (without n ids) =
+        weaker (λ id. (kind_by {N = N} id (open_kind id) (Came n door) ≡ Some kind) × (same id n ≡ false)) (λ id. is_of kind (client_of s id) ≡ true) (without n ids)
+        (λ id h. at_door id kind (client_of s id) s.turn (Door door admits.knocked) admits.door refl (held.kept id kind (open_before (same n id) door kind (open_kind id) (differ-flips id n h.1) h.0)))
+        (others_differ (λ id. kind_by {N = N} id (open_kind id) (Came n door) ≡ Some kind) n ids d) in
+        let some : length (without n ids) ≤ open_of kind s = no_more kind s.clients.entries (without n ids) others in
+        let one : length ids ≤ length (without n ids) + 1 = one_taken_out (λ id. kind_by {N = N} id (open_kind id) (Came n door) ≡ Some kind) n ids d in
+        let place : open_of kind s < rules.limit kind = subst (λ k. open_of k s < rules.limit k) (one_number door kind (unsigned_tied door kind ∙ is)) admits.place in
+        omega (arith, some, one, place)
+    go false is = held.few kind ids (weaker (λ id. kind_by {N = N} id (open_kind id) (Came n door) ≡ Some kind) (λ id. open_kind id ≡ Some kind) ids (λ id h. other_kind (same n id) door kind (open_kind id) is h) d)
+
+few_act : {M N R : Type 0} (rules : Rules M N R) (m k : M) (r q : R) (s u : Service) (open_kind : ℕ → Option ℕ) (act : Act N) (said : List ℕ) (kind : ℕ) (ids : List ℕ) → Held rules open_kind s → Turns rules m r s act said k q u
+    → Distinct (λ id. kind_by id (open_kind id) act ≡ Some kind) ids → length ids ≤ rules.limit kind
+few_act rules m k r q s u open_kind (Came n door) said kind ids held t d = few_came rules open_kind s n door kind ids held t.0 d
+few_act {N = N} rules m k r q s u open_kind (Ended n) said kind ids held t d =
+    held.few kind ids (weaker (λ id. kind_by {N = N} id (open_kind id) (Ended n) ≡ Some kind) (λ id. open_kind id ≡ Some kind) ids (λ id h. still_open (same n id) kind (open_kind id) h) d)
+few_act rules m k r q s u open_kind _ said kind ids held t d = held.few kind ids d
+
+held_on : {M N R : Type 0} (rules : Rules M N R) (m : Moment M N R) (moves : List (Move N)) (n : Moment M N R) (open_kind : ℕ → Option ℕ) → Passes rules m moves n → Held rules open_kind m.service
+    → Held rules (λ id. kind_on id (open_kind id) moves) n.service
+held_on rules m [] n open_kind passes held = subst (λ (k : Moment _ _ _). Held rules open_kind k.service) (sym passes) held
+held_on rules m (move ∷ moves) n open_kind passes held =
+    held_on rules passes.0 moves n (λ id. kind_by id (open_kind id) move.act) passes.4
+    (record {
+      kept = λ id kind is. kept_act rules m.machine passes.0.machine m.rest passes.0.rest m.service passes.0.service id kind (open_kind id) move.act move.said
+          (turns_of rules m passes.0 passes.1 move passes.2 passes.3) (talks_of rules m passes.0 passes.1 move id passes.2 passes.3) (held.kept id kind) is;
+      few = λ kind ids d. few_act rules m.machine passes.0.machine m.rest passes.0.rest m.service passes.0.service open_kind move.act move.said kind ids held
+          (turns_of rules m passes.0 passes.1 move passes.2 passes.3) d;
+    })
+
+none_yet : (limit kind : ℕ) (ids : List ℕ) → Distinct (λ id. None ≡ Some kind) ids → length ids ≤ limit
+none_yet limit kind [] d = omega arith
+none_yet limit kind (id ∷ ids) d = let is = d.0 in let never : ⊥ = cc in absurd never
+
+pub bounded : {M N R : Type 0} (rules : Rules M N R) → Bounded rules
+bounded rules = λ m n some rest fresh passes kind ids d.
+    let first = cut rules m some rest n passes in
+    let held = held_on rules m some first.0 (λ id. None) first.1 (record {
+      kept = λ id of is. let never : ⊥ = cc in absurd never;
+      few = λ of others differ. none_yet (rules.limit of) of others differ;
+    }) in
+    held.few kind ids d
