@@ -432,6 +432,12 @@ def refusal(number, whole, found):
     return "refused"
 
 
+def changed(number, whole, found):
+    """A call of the store was refused: what is read is as before."""
+    assert found[3].endswith(b"refused: out of memory") and found[5] == whole[1], f"request {number}: {found[3]}, and then {found[5]}"
+    return "refused"
+
+
 def given(octets):
     """Octets of a client, as a section; its own last line end isn't one of theirs."""
     return b"== give 7\n" + octets.replace(b"\r\n", b"\n") + b"\n"
@@ -467,6 +473,13 @@ ENGINE = {
     "store_add_user": lambda: engine(b"== account bob\nbob@example.org\n"),
     "store_put_script": lambda: engine(b"== put alice new\ndiscard;\n"),
     "store_set_active": lambda: engine(b"== activate alice other\n\n"),
+    "store_account": lambda: engine(b"== profile alice\n\n"),
+    "store_queue": lambda: engine(b"== rows alice\n\n"),
+    "store_replies": lambda: engine(b"== replies alice bob@example.net\n\n"),
+    "store_last_reply": lambda: engine(b"== answered alice bob@example.net\n%02%00%00%00Away.\n"),
+    "store_delete": lambda: engine(b"== delete alice other\n\n", again=b"== put alice other\nkeep;\n== delete alice other\n\n", judge=changed),
+    "store_rename": lambda: engine(b"== rename alice other new\n\n", again=b"== rename alice new other\n\n", judge=changed),
+    "store_take_out": lambda: engine(b"== dequeue alice 1\n\n", judge=changed),
     "store_script": lambda: engine(b"== text alice main\n\n"),
     "store_scripts": lambda: engine(b"== scripts alice\n\n"),
     "store_folders": lambda: engine(b"== folders alice\n\n"),

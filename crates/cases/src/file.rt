@@ -74,6 +74,17 @@ fn add_put(place: Place<'_>, out: &mut Octets, text: &str) -> Result<(), AllocEr
     out.extend_from_slice(if put.is_ok() { b"done" } else { b"refused" })
 }
 
+/// Appends what comes of a file of the cases' folder in place of the database.
+fn add_laid(place: Place<'_>, out: &mut Octets, name: &str) -> Result<(), AllocError> {
+    let Place { rt, path } = place;
+    remove(rt, path, "-wal")?;
+    let laid = match fs::read(rt, name) {
+        Ok(octets) => fs::write(rt, path, octets.as_slice()).is_ok(),
+        Err(_) => false,
+    };
+    out.extend_from_slice(if laid { b"done" } else { b"refused" })
+}
+
 /// Appends what comes of making a directory of the Maildir.
 fn add_made(place: Place<'_>, out: &mut Octets, name: &str) -> Result<(), AllocError> {
     let Place { rt, path } = place;
@@ -139,8 +150,8 @@ fn add_row<K: Keeper, T: MailSink>(
     }
 }
 
-/// Appends what another connection reads, what comes of a file in place of the database, or of making and reading in the
-/// Maildir.
+/// Appends what another connection reads, what comes of a text or a file in place of the database, or of making and reading in
+/// the Maildir.
 fn add_beside<K: Keeper>(
     alloc: Global,
     out: &mut Octets,
@@ -152,6 +163,7 @@ fn add_beside<K: Keeper>(
     match call {
         "sql" => add_number(alloc, out, other, place.path, text),
         "put" => add_put(place, out, text),
+        "laid" => add_laid(place, out, text),
         "made" => add_made(place, out, text),
         "file" => add_file(place, out, text),
         _ => out.extend_from_slice(b"no such call"),

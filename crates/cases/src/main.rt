@@ -6,6 +6,7 @@
 
 mod answer;
 mod asked;
+mod call;
 mod cut;
 mod event;
 mod file;

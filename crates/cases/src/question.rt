@@ -1,7 +1,8 @@
 //! What is asked of a store, and done to it, beside events.
 use crate::answer::{add_line, add_refusal};
+use crate::call::{add_moment, add_profile, add_replies, add_rows, rename};
 use crate::event::PASSWORD;
-use crate::place::{add_next_filed, add_next_queued, add_numbers};
+use crate::place::{add_next_filed, add_next_queued, add_numbers, number_in};
 use casefiles::Part::{Number, Text};
 use casefiles::{Section, Tally, add_parts, cut, decoded, trimmed};
 use mailengine::Refusal;
@@ -20,12 +21,19 @@ pub fn ask(
     out: &mut Octets,
     section: &Section<'_>,
 ) -> Result<(), AllocError> {
-    let (user, name) = cut(section.note, " ");
-    let (user, name) = (user.as_bytes(), name.as_bytes());
+    let (user, word) = cut(section.note, " ");
+    let (user, name) = (user.as_bytes(), word.as_bytes());
     let asked = match section.name {
         "account" => add_account(alloc, store, user, section.text),
         "put" => put(alloc, store, user, name, section.text),
         "activate" => store.set_active(user, Some(name)),
+        "delete" => store.delete(user, name),
+        "rename" => rename(store, user, section.note),
+        "dequeue" => store.take_out(user, number_in(word)),
+        "profile" => add_profile(store, out, user),
+        "rows" => add_rows(store, out, user),
+        "replies" => add_replies(store, out, user, name),
+        "answered" => add_moment(alloc, store, out, user, name, section.text),
         "text" => add_script(store, out, user, name),
         "scripts" => add_scripts(store, out, user),
         "folder" => add_folder(store, out, user, name),

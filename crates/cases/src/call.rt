@@ -1,0 +1,105 @@
+//! Calls of a store that only sessions and deliveries make in the program.
+use crate::answer::add_line;
+use casefiles::Part::{Number, Text};
+use casefiles::{add_parts, cut, decoded, trimmed};
+use mailengine::Refusal;
+use mailstore::{KeptReply, Outgoing, Profile, Store};
+use octets::Octets;
+use sqlite::MemStore;
+use std::alloc::{AllocError, Global};
+
+/// Gives a script another name: the note has both.
+pub fn rename(store: &mut Store<MemStore>, user: &[u8], note: &str) -> Result<(), Refusal> {
+    let (_, names) = cut(note, " ");
+    let (name, other) = cut(names, " ");
+    store.rename(user, name.as_bytes(), other.as_bytes())
+}
+
+/// Appends the address of the account and the name of its active script, or `none`.
+pub fn add_profile(
+    store: &mut Store<MemStore>,
+    out: &mut Octets,
+    user: &[u8],
+) -> Result<(), Refusal> {
+    let profile = store.account(user)?;
+    Ok(add_address(out, profile.as_ref())?)
+}
+
+fn add_address(out: &mut Octets, profile: Option<&Profile>) -> Result<(), AllocError> {
+    let Some(profile) = profile else {
+        return add_line(out, b"", b"none");
+    };
+    add_parts(out, &[Text(profile.address.as_slice()), Text(b" ")])?;
+    match &profile.active {
+        Some(name) => add_line(out, b"active ", name.as_slice()),
+        None => add_line(out, b"", b"none"),
+    }
+}
+
+/// Appends the rows of the queue, each with its message.
+pub fn add_rows(store: &mut Store<MemStore>, out: &mut Octets, user: &[u8]) -> Result<(), Refusal> {
+    let rows = store.queue(user)?;
+    Ok(add_letters(out, rows.as_slice())?)
+}
+
+fn add_letters(out: &mut Octets, rows: &[Outgoing]) -> Result<(), AllocError> {
+    for row in rows {
+        add_parts(
+            out,
+            &[
+                Number(row.id),
+                Text(b" "),
+                Text(row.sender.as_slice()),
+                Text(b" "),
+                Text(row.target.as_slice()),
+                Text(b" "),
+                Text(row.message.as_slice()),
+                Text(b"\n"),
+            ],
+        )?;
+    }
+    Ok(())
+}
+
+/// Appends when the sender was answered, under each handle.
+pub fn add_replies(
+    store: &mut Store<MemStore>,
+    out: &mut Octets,
+    user: &[u8],
+    sender: &[u8],
+) -> Result<(), Refusal> {
+    let replies = store.replies(user, sender)?;
+    Ok(add_moments(out, replies.as_slice())?)
+}
+
+fn add_moments(out: &mut Octets, replies: &[KeptReply]) -> Result<(), AllocError> {
+    for reply in replies {
+        add_parts(
+            out,
+            &[
+                Number(reply.moment),
+                Text(b" "),
+                Text(reply.handle.as_slice()),
+                Text(b"\n"),
+            ],
+        )?;
+    }
+    Ok(())
+}
+
+/// Appends when the sender was answered under the handle's key that the text is, or `none`.
+pub fn add_moment(
+    alloc: Global,
+    store: &mut Store<MemStore>,
+    out: &mut Octets,
+    user: &[u8],
+    sender: &[u8],
+    text: &str,
+) -> Result<(), Refusal> {
+    let handle = decoded(alloc, text)?;
+    let moment = store.last_reply(user, trimmed(handle.as_slice()), sender)?;
+    Ok(match moment {
+        Some(moment) => add_parts(out, &[Number(moment), Text(b"\n")])?,
+        None => add_line(out, b"", b"none")?,
+    })
+}
