@@ -11,7 +11,7 @@ use Rattle.mailengine.proofs.AloneLemmas.{projection}
 use Rattle.mailengine.proofs.SoundLemmas.{runs_sound}
 use Rattle.mailengine.proofs.SpacingLemmas.{spacing}
 use Rattle.wires.specs.declared.act.Act.{Act}
-use Rattle.wires.specs.declared.act.Act.TheVariants.{Came, Heard, Noted, Ended}
+use Rattle.wires.specs.declared.act.Act.TheVariants.{Displaced, Came, Heard, Noted, Ended}
 use Rattle.wires.specs.Life.{Move, acts_of, Passes, Fresh, IsFrontOf}
 use Rattle.wires.specs.Moves.{Moment, Moves}
 use Rattle.wires.specs.Talk.{client_of}
@@ -45,6 +45,7 @@ runs_at w v (Came id kind) led = (led.0 ∷ [], runs_one w v (Open id) led.0 led
 runs_at w v (Heard id piece) led = (led.0 ∷ [], runs_one w v (Give id piece) led.0 led.1, tt)
 runs_at w v (Ended id) led = (led.0 ∷ [], runs_one w v (Close id) led.0 led.1, tt)
 runs_at w v (Noted id note) led = runs_by w v note led
+runs_at w v (Displaced id) led = ([], led.0, tt)
 runs_at w v _ led = ([], led, tt)
 
 runs_in : (w v : World) (acts : List (Act Note)) → LeadsOn w acts v → (told : List Answer) × Runs w (events_in acts) told v × AnswersIn acts told

@@ -1,5 +1,7 @@
 -- What a move of the daemon makes of accounts and sessions.
-use Rattle.std.proofs.Common.{◌≡◌, ◌⊎◌, inl, inr, ℕ, List, refl, sym, subst}
+use Rattle.std.proofs.Common.{◌≡◌, ◌⊎◌, inl, inr, ℕ, ◌==◌, Bool, true, false, List, Option, Some, None, is_some, IfSome, refl, sym, subst, if◌then◌else◌}
+use Rattle.std.specs.FinMap.{get}
+use Rattle.sessions.specs.Clients.{Client}
 use Rattle.mailstore.specs.Account.{Accounts}
 use Rattle.mailengine.specs.Hosts.{KeepsClients, IsSessionEvent}
 use Rattle.mailengine.specs.World.{World, Clients, Next}
@@ -10,15 +12,39 @@ use Rattle.wires.specs.declared.act.Act.{Act}
 use Rattle.wires.specs.declared.act.Act.TheVariants.{Woke, Began, Timed, Late, Waits, Roused, Worked, Came, NoneCame, Crowded, Displaced, Listened, InUse, Heard, ReadBlocked, Over, Sent, WriteBlocked, Lost, Noted, Full, Again, Shut, Dropped, Ended}
 use Rattle.wires.specs.declared.service.Service.{Service}
 use Rattle.wires.specs.Moves.{Leaves}
-use Rattle.wires.specs.Turns.{Turns, Opens as Enters, Goes, Lacks, Parting}
+use Rattle.wires.specs.Turns.{Turns, Opens as Enters, Goes, Lacks, Parting, is_open_of, room_by, makes_room}
 use Rattle.wires.specs.Talk.{client_of, kind_of}
-use Rattle.sieveddaemon.specs.Acts.{LeadsBy, Leads}
-use Rattle.sieveddaemon.specs.DaemonRules.{daemon_rules, Happened, Makes, Rests, Opens, Gives, LacksFor}
+use Rattle.sieveddaemon.specs.Acts.{LeadsBy, Leads, IsGuest}
+use Rattle.sieveddaemon.specs.DaemonRules.{daemon_rules, displaced_of, Happened, Makes, Rests, Opens, Gives, LacksFor}
 use Rattle.sieveddaemon.specs.Desk.{IsWorld, StillShows}
+use Rattle.sieveddaemon.specs.Places.{is_user}
+use Rattle.sieveddaemon.specs.Room.{longest_guest}
+use Rattle.sieveddaemon.proofs.RoomLemmas.{no_user_goes}
 use Rattle.sieveddaemon.specs.declared.daemon.Daemon.{Daemon}
 use Rattle.sieveddaemon.specs.declared.note.Note.{Note}
 use Rattle.sieveddaemon.specs.declared.note.Note.TheVariants.{Did, Away, Freed, Spoke, Looked, Gave}
 use Rattle.sieveddaemon.proofs.EventLemmas.{clients_one, open_refused, give_refused}
+
+-- who makes room is the one that the machine names
+named_by : (s : Service) (kind : ℕ) (o : Option ℕ) (id : ℕ) → room_by kind s o ≡ Some id → o ≡ Some id
+named_by s kind None id is = is
+named_by s kind (Some other) id is = by (is_open_of kind (client_of s other)) is
+  where
+    by : (test : Bool) → (if test then Some other else None) ≡ Some id → Some other ≡ Some id
+    by true same = same
+    by false none = let never : ◌≡◌ {A = Option ℕ} None (Some id) = none in cc
+
+if_named : (test : Bool) (o : Option ℕ) (id : ℕ) → (if test then o else None) ≡ Some id → o ≡ Some id
+if_named true o id is = is
+if_named false o id is = let never : ◌≡◌ {A = Option ℕ} None (Some id) = is in cc
+
+guest_of : (o : Option Client) → is_user o ≡ false → IfSome o (λ c. c.user ≡ None)
+guest_of None is = tt
+guest_of (Some c) is = by c.user is
+  where
+    by : (user : Option (List ℕ)) → is_some user ≡ false → user ≡ None
+    by None none = refl
+    by (Some name) some = let never : true ≡ false = some in cc
 
 module _ {R : Type 0} (shows : R → Accounts → Type 0) (d e : Daemon) (r q : R) where
   -- an act led there, and the store and the sessions are so
@@ -70,6 +96,12 @@ module _ {R : Type 0} (shows : R → Accounts → Type 0) (d e : Daemon) (r q : 
   rested now (Freed event answer) rests = absurd rests
   rested now Spoke rests = absurd rests
 
+  -- who makes room is a guest
+  guest_goes : (s : Service) (kind id : ℕ) → makes_room (daemon_rules shows) d s kind ≡ Some id → (w : World) → IsWorld shows r d.clients.sessions w → IsGuest w id
+  guest_goes s kind id room w is =
+      let named = if_named (kind == 0) (longest_guest d.clients.sessions d.places) id (named_by s kind (displaced_of d kind) id room) in
+      guest_of (get w.sessions id) (subst (λ c. is_user c ≡ false) (is.sessions id) (no_user_goes d.clients.sessions d.places id named))
+
   module _ (s u : Service) where
     came : (id kind : ℕ) (said : List ℕ) (w : World) → IsWorld shows r d.clients.sessions w → q ≡ r → Enters (daemon_rules shows) d s.moment id kind said e u → Led w (Came id kind)
     came id kind said w is left (inl o) = happened (Open id) w is o.0.event left
@@ -102,7 +134,7 @@ module _ {R : Type 0} (shows : R → Accounts → Type 0) (d e : Daemon) (r q : 
     leads (Noted id note) said w turns left is = noted note w is turns.0.makes
     leads (Worked note) said w turns left is = (w, refl, record { shown = turns.0.0 w.accounts is.shown; sessions = rested s.moment note turns.0.1 w.sessions is.sessions })
     leads (Late id) said w turns left is = (w, refl, same w is (late id said turns.2) left)
-    leads (Displaced id) said w turns left is = (w, refl, same w is (late id said turns.1) left)
+    leads (Displaced id) said w turns left is = (w, (refl, guest_goes s turns.0.0 id turns.0.2 w is), same w is (late id said turns.1) left)
     leads (Listened kind) said w turns left is = (w, refl, same w is (kept turns.0.0) left)
     leads (Full id) said w turns left is = (w, refl, same w is (lacked id turns.1) left)
     leads (Woke wakes) said w turns left is = (w, refl, same w is (kept turns.0.0) left)

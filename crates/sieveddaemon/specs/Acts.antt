@@ -1,5 +1,6 @@
 -- What acts make of accounts and sessions, and what they say of one connection.
-use Rattle.std.specs.Prelude.{◌≡◌, ℕ, cond, nat_lt, List, [], ◌∷◌, ◌++◌, if◌then◌else◌}
+use Rattle.std.specs.Prelude.{◌≡◌, ℕ, cond, nat_lt, List, [], ◌∷◌, ◌++◌, if◌then◌else◌, None, IfSome}
+use Rattle.std.specs.FinMap.{get}
 use Rattle.mailstore.specs.Account.{Accounts}
 use Rattle.mailengine.specs.World.{World, Next}
 use Rattle.mailengine.specs.declared.answer.Answer.{Answer}
@@ -24,12 +25,17 @@ LeadsBy w (Freed event answer) v =
     (v.accounts ≡ w.accounts) × ((accounts : Accounts) → Next (record w { accounts = accounts }) event answer (record v { accounts = accounts }))
 LeadsBy w _ v = v ≡ w
 
--- who comes opens a session, what is heard is given to it, who goes closes it: each is an event, with some answer
+-- nobody is logged in there
+abbrev pub IsGuest : World → ℕ → Type 0
+IsGuest w id = IfSome (get w.sessions id) (λ c. c.user ≡ None)
+
+-- who comes opens a session, what is heard is given to it, who goes closes it: each is an event, with some answer. Only a guest makes room
 abbrev pub Leads : World → Act Note → World → Type 0
 Leads w (Came id kind) v = (answer : Answer) × Next w (Open id) answer v
 Leads w (Heard id piece) v = (answer : Answer) × Next w (Give id piece) answer v
 Leads w (Ended id) v = (answer : Answer) × Next w (Close id) answer v
 Leads w (Noted id note) v = LeadsBy w note v
+Leads w (Displaced id) v = (v ≡ w) × IsGuest w id
 Leads w _ v = v ≡ w
 
 abbrev pub LeadsOn : World → List (Act Note) → World → Type 0

@@ -11,6 +11,7 @@ use Rattle.mailengine.specs.declared.event.Event.TheVariants.{Open, Give, Close}
 use Rattle.wires.specs.Rules.{Rules}
 use Rattle.wires.specs.Talk.{after_span, same}
 use Rattle.sieveddaemon.specs.Desk.{StillShows, IsDone, NothingDone}
+use Rattle.sieveddaemon.specs.Room.{longest_guest}
 use Rattle.sieveddaemon.specs.Places.{client_at, want_of, due_of, new_place, place_given, place_behind, renewed, is_user}
 use Rattle.sieveddaemon.specs.Waiting.{Allows, IsDue, said_with, greeting, idle}
 use Rattle.sieveddaemon.specs.declared.daemon.Daemon.{Daemon}
@@ -29,6 +30,10 @@ max_clients = 50
 
 abbrev pub limit_of : ℕ → ℕ
 limit_of kind = if kind == managesieve then max_clients else 0
+
+-- where so many are there, who of them makes room for another
+abbrev pub displaced_of : Daemon → ℕ → Option ℕ
+displaced_of d kind = if kind == managesieve then longest_guest d.clients.sessions d.places else None
 
 abbrev pub place_at : Daemon → ℕ → Option Place
 place_at d id = tree.get nat_cmp d.places id
@@ -147,7 +152,7 @@ Rests d now _ e = ⊥
 abbrev pub daemon_rules : {R : Type 0} → (R → Accounts → Type 0) → Rules Daemon Note R
 daemon_rules shows = record {
   limit = limit_of;
-  displaced = λ d kind. None;
+  displaced = displaced_of;
   wants = λ d id. want_of (place_at d id) (client_at d.clients.sessions id);
   has_work = is_look_due;
   deadline = λ d id. due_of (place_at d id) (client_at d.clients.sessions id);

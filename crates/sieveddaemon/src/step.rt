@@ -14,6 +14,7 @@ ghost use Rattle.sieveddaemon.specs.declared.place.Waits.TheVariants.{Nothing};
 use crate::daemon::{Daemon, Holding};
 use crate::desk::Desk;
 use crate::place::{Place, Waits};
+use crate::room::is_user;
 use mailengine::{Answer, Clients, Event, apply_free};
 use octets::Octets;
 use std::alloc::AllocError;
@@ -74,16 +75,6 @@ pub fn is_out(answer: &Answer) -> bool
 }
 
 // ---- what is known of one connection
-
-/// Whether somebody is logged in there.
-fn is_user(clients: &Clients, id: u32) -> bool
-    ensures { result ≡ places.is_user (client_at clients.now.sessions id) }
-{
-    match clients.session(id) {
-        Some(session) => session.is_logged_in(),
-        None => false,
-    }
-}
 
 /// Puts what a connection waits for in the place of what it waited for, which is given out.
 fn replace_waits(
