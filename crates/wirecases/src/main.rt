@@ -90,7 +90,7 @@ fn try_text(alloc: Global, tally: &mut Tally, text: &str) -> Result<(), AllocErr
 fn try_schedule(alloc: Global, tally: &mut Tally, schedule: &Schedule) -> Result<(), AllocError> {
     let mut player = Player {
         alloc,
-        stage: Stage::new(alloc, 0),
+        outside: Stage::new(alloc, 0),
         machine: Echo::new(alloc),
         service: Service::new(alloc),
         owner: Totals { alloc },

@@ -28,6 +28,27 @@ pub struct Stage<N: Drop, R: Drop> {
     pub idle: u32,
 }
 
+/// An outside that has its sockets and its clock of a stage.
+pub trait Staged: Sockets + Clock {
+    /// What the stage keeps of a machine's notes, and beside sockets and clock.
+    type Told: Drop;
+
+    type Kept: Drop;
+
+    /// The stage.
+    fn stage(&mut self) -> &mut Stage<Self::Told, Self::Kept>;
+}
+
+impl<N: Drop, R: Drop> Staged for Stage<N, R> {
+    type Told = N;
+
+    type Kept = R;
+
+    fn stage(&mut self) -> &mut Stage<N, R> {
+        self
+    }
+}
+
 impl<N: Drop, R: Drop> Stage<N, R> {
     /// Nobody is there.
     pub fn new(alloc: Global, rest: R) -> Stage<N, R> {
