@@ -137,7 +137,7 @@ module _ {R : Type 0} (shows : R → Accounts → Type 0) (d e : Daemon) (r q : 
     leads (Displaced id) said w turns left is = (w, (refl, guest_goes s turns.0.0 id turns.0.2 w is), same w is (late id said turns.1) left)
     leads (Listened kind) said w turns left is = (w, refl, same w is (kept turns.0.0) left)
     leads (Full id) said w turns left is = (w, refl, same w is (lacked id turns.1) left)
-    leads (Woke wakes) said w turns left is = (w, refl, same w is (kept turns.0.0) left)
+    leads (Woke within wakes) said w turns left is = (w, refl, same w is (kept turns.0.0) left)
     leads (Timed moment) said w turns left is = (w, refl, same w is (kept turns.0.0) left)
     leads (Began wake) said w turns left is = (w, refl, same w is (kept turns.0.0) left)
     leads (Roused id) said w turns left is = (w, refl, same w is (kept turns.0.0) left)

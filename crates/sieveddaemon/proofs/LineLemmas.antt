@@ -134,7 +134,7 @@ module _ {R : Type 0} (shows : R → Accounts → Type 0) (d e : Daemon) (r q : 
     tied_after (Full n) said t = lacked n t.1
     tied_after (Worked note) said t = rested note t.0.1
     tied_after (Sent n octets) said t = unchanged t.0.0 (same n id) (record l { sent = l.sent ++ octets }) refl tied
-    tied_after (Woke wakes) said t = still t.0.0
+    tied_after (Woke within wakes) said t = still t.0.0
     tied_after (Timed moment) said t = still t.0.0
     tied_after (Began wake) said t = still t.0.0
     tied_after (Roused n) said t = still t.0.0

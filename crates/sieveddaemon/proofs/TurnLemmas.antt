@@ -60,7 +60,7 @@ module _ {M N R : Type 0} (rules : Rules M N R) (m n : M) (r q : R) (s u : Servi
 
   -- one that has to be closed is closed
   pub ends : (act : Act N) (said : List ℕ) → Turns rules m r s act said n q u → IsEnd id act
-  ends (Woke wakes) said t = may_wait t.1
+  ends (Woke within wakes) said t = may_wait t.1
   ends (Timed moment) said t = let at = t.1 in cc
   ends (Late k) said t = let at = t.0 in cc
   ends (Began wake) said t = rests t.1

@@ -233,7 +233,7 @@ impl<N: Drop, R: Drop> Outside for Stage<N, R> {
 }
 
 impl<N: Drop, R: Drop> Sockets for Stage<N, R> {
-    fn wait(&mut self, _within: u32, ready: &mut VecDeque<Wake>) -> Result<(), Fault> {
+    fn wait(&mut self, within: u32, ready: &mut VecDeque<Wake>) -> Result<(), Fault> {
         match tell_news(self.fake.alloc, &mut self.knocks, &mut self.peers) {
             Ok(wakes) => {
                 self.idle = if wakes.is_empty() {
@@ -241,7 +241,7 @@ impl<N: Drop, R: Drop> Sockets for Stage<N, R> {
                 } else {
                     0
                 };
-                self.fake.answer_wait(wakes.as_slice(), ready);
+                self.fake.answer_wait(within, wakes.as_slice(), ready);
             }
             Err(_) => {
                 self.fake.lost = true;
