@@ -234,10 +234,9 @@ impl<S: Shelf + Drop> Desk for DeskFake<S> {
     }
 
     fn look(&mut self, rests: bool) -> bool {
-        let gives = rests || self.waits.pop_front() == Some(true);
-        let note = if gives { Note::Gave } else { Note::Looked };
-        self.stage.keep(Act::Worked(note));
-        gives
+        let wanted = self.waits.pop_front() == Some(true);
+        self.stage.keep(Act::Worked(Note::Looked(wanted)));
+        rests || wanted
     }
 
     ghost sure = { λ _ _. tt };

@@ -21,7 +21,7 @@ use Rattle.sieveddaemon.specs.Desk.{IsWorld}
 use Rattle.sieveddaemon.specs.Headline.{world_of, HoldsAfter, Headline, IsNew}
 use Rattle.sieveddaemon.specs.declared.daemon.Daemon.{Daemon}
 use Rattle.sieveddaemon.specs.declared.note.Note.{Note}
-use Rattle.sieveddaemon.specs.declared.note.Note.TheVariants.{Did, Away, Freed, Spoke, Looked, Gave}
+use Rattle.sieveddaemon.specs.declared.note.Note.TheVariants.{Did, Away, Freed, Spoke, Looked}
 use Rattle.sieveddaemon.proofs.EventLemmas.{runs_then, runs_one, none_open}
 use Rattle.sieveddaemon.proofs.LeadLemmas.{Led, leads}
 use Rattle.sieveddaemon.proofs.LineLemmas.{Tied, moment_is, tied_after, right_at}
@@ -37,8 +37,7 @@ runs_by w v (Freed event answer) led =
     (answer ∷ [], runs_one w v event answer (subst (λ a. Next w event answer (record v { accounts = a })) (sym led.0) at), refl)
 runs_by w v Away led = ([], led, refl)
 runs_by w v Spoke led = ([], led, refl)
-runs_by w v Looked led = ([], led, refl)
-runs_by w v Gave led = ([], led, refl)
+runs_by w v (Looked wanted) led = ([], led, refl)
 
 runs_at : (w v : World) (act : Act Note) → Leads w act v → (told : List Answer) × Runs w (events_at act) told v × AnswersAt act told
 runs_at w v (Came id kind) led = (led.0 ∷ [], runs_one w v (Open id) led.0 led.1, tt)

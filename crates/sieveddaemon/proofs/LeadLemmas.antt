@@ -15,14 +15,14 @@ use Rattle.wires.specs.Moves.{Leaves}
 use Rattle.wires.specs.Turns.{Turns, Opens as Enters, Goes, Lacks, Parting, is_open_of, room_by, makes_room}
 use Rattle.wires.specs.Talk.{client_of, kind_of}
 use Rattle.sieveddaemon.specs.Acts.{LeadsBy, Leads, IsGuest}
-use Rattle.sieveddaemon.specs.DaemonRules.{daemon_rules, displaced_of, Happened, Makes, Rests, Opens, Gives, LacksFor}
+use Rattle.sieveddaemon.specs.DaemonRules.{daemon_rules, displaced_of, Happened, Made, Makes, Rests, Opens, Gives, LacksFor}
 use Rattle.sieveddaemon.specs.Desk.{IsWorld, StillShows}
 use Rattle.sieveddaemon.specs.Places.{is_user}
 use Rattle.sieveddaemon.specs.Room.{longest_guest}
 use Rattle.sieveddaemon.proofs.RoomLemmas.{no_user_goes}
 use Rattle.sieveddaemon.specs.declared.daemon.Daemon.{Daemon}
 use Rattle.sieveddaemon.specs.declared.note.Note.{Note}
-use Rattle.sieveddaemon.specs.declared.note.Note.TheVariants.{Did, Away, Freed, Spoke, Looked, Gave}
+use Rattle.sieveddaemon.specs.declared.note.Note.TheVariants.{Did, Away, Freed, Spoke, Looked}
 use Rattle.sieveddaemon.proofs.EventLemmas.{clients_one, open_refused, give_refused}
 
 -- who makes room is the one that the machine names
@@ -67,6 +67,9 @@ module _ {R : Type 0} (shows : R → Accounts → Type 0) (d e : Daemon) (r q : 
         record { shown = subst (λ x. shows x w.accounts) (sym left) is.shown; sessions = made.2 },
       )
 
+  made : (event : Event) → Made event d e → Happened event d e
+  made event m = (m.0, m.2)
+
   -- what asks no store is the same whatever accounts there are
   freed : (event : Event) (answer : Answer) (w : World) → IsWorld shows r d.clients.sessions w → StillShows shows r q → IsSessionEvent event answer d.clients.sessions e.clients.sessions
       → (v : World) × LeadsBy w (Freed event answer) v × IsWorld shows q e.clients.sessions v
@@ -85,12 +88,10 @@ module _ {R : Type 0} (shows : R → Accounts → Type 0) (d e : Daemon) (r q : 
   noted Away w is makes = (w, refl, record { shown = makes.shown w.accounts is.shown; sessions = makes.kept w.sessions is.sessions })
   noted (Freed event answer) w is makes = freed event answer w is makes.0 makes.1
   noted Spoke w is makes = (w, refl, record { shown = makes.shown w.accounts is.shown; sessions = makes.kept w.sessions is.sessions })
-  noted Looked w is makes = absurd makes
-  noted Gave w is makes = absurd makes
+  noted (Looked wanted) w is makes = absurd makes
 
   rested : (now : ℕ) (note : Note) → Rests d now note e → KeepsClients d.clients.sessions e.clients.sessions
-  rested now Looked rests = subst (λ (k : Daemon). KeepsClients d.clients.sessions k.clients.sessions) (sym rests.1) (λ clients has. has)
-  rested now Gave rests = subst (λ (k : Daemon). KeepsClients d.clients.sessions k.clients.sessions) (sym rests) (λ clients has. has)
+  rested now (Looked wanted) rests = subst (λ (k : Daemon). KeepsClients d.clients.sessions k.clients.sessions) (sym rests) (λ clients has. has)
   rested now (Did others event answer) rests = absurd rests
   rested now Away rests = absurd rests
   rested now (Freed event answer) rests = absurd rests
@@ -104,16 +105,16 @@ module _ {R : Type 0} (shows : R → Accounts → Type 0) (d e : Daemon) (r q : 
 
   module _ (s u : Service) where
     came : (id kind : ℕ) (said : List ℕ) (w : World) → IsWorld shows r d.clients.sessions w → q ≡ r → Enters (daemon_rules shows) d s.moment id kind said e u → Led w (Came id kind)
-    came id kind said w is left (inl o) = happened (Open id) w is o.0.event left
+    came id kind said w is left (inl o) = happened (Open id) w is (made (Open id) o.0.event) left
     came id kind said w is left (inr o) = by o.2
       where
         by : Opens d s.moment id said e ⊎ LacksFor d id e → Led w (Came id kind)
-        by (inl opens) = happened (Open id) w is opens.event left
+        by (inl opens) = happened (Open id) w is (made (Open id) opens.event) left
         by (inr lacks) = (w, open_refused w id, same w is lacks.kept left)
 
     heard : (id : ℕ) (piece said : List ℕ) (count : ℕ) (w : World) → IsWorld shows r d.clients.sessions w → q ≡ r
         → Goes (Gives d s.moment id piece said e) (LacksFor d id e) id (kind_of (client_of s id)) count said u.turn → Led w (Heard id piece)
-    heard id piece said count w is left (inl g) = happened (Give id piece) w is g.0.event left
+    heard id piece said count w is left (inl g) = happened (Give id piece) w is (made (Give id piece) g.0.event) left
     heard id piece said count w is left (inr g) = (w, give_refused w id piece, same w is g.0.kept left)
 
     lacked : (id : ℕ) → Lacks (daemon_rules shows) d s id e u → KeepsClients d.clients.sessions e.clients.sessions

@@ -17,7 +17,7 @@ use Rattle.sieveddaemon.specs.Places.{client_at, want_of, want_by, place_given, 
 use Rattle.sieveddaemon.specs.Waiting.{Allows, IsDue, waits_behind, idle}
 use Rattle.sieveddaemon.specs.declared.daemon.Daemon.{Daemon}
 use Rattle.sieveddaemon.specs.declared.note.Note.{Note}
-use Rattle.sieveddaemon.specs.declared.note.Note.TheVariants.{Looked, Gave, Did, Away, Freed, Spoke}
+use Rattle.sieveddaemon.specs.declared.note.Note.TheVariants.{Looked, Did, Away, Freed, Spoke}
 use Rattle.sieveddaemon.specs.declared.place.Place.{Place}
 use Rattle.sieveddaemon.specs.declared.place.Waits.{Waits as Waiting}
 use Rattle.sieveddaemon.specs.declared.place.Waits.TheVariants as waits
@@ -116,8 +116,7 @@ module _ {R : Type 0} (shows : R → Accounts → Type 0) (d e : Daemon) (r q : 
     lacked n (inr (inr t)) = still t.0
 
     rested : (note : Note) → Rests d s.moment note e → Tied e id l
-    rested Looked is = subst (λ (x : Daemon). Tied x id l) (sym is.1) tied
-    rested Gave is = subst (λ (x : Daemon). Tied x id l) (sym is) tied
+    rested (Looked wanted) is = subst (λ (x : Daemon). Tied x id l) (sym is) tied
     rested (Did others event answer) is = absurd is
     rested Away is = absurd is
     rested (Freed event answer) is = absurd is

@@ -49,9 +49,10 @@ from_tail sessions e entries it from = record { place = from.place; among = Cont
 passed : (sessions : Kept) (best : Option It) (e : Entry) (entries : List Entry) (r : Option It) → may_go sessions e.0 e.1 ≡ false → OutOf sessions best entries r → OutOf sessions best (e ∷ entries) r
 passed sessions best e entries None not_free out = (out.0, All-cons (λ (e : Entry). may_go sessions e.0 e.1 ≡ false) e entries not_free out.1)
 passed sessions best e entries (Some it) not_free out = record {
-    whence = whence_of out.whence;
-    at_most = out.at_most;
-    least = All-cons (λ (e : Entry). IsTrue (may_go sessions e.0 e.1) → it.1 ≤ e.1.guest) e entries (λ free. let never : false ≡ true = sym not_free ∙ free in cc) out.least }
+  whence = whence_of out.whence;
+  at_most = out.at_most;
+  least = All-cons (λ (e : Entry). IsTrue (may_go sessions e.0 e.1) → it.1 ≤ e.1.guest) e entries (λ free. let never : false ≡ true = sym not_free ∙ free in cc) out.least;
+}
   where
     whence_of : (best ≡ Some it) ⊎ From sessions entries it → (best ≡ Some it) ⊎ From sessions (e ∷ entries) it
     whence_of (inl is) = inl is
@@ -98,6 +99,7 @@ longest_is sessions best (e ∷ entries) =
   where
     with_test : Bool → Option It
     with_test test = longest_from sessions (if test then Some (longer best (e.0, e.1.guest)) else best) entries
+
     by_test : (test : Bool) → may_go sessions e.0 e.1 ≡ test
         → OutOf sessions (Some (longer best (e.0, e.1.guest))) entries (with_test true) → OutOf sessions best entries (with_test false)
         → OutOf sessions best (e ∷ entries) (with_test test)
@@ -115,13 +117,15 @@ module _ (sessions : Kept) (places : tree.BTreeMap ℕ Place) (ordered : tree.Is
     where
       same : it.0 ≡ id
       same = ap (λ (o : Option ℕ). unwrap_or o id) is
+
       of : (None ≡ Some it) ⊎ From sessions places.entries it → MakesRoom sessions places id
       of (inl never) = cc
       of (inr from) = record {
         place = from.place;
         is_there = (btree_map_get_iff nat_cmp_total exact_unsigned places ordered id from.place).1 (subst (λ n. Contains places.entries (n, from.place)) same from.among);
         free = subst (λ n. IsTrue (may_go sessions n from.place)) same from.free;
-        longest = λ other p is_there free. subst (λ m. m ≤ p.guest) from.guest (All-contains (λ (e : Entry). IsTrue (may_go sessions e.0 e.1) → it.1 ≤ e.1.guest) places.entries (other, p) found.least (entry_of other p is_there) free) }
+        longest = λ other p is_there free. subst (λ m. m ≤ p.guest) from.guest (All-contains (λ (e : Entry). IsTrue (may_go sessions e.0 e.1) → it.1 ≤ e.1.guest) places.entries (other, p) found.least (entry_of other p is_there) free);
+      }
 
   pub makes_room : (id : ℕ) → longest_guest sessions places ≡ Some id → MakesRoom sessions places id
   makes_room id is = at_id id (longest_from sessions None places.entries) (longest_is sessions None places.entries) is
@@ -150,6 +154,7 @@ no_user_goes sessions places id is = of_found (longest_from sessions None places
       where
         same : it.0 ≡ id
         same = ap (λ (o : Option ℕ). unwrap_or o id) named
+
         of_whence : (None ≡ Some it) ⊎ From sessions places.entries it → is_user (client_at sessions id) ≡ false
         of_whence (inl never) = cc
         of_whence (inr from) = subst (λ n. is_user (client_at sessions n) ≡ false) same (not_user sessions it.0 from.place from.free)

@@ -18,7 +18,7 @@ use Rattle.sieveddaemon.specs.Waiting.{Allows, MayAsk, MayGiveUp, said_at_once, 
 use Rattle.sieveddaemon.specs.declared.daemon.Daemon.{Daemon}
 use Rattle.sieveddaemon.specs.declared.daemon.Holding.{Holding}
 use Rattle.sieveddaemon.specs.declared.note.Note.{Note}
-use Rattle.sieveddaemon.specs.declared.note.Note.TheVariants.{Did, Away, Freed, Spoke, Looked, Gave}
+use Rattle.sieveddaemon.specs.declared.note.Note.TheVariants.{Did, Away, Freed, Spoke, Looked}
 use Rattle.sieveddaemon.specs.declared.place.Place.{Place}
 use Rattle.sieveddaemon.specs.declared.place.Waits.{Waits}
 use Rattle.sieveddaemon.specs.declared.place.Waits.TheVariants as waits
@@ -105,8 +105,7 @@ module _ {O R : Type 0} (tells : O → Bool) (seen : O → List (Act Note)) (res
   kept_makes Away keeps makes = record { shown = makes.shown; kept = λ clients has. makes.kept clients (keeps clients has) }
   kept_makes Spoke keeps makes = record { shown = makes.shown; kept = λ clients has. makes.kept clients (keeps clients has) }
   kept_makes (Freed event answer) keeps makes = (makes.0, λ w has. makes.1 w (keeps w.sessions has))
-  kept_makes Looked keeps makes = makes
-  kept_makes Gave keeps makes = makes
+  kept_makes (Looked wanted) keeps makes = makes
 
   pub behind : KeepsClients d.clients.sessions c.sessions → StepsIf tells seen rest (daemon_rules shows) o (mid_of d c d.holding) now id said p e → StepsIf tells seen rest (daemon_rules shows) o d now id said p e
   behind keeps steps tell =

@@ -94,11 +94,11 @@ impl Accounts {
         let (word, rest) = split_word(text);
         let mut got = Octets::new(self.alloc);
         let (asked, wanted) = match word {
-            b"gave" => (&b""[..], rest),
+            b"wishes" => (&b""[..], rest),
             _ => split_word(rest),
         };
         let count = match word {
-            b"gave" => Some(count_gifts(outside.stage.fake.acts.as_slice())),
+            b"wishes" => Some(count_wishes(outside.stage.fake.acts.as_slice())),
             _ => count_in(&mut outside.stage.fake.rest.store, word, asked),
         };
         match count {
@@ -132,11 +132,11 @@ fn count_in(store: &mut Store<MemStore>, word: &[u8], user: &[u8]) -> Option<u64
     }
 }
 
-/// How often the store was given back.
-fn count_gifts(acts: &[Act<Note>]) -> u64 {
+/// How often it was seen that somebody waits for the store.
+fn count_wishes(acts: &[Act<Note>]) -> u64 {
     let mut count: u64 = 0;
     for act in acts {
-        if let Act::Worked(Note::Gave) = act {
+        if let Act::Worked(Note::Looked(true)) = act {
             count = count.saturating_add(1);
         }
     }
