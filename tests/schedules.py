@@ -179,6 +179,7 @@ class Life:
             self.lines.append(f"{self.names[number]} says " + text(octets.encode()))
             self.model.happen(("give", number, octets, units))
             self.has(number, [line for _ in units for line in self.model.happen(("step", number))])
+        self.lines.append("@ told all")
         for user, acc in self.model.accounts.items():
             self.lines += [f"@ filed {user} {len(acc['folders'].get('INBOX', []))}", f"@ queued {user} {len(acc['queue'])}",
                            f"@ noticed {user} {len(acc['notices'])}", f"@ scripts {user} {len(acc['scripts'])}"]

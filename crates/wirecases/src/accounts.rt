@@ -42,12 +42,22 @@ impl Owner<DeskFake<MemShelf>> for Accounts {
             b"user" => begin_with(self.alloc, &mut outside.stage.fake.rest.store, rest),
             b"away" => add(&mut outside.away, true),
             b"wanted" => add(&mut outside.waits, true),
+            b"told" => self.note(line, rest, told_by(outside), checks),
             b"others" => match parse_event(self.alloc, rest)? {
                 Some(event) => add(&mut outside.others, event),
                 None => self.note(line, rest, b"no such event", checks),
             },
             _ => self.ask(outside, line, text, checks),
         }
+    }
+}
+
+/// Whether the outside has told all acts so far.
+fn told_by(outside: &DeskFake<MemShelf>) -> &'static [u8] {
+    if outside.stage.fake.lost {
+        b"not all"
+    } else {
+        b"all"
     }
 }
 
