@@ -85,11 +85,11 @@ class Life:
         self.lines += [f"{name} goes", f"{name} is closed"]
         self.model.happen(("close", number))
 
-    def has(self, number, answers):
+    def has(self, number, answers, ends=False):
         """What a client must have got; where it is the last, it sees that, and goes."""
         said = [line.removesuffix("\r") for line in answers if line not in ("close", "need")]
         self.lines.append(f"{self.names[number]} has " + text("".join(line + "\r\n" for line in said).encode()))
-        if self.model.sessions[number].closed:
+        if ends:
             self.lines.append(f"{self.names[number]} is shut")
             self.go(number)
         elif self.model.sessions[number].user:
@@ -107,13 +107,17 @@ class Life:
         octets, ended = self.streams[number].piece()
         self.lines.append(f"{self.names[number]} says " + text(octets.encode()))
         self.model.happen(("give", number, octets, ended))
-        while number in self.names and self.model.sessions[number].units:
-            answers = self.model.happen(("step", number))
-            if answers[0] in ('NO "Authentication failed."', 'BYE "Too many failures."'):
-                self.lines.append(f"{self.names[number]} has " + text(b""))
+        answers = []
+        while self.model.sessions[number].units and not self.model.sessions[number].closed:
+            later = self.model.happen(("step", number))
+            if later[0] in ('NO "Authentication failed."', 'BYE "Too many failures."'):
+                self.has(number, answers, False)
                 self.guests[number] = self.now
                 self.wait(SPAN)
-            self.has(number, answers)
+                answers = []
+            answers += later
+        if ended:
+            self.has(number, answers, self.model.sessions[number].closed)
 
     def put_off(self, number):
         """A command of a client finds no store for five seconds."""
