@@ -48,13 +48,13 @@ given_up_for_a_refusal = (tt, refl)
 -- near misses: given up for nothing; another connection's step; refused without asking; asked for while a reply is kept back; said before
 -- its moment
 not_for_nothing : (answer : Answer) → Allows 7 waits.Nothing 1 (Freed (GiveUp 1) answer) → ⊥
-not_for_nothing answer is = let never : GiveUp 1 ≡ Step 1 = is.0 in cc
+not_for_nothing answer is = is.0
 
 not_of_another : (others : List Event) (answer : Answer) → Allows 7 waits.Nothing 1 (Did others (Step 2) answer) → ⊥
 not_of_another others answer is = let never : Step 2 ≡ Step 1 = is.1 in cc
 
 not_refused_unasked : Allows 7 waits.Nothing 1 (Freed (Step 1) (Refused Store)) → ⊥
-not_refused_unasked is = is.1
+not_refused_unasked is = is.2
 
 not_while_a_reply_waits : (text : List ℕ) → Allows 7 (waits.Reply 2000 text) 1 Away → ⊥
 not_while_a_reply_waits text is = is

@@ -1,13 +1,13 @@
 -- What the daemon makes of what happens.
-use Rattle.std.specs.Prelude.{◌≡◌, ℕ, ◌<◌, ◌==◌, ◌&&◌, ◌||◌, nat_le, nat_lt, Bool, true, false, cond, List, [], Option, Some, None, if◌then◌else◌}
+use Rattle.std.specs.Prelude.{◌≡◌, ◌∷◌, ℕ, ◌<◌, ◌==◌, ◌&&◌, ◌||◌, nat_le, nat_lt, Bool, true, false, cond, List, [], Option, Some, None, if◌then◌else◌}
 use Rattle.std.specs.Ordering.{nat_cmp}
 use Rattle.std.specs.BTreeMap as tree
 use Rattle.mailstore.specs.Account.{Accounts}
 use Rattle.sessions.specs.Clients.{Client}
-use Rattle.mailengine.specs.Hosts.{IsMade, IsSessionEvent, KeepsClients}
+use Rattle.mailengine.specs.Hosts.{Kept, IsMade, AsksStore, IsSessionEvent, KeepsClients}
 use Rattle.mailengine.specs.declared.answer.Answer.{Answer}
 use Rattle.mailengine.specs.declared.event.Event.{Event}
-use Rattle.mailengine.specs.declared.event.Event.TheVariants.{Open, Give, Close}
+use Rattle.mailengine.specs.declared.event.Event.TheVariants.{Open, Give, Step, Close}
 use Rattle.wires.specs.Rules.{Rules}
 use Rattle.wires.specs.Talk.{after_span, same}
 use Rattle.sieveddaemon.specs.Desk.{StillShows, IsDone, NothingDone}
@@ -99,6 +99,12 @@ Makes shows r d Spoke q e = NothingDone shows r d.clients.sessions q e.clients.s
 Makes shows r d (Freed event answer) q e = StillShows shows r q × IsSessionEvent event answer d.clients.sessions e.clients.sessions
 Makes shows r d _ q e = ⊥
 
+-- the store is asked only for what asks one: all else is answered by the session alone
+abbrev pub AsksFor : ℕ → Note → Kept → Type 0
+AsksFor id (Did others event answer) kept = AsksStore (Step id) kept
+AsksFor id Away kept = AsksStore (Step id) kept
+AsksFor id note kept = Unit {0}
+
 abbrev pub asked_at : ℕ → Holding
 asked_at now = record { had = true; look = now; asked = now }
 
@@ -115,6 +121,7 @@ pub record Goes {R : Type 0} (shows : R → Accounts → Type 0) (d : Daemon) (r
   pub before : Place
   pub was : place_at d id ≡ Some before
   pub allows : IsDue now before.waits → Allows now before.waits id note
+  pub asks : AsksFor id note d.clients.sessions
   pub makes : Makes shows r d note q e
   pub says : said ≡ said_with before.waits note
   pub place : Places d id (Some (place_behind now before note (client_at e.clients.sessions id))) e
