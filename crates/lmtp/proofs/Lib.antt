@@ -1,10 +1,14 @@
 pub mod ArgumentLemmas
 pub mod CommandLemmas
+pub mod DialogueLemmas
 pub mod Examples
 pub mod FeedLemmas
 pub mod FrontLemmas
 pub mod LineLemmas
 pub mod ParameterLemmas
 pub mod PathLemmas
+pub mod ReplyLemmas
 pub mod RouteLemmas
+pub mod SkipLemmas
+pub mod TalkLemmas
 pub mod TextLemmas

@@ -116,7 +116,7 @@ none_before stream a b fits_a fits_b first second less =
     let split = splits_at (take (length front) stream) a there in
     second.whole (take a (take (length front) stream)) (drop (a + 2) (take (length front) stream)) (sym cut ∙ split)
 
-too_long : (stream : List ℕ) (a : ℕ) → Finds (Line a) stream → Finds TooLong stream → ⊥
+pub too_long : (stream : List ℕ) (a : ℕ) → Finds (Line a) stream → Finds TooLong stream → ⊥
 too_long stream a first second =
     let count = length-take-le 2048 stream second.1 in
     let there = occurs_less stream 2048 a (omega (arith, first.1, count)) (first_occurs stream a first.2 first.0) in

@@ -1,5 +1,5 @@
 //! What is answered.
-ghost use Rattle.std.specs.Prelude.{◌≡◌, IfOk};
+ghost use Rattle.std.specs.Prelude.{◌≡◌, IfOk, map, take};
 ghost use Rattle.lmtp.specs.Replies as s;
 
 use octets::{Octets, is_printable};
@@ -159,10 +159,24 @@ pub fn capabilities(alloc: Global, host: &[u8]) -> Result<Octets, AllocError>
 fn shown(alloc: Global, most: usize, text: &[u8]) -> Result<Octets, AllocError>
     ensures { IfOk result (λ shown. shown ≡ s.shown most text.now) }
 {
-    let count = text.len().min(most);
-    let octets = text[..count]
-        .iter()
-        .map(|octet| if is_printable(*octet) { *octet } else { b'?' })
-        .collect(alloc)?;
+    printable(alloc, front(text, most))
+}
+
+fn front(text: &[u8], most: usize) -> &[u8]
+    ensures { result.now ≡ take most text.now }
+{
+    if text.len() <= most { text } else { &text[..most] }
+}
+
+fn printable(alloc: Global, text: &[u8]) -> Result<Octets, AllocError>
+    ensures { IfOk result (λ shown. shown ≡ map s.shown_octet text.now) }
+{
+    let octets = text.iter().map(|octet| shown_octet(*octet)).collect(alloc)?;
     Ok(Octets::from_vec(octets))
+}
+
+fn shown_octet(octet: u8) -> u8
+    ensures { result ≡ s.shown_octet octet }
+{
+    if is_printable(octet) { octet } else { b'?' }
 }

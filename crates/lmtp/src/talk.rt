@@ -1,6 +1,7 @@
 //! What goes on in a dialogue, but for what its client has sent: what a command does.
 ghost use Rattle.std.specs.Prelude.{◌≡◌, ◌<◌, length};
 ghost use Rattle.lmtp.specs.declared.receiver.Stage.TheVariants.{Asking as asking, Sending as sending};
+ghost use Rattle.lmtp.specs.Turns.{is_too_large as too_large};
 
 use crate::argument::Mail;
 use crate::order::{Order, read_order};
@@ -42,7 +43,7 @@ impl Talk {
     ghost use Rattle.lmtp.specs.Replies.{said_of};
     ghost use Rattle.lmtp.specs.Talks as s;
     ghost use Rattle.lmtp.specs.Texts.{IsTextOf};
-    ghost use Rattle.lmtp.specs.Turns.{ says, turn_of, hello_turn, opened_turn, mail_turn, asked_for, rcpt_turn, data_turn, reset_turn, quit_turn, phase_reset, is_too_large as too_large};
+    ghost use Rattle.lmtp.specs.Turns.{says, turn_of, hello_turn, opened_turn, mail_turn, asked_for, rcpt_turn, data_turn, reset_turn, quit_turn, phase_reset};
 
     /// A command is obeyed, and answered where nothing has to be asked first.
     ///
@@ -226,8 +227,11 @@ impl Talk {
     {
         let line = outcome.line(self.alloc)?;
         out.extend_from_slice(line.as_slice())?;
-        self.told += 1;
-        if self.told == self.recipients.len() {
+        let count = self.recipients.len();
+        let told = self.told + 1;
+        if told < count {
+            self.told = told;
+        } else {
             self.end_message();
         }
         Ok(())
