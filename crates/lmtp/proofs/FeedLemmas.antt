@@ -126,7 +126,7 @@ ends_at : (from : Place) (sent : List ℕ) → RunsFrom from sent → place_afte
 ends_at from [] runs ended = ended
 ends_at from (octet ∷ sent) runs ended = (runs.0, ends_at (after from octet) sent runs.1 ended)
 
-is_text : (t : Text) (sent : List ℕ) → t.place ≡ Ended → StandsFor t sent → IsText sent (text_after Start sent)
+pub is_text : (t : Text) (sent : List ℕ) → t.place ≡ Ended → StandsFor t sent → IsText sent (text_after Start sent)
 is_text t sent ended stands = text_found sent (ends_at Start sent stands.runs (sym stands.place ∙ ended))
 
 -- what is kept of one that has ended is the text

@@ -1,3 +1,4 @@
+pub mod AnswerLemmas
 pub mod ArgumentLemmas
 pub mod CommandLemmas
 pub mod DialogueLemmas
@@ -5,10 +6,13 @@ pub mod Examples
 pub mod FeedLemmas
 pub mod FrontLemmas
 pub mod LineLemmas
+pub mod NextLemmas
 pub mod ParameterLemmas
 pub mod PathLemmas
+pub mod ReceiverLemmas
 pub mod ReplyLemmas
 pub mod RouteLemmas
 pub mod SkipLemmas
+pub mod StageLemmas
 pub mod TalkLemmas
 pub mod TextLemmas

@@ -122,7 +122,7 @@ too_long stream a first second =
     let there = occurs_less stream 2048 a (omega (arith, first.1, count)) (first_occurs stream a first.2 first.0) in
     second.0 (take a (take 2048 stream)) (drop (a + 2) (take 2048 stream)) (splits_at (take 2048 stream) a there)
 
-one_found : (a b : Found) (stream : List ℕ) → Finds a stream → Finds b stream → a ≡ b
+pub one_found : (a b : Found) (stream : List ℕ) → Finds a stream → Finds b stream → a ≡ b
 one_found Need Need stream first second = refl
 one_found Need (Line b) stream first second = absurd (first.0 (take b stream) (drop (b + 2) stream) second.0.written)
 one_found Need TooLong stream first second = absurd (omega (arith, first.1, second.1))

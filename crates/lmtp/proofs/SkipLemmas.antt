@@ -68,29 +68,29 @@ seam (a ∷ g) c x one two = seam_at a g c x one (seam g c x (rest_has_none a (g
 
 -- all but the last octet of a text without a line end
 pub joins_last : (front : List ℕ) (octet : ℕ) → HasNoLineEnd (front ++ octet ∷ []) → JoinsNone front (octet ∷ [])
-joins_last front octet none x agrees = λ no. joins_at front octet none x agrees no
+joins_last front octet none x agrees = λ absent. joins_at front octet none x agrees absent
   where
     front_has_none : (front more : List ℕ) → HasNoLineEnd (front ++ more) → HasNoLineEnd front
     front_has_none front more none = λ f b same. none f (b ++ more) (ap (λ t. t ++ more) same ∙ append_assoc f (line_end ++ b) more)
     joins_at : (front : List ℕ) (octet : ℕ) → HasNoLineEnd (front ++ octet ∷ []) → (x : List ℕ) → Agrees (octet ∷ []) x → HasNoLineEnd x → HasNoLineEnd (front ++ x)
-    joins_at front octet none [] agrees no = subst HasNoLineEnd (sym (append-nil front)) (front_has_none front (octet ∷ []) none)
-    joins_at front octet none (o ∷ x) (inl longer) no =
+    joins_at front octet none [] agrees absent = subst HasNoLineEnd (sym (append-nil front)) (front_has_none front (octet ∷ []) none)
+    joins_at front octet none (o ∷ x) (inl longer) absent =
         let first = same_first o octet x longer.0 longer.1 in
-        seam front o x (subst (λ f. HasNoLineEnd (front ++ f ∷ [])) (sym first) none) no
-    joins_at front octet none (o ∷ []) (inr shorter) no =
+        seam front o x (subst (λ f. HasNoLineEnd (front ++ f ∷ [])) (sym first) none) absent
+    joins_at front octet none (o ∷ []) (inr shorter) absent =
         let first = same_first octet o [] shorter.0 shorter.1 in
         subst (λ f. HasNoLineEnd (front ++ f ∷ [])) first none
-    joins_at front octet none (o ∷ p ∷ x) (inr shorter) no =
+    joins_at front octet none (o ∷ p ∷ x) (inr shorter) absent =
         absurd (not_none p (x ++ shorter.0) (sym (same_others octet o [] (p ∷ x ++ shorter.0) shorter.1)))
 
 -- a line, before its CRLF
 pub joins_line : (line rest : List ℕ) → IsLine line → JoinsNone line (line_end ++ rest)
-joins_line line rest is [] agrees no = subst HasNoLineEnd (sym (append-nil line)) (λ f b same. is f (b ++ 13 ∷ []) (ap (λ t. t ++ 13 ∷ []) same ∙ append_assoc f (line_end ++ b) (13 ∷ [])))
-joins_line line rest is (o ∷ []) (inl longer) no = absurd (none_longer 10 [] (rest ++ longer.0) (same_others o 13 [] (10 ∷ (rest ++ longer.0)) longer.1))
-joins_line line rest is (o ∷ []) (inr shorter) no = subst (λ f. HasNoLineEnd (line ++ f ∷ [])) (same_first 13 o (10 ∷ rest) shorter.0 shorter.1) is
-joins_line line rest is (o ∷ p ∷ x) (inl longer) no =
-    absurd (no [] (rest ++ longer.0) longer.1)
-joins_line line rest is (o ∷ p ∷ x) (inr shorter) no =
+joins_line line rest is [] agrees absent = subst HasNoLineEnd (sym (append-nil line)) (λ f b same. is f (b ++ 13 ∷ []) (ap (λ t. t ++ 13 ∷ []) same ∙ append_assoc f (line_end ++ b) (13 ∷ [])))
+joins_line line rest is (o ∷ []) (inl longer) absent = absurd (none_longer 10 [] (rest ++ longer.0) (same_others o 13 [] (10 ∷ (rest ++ longer.0)) longer.1))
+joins_line line rest is (o ∷ []) (inr shorter) absent = subst (λ f. HasNoLineEnd (line ++ f ∷ [])) (same_first 13 o (10 ∷ rest) shorter.0 shorter.1) is
+joins_line line rest is (o ∷ p ∷ x) (inl longer) absent =
+    absurd (absent [] (rest ++ longer.0) longer.1)
+joins_line line rest is (o ∷ p ∷ x) (inr shorter) absent =
     let first = same_first 13 o (10 ∷ rest) (p ∷ x ++ shorter.0) shorter.1 in
     let second = same_first 10 p rest (x ++ shorter.0) (same_others 13 o (10 ∷ rest) (p ∷ x ++ shorter.0) shorter.1) in
-    absurd (no [] x (ap (λ f. f ∷ p ∷ x) (sym first) ∙ ap (λ f. 13 ∷ f ∷ x) (sym second)))
+    absurd (absent [] x (ap (λ f. f ∷ p ∷ x) (sym first) ∙ ap (λ f. 13 ∷ f ∷ x) (sym second)))

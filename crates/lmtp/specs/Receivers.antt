@@ -28,12 +28,16 @@ Agrees octets stream = ((more : List ℕ) × (stream ≡ octets ++ more)) ⊎ ((
 abbrev pub JoinsNone : List ℕ → List ℕ → Type 0
 JoinsNone gone unread = (stream : List ℕ) → Agrees unread stream → HasNoLineEnd stream → HasNoLineEnd (gone ++ stream)
 
--- octets of the item that comes first which aren't held as they came: those of a text; those of a line that has too many; else none
+-- octets of a line which aren't held: none, or all but the last ones where there are too many
+abbrev pub IsLineGone : Bool → List ℕ → List ℕ → Type 0
+IsLineGone false unread gone = gone ≡ []
+IsLineGone true unread gone = JoinsNone gone unread × (unread ≢ []) × (max_line < length gone + 2)
+
+-- octets of the item that comes first which aren't held as they came: those of a text, or of a line
 abbrev pub IsGone : Stage → Bool → Text → List ℕ → List ℕ → Type 0
 IsGone stage.Sending long text unread gone = (long ≡ false) × StandsFor text gone
 IsGone stage.Over long text unread gone = Unit {0}
-IsGone other false text unread gone = gone ≡ []
-IsGone other true text unread gone = JoinsNone gone unread × (max_line < length gone + 2)
+IsGone other long text unread gone = IsLineGone long unread gone
 
 -- these octets came behind the items that were answered
 pub record HasHeard (r : Receiver) (octets : List ℕ) : Type 0 where
@@ -48,12 +52,16 @@ pub record Holds (r : Receiver) (d : Dialogue) : Type 0 where
   pub sound : IsSound r.talk
   pub limit : r.talk.text.limit ≡ max_text
 
--- nothing is held of a text that goes on, and of a line that has too many octets its last one, or its CRLF and what stands behind it
+-- of a line that has too many octets the last one is held, or its CRLF and what stands behind it
+abbrev pub IsLineTaken : Bool → List ℕ → Type 0
+IsLineTaken false unread = Finds TooLong unread → ⊥
+IsLineTaken true unread = ((octet : ℕ) × (unread ≡ octet ∷ [])) ⊎ ((rest : List ℕ) × (unread ≡ line_end ++ rest))
+
+-- and nothing of a text that goes on
 abbrev pub IsTaken : Stage → Bool → Text → List ℕ → Type 0
 IsTaken stage.Sending long text unread = text.place ≢ Ended → unread ≡ []
 IsTaken stage.Over long text unread = Unit {0}
-IsTaken other false text unread = Finds TooLong unread → ⊥
-IsTaken other true text unread = ((octet : ℕ) × (unread ≡ octet ∷ [])) ⊎ ((rest : List ℕ) × (unread ≡ line_end ++ rest))
+IsTaken other long text unread = IsLineTaken long unread
 
 -- the dialogue for which it stands
 pub record StandsIn (r : Receiver) (d : Dialogue) : Type 0 where

@@ -1,5 +1,5 @@
 //! The server's side of a dialogue.
-ghost use Rattle.std.specs.Prelude.{◌≡◌, ◌↔◌, ◌++◌, true, IsTrue, IfOk, OnOk, OnErr};
+ghost use Rattle.std.specs.Prelude.{◌≡◌, ◌⊎◌, ◌↔◌, ◌++◌, true, IsTrue, IfOk, OnOk, OnErr};
 ghost use Rattle.lmtp.specs.Dialogues.{Dialogue, new_dialogue};
 ghost use Rattle.lmtp.specs.Lines.{Finds};
 ghost use Rattle.lmtp.specs.Receivers as s;
@@ -10,7 +10,7 @@ use crate::line::{Found, first_line, skip_line};
 use crate::recipients::Recipients;
 use crate::reply::{Outcome, Reply, capabilities, greeting};
 use crate::talk::{MAX_TEXT, Talk};
-use crate::text::{Place, Text, Trouble};
+use crate::text::{Text, Trouble};
 use octets::{Octets, Pending};
 use std::alloc::{AllocError, Global};
 
@@ -212,7 +212,10 @@ impl Receiver {
         ensures err { OnErr result ((self.new ≡ self.old) × (out.new ≡ out.old)) }
     {
         match self.talk.stage {
-            Stage::Asking => self.talk.resolve(lookup, out),
+            Stage::Asking => {
+                self.talk.resolve(lookup, out)?;
+                Ok(())
+            }
             _ => Ok(()),
         }
     }
@@ -227,18 +230,20 @@ impl Receiver {
         ensures err { OnErr result ((self.new ≡ self.old) × (out.new ≡ out.old)) }
     {
         match self.talk.stage {
-            Stage::Sending if self.talk.text.has_ended() => self.report_next(outcome, out),
+            Stage::Sending => self.report_next(outcome, out),
             _ => Ok(()),
         }
     }
 
     fn report_next(&mut self, outcome: Outcome<'_>, out: &mut Octets) -> Result<(), AllocError>
-        requires sends { self.old.talk.stage ≡ Stage.Sending }
-        requires ended { self.old.talk.text.place ≡ Place.Ended }
+        requires { self.old.talk.stage ≡ Stage.Sending }
         ensures ok { OnOk result (s.Goes (λ d. Replies d outcome.entry) self.old self.new out.old out.new) }
         ensures hello { self.new.talk.hello ≡ self.old.talk.hello }
         ensures err { OnErr result ((self.new ≡ self.old) × (out.new ≡ out.old)) }
     {
+        if !self.talk.text.has_ended() {
+            return Ok(());
+        }
         self.talk.report(outcome, out)?;
         self.take_in();
         Ok(())
@@ -265,15 +270,25 @@ impl Receiver {
         self.unread.drop_front(taken);
     }
 
-    // Octets of a line that is too long are dropped.
     fn skip_long(&mut self)
         requires { s.takes_lines self.old.talk.stage ≡ true }
         ensures takes { s.TakesIn self.old self.new }
         ensures talk { self.new.talk.hello ≡ self.old.talk.hello }
     {
-        if !self.long && !is_too_long(self.unread.as_slice()) {
-            return;
+        if self.long {
+            self.drop_line();
+        } else if is_too_long(self.unread.as_slice()) {
+            self.drop_line();
         }
+    }
+
+    // Octets of a line that is too long are dropped.
+    fn drop_line(&mut self)
+        requires lines { s.takes_lines self.old.talk.stage ≡ true }
+        requires long { (self.old.long ≡ true) ⊎ Finds Found.TooLong self.old.unread }
+        ensures takes { s.TakesIn self.old self.new }
+        ensures talk { self.new.talk.hello ≡ self.old.talk.hello }
+    {
         self.long = true;
         let count = skip_line(self.unread.as_slice());
         self.unread.drop_front(count);
