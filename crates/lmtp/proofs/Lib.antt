@@ -1,11 +1,13 @@
 pub mod AnswerLemmas
 pub mod ArgumentLemmas
 pub mod CommandLemmas
+pub mod DialogueExamples
 pub mod DialogueLemmas
 pub mod Examples
 pub mod FeedLemmas
 pub mod FrontLemmas
 pub mod LineLemmas
+pub mod NameLemmas
 pub mod NextLemmas
 pub mod ParameterLemmas
 pub mod PathLemmas

@@ -1,7 +1,7 @@
 -- The names under which the account of a recipient is looked for.
-use Rattle.std.specs.Prelude.{◌≡◌, ◌⊎◌, ℕ, ◌==◌, ◌≤◌, Bool, true, false, cond, not, if◌then◌else◌, nat_eq, is_none, List, [], ◌∷◌, ◌++◌, length, take_while}
+use Rattle.std.specs.Prelude.{◌≡◌, ◌≢◌, ◌⊎◌, ℕ, ◌==◌, ◌≤◌, Bool, cond, not, if◌then◌else◌, nat_eq, List, [], ◌∷◌, ◌++◌, length, take}
 use Rattle.std.specs.Cmp.Lexicographic.{pointwise}
-use Rattle.std.specs.List.{list_all, list_any}
+use Rattle.std.specs.List.{All, list_any, prefix_len}
 use Rattle.octets.specs.Ascii.{lowered}
 use Rattle.lmtp.specs.Paths.{IsAddress}
 use Rattle.lmtp.specs.declared.name.Names.{Names}
@@ -32,15 +32,11 @@ unquoted Escaped (octet ∷ rest) = octet ∷ unquoted Inside rest
 -- ---- the forms of a name
 
 -- what stands before the first `+`, where something does (subaddressing: RFC 5233)
-abbrev pub is_plus : ℕ → Bool
-is_plus octet = octet == 43
-
-abbrev pub or_whole : List ℕ → List ℕ → List ℕ
-or_whole text [] = text
-or_whole text (octet ∷ rest) = octet ∷ rest
+abbrev pub bare_length : List ℕ → ℕ
+bare_length text = prefix_len (λ octet. not (octet == 43)) text
 
 abbrev pub without_detail : List ℕ → List ℕ
-without_detail text = or_whole text (take_while (λ octet. not (is_plus octet)) text)
+without_detail text = if bare_length text == 0 then text else take (bare_length text) text
 
 -- one form more, unless it is there
 abbrev pub with_form : List (List ℕ) → List ℕ → List (List ℕ)
@@ -51,9 +47,39 @@ abbrev pub forms_of : List ℕ → List ℕ → List (List ℕ)
 forms_of name bare = with_form (with_form (with_form (name ∷ []) (lowered name)) bare) (lowered bare)
 
 -- by the local part, or by the address as it is written
+abbrev pub local_forms : List ℕ → List (List ℕ)
+local_forms local = let text = unquoted Outside local in forms_of text (without_detail text)
+
+abbrev pub whole_forms : List ℕ → List ℕ → List (List ℕ)
+whole_forms local tail = forms_of (local ++ tail) (without_detail local ++ tail)
+
 abbrev pub forms_by : Names → List ℕ → List ℕ → List (List ℕ)
-forms_by Local local tail = let text = unquoted Outside local in forms_of text (without_detail text)
-forms_by Whole local tail = forms_of (local ++ tail) (without_detail local ++ tail)
+forms_by Local local tail = local_forms local
+forms_by Whole local tail = whole_forms local tail
 
 abbrev pub AreForms : Names → List ℕ → List (List ℕ) → Type 0
 AreForms names address forms = (local tail : List ℕ) × Parts address local tail × (forms ≡ forms_by names local tail)
+
+-- ---- laws
+
+-- the name as it stands, in lower case, without the detail, or both
+abbrev pub IsForm : List ℕ → List ℕ → List ℕ → Type 0
+IsForm name bare form = (form ≡ name) ⊎ ((form ≡ lowered name) ⊎ ((form ≡ bare) ⊎ (form ≡ lowered bare)))
+
+-- no form stands behind itself
+abbrev pub AreApart : List (List ℕ) → Type 0
+AreApart [] = Unit {0}
+AreApart (form ∷ others) = (All (λ other. other ≢ form) others) × AreApart others
+
+-- each is one of the four, all four are there, the first first, and none twice
+pub record FormsStand : Type 0 where
+  pub parts : (address a b x y : List ℕ) → Parts address a x → Parts address b y → (a ≡ b) × (x ≡ y)
+  pub each : (name bare : List ℕ) → All (IsForm name bare) (forms_of name bare)
+  pub apart : (name bare : List ℕ) → AreApart (forms_of name bare)
+
+-- ---- how the parts are found
+
+-- an octet more was looked at: where it is an `@` outside quotation marks, the local part ends there
+abbrev pub EndsLocal : ℕ → ℕ → Quoting → ℕ → ℕ → Type 0
+EndsLocal count at quoting octet found =
+    ((quoting ≡ Outside) × (octet ≡ 64) × (found ≡ at)) ⊎ (((quoting ≡ Outside) × (octet ≡ 64) → ⊥) × (found ≡ count))

@@ -1,6 +1,7 @@
 //! Laws of the definitions, each the contract of a function that does nothing.
 ghost use Rattle.lmtp.specs.Dialogues.{ItemsStand};
 ghost use Rattle.lmtp.specs.Lines.{LinesStand};
+ghost use Rattle.lmtp.specs.Names.{FormsStand};
 ghost use Rattle.lmtp.specs.Replies.{HostsFaultsPass, RepliesAreLines};
 ghost use Rattle.lmtp.specs.Texts.{TextsAgree};
 ghost use Rattle.lmtp.specs.Turns.{AnswersStand};
@@ -33,4 +34,10 @@ pub fn answers_stand()
 /// Each reply but that to LHLO is one line of at most 512 octets, all of them printable, whatever a report has.
 pub fn replies_are_lines()
     ensures { RepliesAreLines }
+{}
+
+/// An address has one local part. Each form of a name is the name as it stands, in lower case, without the detail, or both, and none
+/// is there twice.
+pub fn forms_stand()
+    ensures { FormsStand }
 {}

@@ -15,6 +15,7 @@ pub mod text;
 pub mod verb;
 
 pub use line::{Found, first_line, skip_line};
+pub use name::{Names, name_forms};
 pub use receiver::{Delivery, Lookup, Next, Receiver};
 pub use reply::{Outcome, Reply};
 pub use text::{Place, Text, Trouble};
