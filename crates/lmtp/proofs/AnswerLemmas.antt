@@ -1,12 +1,12 @@
 -- For which dialogue a receiver stands once something was answered.
-use Rattle.std.proofs.Common.{◌≡◌, ℕ, ◌+◌, ◌-◌, ◌<◌, Bool, true, false, List, [], ◌∷◌, ◌++◌, length, take, drop, get_or, inl, inr, refl, sym, ap, ◌∙◌, subst, append-nil, arith}
-use Rattle.lmtp.specs.Dialogues.{Phase, Greeted, Ready, Opened, Asking, Sending, Over, Dialogue, Item, Command, LongLine, Message, Spells, IsFirst, Waits}
+use Rattle.std.proofs.Common.{◌≡◌, ℕ, ◌+◌, ◌-◌, true, false, List, [], ◌∷◌, length, take, drop, get_or, inl, inr, refl, sym, ap, ◌∙◌, subst, append-nil}
+use Rattle.lmtp.specs.Dialogues.{Phase, Opened, Asking, Sending, Dialogue, Item, Command, LongLine, Message, Spells, Waits}
 use Rattle.lmtp.specs.Lines.{Finds}
-use Rattle.lmtp.specs.Receivers.{IsLineGone, IsGone, HasHeard, Holds, IsTaken, StandsIn, TakesIn, Happens, GoesFrom, Goes, reads_lines, takes_lines}
+use Rattle.lmtp.specs.Receivers.{IsGone, Holds, IsTaken, StandsIn, TakesIn, GoesFrom, Goes, reads_lines, takes_lines}
 use Rattle.lmtp.specs.Replies.{said_of}
-use Rattle.lmtp.specs.Talks.{phase_by, phase_of, IsSoundAt, IsSound, item_by, TakesTurn, Obeys, Reports, resolved_turn, phase_replied, IsTextAfter}
+use Rattle.lmtp.specs.Talks.{phase_by, phase_of, item_by, TakesTurn, Obeys, Reports, resolved_turn, phase_replied, IsTextAfter}
 use Rattle.lmtp.specs.Texts.{StandsFor, text_after}
-use Rattle.lmtp.specs.Turns.{Turn, IsTurn, Answers, Resolves, Replies, replied, reply_to, taken_by, max_text}
+use Rattle.lmtp.specs.Turns.{Turn, IsTurn, Answers, Resolves, Replies, replied, taken_by, max_text}
 use Rattle.lmtp.specs.declared.line.Found.{Found}
 use Rattle.lmtp.specs.declared.line.Found.TheVariants.{Line}
 use Rattle.lmtp.specs.declared.receiver.Lookup.{Lookup}
@@ -14,7 +14,6 @@ use Rattle.lmtp.specs.declared.receiver.Receiver.{Receiver}
 use Rattle.lmtp.specs.declared.receiver.Stage.{Stage}
 use Rattle.lmtp.specs.declared.receiver.Stage.TheVariants as stage
 use Rattle.lmtp.specs.declared.reply.Outcome.{Outcome}
-use Rattle.lmtp.specs.declared.talk.Talk.{Talk}
 use Rattle.lmtp.specs.declared.text.Place.TheVariants.{Start, Ended}
 use Rattle.lmtp.specs.declared.text.Text.{Text}
 use Rattle.lmtp.proofs.NextLemmas.{SendsIn, sends_in, first_line_in, no_line_in, no_text_in, text_first, owed_in}
@@ -56,7 +55,7 @@ pub no_lines : (r : Receiver) (out : List ℕ) → reads_lines r.talk.stage ≡ 
 no_lines r out reads = λ d stands.
     stays (Answers r.talk.hello) r d out
     (λ octets later is. unread_line r.talk.stage r.talk.sender r.talk.recipients r.talk.told r.talk.hello is.item is.first.octets is.turn d.phase reads
-        (subst (λ p. Spells p is.item is.first.octets) stands.holds.phase is.first.spelled) is.takes)
+    (subst (λ p. Spells p is.item is.first.octets) stands.holds.phase is.first.spelled) is.takes)
     stands
 
 -- ---- a line is answered

@@ -1,15 +1,15 @@
 -- What comes first in a dialogue is one item, and what is answered stays so.
-use Rattle.std.proofs.Common.{◌≡◌, ℕ, ◌+◌, ◌<◌, ◌≤◌, List, [], ◌∷◌, ◌++◌, length, refl, sym, ap, ◌∙◌, subst, append_assoc, arith}
+use Rattle.std.proofs.Common.{◌≡◌, ℕ, List, [], ◌∷◌, ◌++◌, refl, sym, ap, ◌∙◌, subst, append_assoc, arith}
 use Rattle.std.proofs.lemmas.List.{append_cancel_right}
 use Rattle.lmtp.specs.Dialogues.{Phase, Greeted, Ready, Opened, Asking, Sending, Over, Dialogue, given, Item, Command, LongLine, Message, IsLineItem, IsTextItem, Spells, IsFirst, ItemsStand}
 use Rattle.lmtp.specs.Lines.{line_end, IsLine}
-use Rattle.lmtp.specs.Texts.{with_end, IsText, EndsAt, after, text_after}
+use Rattle.lmtp.specs.Texts.{with_end, EndsAt, after, text_after}
 use Rattle.lmtp.specs.Turns.{Answers, Resolves, Replies, replied, AnswersStand}
 use Rattle.lmtp.specs.declared.receiver.Lookup.{Lookup}
 use Rattle.lmtp.specs.declared.reply.Outcome.{Outcome}
 use Rattle.lmtp.specs.declared.text.Place.{Place}
-use Rattle.lmtp.specs.declared.text.Place.TheVariants.{Start, Ended}
-use Rattle.lmtp.proofs.TextLemmas.{line_rest, no_feed, same_first, same_others, not_none, none_longer, text_ends, text_same}
+use Rattle.lmtp.specs.declared.text.Place.TheVariants.{Start}
+use Rattle.lmtp.proofs.TextLemmas.{line_rest, no_feed, same_first, same_others, text_ends, text_same}
 
 -- ---- one line
 

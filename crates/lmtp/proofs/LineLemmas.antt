@@ -1,10 +1,10 @@
 -- Where a line ends, by a search for CRLF.
-use Rattle.std.proofs.Common.{◌≡◌, ℕ, zero, suc, ◌+◌, ◌<◌, ◌≤◌, List, [], ◌∷◌, ◌++◌, length, take, drop, get_or, Some, None, inl, inr, refl, sym, ap, ◌∙◌, subst, append_assoc, length-append, arith}
+use Rattle.std.proofs.Common.{◌≡◌, ℕ, zero, suc, ◌+◌, ◌<◌, ◌≤◌, List, [], ◌∷◌, ◌++◌, length, take, drop, get_or, inl, inr, refl, sym, ap, ◌∙◌, subst, append_assoc, length-append, arith}
 use Rattle.std.proofs.Math.Seq.{take-append_seam}
 use Rattle.std.proofs.lemmas.Bool.{cases_order}
 use Rattle.std.proofs.lemmas.List.{get_or-take, length-take, length-take-le, take-append-le, drop-append-le}
-use Rattle.memchr.specs.Find.{OccursAt, FindsNeedle, Nowhere, NoneBefore}
-use Rattle.lmtp.specs.Lines.{line_end, HasNoLineEnd, IsLine, IsFirstLine, Finds, LinesStand}
+use Rattle.memchr.specs.Find.{OccursAt, Nowhere}
+use Rattle.lmtp.specs.Lines.{line_end, HasNoLineEnd, IsFirstLine, Finds, LinesStand}
 use Rattle.lmtp.specs.declared.line.Found.{Found}
 use Rattle.lmtp.specs.declared.line.Found.TheVariants.{Need, Line, TooLong}
 

@@ -1,6 +1,6 @@
 -- The parts of an address, and the forms of a name.
-use Rattle.std.proofs.Common.{◌≡◌, ℕ, zero, suc, ◌+◌, ◌<◌, ◌≤◌, Bool, true, false, List, [], ◌∷◌, ◌++◌, length, take, drop, take-take, get_or, Some, None, inl, inr, refl, sym, ap, ◌∙◌, subst, append_assoc, append-nil, length-append, add-one, eq-eqb, arith}
-use Rattle.std.proofs.Math.Seq.{take-append_seam, drop-append_seam, drop-cons, take-length, drop-length}
+use Rattle.std.proofs.Common.{◌≡◌, ℕ, zero, suc, ◌+◌, ◌<◌, ◌≤◌, Bool, true, false, List, [], ◌∷◌, ◌++◌, length, take, drop, take-take, get_or, Some, None, inl, inr, refl, sym, ap, ◌∙◌, subst, append-nil, length-append, add-one, eq-eqb, arith}
+use Rattle.std.proofs.Math.Seq.{take-append_seam, drop-cons, take-length, drop-length}
 use Rattle.std.proofs.Math.ListN.{drop_of_length-le}
 use Rattle.std.proofs.lemmas.Bool.{cases_order}
 use Rattle.std.proofs.lemmas.List.{take-append-drop, length-take-le, append_cancel_left}
@@ -10,7 +10,7 @@ use Rattle.std.specs.List.{All, list_any}
 use Rattle.std.specs.Prelude.{◌⊎◌, ◌≢◌, ◌||◌, nat_eq}
 use Rattle.octets.specs.Ascii.{lowered}
 use Rattle.lmtp.specs.Names.{HasAt, Parts, EndsLocal, unquoted, with_form, forms_of, IsForm, AreApart, FormsStand}
-use Rattle.lmtp.specs.Paths.{Stands, IsAddress, StepsTo}
+use Rattle.lmtp.specs.Paths.{Stands, StepsTo}
 use Rattle.lmtp.specs.declared.path.Quoting.{Quoting}
 use Rattle.lmtp.specs.declared.path.Quoting.TheVariants.{Outside, Inside, Escaped}
 use Rattle.lmtp.proofs.PathLemmas.{take_next, behind, stands_none}
@@ -57,16 +57,23 @@ last_more text at count found quoting so_far (inl here) =
 last_more text at count found quoting so_far (inr other) =
     let not_here : AtPlace text at → ⊥ = λ is. other.0 (outside_there text at count quoting so_far is.1, is.0) in
     elim so_far.last [
-      | inl none ↦ inl (other.1 ∙ none.0, λ j less is. elim (cases_order j at) [
+      | inl none ↦ inl (
+        other.1 ∙ none.0,
+        λ j less is. elim (cases_order j at) [
           | inl same ↦ not_here (subst (AtPlace text) same is)
           | inr (inl below) ↦ none.1 j below is
           | inr (inr above) ↦ absurd (omega arith)
-        ])
-      | inr some ↦ inr (omega (arith, other.1, some.0), subst (AtPlace text) (sym other.1) some.1, λ j above less is. elim (cases_order j at) [
+        ],
+      )
+      | inr some ↦ inr (
+        omega (arith, other.1, some.0),
+        subst (AtPlace text) (sym other.1) some.1,
+        λ j above less is. elim (cases_order j at) [
           | inl same ↦ not_here (subst (AtPlace text) same is)
           | inr (inl below) ↦ some.2 j (omega (arith, other.1)) below is
           | inr (inr beyond) ↦ absurd (omega arith)
-        ])
+        ],
+      )
     ]
 
 pub found_within : (text : List ℕ) (at count found : ℕ) (quoting : Quoting) → count ≤ length text → at < length text → EndsLocal count at quoting (get_or text at 0) found → found ≤ length text
@@ -103,7 +110,7 @@ all_parts text count (inl none) = inl (
 all_parts text count (inr some) =
     let domain = drop (count + 1) text in
     let tail : drop count text ≡ 64 ∷ domain =
-        drop-cons text count 0 some.0 ∙ (ap (λ o. o ∷ drop (suc count) text) some.1.0 ∙ ap (λ n. 64 ∷ drop n text) (sym (add-one count))) in
+    drop-cons text count 0 some.0 ∙ (ap (λ o. o ∷ drop (suc count) text) some.1.0 ∙ ap (λ n. 64 ∷ drop n text) (sym (add-one count))) in
     let size : length (take count text) ≡ count = length-take-le count text (omega (arith, some.0)) in
     inr (
       domain,
@@ -136,22 +143,29 @@ parts_at_end text at count quoting so_far all = all_parts text count (elim so_fa
 pub parts_from : (text : List ℕ) (at count found : ℕ) (quoting : Quoting) → LocalSoFar text at count quoting → at < length text
     → EndsLocal count at quoting (get_or text at 0) found → StepsTo quoting (get_or text at 0) None → Parts text (take found text) (drop found text)
 parts_from text at count found quoting so_far less ends steps = all_parts text found (elim (last_more text at count found quoting so_far ends) [
-  | inl none ↦ inl (none.0, λ j below is. elim (cases_order j (at + 1)) [
-    | inl same ↦ beyond j (omega (arith, same)) is
-    | inr (inl before) ↦ none.1 j before is
-    | inr (inr after_it) ↦ beyond j (omega (arith, after_it)) is
-  ])
-  | inr some ↦ inr (omega (arith, some.0, less), some.1, λ j above below is. elim (cases_order j (at + 1)) [
-    | inl same ↦ beyond j (omega (arith, same)) is
-    | inr (inl before) ↦ some.2 j above before is
-    | inr (inr after_it) ↦ beyond j (omega (arith, after_it)) is
-  ])
+  | inl none ↦ inl (
+    none.0,
+    λ j below is. elim (cases_order j (at + 1)) [
+      | inl same ↦ beyond j (omega (arith, same)) is
+      | inr (inl before) ↦ none.1 j before is
+      | inr (inr after_it) ↦ beyond j (omega (arith, after_it)) is
+    ],
+  )
+  | inr some ↦ inr (
+    omega (arith, some.0, less),
+    some.1,
+    λ j above below is. elim (cases_order j (at + 1)) [
+      | inl same ↦ beyond j (omega (arith, same)) is
+      | inr (inl before) ↦ some.2 j above before is
+      | inr (inr after_it) ↦ beyond j (omega (arith, after_it)) is
+    ],
+  )
 ])
   where
     beyond : (j : ℕ) → at < j → AtPlace text j → ⊥
     beyond j above is =
         let cut : take j text ≡ take (at + 1) text ++ drop (at + 1) (take j text) =
-            sym (take-append-drop (at + 1) (take j text)) ∙ ap (λ t. t ++ drop (at + 1) (take j text)) (take-take (at + 1) j text (omega (arith, above))) in
+        sym (take-append-drop (at + 1) (take j text)) ∙ ap (λ t. t ++ drop (at + 1) (take j text)) (take-take (at + 1) j text (omega (arith, above))) in
         steps (drop (at + 1) (take j text)) (so_far.back (get_or text at 0 ∷ drop (at + 1) (take j text))
         (subst (Stands Outside) (cut ∙ take_next text at (drop (at + 1) (take j text)) less) is.1))
 
@@ -232,7 +246,7 @@ one_parts address a b x y (inr one) (inr two) =
     let size : length a ≡ length b = omega (arith, one.3 b two.0 two.2, two.3 a one.0 one.2) in
     let front : a ≡ b = sym (take-append_seam a (64 ∷ one.0)) ∙ (ap (λ n. take n (a ++ 64 ∷ one.0)) size ∙ (ap (take (length b)) (sym one.2.1 ∙ two.2.1) ∙ take-append_seam b (64 ∷ two.0))) in
     let back : 64 ∷ one.0 ≡ 64 ∷ two.0 =
-        append_cancel_left a (64 ∷ one.0) (64 ∷ two.0) (sym one.2.1 ∙ (two.2.1 ∙ ap (λ t. t ++ 64 ∷ two.0) (sym front))) in
+    append_cancel_left a (64 ∷ one.0) (64 ∷ two.0) (sym one.2.1 ∙ (two.2.1 ∙ ap (λ t. t ++ 64 ∷ two.0) (sym front))) in
     (front, one.1 ∙ (back ∙ sym two.1))
 
 pub forms_stand : FormsStand

@@ -1,19 +1,18 @@
 -- What comes next in the dialogue for which a receiver stands.
-use Rattle.std.proofs.Common.{◌≡◌, ℕ, zero, suc, ◌+◌, ◌-◌, ◌<◌, ◌≤◌, Bool, true, false, List, [], ◌∷◌, ◌++◌, length, take, drop, get_or, Some, None, Ok, Err, inl, inr, refl, sym, ap, ◌∙◌, subst, append_assoc, append-nil, length-append, arith}
+use Rattle.std.proofs.Common.{◌≡◌, ℕ, ◌+◌, ◌<◌, Bool, true, false, List, [], ◌∷◌, ◌++◌, length, take, drop, get_or, Ok, Err, inl, inr, refl, sym, ap, ◌∙◌, subst, append_assoc, append-nil, length-append, arith}
 use Rattle.std.proofs.lemmas.List.{length-take-le}
 use Rattle.std.specs.Borrow.{Bor}
 use Rattle.std.specs.Prelude.{Result}
-use Rattle.lmtp.specs.Dialogues.{Phase, Greeted, Ready, Opened, Asking, Sending, Over, Dialogue, Item, Command, LongLine, Message, IsLineItem, Spells, IsFirst, Waits}
-use Rattle.lmtp.specs.Lines.{line_end, HasNoLineEnd, IsLine, IsFirstLine, Finds, max_line}
-use Rattle.lmtp.specs.Receivers.{Agrees, JoinsNone, IsLineGone, IsGone, IsLineTaken, IsTaken, StandsIn, reads_lines, takes_lines, is_heard, is_line, IsKept, IsDelivery}
-use Rattle.lmtp.specs.Talks.{phase_by, phase_of, item_by}
-use Rattle.lmtp.specs.Texts.{with_end, RunsFrom, place_after, text_after, EndsAt, Keeps, StandsFor, IsText, IsTextOf, after}
+use Rattle.lmtp.specs.Dialogues.{Sending, Dialogue, Item, Command, LongLine, Message, IsLineItem, Spells, IsFirst, Waits}
+use Rattle.lmtp.specs.Lines.{line_end, HasNoLineEnd, IsLine, Finds}
+use Rattle.lmtp.specs.Receivers.{IsLineGone, IsGone, IsLineTaken, IsTaken, StandsIn, reads_lines, is_heard, is_line, IsKept, IsDelivery}
+use Rattle.lmtp.specs.Talks.{phase_by, item_by}
+use Rattle.lmtp.specs.Texts.{with_end, RunsFrom, place_after, text_after, EndsAt, Keeps, StandsFor, IsTextOf, after}
 use Rattle.lmtp.specs.Turns.{max_text}
 use Rattle.lmtp.specs.declared.line.Found.{Found}
 use Rattle.lmtp.specs.declared.line.Found.TheVariants.{Need, Line, TooLong}
 use Rattle.lmtp.specs.declared.receiver.Delivery.{Delivery}
 use Rattle.lmtp.specs.declared.receiver.Receiver.{Receiver}
-use Rattle.lmtp.specs.declared.receiver.Stage.{Stage}
 use Rattle.lmtp.specs.declared.receiver.Stage.TheVariants as stage
 use Rattle.lmtp.specs.declared.text.Place.{Place}
 use Rattle.lmtp.specs.declared.text.Place.TheVariants.{Start, Ended}
@@ -24,7 +23,7 @@ use Rattle.lmtp.proofs.DialogueLemmas.{one_line}
 use Rattle.lmtp.proofs.FeedLemmas.{is_text}
 use Rattle.lmtp.proofs.SkipLemmas.{agrees_itself}
 use Rattle.lmtp.proofs.StageLemmas.{reads_taken, line_gone, line_taken, spells_line, line_spelled, heard_line, owed_first}
-use Rattle.lmtp.proofs.TextLemmas.{no_end_none, no_end_one, text_ends}
+use Rattle.lmtp.proofs.TextLemmas.{no_end_one, text_ends}
 
 -- ---- a line
 
@@ -130,7 +129,7 @@ heard_in r d reads stands = subst (λ p. is_heard p ≡ true) (sym stands.holds.
 -- ---- a text
 
 -- where octets run up to their end, none of their fronts ends a text but all of them
-runs_out : (from : Place) (sent rest : List ℕ) → RunsFrom from (sent ++ rest) → EndsAt from sent → place_after from (sent ++ rest) ≡ Ended
+pub runs_out : (from : Place) (sent rest : List ℕ) → RunsFrom from (sent ++ rest) → EndsAt from sent → place_after from (sent ++ rest) ≡ Ended
 runs_out from [] [] runs ends = ends
 runs_out from [] (octet ∷ rest) runs ends = absurd (runs.0 ends)
 runs_out from (octet ∷ sent) rest runs ends = runs_out (after from octet) sent rest runs.1 ends.1

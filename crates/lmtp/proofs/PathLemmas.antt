@@ -1,10 +1,10 @@
 -- An address, octet by octet.
-use Rattle.std.proofs.Common.{◌≡◌, ℕ, zero, suc, ◌+◌, ◌<◌, ◌≤◌, List, [], ◌∷◌, ◌++◌, length, take, drop, get_or, Some, None, inl, inr, refl, sym, ap, ◌∙◌, subst, append_assoc, append-nil, length-append, arith}
+use Rattle.std.proofs.Common.{◌≡◌, ℕ, zero, suc, ◌+◌, ◌<◌, ◌≤◌, List, [], ◌∷◌, ◌++◌, length, take, drop, get_or, Some, None, inl, inr, refl, sym, ap, ◌∙◌, subst, append-nil, length-append, arith}
 use Rattle.std.proofs.Math.ListN.{get_or-append}
 use Rattle.std.proofs.Math.Seq.{take-append_seam}
 use Rattle.std.proofs.lemmas.Bool.{cases_order}
-use Rattle.std.proofs.lemmas.List.{take-append-drop, take-append-le, drop-append-le}
-use Rattle.lmtp.specs.Paths.{Stands, IsAddress, EndsAddress, StepsTo}
+use Rattle.std.proofs.lemmas.List.{take-append-drop, take-append-le}
+use Rattle.lmtp.specs.Paths.{Stands, EndsAddress, StepsTo}
 use Rattle.lmtp.specs.declared.path.Quoting.{Quoting}
 use Rattle.lmtp.specs.declared.path.Quoting.TheVariants.{Outside, Inside, Escaped}
 

@@ -1,28 +1,24 @@
 -- For which dialogue a receiver stands after a call.
-use Rattle.std.proofs.Common.{◌≡◌, ℕ, zero, suc, ◌+◌, ◌-◌, ◌<◌, ◌≤◌, Bool, true, false, List, [], ◌∷◌, ◌++◌, length, take, drop, Some, None, Ok, Err, inl, inr, refl, sym, ap, ◌∙◌, subst, append_assoc, append-nil, length-append, add-one, arith}
+use Rattle.std.proofs.Common.{◌≡◌, ℕ, suc, ◌+◌, ◌-◌, ◌<◌, ◌≤◌, Bool, true, false, List, [], ◌∷◌, ◌++◌, length, take, drop, inl, inr, refl, sym, ap, ◌∙◌, subst, append_assoc, append-nil, length-append, arith}
 use Rattle.std.proofs.Math.Seq.{drop-length}
 use Rattle.std.proofs.lemmas.Bool.{cases_order}
 use Rattle.std.proofs.lemmas.List.{take-append-drop, length-take-le, append_cancel_left}
 use Rattle.std.specs.Prelude.{◌⊎◌}
-use Rattle.lmtp.specs.Dialogues.{Phase, Greeted, Ready, Opened, Asking, Sending, Over, Dialogue, given, Item, Command, LongLine, Message, IsLineItem, IsTextItem, Spells, IsFirst, Waits}
-use Rattle.lmtp.specs.Lines.{line_end, HasNoLineEnd, IsLine, IsFirstLine, Finds, Skips, max_line}
-use Rattle.lmtp.specs.Receivers.{Agrees, JoinsNone, IsLineGone, IsGone, HasHeard, Holds, IsLineTaken, IsTaken, StandsIn, Hears, TakesIn, Happens, GoesFrom, Goes, reads_lines, takes_lines, is_heard, is_line, IsKept, IsDelivery}
-use Rattle.lmtp.specs.Talks.{phase_by, phase_of, IsSound, item_by, TakesTurn, Obeys}
-use Rattle.lmtp.specs.Texts.{with_end, RunsFrom, place_after, text_after, EndsAt, StandsFor, Feeds, IsText, after}
-use Rattle.lmtp.specs.Turns.{Turn, IsTurn, Answers, Resolves, Replies, replied, max_text}
-use Rattle.lmtp.specs.declared.line.Found.{Found}
-use Rattle.lmtp.specs.declared.line.Found.TheVariants.{Need, Line, TooLong}
+use Rattle.lmtp.specs.Dialogues.{Dialogue, given}
+use Rattle.lmtp.specs.Lines.{line_end, HasNoLineEnd, IsFirstLine, Finds, Skips}
+use Rattle.lmtp.specs.Receivers.{JoinsNone, IsLineGone, IsGone, Holds, IsLineTaken, StandsIn, TakesIn, takes_lines}
+use Rattle.lmtp.specs.Talks.{phase_of}
+use Rattle.lmtp.specs.Texts.{Feeds}
+use Rattle.lmtp.specs.declared.line.Found.TheVariants.{TooLong}
 use Rattle.lmtp.specs.declared.receiver.Receiver.{Receiver}
 use Rattle.lmtp.specs.declared.receiver.Stage.{Stage}
 use Rattle.lmtp.specs.declared.receiver.Stage.TheVariants as stage
-use Rattle.lmtp.specs.declared.talk.Talk.{Talk}
-use Rattle.lmtp.specs.declared.text.Place.{Place}
-use Rattle.lmtp.specs.declared.text.Place.TheVariants.{Start, Ended}
+use Rattle.lmtp.specs.declared.text.Place.TheVariants.{Ended}
 use Rattle.lmtp.specs.declared.text.Text.{Text}
 use Rattle.lmtp.proofs.LineLemmas.{too_long}
-use Rattle.lmtp.proofs.SkipLemmas.{agrees_itself, joins_more, joins_nothing, joins_both, joins_last, joins_line}
-use Rattle.lmtp.proofs.StageLemmas.{reads_taken, line_gone, gone_line, line_taken, taken_line, spells_line, line_spelled, heard_line, fresh_text, sound_fresh, gone_none}
-use Rattle.lmtp.proofs.TextLemmas.{not_none, no_end_one}
+use Rattle.lmtp.proofs.SkipLemmas.{joins_more, joins_both, joins_last, joins_line}
+use Rattle.lmtp.proofs.StageLemmas.{line_gone, gone_line, taken_line}
+use Rattle.lmtp.proofs.TextLemmas.{not_none}
 
 -- ---- octets come
 
@@ -126,7 +122,7 @@ cuts_end : (count : ℕ) (unread : List ℕ) → IsFirstLine unread (take count 
 cuts_end count unread is =
     let rest = drop (count + 2) unread in
     let behind : drop count unread ≡ line_end ++ rest =
-        append_cancel_left (take count unread) (drop count unread) (line_end ++ rest) (take-append-drop count unread ∙ is.written) in
+    append_cancel_left (take count unread) (drop count unread) (line_end ++ rest) (take-append-drop count unread ∙ is.written) in
     record {
       joins = rw behind (joins_line (take count unread) rest is.whole);
       some = rw behind (not_none 13 (10 ∷ rest));

@@ -1,12 +1,11 @@
 -- What is answered in one line.
-use Rattle.std.proofs.Common.{◌≡◌, ℕ, ◌+◌, ◌≤◌, ◌&&◌, Bool, true, false, if◌then◌else◌, List, [], ◌∷◌, ◌++◌, codes, length, map, take, refl, sym, ap, ◌∙◌, append_assoc, length-append, lit≤, arith}
+use Rattle.std.proofs.Common.{◌≡◌, ℕ, ◌≤◌, Bool, true, false, List, [], ◌∷◌, ◌++◌, codes, length, map, take, refl, sym, ◌∙◌, append_assoc, length-append, lit≤, arith}
 use Rattle.std.proofs.lemmas.List.{length-take, length-map}
 use Rattle.std.proofs.lemmas.List.Folds.{list_all-append}
 use Rattle.std.specs.List.{list_all}
 use Rattle.octets.specs.Ascii.{is_printable}
 use Rattle.lmtp.specs.Lines.{line_end}
-use Rattle.lmtp.specs.Replies.{line_of, shown_octet, shown, delivered, said_of, IsOneLine, RepliesAreLines}
-use Rattle.lmtp.specs.declared.reply.Outcome.{Outcome}
+use Rattle.lmtp.specs.Replies.{line_of, shown_octet, shown, delivered, IsOneLine, RepliesAreLines}
 use Rattle.lmtp.specs.declared.reply.Outcome.TheVariants.{Delivered, Refused}
 use Rattle.lmtp.specs.declared.reply.Reply.{Reply}
 use Rattle.lmtp.specs.declared.reply.Reply.TheVariants.{Done, SenderTaken, RecipientTaken, Unverified, GoAhead, Helped, Goodbye, UnknownCommand, NotSmtp, LineTooLong, BadArgument, BadSender, BadRecipient, OutOfOrder, NoRecipient, BadParameter, NoSuchUser, MessageTooLarge, MailLoop, NoRoom, TooManyRecipients, StoreAway, LocalFault, Idle}

@@ -1,12 +1,8 @@
 -- A line that is too long, of which only the end is held.
-use Rattle.std.proofs.Common.{◌≡◌, ℕ, ◌+◌, ◌-◌, ◌<◌, ◌≤◌, List, [], ◌∷◌, ◌++◌, length, take, drop, inl, inr, refl, sym, ap, ◌∙◌, subst, append_assoc, append-nil, length-append, arith}
-use Rattle.std.proofs.lemmas.List.{take-append-drop, length-take-le, length-drop}
-use Rattle.std.specs.Prelude.{◌⊎◌}
-use Rattle.lmtp.specs.Lines.{line_end, HasNoLineEnd, IsLine, IsFirstLine, Finds, Skips, max_line}
-use Rattle.lmtp.specs.declared.line.Found.TheVariants.{Line, TooLong}
+use Rattle.std.proofs.Common.{◌≡◌, ℕ, List, [], ◌∷◌, ◌++◌, inl, inr, refl, sym, ap, ◌∙◌, subst, append_assoc, append-nil}
+use Rattle.lmtp.specs.Lines.{line_end, HasNoLineEnd, IsLine}
 use Rattle.lmtp.specs.Receivers.{Agrees, JoinsNone}
-use Rattle.lmtp.proofs.LineLemmas.{too_long}
-use Rattle.lmtp.proofs.TextLemmas.{same_first, same_others, not_none, none_longer, no_end_none, no_end_one}
+use Rattle.lmtp.proofs.TextLemmas.{same_first, same_others, not_none, none_longer}
 
 -- ---- streams that begin so
 
@@ -72,6 +68,7 @@ joins_last front octet none x agrees = λ absent. joins_at front octet none x ag
   where
     front_has_none : (front more : List ℕ) → HasNoLineEnd (front ++ more) → HasNoLineEnd front
     front_has_none front more none = λ f b same. none f (b ++ more) (ap (λ t. t ++ more) same ∙ append_assoc f (line_end ++ b) more)
+
     joins_at : (front : List ℕ) (octet : ℕ) → HasNoLineEnd (front ++ octet ∷ []) → (x : List ℕ) → Agrees (octet ∷ []) x → HasNoLineEnd x → HasNoLineEnd (front ++ x)
     joins_at front octet none [] agrees absent = subst HasNoLineEnd (sym (append-nil front)) (front_has_none front (octet ∷ []) none)
     joins_at front octet none (o ∷ x) (inl longer) absent =

@@ -1,6 +1,6 @@
 -- What goes on, by what is held.
-use Rattle.std.proofs.Common.{◌≡◌, ℕ, suc, zero, ◌+◌, ◌-◌, ◌<◌, Bool, true, false, List, [], ◌∷◌, ◌++◌, length, drop, take, get_or, refl, sym, ap, ◌∙◌, subst, add-one, arith}
-use Rattle.lmtp.specs.Dialogues.{Phase, Greeted, Ready, Opened, Asking, Sending, Over, Item, Command, LongLine, Message, IsLineItem, IsTextItem, Spells}
+use Rattle.std.proofs.Common.{◌≡◌, ℕ, suc, zero, ◌+◌, ◌<◌, Bool, true, false, List, [], ◌∷◌, length, drop, get_or, refl, sym, ap, ◌∙◌, add-one, arith}
+use Rattle.lmtp.specs.Dialogues.{Phase, Greeted, Ready, Opened, Asking, Sending, Over, Item, IsLineItem, Spells}
 use Rattle.lmtp.specs.Receivers.{IsLineGone, IsGone, IsLineTaken, IsTaken, reads_lines, takes_lines, is_heard}
 use Rattle.lmtp.specs.Talks.{phase_by, IsSoundAt}
 use Rattle.lmtp.specs.Texts.{StandsFor}

@@ -1,6 +1,6 @@
 -- Recipients for whom a reply is owed.
-use Rattle.std.proofs.Common.{◌≡◌, ℕ, zero, suc, ◌+◌, ◌<◌, List, [], ◌∷◌, length, drop, refl, sym, ap, ◌∙◌, subst, add-one, arith}
-use Rattle.lmtp.specs.Dialogues.{Phase, Ready, Sending}
+use Rattle.std.proofs.Common.{◌≡◌, ℕ, zero, suc, ◌+◌, ◌<◌, List, [], ◌∷◌, length, drop, refl, add-one, arith}
+use Rattle.lmtp.specs.Dialogues.{Ready, Sending}
 use Rattle.lmtp.specs.Talks.{phase_replied}
 
 next_by : (sender : List ℕ) (recipients : List (List ℕ)) (told : ℕ) → suc told < length recipients

@@ -26,11 +26,11 @@ record Leads (from : Place) (line gains rest : List ℕ) : Type 0 where
   ends : EndsAt Start rest → EndsAt from (line ++ (line_end ++ rest))
 
 -- the text has not ended at a place
-abbrev is_open : Place → Bool
+abbrev pub is_open : Place → Bool
 is_open Ended = false
 is_open place = true
 
-open_apart : (place : Place) → is_open place ≡ true → place ≡ Ended → ⊥
+pub open_apart : (place : Place) → is_open place ≡ true → place ≡ Ended → ⊥
 open_apart place is same = absurd (cc (sym is ∙ ap is_open same))
 
 -- a line's end leads to the next line's front
@@ -244,7 +244,7 @@ at_end (first ∷ text) (next ∷ front) back octet same none =
     }
 
 -- a text has no CRLF with an octet more that is no LF, nor behind an octet that is no CR
-apart : (octet wanted : ℕ) → (octet == wanted) ≡ false → octet ≡ wanted → ⊥
+pub apart : (octet wanted : ℕ) → (octet == wanted) ≡ false → octet ≡ wanted → ⊥
 apart octet wanted other same = grind (arith, other, same)
 
 no_end_more : (text : List ℕ) (octet : ℕ) → (octet == 10) ≡ false → HasNoLineEnd text → HasNoLineEnd (text ++ octet ∷ [])

@@ -1,5 +1,5 @@
 -- The names under which the account of a recipient is looked for.
-use Rattle.std.specs.Prelude.{◌≡◌, ◌≢◌, ◌⊎◌, ℕ, ◌==◌, ◌≤◌, Bool, cond, not, if◌then◌else◌, nat_eq, List, [], ◌∷◌, ◌++◌, length, take}
+use Rattle.std.specs.Prelude.{◌≡◌, ◌≢◌, ◌⊎◌, ℕ, ◌==◌, ◌≤◌, cond, not, if◌then◌else◌, nat_eq, List, [], ◌∷◌, ◌++◌, length, take}
 use Rattle.std.specs.Cmp.Lexicographic.{pointwise}
 use Rattle.std.specs.List.{All, list_any, prefix_len}
 use Rattle.octets.specs.Ascii.{lowered}

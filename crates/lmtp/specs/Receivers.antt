@@ -1,7 +1,7 @@
 -- For which dialogue a receiver stands, and what its calls make of that.
-use Rattle.std.specs.Prelude.{◌≡◌, ◌≢◌, ◌⊎◌, ℕ, ◌+◌, ◌<◌, Bool, true, false, List, [], ◌∷◌, ◌++◌, length, Option, Some, None, Result, Ok, Err}
+use Rattle.std.specs.Prelude.{◌≡◌, ◌≢◌, ◌⊎◌, ℕ, ◌+◌, ◌<◌, Bool, true, false, List, [], ◌∷◌, ◌++◌, length, Result, Ok, Err}
 use Rattle.std.specs.Borrow.{Bor}
-use Rattle.lmtp.specs.Dialogues.{Phase, Greeted, Ready, Opened, Asking, Sending, Over, Dialogue, given, Item, Command, LongLine, Message, IsFirst, Waits}
+use Rattle.lmtp.specs.Dialogues.{Phase, Asking, Sending, Over, Dialogue, given, Item, Message, IsFirst, Waits}
 use Rattle.lmtp.specs.Lines.{line_end, HasNoLineEnd, max_line, Finds}
 use Rattle.lmtp.specs.Talks.{phase_of, IsSound}
 use Rattle.lmtp.specs.Texts.{StandsFor}

@@ -1,5 +1,5 @@
 -- What goes on in a dialogue, as the code holds it.
-use Rattle.std.specs.Prelude.{◌≡◌, ◌≢◌, ℕ, ◌+◌, ◌-◌, ◌<◌, Bool, true, false, List, [], ◌∷◌, ◌++◌, length, take, drop, slice_index_or}
+use Rattle.std.specs.Prelude.{◌≡◌, ℕ, ◌-◌, Bool, true, false, List, [], ◌∷◌, ◌++◌, length, take, drop, slice_index_or}
 use Rattle.lmtp.specs.Dialogues.{Phase, Greeted, Ready, Opened, Asking, Sending, Over, Item, Command, LongLine}
 use Rattle.lmtp.specs.Texts.{StandsFor}
 use Rattle.lmtp.specs.Turns.{Turn, says, IsTurn, reply_to, taken_by, max_text}

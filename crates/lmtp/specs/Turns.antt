@@ -1,5 +1,5 @@
 -- What is answered in a dialogue, and how it goes on: the table of docs/LMTP.md.
-use Rattle.std.specs.Prelude.{◌≡◌, ◌⊎◌, ℕ, nat_le, nat_lt, Bool, false, if◌then◌else◌, List, [], ◌∷◌, ◌++◌, length, Option, Some, None}
+use Rattle.std.specs.Prelude.{◌≡◌, ℕ, nat_le, nat_lt, Bool, false, if◌then◌else◌, List, [], ◌∷◌, ◌++◌, length, Option, Some, None}
 use Rattle.lmtp.specs.Dialogues.{Phase, Greeted, Ready, Opened, Asking, Sending, Over, Dialogue, given, Item, Command, LongLine, Message, IsFirst}
 use Rattle.lmtp.specs.Orders.{ReadsOrder}
 use Rattle.lmtp.specs.Replies.{line_of, said_of}

@@ -196,7 +196,8 @@ impl Receiver {
         let Found::Line(count) = first_line(self.unread.as_slice()) else {
             return Ok(());
         };
-        self.talk.obey_line(self.long, &self.unread.as_slice()[..count], out)?;
+        self.talk
+            .obey_line(self.long, &self.unread.as_slice()[..count], out)?;
         self.unread.drop_front(count + 2);
         self.long = false;
         self.take_in();

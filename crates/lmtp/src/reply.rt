@@ -12,7 +12,8 @@ const MAX_HOST: usize = 255;
 const MAX_REPORT: usize = 500;
 
 /// What LHLO is answered behind the host's name.
-const ANNOUNCED: &[u8] = b"\r\n250-PIPELINING\r\n250-SIZE 33552232\r\n250-8BITMIME\r\n250-SMTPUTF8\r\n250 ENHANCEDSTATUSCODES\r\n";
+const ANNOUNCED: &[u8] =
+    b"\r\n250-PIPELINING\r\n250-SIZE 33552232\r\n250-8BITMIME\r\n250-SMTPUTF8\r\n250 ENHANCEDSTATUSCODES\r\n";
 
 /// An answer of one line (RFC 5321, section 4.2).
 #[derive(Clone, Copy, Debug, PartialEq, Eq)]
@@ -165,7 +166,11 @@ fn shown(alloc: Global, most: usize, text: &[u8]) -> Result<Octets, AllocError>
 fn front(text: &[u8], most: usize) -> &[u8]
     ensures { result.now ≡ take most text.now }
 {
-    if text.len() <= most { text } else { &text[..most] }
+    if text.len() <= most {
+        text
+    } else {
+        &text[..most]
+    }
 }
 
 fn printable(alloc: Global, text: &[u8]) -> Result<Octets, AllocError>

@@ -143,7 +143,10 @@ impl Talk {
         ensures err { OnErr result (s.IsSame self.old self.new out.old out.new) }
     {
         match self.stage {
-            Stage::Opened if self.recipients.len() >= MAX_RECIPIENTS => self.say(Reply::TooManyRecipients, out),
+            Stage::Opened if self.recipients.len() >= MAX_RECIPIENTS => self.say(
+                Reply::TooManyRecipients,
+                out,
+            ),
             Stage::Opened => self.wait_for(address),
             _ => self.say(Reply::OutOfOrder, out),
         }

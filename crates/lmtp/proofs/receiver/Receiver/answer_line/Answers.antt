@@ -1,7 +1,6 @@
-use Rattle.std.proofs.Common.{◌≡◌, ℕ, ◌+◌, ◌-◌, List, take, drop, false, refl, ap, ◌∙◌, subst}
+use Rattle.std.proofs.Common.{take, false, refl, subst}
 use Rattle.lmtp.specs.Lines.{Finds}
 use Rattle.lmtp.specs.Talks.{item_by, TakesTurn}
-use Rattle.lmtp.specs.declared.line.Found.TheVariants.{Line}
 use Rattle.lmtp.specs.declared.receiver.Receiver.{Receiver}
 use Rattle.lmtp.proofs.AnswerLemmas.{no_line, line_goes}
 use Rattle.lmtp.proofs.receiver.Receiver.answer_line.Goals as goal

@@ -1,4 +1,4 @@
-use Rattle.std.proofs.Common.{◌≡◌, List, ℕ, ap, ◌∙◌, length, take, refl, subst}
+use Rattle.std.proofs.Common.{List, ℕ, ap, ◌∙◌, length, take, refl, subst}
 use Rattle.lmtp.specs.Texts.{Feeds}
 use Rattle.lmtp.proofs.ReceiverLemmas.{takes_text}
 use Rattle.lmtp.proofs.receiver.Receiver.feed_text.Goals as goal

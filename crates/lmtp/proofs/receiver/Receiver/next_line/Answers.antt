@@ -1,6 +1,5 @@
-use Rattle.std.proofs.Common.{◌≡◌, ℕ, ◌+◌, List, take, drop, subst}
+use Rattle.std.proofs.Common.{◌+◌, take, drop, subst}
 use Rattle.lmtp.specs.Lines.{Finds}
-use Rattle.lmtp.specs.declared.line.Found.TheVariants.{Line}
 use Rattle.lmtp.specs.Talks.{item_by}
 use Rattle.lmtp.proofs.NextLemmas.{first_line_in, is_line_by, no_line_in, heard_in}
 use Rattle.lmtp.proofs.receiver.Receiver.next_line.Goals as goal

@@ -1,4 +1,4 @@
-use Rattle.std.proofs.Common.{◌≡◌, List, ℕ, false, sym, ◌∙◌, subst}
+use Rattle.std.proofs.Common.{sym, ◌∙◌, subst}
 use Rattle.lmtp.specs.Lines.{Finds}
 use Rattle.lmtp.specs.declared.line.Found.TheVariants.{TooLong}
 use Rattle.lmtp.proofs.ReceiverLemmas.{takes_line}

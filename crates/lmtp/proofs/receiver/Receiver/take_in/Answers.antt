@@ -1,4 +1,4 @@
-use Rattle.std.proofs.Common.{refl, rules, ap, drop, ◌∙◌, List, ℕ}
+use Rattle.std.proofs.Common.{refl, ap, drop, ◌∙◌}
 use Rattle.std.proofs.Math.Seq.{drop-length}
 use Rattle.lmtp.proofs.ReceiverLemmas.{takes_over}
 use Rattle.lmtp.proofs.receiver.Receiver.take_in.Goals as goal

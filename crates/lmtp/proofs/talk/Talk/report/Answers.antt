@@ -1,4 +1,4 @@
-use Rattle.std.proofs.Common.{◌≡◌, ◌+◌, ◌<◌, ◌≤◌, length, refl, rules, arith}
+use Rattle.std.proofs.Common.{◌≡◌, ◌+◌, length, refl, rules, arith}
 use Rattle.lmtp.proofs.TalkLemmas.{next_owed, none_owed}
 use Rattle.lmtp.proofs.talk.Talk.report.Goals as goal
 use Rattle.lmtp.proofs.talk.Talk.report.Goals.{then-told-count, else-told-count}
@@ -8,12 +8,12 @@ returns-clause-ok c =
     let t = c.args.self.now in
     elim c.if-told-count.branch [
       | then-told-count w ↦ rw w.self-is (record {
-          written = search rules;
-          phase = rw c.requires.sends (next_owed t.sender t.recipients t.told (omega arith));
-          hello = refl;
-          text = rw c.requires.sends refl;
-          limit = λ same. same;
-        })
+        written = search rules;
+        phase = rw c.requires.sends (next_owed t.sender t.recipients t.told (omega arith));
+        hello = refl;
+        text = rw c.requires.sends refl;
+        limit = λ same. same;
+      })
       | else-told-count w ↦
           let same : t.told + 1 ≡ length t.recipients = omega arith in
           rw w.self-is (record {
