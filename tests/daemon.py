@@ -17,6 +17,8 @@ from managesieve import HERE, SIEVED, Gone, Store, connect, end
 CASES = f"{HERE}/../crates/cases/data"
 PROGRAM = [SIEVED]
 TRYLATER = b"NO (TRYLATER)"
+# Who has an account in the conversations of the cases.
+TALKERS = "alice", "bob", "carol", "cutter", "erin"
 
 
 def new_store(*users):
@@ -79,25 +81,26 @@ def examples():
     texts = [octets_of([column for column in row if column][2]) for row in rows if row[0] in ("greet", "talk")]
     cuts = re.findall(r"^== cut\n(.*?)\n(?=== )", open(f"{CASES}/sessions.cases", encoding="utf-8").read(), re.M | re.S)
     texts += [cut.replace("\n", "\r\n").encode() for cut in cuts]
-    store, other = new_store("alice", "cutter"), new_store("alice", "cutter")
+    store, other = new_store(*TALKERS), new_store(*TALKERS)
+    wanted = [subprocess.run(other.words("session"), input=text, capture_output=True).stdout for text in texts]
     server, port = store.daemon()
-    asked = 0
-    for text in texts:
-        ours = said(port, [text] if text else [])
-        theirs = subprocess.run(other.words("session"), input=text, capture_output=True).stdout
-        assert ours == theirs, (text[:200], ours[-300:], theirs[-300:])
-        asked += len(ours)
+    slow = [number for number, theirs in enumerate(wanted) if b"Authentication failed." in theirs]
+    got = [None if number in slow else said(port, [text]) for number, text in enumerate(texts)]
+    for number, ours in zip(slow, each(len(slow), lambda at: said(port, [texts[slow[at]]]))):
+        got[number] = ours
     end(server)
+    for text, ours, theirs in zip(texts, got, wanted):
+        assert ours == theirs, (text[:200], ours[-300:], theirs[-300:])
     shown = [show(each) for each in (store, other)]
     assert shown[0] == shown[1], shown
-    return f"{len(texts)} conversations of the cases: {asked} octets of answers as over `session`, and the same scripts afterwards"
+    return f"{len(texts)} conversations of the cases: {sum(map(len, got))} octets of answers as over `session`, and the same scripts afterwards"
 
 
 def show(store):
     """Each user's scripts."""
     process, client = store.session()
     found = []
-    for user in "alice", "cutter":
+    for user in TALKERS:
         client.log_in(user)
         names = [line for line in client.ask(b"LISTSCRIPTS") if line.startswith(b'"')]
         found += [(user, name, client.get(name.split(b'"')[1])) for name in names]
