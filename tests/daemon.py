@@ -266,40 +266,52 @@ def guesses():
 
 
 def waits():
-    """Words with `--wait` come to the store beside a daemon under load."""
+    """Words with `--wait` come to the store beside a daemon under load, and its clients do too, each in its turn."""
     store = new_store(*[f"u{number}" for number in range(20)])
+    alone = words_timed(store, trials.some(100), "before")
     server, port = store.daemon()
     over = threading.Event()
 
     def load(number):
         client = logged_in(port, f"u{number}")
         text = b"".join(b"# %d\r\n" % line for line in range(1_000)) + b"keep;\r\n"
-        count = 0
+        counts = {b"OK": 0, TRYLATER: 0}
         while not over.is_set():
-            assert client.put(b"mine", text).startswith(b"OK")
-            count += 1
-        return count
+            told = client.put(b"mine", text)
+            counts[next(word for word in counts if told.startswith(word))] += 1
+        return counts
     results = []
     loads = threading.Thread(target=lambda: results.extend(each(20, load)))
     loads.start()
     time.sleep(1)
-    times = {"adduser": [], "deliver": []}
-    for turn in range(trials.some(100)):
-        for word in times:
-            began = time.time()
-            if word == "adduser":
-                store.run("adduser", "--wait", "--salt", os.urandom(16).hex(), f"new{turn}", "a@example.org", data=b"secret\n")
-            else:
-                told = store.run("deliver", "--wait", "--to", "u0@example.org", "u0", data=b"Subject: x\r\n\r\nx\r\n")
-                assert told == b"file INBOX\n", told
-            times[word].append(time.time() - began)
-            time.sleep(0.05)
+    beside = words_timed(store, trials.some(100), "beside")
     over.set()
     loads.join()
     end(server)
-    assert all(type(result) is int for result in results), results
-    figures = "; ".join(f"{word} {1000 * sorted(each)[len(each) // 2]:.0f} ms, at most {1000 * max(each):.0f}" for word, each in times.items())
-    return f"beside 20 clients that put {sum(results)} scripts, {trials.some(100)} times each: {figures}"
+    done, put_off = ([result[word] for result in results] for word in (b"OK", TRYLATER))
+    assert min(done) * 4 > max(done), (done, put_off)
+    assert max(max(times) for times in beside) < 2, beside
+    figures = "; ".join(f"{word} {middle(beside[at])} ms, at most {1000 * max(beside[at]):.0f} (alone {middle(alone[at])})" for at, word in enumerate(("adduser", "deliver")))
+    return f"beside 20 clients that put {sum(done)} scripts and are put off {sum(put_off)} times, {trials.some(100)} times each: {figures}"
+
+
+def words_timed(store, count, name):
+    """How long `adduser --wait` and `deliver --wait` take, some times each."""
+    times = [], []
+    for turn in range(count):
+        began = time.time()
+        store.run("adduser", "--wait", "--salt", os.urandom(16).hex(), f"{name}{turn}", "a@example.org", data=b"secret\n")
+        between = time.time()
+        told = store.run("deliver", "--wait", "--to", "u0@example.org", "u0", data=b"Subject: x\r\n\r\nx\r\n")
+        times[0].append(between - began)
+        times[1].append(time.time() - between)
+        assert told == b"file INBOX\n", told
+        time.sleep(0.05)
+    return times
+
+
+def middle(times):
+    return f"{1000 * sorted(times)[len(times) // 2]:.0f}"
 
 
 def away():

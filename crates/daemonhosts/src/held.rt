@@ -1,8 +1,7 @@
 //! A store, where it is had, and its keeper.
 ghost use Rattle.std.specs.Prelude.{◌≡◌, None, IsTrue, IfSome, OnOk, is_some};
 ghost use Rattle.mailengine.specs.Hosts.{IsGivenUp};
-ghost use Rattle.sieveddaemon.specs.Desk.{StillShows};
-ghost use Rattle.daemonhosts.specs.Held.{Shows, IsClean, Changes};
+ghost use Rattle.daemonhosts.specs.Held.{IsClean, StillShown, Brings};
 
 use keepers::{Keeper, Unavailable};
 use mailengine::{Answer, Clients, Event, Refusal, apply};
@@ -43,8 +42,7 @@ impl<K: Keeper + Drop> HeldStore<K> {
 
     /// Whether somebody waits for the store.
     pub fn is_awaited(&mut self, path: &str) -> bool
-        ensures shown { StillShows (Shows K.S.Store K.tells K.holds) self.old self.new }
-        ensures clean { IsClean K.S.Store K.tells self.new → IsClean K.S.Store K.tells self.old }
+        ensures shown { StillShown K.S.Store K.tells K.holds self.old self.new }
     {
         self.keeper.is_awaited(path)
     }
@@ -55,7 +53,7 @@ impl<K: Keeper + Drop> HeldStore<K> {
     ///
     /// Those of [`Keeper::take`].
     pub fn take(&mut self, path: &str) -> Result<(), Unavailable>
-        ensures shown { StillShows (Shows K.S.Store K.tells K.holds) self.old self.new }
+        ensures shown { StillShown K.S.Store K.tells K.holds self.old self.new }
     {
         if self.store.is_some() {
             return Ok(());
@@ -67,7 +65,7 @@ impl<K: Keeper + Drop> HeldStore<K> {
 
     /// Gives the store back, where it is had. Why it couldn't be closed, if it couldn't: what was committed stays.
     pub fn give_back(&mut self) -> Option<Refusal>
-        ensures shown { IsClean K.S.Store K.tells self.new → StillShows (Shows K.S.Store K.tells K.holds) self.old self.new }
+        ensures shown { IsClean K.S.Store K.tells self.new → StillShown K.S.Store K.tells K.holds self.old self.new }
     {
         match self.store.take() {
             Some(store) => {
@@ -81,7 +79,7 @@ impl<K: Keeper + Drop> HeldStore<K> {
     /// Brings an event to the store and the sessions, and answers it; none where the store isn't had.
     pub fn change(&mut self, clients: &mut Clients, event: &Event) -> Option<Answer>
         requires { ¬ IsGivenUp event.now }
-        ensures { Changes (Shows K.S.Store K.tells K.holds) (IsClean K.S.Store K.tells) event.now result self.old clients.old.sessions self.new clients.new.sessions }
+        ensures { Brings K.S.Store K.tells K.holds event.now result self.old clients.old.sessions self.new clients.new.sessions }
     {
         let Some(store) = &mut self.store else {
             return None;

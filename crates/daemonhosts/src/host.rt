@@ -1,10 +1,11 @@
 //! The outside of the daemon, over the system.
 ghost use Rattle.std.specs.Prelude.{◌≡◌};
-ghost use Rattle.sieveddaemon.specs.Desk.{StillShows};
-ghost use Rattle.daemonhosts.specs.Held.{Shows, IsClean};
+ghost use Rattle.mailengine.specs.Hosts.{IsGivenUp};
+ghost use Rattle.daemonhosts.specs.Held.{Shows, IsClean, StillShown, Brings};
 
 use crate::held::HeldStore;
 use crate::pause::Pause;
+use crate::queue::Queue;
 use keepers::cause::of_sqlite;
 use keepers::{Keeper, Unavailable};
 use mailengine::{Answer, Clients, Event, Refusal};
@@ -13,6 +14,7 @@ use sieveddaemon::note::Note;
 use sievedrun::fault::Fault;
 use sievedrun::trouble::{FirstTrouble, Trouble};
 use sqlite::ErrorCode;
+use std::alloc::Global;
 use std::collections::VecDeque;
 use std::io::Write;
 use std::net::Net;
@@ -24,8 +26,8 @@ use wires::outside::{Clock, Outside, Sockets};
 
 /// The system's sockets and clock, and the store at a path, which other processes use too. It tells no acts.
 ///
-/// The store is taken without waiting, and not while somebody waits for it. Where it fails it is given back at the next look, and
-/// left alone for a while.
+/// The store is taken without waiting, and not while somebody waits for it; where it fails it is given back at the next look, and left
+/// alone for a while. Connections that wait for it come to it in the order in which they came.
 #[derive(Drop)]
 pub struct Host<'a, N: Net + time::Clock, E: Write + Drop, K: Keeper + Drop> {
     sockets: SystemSockets<'a, N>,
@@ -33,6 +35,8 @@ pub struct Host<'a, N: Net + time::Clock, E: Write + Drop, K: Keeper + Drop> {
     broken: bool,
     held: HeldStore<K>,
     path: &'a str,
+    /// Which connections wait for the store.
+    queue: Queue,
     /// The store failed, and is to be given back.
     failed: bool,
     pause: Pause,
@@ -44,6 +48,7 @@ pub struct Host<'a, N: Net + time::Clock, E: Write + Drop, K: Keeper + Drop> {
 impl<'a, N: Net + time::Clock, E: Write + Drop, K: Keeper + Drop> Host<'a, N, E, K> {
     /// The store isn't had yet. What goes wrong with it is told on the errors.
     pub fn new(
+        alloc: Global,
         sockets: SystemSockets<'a, N>,
         keeper: K,
         path: &'a str,
@@ -54,6 +59,7 @@ impl<'a, N: Net + time::Clock, E: Write + Drop, K: Keeper + Drop> Host<'a, N, E,
             broken: false,
             held: HeldStore::new(keeper),
             path,
+            queue: Queue::new(alloc),
             failed: false,
             pause: Pause::none(),
             trouble: FirstTrouble::none(),
@@ -67,16 +73,30 @@ impl<'a, N: Net + time::Clock, E: Write + Drop, K: Keeper + Drop> Host<'a, N, E,
         trouble.fault.status()
     }
 
-    /// Whether the store may be asked now: it didn't fail, and nobody waits for it.
-    fn may_ask(&mut self) -> bool
-        ensures shown { StillShows (Shows K.S.Store K.tells K.holds) self.old.held self.new.held }
+    /// Whether the store may be asked now for a connection: it is its turn, the store didn't fail, and nobody waits for it.
+    fn may_ask(&mut self, id: u32) -> bool
+        ensures shown { StillShown K.S.Store K.tells K.holds self.old.held self.new.held }
     {
-        !self.failed && !self.held.is_awaited(self.path)
+        self.queue.comes_next(id) && !self.failed && !self.held.is_awaited(self.path)
+    }
+
+    /// Brings an event to the store, where that may be asked and is to be had.
+    fn ask(&mut self, id: u32, clients: &mut Clients, event: &Event) -> Option<Answer>
+        requires { ¬ IsGivenUp event.now }
+        ensures { Brings K.S.Store K.tells K.holds event.now result self.old.held clients.old.sessions self.new.held clients.new.sessions }
+    {
+        if !self.may_ask(id) {
+            return None;
+        }
+        self.reach();
+        let answer = self.held.change(clients, event)?;
+        self.note_answer(&answer);
+        Some(answer)
     }
 
     /// Takes the store, where it isn't had and isn't left alone.
     fn reach(&mut self)
-        ensures shown { StillShows (Shows K.S.Store K.tells K.holds) self.old.held self.new.held }
+        ensures shown { StillShown K.S.Store K.tells K.holds self.old.held self.new.held }
     {
         if self.held.is_had() || self.pause.lasts(self.sockets.now()) {
             return;
@@ -129,7 +149,7 @@ impl<'a, N: Net + time::Clock, E: Write + Drop, K: Keeper + Drop> Host<'a, N, E,
 
     /// Gives the store back. After a failure it is left alone for a while.
     fn give_back(&mut self)
-        ensures shown { IsClean K.S.Store K.tells self.new.held → StillShows (Shows K.S.Store K.tells K.holds) self.old.held self.new.held }
+        ensures shown { IsClean K.S.Store K.tells self.new.held → StillShown K.S.Store K.tells K.holds self.old.held self.new.held }
     {
         if let Some(refusal) = self.held.give_back() {
             tell(&mut self.errors, refusal, self.held.cause());
@@ -201,6 +221,7 @@ impl<N: Net + time::Clock, E: Write + Drop, K: Keeper + Drop> Sockets for Host<'
     }
 
     fn close(&mut self, id: u32) {
+        self.queue.leave(id);
         self.sockets.close(id)
     }
 
@@ -228,17 +249,22 @@ impl<N: Net + time::Clock, E: Write + Drop, K: Keeper + Drop> Desk for Host<'_, 
 
     ghost clean = { IsClean K.S.Store K.tells };
 
-    fn carry(&mut self, _id: u32, clients: &mut Clients, event: &Event) -> Option<Answer> {
-        if !self.may_ask() {
-            return None;
+    fn carry(&mut self, id: u32, clients: &mut Clients, event: &Event) -> Option<Answer> {
+        match self.ask(id, clients, event) {
+            Some(answer) => {
+                self.queue.leave(id);
+                Some(answer)
+            }
+            None => {
+                self.queue.join(id);
+                None
+            }
         }
-        self.reach();
-        let answer = self.held.change(clients, event)?;
-        self.note_answer(&answer);
-        Some(answer)
     }
 
-    fn tell_freed(&mut self, _id: u32, _event: &Event, _answer: &Answer) {}
+    fn tell_freed(&mut self, id: u32, _event: &Event, _answer: &Answer) {
+        self.queue.leave(id);
+    }
 
     fn tell_spoke(&mut self, _id: u32) {}
 

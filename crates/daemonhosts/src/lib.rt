@@ -4,3 +4,4 @@
 pub mod held;
 pub mod host;
 mod pause;
+mod queue;

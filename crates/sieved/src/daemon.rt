@@ -28,7 +28,7 @@ pub fn serve_many<N: Net + Clock, W: Write, E: Write + Drop, K: Keeper + Drop>(
     mut keeper: K,
 ) -> u8 {
     match listen(system, alloc, asked, output, &mut errors, &mut keeper) {
-        Ok(Some(sockets)) => live(alloc, Host::new(sockets, keeper, asked.path, errors)),
+        Ok(Some(sockets)) => live(alloc, Host::new(alloc, sockets, keeper, asked.path, errors)),
         Ok(None) => 0,
         Err(trouble) => refuse(&mut errors, trouble),
     }
