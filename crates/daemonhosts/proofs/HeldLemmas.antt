@@ -1,5 +1,5 @@
 -- What a store shows that is had now and then, from one call to the next.
-use Rattle.std.proofs.Common.{◌≡◌, Bool, false, List, [], Some, None, IsTrue, refl, sym, subst, inl}
+use Rattle.std.proofs.Common.{◌≡◌, Bool, false, List, [], Option, Some, None, IsTrue, refl, sym, subst, inl}
 use Rattle.sqlite_trees.specs.declared.store.Store.{Ghosts}
 use Rattle.sqlite.specs.Effect.{Database}
 use Rattle.sqlite.specs.Held.{Held, state}
@@ -26,6 +26,11 @@ module _ {S : Type 0} (g : Ghosts S) (tells : Bool) where
   -- a store that was given back is offered by its keeper's tables
   pub given : (was is : Database) (store : Held S) → (IsTrue tells → IsTrue (state g store).is_open) → (IsTrue tells → is ≡ (state g store).now) → IsTrue tells → (accounts : Accounts) → ShowsBy g tells was (Some store) accounts → ShowsBy g tells is None accounts
   given was is store sure held told accounts shown = (told, subst (λ db. Offers db accounts) (sym (held told)) (presented (state g store).now accounts (shown (sure told))))
+
+  -- what was shown stays so where the tables that are told are as they were
+  pub kept : (was is : Database) (store : Option (Held S)) → (IsTrue tells → is ≡ was) → (accounts : Accounts) → ShowsBy g tells was store accounts → ShowsBy g tells is store accounts
+  kept was is (Some store) same accounts shown = shown
+  kept was is None same accounts shown = (shown.0, subst (λ db. Offers db accounts) (sym (same shown.0)) shown.1)
 
 -- an event by one call of `apply`: nobody came between
 pub done_alone : {R S : Type 0} (g : Ghosts S) (shows : R → Accounts → Type 0) (r q : R) (event : Event) (answer : Answer) (old new : Held S) (before after : Kept)
