@@ -1,5 +1,5 @@
 #!/usr/bin/env python3
-"""Times ManageSieve sessions over `sieved serve` and `sieved session`, and prints the tables of docs/PERFORMANCE.md.
+"""Times ManageSieve sessions over `sieved serve`, `sieved daemon` and `sieved session`, and prints the tables of docs/PERFORMANCE.md.
 
   bench/sessions.py [SIEVED]       SIEVED: the program, crates/sieved/out/sieved where none is named
 
@@ -81,7 +81,7 @@ def row(what, figure):
 
 
 def command_times(port):
-    """The median time of a command, in milliseconds, over `serve`: a table."""
+    """The median time of a command, in milliseconds: a table."""
     times = {"connect and greeting": [], "AUTHENTICATE": [], "NOOP": [], "LISTSCRIPTS": [], "GETSCRIPT": [], "CHECKSCRIPT": [], "PUTSCRIPT": [], "LOGOUT": []}
 
     def timed(name, call):
@@ -149,13 +149,17 @@ def main():
     rates("serve", port)
     times = command_times(port)
     end(server)
+    server, port = store.daemon()
+    rates("daemon", port)
+    by_daemon = command_times(port)
+    end(server)
     listener, port = store.listen("--wait")
     rates("session", port)
     end(listener)
-    print("\n| Command over `serve` | Median ms | More than NOOP |")
-    print("|---|---|---|")
+    print("\n| Command | Median ms over `serve` | More than NOOP | over `daemon` |")
+    print("|---|---|---|---|")
     for name, took in times.items():
-        print(f"| {name} | {took:.2f} | {took - times['NOOP']:.2f} |")
+        print(f"| {name} | {took:.2f} | {took - times['NOOP']:.2f} | {by_daemon[name]:.2f} |")
     if shutil.which("strace"):
         opened, closed = traced(store)
         print(f"\nOf a LISTSCRIPTS under strace: open {opened:.1f} ms, close {closed:.1f} ms.")

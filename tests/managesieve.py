@@ -112,6 +112,14 @@ class Store:
         told = server.stdout.readline()
         return server, int(told.rsplit(b":", 1)[1])
 
+    def daemon(self, *more):
+        """The process of a daemon of ManageSieve, and its port."""
+        server = subprocess.Popen(self.words("daemon", "--managesieve", "0", *more), stdout=subprocess.PIPE, stderr=subprocess.PIPE)
+        told = server.stdout.readline()
+        if not told:
+            raise SystemExit(f"daemon: {server.wait()}: {server.stderr.read().decode()}")
+        return server, int(told.rsplit(b":", 1)[1])
+
     def listen(self, *more):
         """socat, which starts a session for each connection, and its port."""
         with socket.socket() as sock:

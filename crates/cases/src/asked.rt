@@ -68,6 +68,10 @@ fn add(out: &mut Octets, asked: Subcommand<'_>) -> Result<(), AllocError> {
             &[asked.port, asked.sessions.unwrap_or("no number")],
         ),
         Subcommand::Session(asked) => add_at(out, "session", asked.location, &[]),
+        Subcommand::Daemon(asked) => {
+            let check = if asked.check { "checks" } else { "" };
+            add_texts(out, &["daemon", asked.path, check, asked.managesieve])
+        }
     }
 }
 

@@ -18,6 +18,15 @@ pub fn of_file(kind: ErrorKind) -> Option<&'static str> {
     }
 }
 
+/// Of a port, or a file of a socket, at which nobody can listen; none where nothing more is known of it.
+pub fn of_socket(kind: ErrorKind) -> Option<&'static str> {
+    match kind {
+        ErrorKind::AddrInUse => Some("port is taken"),
+        ErrorKind::PermissionDenied => Some("permission denied"),
+        _ => None,
+    }
+}
+
 /// Of a lock's file that can't be opened or locked.
 pub(crate) fn of_lock(kind: ErrorKind) -> &'static str {
     of_file_of_store(kind).unwrap_or("lock file can't be used")
@@ -32,7 +41,7 @@ pub(crate) fn of_file_of_store(kind: ErrorKind) -> Option<&'static str> {
 }
 
 /// Of a call that SQLite refused; none where its own name says no more.
-pub(crate) fn of_sqlite(code: ErrorCode) -> Option<&'static str> {
+pub fn of_sqlite(code: ErrorCode) -> Option<&'static str> {
     match code {
         ErrorCode::CannotOpen => Some("file can't be opened"),
         ErrorCode::SystemIoFailure => Some("disk can't be read or written"),

@@ -18,11 +18,14 @@ const OWNER_ALONE: u32 = 0o600;
 /// Keeps the store of one file after the other: asks for the lock on `FILE.lock`, opens, and closes.
 ///
 /// The lock is given back when the store is handed back, or when the process ends. Where it is waited for, the lock on `FILE.wait` is
-/// held meanwhile. The files `FILE.lock` and `FILE.wait` stay.
+/// held meanwhile. A daemon has that on `FILE.daemon` too, until its process ends. The files `FILE.lock`, `FILE.wait` and `FILE.daemon`
+/// stay.
 #[derive(Drop)]
 pub struct FileKeeper<'a> {
     rt: &'a HostRuntime,
     lock: Option<File>,
+    /// The lock that a daemon has for life.
+    life: Option<File>,
     waits: bool,
     cause: Option<&'static str>,
     /// Why the file that was closed last couldn't be, until that is asked for.
@@ -42,6 +45,7 @@ impl<'a> FileKeeper<'a> {
         FileKeeper {
             rt,
             lock: None,
+            life: None,
             waits: false,
             cause: None,
             unclosed: None,
@@ -101,6 +105,29 @@ impl Keeper for FileKeeper<'_> {
         match lock_file(self.rt, path, self.waits) {
             Ok(lock) => {
                 self.lock = Some(lock);
+                Ok(())
+            }
+            Err(failure) => {
+                self.cause = failure.cause;
+                Err(failure.denial)
+            }
+        }
+    }
+
+    fn is_awaited(&mut self, path: &str) -> bool {
+        matches!(
+            try_lock_beside(self.rt, path, "wait"),
+            Err(Failure {
+                denial: Unavailable::Busy,
+                cause: _,
+            })
+        )
+    }
+
+    fn lock_for_life(&mut self, path: &str) -> Result<(), Unavailable> {
+        match try_lock_beside(self.rt, path, "daemon") {
+            Ok(lock) => {
+                self.life = Some(lock);
                 Ok(())
             }
             Err(failure) => {

@@ -84,6 +84,24 @@ pub trait Keeper {
         ensures denied { IfErr result (λ denial. is_out self.old ≡ false → refuses self.old path.now denial) }
         ensures closed { unclosed self.new ≡ unclosed self.old };
 
+    /// Whether somebody who waits for the lock of the store at a path says so. Nobody is waited for, and the lock is neither taken nor
+    /// given back.
+    fn is_awaited(&mut self, path: &str) -> bool
+        ensures same { IsTrue tells → holds self.new ≡ holds self.old }
+        ensures kept { is_out self.new ≡ is_out self.old }
+        ensures closed { unclosed self.new ≡ unclosed self.old };
+
+    /// The lock that a daemon of the store at a path has for life: no other one has it meanwhile. Nobody is waited for, and the store
+    /// and its own lock stay as they are.
+    ///
+    /// # Errors
+    ///
+    /// `Busy` where another daemon has it; else why it can't be had.
+    fn lock_for_life(&mut self, path: &str) -> Result<(), Unavailable>
+        ensures same { IsTrue tells → holds self.new ≡ holds self.old }
+        ensures kept { is_out self.new ≡ is_out self.old }
+        ensures closed { unclosed self.new ≡ unclosed self.old };
+
     /// Gives the lock back, under which no store is out.
     fn unlock(&mut self)
         ensures same { IsTrue tells → holds self.new ≡ holds self.old }

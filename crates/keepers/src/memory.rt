@@ -8,7 +8,7 @@ use sqlite::{Connection, MemStore};
 use std::alloc::{AllocError, Global};
 
 /// Keeps one store in memory, whatever path it is asked for, answers one call for the lock that was chosen as Busy, and can't close
-/// at another one.
+/// at another one. Nobody waits for it.
 #[derive(Drop)]
 pub struct MemoryKeeper {
     conn: Option<Connection<MemStore>>,
@@ -104,6 +104,14 @@ impl Keeper for MemoryKeeper {
             return Err(Unavailable::Busy);
         }
         self.locked = true;
+        Ok(())
+    }
+
+    fn is_awaited(&mut self, _path: &str) -> bool {
+        false
+    }
+
+    fn lock_for_life(&mut self, _path: &str) -> Result<(), Unavailable> {
         Ok(())
     }
 

@@ -64,10 +64,18 @@ where
     R: Net<Listener = TcpListener, Stream = TcpStream>,
 {
     let listener = TcpListener::bind(rt, SocketAddr::from((Ipv4Addr::LOCALHOST, port)))?;
-    let told = listener.local_addr()?;
-    output.write_all(format!(in alloc; "listening on {told}\n")?.as_bytes())?;
-    output.flush()?;
+    tell_listening(alloc, listener.local_addr()?, output)?;
     Ok(listener)
+}
+
+/// Tells on the output where clients are listened to.
+pub fn tell_listening<W: Write>(
+    alloc: Global,
+    address: SocketAddr,
+    output: &mut W,
+) -> io::Result<()> {
+    output.write_all(format!(in alloc; "listening on {address}\n")?.as_bytes())?;
+    output.flush()
 }
 
 /// Serves each client that connects, up to that many. A client that is gone before it is accepted isn't counted. The first

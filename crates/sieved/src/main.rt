@@ -2,9 +2,11 @@
 //! sessions from the command line.
 #![tactic(auto)]
 
+mod daemon;
 mod listener;
 
 use clap::error::ErrorKind;
+use daemon::serve_many;
 use keepers::{FileKeeper, Keeper};
 use listener::serve;
 use mailsinks::{MailSink, Maildir};
@@ -18,7 +20,7 @@ use std::env::{Env, FillError};
 use std::io::{Read, Write};
 use std::net::{Net, TcpListener, TcpStream};
 use std::process::ExitCode;
-use std::time::SystemTime;
+use std::time::{Clock, SystemTime};
 
 fn main(rt: HostRuntime) -> ExitCode {
     let status = match words_after_name(&rt) {
@@ -37,43 +39,64 @@ fn run(rt: &HostRuntime, words: &CommandLine) -> u8 {
         clock(rt),
         &mut rt.stdin(),
         &mut rt.stdout(),
-        &mut rt.stderr(),
-        &mut FileKeeper::new(rt),
+        rt.stderr(),
+        FileKeeper::new(rt),
         &mut Maildir::new(rt),
     )
 }
 
 /// Does what the words ask for, and answers the exit status.
-fn answer<N, R: Read, W: Write, E: Write, K: Keeper, T: MailSink>(
+fn answer<N, R: Read, W: Write, E: Write + Drop, K: Keeper + Drop, T: MailSink>(
     net: &N,
     alloc: Global,
     words: &CommandLine,
     clock: Option<u64>,
     input: &mut R,
     output: &mut W,
-    errors: &mut E,
-    keeper: &mut K,
+    mut errors: E,
+    mut keeper: K,
     sink: &mut T,
 ) -> u8
 where
-    N: Net<Listener = TcpListener, Stream = TcpStream>,
+    N: Net<Listener = TcpListener, Stream = TcpStream> + Clock,
 {
     match server_subcommand(alloc, words) {
-        Err(refused) => refuse(errors, Fault::from(refused)),
-        Ok(Some(Subcommand::Serve(asked))) => serve(net, alloc, asked, output, errors, keeper),
-        Ok(Some(Subcommand::Session(asked))) => {
-            run_session(alloc, asked.location, input, output, errors, keeper)
+        Err(refused) => refuse(&mut errors, Fault::from(refused)),
+        Ok(Some(Subcommand::Serve(asked))) => {
+            serve(net, alloc, asked, output, &mut errors, &mut keeper)
         }
-        _ => drive(alloc, words, input, output, errors, keeper, clock, sink),
+        Ok(Some(Subcommand::Session(asked))) => {
+            run_session(
+                alloc,
+                asked.location,
+                input,
+                output,
+                &mut errors,
+                &mut keeper,
+            )
+        }
+        Ok(Some(Subcommand::Daemon(asked))) => serve_many(
+            net, alloc, asked, output, errors, keeper,
+        ),
+        _ => drive(
+            alloc,
+            words,
+            input,
+            output,
+            &mut errors,
+            &mut keeper,
+            clock,
+            sink,
+        ),
     }
 }
 
-/// What the words ask for, where the first is `serve` or `session` and the others are right.
+/// What the words ask for, where the first is `serve`, `session` or `daemon` and the others are right.
 fn server_subcommand<'a>(
     alloc: Global,
     words: &'a CommandLine,
 ) -> Result<Option<Subcommand<'a>>, AllocError> {
-    if !matches!(words.first(), Some("serve" | "session")) {
+    if !matches!(words.first(), Some("serve" | "session" | "daemon")) {
         return Ok(None);
     }
     match read(alloc, words) {

@@ -246,6 +246,7 @@ module _ (Denied : List ℕ → Fault → Type 0) (Sunk : SinkError → Type 0) 
   Does (word.Try a) result old new = GrowsBy tells had has [] × DoesNothing out_old out_new result old new
   Does (word.Serve a) result old new = GrowsBy tells had has [] × DoesNothing out_old out_new result old new
   Does (word.Session a) result old new = GrowsBy tells had has [] × DoesNothing out_old out_new result old new
+  Does (word.Daemon a) result old new = GrowsBy tells had has [] × DoesNothing out_old out_new result old new
 
 -- the store that a word works on, and for `drain` the Maildir, are those that it names
 abbrev pub Reaches : (List ℕ → Type 0) → (List ℕ → Type 0) → Subcommand → Type 0
@@ -261,6 +262,7 @@ Reaches Given At (word.Drain a) = Given a.location.path.now × At a.maildir.now
 Reaches Given At (word.Try a) = Unit {0}
 Reaches Given At (word.Serve a) = Unit {0}
 Reaches Given At (word.Session a) = Unit {0}
+Reaches Given At (word.Daemon a) = Unit {0}
 
 -- ---- a run of the program
 

@@ -113,9 +113,10 @@ fn act<R: Read, W: Write, K: Keeper, T: MailSink>(
         Subcommand::Done(asked) => run_done(alloc, asked, output, keeper),
         Subcommand::Notices(asked) => run_notices(alloc, asked, output, keeper),
         Subcommand::Drain(asked) => run_drain(alloc, asked, output, keeper, sink),
-        Subcommand::Try(_) | Subcommand::Serve(_) | Subcommand::Session(_) => {
-            Err(Fault::BadArgument)
-        }
+        Subcommand::Try(_)
+        | Subcommand::Serve(_)
+        | Subcommand::Session(_)
+        | Subcommand::Daemon(_) => Err(Fault::BadArgument),
     }
 }
 

@@ -12,6 +12,6 @@ mod listing;
 mod queue;
 pub mod session;
 mod stream;
-mod trouble;
+pub mod trouble;
 pub mod try_script;
 pub mod values;

@@ -24,6 +24,7 @@ use Rattle.sievedwords.specs.declared.subcommand.notices.Notices.{Notices}
 use Rattle.sievedwords.specs.declared.subcommand.drain.Drain.{Drain}
 use Rattle.sievedwords.specs.declared.subcommand.serve.Serve.{Serve}
 use Rattle.sievedwords.specs.declared.subcommand.session.Session.{Session}
+use Rattle.sievedwords.specs.declared.subcommand.daemon.Daemon.{Daemon}
 
 -- ---- what was given to a subcommand
 
@@ -118,6 +119,11 @@ pub record IsServe (line : CommandLine) (m : ArgMatches) (a : Serve) : Type 0 wh
 pub record IsSession (line : CommandLine) (m : ArgMatches) (a : Session) : Type 0 where
   pub location : IsLocation m a.location
 
+pub record IsDaemon (line : CommandLine) (m : ArgMatches) (a : Daemon) : Type 0 where
+  pub path : a.path.now ≡ text_in m (codes "db")
+  pub managesieve : a.managesieve.now ≡ text_in m (codes "managesieve")
+  pub check : IsFlag m (codes "check") a.check
+
 -- a subcommand with what was given to it
 abbrev pub AsksFor : CommandLine → ArgMatches → Word → Subcommand → Type 0
 AsksFor line m word.Try (asked.Try a) = IsTry line m a
@@ -132,6 +138,7 @@ AsksFor line m word.Notices (asked.Notices a) = IsNotices line m a
 AsksFor line m word.Drain (asked.Drain a) = IsDrain line m a
 AsksFor line m word.Serve (asked.Serve a) = IsServe line m a
 AsksFor line m word.Session (asked.Session a) = IsSession line m a
+AsksFor line m word.Daemon (asked.Daemon a) = IsDaemon line m a
 AsksFor line m w s = ⊥
 
 -- ---- the command line

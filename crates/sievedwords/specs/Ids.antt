@@ -19,6 +19,7 @@ name_of word.Notices = codes "notices"
 name_of word.Drain = codes "drain"
 name_of word.Serve = codes "serve"
 name_of word.Session = codes "session"
+name_of word.Daemon = codes "daemon"
 
 -- no subcommand is named so. The definition is shut, and only the one function that looks at all of them says it
 pub IsNoWord : List ℕ → Type 0
@@ -51,3 +52,5 @@ id_of argument.Directories = codes "maildir"
 id_of argument.Separator = codes "separator"
 id_of argument.Port = codes "port"
 id_of argument.Sessions = codes "sessions"
+id_of argument.Managesieve = codes "managesieve"
+id_of argument.Check = codes "check"

@@ -28,6 +28,8 @@ pub enum Argument {
     Separator,
     Port,
     Sessions,
+    Managesieve,
+    Check,
 }
 
 /// How an argument is written.
@@ -59,7 +61,7 @@ impl Argument {
 
     fn form(self) -> Form {
         match self {
-            Argument::Wait | Argument::Directories => Form::Flag,
+            Argument::Wait | Argument::Directories | Argument::Check => Form::Flag,
             Argument::Db
             | Argument::From
             | Argument::To
@@ -69,7 +71,8 @@ impl Argument {
             | Argument::Most
             | Argument::Separator
             | Argument::Port
-            | Argument::Sessions => Form::Option,
+            | Argument::Sessions
+            | Argument::Managesieve => Form::Option,
             Argument::Name
             | Argument::Address
             | Argument::User
@@ -103,18 +106,20 @@ impl Argument {
             Argument::Separator => "separator",
             Argument::Port => "port",
             Argument::Sessions => "sessions",
+            Argument::Managesieve => "managesieve",
+            Argument::Check => "check",
         }
     }
 
     /// What the help calls its value.
     fn value_name(self) -> &'static str {
         match self {
-            Argument::Wait | Argument::Directories => "",
+            Argument::Wait | Argument::Directories | Argument::Check => "",
             Argument::Separator => ".|/",
             Argument::From | Argument::To | Argument::AnyTo => "A",
             Argument::At | Argument::Number | Argument::Sessions => "N",
             Argument::Most => "K",
-            Argument::Port => "P",
+            Argument::Port | Argument::Managesieve => "P",
             Argument::Salt => "HEX32",
             Argument::Db => "FILE",
             Argument::Name => "NAME",
@@ -148,6 +153,8 @@ impl Argument {
             Argument::Separator => "What parts a folder's levels [default: .]",
             Argument::Port => "The port; 0 for any that is free",
             Argument::Sessions => "Ends after N sessions [default: never]",
+            Argument::Managesieve => "The port for ManageSieve; 0 for any that is free",
+            Argument::Check => "Says what would go wrong, and serves nobody",
         }
     }
 
@@ -163,6 +170,7 @@ impl Argument {
                 | Argument::Directories
                 | Argument::Separator
                 | Argument::Sessions
+                | Argument::Check
         )
     }
 }

@@ -15,6 +15,7 @@ pub use location::StoreLocation;
 pub use reading::{ReadError, read};
 pub use subcommand::Subcommand;
 pub use subcommand::adduser::AddUser;
+pub use subcommand::daemon::Daemon;
 pub use subcommand::deliver::Deliver;
 pub use subcommand::done::Done;
 pub use subcommand::drain::Drain;

@@ -4,6 +4,7 @@ ghost use Rattle.sievedwords.specs.Asks.{AsksFor};
 ghost use Rattle.sievedwords.specs.Ids.{IsNoWord, name_of};
 
 pub mod adduser;
+pub mod daemon;
 pub mod deliver;
 pub mod done;
 pub mod drain;
@@ -17,6 +18,7 @@ pub mod show;
 pub mod try_script;
 
 use self::adduser::{ADDUSER, AddUser};
+use self::daemon::{DAEMON, Daemon};
 use self::deliver::{DELIVER, Deliver};
 use self::done::{DONE, Done};
 use self::drain::{DRAIN, Drain};
@@ -46,6 +48,7 @@ pub enum Subcommand<'a> {
     Drain(Drain<'a>),
     Serve(Serve<'a>),
     Session(Session<'a>),
+    Daemon(Daemon<'a>),
 }
 
 /// The name of a subcommand.
@@ -63,11 +66,12 @@ pub enum Word {
     Drain,
     Serve,
     Session,
+    Daemon,
 }
 
 impl Word {
     /// All, in the order of the help.
-    pub const ALL: [Word; 12] = [
+    pub const ALL: [Word; 13] = [
         Word::Try,
         Word::Init,
         Word::AddUser,
@@ -80,6 +84,7 @@ impl Word {
         Word::Drain,
         Word::Serve,
         Word::Session,
+        Word::Daemon,
     ];
 
     /// The subcommand with this name.
@@ -118,6 +123,7 @@ impl Word {
             Word::Drain => &DRAIN,
             Word::Serve => &SERVE,
             Word::Session => &SESSION,
+            Word::Daemon => &DAEMON,
         }
     }
 
@@ -138,6 +144,7 @@ impl Word {
             Word::Drain => Subcommand::Drain(Drain::read(given)),
             Word::Serve => Subcommand::Serve(Serve::read(given)),
             Word::Session => Subcommand::Session(Session::read(given)),
+            Word::Daemon => Subcommand::Daemon(Daemon::read(given)),
         }
     }
 }

@@ -1,0 +1,53 @@
+-- What a store shows that is had now and then, from one call to the next.
+use Rattle.std.proofs.Common.{◌≡◌, Bool, false, List, [], Option, Some, None, IsTrue, refl, sym, subst, inl}
+use Rattle.sqlite_trees.specs.declared.store.Store.{Ghosts}
+use Rattle.sqlite.specs.Effect.{Database}
+use Rattle.sqlite.specs.Held.{Held, state}
+use Rattle.sqlite.specs.State.{HasCleanDisk}
+use Rattle.mailstore.specs.Account.{Accounts}
+use Rattle.mailstore.specs.Shows.{Presents, Offers}
+use Rattle.keepers.specs.Taken.{IsTaken}
+use Rattle.sessions.specs.Acts.{HasAccounts}
+use Rattle.mailengine.specs.Hosts.{Kept, IsEvent, host}
+use Rattle.mailengine.specs.declared.answer.Answer.{Answer}
+use Rattle.mailengine.specs.declared.event.Event.{Event}
+use Rattle.sieveddaemon.specs.Desk.{StillShows, IsDone, NothingDone}
+use Rattle.daemonhosts.specs.Held.{ShowsBy}
+
+-- tables of ours are tables that `open` takes
+presented : (db : Database) (accounts : Accounts) → Presents db accounts → Offers db accounts
+presented db accounts shown = inl (shown.0, inl shown.1, shown.2)
+
+module _ {S : Type 0} (g : Ghosts S) (tells : Bool) where
+  -- a store that was taken shows what its keeper's tables offered
+  pub taken : (was is : Database) (store : Held S) → (IsTrue tells → IsTaken false was (state g store).now) → (accounts : Accounts) → ShowsBy g tells was None accounts → ShowsBy g tells is (Some store) accounts
+  taken was is store took accounts shown = λ is_open. (took shown.0).0.shown accounts shown.1
+
+  -- a store that was given back is offered by its keeper's tables
+  pub given : (was is : Database) (store : Held S) → (IsTrue tells → IsTrue (state g store).is_open) → (IsTrue tells → is ≡ (state g store).now) → IsTrue tells → (accounts : Accounts) → ShowsBy g tells was (Some store) accounts → ShowsBy g tells is None accounts
+  given was is store sure held told accounts shown = (told, subst (λ db. Offers db accounts) (sym (held told)) (presented (state g store).now accounts (shown (sure told))))
+
+  -- what was shown stays so where the tables that are told are as they were
+  pub kept : (was is : Database) (store : Option (Held S)) → (IsTrue tells → is ≡ was) → (accounts : Accounts) → ShowsBy g tells was store accounts → ShowsBy g tells is store accounts
+  kept was is (Some store) same accounts shown = shown
+  kept was is None same accounts shown = (shown.0, subst (λ db. Offers db accounts) (sym (same shown.0)) shown.1)
+
+-- an event by one call of `apply`: nobody came between
+pub done_alone : {R S : Type 0} (g : Ghosts S) (shows : R → Accounts → Type 0) (r q : R) (event : Event) (answer : Answer) (old new : Held S) (before after : Kept)
+    → ((accounts : Accounts) → shows r accounts → HasAccounts (state g old) accounts) → ((accounts : Accounts) → HasAccounts (state g new) accounts → shows q accounts)
+    → HasCleanDisk (state g new) → IsEvent event answer (host (state g old) before) (host (state g new) after) → IsDone shows [] event answer r before q after
+done_alone g shows r q event answer old new before after was is clean made = λ w at.
+    let led = made clean w (record { accounts = was w.accounts at.shown; sessions = at.sessions }) in (
+      led.0,
+      record { strangers = tt; told = []; between = w; theirs = refl; apart = refl; ours = led.1.is_next },
+      record { shown = is led.0.accounts led.1.implements.accounts; sessions = led.1.implements.sessions },
+    )
+
+-- an event that was done behind a call that changed no account
+pub done_behind : {R : Type 0} (shows : R → Accounts → Type 0) (r m q : R) (others : List Event) (event : Event) (answer : Answer) (before after : Kept)
+    → StillShows shows r m → IsDone shows others event answer m before q after → IsDone shows others event answer r before q after
+done_behind shows r m q others event answer before after still done = λ w at. done w (record { shown = still w.accounts at.shown; sessions = at.sessions })
+
+-- nothing was done behind such a call
+pub nothing_behind : {R : Type 0} (shows : R → Accounts → Type 0) (r m q : R) (before after : Kept) → StillShows shows r m → NothingDone shows m before q after → NothingDone shows r before q after
+nothing_behind shows r m q before after still none = record { shown = λ accounts shown. none.shown accounts (still accounts shown); kept = none.kept }

@@ -1,0 +1,43 @@
+-- What a store shows that is had now and then.
+use Rattle.std.specs.Prelude.{◌≡◌, Bool, List, [], Option, Some, None, IsTrue}
+use Rattle.sqlite_trees.specs.declared.store.Store.{Ghosts}
+use Rattle.sqlite.specs.Effect.{Database}
+use Rattle.sqlite.specs.Held.{Held, state}
+use Rattle.sqlite.specs.State.{HasCleanDisk}
+use Rattle.mailstore.specs.Account.{Accounts}
+use Rattle.mailstore.specs.Shows.{Offers}
+use Rattle.sessions.specs.Acts.{HasAccounts}
+use Rattle.mailengine.specs.Hosts.{Kept}
+use Rattle.mailengine.specs.declared.answer.Answer.{Answer}
+use Rattle.mailengine.specs.declared.event.Event.{Event}
+use Rattle.sieveddaemon.specs.Desk.{StillShows, IsDone, NothingDone}
+use Rattle.daemonhosts.specs.declared.held.HeldStore.{HeldStore}
+
+-- while it is had the store shows the accounts; else they are those of its keeper's tables, and none can be claimed where it doesn't tell these
+abbrev pub ShowsBy : {S : Type 0} → Ghosts S → Bool → Database → Option (Held S) → Accounts → Type 0
+ShowsBy g tells db (Some store) accounts = HasAccounts (state g store) accounts
+ShowsBy g tells db None accounts = IsTrue tells × Offers db accounts
+
+-- the disk returned what was written; while it isn't had that is known of a keeper that tells its tables alone
+abbrev pub IsCleanBy : {S : Type 0} → Ghosts S → Bool → Option (Held S) → Type 0
+IsCleanBy g tells (Some store) = HasCleanDisk (state g store)
+IsCleanBy g tells None = IsTrue tells
+
+-- of a keeper, and its store while it is had
+abbrev pub Shows : {K S : Type 0} → Ghosts S → Bool → (K → Database) → HeldStore K S → Accounts → Type 0
+Shows g tells holds held accounts = ShowsBy g tells (holds held.keeper) held.store accounts
+
+abbrev pub IsClean : {K S : Type 0} → Ghosts S → Bool → HeldStore K S → Type 0
+IsClean g tells held = IsCleanBy g tells held.store
+
+-- whatever accounts were shown, they are shown
+abbrev pub StillShown : {K S : Type 0} → Ghosts S → Bool → (K → Database) → HeldStore K S → HeldStore K S → Type 0
+StillShown g tells holds held later = StillShows (Shows g tells holds) held later
+
+-- the event was done, and no other process came between; or nothing was
+abbrev pub Changes : {R : Type 0} → (R → Accounts → Type 0) → (R → Type 0) → Event → Option Answer → R → Kept → R → Kept → Type 0
+Changes shows clean event (Some answer) r before q after = clean q → IsDone shows [] event answer r before q after
+Changes shows clean event None r before q after = NothingDone shows r before q after
+
+abbrev pub Brings : {K S : Type 0} → Ghosts S → Bool → (K → Database) → Event → Option Answer → HeldStore K S → Kept → HeldStore K S → Kept → Type 0
+Brings g tells holds event answer held before later after = Changes (Shows g tells holds) (IsClean g tells) event answer held before later after
