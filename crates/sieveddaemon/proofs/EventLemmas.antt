@@ -10,7 +10,7 @@ use Rattle.mailstore.specs.Account.{no_accounts}
 use Rattle.mailstore.specs.declared.refusal.Refusal.TheVariants.{Memory}
 use Rattle.sessions.specs.Clients.{Client, client_given}
 use Rattle.sessions.specs.Steps.{progress_of}
-use Rattle.mailengine.specs.Hosts.{Kept, HasClients, KeepsClients, IsMade, IsSessionEvent, AsksStore, IsGivenUp, clients_of}
+use Rattle.mailengine.specs.Hosts.{Kept, HasClients, KeepsClients, IsSessionEvent, AsksStore, IsGivenUp, clients_of}
 use Rattle.mailengine.proofs.HostLemmas.{clients_are}
 use Rattle.sessions.specs.declared.progress.Progress.{Progress}
 use Rattle.wires.specs.Talk.{same}
@@ -68,11 +68,6 @@ pub give_refused : (w : World) (s : ℕ) (piece : List ℕ) → (answer : Answer
 give_refused w s piece = give_lacked w s piece (get w.sessions s) refl
 
 -- ---- an event of a session that isn't answered by octets changes nothing
-
--- one that is was made
-pub out_is_made : (answer : Answer) → is_out answer ≡ true → IsMade answer
-out_is_made (Refused refusal) is = let never : false ≡ true = is in cc
-out_is_made _ is = tt
 
 abbrev IsOwn : Event → Type 0
 IsOwn (Open s) = Unit {0}

@@ -4,7 +4,7 @@ use Rattle.std.specs.Ordering.{nat_cmp}
 use Rattle.std.specs.BTreeMap as tree
 use Rattle.mailstore.specs.Account.{Accounts}
 use Rattle.sessions.specs.Clients.{Client}
-use Rattle.mailengine.specs.Hosts.{Kept, IsMade, AsksStore, IsSessionEvent, KeepsClients}
+use Rattle.mailengine.specs.Hosts.{Kept, AsksStore, IsSessionEvent, KeepsClients}
 use Rattle.mailengine.specs.declared.answer.Answer.{Answer}
 use Rattle.mailengine.specs.declared.event.Event.{Event}
 use Rattle.mailengine.specs.declared.event.Event.TheVariants.{Open, Give, Step, Close}
@@ -12,7 +12,7 @@ use Rattle.wires.specs.Rules.{Rules}
 use Rattle.wires.specs.Talk.{after_span, same}
 use Rattle.sieveddaemon.specs.Desk.{StillShows, IsDone, NothingDone}
 use Rattle.sieveddaemon.specs.Room.{longest_guest}
-use Rattle.sieveddaemon.specs.Places.{client_at, want_of, due_of, new_place, place_given, place_behind, renewed, is_user}
+use Rattle.sieveddaemon.specs.Places.{client_at, want_of, due_of, new_place, place_given, place_behind, renewed, is_out, is_user}
 use Rattle.sieveddaemon.specs.Waiting.{Allows, IsDue, said_with, greeting, idle}
 use Rattle.sieveddaemon.specs.declared.daemon.Daemon.{Daemon}
 use Rattle.sieveddaemon.specs.declared.daemon.Holding.{Holding}
@@ -56,9 +56,9 @@ pub record Knows (d : Daemon) (id : ℕ) (place : Option Place) (e : Daemon) : T
 abbrev pub Happened : Event → Daemon → Daemon → Type 0
 Happened event d e = (answer : Answer) × IsSessionEvent event answer d.clients.sessions e.clients.sessions
 
--- the same, and it was not refused
+-- the same, and it was made
 abbrev pub Made : Event → Daemon → Daemon → Type 0
-Made event d e = (answer : Answer) × IsMade answer × IsSessionEvent event answer d.clients.sessions e.clients.sessions
+Made event d e = (answer : Answer) × (is_out answer ≡ true) × IsSessionEvent event answer d.clients.sessions e.clients.sessions
 
 -- ---- connections come, say something, and go
 

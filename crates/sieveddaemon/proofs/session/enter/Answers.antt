@@ -5,7 +5,7 @@ use Rattle.mailengine.specs.Hosts.{IsSessionEvent}
 use Rattle.mailengine.specs.declared.event.Event.TheVariants.{Open}
 use Rattle.sieveddaemon.specs.Places.{is_out, new_place}
 use Rattle.sieveddaemon.specs.declared.daemon.Daemon.{Daemon}
-use Rattle.sieveddaemon.proofs.EventLemmas.{out_is_made, open_keeps, keeps_same, err_any, known_twice, greeted, went_well}
+use Rattle.sieveddaemon.proofs.EventLemmas.{open_keeps, keeps_same, err_any, known_twice, greeted, went_well}
 use Rattle.sieveddaemon.proofs.session.enter.Goals as goal
 
 pub returns-then-not-is_out-clause-err : goal.returns-then-not-is_out-clause-err
@@ -30,6 +30,6 @@ returns-in-Ok-Some-clause-ok c =
     let put : tree.Updates nat_cmp c.args.daemon.now.places c.insert.new.self c.args.id (Some (new_place c.args.now)) = went_well c.insert.result (sym c.is_err.ensures.value ∙ c.if-is_err.false) c.insert.ensures.updates in
     record {
       says = c.octets_of.ensures ∙ greeted c.args.id c.in-Ok-Some.answer c.args.daemon.now.clients.sessions c.apply_free.new.clients.sessions out made;
-      event = (c.in-Ok-Some.answer, out_is_made c.in-Ok-Some.answer out, made);
+      event = (c.in-Ok-Some.answer, out, made);
       place = record { places = put.0; holding = refl };
     }

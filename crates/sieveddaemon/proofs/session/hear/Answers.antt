@@ -3,7 +3,7 @@ use Rattle.std.specs.Ordering.{nat_cmp}
 use Rattle.std.specs.BTreeMap as tree
 use Rattle.sessions.specs.Counts.{SessionView}
 use Rattle.sieveddaemon.specs.Places.{is_out, begun}
-use Rattle.sieveddaemon.proofs.EventLemmas.{out_is_made, give_keeps, keeps_same, err_any, some_there}
+use Rattle.sieveddaemon.proofs.EventLemmas.{give_keeps, keeps_same, err_any, some_there}
 use Rattle.sieveddaemon.proofs.session.hear.Goals as goal
 
 pub returns-then-not-is_out-clause-err : goal.returns-then-not-is_out-clause-err
@@ -17,14 +17,14 @@ returns-then-not-is_out-clause-err c =
 
 pub returns-clause-ok : goal.returns-clause-ok
 returns-clause-ok c =
+    let out : is_out c.give.result ≡ true = search rules in
     let there : true ≡ is_some (tree.get nat_cmp c.args.daemon.now.places c.args.id) = search rules in
     let place = some_there (tree.get nat_cmp c.args.daemon.now.places c.args.id) there in
-    let out : is_out c.give.result ≡ true = search rules in
     let session : tree.get nat_cmp c.args.daemon.now.clients.sessions c.args.id ≡ Some c.in-Some.session.now = search rules in
     let begins : c.unread_len-begins.result == 0 ≡ (length c.in-Some.session.now.client.unread == 0) = ap (λ n. n == 0) c.unread_len-begins.ensures in
     record {
       silent = refl;
-      event = (c.give.result, out_is_made c.give.result out, c.give.ensures);
+      event = (c.give.result, out, c.give.ensures);
       before = place.0;
       was = place.1;
       client = c.in-Some.session.now.client;
