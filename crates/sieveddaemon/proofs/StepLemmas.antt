@@ -1,5 +1,5 @@
 -- Steps of a connection, put together from what is brought, told and known.
-use Rattle.std.proofs.Common.{◌≡◌, ◌∙◌, ℕ, Bool, true, false, List, [], Some, None, IsTrue, refl, sym, ap, subst}
+use Rattle.std.proofs.Common.{◌≡◌, ◌∙◌, ℕ, Bool, true, false, List, [], Some, None, IsTrue, refl, sym, subst}
 use Rattle.mailstore.specs.Account.{Accounts}
 use Rattle.mailengine.specs.Hosts.{Kept, KeepsClients, IsMade, AsksStore, IsSessionEvent, clients_of}
 use Rattle.mailengine.proofs.HostLemmas.{clients_are}
@@ -24,7 +24,6 @@ use Rattle.sieveddaemon.specs.declared.note.Note.{Note}
 use Rattle.sieveddaemon.specs.declared.note.Note.TheVariants.{Did, Away, Freed, Spoke, Looked}
 use Rattle.sieveddaemon.specs.declared.place.Place.{Place}
 use Rattle.sieveddaemon.specs.declared.place.Waits.{Waits}
-use Rattle.sieveddaemon.specs.declared.place.Waits.TheVariants as waits
 
 some_one : {X : Type 0} (a b : X) → Some a ≡ Some b → a ≡ b
 some_one a b is = cc

@@ -1,4 +1,4 @@
-use Rattle.std.proofs.Common.{◌≡◌, if◌then◌else◌}
+use Rattle.std.proofs.Common.{◌≡◌}
 use Rattle.sieveddaemon.specs.DaemonRules.{least_from, patience_of}
 use Rattle.sieveddaemon.proofs.patience.patience_of.Given as goal
 
