@@ -103,19 +103,26 @@ impl<S: Shelf + Drop> DeskFake<S> {
         ensures lost { self.new.stage.fake.lost ≡ self.old.stage.fake.lost }
     {
         let mut others = Vec::new(self.stage.fake.alloc);
-        for _ in 0..u64::MAX {
-            let Some(event) = self.others.pop_front() else {
-                break;
-            };
-            if is_of_accounts(&event) {
-                change_other(&mut self.stage.fake.rest, clients, event, &mut others);
-            }
+        while let Some(event) = self.others.pop_front() {
+            self.let_one(clients, event, &mut others);
         }
         List::from_vec(others)
     }
+
+    /// Lets an event happen, where it is one of accounts and there is room to tell it, and tells it behind those before it.
+    fn let_one(&mut self, clients: &mut Clients, event: Event, others: &mut Vec<Event>)
+        ensures lets { (s : S) (kept : Kept) → LetsOthers S.holds others.old.items s kept self.old.stage.fake.rest clients.old.sessions → LetsOthers S.holds others.new.items s kept self.new.stage.fake.rest clients.new.sessions }
+        ensures acts { self.new.stage.fake.acts ≡ self.old.stage.fake.acts }
+        ensures lost { self.new.stage.fake.lost ≡ self.old.stage.fake.lost }
+        ensures left { self.new.others ≡ self.old.others }
+    {
+        if is_of_accounts(&event) {
+            change_other(&mut self.stage.fake.rest, clients, event, others);
+        }
+    }
 }
 
-/// Lets an event of others happen, where there is room to tell it, and tells it behind those before it.
+/// Lets an event of accounts happen, where there is room to tell it, and tells it behind those before it.
 fn change_other<S: Shelf + Drop>(
     shelf: &mut S,
     clients: &mut Clients,

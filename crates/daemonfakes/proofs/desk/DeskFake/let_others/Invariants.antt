@@ -1,7 +1,13 @@
-use Rattle.std.proofs.Common.{◌≡◌}
+use Rattle.std.proofs.Common.{◌≡◌, length}
 use Rattle.daemonfakes.specs.Shelves.{LetsOthers}
 use Rattle.daemonfakes.proofs.desk.DeskFake.let_others.Given as goal
 
 -- those that happened so far are told, and nothing else is
-abbrev pub invariant-loop : goal.invariant-loop
-invariant-loop g l = ?
+abbrev pub invariant-loop-event : goal.invariant-loop-event
+invariant-loop-event g l =
+    LetsOthers g.S.Shelf.holds l.others.items l.initial.self.stage.fake.rest l.initial.clients.sessions l.self.stage.fake.rest l.clients.sessions
+    × (l.self.stage.fake.acts ≡ l.initial.self.stage.fake.acts)
+    × (l.self.stage.fake.lost ≡ l.initial.self.stage.fake.lost)
+
+abbrev pub decreases-loop-event : goal.decreases-loop-event
+decreases-loop-event g l = length l.self.others.items

@@ -1,0 +1,25 @@
+use Rattle.std.proofs.Common.{◌≡◌, ◌∙◌, refl, sym, subst, rules}
+use Rattle.daemonfakes.specs.Shelves.{LetsOthers}
+use Rattle.daemonfakes.proofs.ShelfLemmas.{lets_none}
+use Rattle.daemonfakes.proofs.desk.DeskFake.let_others.Goals as goal
+
+pub loop-event-init : goal.loop-event-init
+loop-event-init g c = (
+  subst (λ others. LetsOthers g.S.Shelf.holds others c.args.self.now.stage.fake.rest c.args.clients.now.sessions c.args.self.now.stage.fake.rest c.args.clients.now.sessions) (sym c.new-others.ensures.items)
+      (lets_none g.S.Shelf.holds c.args.self.now.stage.fake.rest c.args.clients.now.sessions),
+  refl,
+  refl,
+)
+
+pub loop-event-preserved : goal.loop-event-preserved
+loop-event-preserved g c = (
+  c.let_one.ensures.lets c.args.self.now.stage.fake.rest c.args.clients.now.sessions c.loop-event.invariant.0,
+  c.let_one.ensures.acts ∙ c.loop-event.invariant.1,
+  c.let_one.ensures.lost ∙ c.loop-event.invariant.2,
+)
+
+pub returns-clause-others : goal.returns-clause-others
+returns-clause-others g c =
+    let told : c.from_vec.result ≡ c.loop-event.others.items = search rules in
+    subst (λ others. LetsOthers g.S.Shelf.holds others c.args.self.now.stage.fake.rest c.args.clients.now.sessions c.loop-event.self.stage.fake.rest c.loop-event.clients.sessions) (sym told)
+    c.loop-event.invariant.0
