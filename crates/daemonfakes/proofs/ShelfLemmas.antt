@@ -1,12 +1,13 @@
 -- Events of others, and what follows them, on accounts that are kept in memory.
-use Rattle.std.proofs.Common.{◌≡◌, inl, inr, true, List, [], ◌∷◌, refl, ap}
+use Rattle.std.proofs.Common.{◌≡◌, inl, inr, true, List, [], ◌∷◌, ◌++◌, ◌∙◌, refl, ap}
 use Rattle.mailstore.specs.Account.{Accounts}
 use Rattle.mailengine.specs.Hosts.{Kept}
 use Rattle.mailengine.specs.World.{World, Clients, Next}
 use Rattle.mailengine.specs.declared.answer.Answer.{Answer}
 use Rattle.mailengine.specs.declared.event.Event.{Event}
 use Rattle.mailengine.specs.declared.event.Event.TheVariants.{Deliver, AddUser, TakeOut, TakeMail}
-use Rattle.sieveddaemon.specs.Desk.{IsOthers, IsDone}
+use Rattle.sieveddaemon.specs.Desk.{IsOthers, AreOthers, IsDone}
+use Rattle.sieveddaemon.proofs.EventLemmas.{runs_then, runs_one}
 use Rattle.daemonfakes.specs.Shelves.{IsApplied, LetsOthers, is_of_accounts}
 
 -- no event
@@ -29,17 +30,22 @@ apart_at w next (TakeOut user id) answer is (inl made) = ap (λ (v : World). v.s
 apart_at w next (TakeMail user folder) answer is (inl made) = ap (λ (v : World). v.sessions) made.2
 apart_at w next _ answer is (inl made) = let never : ⊥ = cc in absurd never
 
--- one
-pub lets_one : {S : Type 0} (holds : S → Accounts → Type 0) (event : Event) (answer : Answer) (s t : S) (before after : Kept) → is_of_accounts event ≡ true → IsApplied holds event answer s before t after
-    → LetsOthers holds (event ∷ []) s before t after
-lets_one holds event answer s t before after of_accounts applied = λ w is.
-    let made = applied w is in (
+strangers_then : (sessions : Clients) (others : List Event) (event : Event) → AreOthers sessions others → IsOthers sessions event → AreOthers sessions (others ++ event ∷ [])
+strangers_then sessions [] event strangers is = (is, tt)
+strangers_then sessions (other ∷ others) event strangers is = (strangers.0, strangers_then sessions others event strangers.1 is)
+
+-- one more
+pub lets_then : {S : Type 0} (holds : S → Accounts → Type 0) (others : List Event) (event : Event) (answer : Answer) (r s t : S) (before mid after : Kept) → is_of_accounts event ≡ true
+    → LetsOthers holds others r before s mid → IsApplied holds event answer s mid t after → LetsOthers holds (others ++ event ∷ []) r before t after
+lets_then holds others event answer r s t before mid after of_accounts lets applied = λ w is.
+    let first = lets w is in
+    let made = applied first.0 first.2 in (
       made.0,
       record {
-        strangers = (stranger w.sessions event of_accounts, tt);
-        told = answer ∷ [];
-        runs = (made.0, made.1, refl);
-        apart = apart_at w made.0 event answer of_accounts made.1;
+        strangers = strangers_then w.sessions others event first.1.strangers (stranger w.sessions event of_accounts);
+        told = first.1.told ++ answer ∷ [];
+        runs = runs_then others (event ∷ []) first.1.told (answer ∷ []) w first.0 made.0 first.1.runs (runs_one first.0 made.0 event answer made.1);
+        apart = apart_at first.0 made.0 event answer of_accounts made.1 ∙ first.1.apart;
       },
       made.2,
     )

@@ -2,6 +2,7 @@
 ghost use Rattle.std.specs.Prelude.{◌≡◌, [], ◌∷◌, ◌++◌, true, false, IsTrue, IfSome, not};
 ghost use Rattle.wires.specs.Told.{IsOwn};
 ghost use Rattle.wires.specs.declared.act.Act.TheVariants.{Noted};
+ghost use Rattle.mailengine.specs.Hosts.{Kept};
 ghost use Rattle.daemonfakes.specs.Shelves.{LetsOthers, is_of_accounts};
 
 use crate::copies::{copy_answer, copy_event, is_of_accounts};
@@ -12,34 +13,44 @@ use sieveddaemon::desk::Desk;
 use sieveddaemon::note::Note;
 use std::alloc::Global;
 use std::collections::VecDeque;
-use wirefakes::fake::Fake;
+use wirefakes::stage::{Stage, Staged};
 use wires::act::Act;
 use wires::outcome::{Accepted, Fault, Input, Output, Wake};
 use wires::outside::{Clock, Outside, Sockets};
 
 /// Sockets and a clock that follow a script, and a store that others use too: it is away when the script says so, and each
-/// time that it is had one event of others may come before.
+/// time that it is had events of others may come before.
 #[derive(Drop)]
 pub struct DeskFake<S: Shelf + Drop> {
-    pub fake: Fake<Note, S>,
+    pub stage: Stage<Note, S>,
     /// For each event that is brought to the store, whether it is away; where the list is used up it never is.
     pub away: VecDeque<bool>,
-    /// What others do, one before each event that finds the store; each is an event of accounts.
+    /// What others do before the next event that finds the store: events of accounts.
     pub others: VecDeque<Event>,
     /// Whether others wait for the store, each time that it is looked.
     pub waits: VecDeque<bool>,
 }
 
 impl<S: Shelf + Drop> DeskFake<S> {
+    /// Nobody is there, and nobody else uses the store.
+    pub fn new(alloc: Global, shelf: S) -> DeskFake<S> {
+        DeskFake {
+            stage: Stage::new(alloc, shelf),
+            away: VecDeque::new(alloc),
+            others: VecDeque::new(alloc),
+            waits: VecDeque::new(alloc),
+        }
+    }
+
     /// Notes what the daemon did with a connection; where there is no copy of it for the note nothing is told from now on.
     fn note_done(&mut self, id: u32, others: List<Event>, event: &Event, answer: &Answer)
-        ensures kept { IsTrue (not self.new.fake.lost) → IsTrue (not self.old.fake.lost) }
-        ensures told { IsTrue (not self.new.fake.lost) → self.new.fake.acts.items ≡ self.old.fake.acts.items ++ Noted id (Note.Did others event.now answer.now) ∷ [] }
-        ensures left { self.new.fake.rest ≡ self.old.fake.rest }
+        ensures kept { IsTrue (not self.new.stage.fake.lost) → IsTrue (not self.old.stage.fake.lost) }
+        ensures told { IsTrue (not self.new.stage.fake.lost) → self.new.stage.fake.acts.items ≡ self.old.stage.fake.acts.items ++ Noted id (Note.Did others event.now answer.now) ∷ [] }
+        ensures left { self.new.stage.fake.rest ≡ self.old.stage.fake.rest }
     {
         match copy_event(event) {
-            Some(event) => match copy_answer(self.fake.alloc, answer) {
-                Some(answer) => self.fake.keep(Act::Noted(
+            Some(event) => match copy_answer(self.stage.fake.alloc, answer) {
+                Some(answer) => self.stage.keep(Act::Noted(
                     id,
                     Note::Did {
                         others,
@@ -48,79 +59,77 @@ impl<S: Shelf + Drop> DeskFake<S> {
                     },
                 )),
                 None => {
-                    self.fake.lost = true;
+                    self.stage.fake.lost = true;
                 }
             },
             None => {
-                self.fake.lost = true;
+                self.stage.fake.lost = true;
             }
         }
     }
 
     /// The same of an event that asks no store.
     fn note_freed(&mut self, id: u32, event: &Event, answer: &Answer)
-        ensures kept { IsTrue (not self.new.fake.lost) → IsTrue (not self.old.fake.lost) }
-        ensures told { IsTrue (not self.new.fake.lost) → self.new.fake.acts.items ≡ self.old.fake.acts.items ++ Noted id (Note.Freed event.now answer.now) ∷ [] }
-        ensures left { self.new.fake.rest ≡ self.old.fake.rest }
+        ensures kept { IsTrue (not self.new.stage.fake.lost) → IsTrue (not self.old.stage.fake.lost) }
+        ensures told { IsTrue (not self.new.stage.fake.lost) → self.new.stage.fake.acts.items ≡ self.old.stage.fake.acts.items ++ Noted id (Note.Freed event.now answer.now) ∷ [] }
+        ensures left { self.new.stage.fake.rest ≡ self.old.stage.fake.rest }
     {
         match copy_event(event) {
-            Some(event) => match copy_answer(self.fake.alloc, answer) {
+            Some(event) => match copy_answer(self.stage.fake.alloc, answer) {
                 Some(answer) => self
-                    .fake
+                    .stage
                     .keep(Act::Noted(id, Note::Freed { event, answer })),
                 None => {
-                    self.fake.lost = true;
+                    self.stage.fake.lost = true;
                 }
             },
             None => {
-                self.fake.lost = true;
+                self.stage.fake.lost = true;
             }
         }
     }
 
     /// Whether the store is away this time.
     fn is_away(&mut self) -> bool
-        ensures { self.new.fake ≡ self.old.fake }
+        ensures { self.new.stage ≡ self.old.stage }
     {
         self.away.pop_front() == Some(true)
     }
 
-    /// Lets one event of others happen, if there is one, and tells which.
-    fn let_other(&mut self, clients: &mut Clients) -> List<Event>
-        ensures others { LetsOthers S.holds result self.old.fake.rest clients.old.sessions self.new.fake.rest clients.new.sessions }
-        ensures acts { self.new.fake.acts ≡ self.old.fake.acts }
-        ensures lost { self.new.fake.lost ≡ self.old.fake.lost }
+    /// Lets all events of others happen that wait, each where there is room to tell it, and tells which did.
+    fn let_others(&mut self, clients: &mut Clients) -> List<Event>
+        ensures others { LetsOthers S.holds result self.old.stage.fake.rest clients.old.sessions self.new.stage.fake.rest clients.new.sessions }
+        ensures acts { self.new.stage.fake.acts ≡ self.old.stage.fake.acts }
+        ensures lost { self.new.stage.fake.lost ≡ self.old.stage.fake.lost }
     {
-        let alloc = self.fake.alloc;
-        match self.others.pop_front() {
-            Some(event) => {
-                if is_of_accounts(&event) {
-                    return change_other(alloc, &mut self.fake.rest, clients, event);
-                }
-                List::new(alloc)
+        let mut others = Vec::new(self.stage.fake.alloc);
+        for _ in 0..u64::MAX {
+            let Some(event) = self.others.pop_front() else {
+                break;
+            };
+            if is_of_accounts(&event) {
+                change_other(&mut self.stage.fake.rest, clients, event, &mut others);
             }
-            None => List::new(alloc),
         }
+        List::from_vec(others)
     }
 }
 
-/// Lets an event of others happen, where there is room to tell it, and tells it.
+/// Lets an event of others happen, where there is room to tell it, and tells it behind those before it.
 fn change_other<S: Shelf + Drop>(
-    alloc: Global,
     shelf: &mut S,
     clients: &mut Clients,
     event: Event,
-) -> List<Event>
+    others: &mut Vec<Event>,
+)
     requires { is_of_accounts event ≡ true }
-    ensures { LetsOthers S.holds result shelf.old clients.old.sessions shelf.new clients.new.sessions }
+    ensures { (s : S) (kept : Kept) → LetsOthers S.holds others.old.items s kept shelf.old clients.old.sessions → LetsOthers S.holds others.new.items s kept shelf.new clients.new.sessions }
 {
-    let mut others = Vec::new(alloc);
     if others.reserve(1).is_err() {
-        return List::from_vec(others);
+        return;
     }
     let _ = shelf.change(clients, &event);
     others.push_reserved(event);
-    List::from_vec(others)
 }
 
 impl<S: Shelf + Drop> Outside for DeskFake<S> {
@@ -128,65 +137,75 @@ impl<S: Shelf + Drop> Outside for DeskFake<S> {
 
     type Rest = S;
 
-    ghost tells = { λ desk. not desk.fake.lost };
+    ghost tells = { λ desk. not desk.stage.fake.lost };
 
-    ghost seen = { λ desk. desk.fake.acts.items };
+    ghost seen = { λ desk. desk.stage.fake.acts.items };
 
-    ghost rest = { λ desk. desk.fake.rest };
+    ghost rest = { λ desk. desk.stage.fake.rest };
 
     ghost broken = { λ _. false };
 }
 
+impl<S: Shelf + Drop> Staged for DeskFake<S> {
+    type Told = Note;
+
+    type Kept = S;
+
+    fn stage(&mut self) -> &mut Stage<Note, S> {
+        &mut self.stage
+    }
+}
+
 impl<S: Shelf + Drop> Sockets for DeskFake<S> {
     fn wait(&mut self, within: u32, ready: &mut VecDeque<Wake>) -> Result<(), Fault> {
-        self.fake.wait(within, ready)
+        self.stage.wait(within, ready)
     }
 
     fn accept(&mut self, kind: u32, id: u32) -> Accepted {
-        self.fake.accept(kind, id)
+        self.stage.accept(kind, id)
     }
 
     fn read(&mut self, id: u32, buffer: &mut [u8]) -> Input {
-        self.fake.read(id, buffer)
+        self.stage.read(id, buffer)
     }
 
     fn discard(&mut self, id: u32) -> Input {
-        self.fake.discard(id)
+        self.stage.discard(id)
     }
 
     fn write(&mut self, id: u32, octets: &[u8]) -> Output {
-        self.fake.write(id, octets)
+        self.stage.write(id, octets)
     }
 
     fn shut(&mut self, id: u32) {
-        self.fake.shut(id)
+        self.stage.shut(id)
     }
 
     fn close(&mut self, id: u32) {
-        self.fake.close(id)
+        self.stage.close(id)
     }
 
     fn again(&mut self, id: u32) {
-        self.fake.again(id)
+        self.stage.again(id)
     }
 
     fn listen(&mut self, kind: u32) {
-        self.fake.listen(kind)
+        self.stage.listen(kind)
     }
 
     fn note(&mut self, act: Act<Note>)
         requires { IsOwn act }
-        ensures seen { IsTrue (not self.new.fake.lost) → self.new.fake.acts.items ≡ self.old.fake.acts.items ++ act ∷ [] }
-        ensures left { self.new.fake.rest ≡ self.old.fake.rest }
-        ensures kept { IsTrue (not self.new.fake.lost) → IsTrue (not self.old.fake.lost) }
+        ensures seen { IsTrue (not self.new.stage.fake.lost) → self.new.stage.fake.acts.items ≡ self.old.stage.fake.acts.items ++ act ∷ [] }
+        ensures left { self.new.stage.fake.rest ≡ self.old.stage.fake.rest }
+        ensures kept { IsTrue (not self.new.stage.fake.lost) → IsTrue (not self.old.stage.fake.lost) }
     {
-        self.fake.keep(act)
+        self.stage.keep(act)
     }
 }
 
 impl<S: Shelf + Drop> Clock for DeskFake<S> {
     fn now(&mut self) -> u64 {
-        self.fake.now()
+        self.stage.now()
     }
 }
 
@@ -197,11 +216,11 @@ impl<S: Shelf + Drop> Desk for DeskFake<S> {
 
     fn carry(&mut self, id: u32, clients: &mut Clients, event: &Event) -> Option<Answer> {
         if self.is_away() {
-            self.fake.keep(Act::Noted(id, Note::Away));
+            self.stage.keep(Act::Noted(id, Note::Away));
             return None;
         }
-        let others = self.let_other(clients);
-        let answer = self.fake.rest.change(clients, event);
+        let others = self.let_others(clients);
+        let answer = self.stage.fake.rest.change(clients, event);
         self.note_done(id, others, event, &answer);
         Some(answer)
     }
@@ -211,14 +230,13 @@ impl<S: Shelf + Drop> Desk for DeskFake<S> {
     }
 
     fn tell_spoke(&mut self, id: u32) {
-        self.fake.keep(Act::Noted(id, Note::Spoke));
+        self.stage.keep(Act::Noted(id, Note::Spoke));
     }
 
     fn look(&mut self, rests: bool) -> bool {
-        let gives = rests || self.waits.pop_front() == Some(true);
-        let note = if gives { Note::Gave } else { Note::Looked };
-        self.fake.keep(Act::Worked(note));
-        gives
+        let wanted = self.waits.pop_front() == Some(true);
+        self.stage.keep(Act::Worked(Note::Looked(wanted)));
+        rests || wanted
     }
 
     ghost sure = { λ _ _. tt };

@@ -275,11 +275,12 @@ impl<N: Net + time::Clock, E: Write + Drop, K: Keeper + Drop> Desk for Host<'_, 
     fn tell_spoke(&mut self, _id: u32) {}
 
     fn look(&mut self, rests: bool) -> bool {
-        if rests || self.failed || self.held.is_awaited(self.path) {
+        let wanted = self.failed || self.held.is_awaited(self.path);
+        let gives = rests || wanted;
+        if gives {
             self.give_back();
-            return true;
         }
-        false
+        gives
     }
 
     ghost sure = { λ desk told. never_told told };

@@ -1,7 +1,7 @@
 -- What MAIL and RCPT are about is one.
-use Rattle.std.proofs.Common.{◌≡◌, ℕ, suc, ◌<◌, ◌≤◌, ◌==◌, Bool, true, false, List, [], ◌∷◌, ◌++◌, length, map, inl, inr, refl, sym, ap, ◌∙◌, subst, arith}
-use Rattle.std.proofs.Math.Seq.{take-append_seam, drop-append_seam}
-use Rattle.std.proofs.Common.{take, drop}
+use Rattle.std.proofs.Common.{◌≡◌, ℕ, suc, true, List, [], ◌∷◌, ◌++◌, length, map, inl, inr, refl, sym, ap, ◌∙◌, subst, arith}
+use Rattle.std.proofs.Math.Seq.{drop-append_seam}
+use Rattle.std.proofs.Common.{drop}
 use Rattle.std.specs.Char.{to_ascii_lowercase}
 use Rattle.lmtp.specs.Commands.{IsWord}
 use Rattle.lmtp.specs.Paths.{is_plain, is_quotable, Stands, EndsAddress, IsPath, FollowsRoute}

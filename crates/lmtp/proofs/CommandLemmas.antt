@@ -1,8 +1,7 @@
 -- The first word of a line.
-use Rattle.std.proofs.Common.{◌≡◌, ℕ, ◌==◌, not, Bool, true, false, ◌-◌, length, List, [], ◌∷◌, ◌++◌, take, drop, inl, inr, refl, sym, ap, ◌∙◌, subst, arith}
+use Rattle.std.proofs.Common.{◌≡◌, ℕ, false, ◌-◌, length, List, [], ◌∷◌, take, drop, inl, inr, refl, sym, ap, ◌∙◌, subst, arith}
 use Rattle.std.proofs.lemmas.List.{take-append-drop, take_rest}
-use Rattle.std.specs.List.{list_all, prefix_len}
-use Rattle.octets.specs.Ascii.{trimmed}
+use Rattle.std.specs.List.{prefix_len}
 use Rattle.lmtp.specs.Commands.{IsWord, word_of, is_unspaced, Argues, Splits, IsCommandLine, argument_in}
 use Rattle.lmtp.specs.declared.verb.Verb.{Verb}
 use Rattle.lmtp.proofs.FrontLemmas.{Stops, all_front, stops_behind, front_is}

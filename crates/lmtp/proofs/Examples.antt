@@ -1,12 +1,10 @@
 -- What the definitions say of a few lines and texts, and of what is near them.
-use Rattle.std.proofs.Common.{◌≡◌, ℕ, true, false, List, [], ◌∷◌, ◌++◌, inl, inr, refl, codes, arith}
+use Rattle.std.proofs.Common.{◌≡◌, true, false, [], ◌∷◌, inl, inr, refl, codes, arith}
 use Rattle.lmtp.specs.Commands.{IsWord, word_of, argument_in}
-use Rattle.lmtp.specs.Lines.{HasNoLineEnd, line_end}
-use Rattle.lmtp.specs.Paths.{IsAddress, IsRoute, Stands, is_plain, is_quotable}
+use Rattle.lmtp.specs.Paths.{IsAddress, is_plain, is_quotable}
 use Rattle.lmtp.specs.Texts.{place_after, text_after}
-use Rattle.lmtp.specs.declared.path.Quoting.TheVariants.{Outside}
 use Rattle.lmtp.specs.declared.text.Place.TheVariants.{Start, DotReturn, Inside, Ended}
-use Rattle.lmtp.specs.declared.verb.Verb.TheVariants.{Lhlo, Mail}
+use Rattle.lmtp.specs.declared.verb.Verb.TheVariants.{Lhlo}
 
 -- ---- texts
 

@@ -1,8 +1,7 @@
 -- A text that comes in pieces.
-use Rattle.std.proofs.Common.{◌≡◌, ℕ, zero, suc, ◌+◌, ◌<◌, ◌≤◌, ◌==◌, Bool, true, false, if◌then◌else◌, List, [], ◌∷◌, ◌++◌, length, take, drop, get_or, Some, None, Ok, Err, refl, sym, ap, ◌∙◌, subst, append_assoc, append-nil, arith}
+use Rattle.std.proofs.Common.{◌≡◌, ℕ, zero, suc, ◌+◌, ◌<◌, ◌≤◌, ◌==◌, Bool, true, false, if◌then◌else◌, List, [], ◌∷◌, ◌++◌, length, take, drop, get_or, Some, None, Err, refl, sym, ap, ◌∙◌, subst, append_assoc, append-nil, arith}
 use Rattle.std.proofs.Math.Seq.{take-add}
 use Rattle.std.proofs.lemmas.Bool.{false_from_ne_true}
-use Rattle.std.specs.Prelude.{Option, Result}
 use Rattle.lmtp.specs.Texts.{IsText, after, gained, place_after, text_after, EndsAt, RunsFrom, Keeps, StandsFor, Feeds, Finishes}
 use Rattle.lmtp.specs.declared.text.Place.{Place}
 use Rattle.lmtp.specs.declared.text.Place.TheVariants.{Start, DotReturn, Inside, Ended}
@@ -126,7 +125,7 @@ ends_at : (from : Place) (sent : List ℕ) → RunsFrom from sent → place_afte
 ends_at from [] runs ended = ended
 ends_at from (octet ∷ sent) runs ended = (runs.0, ends_at (after from octet) sent runs.1 ended)
 
-is_text : (t : Text) (sent : List ℕ) → t.place ≡ Ended → StandsFor t sent → IsText sent (text_after Start sent)
+pub is_text : (t : Text) (sent : List ℕ) → t.place ≡ Ended → StandsFor t sent → IsText sent (text_after Start sent)
 is_text t sent ended stands = text_found sent (ends_at Start sent stands.runs (sym stands.place ∙ ended))
 
 -- what is kept of one that has ended is the text

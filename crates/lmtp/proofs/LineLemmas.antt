@@ -1,10 +1,10 @@
 -- Where a line ends, by a search for CRLF.
-use Rattle.std.proofs.Common.{◌≡◌, ℕ, zero, suc, ◌+◌, ◌<◌, ◌≤◌, List, [], ◌∷◌, ◌++◌, length, take, drop, get_or, Some, None, inl, inr, refl, sym, ap, ◌∙◌, subst, append_assoc, length-append, arith}
+use Rattle.std.proofs.Common.{◌≡◌, ℕ, zero, suc, ◌+◌, ◌<◌, ◌≤◌, List, [], ◌∷◌, ◌++◌, length, take, drop, get_or, inl, inr, refl, sym, ap, ◌∙◌, subst, append_assoc, length-append, arith}
 use Rattle.std.proofs.Math.Seq.{take-append_seam}
 use Rattle.std.proofs.lemmas.Bool.{cases_order}
 use Rattle.std.proofs.lemmas.List.{get_or-take, length-take, length-take-le, take-append-le, drop-append-le}
-use Rattle.memchr.specs.Find.{OccursAt, FindsNeedle, Nowhere, NoneBefore}
-use Rattle.lmtp.specs.Lines.{line_end, HasNoLineEnd, IsLine, IsFirstLine, Finds, LinesStand}
+use Rattle.memchr.specs.Find.{OccursAt, Nowhere}
+use Rattle.lmtp.specs.Lines.{line_end, HasNoLineEnd, IsFirstLine, Finds, LinesStand}
 use Rattle.lmtp.specs.declared.line.Found.{Found}
 use Rattle.lmtp.specs.declared.line.Found.TheVariants.{Need, Line, TooLong}
 
@@ -116,13 +116,13 @@ none_before stream a b fits_a fits_b first second less =
     let split = splits_at (take (length front) stream) a there in
     second.whole (take a (take (length front) stream)) (drop (a + 2) (take (length front) stream)) (sym cut ∙ split)
 
-too_long : (stream : List ℕ) (a : ℕ) → Finds (Line a) stream → Finds TooLong stream → ⊥
+pub too_long : (stream : List ℕ) (a : ℕ) → Finds (Line a) stream → Finds TooLong stream → ⊥
 too_long stream a first second =
     let count = length-take-le 2048 stream second.1 in
     let there = occurs_less stream 2048 a (omega (arith, first.1, count)) (first_occurs stream a first.2 first.0) in
     second.0 (take a (take 2048 stream)) (drop (a + 2) (take 2048 stream)) (splits_at (take 2048 stream) a there)
 
-one_found : (a b : Found) (stream : List ℕ) → Finds a stream → Finds b stream → a ≡ b
+pub one_found : (a b : Found) (stream : List ℕ) → Finds a stream → Finds b stream → a ≡ b
 one_found Need Need stream first second = refl
 one_found Need (Line b) stream first second = absurd (first.0 (take b stream) (drop (b + 2) stream) second.0.written)
 one_found Need TooLong stream first second = absurd (omega (arith, first.1, second.1))

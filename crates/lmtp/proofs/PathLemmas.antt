@@ -1,16 +1,16 @@
 -- An address, octet by octet.
-use Rattle.std.proofs.Common.{◌≡◌, ℕ, zero, suc, ◌+◌, ◌<◌, ◌≤◌, List, [], ◌∷◌, ◌++◌, length, take, drop, get_or, Some, None, inl, inr, refl, sym, ap, ◌∙◌, subst, append_assoc, append-nil, length-append, arith}
+use Rattle.std.proofs.Common.{◌≡◌, ℕ, zero, suc, ◌+◌, ◌<◌, ◌≤◌, List, [], ◌∷◌, ◌++◌, length, take, drop, get_or, Some, None, inl, inr, refl, sym, ap, ◌∙◌, subst, append-nil, length-append, arith}
 use Rattle.std.proofs.Math.ListN.{get_or-append}
 use Rattle.std.proofs.Math.Seq.{take-append_seam}
 use Rattle.std.proofs.lemmas.Bool.{cases_order}
-use Rattle.std.proofs.lemmas.List.{take-append-drop, take-append-le, drop-append-le}
-use Rattle.lmtp.specs.Paths.{Stands, IsAddress, EndsAddress, StepsTo}
+use Rattle.std.proofs.lemmas.List.{take-append-drop, take-append-le}
+use Rattle.lmtp.specs.Paths.{Stands, EndsAddress, StepsTo}
 use Rattle.lmtp.specs.declared.path.Quoting.{Quoting}
 use Rattle.lmtp.specs.declared.path.Quoting.TheVariants.{Outside, Inside, Escaped}
 
 -- ---- lists
 
-take_next : (text : List ℕ) (at : ℕ) (more : List ℕ) → at < length text → take (at + 1) text ++ more ≡ take at text ++ (get_or text at 0 ∷ more)
+pub take_next : (text : List ℕ) (at : ℕ) (more : List ℕ) → at < length text → take (at + 1) text ++ more ≡ take at text ++ (get_or text at 0 ∷ more)
 take_next [] at more less = absurd (omega arith)
 take_next (octet ∷ text) zero more less = refl
 take_next (octet ∷ text) (suc at) more less =
@@ -19,7 +19,7 @@ take_next (octet ∷ text) (suc at) more less =
     next : (at : ℕ) → suc at + 1 ≡ suc (at + 1)
     next at = omega arith
 
-behind : (front : List ℕ) (octet : ℕ) (rest : List ℕ) → get_or (front ++ octet ∷ rest) (length front) 0 ≡ octet
+pub behind : (front : List ℕ) (octet : ℕ) (rest : List ℕ) → get_or (front ++ octet ∷ rest) (length front) 0 ≡ octet
 behind [] octet rest = refl
 behind (first ∷ front) octet rest = behind front octet rest
 
@@ -33,7 +33,7 @@ pub record SoFar (text : List ℕ) (at : ℕ) (quoting : Quoting) : Type 0 where
 pub begin : (text : List ℕ) → SoFar text 0 Outside
 begin text = record { forth = λ more stands. stands; back = λ more stands. stands; none = λ j less. absurd (omega arith) }
 
-stands_none : (quoting : Quoting) → Stands quoting [] → quoting ≡ Outside
+pub stands_none : (quoting : Quoting) → Stands quoting [] → quoting ≡ Outside
 stands_none Outside stands = refl
 stands_none Inside stands = absurd stands
 stands_none Escaped stands = absurd stands

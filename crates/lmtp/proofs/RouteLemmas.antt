@@ -1,8 +1,8 @@
 -- Source routes.
-use Rattle.std.proofs.Common.{◌≡◌, ℕ, suc, ◌+◌, ◌≤◌, ◌&&◌, Bool, true, false, cond, List, [], ◌∷◌, ◌++◌, length, take, drop, Some, None, inl, inr, refl, sym, ap, ◌∙◌, subst, append_assoc, add-one, arith}
+use Rattle.std.proofs.Common.{◌≡◌, ℕ, true, List, [], ◌∷◌, ◌++◌, take, drop, inl, inr, refl, sym, ap, ◌∙◌, subst, append_assoc}
 use Rattle.std.proofs.lemmas.List.{take-append-drop}
 use Rattle.std.specs.List.{list_all, prefix_len}
-use Rattle.lmtp.specs.Paths.{is_hop, IsRoute, BeginsBare, FollowsRoute, IsPath, EndsAddress}
+use Rattle.lmtp.specs.Paths.{is_hop, BeginsBare, FollowsRoute, IsPath, EndsAddress}
 use Rattle.lmtp.proofs.FrontLemmas.{all_front, behind_is}
 use Rattle.lmtp.proofs.TextLemmas.{same_others}
 

@@ -10,11 +10,11 @@ use Rattle.lmtp.specs.declared.text.Place.TheVariants.{Start, Dot, DotReturn, In
 -- ---- lines
 
 -- what stands behind the first octet of a line is one
-line_rest : (octet : ℕ) (line : List ℕ) → IsLine (octet ∷ line) → IsLine line
+pub line_rest : (octet : ℕ) (line : List ℕ) → IsLine (octet ∷ line) → IsLine line
 line_rest octet line is = λ front back same. is (octet ∷ front) back (ap (λ t. octet ∷ t) same)
 
 -- behind a CR stands no LF
-no_feed : (line : List ℕ) → IsLine (13 ∷ 10 ∷ line) → ⊥
+pub no_feed : (line : List ℕ) → IsLine (13 ∷ 10 ∷ line) → ⊥
 no_feed line is = is [] (line ++ 13 ∷ []) refl
 
 -- ---- from a place in a line to the next line's front
@@ -26,11 +26,11 @@ record Leads (from : Place) (line gains rest : List ℕ) : Type 0 where
   ends : EndsAt Start rest → EndsAt from (line ++ (line_end ++ rest))
 
 -- the text has not ended at a place
-abbrev is_open : Place → Bool
+abbrev pub is_open : Place → Bool
 is_open Ended = false
 is_open place = true
 
-open_apart : (place : Place) → is_open place ≡ true → place ≡ Ended → ⊥
+pub open_apart : (place : Place) → is_open place ≡ true → place ≡ Ended → ⊥
 open_apart place is same = absurd (cc (sym is ∙ ap is_open same))
 
 -- a line's end leads to the next line's front
@@ -171,10 +171,10 @@ last_text = refl
 last_ends : EndsAt Start (with_end (46 ∷ []))
 last_ends = (open_apart Start refl, (open_apart Dot refl, (open_apart DotReturn refl, refl)))
 
-text_ends : (sent text : List ℕ) → IsText sent text → EndsAt Start sent
+pub text_ends : (sent text : List ℕ) → IsText sent text → EndsAt Start sent
 text_ends sent text is = subst (EndsAt Start) (sym is.written) ((passes is.lines (with_end (46 ∷ [])) is.each).ends last_ends)
 
-text_same : (sent text : List ℕ) → IsText sent text → text_after Start sent ≡ text
+pub text_same : (sent text : List ℕ) → IsText sent text → text_after Start sent ≡ text
 text_same sent text is =
     ap (text_after Start) is.written ∙ ((passes is.lines (with_end (46 ∷ [])) is.each).text ∙ (append-nil _ ∙ sym is.means))
 
@@ -198,7 +198,7 @@ same_others a b xs ys same = ap others_of same
 pub not_none : (a : ℕ) (xs : List ℕ) → a ∷ xs ≡ [] → ⊥
 not_none a xs same = grind (arith, same)
 
-none_longer : (octet : ℕ) (front back : List ℕ) → [] ≡ front ++ (octet ∷ back) → ⊥
+pub none_longer : (octet : ℕ) (front back : List ℕ) → [] ≡ front ++ (octet ∷ back) → ⊥
 none_longer octet [] back same = not_none octet back (sym same)
 none_longer octet (next ∷ front) back same = not_none next (front ++ (octet ∷ back)) (sym same)
 
@@ -244,7 +244,7 @@ at_end (first ∷ text) (next ∷ front) back octet same none =
     }
 
 -- a text has no CRLF with an octet more that is no LF, nor behind an octet that is no CR
-apart : (octet wanted : ℕ) → (octet == wanted) ≡ false → octet ≡ wanted → ⊥
+pub apart : (octet wanted : ℕ) → (octet == wanted) ≡ false → octet ≡ wanted → ⊥
 apart octet wanted other same = grind (arith, other, same)
 
 no_end_more : (text : List ℕ) (octet : ℕ) → (octet == 10) ≡ false → HasNoLineEnd text → HasNoLineEnd (text ++ octet ∷ [])
@@ -254,10 +254,10 @@ no_end_behind : (text : List ℕ) (last octet : ℕ) → (last == 13) ≡ false 
 no_end_behind text last octet other none =
     λ front back same. apart last 13 other (same_last text front last 13 (at_end (text ++ last ∷ []) front back octet same none).return)
 
-no_end_none : HasNoLineEnd []
+pub no_end_none : HasNoLineEnd []
 no_end_none = λ front back same. none_longer 13 front (10 ∷ back) same
 
-no_end_one : (octet : ℕ) → HasNoLineEnd (octet ∷ [])
+pub no_end_one : (octet : ℕ) → HasNoLineEnd (octet ∷ [])
 no_end_one octet [] back same = not_none 10 back (sym (same_others octet 13 [] (10 ∷ back) same))
 no_end_one octet (next ∷ front) back same = none_longer 13 front (10 ∷ back) (same_others octet next [] (front ++ (line_end ++ back)) same)
 

@@ -1,7 +1,7 @@
 -- What MAIL and RCPT are about (RFC 5321, sections 4.1.1.2 and 4.1.1.3; SIZE: RFC 1870; BODY: RFC 6152; SMTPUTF8: RFC 6531).
 use Rattle.std.specs.Prelude.{◌≡◌, ◌≢◌, ◌⊎◌, ℕ, ◌≤◌, ◌<◌, ◌^◌, true, List, [], ◌∷◌, ◌++◌, length, Option, Some, None, Result, Ok, Err, codes}
 use Rattle.std.specs.Borrow.{Bor}
-use Rattle.std.specs.List.{list_all, flat_map}
+use Rattle.std.specs.List.{list_all}
 use Rattle.octets.specs.Decimal.{Writes}
 use Rattle.lmtp.specs.Commands.{IsWord, is_unspaced}
 use Rattle.lmtp.specs.Paths.{IsPath}

@@ -1,7 +1,12 @@
 pub mod Arguments
 pub mod Commands
+pub mod Dialogues
 pub mod Lines
+pub mod Names
 pub mod Orders
 pub mod Paths
+pub mod Receivers
 pub mod Replies
+pub mod Talks
 pub mod Texts
+pub mod Turns

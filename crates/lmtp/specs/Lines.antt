@@ -1,9 +1,7 @@
 -- Lines, which end at CRLF and nowhere else (RFC 5321, section 2.3.8).
-use Rattle.std.specs.Prelude.{◌≡◌, ◌≢◌, ◌⊎◌, ℕ, ◌+◌, ◌<◌, ◌≤◌, List, [], ◌∷◌, ◌++◌, length, take, drop}
+use Rattle.std.specs.Prelude.{◌≡◌, ◌≢◌, ◌⊎◌, ℕ, ◌+◌, ◌-◌, ◌<◌, ◌≤◌, List, [], ◌∷◌, ◌++◌, length, take, drop}
 use Rattle.lmtp.specs.declared.line.Found.{Found}
 use Rattle.lmtp.specs.declared.line.Found.TheVariants.{Need, Line, TooLong}
-use Rattle.lmtp.specs.declared.line.Skipped.{Skipped}
-use Rattle.lmtp.specs.declared.line.Skipped.TheVariants.{Whole, Part}
 
 -- CRLF
 abbrev pub line_end : List ℕ
@@ -34,12 +32,11 @@ Finds Need stream = HasNoLineEnd stream × (length stream < max_line)
 Finds (Line count) stream = IsFirstLine stream (take count stream) (drop (count + 2) stream) × (count + 2 ≤ max_line) × (count + 2 ≤ length stream)
 Finds TooLong stream = HasNoLineEnd (take max_line stream) × (max_line ≤ length stream)
 
--- octets of a line that is too long are dropped: up to its CRLF, or all of them, but for a CR at their end
-abbrev pub Skips : Skipped → List ℕ → Type 0
-Skips (Whole count) stream = (line : List ℕ) × IsFirstLine stream line (drop count stream) × (count ≡ length line + 2)
-Skips (Part count) stream = (count ≤ length stream) × HasNoLineEnd stream × ((drop count stream ≡ []) ⊎ (drop count stream ≡ 13 ∷ []))
+-- so many octets of a line that is too long are dropped: those before its CRLF, or all but the last one, which may be a CR
+abbrev pub Skips : ℕ → List ℕ → Type 0
+Skips count stream = (IsFirstLine stream (take count stream) (drop (count + 2) stream) × (count + 2 ≤ length stream)) ⊎ (HasNoLineEnd stream × (count ≡ length stream - 1))
 
--- each stream has one first line or none, whatever follows, and octets that are dropped make no line end with those that follow
+-- each stream has one first line or none, whatever follows
 pub record LinesStand : Type 0 where
   pub one : (a b : Found) (stream : List ℕ) → Finds a stream → Finds b stream → a ≡ b
   pub stays : (found : Found) (stream more : List ℕ) → found ≢ Need → Finds found stream → Finds found (stream ++ more)

@@ -1,6 +1,10 @@
--- What is answered in one line (RFC 5321, sections 4.2 and 4.3.2; the codes behind the first: RFC 3463, RFC 2034).
-use Rattle.std.specs.Prelude.{◌≡◌, ℕ, Bool, true, false, List, [], ◌∷◌, ◌++◌, codes}
+-- What is answered (RFC 5321, sections 4.2 and 4.3.2; the codes behind the first: RFC 3463, RFC 2034).
+use Rattle.std.specs.Prelude.{◌≡◌, ℕ, ◌≤◌, Bool, true, false, if◌then◌else◌, List, [], ◌∷◌, ◌++◌, codes, length, map, take}
+use Rattle.std.specs.List.{list_all}
+use Rattle.octets.specs.Ascii.{is_printable}
 use Rattle.lmtp.specs.Lines.{line_end}
+use Rattle.lmtp.specs.declared.reply.Outcome.{Outcome}
+use Rattle.lmtp.specs.declared.reply.Outcome.TheVariants.{Delivered, Refused}
 use Rattle.lmtp.specs.declared.reply.Reply.{Reply}
 use Rattle.lmtp.specs.declared.reply.Reply.TheVariants.{Done, SenderTaken, RecipientTaken, Unverified, GoAhead, Helped, Goodbye, UnknownCommand, NotSmtp, LineTooLong, BadArgument, BadSender, BadRecipient, OutOfOrder, NoRecipient, BadParameter, NoSuchUser, MessageTooLarge, MailLoop, NoRoom, TooManyRecipients, StoreAway, LocalFault, Idle}
 
@@ -47,3 +51,63 @@ first_octet (octet ∷ rest) = octet
 -- a client is told to try such a one again: its code begins with 4, so no message is bounced for it
 abbrev pub HostsFaultsPass : Type 0
 HostsFaultsPass = (reply : Reply) → is_of_host reply ≡ true → first_octet (line_of reply) ≡ 52
+
+-- ---- texts from elsewhere
+
+-- an octet that isn't printable ASCII is shown as `?`
+abbrev pub shown_octet : ℕ → ℕ
+shown_octet octet = if is_printable octet then octet else 63
+
+-- so many octets of a text at most
+abbrev pub shown : ℕ → List ℕ → List ℕ
+shown most text = map shown_octet (take most text)
+
+-- ---- what became of a message for one recipient
+
+-- a line of an answer has at most so many octets, with its CRLF (RFC 5321, section 4.5.3.1.5), and so many of them are the report's
+abbrev pub max_reply : ℕ
+max_reply = 512
+
+abbrev pub max_report : ℕ
+max_report = 500
+
+abbrev pub delivered : List ℕ → List ℕ
+delivered report = codes "250 2.1.5 " ++ (shown max_report report ++ line_end)
+
+-- it was delivered, with a report of that, or it wasn't
+abbrev pub said_of : Outcome → List ℕ
+said_of (Delivered report) = delivered report.now
+said_of (Refused reply) = line_of reply
+
+-- one line of printable octets, and no longer than one may be
+pub record IsOneLine (said : List ℕ) : Type 0 where
+  pub line : List ℕ
+  pub written : said ≡ line ++ line_end
+  pub printable : list_all is_printable line ≡ true
+  pub short : length said ≤ max_reply
+
+-- whatever a report has, and for each reply of one line
+abbrev pub RepliesAreLines : Type 0
+RepliesAreLines = (outcome : Outcome) → IsOneLine (said_of outcome)
+
+-- ---- who greets, and what is announced to LHLO
+
+-- a host's name has at most so many octets (RFC 1035, section 2.3.4)
+abbrev pub max_host : ℕ
+max_host = 255
+
+abbrev pub greeting : List ℕ → List ℕ
+greeting host = codes "220 " ++ (shown max_host host ++ (codes " LMTP" ++ line_end))
+
+-- an answer of several lines: each has the code, the last with a space behind it and the others with a hyphen (RFC 5321, section 4.2.1)
+abbrev pub lines_of : List ℕ → List ℕ → List (List ℕ) → List ℕ
+lines_of code line [] = code ++ 32 ∷ (line ++ line_end)
+lines_of code line (next ∷ others) = code ++ 45 ∷ (line ++ (line_end ++ lines_of code next others))
+
+-- SIZE: RFC 1870; PIPELINING: RFC 2920; 8BITMIME: RFC 6152; SMTPUTF8: RFC 6531
+abbrev pub announced : List (List ℕ)
+announced =
+    codes "PIPELINING" ∷ codes "SIZE 33552232" ∷ codes "8BITMIME" ∷ codes "SMTPUTF8" ∷ codes "ENHANCEDSTATUSCODES" ∷ []
+
+abbrev pub capabilities : List ℕ → List ℕ
+capabilities host = lines_of (codes "250") (shown max_host host) announced

@@ -1,6 +1,7 @@
 -- The text of a message behind DATA, as it is sent (RFC 5321, section 4.5.2): its lines, a dot before each that begins with one, and a line
 -- that is a dot alone.
 use Rattle.std.specs.Prelude.{◌≡◌, ◌≢◌, ℕ, ◌<◌, ◌==◌, if◌then◌else◌, List, [], ◌∷◌, ◌++◌, length, Option, Some, None, Result, Ok, Err}
+use Rattle.std.specs.Borrow.{Bor}
 use Rattle.std.specs.List.{All, flat_map}
 use Rattle.lmtp.specs.Lines.{line_end, IsLine}
 use Rattle.lmtp.specs.declared.text.Place.{Place}
@@ -101,3 +102,8 @@ abbrev pub Finishes : ℕ → List ℕ → Result (List ℕ) Trouble → Type 0
 Finishes limit sent (Ok text) = IsText sent text
 Finishes limit sent (Err TooLarge) = (text : List ℕ) × IsText sent text × (limit < length text)
 Finishes limit sent (Err Memory) = Unit {0}
+
+-- the text as it is kept, or why it isn't
+abbrev pub IsTextOf : Text → Result (Bor (List ℕ)) Trouble → Type 0
+IsTextOf text (Ok kept) = (text.trouble ≡ None) × (kept.now ≡ text.kept)
+IsTextOf text (Err trouble) = text.trouble ≡ Some trouble

@@ -1,7 +1,10 @@
 //! Laws of the definitions, each the contract of a function that does nothing.
+ghost use Rattle.lmtp.specs.Dialogues.{ItemsStand};
 ghost use Rattle.lmtp.specs.Lines.{LinesStand};
-ghost use Rattle.lmtp.specs.Replies.{HostsFaultsPass};
+ghost use Rattle.lmtp.specs.Names.{FormsStand};
+ghost use Rattle.lmtp.specs.Replies.{HostsFaultsPass, RepliesAreLines};
 ghost use Rattle.lmtp.specs.Texts.{TextsAgree};
+ghost use Rattle.lmtp.specs.Turns.{AnswersStand};
 
 /// A text by its lines and a text octet by octet are the same: where it ends, and what it is.
 pub fn texts_agree()
@@ -16,4 +19,25 @@ pub fn lines_stand()
 /// For a fault of this host a client is told to try again: no message is bounced for it.
 pub fn hosts_faults_pass()
     ensures { HostsFaultsPass }
+{}
+
+/// What comes first in a dialogue is one item, and stays so whatever octets follow; it doesn't matter in which pieces they come.
+pub fn items_stand()
+    ensures { ItemsStand }
+{}
+
+/// What is answered stays so whatever octets follow.
+pub fn answers_stand()
+    ensures { AnswersStand }
+{}
+
+/// Each reply but that to LHLO is one line of at most 512 octets, all of them printable, whatever a report has.
+pub fn replies_are_lines()
+    ensures { RepliesAreLines }
+{}
+
+/// An address has one local part. Each form of a name is the name as it stands, in lower case, without the detail, or both, and none
+/// is there twice.
+pub fn forms_stand()
+    ensures { FormsStand }
 {}

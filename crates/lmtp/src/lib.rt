@@ -4,11 +4,18 @@
 pub mod argument;
 pub mod laws;
 pub mod line;
+pub mod name;
 pub mod order;
 pub mod path;
+pub mod receiver;
+mod recipients;
 pub mod reply;
+mod talk;
 pub mod text;
 pub mod verb;
 
-pub use line::{Found, Skipped, first_line, skip_line};
+pub use line::{Found, first_line, skip_line};
+pub use name::{Names, name_forms};
+pub use receiver::{Delivery, Lookup, Next, Receiver};
+pub use reply::{Outcome, Reply};
 pub use text::{Place, Text, Trouble};

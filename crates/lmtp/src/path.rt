@@ -27,7 +27,7 @@ impl Quoting {
     }
 
     // Where the octet behind this one stands; none where this one may not stand here.
-    fn after(self, octet: u8) -> Option<Quoting>
+    pub(crate) fn after(self, octet: u8) -> Option<Quoting>
         ensures { s.StepsTo self octet result }
     {
         match (self, octet) {

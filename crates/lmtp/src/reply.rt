@@ -1,6 +1,19 @@
-//! What is answered in one line.
-ghost use Rattle.std.specs.Prelude.{◌≡◌};
+//! What is answered.
+ghost use Rattle.std.specs.Prelude.{◌≡◌, IfOk, map, take};
 ghost use Rattle.lmtp.specs.Replies as s;
+
+use octets::{Octets, is_printable};
+use std::alloc::{AllocError, Global};
+
+/// The most octets of a host's name (RFC 1035, section 2.3.4).
+const MAX_HOST: usize = 255;
+
+/// The most octets of a report: its line has 512 with code and CRLF (RFC 5321, section 4.5.3.1.5).
+const MAX_REPORT: usize = 500;
+
+/// What LHLO is answered behind the host's name.
+const ANNOUNCED: &[u8] =
+    b"\r\n250-PIPELINING\r\n250-SIZE 33552232\r\n250-8BITMIME\r\n250-SMTPUTF8\r\n250 ENHANCEDSTATUSCODES\r\n";
 
 /// An answer of one line (RFC 5321, section 4.2).
 #[derive(Clone, Copy, Debug, PartialEq, Eq)]
@@ -87,4 +100,88 @@ impl Reply {
             Reply::Idle => b"421 4.4.2 Idle\r\n",
         }
     }
+}
+
+/// What became of a message for one recipient.
+#[derive(Clone, Copy)]
+pub enum Outcome<'a> {
+    /// It was delivered: what is reported of that. It is shown in one line of at most 512 octets, with `?` for each octet that isn't
+    /// printable ASCII.
+    Delivered(&'a [u8]),
+    /// It wasn't.
+    Refused(Reply),
+}
+
+impl Outcome<'_> {
+    /// The line that tells it, with CRLF. Lack of memory is the only error.
+    pub fn line(self, alloc: Global) -> Result<Octets, AllocError>
+        ensures { IfOk result (λ line. line ≡ s.said_of self.entry) }
+    {
+        match self {
+            Outcome::Delivered(report) => delivered(alloc, report),
+            Outcome::Refused(reply) => Octets::from_slice(alloc, reply.line()),
+        }
+    }
+}
+
+fn delivered(alloc: Global, report: &[u8]) -> Result<Octets, AllocError>
+    ensures { IfOk result (λ line. line ≡ s.delivered report.now) }
+{
+    let shown = shown(alloc, MAX_REPORT, report)?;
+    let mut line = Octets::from_slice(alloc, b"250 2.1.5 ")?;
+    line.extend_from_slice(shown.as_slice())?;
+    line.extend_from_slice(b"\r\n")?;
+    Ok(line)
+}
+
+/// What a client is greeted with.
+pub fn greeting(alloc: Global, host: &[u8]) -> Result<Octets, AllocError>
+    ensures { IfOk result (λ line. line ≡ s.greeting host.now) }
+{
+    let shown = shown(alloc, MAX_HOST, host)?;
+    let mut line = Octets::from_slice(alloc, b"220 ")?;
+    line.extend_from_slice(shown.as_slice())?;
+    line.extend_from_slice(b" LMTP\r\n")?;
+    Ok(line)
+}
+
+/// What is said to LHLO.
+pub fn capabilities(alloc: Global, host: &[u8]) -> Result<Octets, AllocError>
+    ensures { IfOk result (λ lines. lines ≡ s.capabilities host.now) }
+{
+    let shown = shown(alloc, MAX_HOST, host)?;
+    let mut lines = Octets::from_slice(alloc, b"250-")?;
+    lines.extend_from_slice(shown.as_slice())?;
+    lines.extend_from_slice(ANNOUNCED)?;
+    Ok(lines)
+}
+
+// So many octets of a text, with `?` for each that isn't printable.
+fn shown(alloc: Global, most: usize, text: &[u8]) -> Result<Octets, AllocError>
+    ensures { IfOk result (λ shown. shown ≡ s.shown most text.now) }
+{
+    printable(alloc, front(text, most))
+}
+
+fn front(text: &[u8], most: usize) -> &[u8]
+    ensures { result.now ≡ take most text.now }
+{
+    if text.len() <= most {
+        text
+    } else {
+        &text[..most]
+    }
+}
+
+fn printable(alloc: Global, text: &[u8]) -> Result<Octets, AllocError>
+    ensures { IfOk result (λ shown. shown ≡ map s.shown_octet text.now) }
+{
+    let octets = text.iter().map(|octet| shown_octet(*octet)).collect(alloc)?;
+    Ok(Octets::from_vec(octets))
+}
+
+fn shown_octet(octet: u8) -> u8
+    ensures { result ≡ s.shown_octet octet }
+{
+    if is_printable(octet) { octet } else { b'?' }
 }

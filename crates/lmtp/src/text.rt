@@ -90,6 +90,16 @@ impl Text {
         taken
     }
 
+    /// What is kept of it so far, or why it isn't. Takes no memory.
+    pub fn kept(&self) -> Result<&[u8], Trouble>
+        ensures { s.IsTextOf self.now result }
+    {
+        match self.trouble {
+            None => Ok(self.kept.as_slice()),
+            Some(trouble) => Err(trouble),
+        }
+    }
+
     /// The text that has ended.
     ///
     /// # Errors

@@ -3,6 +3,7 @@ pub mod Examples
 pub mod HeadlineLemmas
 pub mod LeadLemmas
 pub mod LineLemmas
+pub mod RoomLemmas
 pub mod SentLemmas
 pub mod StepLemmas
 pub mod TurnLemmas

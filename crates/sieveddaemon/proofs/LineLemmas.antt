@@ -17,7 +17,7 @@ use Rattle.sieveddaemon.specs.Places.{client_at, want_of, want_by, place_given, 
 use Rattle.sieveddaemon.specs.Waiting.{Allows, IsDue, waits_behind, idle}
 use Rattle.sieveddaemon.specs.declared.daemon.Daemon.{Daemon}
 use Rattle.sieveddaemon.specs.declared.note.Note.{Note}
-use Rattle.sieveddaemon.specs.declared.note.Note.TheVariants.{Looked, Gave, Did, Away, Freed, Spoke}
+use Rattle.sieveddaemon.specs.declared.note.Note.TheVariants.{Looked, Did, Away, Freed, Spoke}
 use Rattle.sieveddaemon.specs.declared.place.Place.{Place}
 use Rattle.sieveddaemon.specs.declared.place.Waits.{Waits as Waiting}
 use Rattle.sieveddaemon.specs.declared.place.Waits.TheVariants as waits
@@ -116,8 +116,7 @@ module _ {R : Type 0} (shows : R → Accounts → Type 0) (d e : Daemon) (r q : 
     lacked n (inr (inr t)) = still t.0
 
     rested : (note : Note) → Rests d s.moment note e → Tied e id l
-    rested Looked is = subst (λ (x : Daemon). Tied x id l) (sym is.1) tied
-    rested Gave is = subst (λ (x : Daemon). Tied x id l) (sym is) tied
+    rested (Looked wanted) is = subst (λ (x : Daemon). Tied x id l) (sym is) tied
     rested (Did others event answer) is = absurd is
     rested Away is = absurd is
     rested (Freed event answer) is = absurd is
@@ -134,7 +133,7 @@ module _ {R : Type 0} (shows : R → Accounts → Type 0) (d e : Daemon) (r q : 
     tied_after (Full n) said t = lacked n t.1
     tied_after (Worked note) said t = rested note t.0.1
     tied_after (Sent n octets) said t = unchanged t.0.0 (same n id) (record l { sent = l.sent ++ octets }) refl tied
-    tied_after (Woke wakes) said t = still t.0.0
+    tied_after (Woke within wakes) said t = still t.0.0
     tied_after (Timed moment) said t = still t.0.0
     tied_after (Began wake) said t = still t.0.0
     tied_after (Roused n) said t = still t.0.0

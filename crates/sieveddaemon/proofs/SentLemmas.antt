@@ -188,7 +188,7 @@ module _ {R : Type 0} (shows : R → Accounts → Type 0) (d e : Daemon) (r q : 
   whole_after (Shut n) said whole t talks = inl (at_same (same n id) (Shuts s.moment (client_of s id) (client_of u id)) (λ is c. shut l s.moment (client_of s id) (client_of u id) whole c) whole talks)
   whole_after (Dropped n count) said whole t talks = inl (at_same (same n id) (Drops count (client_of s id) (client_of u id)) (λ is c. dropped l count (client_of s id) (client_of u id) whole c) whole talks)
   whole_after (Ended n) said whole t talks = inl (ended_at (same n id) talks (part_of l (client_of s id) whole) (λ is. whole))
-  whole_after (Woke wakes) said whole t talks = stays whole talks
+  whole_after (Woke within wakes) said whole t talks = stays whole talks
   whole_after (Timed moment) said whole t talks = stays whole talks
   whole_after (Began wake) said whole t talks = stays whole talks
   whole_after (Roused n) said whole t talks = stays whole talks

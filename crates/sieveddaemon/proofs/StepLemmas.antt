@@ -1,7 +1,10 @@
 -- Steps of a connection, put together from what is brought, told and known.
-use Rattle.std.proofs.Common.{◌≡◌, ◌∙◌, ℕ, Bool, true, false, List, [], Some, None, IsTrue, refl, sym, ap, subst}
+use Rattle.std.proofs.Common.{◌≡◌, ◌∙◌, ℕ, Bool, true, false, List, [], Some, None, IsTrue, refl, sym, subst}
 use Rattle.mailstore.specs.Account.{Accounts}
-use Rattle.mailengine.specs.Hosts.{KeepsClients, IsMade, IsSessionEvent}
+use Rattle.mailengine.specs.Hosts.{Kept, KeepsClients, IsMade, AsksStore, IsSessionEvent, clients_of}
+use Rattle.mailengine.proofs.HostLemmas.{clients_are}
+use Rattle.mailengine.specs.World.{if_open}
+use Rattle.sessions.specs.Steps.{may_fail}
 use Rattle.mailengine.specs.declared.answer.Answer.{Answer}
 use Rattle.mailengine.specs.declared.answer.Answer.TheVariants.{Out, Delivered, Added, Taken, MailTaken, Ignored, Refused}
 use Rattle.mailengine.specs.declared.clients.Clients.{Clients as CodeClients}
@@ -11,17 +14,16 @@ use Rattle.wires.specs.declared.act.Act.{Act}
 use Rattle.wires.specs.declared.act.Act.TheVariants.{Noted}
 use Rattle.wires.specs.Rules.{StepsIf}
 use Rattle.wires.specs.Told.{TellsIf}
-use Rattle.sieveddaemon.specs.DaemonRules.{daemon_rules, place_at, AtPlace, Makes, Places, Renews, asked_at}
+use Rattle.sieveddaemon.specs.DaemonRules.{daemon_rules, place_at, AtPlace, AsksFor, Makes, Places, Renews, asked_at}
 use Rattle.sieveddaemon.specs.Desk.{Carries, IsDone, NothingDone, StillShowsIf}
 use Rattle.sieveddaemon.specs.Places.{client_at, renewed, is_out, is_user}
 use Rattle.sieveddaemon.specs.Waiting.{Allows, MayAsk, MayGiveUp, said_at_once, waits_after, waits_behind}
 use Rattle.sieveddaemon.specs.declared.daemon.Daemon.{Daemon}
 use Rattle.sieveddaemon.specs.declared.daemon.Holding.{Holding}
 use Rattle.sieveddaemon.specs.declared.note.Note.{Note}
-use Rattle.sieveddaemon.specs.declared.note.Note.TheVariants.{Did, Away, Freed, Spoke, Looked, Gave}
+use Rattle.sieveddaemon.specs.declared.note.Note.TheVariants.{Did, Away, Freed, Spoke, Looked}
 use Rattle.sieveddaemon.specs.declared.place.Place.{Place}
 use Rattle.sieveddaemon.specs.declared.place.Waits.{Waits}
-use Rattle.sieveddaemon.specs.declared.place.Waits.TheVariants as waits
 
 some_one : {X : Type 0} (a b : X) → Some a ≡ Some b → a ≡ b
 some_one a b is = cc
@@ -34,6 +36,16 @@ made_out (Taken row) is = tt
 made_out MailTaken is = tt
 made_out Ignored is = tt
 made_out (Refused refusal) is = let never : false ≡ true = is in absurd (let no_one : ⊥ = cc in no_one)
+
+-- a session that is as it was asks for the same
+client_kept : (id : ℕ) (before after : Kept) → KeepsClients before after → client_at after id ≡ client_at before id
+client_kept id before after keeps = keeps (clients_of before) (clients_are before) id ∙ sym (clients_are before id)
+
+asks_before : (id : ℕ) (before after : Kept) → KeepsClients before after → AsksStore (Step id) after → AsksStore (Step id) before
+asks_before id before after keeps asks = subst (λ o. if_open may_fail o ≡ true) (client_kept id before after keeps) asks
+
+pub asks_after : (id : ℕ) (before after : Kept) → KeepsClients before after → AsksStore (Step id) before → AsksStore (Step id) after
+asks_after id before after keeps asks = subst (λ o. if_open may_fail o ≡ true) (sym (client_kept id before after keeps)) asks
 
 -- the daemon with other sessions, and what is so of the store
 abbrev mid_of : Daemon → CodeClients → Holding → Daemon
@@ -48,15 +60,16 @@ place_by d e c h now id w answered before r was =
 module _ {O R : Type 0} (tells : O → Bool) (seen : O → List (Act Note)) (rest : O → R) (shows : R → Accounts → Type 0) (clean : R → Type 0) (sure : (o : O) → IsTrue (tells o) → clean (rest o))
     (o p : O) (d e : Daemon) (c : CodeClients) (now id : ℕ) (said : List ℕ) where
   -- an event was done by the store
-  pub did : (answer : Answer) → Carries tells seen rest shows clean id (Step id) o d.clients.sessions (Some answer) p c.sessions → AtPlace d id (λ place. MayAsk now place.waits)
-      → Renews (mid_of d c (asked_at now)) now id (waits_after now answer) (is_out answer) e → said ≡ said_at_once answer → StepsIf tells seen rest (daemon_rules shows) o d now id said p e
-  did answer carries may r says tell = record {
+  pub did : (answer : Answer) → Carries tells seen rest shows clean id (Step id) o d.clients.sessions (Some answer) p c.sessions → AsksStore (Step id) d.clients.sessions
+      → AtPlace d id (λ place. MayAsk now place.waits) → Renews (mid_of d c (asked_at now)) now id (waits_after now answer) (is_out answer) e → said ≡ said_at_once answer → StepsIf tells seen rest (daemon_rules shows) o d now id said p e
+  did answer carries asks may r says tell = record {
     note = Did carries.0 (Step id) answer;
     grows = carries.2 tell;
     steps = record {
       before = may.0;
       was = may.1;
       allows = λ due. (may.2, refl);
+      asks = asks;
       makes = subst (λ (k : CodeClients). IsDone shows carries.0 (Step id) answer (rest o) d.clients.sessions (rest p) k.sessions) (sym r.clients) (carries.1 (sure p tell));
       says = says;
       place = place_by d e c (asked_at now) now id (waits_after now answer) (is_out answer) may.0 r may.1;
@@ -65,15 +78,16 @@ module _ {O R : Type 0} (tells : O → Bool) (seen : O → List (Act Note)) (res
   }
 
   -- it was away
-  pub away : Carries tells seen rest shows clean id (Step id) o d.clients.sessions None p c.sessions → (may : AtPlace d id (λ place. MayAsk now place.waits))
-      → Renews (mid_of d c d.holding) now id (waits_behind now may.0.waits Away) false e → said ≡ [] → StepsIf tells seen rest (daemon_rules shows) o d now id said p e
-  away carries may r says tell = record {
+  pub away : Carries tells seen rest shows clean id (Step id) o d.clients.sessions None p c.sessions → AsksStore (Step id) d.clients.sessions
+      → (may : AtPlace d id (λ place. MayAsk now place.waits)) → Renews (mid_of d c d.holding) now id (waits_behind now may.0.waits Away) false e → said ≡ [] → StepsIf tells seen rest (daemon_rules shows) o d now id said p e
+  away carries asks may r says tell = record {
     note = Away;
     grows = carries.1 tell;
     steps = record {
       before = may.0;
       was = may.1;
       allows = λ due. may.2;
+      asks = asks;
       makes = subst (λ (k : CodeClients). NothingDone shows (rest o) d.clients.sessions (rest p) k.sessions) (sym r.clients) (carries.0 (sure p tell));
       says = says;
       place = place_by d e c d.holding now id (waits_behind now may.0.waits Away) false may.0 r may.1;
@@ -92,6 +106,7 @@ module _ {O R : Type 0} (tells : O → Bool) (seen : O → List (Act Note)) (res
       before = before;
       was = was;
       allows = λ due. allows before was;
+      asks = tt;
       makes = (still tell, subst (λ (k : CodeClients). IsSessionEvent event answer d.clients.sessions k.sessions) (sym r.clients) made);
       says = says;
       place = place_by d e c d.holding now id (waits_after now answer) (is_out answer) before r was;
@@ -105,8 +120,14 @@ module _ {O R : Type 0} (tells : O → Bool) (seen : O → List (Act Note)) (res
   kept_makes Away keeps makes = record { shown = makes.shown; kept = λ clients has. makes.kept clients (keeps clients has) }
   kept_makes Spoke keeps makes = record { shown = makes.shown; kept = λ clients has. makes.kept clients (keeps clients has) }
   kept_makes (Freed event answer) keeps makes = (makes.0, λ w has. makes.1 w (keeps w.sessions has))
-  kept_makes Looked keeps makes = makes
-  kept_makes Gave keeps makes = makes
+  kept_makes (Looked wanted) keeps makes = makes
+
+  kept_asks : (note : Note) → KeepsClients d.clients.sessions c.sessions → AsksFor id note c.sessions → AsksFor id note d.clients.sessions
+  kept_asks (Did others event answer) keeps asks = asks_before id d.clients.sessions c.sessions keeps asks
+  kept_asks Away keeps asks = asks_before id d.clients.sessions c.sessions keeps asks
+  kept_asks Spoke keeps asks = tt
+  kept_asks (Freed event answer) keeps asks = tt
+  kept_asks (Looked wanted) keeps asks = tt
 
   pub behind : KeepsClients d.clients.sessions c.sessions → StepsIf tells seen rest (daemon_rules shows) o (mid_of d c d.holding) now id said p e → StepsIf tells seen rest (daemon_rules shows) o d now id said p e
   behind keeps steps tell =
@@ -115,7 +136,7 @@ module _ {O R : Type 0} (tells : O → Bool) (seen : O → List (Act Note)) (res
       record {
         note = s.note;
         grows = s.grows;
-        steps = record { before = g.before; was = g.was; allows = g.allows; makes = kept_makes s.note keeps g.makes; says = g.says; place = g.place; holding = g.holding };
+        steps = record { before = g.before; was = g.was; allows = g.allows; asks = kept_asks s.note keeps g.asks; makes = kept_makes s.note keeps g.makes; says = g.says; place = g.place; holding = g.holding };
       }
 
 -- given up, or stepped at once
@@ -125,17 +146,10 @@ gives_up d now id answer may place was =
     by place.waits (subst (λ (x : Place). MayGiveUp now x.waits) one may.2)
   where
     by : (w : Waits) → MayGiveUp now w → Allows now w id (Freed (GiveUp id) answer)
-    by waits.Nothing may = absurd may
-    by (waits.Store since again) may = (may, refl)
-    by waits.Refused may = (may, refl)
-    by (waits.Reply until text) may = absurd may
+    by w may = (may, refl)
 
-pub steps_free : (d : Daemon) (now id : ℕ) (answer : Answer) → is_out answer ≡ true → AtPlace d id (λ place. place.waits ≡ waits.Nothing) → (place : Place) → place_at d id ≡ Some place
+pub steps_free : (d : Daemon) (now id : ℕ) (answer : Answer) → is_out answer ≡ true → AtPlace d id (λ place. MayAsk now place.waits) → (place : Place) → place_at d id ≡ Some place
     → Allows now place.waits id (Freed (Step id) answer)
 steps_free d now id answer out may place was =
     let one : may.0 ≡ place = some_one may.0 place (sym may.1 ∙ was) in
-    let nothing : place.waits ≡ waits.Nothing = ap (λ (x : Place). x.waits) (sym one) ∙ may.2 in
-    subst (λ w. Allows now w id (Freed (Step id) answer)) (sym nothing) (refl, made_out answer out)
-
-pub asks_free : (d : Daemon) (now id : ℕ) → AtPlace d id (λ place. place.waits ≡ waits.Nothing) → AtPlace d id (λ place. MayAsk now place.waits)
-asks_free d now id may = (may.0, may.1, subst (λ w. MayAsk now w) (sym may.2) tt)
+    (subst (λ (x : Place). MayAsk now x.waits) one may.2, refl, made_out answer out)

@@ -1,24 +1,26 @@
 -- What the daemon makes of what happens.
-use Rattle.std.specs.Prelude.{◌≡◌, ℕ, ◌<◌, ◌==◌, ◌&&◌, nat_le, Bool, true, false, cond, List, [], Option, Some, None, if◌then◌else◌}
+use Rattle.std.specs.Prelude.{◌≡◌, ◌∷◌, ℕ, ◌==◌, ◌&&◌, ◌||◌, nat_le, nat_lt, Bool, true, false, cond, List, [], Option, Some, None, if◌then◌else◌}
 use Rattle.std.specs.Ordering.{nat_cmp}
 use Rattle.std.specs.BTreeMap as tree
 use Rattle.mailstore.specs.Account.{Accounts}
 use Rattle.sessions.specs.Clients.{Client}
-use Rattle.mailengine.specs.Hosts.{IsSessionEvent, KeepsClients}
+use Rattle.mailengine.specs.Hosts.{Kept, AsksStore, IsSessionEvent, KeepsClients}
 use Rattle.mailengine.specs.declared.answer.Answer.{Answer}
 use Rattle.mailengine.specs.declared.event.Event.{Event}
-use Rattle.mailengine.specs.declared.event.Event.TheVariants.{Open, Give, Close}
+use Rattle.mailengine.specs.declared.event.Event.TheVariants.{Open, Give, Step, Close}
 use Rattle.wires.specs.Rules.{Rules}
 use Rattle.wires.specs.Talk.{after_span, same}
 use Rattle.sieveddaemon.specs.Desk.{StillShows, IsDone, NothingDone}
-use Rattle.sieveddaemon.specs.Places.{client_at, want_of, due_of, new_place, place_given, place_behind, renewed, is_user}
+use Rattle.sieveddaemon.specs.Room.{longest_guest}
+use Rattle.sieveddaemon.specs.Places.{client_at, want_of, due_of, new_place, place_given, place_behind, renewed, is_out, is_user}
 use Rattle.sieveddaemon.specs.Waiting.{Allows, IsDue, said_with, greeting, idle}
 use Rattle.sieveddaemon.specs.declared.daemon.Daemon.{Daemon}
 use Rattle.sieveddaemon.specs.declared.daemon.Holding.{Holding}
 use Rattle.sieveddaemon.specs.declared.note.Note.{Note}
-use Rattle.sieveddaemon.specs.declared.note.Note.TheVariants.{Did, Away, Freed, Spoke, Looked, Gave}
+use Rattle.sieveddaemon.specs.declared.note.Note.TheVariants.{Did, Away, Freed, Spoke, Looked}
 use Rattle.sieveddaemon.specs.declared.place.Place.{Place}
 use Rattle.sieveddaemon.specs.declared.place.Waits.{Waits}
+use Rattle.sieveddaemon.specs.declared.place.Waits.TheVariants as waits
 
 -- the kind of the connections of ManageSieve, and how many of it there may be
 abbrev pub managesieve : ℕ
@@ -29,6 +31,10 @@ max_clients = 50
 
 abbrev pub limit_of : ℕ → ℕ
 limit_of kind = if kind == managesieve then max_clients else 0
+
+-- where so many are there, who of them makes room for another
+abbrev pub displaced_of : Daemon → ℕ → Option ℕ
+displaced_of d kind = if kind == managesieve then longest_guest d.clients.sessions d.places else None
 
 abbrev pub place_at : Daemon → ℕ → Option Place
 place_at d id = tree.get nat_cmp d.places id
@@ -50,18 +56,22 @@ pub record Knows (d : Daemon) (id : ℕ) (place : Option Place) (e : Daemon) : T
 abbrev pub Happened : Event → Daemon → Daemon → Type 0
 Happened event d e = (answer : Answer) × IsSessionEvent event answer d.clients.sessions e.clients.sessions
 
+-- the same, and it was made
+abbrev pub Made : Event → Daemon → Daemon → Type 0
+Made event d e = (answer : Answer) × (is_out answer ≡ true) × IsSessionEvent event answer d.clients.sessions e.clients.sessions
+
 -- ---- connections come, say something, and go
 
 -- one is greeted, and its session begins
 pub record Opens (d : Daemon) (now id : ℕ) (said : List ℕ) (e : Daemon) : Type 0 where
   pub says : said ≡ greeting
-  pub event : Happened (Open id) d e
+  pub event : Made (Open id) d e
   pub place : Knows d id (Some (new_place now)) e
 
 -- octets of one join its session, and nothing is said
 pub record Gives (d : Daemon) (now id : ℕ) (piece said : List ℕ) (e : Daemon) : Type 0 where
   pub silent : said ≡ []
-  pub event : Happened (Give id piece) d e
+  pub event : Made (Give id piece) d e
   pub before : Place
   pub was : place_at d id ≡ Some before
   pub client : Client
@@ -89,6 +99,12 @@ Makes shows r d Spoke q e = NothingDone shows r d.clients.sessions q e.clients.s
 Makes shows r d (Freed event answer) q e = StillShows shows r q × IsSessionEvent event answer d.clients.sessions e.clients.sessions
 Makes shows r d _ q e = ⊥
 
+-- the store is asked only for what asks one: all else is answered by the session alone
+abbrev pub AsksFor : ℕ → Note → Kept → Type 0
+AsksFor id (Did others event answer) kept = AsksStore (Step id) kept
+AsksFor id Away kept = AsksStore (Step id) kept
+AsksFor id note kept = Unit {0}
+
 abbrev pub asked_at : ℕ → Holding
 asked_at now = record { had = true; look = now; asked = now }
 
@@ -105,6 +121,7 @@ pub record Goes {R : Type 0} (shows : R → Accounts → Type 0) (d : Daemon) (r
   pub before : Place
   pub was : place_at d id ≡ Some before
   pub allows : IsDue now before.waits → Allows now before.waits id note
+  pub asks : AsksFor id note d.clients.sessions
   pub makes : Makes shows r d note q e
   pub says : said ≡ said_with before.waits note
   pub place : Places d id (Some (place_behind now before note (client_at e.clients.sessions id))) e
@@ -136,20 +153,47 @@ max_rest = 10000
 abbrev pub is_look_due : Daemon → ℕ → Bool
 is_look_due d now = d.holding.had && nat_le d.holding.look now
 
--- where nobody waits it is kept, but for ten seconds at most
+-- nobody asked for so long
+abbrev pub is_rested : Daemon → ℕ → Bool
+is_rested d now = nat_le (after_span d.holding.asked max_rest) now
+
+abbrev pub looked : Daemon → ℕ → Bool → Holding
+looked d now given = if given then record d.holding { had = false } else record d.holding { look = after_span now look_span }
+
+-- it is given back where somebody waits for it, or nobody asked for so long, and kept else
 abbrev pub Rests : Daemon → ℕ → Note → Daemon → Type 0
-Rests d now Looked e = (now < after_span d.holding.asked max_rest) × (e ≡ record d { holding = record d.holding { look = after_span now look_span } })
-Rests d now Gave e = e ≡ record d { holding = record d.holding { had = false } }
+Rests d now (Looked wanted) e = e ≡ record d { holding = looked d now (is_rested d now || wanted) }
 Rests d now _ e = ⊥
+
+-- ---- for how long it may rest
+
+-- in milliseconds: where one waits for the store, or for the answer to what was refused; where something is kept back; else
+abbrev pub patience_with : Waits → ℕ
+patience_with waits.Nothing = 1000
+patience_with (waits.Store since again) = 5
+patience_with waits.Refused = 5
+patience_with (waits.Reply until text) = 100
+
+abbrev pub least : ℕ → ℕ → ℕ
+least span other = if nat_lt other span then other else span
+
+abbrev pub least_from : ℕ → List (ℕ × Place) → ℕ
+least_from span [] = span
+least_from span (it ∷ entries) = least_from (least span (patience_with it.1.waits)) entries
+
+-- the least of those of all connections, and of that at which it is looked who waits for the store, where it is had
+abbrev pub patience_of : Daemon → ℕ
+patience_of d = least_from (if d.holding.had then look_span else 1000) d.places.entries
 
 -- ---- all of it
 
 abbrev pub daemon_rules : {R : Type 0} → (R → Accounts → Type 0) → Rules Daemon Note R
 daemon_rules shows = record {
   limit = limit_of;
-  displaced = λ d kind. None;
+  displaced = displaced_of;
   wants = λ d id. want_of (place_at d id) (client_at d.clients.sessions id);
   has_work = is_look_due;
+  patience = patience_of;
   deadline = λ d id. due_of (place_at d id) (client_at d.clients.sessions id);
   opens = λ d now kind id said e. Opens d now id said e;
   gives = λ d now id piece said e. Gives d now id piece said e;

@@ -1,5 +1,5 @@
 -- What bringing an event to the store comes to.
-use Rattle.std.specs.Prelude.{◌≡◌, ℕ, Bool, true, false, List, [], ◌∷◌, Option, Some, None, IsTrue}
+use Rattle.std.specs.Prelude.{◌≡◌, ℕ, ◌||◌, Bool, List, [], ◌∷◌, Option, Some, None, IsTrue}
 use Rattle.std.specs.FinMap.{get}
 use Rattle.mailstore.specs.Account.{Accounts}
 use Rattle.mailengine.specs.Hosts.{Kept, HasClients, KeepsClients}
@@ -11,7 +11,7 @@ use Rattle.wires.specs.declared.act.Act.{Act}
 use Rattle.wires.specs.declared.act.Act.TheVariants.{Noted, Worked}
 use Rattle.wires.specs.Told.{TellsIf}
 use Rattle.sieveddaemon.specs.declared.note.Note.{Note}
-use Rattle.sieveddaemon.specs.declared.note.Note.TheVariants.{Did, Away, Looked, Gave}
+use Rattle.sieveddaemon.specs.declared.note.Note.TheVariants.{Did, Away, Looked}
 
 -- whatever accounts were shown, they are shown
 abbrev pub StillShows : {R : Type 0} → (R → Accounts → Type 0) → R → R → Type 0
@@ -64,14 +64,10 @@ Carries tells seen rest shows clean id event old before (Some answer) new after 
 Carries tells seen rest shows clean id event old before None new after =
     (clean (rest new) → NothingDone shows (rest old) before (rest new) after) × TellsIf tells seen old (Noted id Away) new
 
-abbrev pub note_of_look : Bool → Note
-note_of_look true = Gave
-note_of_look false = Looked
-
--- it was looked whether somebody waits, or the store was given back; no account changed
-abbrev pub Looks : {O R : Type 0} → (O → Bool) → (O → List (Act Note)) → (O → R) → (R → Accounts → Type 0) → (R → Type 0) → O → Bool → O → Type 0
-Looks tells seen rest shows clean old gave new =
-    (clean (rest new) → StillShows shows (rest old) (rest new)) × TellsIf tells seen old (Worked (note_of_look gave)) new
+-- it was looked whether somebody waits; the store was given back where somebody does, or where it `rests`; no account changed
+abbrev pub Looks : {O R : Type 0} → (O → Bool) → (O → List (Act Note)) → (O → R) → (R → Accounts → Type 0) → (R → Type 0) → O → Bool → Bool → O → Type 0
+Looks tells seen rest shows clean old rests gave new =
+    (clean (rest new) → StillShows shows (rest old) (rest new)) × ((wanted : Bool) × (gave ≡ (rests || wanted)) × TellsIf tells seen old (Worked (Looked wanted)) new)
 
 -- the same, where it is told
 abbrev pub StillShowsIf : {O R : Type 0} → (O → Bool) → (O → R) → (R → Accounts → Type 0) → O → O → Type 0

@@ -6,6 +6,7 @@ use Rattle.sessions.specs.Replies.{declined, farewell, capabilities}
 use Rattle.mailengine.specs.Hosts.{IsMade}
 use Rattle.mailengine.specs.declared.answer.Answer.{Answer}
 use Rattle.mailengine.specs.declared.answer.Answer.TheVariants.{Out, Refused}
+use Rattle.mailengine.specs.declared.event.Event.{Event}
 use Rattle.mailengine.specs.declared.event.Event.TheVariants.{Step, GiveUp}
 use Rattle.wires.specs.Talk.{after_span}
 use Rattle.sieveddaemon.specs.declared.note.Note.{Note}
@@ -89,13 +90,18 @@ MayGiveUp now (waits.Store since again) = since + max_away ≤ now
 MayGiveUp now waits.Refused = Unit {0}
 MayGiveUp now _ = ⊥
 
+-- what comes first is stepped at once, as it asks no store, or given up
+abbrev pub AllowsFreed : ℕ → Waits → ℕ → Event → Answer → Type 0
+AllowsFreed now w id (Step n) answer = MayAsk now w × (n ≡ id) × IsMade answer
+AllowsFreed now w id (GiveUp n) answer = MayGiveUp now w × (n ≡ id)
+AllowsFreed now w id event answer = ⊥
+
 -- at a moment, for a connection that waits so: what comes first is stepped by the store, or that is away; or it is stepped at once, or
 -- given up; or what was kept back is said, at its moment
 abbrev pub Allows : ℕ → Waits → ℕ → Note → Type 0
 Allows now w id (Did others event answer) = MayAsk now w × (event ≡ Step id)
 Allows now w id Away = MayAsk now w
-Allows now waits.Nothing id (Freed event answer) = (event ≡ Step id) × IsMade answer
-Allows now w id (Freed event answer) = MayGiveUp now w × (event ≡ GiveUp id)
+Allows now w id (Freed event answer) = AllowsFreed now w id event answer
 Allows now (waits.Reply until text) id Spoke = until ≤ now
 Allows now w id note = ⊥
 

@@ -43,8 +43,7 @@ pub trait Desk: Outside<Note = Note> {
     /// it was given back.
     fn look(&mut self, rests: bool) -> bool
         ensures kept { IsTrue (Self.tells self.new) → IsTrue (Self.tells self.old) }
-        ensures rests { IsTrue rests → IsTrue result }
-        ensures looks { Looks Self.tells Self.seen Self.rest shows clean self.old result self.new };
+        ensures looks { Looks Self.tells Self.seen Self.rest shows clean self.old rests result self.new };
 
     // Where it tells its acts, its disk doesn't lie.
     ghost sure: { (desk : Self) → IsTrue (Self.tells desk) → clean (Self.rest desk) };

@@ -9,6 +9,7 @@ mod machine;
 pub mod note;
 mod patience;
 pub mod place;
+mod room;
 mod session;
 mod step;
 mod want;

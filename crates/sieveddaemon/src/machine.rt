@@ -2,6 +2,7 @@
 use crate::daemon::Daemon;
 use crate::desk::Desk;
 use crate::patience::patience_of;
+use crate::room::longest_guest;
 use crate::session::{enter, hear, leave};
 use crate::step::{lack, step_once};
 use crate::want::{due_by, want_by};
@@ -33,8 +34,12 @@ impl<O: Desk> Machine<O> for Daemon {
         if kind == MANAGESIEVE { MAX_CLIENTS } else { 0 }
     }
 
-    fn displaced(&self, _kind: u32) -> Option<u32> {
-        None
+    fn displaced(&self, kind: u32) -> Option<u32> {
+        if kind == MANAGESIEVE {
+            longest_guest(&self.clients, &self.places)
+        } else {
+            None
+        }
     }
 
     fn wants(&self, id: u32) -> Want {

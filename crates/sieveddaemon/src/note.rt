@@ -23,8 +23,6 @@ pub enum Note {
     },
     /// What was kept back was said.
     Spoke,
-    /// It was looked whether somebody waits for the store: nobody does.
-    Looked,
-    /// The store was given back.
-    Gave,
+    /// It was looked whether somebody waits for the store, and whether somebody does.
+    Looked(bool),
 }

@@ -1,6 +1,9 @@
 //! How long the daemon may rest where nothing happens.
+ghost use Rattle.std.specs.Prelude.{◌≡◌};
+ghost use Rattle.sieveddaemon.specs.DaemonRules as rules;
+
 use crate::daemon::Daemon;
-use crate::place::{Place, Waits};
+use crate::place::Waits;
 
 /// Where one waits for the store, in milliseconds.
 const WHILE_AWAY: u32 = 5;
@@ -15,20 +18,30 @@ const WHILE_KEPT: u32 = 100;
 const AT_REST: u32 = 1000;
 
 /// For how many milliseconds it may rest where nothing happens.
-pub fn patience_of(daemon: &Daemon) -> u32 {
-    let rest = if daemon.holding.had {
+pub fn patience_of(daemon: &Daemon) -> u32
+    ensures { result ≡ rules.patience_of daemon.now }
+{
+    let mut span = if daemon.holding.had {
         WHILE_HAD
     } else {
         AT_REST
     };
-    daemon
-        .places
-        .values()
-        .fold(rest, |least, place| least.min(patience_with(place)))
+    for (_, place) in daemon.places.iter() {
+        span = least(span, patience_with(&place.waits));
+    }
+    span
 }
 
-fn patience_with(place: &Place) -> u32 {
-    match &place.waits {
+fn least(span: u32, other: u32) -> u32
+    ensures { result ≡ rules.least span other }
+{
+    if other < span { other } else { span }
+}
+
+fn patience_with(waits: &Waits) -> u32
+    ensures { result ≡ rules.patience_with waits.now }
+{
+    match waits {
         Waits::Nothing => AT_REST,
         Waits::Store(_, _) => WHILE_AWAY,
         Waits::Refused => WHILE_AWAY,

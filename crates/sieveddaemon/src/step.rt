@@ -9,11 +9,13 @@ ghost use Rattle.sieveddaemon.specs.Places.{client_at, renewed};
 ghost use Rattle.sieveddaemon.specs.Waiting as waiting;
 ghost use Rattle.sieveddaemon.specs.Waiting.{MayAsk, MayGiveUp, said_at_once, waits_after, IsReply};
 ghost use Rattle.sieveddaemon.specs.declared.note.Note.TheVariants.{Away};
-ghost use Rattle.sieveddaemon.specs.declared.place.Waits.TheVariants.{Nothing};
+ghost use Rattle.mailengine.specs.Hosts.{AsksStore};
+ghost use Rattle.mailengine.specs.declared.event.Event.TheVariants.{Step};
 
 use crate::daemon::{Daemon, Holding};
 use crate::desk::Desk;
 use crate::place::{Place, Waits};
+use crate::room::is_user;
 use mailengine::{Answer, Clients, Event, apply_free};
 use octets::Octets;
 use std::alloc::AllocError;
@@ -74,16 +76,6 @@ pub fn is_out(answer: &Answer) -> bool
 }
 
 // ---- what is known of one connection
-
-/// Whether somebody is logged in there.
-fn is_user(clients: &Clients, id: u32) -> bool
-    ensures { result ≡ places.is_user (client_at clients.now.sessions id) }
-{
-    match clients.session(id) {
-        Some(session) => session.is_logged_in(),
-        None => false,
-    }
-}
 
 /// Puts what a connection waits for in the place of what it waited for, which is given out.
 fn replace_waits(
@@ -197,6 +189,7 @@ fn bring<O: Desk>(
 ) -> Result<(), AllocError>
     requires out { out.old ≡ [] }
     requires may { AtPlace daemon.old id (λ place. MayAsk now place.waits) }
+    requires asks { AsksStore (Step id) daemon.old.clients.sessions }
     ensures kept { IsTrue (O.tells outside.new) → IsTrue (O.tells outside.old) }
     ensures ok { OnOk result (StepsIf O.tells O.seen O.rest (daemon_rules O.shows) outside.old daemon.old now id out.new outside.new daemon.new) }
     ensures err { OnErr result (IdlesIf O.tells O.seen O.rest outside.old outside.new) }
@@ -223,7 +216,7 @@ fn step_first<O: Desk>(
     out: &mut Octets,
 ) -> Result<(), AllocError>
     requires out { out.old ≡ [] }
-    requires may { AtPlace daemon.old id (λ place. place.waits ≡ Nothing) }
+    requires may { AtPlace daemon.old id (λ place. MayAsk now place.waits) }
     ensures kept { IsTrue (O.tells outside.new) → IsTrue (O.tells outside.old) }
     ensures ok { OnOk result (StepsIf O.tells O.seen O.rest (daemon_rules O.shows) outside.old daemon.old now id out.new outside.new daemon.new) }
     ensures err { OnErr result (IdlesIf O.tells O.seen O.rest outside.old outside.new) }
@@ -308,7 +301,7 @@ pub fn step_once<O: Desk>(
         Waits::Nothing => step_first(daemon, outside, now, id, out),
         Waits::Store(since, _) => {
             if now.saturating_sub(*since) < MAX_AWAY {
-                bring(daemon, outside, now, id, out)
+                step_first(daemon, outside, now, id, out)
             } else {
                 give_up(daemon, outside, now, id, out)
             }

@@ -1,25 +1,30 @@
-//! Plays the schedules of `data/` on the loop and the echo, and says which entries don't hold.
+//! Plays the schedules of `data/` on the loop, with the echo or the daemon, and says which entries don't hold.
 //!
 //! Standard output has a line for each file with how many of its entries hold, and a last one with how many files do. Standard
 //! error has a line for each entry that doesn't, and then the exit status is 1.
 #![tactic(auto)]
 
+mod accounts;
+mod others;
 mod total;
 
+use accounts::{Accounts, new_shelf};
 use casefiles::Tally;
+use daemonfakes::desk::DeskFake;
 use octets::List;
+use sieveddaemon::daemon::Daemon;
 use std::alloc::{AllocError, Global};
 use std::process::ExitCode;
 use std::{fs, io};
 use total::Totals;
 use wirefakes::echo::Echo;
-use wirefakes::play::Player;
+use wirefakes::play::{Check, Player};
 use wirefakes::schedule::{Flaw, Schedule};
 use wirefakes::stage::Stage;
 use wires::service::Service;
 
-/// All of them, in the order in which they are played.
-const SCHEDULES: [&str; 18] = [
+/// Those of the echo, in the order in which they are played.
+const ECHOES: [&str; 18] = [
     "two-mixed.schedule",
     "pieces.schedule",
     "slow-reader.schedule",
@@ -40,18 +45,48 @@ const SCHEDULES: [&str; 18] = [
     "too-long.schedule",
 ];
 
+/// Those of the daemon, in the order in which they are played.
+const DAEMONS: [&str; 2] = ["one-session.daemon", "forty-lives.daemon"];
+
+/// What is played on.
+#[derive(Clone, Copy)]
+enum Server {
+    Echo,
+    Daemon,
+}
+
 fn main(rt: HostRuntime) -> io::Result<ExitCode> {
-    let mut passed: u32 = 0;
-    let mut failed: u32 = 0;
-    for file in SCHEDULES {
-        if try_file(&rt, file)? {
-            passed = passed.saturating_add(1);
+    let mut counts = Counts {
+        passed: 0,
+        failed: 0,
+    };
+    try_files(&rt, Server::Echo, &ECHOES, &mut counts)?;
+    try_files(&rt, Server::Daemon, &DAEMONS, &mut counts)?;
+    println!(rt; "{} passed, {} failed", counts.passed, counts.failed)?;
+    Ok(status(counts.failed))
+}
+
+/// How many files hold, and how many don't.
+#[derive(Drop)]
+struct Counts {
+    passed: u32,
+    failed: u32,
+}
+
+fn try_files(
+    rt: &HostRuntime,
+    server: Server,
+    files: &[&str],
+    counts: &mut Counts,
+) -> io::Result<()> {
+    for file in files {
+        if try_file(rt, server, file)? {
+            counts.passed = counts.passed.saturating_add(1);
         } else {
-            failed = failed.saturating_add(1);
+            counts.failed = counts.failed.saturating_add(1);
         }
     }
-    println!(rt; "{passed} passed, {failed} failed")?;
-    Ok(status(failed))
+    Ok(())
 }
 
 fn status(failed: u32) -> ExitCode {
@@ -63,10 +98,10 @@ fn status(failed: u32) -> ExitCode {
 }
 
 /// Plays a file, and says whether all of it holds.
-fn try_file(rt: &HostRuntime, file: &str) -> io::Result<bool> {
+fn try_file(rt: &HostRuntime, server: Server, file: &str) -> io::Result<bool> {
     let text = fs::read_to_string(rt, file)?;
     let mut tally = Tally::new(rt.alloc());
-    try_text(rt.alloc(), &mut tally, text.as_str())?;
+    try_text(rt.alloc(), server, &mut tally, text.as_str())?;
     tell(rt, file, &tally)
 }
 
@@ -79,26 +114,77 @@ fn tell(rt: &HostRuntime, file: &str, tally: &Tally) -> io::Result<bool> {
     Ok(tally.failed().is_empty())
 }
 
-fn try_text(alloc: Global, tally: &mut Tally, text: &str) -> Result<(), AllocError> {
+/// Plays the schedules of a text, between which a line `----` stands.
+fn try_text(
+    alloc: Global,
+    server: Server,
+    tally: &mut Tally,
+    text: &str,
+) -> Result<(), AllocError> {
+    let mut before: usize = 0;
+    for part in text.split("\n----\n") {
+        try_part(alloc, server, tally, before, part)?;
+        before = before
+            .saturating_add(part.split('\n').count())
+            .saturating_add(1);
+    }
+    Ok(())
+}
+
+/// Plays a schedule that stands behind so many lines.
+fn try_part(
+    alloc: Global,
+    server: Server,
+    tally: &mut Tally,
+    before: usize,
+    text: &str,
+) -> Result<(), AllocError> {
     match Schedule::parse(alloc, text) {
-        Ok(schedule) => try_schedule(alloc, tally, &schedule),
-        Err(Flaw::Line(line)) => tally.note(line, b"an entry", b"none"),
+        Ok(schedule) => note_checks(tally, before, &play(alloc, server, &schedule)?),
+        Err(Flaw::Line(line)) => tally.note(before.saturating_add(line), b"an entry", b"none"),
         Err(Flaw::Memory) => Err(AllocError),
     }
 }
 
-fn try_schedule(alloc: Global, tally: &mut Tally, schedule: &Schedule) -> Result<(), AllocError> {
+fn note_checks(tally: &mut Tally, before: usize, checks: &List<Check>) -> Result<(), AllocError> {
+    for check in checks.as_slice() {
+        let line = before.saturating_add(check.line);
+        tally.note(line, check.wanted.as_slice(), check.got.as_slice())?;
+    }
+    Ok(())
+}
+
+/// Plays a schedule, and gives all that was wanted and what came.
+fn play(alloc: Global, server: Server, schedule: &Schedule) -> Result<List<Check>, AllocError> {
+    match server {
+        Server::Echo => play_echo(alloc, schedule),
+        Server::Daemon => play_daemon(alloc, schedule),
+    }
+}
+
+fn play_echo(alloc: Global, schedule: &Schedule) -> Result<List<Check>, AllocError> {
     let mut player = Player {
         alloc,
-        stage: Stage::new(alloc, 0),
+        outside: Stage::new(alloc, 0),
         machine: Echo::new(alloc),
         service: Service::new(alloc),
         owner: Totals { alloc },
         checks: List::new(alloc),
     };
     player.play(schedule)?;
-    for check in player.checks.as_slice() {
-        tally.note(check.line, check.wanted.as_slice(), check.got.as_slice())?;
-    }
-    Ok(())
+    Ok(player.checks)
+}
+
+fn play_daemon(alloc: Global, schedule: &Schedule) -> Result<List<Check>, AllocError> {
+    let shelf = new_shelf(alloc)?;
+    let mut player = Player {
+        alloc,
+        outside: DeskFake::new(alloc, shelf),
+        machine: Daemon::new(alloc),
+        service: Service::new(alloc),
+        owner: Accounts { alloc },
+        checks: List::new(alloc),
+    };
+    player.play(schedule)?;
+    Ok(player.checks)
 }

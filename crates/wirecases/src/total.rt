@@ -13,10 +13,10 @@ pub struct Totals {
     pub alloc: Global,
 }
 
-impl Owner<Note, u64> for Totals {
+impl Owner<Stage<Note, u64>> for Totals {
     fn own(
         &mut self,
-        stage: &mut Stage<Note, u64>,
+        outside: &mut Stage<Note, u64>,
         line: usize,
         text: &[u8],
         checks: &mut List<Check>,
@@ -24,8 +24,8 @@ impl Owner<Note, u64> for Totals {
         let (word, wanted) = split_word(text);
         let mut got = Octets::new(self.alloc);
         match word {
-            b"total" => write_decimal(&mut got, stage.fake.rest)?,
-            b"ticks" => write_decimal(&mut got, count_ticks(stage.fake.acts.as_slice()))?,
+            b"total" => write_decimal(&mut got, outside.fake.rest)?,
+            b"ticks" => write_decimal(&mut got, count_ticks(outside.fake.acts.as_slice()))?,
             _ => got.extend_from_slice(b"no such entry")?,
         }
         checks.push(Check {

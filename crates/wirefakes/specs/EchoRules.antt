@@ -44,6 +44,7 @@ echo_rules = record {
   displaced = displaced_by;
   wants = λ m id. want_by (guest_of m id);
   has_work = λ m now. not (nat_lt now m.due);
+  patience = λ m. 1000;
   deadline = λ m id. deadline_by (guest_of m id);
   opens = λ m now kind id said n. (said ≡ greeting) × (n.due ≡ m.due);
   gives = λ m now id piece said n. (said ≡ []) × (n.due ≡ m.due);

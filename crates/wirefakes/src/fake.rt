@@ -62,15 +62,15 @@ impl<N: Drop, R: Drop> Fake<N, R> {
         }
     }
 
-    /// A wait that tells these, in their order.
-    pub fn answer_wait(&mut self, wakes: &[Wake], ready: &mut VecDeque<Wake>)
+    /// A wait of at most so many milliseconds that tells these, in their order.
+    pub fn answer_wait(&mut self, within: u32, wakes: &[Wake], ready: &mut VecDeque<Wake>)
         requires { ready.old.items ≡ [] }
-        ensures seen { IsTrue (not self.new.lost) → self.new.acts.items ≡ self.old.acts.items ++ Woke ready.new.items ∷ [] }
+        ensures seen { IsTrue (not self.new.lost) → self.new.acts.items ≡ self.old.acts.items ++ Woke within ready.new.items ∷ [] }
         ensures left { self.new.rest ≡ self.old.rest }
         ensures kept { IsTrue (not self.new.lost) → IsTrue (not self.old.lost) }
     {
         match tell_wakes(self.alloc, wakes, ready) {
-            Ok(told) => self.keep(Act::Woke(told)),
+            Ok(told) => self.keep(Act::Woke(within, told)),
             Err(_) => {
                 self.lost = true;
             }
@@ -217,9 +217,9 @@ impl<N: Drop, R: Drop> Outside for Fake<N, R> {
 }
 
 impl<N: Drop, R: Drop> Sockets for Fake<N, R> {
-    fn wait(&mut self, _within: u32, ready: &mut VecDeque<Wake>) -> Result<(), Fault> {
+    fn wait(&mut self, within: u32, ready: &mut VecDeque<Wake>) -> Result<(), Fault> {
         let wakes = self.script.next_wakes(self.alloc);
-        self.answer_wait(wakes.as_slice(), ready);
+        self.answer_wait(within, wakes.as_slice(), ready);
         Ok(())
     }
 

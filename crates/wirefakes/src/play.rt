@@ -1,7 +1,7 @@
 //! Plays a schedule on a machine.
 use crate::peer::{Peer, Side};
 use crate::schedule::{Deed, Entry, Schedule};
-use crate::stage::Stage;
+use crate::stage::Staged;
 use octets::{List, Octets, Pending};
 use std::alloc::{AllocError, Global};
 use wires::machine::Machine;
@@ -20,11 +20,11 @@ pub struct Check {
 }
 
 /// What makes something of the entries that are the machine's own.
-pub trait Owner<N: Drop, R: Drop> {
+pub trait Owner<O> {
     /// One such entry; `checks` gets what it wants and what came.
     fn own(
         &mut self,
-        stage: &mut Stage<N, R>,
+        outside: &mut O,
         line: usize,
         text: &[u8],
         checks: &mut List<Check>,
@@ -33,9 +33,9 @@ pub trait Owner<N: Drop, R: Drop> {
 
 /// What a schedule is played on.
 #[derive(Drop)]
-pub struct Player<N: Drop, R: Drop, M: Drop, W: Drop> {
+pub struct Player<O: Drop, M: Drop, W: Drop> {
     pub alloc: Global,
-    pub stage: Stage<N, R>,
+    pub outside: O,
     pub machine: M,
     pub service: Service,
     pub owner: W,
@@ -43,7 +43,7 @@ pub struct Player<N: Drop, R: Drop, M: Drop, W: Drop> {
     pub checks: List<Check>,
 }
 
-impl<N: Drop, R: Drop, M: Machine<Stage<N, R>> + Drop, W: Owner<N, R> + Drop> Player<N, R, M, W> {
+impl<O: Staged + Drop, M: Machine<O> + Drop, W: Owner<O> + Drop> Player<O, M, W> {
     /// Plays all entries, one after the other.
     ///
     /// # Errors
@@ -61,13 +61,13 @@ impl<N: Drop, R: Drop, M: Machine<Stage<N, R>> + Drop, W: Owner<N, R> + Drop> Pl
         match entry {
             Entry::Of(name, deed) => self.play_deed(line, name.as_slice(), deed),
             Entry::Clock(moment) => {
-                self.stage.set_clock(*moment);
+                self.outside.stage().set_clock(*moment);
                 Ok(())
             }
             Entry::Pause => self.settle(line),
             Entry::Own(text) => {
                 self.owner
-                    .own(&mut self.stage, line, text.as_slice(), &mut self.checks)
+                    .own(&mut self.outside, line, text.as_slice(), &mut self.checks)
             }
         }
     }
@@ -75,10 +75,10 @@ impl<N: Drop, R: Drop, M: Machine<Stage<N, R>> + Drop, W: Owner<N, R> + Drop> Pl
     /// Lets the machine do all that it can do.
     fn settle(&mut self, line: usize) -> Result<(), AllocError> {
         for round in 0..MAX_ACTS {
-            if self.stage.is_settled() {
+            if self.outside.stage().is_settled() {
                 return Ok(());
             }
-            if act(&mut self.stage, &mut self.machine, &mut self.service).is_err() {
+            if act(&mut self.outside, &mut self.machine, &mut self.service).is_err() {
                 return self.check(line, b"a wait", b"its failure");
             }
         }
@@ -98,7 +98,7 @@ impl<N: Drop, R: Drop, M: Machine<Stage<N, R>> + Drop, W: Owner<N, R> + Drop> Pl
         match deed {
             Deed::Comes(kind) => {
                 let name = Octets::from_slice(self.alloc, name)?;
-                self.stage.come(name, *kind)
+                self.outside.stage().come(name, *kind)
             }
             Deed::Has(_) | Deed::IsOpen | Deed::IsShut | Deed::IsClosed => {
                 self.settle(line)?;
@@ -110,8 +110,9 @@ impl<N: Drop, R: Drop, M: Machine<Stage<N, R>> + Drop, W: Owner<N, R> + Drop> Pl
 
     /// A client does something.
     fn act_as(&mut self, line: usize, name: &[u8], deed: &Deed) -> Result<(), AllocError> {
-        self.stage.idle = 0;
-        match find_peer(&mut self.stage.peers, name) {
+        let stage = self.outside.stage();
+        stage.idle = 0;
+        match find_peer(&mut stage.peers, name) {
             Some(peer) => act_by(self.alloc, peer, deed),
             None => self.check(line, b"a client that came", name),
         }
@@ -120,7 +121,7 @@ impl<N: Drop, R: Drop, M: Machine<Stage<N, R>> + Drop, W: Owner<N, R> + Drop> Pl
     /// What a client got.
     fn look(&mut self, line: usize, name: &[u8], deed: &Deed) -> Result<(), AllocError> {
         let alloc = self.alloc;
-        match find_peer(&mut self.stage.peers, name) {
+        match find_peer(&mut self.outside.stage().peers, name) {
             Some(peer) => {
                 let (wanted, got) = seen_by(alloc, peer, deed)?;
                 self.checks.push(Check { line, wanted, got })
@@ -131,7 +132,8 @@ impl<N: Drop, R: Drop, M: Machine<Stage<N, R>> + Drop, W: Owner<N, R> + Drop> Pl
 
     /// Nothing was sent that no entry has named.
     fn check_rest(&mut self) -> Result<(), AllocError> {
-        for peer in self.stage.peers.as_slice() {
+        let stage = self.outside.stage();
+        for peer in stage.peers.as_slice() {
             let check = Check {
                 line: 0,
                 wanted: Octets::new(self.alloc),

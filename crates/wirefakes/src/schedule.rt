@@ -185,7 +185,7 @@ fn parse_state(what: &[u8]) -> Option<Deed> {
 }
 
 /// A text, or a count and a text that stands for it so many times.
-fn parse_text(alloc: Global, what: &[u8]) -> Result<Option<Octets>, AllocError> {
+pub fn parse_text(alloc: Global, what: &[u8]) -> Result<Option<Octets>, AllocError> {
     if what.starts_with(b"\"") {
         return unquoted(alloc, what);
     }

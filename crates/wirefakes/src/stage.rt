@@ -28,6 +28,27 @@ pub struct Stage<N: Drop, R: Drop> {
     pub idle: u32,
 }
 
+/// An outside that has its sockets and its clock of a stage.
+pub trait Staged: Sockets + Clock {
+    /// What the stage keeps of a machine's notes, and beside sockets and clock.
+    type Told: Drop;
+
+    type Kept: Drop;
+
+    /// The stage.
+    fn stage(&mut self) -> &mut Stage<Self::Told, Self::Kept>;
+}
+
+impl<N: Drop, R: Drop> Staged for Stage<N, R> {
+    type Told = N;
+
+    type Kept = R;
+
+    fn stage(&mut self) -> &mut Stage<N, R> {
+        self
+    }
+}
+
 impl<N: Drop, R: Drop> Stage<N, R> {
     /// Nobody is there.
     pub fn new(alloc: Global, rest: R) -> Stage<N, R> {
@@ -212,7 +233,7 @@ impl<N: Drop, R: Drop> Outside for Stage<N, R> {
 }
 
 impl<N: Drop, R: Drop> Sockets for Stage<N, R> {
-    fn wait(&mut self, _within: u32, ready: &mut VecDeque<Wake>) -> Result<(), Fault> {
+    fn wait(&mut self, within: u32, ready: &mut VecDeque<Wake>) -> Result<(), Fault> {
         match tell_news(self.fake.alloc, &mut self.knocks, &mut self.peers) {
             Ok(wakes) => {
                 self.idle = if wakes.is_empty() {
@@ -220,7 +241,7 @@ impl<N: Drop, R: Drop> Sockets for Stage<N, R> {
                 } else {
                     0
                 };
-                self.fake.answer_wait(wakes.as_slice(), ready);
+                self.fake.answer_wait(within, wakes.as_slice(), ready);
             }
             Err(_) => {
                 self.fake.lost = true;

@@ -177,7 +177,7 @@ yields rules m s id n (inr w) h = not_stuck id s.turn (Busy n w.0) w.1.busy refl
 over : {M N R : Type 0} (rules : Rules M N R) (m k : M) (r q : R) (s u : Service) (id : ℕ) (act : Act N) (said : List ℕ) → Turns rules m r s act said k q u → stuck s.turn ≡ Some id → IsOver id act u.turn
 over rules m k r q s u id (Full n) said t h = full rules m k s u id n t.1 h
 over rules m k r q s u id (Ended n) said t h = ended rules m s id n t.2.0 t.2.1 h
-over rules m k r q s u id (Woke wakes) said t h = waits rules m s id t.1 h
+over rules m k r q s u id (Woke within wakes) said t h = waits rules m s id t.1 h
 over rules m k r q s u id (Timed moment) said t h = not_stuck id s.turn Waked t.1 refl h
 over rules m k r q s u id (Late n) said t h = not_stuck id s.turn Sweep t.0 refl h
 over rules m k r q s u id (Began wake) said t h = rests rules m s id t.1 h

@@ -60,7 +60,7 @@ cause_of rules m k r q s u id kind (Over n) said t leaving = reads rules m s id 
 cause_of rules m k r q s u id kind (Lost n) said t leaving = fails rules m s id n kind (kind_of (client_of s n)) u.turn t.1 leaving
 cause_of rules m k r q s u id kind (Full n) said t leaving = lacks rules m k s u id n kind t.1 leaving
 cause_of rules m k r q s u id kind (Late n) said t leaving = parting rules m k s u id n kind said t.2 leaving
-cause_of rules m k r q s u id kind (Woke wakes) said t leaving = let is = t.3 in cc
+cause_of rules m k r q s u id kind (Woke within wakes) said t leaving = let is = t.4 in cc
 cause_of rules m k r q s u id kind (Timed moment) said t leaving = let is = t.2 in cc
 cause_of rules m k r q s u id kind (Began wake) said t leaving = absurd (by_wake id kind wake s u.turn t.2 leaving)
 cause_of rules m k r q s u id kind (Roused n) said t leaving = absurd (by_ready id n kind (client_of s n) u.turn t.3 leaving)

@@ -2,4 +2,5 @@ pub mod BoundLemmas
 pub mod EndLemmas
 pub mod Examples
 pub mod LifeLemmas
+pub mod QueueLemmas
 pub mod TalkLemmas

@@ -2,7 +2,8 @@
 use Rattle.std.specs.Prelude.{◌≡◌, ◌⊎◌, ℕ, ◌+◌, Bool, true, false, cond, List, [], ◌∷◌, ◌++◌, length, ◌≤◌, Option, Some, None, IsTrue}
 use Rattle.std.specs.List.{list_any}
 use Rattle.wires.specs.declared.act.Act.{Act}
-use Rattle.wires.specs.declared.act.Act.TheVariants.{Late, Came, Displaced, Heard, Over, Sent, Lost, Noted, Full, Shut, Dropped, Ended}
+use Rattle.wires.specs.declared.act.Act.TheVariants.{Woke, Began, Late, Came, Displaced, Heard, Over, Sent, Lost, Noted, Full, Shut, Dropped, Ended}
+use Rattle.wires.specs.declared.outcome.Wake.{Wake}
 use Rattle.wires.specs.declared.service.Service.{Service}
 use Rattle.wires.specs.declared.turn.Turn.TheVariants.{Free}
 use Rattle.wires.specs.Moves.{Moment, Moves, at}
@@ -159,3 +160,23 @@ abbrev pub Bounded : {M N R : Type 0} → Rules M N R → Type 0
 Bounded {M = M} {N = N} {R = R} rules =
     (m n : Moment M N R) (some rest : List (Move N)) → Fresh m.service → Passes rules m (some ++ rest) n
     → (kind : ℕ) (ids : List ℕ) → AreOpen kind some ids → length ids ≤ rules.limit kind
+
+-- ---- what waits told
+
+-- all that they told, in order
+abbrev pub told_in : {N : Type 0} → List (Act N) → List Wake
+told_in [] = []
+told_in (Woke within wakes ∷ acts) = wakes ++ told_in acts
+told_in (act ∷ acts) = told_in acts
+
+-- all that was taken up, in order
+abbrev pub begun_in : {N : Type 0} → List (Act N) → List Wake
+begun_in [] = []
+begun_in (Began wake ∷ acts) = wake ∷ begun_in acts
+begun_in (act ∷ acts) = begun_in acts
+
+-- what waits told is taken up one by one, in its order and each once; what isn't yet is ready
+abbrev pub NoneForgotten : {M N R : Type 0} → Rules M N R → Type 0
+NoneForgotten {M = M} {N = N} {R = R} rules =
+    (m n : Moment M N R) (moves : List (Move N)) → Passes rules m moves n
+    → m.service.ready.items ++ told_in (acts_of moves) ≡ begun_in (acts_of moves) ++ n.service.ready.items

@@ -2,12 +2,12 @@
 use Rattle.std.specs.Prelude.{◌≡◌, ℕ, Bool, ◌==◌, nat_lt, not, filter, if◌then◌else◌, List, [], ◌∷◌, ◌++◌, Result, Ok, Err, IsTrue}
 use Rattle.std.specs.List.{list_any}
 use Rattle.wires.specs.declared.act.Act.{Act}
-use Rattle.wires.specs.declared.act.Act.TheVariants.{Woke, Began, Timed, Waits, Roused, Worked, Noted, Ended}
+use Rattle.wires.specs.declared.act.Act.TheVariants.{Woke, Began, Timed, Waits, Roused, Worked, Came, InUse, Noted, Ended}
 use Rattle.wires.specs.declared.outcome.Wake.{Wake}
 use Rattle.wires.specs.declared.service.Service.{Service}
 use Rattle.wires.specs.Rules.{Rules}
 use Rattle.wires.specs.Talk.{Talks, client_of}
-use Rattle.wires.specs.Turns.{Turns}
+use Rattle.wires.specs.Turns.{Turns, after_number}
 
 -- all acts so far, all outside that is neither sockets nor clock, the machine, and the connections
 pub record Moment (M N R : Type 0) : Type 0 where
@@ -21,7 +21,7 @@ moment seen rest machine service = record { seen = seen; rest = rest; machine = 
 
 -- what a wait told is taken up one by one, in its order, and nothing of it is forgotten
 abbrev pub Queues : {N : Type 0} → List Wake → Act N → List Wake → Type 0
-Queues ready (Woke wakes) later = later ≡ wakes
+Queues ready (Woke within wakes) later = later ≡ wakes
 Queues ready (Began wake) later = ready ≡ wake ∷ later
 Queues ready _ later = later ≡ ready
 
@@ -36,6 +36,12 @@ Waiters waiting _ later = later ≡ waiting
 abbrev pub Ticks : {N : Type 0} → ℕ → Act N → ℕ → Type 0
 Ticks now (Timed moment) later = later ≡ (if nat_lt now moment then moment else now)
 Ticks now _ later = later ≡ now
+
+-- a number is given once, to one that comes, or passed over where a connection has it; no other act changes which is next
+abbrev pub Numbers : {N : Type 0} → ℕ → Act N → ℕ → Type 0
+Numbers next (Came id kind) later = later ≡ after_number id
+Numbers next (InUse id) later = later ≡ after_number id
+Numbers next _ later = later ≡ next
 
 -- what is neither sockets nor clock is changed by the machine alone, where it notes something
 abbrev pub Leaves : {N R : Type 0} → R → Act N → R → Type 0
@@ -53,6 +59,7 @@ pub record Moves {M N R : Type 0} (rules : Rules M N R) (m n : Moment M N R) : T
   pub queues : Queues m.service.ready.items act n.service.ready.items
   pub waiters : Waiters m.service.waiting.items act n.service.waiting.items
   pub ticks : Ticks m.service.moment act n.service.moment
+  pub numbers : Numbers m.service.next act n.service.next
   pub talks : (id : ℕ) → Talks m.service.moment id (client_of m.service id) act said (client_of n.service id)
   pub turns : Turns rules m.machine m.rest m.service act said n.machine n.rest n.service
 

@@ -6,7 +6,7 @@ use Rattle.wires.specs.declared.machine.Want.{Want}
 
 -- of a machine M that notes N and acts on R, all of the outside that is neither sockets nor clock: how many connections of a
 -- kind may be open, and which of them makes room for another where that many are; of a connection by its number what it wants,
--- and the moment by which it is late; whether it has work of its own at a moment. Then, for each happening (at a moment, where
+-- and the moment by which it is late; whether it has work of its own at a moment, and for how long it may rest. Then, for each happening (at a moment, where
 -- one stands first), what it says to that connection and the machine after it; a step and work of its own may change R. A rule
 -- may allow more than one. `lates`: it was late or made room, and ends. `lacks`: memory was lacking for it
 pub record Rules (M N R : Type 0) : Type 1 where
@@ -14,6 +14,7 @@ pub record Rules (M N R : Type 0) : Type 1 where
   pub displaced : M → ℕ → Option ℕ
   pub wants : M → ℕ → Want
   pub has_work : M → ℕ → Bool
+  pub patience : M → ℕ
   pub deadline : M → ℕ → ℕ
   pub opens : M → ℕ → ℕ → ℕ → List ℕ → M → Type 0
   pub gives : M → ℕ → ℕ → List ℕ → List ℕ → M → Type 0

@@ -134,6 +134,7 @@ pub record Hears {M N R : Type 0} (rules : Rules M N R) (m : M) (s : Service) (i
 pub record Answered (id count : ℕ) (said : List ℕ) (s t : Service) : Type 0 where
   pub turn : t.turn ≡ Busy id (count + 1)
   pub speaks : Alone id (Answers s.moment said) s t
+  pub next : t.next ≡ s.next
   pub ready : t.ready ≡ s.ready
   pub waiting : t.waiting ≡ s.waiting
   pub moment : t.moment ≡ s.moment
@@ -143,6 +144,7 @@ pub record Given {M N R : Type 0} (rules : Rules M N R) (m : M) (s : Service) (i
   pub said : List ℕ
   pub goes : Goes (rules.gives m s.moment id piece said n) (rules.lacks m id n) id (kind_of (client_of s id)) count said t.turn
   pub talks : Alone id (MayAnswer s.moment said) s t
+  pub next : t.next ≡ s.next
   pub ready : t.ready ≡ s.ready
   pub waiting : t.waiting ≡ s.waiting
   pub moment : t.moment ≡ s.moment
@@ -186,6 +188,7 @@ pub record Parted {M N R : Type 0} (rules : Rules M N R) (m : M) (s : Service) (
   pub said : List ℕ
   pub parting : Parting rules m s id said n t
   pub talks : Alone id (MayPart s.moment said) s t
+  pub next : t.next ≡ s.next
   pub ready : t.ready ≡ s.ready
   pub waiting : t.waiting ≡ s.waiting
   pub moment : t.moment ≡ s.moment
@@ -228,7 +231,7 @@ pub record Crowds {M N R : Type 0} (rules : Rules M N R) (m : M) (s : Service) (
 
 -- the acts that a turn allows, what the machine says at them and becomes, and whose turn follows
 abbrev pub Turns : {M N R : Type 0} → Rules M N R → M → R → Service → Act N → List ℕ → M → R → Service → Type 0
-Turns rules m r s (Woke wakes) said n q t = Silent m said n × MayWait rules m s × Quiet rules m s × (t.turn ≡ Waked)
+Turns rules m r s (Woke within wakes) said n q t = Silent m said n × MayWait rules m s × Quiet rules m s × (within ≡ rules.patience m) × (t.turn ≡ Waked)
 Turns rules m r s (Timed moment) said n q t = Silent m said n × (s.turn ≡ Waked) × (t.turn ≡ Sweep)
 Turns rules m r s (Late id) said n q t = (s.turn ≡ Sweep) × (first_late rules m s ≡ Some id) × Parting rules m s id said n t
 Turns rules m r s (Began wake) said n q t = Silent m said n × Rests rules m s × (t.turn ≡ turn_of wake s)

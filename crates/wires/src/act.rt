@@ -6,8 +6,8 @@ use octets::{List, Octets};
 /// notes.
 #[derive(Drop)]
 pub enum Act<N> {
-    /// A wait ended, and told this; nothing where nothing happened for a while.
-    Woke(List<Wake>),
+    /// A wait of at most so many milliseconds ended, and told this; nothing where nothing happened for that long.
+    Woke(u32, List<Wake>),
     /// The first of what a wait told was taken up.
     Began(Wake),
     /// The clock was read: the moment, in milliseconds.

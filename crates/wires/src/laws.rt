@@ -1,5 +1,5 @@
 //! Laws of what is served, each the contract of a function that does nothing.
-ghost use Rattle.wires.specs.Life.{OneConnection, Apart, EndsRight, Bounded};
+ghost use Rattle.wires.specs.Life.{OneConnection, Apart, EndsRight, Bounded, NoneForgotten};
 
 use crate::machine::Machine;
 use crate::outside::Outside;
@@ -22,4 +22,9 @@ pub fn bounded<O: Outside, M: Machine<O>>()
 /// Each end has its cause right before it, or is a farewell: all that was said was sent, and this side was shut.
 pub fn ends_right<O: Outside, M: Machine<O>>()
     ensures { EndsRight M.rules }
+{}
+
+/// What waits told is taken up, each once and in its order, and nothing of it is forgotten.
+pub fn none_forgotten<O: Outside, M: Machine<O>>()
+    ensures { NoneForgotten M.rules }
 {}

@@ -50,8 +50,9 @@ pub trait Machine<O: Outside> {
     fn has_work(&self, now: u64) -> bool
         ensures { result ≡ rules.has_work self.now now };
 
-    /// For how many milliseconds it may rest where nothing happens.
-    fn patience(&self) -> u32;
+    /// For how many milliseconds it may rest where nothing happens: a wait lasts no longer.
+    fn patience(&self) -> u32
+        ensures { result ≡ rules.patience self.now };
 
     /// A connection of that kind comes.
     ///

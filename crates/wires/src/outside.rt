@@ -41,7 +41,7 @@ pub trait Sockets: Outside {
     /// Where the system can't wait; nothing is told.
     fn wait(&mut self, within: u32, ready: &mut VecDeque<Wake>) -> Result<(), Fault>
         requires { ready.old.items ≡ [] }
-        ensures ok { OnOk result (TellsIf Self.tells Self.seen self.old (Woke ready.new.items) self.new) }
+        ensures ok { OnOk result (TellsIf Self.tells Self.seen self.old (Woke within ready.new.items) self.new) }
         ensures err { OnErr result (IsTrue (Self.tells self.new) → Self.seen self.new ≡ Self.seen self.old) }
         ensures same { OnErr result (ready.new ≡ ready.old) }
         ensures broke { OnErr result (IsTrue (Self.broken self.new)) }

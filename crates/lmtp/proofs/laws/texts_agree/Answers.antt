@@ -1,4 +1,3 @@
-use Rattle.lmtp.specs.Texts.{TextsAgree}
 use Rattle.lmtp.proofs.TextLemmas.{texts_agree}
 use Rattle.lmtp.proofs.laws.texts_agree.Goals as goal
 

@@ -1,4 +1,4 @@
-use Rattle.std.proofs.Common.{◌≡◌, ◌≤◌, List, ℕ, take, length, subst, arith}
+use Rattle.std.proofs.Common.{◌≡◌, take, subst, arith}
 use Rattle.std.proofs.lemmas.List.{take_all}
 use Rattle.lmtp.specs.Lines.{HasNoLineEnd}
 use Rattle.lmtp.proofs.LineLemmas.{line_in, line_fits, no_end_in}

@@ -1,4 +1,4 @@
-use Rattle.std.proofs.Common.{ap, sym, subst, drop, ◌∙◌}
+use Rattle.std.proofs.Common.{ap, sym, drop, ◌∙◌}
 use Rattle.std.proofs.lemmas.List.{take_rest}
 use Rattle.lmtp.proofs.RouteLemmas.{no_colon, another_route, follows_hops}
 use Rattle.lmtp.proofs.path.after_route.Goals as goal

@@ -1,9 +1,9 @@
 use Rattle.std.proofs.Common.{◌≡◌, rules, true, false}
-use Rattle.mailengine.specs.Hosts.{IsSessionEvent, KeepsClients}
+use Rattle.mailengine.specs.Hosts.{IsSessionEvent, AsksStore, KeepsClients}
 use Rattle.mailengine.specs.declared.event.Event.TheVariants.{Step}
 use Rattle.sieveddaemon.specs.Places.{is_out}
 use Rattle.sieveddaemon.proofs.EventLemmas.{step_keeps, keeps_same, err_any, ok_then}
-use Rattle.sieveddaemon.proofs.StepLemmas.{freed, steps_free, behind}
+use Rattle.sieveddaemon.proofs.StepLemmas.{freed, steps_free, behind, asks_after}
 use Rattle.sieveddaemon.proofs.step.step_first.Goals as goal
 
 pub returns-in-Ok-None-clause-ok : goal.returns-in-Ok-None-clause-ok
@@ -29,3 +29,9 @@ returns-in-Ok-Some-clause-ok g c =
     freed g.O.Outside.tells g.O.Outside.seen g.O.Outside.rest g.O.Desk.shows g.O.Desk.clean g.met.O.Desk.sure c.args.outside.now c.tell_freed.new.self c.args.daemon.now c.settle.new.daemon c.apply_free.new.clients c.args.now c.args.id c.settle.new.out
     (Step c.args.id) c.in-Ok-Some.answer (steps_free c.args.daemon.now c.args.now c.args.id c.in-Ok-Some.answer out c.requires.may) c.requires.may.0 c.requires.may.1 made c.tell_freed.ensures.told c.tell_freed.ensures.shown
     c.settle.ensures.renews c.settle.ensures.said
+
+pub bring-requires-clause-asks : goal.bring-requires-clause-asks
+bring-requires-clause-asks g c =
+    let keeps : KeepsClients c.args.daemon.now.clients.sessions c.apply_free.new.clients.sessions = search rules in
+    let asks : AsksStore (Step c.args.id) c.args.daemon.now.clients.sessions = search rules in
+    asks_after c.args.id c.args.daemon.now.clients.sessions c.apply_free.new.clients.sessions keeps asks

@@ -8,16 +8,16 @@ use Rattle.daemonfakes.proofs.desk.DeskFakeDesk.carry.Goals as goal
 
 pub returns-clause-carries : goal.returns-clause-carries
 returns-clause-carries g c =
-    let others = c.let_other-others.result in
-    let rest : c.is_away.new.self.fake ≡ c.args.self.now.fake = c.is_away.ensures in
-    let lets : LetsOthers g.S.Shelf.holds others c.args.self.now.fake.rest c.args.clients.now.sessions c.let_other-others.new.self.fake.rest c.let_other-others.new.clients.sessions =
-    subst (λ f. LetsOthers g.S.Shelf.holds others f.rest c.args.clients.now.sessions c.let_other-others.new.self.fake.rest c.let_other-others.new.clients.sessions) rest c.let_other-others.ensures.others in
-    let done : IsDone g.S.Shelf.holds others c.args.event.now c.change-answer.result c.args.self.now.fake.rest c.args.clients.now.sessions c.note_done.new.self.fake.rest c.change-answer.new.clients.sessions =
-    subst (λ s. IsDone g.S.Shelf.holds others c.args.event.now c.change-answer.result c.args.self.now.fake.rest c.args.clients.now.sessions s c.change-answer.new.clients.sessions) (sym c.note_done.ensures.left)
-    (done_behind g.S.Shelf.holds others c.args.event.now c.change-answer.result c.args.self.now.fake.rest c.let_other-others.new.self.fake.rest c.change-answer.new.self c.args.clients.now.sessions c.let_other-others.new.clients.sessions c.change-answer.new.clients.sessions
+    let others = c.let_others-others.result in
+    let rest : c.is_away.new.self.stage.fake ≡ c.args.self.now.stage.fake = ap (λ s. s.fake) c.is_away.ensures in
+    let lets : LetsOthers g.S.Shelf.holds others c.args.self.now.stage.fake.rest c.args.clients.now.sessions c.let_others-others.new.self.stage.fake.rest c.let_others-others.new.clients.sessions =
+    subst (λ f. LetsOthers g.S.Shelf.holds others f.rest c.args.clients.now.sessions c.let_others-others.new.self.stage.fake.rest c.let_others-others.new.clients.sessions) rest c.let_others-others.ensures.others in
+    let done : IsDone g.S.Shelf.holds others c.args.event.now c.change-answer.result c.args.self.now.stage.fake.rest c.args.clients.now.sessions c.note_done.new.self.stage.fake.rest c.change-answer.new.clients.sessions =
+    subst (λ s. IsDone g.S.Shelf.holds others c.args.event.now c.change-answer.result c.args.self.now.stage.fake.rest c.args.clients.now.sessions s c.change-answer.new.clients.sessions) (sym c.note_done.ensures.left)
+    (done_behind g.S.Shelf.holds others c.args.event.now c.change-answer.result c.args.self.now.stage.fake.rest c.let_others-others.new.self.stage.fake.rest c.change-answer.new.self c.args.clients.now.sessions c.let_others-others.new.clients.sessions c.change-answer.new.clients.sessions
     lets c.change-answer.ensures) in (
       others,
       λ clean. done,
       λ tells. c.note_done.ensures.told tells
-          ∙ ap (λ acts. acts.items ++ Noted c.args.id (Did others c.args.event.now c.change-answer.result) ∷ []) (c.let_other-others.ensures.acts ∙ ap (λ f. f.acts) rest),
+          ∙ ap (λ acts. acts.items ++ Noted c.args.id (Did others c.args.event.now c.change-answer.result) ∷ []) (c.let_others-others.ensures.acts ∙ ap (λ f. f.acts) rest),
     )

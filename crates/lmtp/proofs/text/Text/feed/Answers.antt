@@ -1,4 +1,4 @@
-use Rattle.std.proofs.Common.{◌≡◌, ◌+◌, ◌-◌, ◌≤◌, List, ℕ, take, drop, length, ap, ◌∙◌, sym, subst, arith}
+use Rattle.std.proofs.Common.{take, length, ap, ◌∙◌, subst, arith}
 use Rattle.std.proofs.lemmas.List.{length-drop, take_rest}
 use Rattle.lmtp.specs.Texts.{Feeds}
 use Rattle.lmtp.proofs.FeedLemmas.{feeds_up_to}

@@ -1,4 +1,4 @@
-use Rattle.std.proofs.Common.{sym, ap, ◌∙◌}
+use Rattle.std.proofs.Common.{ap, ◌∙◌}
 use Rattle.lmtp.specs.Texts.{after}
 use Rattle.lmtp.proofs.FeedLemmas.{feeds_one}
 use Rattle.lmtp.proofs.text.Text.turn.Goals as goal

@@ -1,0 +1,209 @@
+-- For which dialogue a receiver stands once something was answered.
+use Rattle.std.proofs.Common.{◌≡◌, ℕ, ◌+◌, ◌-◌, true, false, List, [], ◌∷◌, length, take, drop, get_or, inl, inr, refl, sym, ap, ◌∙◌, subst, append-nil}
+use Rattle.lmtp.specs.Dialogues.{Phase, Opened, Asking, Sending, Dialogue, Item, Command, LongLine, Message, Spells, Waits}
+use Rattle.lmtp.specs.Lines.{Finds}
+use Rattle.lmtp.specs.Receivers.{IsGone, Holds, IsTaken, StandsIn, TakesIn, GoesFrom, Goes, reads_lines, takes_lines}
+use Rattle.lmtp.specs.Replies.{said_of}
+use Rattle.lmtp.specs.Talks.{phase_by, phase_of, item_by, TakesTurn, Obeys, Reports, resolved_turn, phase_replied, IsTextAfter}
+use Rattle.lmtp.specs.Texts.{StandsFor, text_after}
+use Rattle.lmtp.specs.Turns.{Turn, IsTurn, Answers, Resolves, Replies, replied, taken_by, max_text}
+use Rattle.lmtp.specs.declared.line.Found.{Found}
+use Rattle.lmtp.specs.declared.line.Found.TheVariants.{Line}
+use Rattle.lmtp.specs.declared.receiver.Lookup.{Lookup}
+use Rattle.lmtp.specs.declared.receiver.Receiver.{Receiver}
+use Rattle.lmtp.specs.declared.receiver.Stage.{Stage}
+use Rattle.lmtp.specs.declared.receiver.Stage.TheVariants as stage
+use Rattle.lmtp.specs.declared.reply.Outcome.{Outcome}
+use Rattle.lmtp.specs.declared.text.Place.TheVariants.{Start, Ended}
+use Rattle.lmtp.specs.declared.text.Text.{Text}
+use Rattle.lmtp.proofs.NextLemmas.{SendsIn, sends_in, first_line_in, no_line_in, no_text_in, text_first, owed_in}
+use Rattle.lmtp.proofs.StageLemmas.{reads_taken, fresh_text, sound_fresh, gone_none, stage_of, stage_by}
+
+-- ---- nothing happens
+
+stays : (Is : Dialogue → List ℕ → Dialogue → Type 0) (r : Receiver) (d : Dialogue) (out : List ℕ) → ((octets : List ℕ) (later : Dialogue) → Is d octets later → ⊥)
+    → StandsIn r d → GoesFrom Is d r out out
+stays Is r d out never stands = record {
+  said = [];
+  next = d;
+  happens = inr (never, refl, refl);
+  written = sym (append-nil out);
+  stands = stands;
+}
+
+no_answer : (hello : List ℕ) (d : Dialogue) → Waits d → (octets : List ℕ) (later : Dialogue) → Answers hello d octets later → ⊥
+no_answer hello d waits octets later is = waits is.item is.rest is.first
+
+pub no_line : (r : Receiver) (found : Found) (out : List ℕ) → reads_lines r.talk.stage ≡ true → ((count : ℕ) → found ≡ Line count → ⊥) → Finds found r.unread
+    → Goes (Answers r.talk.hello) r r out out
+no_line r found out reads other finds = λ d stands.
+    stays (Answers r.talk.hello) r d out (no_answer r.talk.hello d (no_line_in r d found reads stands other finds)) stands
+
+-- where no lines are read none is answered
+unread_line : (at : Stage) (sender : List ℕ) (recipients : List (List ℕ)) (told : ℕ) (hello : List ℕ) (item : Item) (octets : List ℕ) (turn : Turn) (phase : Phase)
+    → reads_lines at ≡ false → Spells (phase_by at sender recipients told) item octets → IsTurn hello phase item turn → ⊥
+unread_line stage.Greeted sender recipients told hello item octets turn phase reads spelled is = absurd (cc reads)
+unread_line stage.Ready sender recipients told hello item octets turn phase reads spelled is = absurd (cc reads)
+unread_line stage.Opened sender recipients told hello item octets turn phase reads spelled is = absurd (cc reads)
+unread_line stage.Asking sender recipients told hello item octets turn phase reads spelled is = spelled
+unread_line stage.Sending sender recipients told hello (Message text) octets turn phase reads spelled is = is
+unread_line stage.Sending sender recipients told hello (Command line) octets turn phase reads spelled is = spelled
+unread_line stage.Sending sender recipients told hello LongLine octets turn phase reads spelled is = spelled
+unread_line stage.Over sender recipients told hello item octets turn phase reads spelled is = spelled
+
+pub no_lines : (r : Receiver) (out : List ℕ) → reads_lines r.talk.stage ≡ false → Goes (Answers r.talk.hello) r r out out
+no_lines r out reads = λ d stands.
+    stays (Answers r.talk.hello) r d out
+    (λ octets later is. unread_line r.talk.stage r.talk.sender r.talk.recipients r.talk.told r.talk.hello is.item is.first.octets is.turn d.phase reads
+    (subst (λ p. Spells p is.item is.first.octets) stands.holds.phase is.first.spelled) is.takes)
+    stands
+
+-- ---- a line is answered
+
+pub line_goes : (r m s : Receiver) (count : ℕ) (before after : List ℕ) → reads_lines r.talk.stage ≡ true → Finds (Line count) r.unread
+    → TakesTurn (item_by r.long (take count r.unread)) r.talk m.talk before after → m.long ≡ false → m.unread ≡ drop (count + 2) r.unread → TakesIn m s
+    → Goes (Answers r.talk.hello) r s before after
+line_goes r m s count before after reads found turns short unread takes = λ d stands.
+    let rest = drop (count + 2) r.unread in
+    let item = item_by r.long (take count r.unread) in
+    let later : Dialogue = record { phase = turns.turn.phase; unread = rest } in
+    let fresh = subst (λ t. StandsFor t []) (sym turns.obeys.text) (fresh_text r.talk.stage r.talk.text (reads_taken r.talk.stage reads) stands.holds.sound) in
+    record {
+      said = turns.turn.said;
+      next = later;
+      happens = inl (record {
+        item = item;
+        rest = rest;
+        turn = turns.turn;
+        first = first_line_in r d count reads stands found;
+        takes = subst (λ p. IsTurn r.talk.hello p item turns.turn) (sym stands.holds.phase) turns.takes;
+        told = refl;
+        leaves = refl;
+      });
+      written = turns.obeys.said;
+      stands = takes later (record {
+        phase = sym turns.obeys.phase;
+        heard = record {
+          gone = [];
+          is = rw short (gone_none m.talk.stage m.talk.text m.unread fresh);
+          written = sym unread;
+        };
+        sound = sound_fresh m.talk.stage m.talk.text fresh;
+        limit = ap (λ t. let x : Text = t in x.limit) turns.obeys.text ∙ stands.holds.limit;
+      });
+    }
+
+-- ---- a recipient is resolved
+
+other_stage : (at : Stage) (sender : List ℕ) (recipients : List (List ℕ)) (told : ℕ) (phase : Phase) → phase ≡ phase_by at sender recipients told → stage_of phase ≡ at
+other_stage at sender recipients told phase same = ap stage_of same ∙ stage_by at sender recipients told
+
+pub not_asked : (r : Receiver) (lookup : Lookup) (out : List ℕ) → (r.talk.stage ≡ stage.Asking → ⊥) → Goes (λ d. Resolves d lookup) r r out out
+not_asked r lookup out other = λ d stands.
+    stays (λ e. Resolves e lookup) r d out
+    (λ octets later is. other (sym (other_stage r.talk.stage r.talk.sender r.talk.recipients r.talk.told d.phase stands.holds.phase) ∙ ap stage_of is.asked)) stands
+
+pub resolves : (r s : Receiver) (lookup : Lookup) (before after : List ℕ) → r.talk.stage ≡ stage.Asking → Obeys (resolved_turn (phase_of r.talk) lookup) r.talk s.talk before after
+    → s.long ≡ r.long → s.unread ≡ r.unread → Goes (λ d. Resolves d lookup) r s before after
+resolves r s lookup before after at obeys long unread = λ d stands.
+    let sender = r.talk.sender in
+    let taken = take (length r.talk.recipients - 1) r.talk.recipients in
+    let address = get_or r.talk.recipients (length r.talk.recipients - 1) [] in
+    let asked : phase_of r.talk ≡ Asking sender taken address = ap (λ a. phase_by a r.talk.sender r.talk.recipients r.talk.told) at in
+    let opened : phase_of s.talk ≡ Opened sender (taken_by lookup taken address) = obeys.phase ∙ ap (λ p. (let t : Turn = resolved_turn p lookup in t.phase)) asked in
+    let at_later : s.talk.stage ≡ stage.Opened = sym (stage_by s.talk.stage s.talk.sender s.talk.recipients s.talk.told) ∙ ap stage_of opened in
+    let fresh = subst (λ t. StandsFor t []) (sym obeys.text) (fresh_text r.talk.stage r.talk.text (ap takes_lines at) stands.holds.sound) in
+    let gone = stands.holds.heard.gone in
+    record {
+      said = _;
+      next = record d { phase = Opened sender (taken_by lookup taken address) };
+      happens = inl (record {
+        sender = sender;
+        taken = taken;
+        address = address;
+        asked = stands.holds.phase ∙ asked;
+        told = ap (λ p. (let t : Turn = resolved_turn p lookup in t.said)) asked;
+        leaves = refl;
+      });
+      written = obeys.said;
+      stands = record {
+        holds = record {
+          phase = sym opened;
+          heard = record {
+            gone = gone;
+            is = rw (at_later, long, unread) (subst (λ a. IsGone a r.long r.talk.text r.unread gone) at stands.holds.heard.is);
+            written = rw unread stands.holds.heard.written;
+          };
+          sound = sound_fresh s.talk.stage s.talk.text fresh;
+          limit = ap (λ t. let x : Text = t in x.limit) obeys.text ∙ stands.holds.limit;
+        };
+        taken = rw (at_later, long, unread) (subst (λ a. IsTaken a r.long r.talk.text r.unread) at stands.taken);
+      };
+    }
+
+-- ---- a reply behind a text
+
+pub not_sent : (r : Receiver) (outcome : Outcome) (out : List ℕ) → (r.talk.stage ≡ stage.Sending → ⊥) → Goes (λ d. Replies d outcome) r r out out
+not_sent r outcome out other = λ d stands.
+    stays (λ e. Replies e outcome) r d out
+    (λ octets later is. other (sym (other_stage r.talk.stage r.talk.sender r.talk.recipients r.talk.told d.phase stands.holds.phase) ∙ ap stage_of is.owed)) stands
+
+pub not_whole : (r : Receiver) (outcome : Outcome) (out : List ℕ) → r.talk.stage ≡ stage.Sending → (r.talk.text.place ≡ Ended → ⊥) → Goes (λ d. Replies d outcome) r r out out
+not_whole r outcome out at goes = λ d stands.
+    stays (λ e. Replies e outcome) r d out (λ octets later is. no_text_in r d at stands goes (Message is.text) is.rest is.first) stands
+
+-- what is held behind a reply
+held_after : (r m : Receiver) (d : Dialogue) (left : List (List ℕ)) → SendsIn r d → phase_of m.talk ≡ phase_replied (Sending r.talk.sender (get_or r.talk.recipients r.talk.told [] ∷ left))
+    → IsTextAfter (phase_of m.talk) r.talk.text m.talk.text → m.talk.text.limit ≡ max_text → m.long ≡ r.long → m.unread ≡ r.unread → Holds m (replied r.talk.sender left d r.unread)
+held_after r m d [] sends phase text limit long unread =
+    let at : m.talk.stage ≡ stage.Ready = sym (stage_by m.talk.stage m.talk.sender m.talk.recipients m.talk.told) ∙ ap stage_of phase in
+    let fresh : StandsFor m.talk.text [] = subst (λ p. IsTextAfter p r.talk.text m.talk.text) phase text in
+    record {
+      phase = sym phase;
+      heard = record {
+        gone = [];
+        is = rw (at, long, sends.short) refl;
+        written = sym unread;
+      };
+      sound = sound_fresh m.talk.stage m.talk.text fresh;
+      limit = limit;
+    }
+held_after r m d (next ∷ left) sends phase text limit long unread =
+    let at : m.talk.stage ≡ stage.Sending = sym (stage_by m.talk.stage m.talk.sender m.talk.recipients m.talk.told) ∙ ap stage_of phase in
+    let same : m.talk.text ≡ r.talk.text = subst (λ p. IsTextAfter p r.talk.text m.talk.text) phase text in
+    record {
+      phase = sym phase;
+      heard = record {
+        gone = sends.gone;
+        is = rw (at, same) (long ∙ sends.short, sends.stands);
+        written = rw unread sends.written;
+      };
+      sound = rw at tt;
+      limit = limit;
+    }
+
+pub report_goes : (r m s : Receiver) (outcome : Outcome) (before after : List ℕ) → r.talk.stage ≡ stage.Sending → r.talk.text.place ≡ Ended
+    → Reports r.talk m.talk (said_of outcome) before after → m.long ≡ r.long → m.unread ≡ r.unread → TakesIn m s → Goes (λ d. Replies d outcome) r s before after
+report_goes r m s outcome before after at ended reports long unread takes = λ d stands.
+    let sends = sends_in r d at stands in
+    let recipient = get_or r.talk.recipients r.talk.told [] in
+    let left = drop (r.talk.told + 1) r.talk.recipients in
+    let owed = owed_in r d at sends in
+    let phase : phase_of m.talk ≡ phase_replied (Sending r.talk.sender (recipient ∷ left)) = reports.phase ∙ ap phase_replied (sym stands.holds.phase ∙ owed) in
+    record {
+      said = said_of outcome;
+      next = replied r.talk.sender left d r.unread;
+      happens = inl (record {
+        sender = r.talk.sender;
+        recipient = recipient;
+        left = left;
+        text = text_after Start sends.gone;
+        rest = r.unread;
+        owed = owed;
+        first = text_first r d sends ended;
+        told = refl;
+        leaves = refl;
+      });
+      written = reports.written;
+      stands = takes (replied r.talk.sender left d r.unread) (held_after r m d left sends phase reports.text (reports.limit stands.holds.limit) long unread);
+    }

@@ -1,0 +1,5 @@
+use Rattle.lmtp.proofs.DialogueLemmas.{answers_stand}
+use Rattle.lmtp.proofs.laws.answers_stand.Goals as goal
+
+pub returns : goal.returns
+returns c = answers_stand

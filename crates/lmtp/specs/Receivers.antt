@@ -1,0 +1,139 @@
+-- For which dialogue a receiver stands, and what its calls make of that.
+use Rattle.std.specs.Prelude.{◌≡◌, ◌≢◌, ◌⊎◌, ℕ, ◌+◌, ◌<◌, Bool, true, false, List, [], ◌∷◌, ◌++◌, length, Result, Ok, Err}
+use Rattle.std.specs.Borrow.{Bor}
+use Rattle.lmtp.specs.Dialogues.{Phase, Asking, Sending, Over, Dialogue, given, Item, Message, IsFirst, Waits}
+use Rattle.lmtp.specs.Lines.{line_end, HasNoLineEnd, max_line, Finds}
+use Rattle.lmtp.specs.Talks.{phase_of, IsSound}
+use Rattle.lmtp.specs.Texts.{StandsFor}
+use Rattle.lmtp.specs.Turns.{max_text}
+use Rattle.lmtp.specs.declared.line.Found.TheVariants.{TooLong}
+use Rattle.lmtp.specs.declared.receiver.Delivery.{Delivery}
+use Rattle.lmtp.specs.declared.receiver.Next.{Next}
+use Rattle.lmtp.specs.declared.receiver.Next.TheVariants as next
+use Rattle.lmtp.specs.declared.receiver.Receiver.{Receiver}
+use Rattle.lmtp.specs.declared.receiver.Stage.{Stage}
+use Rattle.lmtp.specs.declared.receiver.Stage.TheVariants as stage
+use Rattle.lmtp.specs.declared.text.Place.TheVariants.{Ended}
+use Rattle.lmtp.specs.declared.text.Text.{Text}
+use Rattle.lmtp.specs.declared.text.Trouble.{Trouble}
+use Rattle.lmtp.specs.declared.text.Trouble.TheVariants.{TooLarge, Memory}
+
+-- ---- what a receiver has heard
+
+-- a stream that begins so: with these octets and more, or with a front of them
+abbrev pub Agrees : List ℕ → List ℕ → Type 0
+Agrees octets stream = ((more : List ℕ) × (stream ≡ octets ++ more)) ⊎ ((more : List ℕ) × (octets ≡ stream ++ more))
+
+-- octets which make no line end with a stream that begins so
+abbrev pub JoinsNone : List ℕ → List ℕ → Type 0
+JoinsNone gone unread = (stream : List ℕ) → Agrees unread stream → HasNoLineEnd stream → HasNoLineEnd (gone ++ stream)
+
+-- octets of a line which aren't held: none, or all but the last ones where there are too many
+abbrev pub IsLineGone : Bool → List ℕ → List ℕ → Type 0
+IsLineGone false unread gone = gone ≡ []
+IsLineGone true unread gone = JoinsNone gone unread × (unread ≢ []) × (max_line < length gone + 2)
+
+-- octets of the item that comes first which aren't held as they came: those of a text, or of a line
+abbrev pub IsGone : Stage → Bool → Text → List ℕ → List ℕ → Type 0
+IsGone stage.Sending long text unread gone = (long ≡ false) × StandsFor text gone
+IsGone stage.Over long text unread gone = Unit {0}
+IsGone other long text unread gone = IsLineGone long unread gone
+
+-- these octets came behind the items that were answered
+pub record HasHeard (r : Receiver) (octets : List ℕ) : Type 0 where
+  pub gone : List ℕ
+  pub is : IsGone r.talk.stage r.long r.talk.text r.unread gone
+  pub written : octets ≡ gone ++ r.unread
+
+-- this goes on in it, and it has heard the octets that are unread
+pub record Holds (r : Receiver) (d : Dialogue) : Type 0 where
+  pub phase : d.phase ≡ phase_of r.talk
+  pub heard : HasHeard r d.unread
+  pub sound : IsSound r.talk
+  pub limit : r.talk.text.limit ≡ max_text
+
+-- of a line that has too many octets the last one is held, or its CRLF and what stands behind it
+abbrev pub IsLineTaken : Bool → List ℕ → Type 0
+IsLineTaken false unread = Finds TooLong unread → ⊥
+IsLineTaken true unread = ((octet : ℕ) × (unread ≡ octet ∷ [])) ⊎ ((rest : List ℕ) × (unread ≡ line_end ++ rest))
+
+-- and nothing of a text that goes on
+abbrev pub IsTaken : Stage → Bool → Text → List ℕ → Type 0
+IsTaken stage.Sending long text unread = text.place ≢ Ended → unread ≡ []
+IsTaken stage.Over long text unread = Unit {0}
+IsTaken other long text unread = IsLineTaken long unread
+
+-- the dialogue for which it stands
+pub record StandsIn (r : Receiver) (d : Dialogue) : Type 0 where
+  pub holds : Holds r d
+  pub taken : IsTaken r.talk.stage r.long r.talk.text r.unread
+
+-- ---- what its calls make of it
+
+-- octets came
+abbrev pub Hears : Receiver → List ℕ → Receiver → Type 0
+Hears r piece s = (d : Dialogue) → StandsIn r d → StandsIn s (given piece d)
+
+-- what is held was taken in
+abbrev pub TakesIn : Receiver → Receiver → Type 0
+TakesIn r s = (d : Dialogue) → Holds r d → StandsIn s d
+
+-- it happens, or it can't and nothing does
+abbrev pub Happens : (Dialogue → List ℕ → Dialogue → Type 0) → Dialogue → List ℕ → Dialogue → Type 0
+Happens Is d said e = Is d said e ⊎ (((octets : List ℕ) (later : Dialogue) → Is d octets later → ⊥) × (said ≡ []) × (e ≡ d))
+
+-- what was said between two outputs, and the dialogue for which it stands then
+pub record GoesFrom (Is : Dialogue → List ℕ → Dialogue → Type 0) (d : Dialogue) (s : Receiver) (before after : List ℕ) : Type 0 where
+  pub said : List ℕ
+  pub next : Dialogue
+  pub happens : Happens Is d said next
+  pub written : after ≡ before ++ said
+  pub stands : StandsIn s next
+
+abbrev pub Goes : (Dialogue → List ℕ → Dialogue → Type 0) → Receiver → Receiver → List ℕ → List ℕ → Type 0
+Goes Is r s before after = (d : Dialogue) → StandsIn r d → GoesFrom Is d s before after
+
+-- ---- what comes next
+
+abbrev pub reads_lines : Stage → Bool
+reads_lines stage.Greeted = true
+reads_lines stage.Ready = true
+reads_lines stage.Opened = true
+reads_lines other = false
+
+-- and a line that is too long may be dropped
+abbrev pub takes_lines : Stage → Bool
+takes_lines stage.Asking = true
+takes_lines other = reads_lines other
+
+-- octets of the client are read
+abbrev pub is_heard : Phase → Bool
+is_heard (Asking sender taken address) = false
+is_heard Over = false
+is_heard phase = true
+
+abbrev pub is_line : Item → Bool
+is_line (Message text) = false
+is_line item = true
+
+-- the text as it is kept, or why it isn't: it has too many octets, or memory was lacking
+abbrev pub IsKept : List ℕ → Result (Bor (List ℕ)) Trouble → Type 0
+IsKept text (Ok kept) = kept.now ≡ text
+IsKept text (Err TooLarge) = max_text < length text
+IsKept text (Err Memory) = Unit {0}
+
+-- the text is whole, and this is the first recipient for whom a reply is owed
+pub record IsDelivery (d : Dialogue) (delivery : Delivery) : Type 0 where
+  pub left : List (List ℕ)
+  pub text : List ℕ
+  pub rest : List ℕ
+  pub owed : d.phase ≡ Sending delivery.sender.now (delivery.recipient.now ∷ left)
+  pub first : IsFirst d (Message text) rest
+  pub kept : IsKept text delivery.text
+
+abbrev pub ComesNext : Dialogue → Next → Type 0
+ComesNext d next.Need = (is_heard d.phase ≡ true) × Waits d
+ComesNext d next.Line = (item : Item) × (rest : List ℕ) × IsFirst d item rest × (is_line item ≡ true)
+ComesNext d (next.Recipient address) = (sender : List ℕ) × (taken : List (List ℕ)) × (d.phase ≡ Asking sender taken address.now)
+ComesNext d (next.Delivery delivery) = IsDelivery d delivery
+ComesNext d next.Over = d.phase ≡ Over

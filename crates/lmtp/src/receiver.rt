@@ -1,0 +1,307 @@
+//! The server's side of a dialogue.
+ghost use Rattle.std.specs.Prelude.{◌≡◌, ◌⊎◌, ◌↔◌, ◌++◌, true, IsTrue, IfOk, OnOk, OnErr};
+ghost use Rattle.lmtp.specs.Dialogues.{Dialogue, new_dialogue};
+ghost use Rattle.lmtp.specs.Lines.{Finds};
+ghost use Rattle.lmtp.specs.Receivers as s;
+ghost use Rattle.lmtp.specs.Replies as r;
+ghost use Rattle.lmtp.specs.Turns.{Answers, Resolves, Replies, reply_to};
+
+use crate::line::{Found, first_line, skip_line};
+use crate::recipients::Recipients;
+use crate::reply::{Outcome, Reply, capabilities, greeting};
+use crate::talk::{MAX_TEXT, Talk};
+use crate::text::{Text, Trouble};
+use octets::{Octets, Pending};
+use std::alloc::{AllocError, Global};
+
+/// What goes on in a dialogue.
+#[derive(Clone, Copy, Debug, PartialEq, Eq)]
+pub enum Stage {
+    /// The client hasn't said LHLO.
+    Greeted,
+    /// No transaction is open.
+    Ready,
+    /// One is.
+    Opened,
+    /// The same, and it is asked whether there is an account for one recipient more.
+    Asking,
+    /// The text of a message is sent, or was.
+    Sending,
+    /// The client has said QUIT.
+    Over,
+}
+
+/// What was found of the account of a recipient.
+#[derive(Clone, Copy, Debug, PartialEq, Eq)]
+pub enum Lookup {
+    /// There is one.
+    Known,
+    /// There is none.
+    Unknown,
+    /// It can't be looked for now, since another process has the store.
+    Away,
+    /// Nor for another fault of this host.
+    Fault,
+    /// Nor for lack of memory.
+    NoRoom,
+}
+
+/// A message for one recipient.
+#[derive(Clone, Copy)]
+pub struct Delivery<'a> {
+    /// The sender's address; empty for that of a bounce.
+    pub sender: &'a [u8],
+    pub recipient: &'a [u8],
+    /// The text, or why it isn't kept.
+    pub text: Result<&'a [u8], Trouble>,
+}
+
+/// What comes next in a dialogue.
+#[derive(Clone, Copy)]
+pub enum Next<'a> {
+    /// Octets of the client: no line or text is whole.
+    Need,
+    /// A line, which `answer` takes off.
+    Line,
+    /// Whether there is an account for this recipient, which `resolve` is told.
+    Recipient(&'a [u8]),
+    /// The message is to be delivered to the next recipient: `report` is told what became of it.
+    Delivery(Delivery<'a>),
+    /// Nothing: the client has said QUIT.
+    Over,
+}
+
+/// The server's side of a dialogue of LMTP (RFC 2033): it hears a client's octets, in pieces cut anywhere, and says what is answered.
+///
+/// It knows nothing of accounts and of time. It holds at most a piece and 2,048 octets of lines, a text of at most 33,552,232 octets, and
+/// 1,000 recipients of 1,024 octets. Octets of a line that is too long, and of a text that is too large, are dropped as they come.
+#[derive(Drop)]
+pub struct Receiver {
+    // Octets that came, but for those that are taken in already.
+    pub(crate) unread: Pending,
+    // The line that comes first has too many octets, and those before `unread` were dropped.
+    pub(crate) long: bool,
+    pub(crate) talk: Talk,
+}
+
+impl Lookup {
+    /// What a recipient is answered.
+    pub fn reply(self) -> Reply
+        ensures { result ≡ reply_to self }
+    {
+        match self {
+            Lookup::Known => Reply::RecipientTaken,
+            Lookup::Unknown => Reply::NoSuchUser,
+            Lookup::Away => Reply::StoreAway,
+            Lookup::Fault => Reply::LocalFault,
+            Lookup::NoRoom => Reply::NoRoom,
+        }
+    }
+}
+
+impl Receiver {
+    /// A new dialogue, whose greeting joins the output. Of the host's name 255 octets are shown, with `?` for each that isn't printable
+    /// ASCII.
+    ///
+    /// Lack of memory is the only error, and the output then stays.
+    pub fn new(alloc: Global, host: &[u8], out: &mut Octets) -> Result<Receiver, AllocError>
+        ensures begins { IfOk result (λ receiver. s.StandsIn receiver new_dialogue) }
+        ensures hello { IfOk result (λ receiver. receiver.talk.hello ≡ r.capabilities host.now) }
+        ensures greets { OnOk result (out.new ≡ out.old ++ r.greeting host.now) }
+        ensures err { OnErr result (out.new ≡ out.old) }
+    {
+        let hello = capabilities(alloc, host)?;
+        let line = greeting(alloc, host)?;
+        out.extend_from_slice(line.as_slice())?;
+        Ok(Receiver {
+            unread: Pending::new(alloc),
+            long: false,
+            talk: Talk {
+                alloc,
+                hello,
+                stage: Stage::Greeted,
+                sender: Octets::new(alloc),
+                recipients: Recipients::new(alloc),
+                told: 0,
+                text: Text::new(alloc, MAX_TEXT),
+            },
+        })
+    }
+
+    /// Octets of the client come. Where memory is lacking for a text that is sent, the text is dropped and the call succeeds.
+    ///
+    /// Lack of memory is the only error; nothing changes then. Time is linear in the octets of the piece, and in those that are unread.
+    pub fn give(&mut self, piece: &[u8]) -> Result<(), AllocError>
+        ensures hears { OnOk result (s.Hears self.old piece.now self.new) }
+        ensures hello { self.new.talk.hello ≡ self.old.talk.hello }
+        ensures err { OnErr result (self.new ≡ self.old) }
+    {
+        self.unread.extend_from_slice(piece)?;
+        self.take_in();
+        Ok(())
+    }
+
+    /// What comes next. Takes no memory, and constant time: of a line 2,048 octets at most are looked at.
+    pub fn next(&self) -> Next<'_>
+        ensures { (d : Dialogue) → s.StandsIn self.now d → s.ComesNext d result }
+    {
+        match self.talk.stage {
+            Stage::Over => Next::Over,
+            Stage::Asking => Next::Recipient(self.talk.asked()),
+            Stage::Sending => self.next_delivery(),
+            Stage::Greeted | Stage::Ready | Stage::Opened => self.next_line(),
+        }
+    }
+
+    fn next_line(&self) -> Next<'_>
+        requires { s.reads_lines self.now.talk.stage ≡ true }
+        ensures { (d : Dialogue) → s.StandsIn self.now d → s.ComesNext d result }
+    {
+        match first_line(self.unread.as_slice()) {
+            Found::Line(_) => Next::Line,
+            _ => Next::Need,
+        }
+    }
+
+    fn next_delivery(&self) -> Next<'_>
+        requires { self.now.talk.stage ≡ Stage.Sending }
+        ensures { (d : Dialogue) → s.StandsIn self.now d → s.ComesNext d result }
+    {
+        if !self.talk.text.has_ended() {
+            return Next::Need;
+        }
+        Next::Delivery(self.talk.delivery())
+    }
+
+    /// The line that comes next is taken off and answered; where none does, nothing changes.
+    ///
+    /// Lack of memory is the only error; nothing changes then.
+    pub fn answer(&mut self, out: &mut Octets) -> Result<(), AllocError>
+        ensures ok { OnOk result (s.Goes (Answers self.old.talk.hello) self.old self.new out.old out.new) }
+        ensures hello { self.new.talk.hello ≡ self.old.talk.hello }
+        ensures err { OnErr result ((self.new ≡ self.old) × (out.new ≡ out.old)) }
+    {
+        match self.talk.stage {
+            Stage::Greeted | Stage::Ready | Stage::Opened => self.answer_line(out),
+            Stage::Asking | Stage::Sending | Stage::Over => Ok(()),
+        }
+    }
+
+    fn answer_line(&mut self, out: &mut Octets) -> Result<(), AllocError>
+        requires { s.reads_lines self.old.talk.stage ≡ true }
+        ensures ok { OnOk result (s.Goes (Answers self.old.talk.hello) self.old self.new out.old out.new) }
+        ensures hello { self.new.talk.hello ≡ self.old.talk.hello }
+        ensures err { OnErr result ((self.new ≡ self.old) × (out.new ≡ out.old)) }
+    {
+        let Found::Line(count) = first_line(self.unread.as_slice()) else {
+            return Ok(());
+        };
+        self.talk
+            .obey_line(self.long, &self.unread.as_slice()[..count], out)?;
+        self.unread.drop_front(count + 2);
+        self.long = false;
+        self.take_in();
+        Ok(())
+    }
+
+    /// It is told whether there is an account for the recipient that comes next; where none does, nothing changes.
+    ///
+    /// Lack of memory is the only error; nothing changes then.
+    pub fn resolve(&mut self, lookup: Lookup, out: &mut Octets) -> Result<(), AllocError>
+        ensures ok { OnOk result (s.Goes (λ d. Resolves d lookup) self.old self.new out.old out.new) }
+        ensures hello { self.new.talk.hello ≡ self.old.talk.hello }
+        ensures err { OnErr result ((self.new ≡ self.old) × (out.new ≡ out.old)) }
+    {
+        match self.talk.stage {
+            Stage::Asking => {
+                self.talk.resolve(lookup, out)?;
+                Ok(())
+            }
+            _ => Ok(()),
+        }
+    }
+
+    /// It is told what became of the message for the recipient to whom it is to be delivered next; where there is none, nothing changes.
+    /// Behind the last one the message is dropped.
+    ///
+    /// Lack of memory is the only error; nothing changes then.
+    pub fn report(&mut self, outcome: Outcome<'_>, out: &mut Octets) -> Result<(), AllocError>
+        ensures ok { OnOk result (s.Goes (λ d. Replies d outcome.entry) self.old self.new out.old out.new) }
+        ensures hello { self.new.talk.hello ≡ self.old.talk.hello }
+        ensures err { OnErr result ((self.new ≡ self.old) × (out.new ≡ out.old)) }
+    {
+        match self.talk.stage {
+            Stage::Sending => self.report_next(outcome, out),
+            _ => Ok(()),
+        }
+    }
+
+    fn report_next(&mut self, outcome: Outcome<'_>, out: &mut Octets) -> Result<(), AllocError>
+        requires { self.old.talk.stage ≡ Stage.Sending }
+        ensures ok { OnOk result (s.Goes (λ d. Replies d outcome.entry) self.old self.new out.old out.new) }
+        ensures hello { self.new.talk.hello ≡ self.old.talk.hello }
+        ensures err { OnErr result ((self.new ≡ self.old) × (out.new ≡ out.old)) }
+    {
+        if !self.talk.text.has_ended() {
+            return Ok(());
+        }
+        self.talk.report(outcome, out)?;
+        self.take_in();
+        Ok(())
+    }
+
+    // What can't wait is taken in: octets of a text, those of a line that is too long, and what comes behind QUIT.
+    fn take_in(&mut self)
+        ensures takes { s.TakesIn self.old self.new }
+        ensures talk { self.new.talk.hello ≡ self.old.talk.hello }
+    {
+        match self.talk.stage {
+            Stage::Sending => self.feed_text(),
+            Stage::Over => self.unread.drop_front(self.unread.len()),
+            _ => self.skip_long(),
+        }
+    }
+
+    fn feed_text(&mut self)
+        requires { self.old.talk.stage ≡ Stage.Sending }
+        ensures takes { s.TakesIn self.old self.new }
+        ensures talk { self.new.talk.hello ≡ self.old.talk.hello }
+    {
+        let taken = self.talk.text.feed(self.unread.as_slice());
+        self.unread.drop_front(taken);
+    }
+
+    fn skip_long(&mut self)
+        requires { s.takes_lines self.old.talk.stage ≡ true }
+        ensures takes { s.TakesIn self.old self.new }
+        ensures talk { self.new.talk.hello ≡ self.old.talk.hello }
+    {
+        if self.long {
+            self.drop_line();
+        } else if is_too_long(self.unread.as_slice()) {
+            self.drop_line();
+        }
+    }
+
+    // Octets of a line that is too long are dropped.
+    fn drop_line(&mut self)
+        requires lines { s.takes_lines self.old.talk.stage ≡ true }
+        requires long { (self.old.long ≡ true) ⊎ Finds Found.TooLong self.old.unread }
+        ensures takes { s.TakesIn self.old self.new }
+        ensures talk { self.new.talk.hello ≡ self.old.talk.hello }
+    {
+        self.long = true;
+        let count = skip_line(self.unread.as_slice());
+        self.unread.drop_front(count);
+    }
+}
+
+// Whether the line that comes first has more octets than one may have.
+fn is_too_long(octets: &[u8]) -> bool
+    ensures { IsTrue result ↔ Finds Found.TooLong octets.now }
+{
+    match first_line(octets) {
+        Found::TooLong => true,
+        _ => false,
+    }
+}

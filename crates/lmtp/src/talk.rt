@@ -1,0 +1,283 @@
+//! What goes on in a dialogue, but for what its client has sent: what a command does.
+ghost use Rattle.std.specs.Prelude.{◌≡◌, ◌<◌, length};
+ghost use Rattle.lmtp.specs.declared.receiver.Stage.TheVariants.{Asking as asking, Sending as sending};
+ghost use Rattle.lmtp.specs.Turns.{is_too_large as too_large};
+
+use crate::argument::Mail;
+use crate::order::{Order, read_order};
+use crate::receiver::{Delivery, Lookup, Stage};
+use crate::recipients::Recipients;
+use crate::reply::{Outcome, Reply};
+use crate::text::Text;
+use octets::Octets;
+use std::alloc::{AllocError, Global};
+
+/// The most octets of a message.
+pub const MAX_TEXT: usize = 33_552_232;
+
+/// The most recipients of one.
+pub const MAX_RECIPIENTS: usize = 1000;
+
+/// What goes on in a dialogue.
+#[derive(Drop)]
+pub struct Talk {
+    pub(crate) alloc: Global,
+    /// What is said to LHLO.
+    pub(crate) hello: Octets,
+    pub(crate) stage: Stage,
+    /// The sender of the transaction that is open, or of the message that is sent.
+    pub(crate) sender: Octets,
+    /// Its recipients that were taken, and the one that is asked for behind them.
+    pub(crate) recipients: Recipients,
+    /// For so many of them a reply was made behind the text.
+    pub(crate) told: usize,
+    pub(crate) text: Text,
+    // One is asked for.
+    ghost asked_for: { stage ≡ asking → 0 < length recipients },
+    // A reply is owed to one.
+    ghost owed: { stage ≡ sending → told < length recipients },
+}
+
+impl Talk {
+    ghost use Rattle.std.specs.Prelude.{◌≡◌, ◌<◌, ◌-◌, [], length, slice_index_or, OnOk, OnErr};
+    ghost use Rattle.lmtp.specs.Replies.{said_of};
+    ghost use Rattle.lmtp.specs.Talks as s;
+    ghost use Rattle.lmtp.specs.Texts.{IsTextOf};
+    ghost use Rattle.lmtp.specs.Turns.{says, turn_of, hello_turn, opened_turn, mail_turn, asked_for, rcpt_turn, data_turn, reset_turn, quit_turn, phase_reset};
+
+    /// A command is obeyed, and answered where nothing has to be asked first.
+    ///
+    /// Lack of memory is the only error; nothing changes then.
+    pub fn obey(&mut self, order: Order<'_>, out: &mut Octets) -> Result<(), AllocError>
+        ensures ok { OnOk result (s.Obeys (turn_of self.old.hello (s.phase_of self.old) order.entry) self.old self.new out.old out.new) }
+        ensures err { OnErr result (s.IsSame self.old self.new out.old out.new) }
+    {
+        match order {
+            Order::Lhlo(_) => self.hail(out),
+            Order::Mail(mail) => self.open(mail, out),
+            Order::Rcpt(address) => self.ask(address, out),
+            Order::Data => self.begin_text(out),
+            Order::Rset => self.reset(out),
+            Order::Noop => self.say(Reply::Done, out),
+            Order::Vrfy => self.say(Reply::Unverified, out),
+            Order::Help => self.say(Reply::Helped, out),
+            Order::Quit => self.quit(out),
+            Order::Refused(reply) => self.say(reply, out),
+        }
+    }
+
+    // A line is said, and nothing else happens.
+    pub fn say(&mut self, reply: Reply, out: &mut Octets) -> Result<(), AllocError>
+        ensures ok { OnOk result (s.Obeys (says reply (s.phase_of self.old)) self.old self.new out.old out.new) }
+        ensures err { OnErr result (s.IsSame self.old self.new out.old out.new) }
+    {
+        out.extend_from_slice(reply.line())
+    }
+
+    // No transaction is open.
+    fn drop_mail(&mut self)
+        ensures phase { s.phase_of self.new ≡ phase_reset (s.phase_of self.old) }
+        ensures same { (self.new.hello ≡ self.old.hello) × (self.new.text ≡ self.old.text) }
+    {
+        self.recipients.truncate(0);
+        match self.stage {
+            Stage::Greeted => {}
+            _ => self.stage = Stage::Ready,
+        }
+    }
+
+    fn hail(&mut self, out: &mut Octets) -> Result<(), AllocError>
+        ensures ok { OnOk result (s.Obeys (hello_turn self.old.hello) self.old self.new out.old out.new) }
+        ensures err { OnErr result (s.IsSame self.old self.new out.old out.new) }
+    {
+        out.extend_from_slice(self.hello.as_slice())?;
+        self.recipients.truncate(0);
+        self.stage = Stage::Ready;
+        Ok(())
+    }
+
+    fn reset(&mut self, out: &mut Octets) -> Result<(), AllocError>
+        ensures ok { OnOk result (s.Obeys (reset_turn (s.phase_of self.old)) self.old self.new out.old out.new) }
+        ensures err { OnErr result (s.IsSame self.old self.new out.old out.new) }
+    {
+        out.extend_from_slice(Reply::Done.line())?;
+        self.drop_mail();
+        Ok(())
+    }
+
+    fn quit(&mut self, out: &mut Octets) -> Result<(), AllocError>
+        ensures ok { OnOk result (s.Obeys quit_turn self.old self.new out.old out.new) }
+        ensures err { OnErr result (s.IsSame self.old self.new out.old out.new) }
+    {
+        out.extend_from_slice(Reply::Goodbye.line())?;
+        self.stage = Stage::Over;
+        Ok(())
+    }
+
+    fn open(&mut self, mail: Mail<'_>, out: &mut Octets) -> Result<(), AllocError>
+        ensures ok { OnOk result (s.Obeys (mail_turn (s.phase_of self.old) mail.entry.from.now mail.entry.size) self.old self.new out.old out.new) }
+        ensures err { OnErr result (s.IsSame self.old self.new out.old out.new) }
+    {
+        match self.stage {
+            Stage::Ready if is_too_large(mail.size) => self.say(Reply::MessageTooLarge, out),
+            Stage::Ready => self.begin(mail.from, out),
+            _ => self.say(Reply::OutOfOrder, out),
+        }
+    }
+
+    // A transaction begins.
+    fn begin(&mut self, sender: &[u8], out: &mut Octets) -> Result<(), AllocError>
+        ensures ok { OnOk result (s.Obeys (opened_turn sender.now) self.old self.new out.old out.new) }
+        ensures err { OnErr result (s.IsSame self.old self.new out.old out.new) }
+    {
+        let sender = Octets::from_slice(self.alloc, sender)?;
+        out.extend_from_slice(Reply::SenderTaken.line())?;
+        self.sender = sender;
+        self.recipients.truncate(0);
+        self.stage = Stage::Opened;
+        Ok(())
+    }
+
+    fn ask(&mut self, address: &[u8], out: &mut Octets) -> Result<(), AllocError>
+        ensures ok { OnOk result (s.Obeys (rcpt_turn (s.phase_of self.old) address.now) self.old self.new out.old out.new) }
+        ensures err { OnErr result (s.IsSame self.old self.new out.old out.new) }
+    {
+        match self.stage {
+            Stage::Opened if self.recipients.len() >= MAX_RECIPIENTS => self.say(
+                Reply::TooManyRecipients,
+                out,
+            ),
+            Stage::Opened => self.wait_for(address),
+            _ => self.say(Reply::OutOfOrder, out),
+        }
+    }
+
+    // It is asked whether there is an account for one recipient more.
+    fn wait_for(&mut self, address: &[u8]) -> Result<(), AllocError>
+        requires opened { self.old.stage ≡ Stage.Opened }
+        ensures ok { OnOk result (s.phase_of self.new ≡ asked_for (s.phase_of self.old) address.now) }
+        ensures same { OnOk result ((self.new.hello ≡ self.old.hello) × (self.new.text ≡ self.old.text)) }
+        ensures err { OnErr result (self.new ≡ self.old) }
+    {
+        let address = Octets::from_slice(self.alloc, address)?;
+        self.recipients.push(address)?;
+        self.stage = Stage::Asking;
+        Ok(())
+    }
+
+    fn begin_text(&mut self, out: &mut Octets) -> Result<(), AllocError>
+        ensures ok { OnOk result (s.Obeys (data_turn (s.phase_of self.old)) self.old self.new out.old out.new) }
+        ensures err { OnErr result (s.IsSame self.old self.new out.old out.new) }
+    {
+        match self.stage {
+            Stage::Opened if self.recipients.len() == 0 => self.say(Reply::NoRecipient, out),
+            Stage::Opened => self.go_ahead(out),
+            _ => self.say(Reply::OutOfOrder, out),
+        }
+    }
+
+    // A text is sent from here on.
+    fn go_ahead(&mut self, out: &mut Octets) -> Result<(), AllocError>
+        requires opened { self.old.stage ≡ Stage.Opened }
+        requires some { 0 < length self.old.recipients }
+        ensures ok { OnOk result (s.Obeys (data_turn (s.phase_of self.old)) self.old self.new out.old out.new) }
+        ensures err { OnErr result (s.IsSame self.old self.new out.old out.new) }
+    {
+        out.extend_from_slice(Reply::GoAhead.line())?;
+        self.told = 0;
+        self.stage = Stage::Sending;
+        Ok(())
+    }
+
+    /// A line is obeyed; `long`, where it has too many octets.
+    pub fn obey_line(&mut self, long: bool, line: &[u8], out: &mut Octets) -> Result<(), AllocError>
+        ensures ok { OnOk result (s.TakesTurn (s.item_by long line.now) self.old self.new out.old out.new) }
+        ensures err { OnErr result (s.IsSame self.old self.new out.old out.new) }
+    {
+        if long {
+            self.say(Reply::LineTooLong, out)
+        } else {
+            self.obey(read_order(line), out)
+        }
+    }
+
+    /// It was found whether there is an account for the recipient that is asked for.
+    ///
+    /// Lack of memory is the only error; nothing changes then.
+    pub fn resolve(&mut self, lookup: Lookup, out: &mut Octets) -> Result<(), AllocError>
+        requires asked { self.old.stage ≡ Stage.Asking }
+        requires some { 0 < length self.old.recipients }
+        ensures ok { OnOk result (s.Obeys (s.resolved_turn (s.phase_of self.old) lookup) self.old self.new out.old out.new) }
+        ensures err { OnErr result (s.IsSame self.old self.new out.old out.new) }
+    {
+        out.extend_from_slice(lookup.reply().line())?;
+        match lookup {
+            Lookup::Known => {}
+            _ => self.recipients.truncate(self.recipients.len() - 1),
+        }
+        self.stage = Stage::Opened;
+        Ok(())
+    }
+
+    /// A reply is made behind the text, for the next recipient to whom one is owed.
+    ///
+    /// Lack of memory is the only error; nothing changes then.
+    pub fn report(&mut self, outcome: Outcome<'_>, out: &mut Octets) -> Result<(), AllocError>
+        requires sends { self.old.stage ≡ Stage.Sending }
+        requires owed { self.old.told < length self.old.recipients }
+        ensures ok { OnOk result (s.Reports self.old self.new (said_of outcome.entry) out.old out.new) }
+        ensures err { OnErr result (s.IsSame self.old self.new out.old out.new) }
+    {
+        let line = outcome.line(self.alloc)?;
+        out.extend_from_slice(line.as_slice())?;
+        let count = self.recipients.len();
+        let told = self.told + 1;
+        if told < count {
+            self.told = told;
+        } else {
+            self.end_message();
+        }
+        Ok(())
+    }
+
+    // No reply is owed any more.
+    fn end_message(&mut self)
+        ensures { s.EndsMessage self.old self.new }
+    {
+        self.text = Text::new(self.alloc, MAX_TEXT);
+        self.recipients.truncate(0);
+        self.stage = Stage::Ready;
+    }
+
+    /// The recipient that is asked for.
+    pub fn asked(&self) -> &[u8]
+        requires { 0 < length self.now.recipients }
+        ensures { result.now ≡ slice_index_or self.now.recipients (length self.now.recipients - 1) [] }
+    {
+        self.recipients.address(self.recipients.len() - 1)
+    }
+
+    /// The message for the next recipient to whom a reply is owed.
+    pub fn delivery(&self) -> Delivery<'_>
+        requires { self.now.told < length self.now.recipients }
+        ensures sender { result.sender.now ≡ self.now.sender }
+        ensures recipient { result.recipient.now ≡ slice_index_or self.now.recipients self.now.told [] }
+        ensures text { IsTextOf self.now.text result.text }
+    {
+        Delivery {
+            sender: self.sender.as_slice(),
+            recipient: self.recipients.address(self.told),
+            text: self.text.kept(),
+        }
+    }
+}
+
+// Whether a size was announced that no message may have.
+fn is_too_large(size: Option<u64>) -> bool
+    ensures { result ≡ too_large size }
+{
+    match size {
+        Some(size) => size > MAX_TEXT as u64,
+        None => false,
+    }
+}

@@ -1,0 +1,154 @@
+//! The entries that are the daemon's own: who has an account at the start, what others do to the store, whether it is away, and
+//! what is in it.
+use crate::others::{SALT, parse_event};
+use daemonfakes::desk::DeskFake;
+use daemonfakes::memory::MemShelf;
+use mailengine::add_user;
+use mailstore::Store;
+use octets::{List, Octets, write_decimal};
+use sieveddaemon::note::Note;
+use sqlite::{Connection, MemStore};
+use std::alloc::{AllocError, Global};
+use std::collections::VecDeque;
+use wirefakes::play::{Check, Owner};
+use wirefakes::schedule::split_word;
+use wires::act::Act;
+
+/// Looks at the accounts, and lets others change them.
+#[derive(Drop)]
+pub struct Accounts {
+    pub alloc: Global,
+}
+
+/// A store without accounts, in memory.
+pub fn new_shelf(alloc: Global) -> Result<MemShelf, AllocError> {
+    let conn = Connection::open_in_memory(alloc)?;
+    match Store::create(alloc, conn) {
+        Ok(store) => Ok(MemShelf { store }),
+        Err(_) => Err(AllocError),
+    }
+}
+
+impl Owner<DeskFake<MemShelf>> for Accounts {
+    fn own(
+        &mut self,
+        outside: &mut DeskFake<MemShelf>,
+        line: usize,
+        text: &[u8],
+        checks: &mut List<Check>,
+    ) -> Result<(), AllocError> {
+        let (word, rest) = split_word(text);
+        match word {
+            b"user" => begin_with(self.alloc, &mut outside.stage.fake.rest.store, rest),
+            b"away" => add(&mut outside.away, true),
+            b"wanted" => add(&mut outside.waits, true),
+            b"told" => self.note(line, rest, told_by(outside), checks),
+            b"others" => match parse_event(self.alloc, rest)? {
+                Some(event) => add(&mut outside.others, event),
+                None => self.note(line, rest, b"no such event", checks),
+            },
+            _ => self.ask(outside, line, text, checks),
+        }
+    }
+}
+
+/// Whether the outside has told all acts so far.
+fn told_by(outside: &DeskFake<MemShelf>) -> &'static [u8] {
+    if outside.stage.fake.lost {
+        b"not all"
+    } else {
+        b"all"
+    }
+}
+
+fn add<T: Drop>(queue: &mut VecDeque<T>, it: T) -> Result<(), AllocError> {
+    match queue.push_back(it) {
+        Ok(()) => Ok(()),
+        Err(_) => Err(AllocError),
+    }
+}
+
+/// `NAME ADDRESS PASSWORD`: an account that is there at the start.
+fn begin_with(alloc: Global, store: &mut Store<MemStore>, text: &[u8]) -> Result<(), AllocError> {
+    let (name, rest) = split_word(text);
+    let (address, password) = split_word(rest);
+    match add_user(alloc, store, name, address, SALT, password) {
+        Ok(()) => Ok(()),
+        Err(_) => Err(AllocError),
+    }
+}
+
+impl Accounts {
+    fn note(
+        &self,
+        line: usize,
+        wanted: &[u8],
+        got: &[u8],
+        checks: &mut List<Check>,
+    ) -> Result<(), AllocError> {
+        checks.push(Check {
+            line,
+            wanted: Octets::from_slice(self.alloc, wanted)?,
+            got: Octets::from_slice(self.alloc, got)?,
+        })
+    }
+
+    /// A question, whose last word is the answer that is wanted.
+    fn ask(
+        &self,
+        outside: &mut DeskFake<MemShelf>,
+        line: usize,
+        text: &[u8],
+        checks: &mut List<Check>,
+    ) -> Result<(), AllocError> {
+        let (word, rest) = split_word(text);
+        let mut got = Octets::new(self.alloc);
+        let (asked, wanted) = match word {
+            b"wishes" => (&b""[..], rest),
+            _ => split_word(rest),
+        };
+        let count = match word {
+            b"wishes" => Some(count_wishes(outside.stage.fake.acts.as_slice())),
+            _ => count_in(&mut outside.stage.fake.rest.store, word, asked),
+        };
+        match count {
+            Some(count) => write_decimal(&mut got, count)?,
+            None => got.extend_from_slice(b"no such entry")?,
+        }
+        self.note(line, wanted, got.as_slice(), checks)
+    }
+}
+
+/// How many a user has of what is asked for: `filed` of messages in INBOX, `queued`, `noticed`, `scripts`.
+fn count_in(store: &mut Store<MemStore>, word: &[u8], user: &[u8]) -> Option<u64> {
+    match word {
+        b"filed" => match store.numbers(user, b"INBOX") {
+            Ok(numbers) => Some(numbers.len() as u64),
+            Err(_) => None,
+        },
+        b"queued" => match store.queue_heads(user) {
+            Ok(heads) => Some(heads.len() as u64),
+            Err(_) => None,
+        },
+        b"noticed" => match store.notices(user) {
+            Ok(notices) => Some(notices.len() as u64),
+            Err(_) => None,
+        },
+        b"scripts" => match store.scripts(user) {
+            Ok(names) => Some(names.len() as u64),
+            Err(_) => None,
+        },
+        _ => None,
+    }
+}
+
+/// How often it was seen that somebody waits for the store.
+fn count_wishes(acts: &[Act<Note>]) -> u64 {
+    let mut count: u64 = 0;
+    for act in acts {
+        if let Act::Worked(Note::Looked(true)) = act {
+            count = count.saturating_add(1);
+        }
+    }
+    count
+}
