@@ -1,6 +1,7 @@
 //! The outside of the daemon, over the system.
-ghost use Rattle.std.specs.Prelude.{◌≡◌};
+ghost use Rattle.std.specs.Prelude.{◌≡◌, [], ◌∷◌, ◌++◌, false, IsTrue};
 ghost use Rattle.mailengine.specs.Hosts.{IsGivenUp};
+ghost use Rattle.wires.specs.Told.{IsOwn};
 ghost use Rattle.daemonhosts.specs.Held.{Shows, IsClean, StillShown, Brings};
 
 use crate::held::HeldStore;
@@ -173,8 +174,6 @@ fn tell<E: Write>(errors: &mut E, refusal: Refusal, cause: Option<&'static str>)
 }
 
 impl<N: Net + time::Clock, E: Write + Drop, K: Keeper + Drop> Outside for Host<'_, N, E, K> {
-    ghost use Rattle.std.specs.Prelude.{[], false};
-
     type Note = Note;
 
     type Rest = HeldStore<K>;
@@ -233,7 +232,14 @@ impl<N: Net + time::Clock, E: Write + Drop, K: Keeper + Drop> Sockets for Host<'
         self.sockets.listen(kind)
     }
 
-    fn note(&mut self, _act: Act<Note>) {}
+    fn note(&mut self, act: Act<Note>)
+        requires { IsOwn act }
+        ensures seen { IsTrue false → [] ≡ [] ++ act ∷ [] }
+        ensures left { IsTrue false → self.new.held ≡ self.old.held }
+        ensures kept { IsTrue false → IsTrue false }
+    {
+        drop(act);
+    }
 }
 
 impl<N: Net + time::Clock, E: Write + Drop, K: Keeper + Drop> Clock for Host<'_, N, E, K> {

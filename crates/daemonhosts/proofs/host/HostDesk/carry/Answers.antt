@@ -1,0 +1,7 @@
+-- Nobody came between, and nothing is told.
+use Rattle.std.proofs.Common.{[]}
+use Rattle.keepers.specs.Laws.{never_told}
+use Rattle.daemonhosts.proofs.host.HostDesk.carry.Goals as goal
+
+pub returns-in-Some-clause-carries : goal.returns-in-Some-clause-carries
+returns-in-Some-clause-carries g c = ([], c.in-Some.ensures, λ told. never_told told)
