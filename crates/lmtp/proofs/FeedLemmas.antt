@@ -136,5 +136,7 @@ finished t sent ended none stands =
 
 -- else why it isn't
 pub not_kept : (t : Text) (sent : List ℕ) (why : Trouble) → t.place ≡ Ended → t.trouble ≡ Some why → StandsFor t sent → Finishes t.limit sent (Err why)
-not_kept t sent TooLarge ended some stands = (text_after Start sent, is_text t sent ended stands, subst (Keeps t (text_after Start sent)) some stands.keeps)
+not_kept t sent TooLarge ended some stands =
+    let keeps : (t.kept ≡ []) × (t.limit < length (text_after Start sent)) = subst (Keeps t (text_after Start sent)) some stands.keeps in
+    (text_after Start sent, is_text t sent ended stands, keeps.1)
 not_kept t sent Memory ended some stands = tt

@@ -188,7 +188,8 @@ kept_by text gone (Ok kept) stands limit is =
     let same : (text.kept ≡ text_after Start gone) × (length (text_after Start gone) ≤ text.limit) = subst (Keeps text (text_after Start gone)) is.0 stands.keeps in
     (is.1 ∙ same.0, subst (λ n. length (text_after Start gone) ≤ n) limit same.1)
 kept_by text gone (Err TooLarge) stands limit is =
-    subst (λ n. n < length (text_after Start gone)) limit (subst (λ t. Keeps text (text_after Start gone) t) is stands.keeps)
+    let over : (text.kept ≡ []) × (text.limit < length (text_after Start gone)) = subst (Keeps text (text_after Start gone)) is stands.keeps in
+    subst (λ n. n < length (text_after Start gone)) limit over.1
 kept_by text gone (Err Memory) stands limit is = tt
 
 pub owed_in : (r : Receiver) (d : Dialogue) → r.talk.stage ≡ stage.Sending → SendsIn r d

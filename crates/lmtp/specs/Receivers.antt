@@ -57,10 +57,10 @@ abbrev pub IsLineTaken : Bool → List ℕ → Type 0
 IsLineTaken false unread = Finds TooLong unread → ⊥
 IsLineTaken true unread = ((octet : ℕ) × (unread ≡ octet ∷ [])) ⊎ ((rest : List ℕ) × (unread ≡ line_end ++ rest))
 
--- and nothing of a text that goes on
+-- nothing of a text that goes on, and nothing behind QUIT
 abbrev pub IsTaken : Stage → Bool → Text → List ℕ → Type 0
 IsTaken stage.Sending long text unread = text.place ≢ Ended → unread ≡ []
-IsTaken stage.Over long text unread = Unit {0}
+IsTaken stage.Over long text unread = unread ≡ []
 IsTaken other long text unread = IsLineTaken long unread
 
 -- the dialogue for which it stands

@@ -81,11 +81,11 @@ abbrev pub RunsFrom : Place → List ℕ → Type 0
 RunsFrom place [] = Unit {0}
 RunsFrom place (octet ∷ rest) = (place ≢ Ended) × RunsFrom (after place octet) rest
 
--- what is kept of it, unless it is too large or there was no memory for it
+-- what is kept of it; nothing where it is too large, or there was no memory for it
 abbrev pub Keeps : Text → List ℕ → Option Trouble → Type 0
 Keeps t text None = (t.kept ≡ text) × (length text ≤ t.limit)
-Keeps t text (Some TooLarge) = t.limit < length text
-Keeps t text (Some Memory) = Unit {0}
+Keeps t text (Some TooLarge) = (t.kept ≡ []) × (t.limit < length text)
+Keeps t text (Some Memory) = t.kept ≡ []
 
 -- it stands for these octets
 pub record StandsFor (t : Text) (sent : List ℕ) : Type 0 where

@@ -1,9 +1,10 @@
-//! What is delivered to a recipient.
+//! What is delivered to a recipient, and whether it was.
 ghost use Rattle.std.specs.Prelude.{◌≡◌, ◌++◌, IfOk, OnOk};
 ghost use Rattle.lmtp.specs.Copies as s;
+ghost use Rattle.mailhead.specs.Fields.{text_of};
 
-use mailhead::{logical_line, read_field};
-use octets::Octets;
+use mailhead::{Field, Head, logical_line, read_field, unfolded};
+use octets::{Octets, trim_blanks};
 use std::alloc::{AllocError, Global};
 
 /// One recipient's copy of a text: `Return-Path` and `Delivered-To` are added in front (RFC 5321, section 4.4), and fields
@@ -59,4 +60,29 @@ fn is_path(line: &[u8]) -> bool
         Some(field) => field.name.eq_ignore_ascii_case(b"return-path"),
         None => false,
     }
+}
+
+/// Whether a message was delivered to that recipient before: it has a field `Delivered-To` with this address, but for upper and lower
+/// case. A message that goes round in a circle is known by that.
+///
+/// Lack of memory is the only error. Time is linear in the octets of the header.
+pub fn was_delivered(alloc: Global, head: &Head<'_>, recipient: &[u8]) -> Result<bool, AllocError>
+    ensures { IfOk result (λ was. was ≡ s.was_delivered recipient.now head.now) }
+{
+    for field in head.fields() {
+        if tells_delivery(alloc, field, recipient)? {
+            return Ok(true);
+        }
+    }
+    Ok(false)
+}
+
+fn tells_delivery(alloc: Global, field: &Field<'_>, recipient: &[u8]) -> Result<bool, AllocError>
+    ensures { IfOk result (λ tells. tells ≡ s.tells_delivery recipient.now (text_of field.now)) }
+{
+    if !field.name.eq_ignore_ascii_case(b"delivered-to") {
+        return Ok(false);
+    }
+    let value = unfolded(alloc, field.raw)?;
+    Ok(trim_blanks(value.as_slice()).eq_ignore_ascii_case(recipient))
 }

@@ -15,7 +15,7 @@ mod talk;
 pub mod text;
 pub mod verb;
 
-pub use copy::copy_for;
+pub use copy::{copy_for, was_delivered};
 pub use line::{Found, first_line, skip_line};
 pub use name::{Names, name_forms};
 pub use receiver::{Delivery, Lookup, Next, Receiver};

@@ -1,5 +1,4 @@
-use Rattle.std.proofs.Common.{◌≡◌, ℕ, List, [], length, refl, sym, ◌∙◌, subst, arith}
-use Rattle.lmtp.specs.Copies.{LeavesPaths}
+use Rattle.std.proofs.Common.{sym, ◌∙◌}
 use Rattle.lmtp.proofs.CopyLemmas.{no_path, no_line, path_more, shorter}
 use Rattle.lmtp.proofs.copy.without_paths.Goals as goal
 
