@@ -2,6 +2,7 @@
 use Rattle.std.proofs.Common.{◌≡◌, ℕ, ◌==◌, ◌&&◌, not, ◌≤◌, Bool, true, false, List, [], ◌∷◌, ◌++◌, length, Some, None, inl, inr, refl, sym, ap, ◌∙◌, subst, append_assoc, codes, lit≤}
 use Rattle.std.proofs.lemmas.List.Elements.{All-cons, All-nil}
 use Rattle.std.specs.Borrow.{Bor}
+use Rattle.lmtp.specs.Copies.{is_path_line, added_fields}
 use Rattle.lmtp.specs.Dialogues.{Phase, Greeted, Ready, Opened, Asking, Sending, Over, Dialogue, new_dialogue, Item, Command, LongLine, Message, IsLineItem, Spells, IsFirst, Waits}
 use Rattle.lmtp.specs.Lines.{line_end, HasNoLineEnd, IsLine}
 use Rattle.octets.specs.Ascii.{trimmed}
@@ -401,3 +402,23 @@ forms_quoted = refl
 
 postmaster : forms_by Local (codes "Postmaster") [] ≡ codes "Postmaster" ∷ codes "postmaster" ∷ []
 postmaster = refl
+
+-- ---- copies
+
+-- a text that begins with a field `Return-Path`, folded, and one that begins with another
+path_line : is_path_line (codes "RETURN-path : <a>" ++ (line_end ++ (codes " b" ++ line_end))) ≡ true
+path_line = refl
+
+other_line : is_path_line (codes "Return-Paths: <a>" ++ line_end) ≡ false
+other_line = refl
+
+-- near misses: none without a colon, and none in an empty line
+no_colon : is_path_line (codes "Return-Path" ++ line_end) ≡ false
+no_colon = refl
+
+no_header : is_path_line line_end ≡ false
+no_header = refl
+
+added : added_fields (codes "a@b") (codes "c")
+    ≡ codes "Return-Path: <a@b>" ++ (line_end ++ (codes "Delivered-To: c" ++ line_end))
+added = refl

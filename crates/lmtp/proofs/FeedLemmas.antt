@@ -129,12 +129,14 @@ pub is_text : (t : Text) (sent : List ℕ) → t.place ≡ Ended → StandsFor t
 is_text t sent ended stands = text_found sent (ends_at Start sent stands.runs (sym stands.place ∙ ended))
 
 -- what is kept of one that has ended is the text
-pub finished : (t : Text) (sent : List ℕ) → t.place ≡ Ended → t.trouble ≡ None → StandsFor t sent → IsText sent t.kept
+pub finished : (t : Text) (sent : List ℕ) → t.place ≡ Ended → t.trouble ≡ None → StandsFor t sent → IsText sent t.kept × (length t.kept ≤ t.limit)
 finished t sent ended none stands =
-    let kept : t.kept ≡ text_after Start sent = subst (Keeps t (text_after Start sent)) none stands.keeps in
-    subst (IsText sent) (sym kept) (is_text t sent ended stands)
+    let kept : (t.kept ≡ text_after Start sent) × (length (text_after Start sent) ≤ t.limit) = subst (Keeps t (text_after Start sent)) none stands.keeps in
+    (subst (IsText sent) (sym kept.0) (is_text t sent ended stands), subst (λ x. length x ≤ t.limit) (sym kept.0) kept.1)
 
 -- else why it isn't
 pub not_kept : (t : Text) (sent : List ℕ) (why : Trouble) → t.place ≡ Ended → t.trouble ≡ Some why → StandsFor t sent → Finishes t.limit sent (Err why)
-not_kept t sent TooLarge ended some stands = (text_after Start sent, is_text t sent ended stands, subst (Keeps t (text_after Start sent)) some stands.keeps)
+not_kept t sent TooLarge ended some stands =
+    let keeps : (t.kept ≡ []) × (t.limit < length (text_after Start sent)) = subst (Keeps t (text_after Start sent)) some stands.keeps in
+    (text_after Start sent, is_text t sent ended stands, keeps.1)
 not_kept t sent Memory ended some stands = tt

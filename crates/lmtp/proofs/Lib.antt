@@ -1,6 +1,7 @@
 pub mod AnswerLemmas
 pub mod ArgumentLemmas
 pub mod CommandLemmas
+pub mod CopyLemmas
 pub mod DialogueExamples
 pub mod DialogueLemmas
 pub mod Examples

@@ -1,5 +1,5 @@
 -- What comes next in the dialogue for which a receiver stands.
-use Rattle.std.proofs.Common.{◌≡◌, ℕ, ◌+◌, ◌<◌, Bool, true, false, List, [], ◌∷◌, ◌++◌, length, take, drop, get_or, Ok, Err, inl, inr, refl, sym, ap, ◌∙◌, subst, append_assoc, append-nil, length-append, arith}
+use Rattle.std.proofs.Common.{◌≡◌, ℕ, ◌+◌, ◌<◌, ◌≤◌, Bool, true, false, List, [], ◌∷◌, ◌++◌, length, take, drop, get_or, Ok, Err, inl, inr, refl, sym, ap, ◌∙◌, subst, append_assoc, append-nil, length-append, arith}
 use Rattle.std.proofs.lemmas.List.{length-take-le}
 use Rattle.std.specs.Borrow.{Bor}
 use Rattle.std.specs.Prelude.{Result}
@@ -184,9 +184,12 @@ text_first r d sends ended = record {
 }
 
 kept_by : (text : Text) (gone : List ℕ) (result : Result (Bor (List ℕ)) Trouble) → StandsFor text gone → text.limit ≡ max_text → IsTextOf text result → IsKept (text_after Start gone) result
-kept_by text gone (Ok kept) stands limit is = is.1 ∙ subst (λ t. Keeps text (text_after Start gone) t) is.0 stands.keeps
+kept_by text gone (Ok kept) stands limit is =
+    let same : (text.kept ≡ text_after Start gone) × (length (text_after Start gone) ≤ text.limit) = subst (Keeps text (text_after Start gone)) is.0 stands.keeps in
+    (is.1 ∙ same.0, subst (λ n. length (text_after Start gone) ≤ n) limit same.1)
 kept_by text gone (Err TooLarge) stands limit is =
-    subst (λ n. n < length (text_after Start gone)) limit (subst (λ t. Keeps text (text_after Start gone) t) is stands.keeps)
+    let over : (text.kept ≡ []) × (text.limit < length (text_after Start gone)) = subst (Keeps text (text_after Start gone)) is stands.keeps in
+    subst (λ n. n < length (text_after Start gone)) limit over.1
 kept_by text gone (Err Memory) stands limit is = tt
 
 pub owed_in : (r : Receiver) (d : Dialogue) → r.talk.stage ≡ stage.Sending → SendsIn r d

@@ -69,7 +69,7 @@ takes_over r s over talk none = λ d holds. record {
     sound = rw talk holds.sound;
     limit = rw talk holds.limit;
   };
-  taken = rw (talk, over) tt;
+  taken = rw (talk, over) none;
 }
 
 -- of a text

@@ -48,7 +48,7 @@ taken_line stage.Ready long text unread takes is = is
 taken_line stage.Opened long text unread takes is = is
 taken_line stage.Asking long text unread takes is = is
 taken_line stage.Sending long text unread takes is = absurd (cc takes)
-taken_line stage.Over long text unread takes is = tt
+taken_line stage.Over long text unread takes is = absurd (cc takes)
 
 pub spells_line : (at : Stage) (sender : List ℕ) (recipients : List (List ℕ)) (told : ℕ) (item : Item) (octets : List ℕ)
     → reads_lines at ≡ true → IsLineItem item octets → Spells (phase_by at sender recipients told) item octets

@@ -33,10 +33,11 @@ pub record IsAddressed (word : List ℕ) (Takes : List ℕ → Type 0) (argument
   pub is : IsPath path address rest
   pub takes : Takes address
 
--- it doesn't begin with the word, or there is no path with such an address
+-- it doesn't begin with the word; or it does, and there is no path with such an address
 abbrev pub RefusesAddress : List ℕ → (List ℕ → Type 0) → List ℕ → ArgumentFault → Type 0
 RefusesAddress word Takes argument Syntax = (path : List ℕ) → IsAfter word argument path → ⊥
-RefusesAddress word Takes argument Address = (address rest : List ℕ) → IsAddressed word Takes argument address rest → ⊥
+RefusesAddress word Takes argument Address =
+    ((path : List ℕ) × IsAfter word argument path) × ((address rest : List ℕ) → IsAddressed word Takes argument address rest → ⊥)
 RefusesAddress word Takes argument Parameter = ⊥
 
 -- ---- what RCPT is about

@@ -1,5 +1,6 @@
 pub mod Arguments
 pub mod Commands
+pub mod Copies
 pub mod Dialogues
 pub mod Lines
 pub mod Names

@@ -1,5 +1,5 @@
 -- For which dialogue a receiver stands, and what its calls make of that.
-use Rattle.std.specs.Prelude.{◌≡◌, ◌≢◌, ◌⊎◌, ℕ, ◌+◌, ◌<◌, Bool, true, false, List, [], ◌∷◌, ◌++◌, length, Result, Ok, Err}
+use Rattle.std.specs.Prelude.{◌≡◌, ◌≢◌, ◌⊎◌, ℕ, ◌+◌, ◌<◌, ◌≤◌, Bool, true, false, List, [], ◌∷◌, ◌++◌, length, Result, Ok, Err}
 use Rattle.std.specs.Borrow.{Bor}
 use Rattle.lmtp.specs.Dialogues.{Phase, Asking, Sending, Over, Dialogue, given, Item, Message, IsFirst, Waits}
 use Rattle.lmtp.specs.Lines.{line_end, HasNoLineEnd, max_line, Finds}
@@ -57,10 +57,10 @@ abbrev pub IsLineTaken : Bool → List ℕ → Type 0
 IsLineTaken false unread = Finds TooLong unread → ⊥
 IsLineTaken true unread = ((octet : ℕ) × (unread ≡ octet ∷ [])) ⊎ ((rest : List ℕ) × (unread ≡ line_end ++ rest))
 
--- and nothing of a text that goes on
+-- nothing of a text that goes on, and nothing behind QUIT
 abbrev pub IsTaken : Stage → Bool → Text → List ℕ → Type 0
 IsTaken stage.Sending long text unread = text.place ≢ Ended → unread ≡ []
-IsTaken stage.Over long text unread = Unit {0}
+IsTaken stage.Over long text unread = unread ≡ []
 IsTaken other long text unread = IsLineTaken long unread
 
 -- the dialogue for which it stands
@@ -118,7 +118,7 @@ is_line item = true
 
 -- the text as it is kept, or why it isn't: it has too many octets, or memory was lacking
 abbrev pub IsKept : List ℕ → Result (Bor (List ℕ)) Trouble → Type 0
-IsKept text (Ok kept) = kept.now ≡ text
+IsKept text (Ok kept) = (kept.now ≡ text) × (length text ≤ max_text)
 IsKept text (Err TooLarge) = max_text < length text
 IsKept text (Err Memory) = Unit {0}
 

@@ -42,7 +42,25 @@ is_of_host TooManyRecipients = true
 is_of_host StoreAway = true
 is_of_host LocalFault = true
 is_of_host Idle = true
-is_of_host reply = false
+is_of_host Done = false
+is_of_host SenderTaken = false
+is_of_host RecipientTaken = false
+is_of_host Unverified = false
+is_of_host GoAhead = false
+is_of_host Helped = false
+is_of_host Goodbye = false
+is_of_host UnknownCommand = false
+is_of_host NotSmtp = false
+is_of_host LineTooLong = false
+is_of_host BadArgument = false
+is_of_host BadSender = false
+is_of_host BadRecipient = false
+is_of_host OutOfOrder = false
+is_of_host NoRecipient = false
+is_of_host BadParameter = false
+is_of_host NoSuchUser = false
+is_of_host MessageTooLarge = false
+is_of_host MailLoop = false
 
 abbrev pub first_octet : List ℕ → ℕ
 first_octet [] = 0

@@ -1,6 +1,6 @@
 -- The text of a message behind DATA, as it is sent (RFC 5321, section 4.5.2): its lines, a dot before each that begins with one, and a line
 -- that is a dot alone.
-use Rattle.std.specs.Prelude.{◌≡◌, ◌≢◌, ℕ, ◌<◌, ◌==◌, if◌then◌else◌, List, [], ◌∷◌, ◌++◌, length, Option, Some, None, Result, Ok, Err}
+use Rattle.std.specs.Prelude.{◌≡◌, ◌≢◌, ℕ, ◌<◌, ◌≤◌, ◌==◌, if◌then◌else◌, List, [], ◌∷◌, ◌++◌, length, Option, Some, None, Result, Ok, Err}
 use Rattle.std.specs.Borrow.{Bor}
 use Rattle.std.specs.List.{All, flat_map}
 use Rattle.lmtp.specs.Lines.{line_end, IsLine}
@@ -81,11 +81,11 @@ abbrev pub RunsFrom : Place → List ℕ → Type 0
 RunsFrom place [] = Unit {0}
 RunsFrom place (octet ∷ rest) = (place ≢ Ended) × RunsFrom (after place octet) rest
 
--- what is kept of it, unless it is too large or there was no memory for it
+-- what is kept of it; nothing where it is too large, or there was no memory for it
 abbrev pub Keeps : Text → List ℕ → Option Trouble → Type 0
-Keeps t text None = t.kept ≡ text
-Keeps t text (Some TooLarge) = t.limit < length text
-Keeps t text (Some Memory) = Unit {0}
+Keeps t text None = (t.kept ≡ text) × (length text ≤ t.limit)
+Keeps t text (Some TooLarge) = (t.kept ≡ []) × (t.limit < length text)
+Keeps t text (Some Memory) = t.kept ≡ []
 
 -- it stands for these octets
 pub record StandsFor (t : Text) (sent : List ℕ) : Type 0 where
@@ -99,7 +99,7 @@ Feeds t octets u = (sent : List ℕ) → StandsFor t sent → StandsFor u (sent 
 
 -- a text of a message was sent, or why it isn't kept: it has more octets than the limit, or memory was lacking
 abbrev pub Finishes : ℕ → List ℕ → Result (List ℕ) Trouble → Type 0
-Finishes limit sent (Ok text) = IsText sent text
+Finishes limit sent (Ok text) = IsText sent text × (length text ≤ limit)
 Finishes limit sent (Err TooLarge) = (text : List ℕ) × IsText sent text × (limit < length text)
 Finishes limit sent (Err Memory) = Unit {0}
 

@@ -2,6 +2,7 @@
 #![tactic(auto)]
 
 pub mod argument;
+pub mod copy;
 pub mod laws;
 pub mod line;
 pub mod name;
@@ -14,6 +15,7 @@ mod talk;
 pub mod text;
 pub mod verb;
 
+pub use copy::{copy_for, was_delivered};
 pub use line::{Found, first_line, skip_line};
 pub use name::{Names, name_forms};
 pub use receiver::{Delivery, Lookup, Next, Receiver};

@@ -205,6 +205,7 @@ impl Text {
 
     // The text isn't kept.
     fn drop_text(&mut self, trouble: Trouble)
+        ensures kept { self.new.kept ≡ [] }
         ensures trouble { self.new.trouble ≡ Some trouble }
         ensures place { self.new.place ≡ self.old.place }
         ensures limit { self.new.limit ≡ self.old.limit }
