@@ -72,11 +72,11 @@ fn try_file(rt: &HostRuntime, file: &str) -> io::Result<bool> {
 
 /// Tells how many entries of a file hold, and which don't; and says whether all hold.
 fn tell(rt: &HostRuntime, file: &str, tally: &Tally) -> io::Result<bool> {
-    for line in tally.failed().lines() {
+    for line in tally.failures().lines() {
         eprintln!(rt; "{file}:{line}")?;
     }
-    println!(rt; "{file}: {} hold", tally.held())?;
-    Ok(tally.failed().is_empty())
+    println!(rt; "{file}: {} hold", tally.count())?;
+    Ok(tally.failures().is_empty())
 }
 
 fn try_text(alloc: Global, tally: &mut Tally, text: &str) -> Result<(), AllocError> {
