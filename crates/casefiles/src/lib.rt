@@ -15,4 +15,4 @@ pub use part::{Part, add_parts};
 pub use row::{Answers, try_rows};
 pub use section::{Section, Sections, try_sections};
 pub use tally::Tally;
-pub use text::{cut, decoded, text_in, trimmed, with_ends, words_of};
+pub use text::{decode, split_at_first, text_in, trim_end, with_ends, words_of};

@@ -1,6 +1,6 @@
 //! Files of sections.
 use crate::tally::Tally;
-use crate::text::cut;
+use crate::text::split_at_first;
 use std::alloc::{AllocError, Global};
 
 /// A part of a file below a title `== NAME NOTE`. What stands above the first title is a section too; its name is `#`
@@ -63,8 +63,8 @@ fn sections_in<'a>(alloc: Global, file: &'a str) -> Result<Vec<Section<'a>>, All
 
 /// The section whose title stands in this line.
 fn section_at<'a>(line: usize, section: &'a str) -> Section<'a> {
-    let (title, text) = cut(section, "\n");
-    let (name, note) = cut(title, " ");
+    let (title, text) = split_at_first(section, "\n");
+    let (name, note) = split_at_first(title, " ");
     Section {
         line,
         name,

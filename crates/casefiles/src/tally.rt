@@ -2,7 +2,7 @@
 ghost use Rattle.std.specs.Prelude.{◌≡◌, ◌≢◌};
 
 use crate::section::Section;
-use crate::text::{decoded, trimmed};
+use crate::text::{decode, trim_end};
 use percent_encoding::{CONTROLS, percent_encode};
 use std::alloc::{AllocError, Global};
 use std::fmt::Write;
@@ -54,8 +54,8 @@ impl Tally {
         section: &Section<'_>,
         got: &[u8],
     ) -> Result<(), AllocError> {
-        let wanted = decoded(alloc, section.text)?;
-        self.note(section.line, trimmed(wanted.as_slice()), trimmed(got))
+        let wanted = decode(alloc, section.text)?;
+        self.note(section.line, trim_end(wanted.as_slice()), trim_end(got))
     }
 
     /// Passes over a section that is no case. A name that is neither one of these nor that of a comment is told, so
@@ -70,14 +70,14 @@ impl Tally {
     }
 
     /// How many cases hold.
-    pub fn held(&self) -> u64
+    pub fn count(&self) -> u64
         ensures { result ≡ self.now.held }
     {
         self.held
     }
 
     /// A line for each case that fails.
-    pub fn failed(&self) -> &str {
+    pub fn failures(&self) -> &str {
         self.failed.as_str()
     }
 }

@@ -5,7 +5,7 @@ use std::alloc::{AllocError, Global};
 use std::str;
 
 /// What stands before a text's first separator, and what after it: the whole text and nothing where it has none.
-pub fn cut<'a>(text: &'a str, separator: &str) -> (&'a str, &'a str) {
+pub fn split_at_first<'a>(text: &'a str, separator: &str) -> (&'a str, &'a str) {
     text.split_once(separator).unwrap_or((text, ""))
 }
 
@@ -28,7 +28,7 @@ fn add_column(alloc: Global, found: &mut Texts, column: &str) -> Result<(), Allo
         "" => Ok(()),
         "-" => found.push(Octets::new(alloc)),
         _ => {
-            let octets = decoded(alloc, column)?;
+            let octets = decode(alloc, column)?;
             found.push(octets)
         }
     }
@@ -36,8 +36,8 @@ fn add_column(alloc: Global, found: &mut Texts, column: &str) -> Result<(), Allo
 
 /// The octets that a text of a file stands for. In the text of a repetition `%#` is the number of the turn, from 0; its
 /// first `*` ends it, so a star within it is written `%2A`.
-pub fn decoded(alloc: Global, text: &str) -> Result<Octets, AllocError> {
-    let (front, more) = cut(text, "%{");
+pub fn decode(alloc: Global, text: &str) -> Result<Octets, AllocError> {
+    let (front, more) = split_at_first(text, "%{");
     let mut out = Octets::new(alloc);
     add_plain(alloc, &mut out, front)?;
     add_repeated(alloc, &mut out, more)?;
@@ -54,8 +54,8 @@ fn add_repeated(alloc: Global, out: &mut Octets, more: &str) -> Result<(), Alloc
 
 /// Appends what stands between one `%{` and the next: a repetition and a text, or a text alone.
 fn add_piece(alloc: Global, out: &mut Octets, piece: &str) -> Result<(), AllocError> {
-    let (part, more) = cut(piece, "*");
-    let (count, rest) = cut(more, "}");
+    let (part, more) = split_at_first(piece, "*");
+    let (count, rest) = split_at_first(more, "}");
     match parse_decimal(count.as_bytes()) {
         Some(count) => {
             add_times(alloc, out, part, count)?;
@@ -75,7 +75,7 @@ fn add_times(alloc: Global, out: &mut Octets, part: &str, count: u64) -> Result<
 
 /// Appends a text with the number of the turn in it.
 fn add_turn(alloc: Global, out: &mut Octets, part: &str, turn: u64) -> Result<(), AllocError> {
-    let (front, rest) = cut(part, "%#");
+    let (front, rest) = split_at_first(part, "%#");
     add_plain(alloc, out, front)?;
     if front.len() < part.len() {
         write_decimal(out, turn)?;
@@ -115,13 +115,13 @@ fn word_of(alloc: Global, word: &[u8], path: &str) -> Result<Octets, AllocError>
 }
 
 /// The text without blanks and line ends at its end.
-pub fn trimmed(text: &[u8]) -> &[u8] {
+pub fn trim_end(text: &[u8]) -> &[u8] {
     text.trim_ascii_end()
 }
 
 /// The octets that a text of a file stands for, with each LF as CRLF where that is wanted.
 pub fn with_ends(alloc: Global, text: &str, crlf: bool) -> Result<Octets, AllocError> {
-    let octets = decoded(alloc, text)?;
+    let octets = decode(alloc, text)?;
     if crlf {
         with_crlf(alloc, octets.as_slice())
     } else {

@@ -1,7 +1,7 @@
 //! Calls of a store that only sessions and deliveries make in the program.
 use crate::answer::add_line;
 use casefiles::Part::{Number, Text};
-use casefiles::{add_parts, cut, decoded, trimmed};
+use casefiles::{add_parts, decode, split_at_first, trim_end};
 use mailengine::Refusal;
 use mailstore::{KeptReply, Outgoing, Profile, Store};
 use octets::Octets;
@@ -10,8 +10,8 @@ use std::alloc::{AllocError, Global};
 
 /// Gives a script another name: the note has both.
 pub fn rename(store: &mut Store<MemStore>, user: &[u8], note: &str) -> Result<(), Refusal> {
-    let (_, names) = cut(note, " ");
-    let (name, other) = cut(names, " ");
+    let (_, names) = split_at_first(note, " ");
+    let (name, other) = split_at_first(names, " ");
     store.rename(user, name.as_bytes(), other.as_bytes())
 }
 
@@ -96,8 +96,8 @@ pub fn add_moment(
     sender: &[u8],
     text: &str,
 ) -> Result<(), Refusal> {
-    let handle = decoded(alloc, text)?;
-    let moment = store.last_reply(user, trimmed(handle.as_slice()), sender)?;
+    let handle = decode(alloc, text)?;
+    let moment = store.last_reply(user, trim_end(handle.as_slice()), sender)?;
     Ok(match moment {
         Some(moment) => add_parts(out, &[Number(moment), Text(b"\n")])?,
         None => add_line(out, b"", b"none")?,

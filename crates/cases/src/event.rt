@@ -1,7 +1,7 @@
 //! The events that sections are.
 use base64::engine::general_purpose::STANDARD;
 use casefiles::Part::Text;
-use casefiles::{Section, add_parts, cut, decoded, with_ends};
+use casefiles::{Section, add_parts, decode, split_at_first, with_ends};
 use mailengine::{Envelope, Event};
 use octets::{Octets, parse_decimal};
 use std::alloc::{AllocError, Global};
@@ -65,10 +65,10 @@ fn give(
 
 /// A user to be added: the address is the first line, the password the second.
 fn new_user(alloc: Global, name: &str, text: &str) -> Result<Option<Event>, AllocError> {
-    let (address, password) = cut(text, "\n");
-    let name = decoded(alloc, name)?;
-    let address = decoded(alloc, address)?;
-    let password = decoded(alloc, password)?;
+    let (address, password) = split_at_first(text, "\n");
+    let name = decode(alloc, name)?;
+    let address = decode(alloc, address)?;
+    let password = decode(alloc, password)?;
     Ok(Some(Event::AddUser {
         name,
         address,
@@ -96,14 +96,14 @@ fn delivery(
 }
 
 fn envelope(alloc: Global, from: &str) -> Result<Envelope, AllocError> {
-    let from = decoded(alloc, from)?;
+    let from = decode(alloc, from)?;
     let to = Octets::from_slice(alloc, b"alice@example.org")?;
     Ok(Envelope { from, to })
 }
 
 /// A row to be taken out: `USER ID`.
 fn take_out(alloc: Global, note: &str) -> Result<Option<Event>, AllocError> {
-    let (user, id) = cut(note, " ");
+    let (user, id) = split_at_first(note, " ");
     let user = Octets::from_slice(alloc, user.as_bytes())?;
     Ok(Some(Event::TakeOut {
         user,
@@ -113,7 +113,7 @@ fn take_out(alloc: Global, note: &str) -> Result<Option<Event>, AllocError> {
 
 /// A folder whose first message is to be taken out: `USER FOLDER`.
 fn take_mail(alloc: Global, note: &str) -> Result<Option<Event>, AllocError> {
-    let (user, folder) = cut(note, " ");
+    let (user, folder) = split_at_first(note, " ");
     let user = Octets::from_slice(alloc, user.as_bytes())?;
     let folder = Octets::from_slice(alloc, folder.as_bytes())?;
     Ok(Some(Event::TakeMail { user, folder }))
@@ -164,7 +164,7 @@ fn session(digits: &str) -> u32 {
 
 /// What a note says before `xN`, and how often an event is meant: N times, else once.
 pub fn times_in(note: &str) -> (&str, u64) {
-    let (front, digits) = cut(note, " x");
+    let (front, digits) = split_at_first(note, " x");
     match parse_decimal(digits.as_bytes()) {
         Some(times) => (front, times),
         None => (note, 1),

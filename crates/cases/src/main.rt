@@ -48,9 +48,9 @@ fn try_text(rt: &HostRuntime, table: Table, text: &str) -> io::Result<bool> {
 
 /// Tells how many cases of a file hold, and which don't; and says whether all hold.
 fn tell(rt: &HostRuntime, file: &str, tally: &Tally) -> io::Result<bool> {
-    for line in tally.failed().lines() {
+    for line in tally.failures().lines() {
         eprintln!(rt; "{file}:{line}")?;
     }
-    println!(rt; "{file}: {} cases hold", tally.held())?;
-    Ok(tally.failed().is_empty())
+    println!(rt; "{file}: {} cases hold", tally.count())?;
+    Ok(tally.failures().is_empty())
 }

@@ -1,7 +1,7 @@
 //! Where messages and rows of queues are: the numbers of a folder, and the first place after one.
 use crate::answer::add_line;
 use casefiles::Part::{Number, Text};
-use casefiles::{add_parts, cut};
+use casefiles::{add_parts, split_at_first};
 use mailengine::Refusal;
 use mailstore::{Filed, Queued, Store};
 use octets::{Octets, parse_decimal};
@@ -39,8 +39,8 @@ pub fn add_next_filed(
 }
 
 fn filed_in(alloc: Global, note: &str) -> Result<Filed, AllocError> {
-    let (user, place) = cut(note, " ");
-    let (folder, number) = cut(place, " ");
+    let (user, place) = split_at_first(note, " ");
+    let (folder, number) = split_at_first(place, " ");
     Ok(Filed {
         user: Octets::from_slice(alloc, user.as_bytes())?,
         folder: Octets::from_slice(alloc, folder.as_bytes())?,
@@ -77,7 +77,7 @@ pub fn add_next_queued(
     out: &mut Octets,
     note: &str,
 ) -> Result<(), Refusal> {
-    let (user, id) = cut(note, " ");
+    let (user, id) = split_at_first(note, " ");
     let start = Queued {
         user: Octets::from_slice(alloc, user.as_bytes())?,
         id: number_in(id),

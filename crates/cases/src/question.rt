@@ -4,7 +4,7 @@ use crate::call::{add_moment, add_profile, add_replies, add_rows, rename};
 use crate::event::PASSWORD;
 use crate::place::{add_next_filed, add_next_queued, add_numbers, number_in};
 use casefiles::Part::{Number, Text};
-use casefiles::{Section, Tally, add_parts, cut, decoded, trimmed};
+use casefiles::{Section, Tally, add_parts, decode, split_at_first, trim_end};
 use mailengine::Refusal;
 use mailstore::{Folder, NumberedMessage, Store};
 use octets::{Octets, Texts};
@@ -21,7 +21,7 @@ pub fn ask(
     out: &mut Octets,
     section: &Section<'_>,
 ) -> Result<(), AllocError> {
-    let (user, word) = cut(section.note, " ");
+    let (user, word) = split_at_first(section.note, " ");
     let (user, name) = (user.as_bytes(), word.as_bytes());
     let asked = match section.name {
         "account" => add_account(alloc, store, user, section.text),
@@ -58,9 +58,9 @@ fn add_account(
     user: &[u8],
     address: &str,
 ) -> Result<(), Refusal> {
-    let address = decoded(alloc, address)?;
+    let address = decode(alloc, address)?;
     let digest = digest(b"salt", 1, PASSWORD);
-    store.add_user(user, trimmed(address.as_slice()), b"salt", 1, &digest)
+    store.add_user(user, trim_end(address.as_slice()), b"salt", 1, &digest)
 }
 
 fn put(
@@ -70,7 +70,7 @@ fn put(
     name: &[u8],
     text: &str,
 ) -> Result<(), Refusal> {
-    let text = decoded(alloc, text)?;
+    let text = decode(alloc, text)?;
     store.put_script(user, name, text.as_slice())
 }
 

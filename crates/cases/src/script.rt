@@ -1,7 +1,7 @@
 //! Scripts and tests, each tried on a message with its envelope (RFC 5228).
 use casefiles::Part::Text;
 use casefiles::{
-    Lines, Section, Sections, Tally, add_parts, decoded, trimmed, try_lines, try_sections,
+    Lines, Section, Sections, Tally, add_parts, decode, trim_end, try_lines, try_sections,
 };
 use mailengine::attempt;
 use octets::Octets;
@@ -91,13 +91,13 @@ impl Lines for Tests<'_> {
     ) -> Result<(), AllocError> {
         let script = discard_after(alloc, line)?;
         let got = answer(alloc, script.as_slice(), self.trial)?;
-        tally.note(number, self.wanted, trimmed(got.as_slice()))
+        tally.note(number, self.wanted, trim_end(got.as_slice()))
     }
 }
 
 /// A script that discards where a test holds.
 fn discard_after(alloc: Global, test: &str) -> Result<Octets, AllocError> {
-    let test = decoded(alloc, test)?;
+    let test = decode(alloc, test)?;
     let mut script = Octets::new(alloc);
     add_parts(
         &mut script,

@@ -6,7 +6,7 @@ use octets::Octets;
 use std::alloc::{AllocError, Global};
 
 /// The addresses of a header value, each as `LOCAL|DOMAIN;`.
-pub fn found(alloc: Global, out: &mut Octets, value: &[u8]) -> Result<(), AllocError> {
+pub fn add_addresses(alloc: Global, out: &mut Octets, value: &[u8]) -> Result<(), AllocError> {
     let all = addresses(alloc, value)?;
     add_all(out, all.as_slice())
 }
@@ -19,20 +19,20 @@ fn add_all(out: &mut Octets, all: &[Addr]) -> Result<(), AllocError> {
 }
 
 /// The address that a script names, as `DISPLAY|LOCAL|DOMAIN`.
-pub fn named(alloc: Global, out: &mut Octets, text: &[u8]) -> Result<(), AllocError> {
+pub fn add_target(alloc: Global, out: &mut Octets, text: &[u8]) -> Result<(), AllocError> {
     match sieve_address(alloc, text)? {
-        Some((display, address)) => add_named(out, display.as_slice(), &address),
+        Some((display, address)) => add_with_display(out, display.as_slice(), &address),
         None => Ok(()),
     }
 }
 
-fn add_named(out: &mut Octets, display: &[u8], address: &Addr) -> Result<(), AllocError> {
+fn add_with_display(out: &mut Octets, display: &[u8], address: &Addr) -> Result<(), AllocError> {
     out.extend_from_slice(display)?;
     add(out, b"|", address, b"")
 }
 
 /// The address without display, as `LOCAL|DOMAIN`.
-pub fn bare(alloc: Global, out: &mut Octets, text: &[u8]) -> Result<(), AllocError> {
+pub fn add_bare(alloc: Global, out: &mut Octets, text: &[u8]) -> Result<(), AllocError> {
     match bare_address(alloc, text)? {
         Some(address) => add(out, b"", &address, b""),
         None => Ok(()),
@@ -40,7 +40,7 @@ pub fn bare(alloc: Global, out: &mut Octets, text: &[u8]) -> Result<(), AllocErr
 }
 
 /// The text that names an address.
-pub fn spelled(
+pub fn add_spelling(
     alloc: Global,
     out: &mut Octets,
     local: &[u8],

@@ -7,7 +7,7 @@ use octets::Octets;
 use std::alloc::AllocError;
 
 /// By which comparators a key is the value, and by which the value contains it.
-pub fn compared(out: &mut Octets, key: &[u8], value: &[u8]) -> Result<(), AllocError> {
+pub fn add_comparison(out: &mut Octets, key: &[u8], value: &[u8]) -> Result<(), AllocError> {
     let equal = by(is::<Octet>(key, value), is::<AsciiCasemap>(key, value));
     let within = by(
         contains::<Octet>(key, value),
@@ -17,7 +17,7 @@ pub fn compared(out: &mut Octets, key: &[u8], value: &[u8]) -> Result<(), AllocE
 }
 
 /// By which comparators a pattern matches a value.
-pub fn matched(out: &mut Octets, pattern: &[u8], value: &[u8]) -> Result<(), AllocError> {
+pub fn add_matches(out: &mut Octets, pattern: &[u8], value: &[u8]) -> Result<(), AllocError> {
     out.extend_from_slice(by(
         matches::<Octet>(pattern, value),
         matches::<AsciiCasemap>(pattern, value),

@@ -1,5 +1,5 @@
 //! Dates in a response (RFC 5322, 3.3).
-use casefiles::{Lines, Tally, cut};
+use casefiles::{Lines, Tally, split_at_first};
 use octets::{Octets, parse_decimal};
 use std::alloc::{AllocError, Global};
 use vacreply::{MAX_MOMENT, write_date};
@@ -16,7 +16,7 @@ impl Lines for Dates {
         number: usize,
         line: &str,
     ) -> Result<(), AllocError> {
-        let (moment, wanted) = cut(line, " ");
+        let (moment, wanted) = split_at_first(line, " ");
         let mut got = Octets::new(alloc);
         add(&mut got, moment)?;
         tally.note(number, wanted.as_bytes(), got.as_slice())

@@ -1,6 +1,6 @@
 //! Whether a response is sent.
 use crate::answering::Answering;
-use casefiles::{Section, Tally, cut};
+use casefiles::{Section, Tally, split_at_first};
 use octets::{Octets, parse_decimal, write_decimal};
 use std::alloc::{AllocError, Global};
 use vacreply::{AddressedMail, Decision, decide};
@@ -31,8 +31,8 @@ fn try_decision(
     answering: Answering<'_>,
     mail: &AddressedMail<'_, '_>,
 ) -> Result<(), AllocError> {
-    let (last, rest) = cut(line, " ");
-    let (moment, wanted) = cut(rest, " ");
+    let (last, rest) = split_at_first(line, " ");
+    let (moment, wanted) = split_at_first(rest, " ");
     let mut got = Octets::new(alloc);
     add_decided(&mut got, answering, mail, last, moment)?;
     tally.note(number, wanted.as_bytes(), got.as_slice())

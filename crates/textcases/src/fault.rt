@@ -7,7 +7,7 @@ use sievelex::ScriptError;
 use std::alloc::{AllocError, Global};
 
 /// The first fault of a script, or `valid`.
-pub fn told(alloc: Global, out: &mut Octets, script: &[u8]) -> Result<(), AllocError> {
+pub fn add_fault(alloc: Global, out: &mut Octets, script: &[u8]) -> Result<(), AllocError> {
     let mail = Trial::empty().mail(alloc, b"")?;
     add(alloc, out, script, &mail)
 }

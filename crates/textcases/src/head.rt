@@ -42,11 +42,11 @@ fn try_section(
     if section.name != "wanted" {
         return tally.skip(section, &["message", "mail"]);
     }
-    let got = told(alloc, message)?;
+    let got = describe(alloc, message)?;
     tally.note_text(alloc, section, got.as_slice())
 }
 
-fn told(alloc: Global, message: Message<'_>) -> Result<Octets, AllocError> {
+fn describe(alloc: Global, message: Message<'_>) -> Result<Octets, AllocError> {
     let message = message.octets(alloc)?;
     let mut out = Octets::new(alloc);
     add(alloc, &mut out, message.as_slice())?;

@@ -6,7 +6,7 @@ use octets::Octets;
 use std::alloc::{AllocError, Global};
 
 /// How many octets the first item takes, and what it says. `extent` has to reach as far, and a scan too, octet by octet and in two pieces.
-pub fn told(
+pub fn add_first(
     alloc: Global,
     out: &mut Octets,
     octets: &[u8],
@@ -14,10 +14,15 @@ pub fn told(
 ) -> Result<(), AllocError> {
     let pending = state == b"challenged".as_slice();
     let item = first(alloc, octets, pending)?;
-    add_told(out, &item, octets, pending)
+    add_if_agreed(out, &item, octets, pending)
 }
 
-fn add_told(out: &mut Octets, item: &Item, octets: &[u8], pending: bool) -> Result<(), AllocError> {
+fn add_if_agreed(
+    out: &mut Octets,
+    item: &Item,
+    octets: &[u8],
+    pending: bool,
+) -> Result<(), AllocError> {
     match other_reach(reach_of(item), octets, pending) {
         Some(other) => out.extend_from_slice(other),
         None => add_item(out, item),

@@ -48,7 +48,7 @@ fn add_accepted(alloc: Global, out: &mut Octets, given: &[Octets]) -> Result<(),
         return out.extend_from_slice(NOT_THAT_MANY);
     };
     let record = record_of(alloc, salt, rounds, kept)?;
-    out.extend_from_slice(said(accepts(&record, password.as_slice())))
+    out.extend_from_slice(yes_or_no(accepts(&record, password.as_slice())))
 }
 
 fn record_of(
@@ -66,7 +66,7 @@ fn record_of(
     })
 }
 
-fn said(accepted: bool) -> &'static [u8] {
+fn yes_or_no(accepted: bool) -> &'static [u8] {
     if accepted { b"yes" } else { b"no" }
 }
 

@@ -5,7 +5,7 @@ use octets::{List, Octets};
 use std::alloc::{AllocError, Global};
 
 /// The octets of an answer of one line.
-pub fn spelled(alloc: Global, out: &mut Octets, given: &[Octets]) -> Result<(), AllocError> {
+pub fn add_spelling(alloc: Global, out: &mut Octets, given: &[Octets]) -> Result<(), AllocError> {
     match reply_of(alloc, given)? {
         Some(reply) => spell(alloc, &reply, out),
         None => out.extend_from_slice(b"no such answer"),

@@ -1,5 +1,5 @@
 //! Responses of `vacation`, line by line.
-use casefiles::{Lines, Tally, decoded};
+use casefiles::{Lines, Tally, decode};
 use std::alloc::{AllocError, Global};
 
 /// A response, and whether each line that is tried stands in it.
@@ -17,7 +17,7 @@ impl Lines for Response<'_> {
         number: usize,
         line: &str,
     ) -> Result<(), AllocError> {
-        let line = decoded(alloc, line)?;
+        let line = decode(alloc, line)?;
         let line = line.as_slice();
         let got = if has_line(self.text, line) == self.has {
             line

@@ -63,13 +63,13 @@ impl TextTable {
 
     fn of_one(self, alloc: Global, out: &mut Octets, text: &[u8]) -> Result<(), AllocError> {
         match self {
-            TextTable::Addresses => address::found(alloc, out, text),
-            TextTable::Targets => address::named(alloc, out, text),
-            TextTable::Bare => address::bare(alloc, out, text),
-            TextTable::Words => word::said(alloc, out, text),
-            TextTable::Texts => word::written(alloc, out, text),
-            TextTable::Tokens => token::told(alloc, out, text),
-            TextTable::Faults => fault::told(alloc, out, text),
+            TextTable::Addresses => address::add_addresses(alloc, out, text),
+            TextTable::Targets => address::add_target(alloc, out, text),
+            TextTable::Bare => address::add_bare(alloc, out, text),
+            TextTable::Words => word::add_decoded(alloc, out, text),
+            TextTable::Texts => word::add_encoded(alloc, out, text),
+            TextTable::Tokens => token::add_tokens(alloc, out, text),
+            TextTable::Faults => fault::add_fault(alloc, out, text),
             _ => out.extend_from_slice(b"not that many columns"),
         }
     }
@@ -84,10 +84,10 @@ impl TextTable {
         match self {
             TextTable::Ascii => ascii::answer(alloc, out, text, other),
             TextTable::Lines => line::answer(alloc, out, text, other),
-            TextTable::Spellings => address::spelled(alloc, out, text, other),
-            TextTable::Comparisons => comparison::compared(out, text, other),
-            TextTable::Globs => comparison::matched(out, text, other),
-            TextTable::Items => item::told(alloc, out, text, other),
+            TextTable::Spellings => address::add_spelling(alloc, out, text, other),
+            TextTable::Comparisons => comparison::add_comparison(out, text, other),
+            TextTable::Globs => comparison::add_matches(out, text, other),
+            TextTable::Items => item::add_first(alloc, out, text, other),
             _ => out.extend_from_slice(b"not that many columns"),
         }
     }
@@ -106,7 +106,7 @@ impl Answers for Rows {
     ) -> Result<(), AllocError> {
         let table = self.0;
         match (table, given) {
-            (TextTable::Replies, _) => reply::spelled(alloc, out, given),
+            (TextTable::Replies, _) => reply::add_spelling(alloc, out, given),
             (TextTable::Logins, _) => login::answer(alloc, out, given),
             (_, [text]) => table.of_one(alloc, out, text.as_slice()),
             (_, [text, other]) => table.of_two(alloc, out, text.as_slice(), other.as_slice()),

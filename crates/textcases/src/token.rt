@@ -7,7 +7,7 @@ use std::alloc::{AllocError, Global};
 use std::format;
 
 /// Each token with what it is and says, its place and its line; or the fault.
-pub fn told(alloc: Global, out: &mut Octets, script: &[u8]) -> Result<(), AllocError> {
+pub fn add_tokens(alloc: Global, out: &mut Octets, script: &[u8]) -> Result<(), AllocError> {
     match tokens(alloc, script) {
         Ok(found) => add_all(out, found.as_slice()),
         Err(error) => add_error(alloc, out, &error),

@@ -1,5 +1,5 @@
 //! Scripts, each with a message and its envelope, as files have them.
-use casefiles::{Message, Section, decoded};
+use casefiles::{Message, Section, decode};
 use octets::Octets;
 use sieveexec::{Envelope, Mail};
 use std::alloc::{AllocError, Global};
@@ -38,7 +38,7 @@ impl<'a> Trial<'a> {
 
     /// The octets of the script.
     pub fn script(&self, alloc: Global) -> Result<Octets, AllocError> {
-        decoded(alloc, self.script)
+        decode(alloc, self.script)
     }
 
     /// The octets of the message.
@@ -48,8 +48,8 @@ impl<'a> Trial<'a> {
 
     /// The envelope of the message.
     pub fn envelope(&self, alloc: Global) -> Result<Envelope, AllocError> {
-        let from = decoded(alloc, self.from.trim_ascii_end())?;
-        let to = decoded(alloc, self.to.trim_ascii_end())?;
+        let from = decode(alloc, self.from.trim_ascii_end())?;
+        let to = decode(alloc, self.to.trim_ascii_end())?;
         Ok(Envelope { from, to })
     }
 

@@ -3,7 +3,7 @@ use crate::answering::Answering;
 use crate::date::Dates;
 use crate::trial::Trial;
 use addrparts::{Addr, bare_address};
-use casefiles::{Section, Sections, Tally, decoded, try_lines, try_sections};
+use casefiles::{Section, Sections, Tally, decode, try_lines, try_sections};
 use deliverplan::outcome_on;
 use sieveexec::{Mail, Outcome};
 use sievelex::ScriptError;
@@ -103,14 +103,14 @@ impl<'a> Absence<'a> {
         section: &Section<'_>,
         mail: &Mail<'_>,
     ) -> Result<(), AllocError> {
-        match self.asked(alloc, mail)? {
+        match self.run_on(alloc, mail)? {
             Some(args) => self.try_asked(alloc, tally, section, mail, &args),
             None => tally.note(section.line, b"a vacation", b"none"),
         }
     }
 
     /// What the script asks to be answered, if it does.
-    fn asked(&self, alloc: Global, mail: &Mail<'_>) -> Result<Option<VacArgs>, AllocError> {
+    fn run_on(&self, alloc: Global, mail: &Mail<'_>) -> Result<Option<VacArgs>, AllocError> {
         let script = self.trial.script(alloc)?;
         match outcome_on(alloc, script.as_slice(), mail) {
             Ok(Outcome::Done { reply, .. }) => Ok(reply),
@@ -137,7 +137,7 @@ impl<'a> Absence<'a> {
     }
 
     fn own(&self, alloc: Global) -> Result<Option<Addr>, AllocError> {
-        let own = decoded(alloc, self.own)?;
+        let own = decode(alloc, self.own)?;
         bare_address(alloc, own.as_slice())
     }
 }

@@ -107,11 +107,11 @@ fn try_file(rt: &HostRuntime, server: Server, file: &str) -> io::Result<bool> {
 
 /// Tells how many entries of a file hold, and which don't; and says whether all hold.
 fn tell(rt: &HostRuntime, file: &str, tally: &Tally) -> io::Result<bool> {
-    for line in tally.failed().lines() {
+    for line in tally.failures().lines() {
         eprintln!(rt; "{file}:{line}")?;
     }
-    println!(rt; "{file}: {} hold", tally.held())?;
-    Ok(tally.failed().is_empty())
+    println!(rt; "{file}: {} hold", tally.count())?;
+    Ok(tally.failures().is_empty())
 }
 
 /// Plays the schedules of a text, between which a line `----` stands.
