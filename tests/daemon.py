@@ -196,10 +196,13 @@ def lives(port, user):
 
 
 def crowd():
-    """The one after fifty is greeted once one of them is gone."""
+    """Where fifty are there one that isn't logged in makes room for the next one; where all are, that one is greeted once one of them is gone."""
     store = new_store("alice")
     server, port = store.daemon()
-    others = [connect(port) for _ in range(50)]
+    guest = connect(port)
+    others = [logged_in(port) for _ in range(49)]
+    others.append(logged_in(port))
+    farewell = guest.reply()[-1]
     next_one = connect(port, greeted=False, seconds=1)
     try:
         waited = not next_one.incoming.readline()
@@ -213,8 +216,8 @@ def crowd():
     others[8].ask(b"LOGOUT")
     last = connect(port)
     end(server)
-    assert waited and last
-    return "the 51st isn't greeted while 50 are there; it is once one of them is gone, and the next one behind a LOGOUT"
+    assert farewell == b'BYE "Idle."\r\n' and waited and last, (farewell, waited)
+    return "the 51st is greeted while one of 50 isn't logged in, which hears BYE; else once one of them is gone, and the next one behind a LOGOUT"
 
 
 def deaf():
