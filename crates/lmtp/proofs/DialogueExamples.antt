@@ -2,6 +2,7 @@
 use Rattle.std.proofs.Common.{◌≡◌, ℕ, ◌==◌, ◌&&◌, not, ◌≤◌, Bool, true, false, List, [], ◌∷◌, ◌++◌, length, Some, None, inl, inr, refl, sym, ap, ◌∙◌, subst, append_assoc, codes, lit≤}
 use Rattle.std.proofs.lemmas.List.Elements.{All-cons, All-nil}
 use Rattle.std.specs.Borrow.{Bor}
+use Rattle.lmtp.specs.Arguments.{max_size}
 use Rattle.lmtp.specs.Copies.{is_path_line, added_fields}
 use Rattle.lmtp.specs.Dialogues.{Phase, Greeted, Ready, Opened, Asking, Sending, Over, Dialogue, new_dialogue, Item, Command, LongLine, Message, IsLineItem, Spells, IsFirst, Waits}
 use Rattle.lmtp.specs.Lines.{line_end, HasNoLineEnd, IsLine}
@@ -381,6 +382,10 @@ at_limit = refl
 
 past_limit : is_too_large (Some 33552233) ≡ true
 past_limit = refl
+
+-- one of 2^64 and more is a size, and too large
+beyond_limit : is_too_large (Some max_size) ≡ true
+beyond_limit = refl
 
 -- ---- names
 

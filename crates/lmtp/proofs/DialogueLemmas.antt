@@ -4,7 +4,7 @@ use Rattle.std.proofs.lemmas.List.{append_cancel_right}
 use Rattle.lmtp.specs.Dialogues.{Phase, Greeted, Ready, Opened, Asking, Sending, Over, Dialogue, given, Item, Command, LongLine, Message, IsLineItem, IsTextItem, Spells, IsFirst, ItemsStand}
 use Rattle.lmtp.specs.Lines.{line_end, IsLine}
 use Rattle.lmtp.specs.Texts.{with_end, EndsAt, after, text_after}
-use Rattle.lmtp.specs.Turns.{Answers, Resolves, Replies, replied, AnswersStand}
+use Rattle.lmtp.specs.Turns.{Answers, Resolves, Replies, replied}
 use Rattle.lmtp.specs.declared.receiver.Lookup.{Lookup}
 use Rattle.lmtp.specs.declared.reply.Outcome.{Outcome}
 use Rattle.lmtp.specs.declared.text.Place.{Place}
@@ -118,7 +118,7 @@ items_stand = record {
   pieces = λ d a b. ap (λ t. let e : Dialogue = record d { unread = t } in e) (append_assoc d.unread a b);
 }
 
-line_stays : (hello : List ℕ) (d e : Dialogue) (said more : List ℕ) → Answers hello d said e → Answers hello (given more d) said (given more e)
+pub line_stays : (hello : List ℕ) (d e : Dialogue) (said more : List ℕ) → Answers hello d said e → Answers hello (given more d) said (given more e)
 line_stays hello d e said more is = record {
   item = is.item;
   rest = is.rest ++ more;
@@ -129,7 +129,7 @@ line_stays hello d e said more is = record {
   leaves = ap (given more) is.leaves;
 }
 
-lookup_stays : (d e : Dialogue) (lookup : Lookup) (said more : List ℕ) → Resolves d lookup said e → Resolves (given more d) lookup said (given more e)
+pub lookup_stays : (d e : Dialogue) (lookup : Lookup) (said more : List ℕ) → Resolves d lookup said e → Resolves (given more d) lookup said (given more e)
 lookup_stays d e lookup said more is = record {
   sender = is.sender;
   taken = is.taken;
@@ -144,7 +144,7 @@ replied_stays : (sender : List ℕ) (left : List (List ℕ)) (d : Dialogue) (res
 replied_stays sender [] d rest more = refl
 replied_stays sender (next ∷ left) d rest more = refl
 
-outcome_stays : (d e : Dialogue) (outcome : Outcome) (said more : List ℕ) → Replies d outcome said e → Replies (given more d) outcome said (given more e)
+pub outcome_stays : (d e : Dialogue) (outcome : Outcome) (said more : List ℕ) → Replies d outcome said e → Replies (given more d) outcome said (given more e)
 outcome_stays d e outcome said more is = record {
   sender = is.sender;
   recipient = is.recipient;
@@ -156,6 +156,3 @@ outcome_stays d e outcome said more is = record {
   told = is.told;
   leaves = ap (given more) is.leaves ∙ replied_stays is.sender is.left d is.rest more;
 }
-
-pub answers_stand : AnswersStand
-answers_stand = record { line = line_stays; lookup = lookup_stays; outcome = outcome_stays }

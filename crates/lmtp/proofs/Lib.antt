@@ -12,6 +12,7 @@ pub mod NameLemmas
 pub mod NextLemmas
 pub mod ParameterLemmas
 pub mod PathLemmas
+pub mod ReadingLemmas
 pub mod ReceiverLemmas
 pub mod ReplyLemmas
 pub mod RouteLemmas

@@ -1,14 +1,17 @@
 -- The parameters of MAIL.
-use Rattle.std.proofs.Common.{◌≡◌, ℕ, ◌==◌, ◌-◌, ◌<◌, ◌^◌, true, false, List, [], ◌∷◌, ◌++◌, length, take, drop, map, Some, None, inl, inr, refl, sym, ap, ◌∙◌, subst, codes, arith}
+use Rattle.std.proofs.Common.{◌≡◌, ℕ, suc, min, not, ◌&&◌, Bool, ◌==◌, ◌-◌, ◌<◌, ◌^◌, true, false, List, [], ◌∷◌, ◌++◌, length, take, drop, map, Some, None, inl, inr, refl, sym, ap, ◌∙◌, subst, codes, arith}
 use Rattle.std.proofs.lemmas.List.{take-append-drop, take_rest}
 use Rattle.std.specs.Prelude.{Option}
 use Rattle.std.specs.Char.{to_ascii_lowercase}
-use Rattle.std.specs.List.{prefix_len}
-use Rattle.octets.specs.Decimal.{Writes}
+use Rattle.std.proofs.lemmas.Bool.{cases_order}
+use Rattle.std.proofs.lemmas.List.Sums.{AllPass-from_list_all, list_all-from_AllPass}
+use Rattle.std.specs.List.{list_all, prefix_len}
+use Rattle.octets.specs.Ascii.{is_digit}
+use Rattle.octets.specs.Decimal.{Writes, number_of}
 use Rattle.lmtp.specs.Commands.{IsWord, is_unspaced}
-use Rattle.lmtp.specs.Arguments.{IsAfter, IsParameter, Separated, or_earlier, AreParameters, NoParameters}
+use Rattle.lmtp.specs.Arguments.{IsAfter, max_size, is_number, IsSize, IsParameter, Separated, or_earlier, AreParameters, NoParameters}
 use Rattle.lmtp.proofs.ArgumentLemmas.{one_after}
-use Rattle.lmtp.proofs.FrontLemmas.{Stops, all_front, stops_behind, front_is, behind_is}
+use Rattle.lmtp.proofs.FrontLemmas.{and_second, Stops, all_front, stops_behind, front_is, behind_is}
 use Rattle.lmtp.proofs.TextLemmas.{first_of, others_of, same_others, not_none}
 
 -- ---- one parameter
@@ -39,19 +42,54 @@ not_sized text digits is other = elim other [
   | inr (inr wide) ↦ not_second text digits (codes "SMTPUTF8") 109 is wide refl (λ same. absurd (omega (arith, same)))
 ]
 
-one_parameter : (text : List ℕ) (a b : Option ℕ) → IsParameter text a → IsParameter text b → a ≡ b
+pub one_parameter : (text : List ℕ) (a b : Option ℕ) → IsParameter text a → IsParameter text b → a ≡ b
 one_parameter text None None first second = refl
 one_parameter text None (Some b) first second = absurd (not_sized text second.0 second.1 first)
 one_parameter text (Some a) None first second = absurd (not_sized text first.0 first.1 second)
 one_parameter text (Some a) (Some b) first second =
-    let same = one_after (codes "SIZE=") text first.0 second.0 first.1 second.1 in
-    ap Some (sym first.2.value ∙ (ap (λ d. Rattle.octets.specs.Decimal.number_of d) same ∙ second.2.value))
+    let same : first.0 ≡ second.0 = one_after (codes "SIZE=") text first.0 second.0 first.1 second.1 in
+    let number : first.2.0 ≡ second.2.0 = sym first.2.1.value ∙ (ap number_of same ∙ second.2.1.value) in
+    ap Some (first.2.2 ∙ (ap (λ n. min n max_size) number ∙ sym second.2.2))
 
--- no size where its digits write no number that is small enough
-pub no_size : (text digits : List ℕ) → IsAfter (codes "SIZE=") text digits → ((n : ℕ) → n < 2 ^ 64 → Writes digits n → ⊥) → (size : Option ℕ) → IsParameter text size → ⊥
+-- no size where its digits write none
+pub no_size : (text digits : List ℕ) → IsAfter (codes "SIZE=") text digits → ((n : ℕ) → IsSize digits n → ⊥) → (size : Option ℕ) → IsParameter text size → ⊥
 no_size text digits is none None other = not_sized text digits is other
-no_size text digits is none (Some n) other =
-    none n other.3 (subst (λ d. Writes d n) (one_after (codes "SIZE=") text other.0 digits other.1 is) other.2)
+no_size text digits is none (Some n) other = none n (subst (λ d. IsSize d n) (one_after (codes "SIZE=") text other.0 digits other.1 is) other.2)
+
+-- ---- a size
+
+number_written : (digits : List ℕ) → is_number digits ≡ true → Writes digits (number_of digits)
+number_written [] is = absurd (cc is)
+number_written (digit ∷ digits) is = record {
+  present = not_none digit digits;
+  digits = AllPass-from_list_all is_digit (digit ∷ digits) (and_second (not (length (digit ∷ digits) == 0)) (list_all is_digit (digit ∷ digits)) is);
+  value = refl;
+}
+
+written_number : (digits : List ℕ) (n : ℕ) → Writes digits n → is_number digits ≡ true
+written_number [] n writes = absurd (writes.present refl)
+written_number (digit ∷ digits) n writes = both (some (length digits)) (list_all-from_AllPass is_digit (digit ∷ digits) writes.digits)
+  where
+    some : (n : ℕ) → not (suc n == 0) ≡ true
+    some n = grind (arith)
+
+    both : {a b : Bool} → a ≡ true → b ≡ true → (a && b) ≡ true
+    both {a} {b} is_a is_b = rw (is_a, is_b) refl
+
+pub size_greatest : (digits : List ℕ) → ((n : ℕ) → n < 2 ^ 64 → Writes digits n → ⊥) → is_number digits ≡ true → IsSize digits max_size
+size_greatest digits none is =
+    let writes = number_written digits is in (
+      number_of digits,
+      writes,
+      elim (cases_order (number_of digits) (2 ^ 64)) [
+        | inl same ↦ omega (arith, same)
+        | inr (inl less) ↦ absurd (none (number_of digits) less writes)
+        | inr (inr more) ↦ omega (arith, more)
+      ],
+    )
+
+pub size_none : (digits : List ℕ) → is_number digits ≡ false → (size : ℕ) → IsSize digits size → ⊥
+size_none digits other size is = absurd (cc (sym (written_number digits is.0 is.1) ∙ other))
 
 -- ---- parameters in turn
 
@@ -70,16 +108,16 @@ separated : (text : List ℕ) → Stops is_unspaced text → Separated text
 separated [] stops = inl refl
 separated (octet ∷ text) stops = inr (text, ap (λ o. o ∷ text) (is_space octet stops))
 
-stopped : (text : List ℕ) → Separated text → Stops is_unspaced text
+pub stopped : (text : List ℕ) → Separated text → Stops is_unspaced text
 stopped text is = elim is [
   | inl none ↦ subst (Stops is_unspaced) (sym none) tt
   | inr some ↦ subst (Stops is_unspaced) (sym some.1) refl
 ]
 
-abbrev word_in : List ℕ → List ℕ
+abbrev pub word_in : List ℕ → List ℕ
 word_in more = take (prefix_len is_unspaced more) more
 
-abbrev tail_in : List ℕ → List ℕ
+abbrev pub tail_in : List ℕ → List ℕ
 tail_in more = drop (prefix_len is_unspaced more) more
 
 -- the first of those that stand there

@@ -1,7 +1,8 @@
 -- What MAIL and RCPT are about (RFC 5321, sections 4.1.1.2 and 4.1.1.3; SIZE: RFC 1870; BODY: RFC 6152; SMTPUTF8: RFC 6531).
-use Rattle.std.specs.Prelude.{◌≡◌, ◌≢◌, ◌⊎◌, ℕ, ◌≤◌, ◌<◌, ◌^◌, true, List, [], ◌∷◌, ◌++◌, length, Option, Some, None, Result, Ok, Err, codes}
+use Rattle.std.specs.Prelude.{◌≡◌, ◌≢◌, ◌⊎◌, ℕ, ◌≤◌, min, Bool, true, not, ◌==◌, ◌&&◌, List, [], ◌∷◌, ◌++◌, length, Option, Some, None, Result, Ok, Err, codes}
 use Rattle.std.specs.Borrow.{Bor}
 use Rattle.std.specs.List.{list_all}
+use Rattle.octets.specs.Ascii.{is_digit}
 use Rattle.octets.specs.Decimal.{Writes}
 use Rattle.lmtp.specs.Commands.{IsWord, is_unspaced}
 use Rattle.lmtp.specs.Paths.{IsPath}
@@ -61,9 +62,21 @@ octets_of (Err fault) = Err fault
 abbrev pub from_word : List ℕ
 from_word = codes "FROM:"
 
+-- the greatest size that is told from others: a greater one counts as this
+abbrev pub max_size : ℕ
+max_size = 18446744073709551615
+
+-- digits, and nothing else
+abbrev pub is_number : List ℕ → Bool
+is_number text = not (length text == 0) && list_all is_digit text
+
+-- digits that write a size
+abbrev pub IsSize : List ℕ → ℕ → Type 0
+IsSize digits size = (number : ℕ) × Writes digits number × (size ≡ min number max_size)
+
 -- a parameter: the size that the message will have, in octets, or one that changes nothing here
 abbrev pub IsParameter : List ℕ → Option ℕ → Type 0
-IsParameter text (Some size) = (digits : List ℕ) × IsAfter (codes "SIZE=") text digits × Writes digits size × (size < 2 ^ 64)
+IsParameter text (Some size) = (digits : List ℕ) × IsAfter (codes "SIZE=") text digits × IsSize digits size
 IsParameter text None = IsWord (codes "BODY=7BIT") text ⊎ (IsWord (codes "BODY=8BITMIME") text ⊎ IsWord (codes "SMTPUTF8") text)
 
 -- the later size, where there is one

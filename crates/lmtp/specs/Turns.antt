@@ -168,8 +168,9 @@ abbrev pub Talks : List ℕ → Dialogue → List Act → Dialogue → Type 0
 Talks hello d [] e = e ≡ d
 Talks hello d (act ∷ acts) e = (next : Dialogue) × Goes hello d act next × Talks hello next acts e
 
--- what is answered stays so, whatever follows
+-- a line has one answer, and what is answered stays so, whatever follows
 pub record AnswersStand : Type 0 where
+  pub one : (hello : List ℕ) (d e f : Dialogue) (said other : List ℕ) → Answers hello d said e → Answers hello d other f → (said ≡ other) × (e ≡ f)
   pub line : (hello : List ℕ) (d e : Dialogue) (said more : List ℕ) → Answers hello d said e → Answers hello (given more d) said (given more e)
   pub lookup : (d e : Dialogue) (lookup : Lookup) (said more : List ℕ) → Resolves d lookup said e → Resolves (given more d) lookup said (given more e)
   pub outcome : (d e : Dialogue) (outcome : Outcome) (said more : List ℕ) → Replies d outcome said e → Replies (given more d) outcome said (given more e)

@@ -1,5 +1,7 @@
 //! What MAIL and RCPT are about.
 ghost use Rattle.std.specs.Prelude.{◌≡◌, ◌↔◌, ◌≤◌, ℕ, List, Option, None, IsTrue, IfSome, IfNone, IfOk, IfErr, Ok, Err, length};
+ghost use Rattle.std.specs.List.{list_all};
+ghost use Rattle.octets.specs.Ascii.{is_digit};
 ghost use Rattle.lmtp.specs.Arguments as s;
 
 use crate::path::{read_path, strip};
@@ -107,7 +109,7 @@ fn read_parameter(text: &[u8]) -> Result<Option<u64>, ArgumentFault>
     ensures none { IfErr result (λ fault. (size : Option ℕ) → s.IsParameter text.now size → ⊥) }
 {
     if let Some(digits) = after_word(text, b"SIZE=") {
-        return match parse_decimal(digits) {
+        return match parse_size(digits) {
             Some(size) => Ok(Some(size)),
             None => Err(ArgumentFault::Parameter),
         };
@@ -119,6 +121,34 @@ fn read_parameter(text: &[u8]) -> Result<Option<u64>, ArgumentFault>
         return Ok(None);
     }
     Err(ArgumentFault::Parameter)
+}
+
+// The size that digits write; one of 2^64 and more counts as the greatest.
+fn parse_size(digits: &[u8]) -> Option<u64>
+    ensures found { IfSome result (λ size. s.IsSize digits.now size) }
+    ensures none { IfNone result ((size : ℕ) → s.IsSize digits.now size → ⊥) }
+{
+    if let Some(size) = parse_decimal(digits) {
+        return Some(size);
+    }
+    if is_number(digits) {
+        Some(u64::MAX)
+    } else {
+        None
+    }
+}
+
+// Whether they are digits, and nothing else.
+fn is_number(text: &[u8]) -> bool
+    ensures { result ≡ s.is_number text.now }
+{
+    !text.is_empty() && all_digits(text)
+}
+
+fn all_digits(text: &[u8]) -> bool
+    ensures { result ≡ list_all is_digit text.now }
+{
+    text.iter().all(|octet| octet.is_ascii_digit())
 }
 
 // Whether an address may be that of a recipient.

@@ -26,7 +26,7 @@ pub fn items_stand()
     ensures { ItemsStand }
 {}
 
-/// What is answered stays so whatever octets follow.
+/// A line has one answer, and what is answered stays so whatever octets follow.
 pub fn answers_stand()
     ensures { AnswersStand }
 {}

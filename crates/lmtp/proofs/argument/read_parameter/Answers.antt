@@ -3,7 +3,7 @@ use Rattle.lmtp.proofs.ParameterLemmas.{no_size}
 use Rattle.lmtp.proofs.argument.read_parameter.Goals as goal
 
 pub returns-in-None-clause-none : goal.returns-in-None-clause-none
-returns-in-None-clause-none c = no_size c.args.text.now c.in-Some.digits.now c.in-Some.ensures.found c.in-None.ensures
+returns-in-None-clause-none c = no_size c.args.text.now c.in-Some.digits.now c.in-Some.ensures.found c.in-None.ensures.none
 
 pub returns-clause-none : goal.returns-clause-none
 returns-clause-none c None = λ other. elim other [

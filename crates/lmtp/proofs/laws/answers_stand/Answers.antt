@@ -1,4 +1,4 @@
-use Rattle.lmtp.proofs.DialogueLemmas.{answers_stand}
+use Rattle.lmtp.proofs.ReadingLemmas.{answers_stand}
 use Rattle.lmtp.proofs.laws.answers_stand.Goals as goal
 
 pub returns : goal.returns
