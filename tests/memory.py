@@ -402,11 +402,13 @@ def told_by(text, number):
     return found, count
 
 
-def engine(call, before=b"", again=None, judge=None):
-    """Tries events, or calls of the store, that happen between two marks; after them all is read, then they happen again, and all is read."""
-    text = WORLD + before + ASKED + READS + ASKED + mark(FIRST) + call + ASKED + mark(LAST) + READS + ASKED + (again or call) + ASKED + READS + ASKED
+def engine(call, before=b"", again=None, judge=None, first=b"", last=b"", asks=True):
+    """Tries events, or calls of the store, that happen between two marks; after them all is read, then they happen again, and all is read.
+    `first` happens before them, once all is read, and `last` each time before all is read again; without `asks` they ask for no memory."""
+    text = WORLD + before + ASKED + READS + ASKED + first + mark(FIRST) + call + ASKED + mark(LAST) + last + READS + ASKED + (again or call) + ASKED + last + READS + ASKED
     whole, count = told_by(text, 0)
     assert len(whole) == 8 and count, (whole, count)
+    assert not first or whole[5].endswith(whole[1]), whole
 
     def one(number):
         found, _ = told_by(text, number)
@@ -419,7 +421,7 @@ def engine(call, before=b"", again=None, judge=None):
         return (judge or refusal)(number, whole, found)
 
     found = each(count, one)
-    assert found["full"] and found["refused"], found
+    assert found["full"] and bool(found["refused"]) == asks, found
     return table(count - found["outside"], found["refused"], found["full"], f"; {found['outside']} were of the program that makes the call")
 
 
@@ -470,6 +472,10 @@ ENGINE = {
     "step_get": lambda: step(b'GETSCRIPT "main"'),
     "step_capability": lambda: step(b"CAPABILITY"),
     "run": lambda: engine(b"== deliver alice x6\n" + MESSAGE, before=b"== send alice\nSETACTIVE \"\"\n\n", judge=ran),
+    "store_create": lambda: engine(b"== create\n\n", last=b"== swap\n\n"),
+    "store_open": lambda: engine(b"== reopen\n\n", judge=reopened, first=b"== create\n\n== swap\n\n== release\n\n", last=b"== swap\n\n"),
+    "store_release": lambda: engine(b"== release\n\n", first=b"== create\n\n== swap\n\n", last=b"== reopen\n\n== swap\n\n", asks=False),
+    "store_commit_delivery": lambda: engine(b"== commit alice\nSubject: third\n\nz\n"),
     "store_add_user": lambda: engine(b"== account bob\nbob@example.org\n"),
     "store_put_script": lambda: engine(b"== put alice new\ndiscard;\n"),
     "store_set_active": lambda: engine(b"== activate alice other\n\n"),
@@ -497,6 +503,12 @@ def opened(number, whole, found):
     """A session that was refused isn't open: closing it is ignored, and it is opened then."""
     assert found[3] in (b"refused: out of memory", b"not whole") and found[5] == whole[1], f"request {number}: {found[3:6]}"
     assert found[6].startswith(b"ignored") and found[6].endswith(whole[3]) and found[7] == whole[7], f"request {number}: {found[6:]}"
+    return "refused"
+
+
+def reopened(number, whole, found):
+    """The store wasn't opened: the connection that came back opens, and shows what it had."""
+    assert found[3].endswith(b"refused: out of memory") and (found[6], found[7]) == (whole[3], whole[5]), f"request {number}: {found[3:]}"
     return "refused"
 
 

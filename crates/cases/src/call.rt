@@ -3,8 +3,8 @@ use crate::answer::add_line;
 use casefiles::Part::{Number, Text};
 use casefiles::{add_parts, decode, split_at_first, trim_end};
 use mailengine::Refusal;
-use mailstore::{KeptReply, Outgoing, Profile, Store};
-use octets::Octets;
+use mailstore::{KeptReply, Outgoing, Plan, Profile, Report, Store, VacationReply, VacationReport};
+use octets::{Octets, Texts};
 use sqlite::MemStore;
 use std::alloc::{AllocError, Global};
 
@@ -13,6 +13,55 @@ pub fn rename(store: &mut Store<MemStore>, user: &[u8], note: &str) -> Result<()
     let (_, names) = split_at_first(note, " ");
     let (name, other) = split_at_first(names, " ");
     store.rename(user, name.as_bytes(), other.as_bytes())
+}
+
+/// Writes a delivery of this message: it joins INBOX and `a`, goes on to carol, is answered, and leaves a notice.
+pub fn commit(
+    alloc: Global,
+    store: &mut Store<MemStore>,
+    user: &[u8],
+    text: &str,
+) -> Result<(), Refusal> {
+    let message = decode(alloc, text)?;
+    let plan = Plan {
+        message: message.as_slice(),
+        sender: b"bob@example.net",
+        moment: 1_800_000_000,
+        report: whole_report(alloc)?,
+        reply: Some(reply(alloc)?),
+    };
+    store.commit_delivery(user, &plan)
+}
+
+/// A report that tells of everything that a delivery can write.
+fn whole_report(alloc: Global) -> Result<Report, AllocError> {
+    let notice = Octets::from_slice(alloc, b"a notice")?;
+    let filed = texts(alloc, &[b"INBOX", b"a"])?;
+    let sent = texts(alloc, &[b"carol@example.com"])?;
+    Ok(Report {
+        filed,
+        sent,
+        vacation: VacationReport::Sent,
+        notice: Some(notice),
+    })
+}
+
+fn reply(alloc: Global) -> Result<VacationReply, AllocError> {
+    let handle = Octets::from_slice(alloc, b"handle")?;
+    let message = Octets::from_slice(alloc, b"Away.")?;
+    Ok(VacationReply {
+        handle,
+        message,
+        moment: 1_800_000_000,
+    })
+}
+
+fn texts(alloc: Global, items: &[&[u8]]) -> Result<Texts, AllocError> {
+    let mut texts = Texts::new(alloc);
+    for item in items {
+        texts.push(Octets::from_slice(alloc, item)?)?;
+    }
+    Ok(texts)
 }
 
 /// Appends the address of the account and the name of its active script, or `none`.

@@ -15,6 +15,7 @@ mod question;
 mod run;
 mod script;
 mod session;
+mod spare;
 mod stream;
 mod table;
 mod talk;

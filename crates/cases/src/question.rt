@@ -1,6 +1,6 @@
 //! What is asked of a store, and done to it, beside events.
 use crate::answer::{add_line, add_refusal};
-use crate::call::{add_moment, add_profile, add_replies, add_rows, rename};
+use crate::call::{add_moment, add_profile, add_replies, add_rows, commit, rename};
 use crate::event::PASSWORD;
 use crate::place::{add_next_filed, add_next_queued, add_numbers, number_in};
 use casefiles::Part::{Number, Text};
@@ -29,6 +29,7 @@ pub fn ask(
         "activate" => store.set_active(user, Some(name)),
         "delete" => store.delete(user, name),
         "rename" => rename(store, user, section.note),
+        "commit" => commit(alloc, store, user, section.text),
         "dequeue" => store.take_out(user, number_in(word)),
         "profile" => add_profile(store, out, user),
         "rows" => add_rows(store, out, user),

@@ -3,6 +3,7 @@ use crate::answer::{add_line, add_shown};
 use crate::cut::{add_answers, add_counts};
 use crate::event::{Post, event, login, number, octets_in, times_in};
 use crate::question::ask;
+use crate::spare::Spare;
 use casefiles::{Section, Sections, Tally, try_sections};
 use mailengine::{Event, Ran, World, run};
 use mailstore::Store;
@@ -32,6 +33,7 @@ fn new_store(alloc: Global) -> Result<Store<MemStore>, AllocError> {
 #[derive(Drop)]
 struct Talk<'a> {
     world: World<MemStore>,
+    spare: Spare,
     /// What was answered since the last case.
     told: Octets,
     events: Vec<Event>,
@@ -61,6 +63,16 @@ impl<'a> Sections<'a> for Talk<'a> {
                 Ok(())
             }
             "send" => self.send(alloc, section),
+            "create" => self.spare.create(alloc, &mut self.told),
+            "reopen" => self.spare.reopen(alloc, &mut self.told),
+            "release" => {
+                self.spare.release();
+                Ok(())
+            }
+            "swap" => {
+                self.spare.swap(&mut self.world.store);
+                Ok(())
+            }
             _ => self.add_or_ask(alloc, tally, section),
         }
     }
@@ -72,6 +84,7 @@ impl<'a> Talk<'a> {
         let store = new_store(alloc)?;
         Ok(Talk {
             world: World::new(alloc, store),
+            spare: Spare::Nothing,
             told: Octets::new(alloc),
             events: Vec::new(alloc),
             shown: Vec::new(alloc),
