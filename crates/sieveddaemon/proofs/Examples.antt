@@ -2,7 +2,7 @@
 use Rattle.std.proofs.Common.{◌≡◌, ℕ, false, List, [], ◌∷◌, Option, Some, None, codes, refl, sym, ◌∙◌, arith, inl, inr}
 use Rattle.std.specs.FinMap.{get}
 use Rattle.msproto.specs.Replies.{spelled}
-use Rattle.mailstore.specs.declared.refusal.Refusal.TheVariants.{Store}
+use Rattle.mailstore.specs.declared.refusal.Refusal.TheVariants.{Memory, Store}
 use Rattle.sessions.specs.Clients.{Client}
 use Rattle.sessions.specs.Replies.{accepted, declined, farewell, try_later}
 use Rattle.sessions.specs.declared.progress.Progress.TheVariants.{Done, Close}
@@ -13,8 +13,8 @@ use Rattle.mailengine.specs.declared.event.Event.{Event}
 use Rattle.mailengine.specs.declared.event.Event.TheVariants.{Step, GiveUp}
 use Rattle.wires.specs.Life.{IsFrontOf}
 use Rattle.wires.specs.declared.act.Act.{Act}
-use Rattle.wires.specs.declared.act.Act.TheVariants.{Timed, Sent, Noted}
-use Rattle.sieveddaemon.specs.Acts.{no_line, tell_on, AreRight, LeadsBy}
+use Rattle.wires.specs.declared.act.Act.TheVariants.{Timed, Sent, Noted, Full, ReadBlocked}
+use Rattle.sieveddaemon.specs.Acts.{no_line, tell_on, AreRight, LeadsBy, IsMadeOr}
 use Rattle.sieveddaemon.specs.Desk.{AreOthers}
 use Rattle.sieveddaemon.specs.Places.{new_place, due_by, never}
 use Rattle.sieveddaemon.specs.Waiting.{Allows, said_at_once, is_failure}
@@ -61,6 +61,21 @@ not_while_a_reply_waits text is = is
 
 not_before_its_moment : (text : List ℕ) → Allows 1999 (waits.Reply 2000 text) 1 Spoke → ⊥
 not_before_its_moment text is = omega (arith, is)
+
+-- ---- what is heard
+
+-- where memory was lacking for it the connection ends
+ends_then : IsMadeOr (Refused Memory) 1 (Full 1 ∷ [])
+ends_then = inr refl
+
+-- near misses: it is passed over, and the next read goes on; another connection ends
+not_passed_over : IsMadeOr (Refused Memory) 1 (ReadBlocked 1 ∷ []) → ⊥
+not_passed_over (inl made) = let never : ⊥ = cc in absurd never
+not_passed_over (inr lacks) = lacks
+
+not_for_another : IsMadeOr (Refused Memory) 1 (Full 2 ∷ []) → ⊥
+not_for_another (inl made) = let never : ⊥ = cc in absurd never
+not_for_another (inr lacks) = omega (arith, lacks)
 
 -- ---- acts of one connection
 

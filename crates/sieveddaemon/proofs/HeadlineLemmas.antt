@@ -11,11 +11,12 @@ use Rattle.mailengine.proofs.AloneLemmas.{projection}
 use Rattle.mailengine.proofs.SoundLemmas.{runs_sound}
 use Rattle.mailengine.proofs.SpacingLemmas.{spacing}
 use Rattle.wires.specs.declared.act.Act.{Act}
-use Rattle.wires.specs.declared.act.Act.TheVariants.{Came, Heard, Noted, Ended}
+use Rattle.wires.specs.declared.act.Act.TheVariants.{Came, Heard, Noted, Full, Ended}
+use Rattle.wires.specs.declared.turn.Turn.TheVariants.{Stuffed}
 use Rattle.wires.specs.Life.{Move, acts_of, Passes, Fresh, IsFrontOf}
 use Rattle.wires.specs.Moves.{Moment, Moves}
 use Rattle.wires.specs.Talk.{client_of}
-use Rattle.sieveddaemon.specs.Acts.{Line, no_line, LeadsBy, Leads, LeadsOn, events_by, events_at, events_in, AnswersBy, AnswersAt, AnswersIn, moment_after, tell, tell_on, IsRight, AreRight}
+use Rattle.sieveddaemon.specs.Acts.{Line, no_line, LeadsBy, LacksThen, Leads, LeadsOn, events_by, events_at, events_in, AnswersBy, AnswersAt, AnswersIn, moment_after, tell, tell_on, IsRight, AreRight}
 use Rattle.sieveddaemon.specs.DaemonRules.{daemon_rules, place_at}
 use Rattle.sieveddaemon.specs.Desk.{IsWorld}
 use Rattle.sieveddaemon.specs.Headline.{world_of, HoldsAfter, Headline, IsNew}
@@ -26,6 +27,7 @@ use Rattle.sieveddaemon.proofs.EventLemmas.{runs_then, runs_one, none_open}
 use Rattle.sieveddaemon.proofs.LeadLemmas.{Led, leads}
 use Rattle.sieveddaemon.proofs.LineLemmas.{Tied, moment_is, tied_after, right_at}
 use Rattle.sieveddaemon.proofs.SentLemmas.{Fits, front, fits_after}
+use Rattle.sieveddaemon.proofs.TurnLemmas.{IsFull, fulls}
 
 -- ---- acts as events
 
@@ -40,17 +42,17 @@ runs_by w v Spoke led = ([], led, refl)
 runs_by w v Looked led = ([], led, refl)
 runs_by w v Gave led = ([], led, refl)
 
-runs_at : (w v : World) (act : Act Note) → Leads w act v → (told : List Answer) × Runs w (events_at act) told v × AnswersAt act told
-runs_at w v (Came id kind) led = (led.0 ∷ [], runs_one w v (Open id) led.0 led.1, tt)
-runs_at w v (Heard id piece) led = (led.0 ∷ [], runs_one w v (Give id piece) led.0 led.1, tt)
-runs_at w v (Ended id) led = (led.0 ∷ [], runs_one w v (Close id) led.0 led.1, tt)
-runs_at w v (Noted id note) led = runs_by w v note led
-runs_at w v _ led = ([], led, tt)
+runs_at : (w v : World) (act : Act Note) (more : List (Act Note)) → Leads w act more v → (told : List Answer) × Runs w (events_at act) told v × AnswersAt act told
+runs_at w v (Came id kind) more led = (led.0 ∷ [], runs_one w v (Open id) led.0 led.2, tt)
+runs_at w v (Heard id piece) more led = (led.0 ∷ [], runs_one w v (Give id piece) led.0 led.2, tt)
+runs_at w v (Ended id) more led = (led.0 ∷ [], runs_one w v (Close id) led.0 led.1, tt)
+runs_at w v (Noted id note) more led = runs_by w v note led
+runs_at w v _ more led = ([], led, tt)
 
 runs_in : (w v : World) (acts : List (Act Note)) → LeadsOn w acts v → (told : List Answer) × Runs w (events_in acts) told v × AnswersIn acts told
 runs_in w v [] led = ([], led, refl)
 runs_in w v (act ∷ acts) led =
-    let here = runs_at w led.0 act led.1 in
+    let here = runs_at w led.0 act acts led.1 in
     let later = runs_in led.0 v acts led.2 in
     (here.0 ++ later.0, runs_then (events_at act) (events_in acts) here.0 later.0 w led.0 v here.1 later.1, (here.0, later.0, refl, here.2, later.2))
 
@@ -61,13 +63,27 @@ module _ {R : Type 0} (shows : R → Accounts → Type 0) where
   abbrev Stands : Moment Daemon Note R → World → Type 0
   Stands m w = IsWorld shows m.rest m.machine.clients.sessions w
 
+  -- of one for which memory was lacking that is what follows says
+  full_then : (id : ℕ) (act : Act Note) (more : List (Act Note)) → IsFull id act → LacksThen id (act ∷ more)
+  full_then id (Full n) more is = is
+  full_then id _ more is = absurd is
+
+  lacks_then : (m : Moment Daemon Note R) (moves : List (Move Note)) (n : Moment Daemon Note R) → Passes (daemon_rules shows) m moves n → (id kind : ℕ) → m.service.turn ≡ Stuffed id kind → LacksThen id (acts_of moves)
+  lacks_then m [] n passes id kind stuffed = tt
+  lacks_then m (move ∷ moves) n passes id kind stuffed =
+      let mid = passes.0 in
+      let one = passes.1 in
+      let is : IsFull id one.act = fulls (daemon_rules shows) m.machine mid.machine m.rest mid.rest m.service mid.service id kind stuffed one.act one.said one.turns in
+      full_then id move.act (acts_of moves) (subst (λ a. IsFull id a) passes.2 is)
+
   leads_on : (m : Moment Daemon Note R) (moves : List (Move Note)) (n : Moment Daemon Note R) (w : World) → Passes (daemon_rules shows) m moves n → Stands m w → (v : World) × LeadsOn w (acts_of moves) v × Stands n v
   leads_on m [] n w passes stands = (w, refl, subst (λ (k : Moment Daemon Note R). Stands k w) (sym passes) stands)
   leads_on m (move ∷ moves) n w passes stands =
       let mid = passes.0 in
       let one = passes.1 in
-      let led : Led shows m.machine mid.machine m.rest mid.rest w move.act =
-      subst (λ a. Led shows m.machine mid.machine m.rest mid.rest w a) passes.2 (leads shows m.machine mid.machine m.rest mid.rest m.service mid.service one.act one.said w one.turns one.leaves stands) in
+      let led : Led shows m.machine mid.machine m.rest mid.rest w move.act (acts_of moves) =
+      subst (λ a. Led shows m.machine mid.machine m.rest mid.rest w a (acts_of moves)) passes.2
+      (leads shows m.machine mid.machine m.rest mid.rest m.service mid.service (acts_of moves) (lacks_then mid moves n passes.4) one.act one.said w one.turns one.leaves stands) in
       let more = leads_on mid moves n led.0 passes.4 led.2 in
       (more.0, (led.0, led.1, more.1), more.2)
 

@@ -9,11 +9,12 @@ use Rattle.mailengine.specs.declared.event.Event.TheVariants.{Open, Give, Close}
 use Rattle.wires.specs.declared.act.Act.{Act}
 use Rattle.wires.specs.declared.act.Act.TheVariants.{Woke, Began, Timed, Late, Waits, Roused, Worked, Came, NoneCame, Crowded, Displaced, Listened, InUse, Heard, ReadBlocked, Over, Sent, WriteBlocked, Lost, Noted, Full, Again, Shut, Dropped, Ended}
 use Rattle.wires.specs.declared.service.Service.{Service}
+use Rattle.wires.specs.declared.turn.Turn.TheVariants.{Stuffed}
 use Rattle.wires.specs.Moves.{Leaves}
 use Rattle.wires.specs.Turns.{Turns, Opens as Enters, Goes, Lacks, Parting}
 use Rattle.wires.specs.Talk.{client_of, kind_of}
-use Rattle.sieveddaemon.specs.Acts.{LeadsBy, Leads}
-use Rattle.sieveddaemon.specs.DaemonRules.{daemon_rules, Happened, Makes, Rests, Opens, Gives, LacksFor}
+use Rattle.sieveddaemon.specs.Acts.{LeadsBy, Leads, LacksThen, IsMadeOr}
+use Rattle.sieveddaemon.specs.DaemonRules.{daemon_rules, Happened, Made, Makes, Rests, Opens, Gives, LacksFor}
 use Rattle.sieveddaemon.specs.Desk.{IsWorld, StillShows}
 use Rattle.sieveddaemon.specs.declared.daemon.Daemon.{Daemon}
 use Rattle.sieveddaemon.specs.declared.note.Note.{Note}
@@ -21,9 +22,9 @@ use Rattle.sieveddaemon.specs.declared.note.Note.TheVariants.{Did, Away, Freed, 
 use Rattle.sieveddaemon.proofs.EventLemmas.{clients_one, open_refused, give_refused}
 
 module _ {R : Type 0} (shows : R → Accounts → Type 0) (d e : Daemon) (r q : R) where
-  -- an act led there, and the store and the sessions are so
-  abbrev pub Led : World → Act Note → Type 0
-  Led w act = (v : World) × Leads w act v × IsWorld shows q e.clients.sessions v
+  -- an act, which others follow, led there, and the store and the sessions are so
+  abbrev pub Led : World → Act Note → List (Act Note) → Type 0
+  Led w act more = (v : World) × Leads w act more v × IsWorld shows q e.clients.sessions v
 
   -- nothing changed
   same : (w : World) → IsWorld shows r d.clients.sessions w → KeepsClients d.clients.sessions e.clients.sessions → q ≡ r → IsWorld shows q e.clients.sessions w
@@ -39,6 +40,15 @@ module _ {R : Type 0} (shows : R → Accounts → Type 0) (d e : Daemon) (r q : 
         record { accounts = w.accounts; sessions = made.0 },
         (h.0, made.1),
         record { shown = subst (λ x. shows x w.accounts) (sym left) is.shown; sessions = made.2 },
+      )
+
+  made : (event : Event) (id : ℕ) (more : List (Act Note)) (w : World) → IsWorld shows r d.clients.sessions w → Made event d e → q ≡ r
+      → (v : World) × ((answer : Answer) × IsMadeOr answer id more × Next w event answer v) × IsWorld shows q e.clients.sessions v
+  made event id more w is h left =
+      let did = h.2 w is.sessions in (
+        record { accounts = w.accounts; sessions = did.0 },
+        (h.0, inl h.1, did.1),
+        record { shown = subst (λ x. shows x w.accounts) (sym left) is.shown; sessions = did.2 },
       )
 
   -- what asks no store is the same whatever accounts there are
@@ -70,19 +80,21 @@ module _ {R : Type 0} (shows : R → Accounts → Type 0) (d e : Daemon) (r q : 
   rested now (Freed event answer) rests = absurd rests
   rested now Spoke rests = absurd rests
 
-  module _ (s u : Service) where
-    came : (id kind : ℕ) (said : List ℕ) (w : World) → IsWorld shows r d.clients.sessions w → q ≡ r → Enters (daemon_rules shows) d s.moment id kind said e u → Led w (Came id kind)
-    came id kind said w is left (inl o) = happened (Open id) w is o.0.event left
+  -- where memory was lacking for a connection, that is what follows says
+  module _ (s u : Service) (more : List (Act Note)) (lacks_then : (id kind : ℕ) → u.turn ≡ Stuffed id kind → LacksThen id more) where
+    came : (id kind : ℕ) (said : List ℕ) (w : World) → IsWorld shows r d.clients.sessions w → q ≡ r → Enters (daemon_rules shows) d s.moment id kind said e u → Led w (Came id kind) more
+    came id kind said w is left (inl o) = made (Open id) id more w is o.0.event left
     came id kind said w is left (inr o) = by o.2
       where
-        by : Opens d s.moment id said e ⊎ LacksFor d id e → Led w (Came id kind)
-        by (inl opens) = happened (Open id) w is opens.event left
-        by (inr lacks) = (w, open_refused w id, same w is lacks.kept left)
+        by : Opens d s.moment id said e ⊎ LacksFor d id e → Led w (Came id kind) more
+        by (inl opens) = made (Open id) id more w is opens.event left
+        by (inr lacks) = let refused = open_refused w id in (w, (refused.0, inr (lacks_then id kind o.1), refused.1), same w is lacks.kept left)
 
     heard : (id : ℕ) (piece said : List ℕ) (count : ℕ) (w : World) → IsWorld shows r d.clients.sessions w → q ≡ r
-        → Goes (Gives d s.moment id piece said e) (LacksFor d id e) id (kind_of (client_of s id)) count said u.turn → Led w (Heard id piece)
-    heard id piece said count w is left (inl g) = happened (Give id piece) w is g.0.event left
-    heard id piece said count w is left (inr g) = (w, give_refused w id piece, same w is g.0.kept left)
+        → Goes (Gives d s.moment id piece said e) (LacksFor d id e) id (kind_of (client_of s id)) count said u.turn → Led w (Heard id piece) more
+    heard id piece said count w is left (inl g) = made (Give id piece) id more w is g.0.event left
+    heard id piece said count w is left (inr g) =
+        let refused = give_refused w id piece in (w, (refused.0, inr (lacks_then id (kind_of (client_of s id)) g.2), refused.1), same w is g.0.kept left)
 
     lacked : (id : ℕ) → Lacks (daemon_rules shows) d s id e u → KeepsClients d.clients.sessions e.clients.sessions
     lacked id (inl l) = kept l.2
@@ -95,7 +107,7 @@ module _ {R : Type 0} (shows : R → Accounts → Type 0) (d e : Daemon) (r q : 
     late id said (inr (inr p)) = p.2.kept
 
     -- each act, of whatever accounts and sessions there were
-    pub leads : (act : Act Note) (said : List ℕ) (w : World) → Turns (daemon_rules shows) d r s act said e q u → Leaves r act q → IsWorld shows r d.clients.sessions w → Led w act
+    pub leads : (act : Act Note) (said : List ℕ) (w : World) → Turns (daemon_rules shows) d r s act said e q u → Leaves r act q → IsWorld shows r d.clients.sessions w → Led w act more
     leads (Came id kind) said w turns left is = came id kind said w is left turns.3
     leads (Heard id piece) said w turns left is = heard id piece said turns.count w is left turns.goes
     leads (Ended id) said w turns left is = happened (Close id) w is turns.0.event left

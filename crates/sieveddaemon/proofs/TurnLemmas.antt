@@ -1,5 +1,5 @@
 -- Whose turn it is, and what a step is made for.
-use Rattle.std.proofs.Common.{◌≡◌, inl, inr, ℕ, ◌==◌, Bool, true, false, cond, List, [], ◌∷◌, Option, Some, None, refl}
+use Rattle.std.proofs.Common.{◌≡◌, inl, inr, ℕ, ◌==◌, Bool, true, false, cond, List, [], ◌∷◌, Option, Some, None, refl, sym, ◌∙◌, subst}
 use Rattle.wires.specs.declared.act.Act.{Act}
 use Rattle.wires.specs.declared.act.Act.TheVariants.{Woke, Began, Timed, Late, Waits, Roused, Worked, Came, NoneCame, Crowded, Displaced, Listened, InUse, Heard, ReadBlocked, Over, Sent, WriteBlocked, Lost, Noted, Full, Again, Shut, Dropped, Ended}
 use Rattle.wires.specs.declared.machine.Want.{Want}
@@ -8,7 +8,7 @@ use Rattle.wires.specs.declared.service.Service.{Service}
 use Rattle.wires.specs.declared.service.Phase.{Phase}
 use Rattle.wires.specs.declared.service.Phase.TheVariants as phase
 use Rattle.wires.specs.declared.turn.Turn.{Turn}
-use Rattle.wires.specs.declared.turn.Turn.TheVariants.{Free, Leaving}
+use Rattle.wires.specs.declared.turn.Turn.TheVariants.{Free, Stuffed, Leaving}
 use Rattle.wires.specs.declared.turn.Task.{Task}
 use Rattle.wires.specs.declared.turn.Task.TheVariants.{Send, Hear, Step, Rest, HangUp, Drain, End, Nothing}
 use Rattle.wires.specs.Rules.{Rules}
@@ -16,26 +16,33 @@ use Rattle.wires.specs.Talk.{client_of, is_quiet, is_quiet_by, task, task_by, ta
 use Rattle.wires.proofs.TalkLemmas.{unsent_of}
 use Rattle.wires.specs.Turns.{Turns, Tasks, Calm, Rests, MayWait, Reads, Fails, Lacks, Yields, MayEnd}
 
--- the end of a connection
-abbrev pub IsEnd : {N : Type 0} → ℕ → Act N → Type 0
-IsEnd id (Ended k) = k ≡ id
-IsEnd id _ = ⊥
+-- a turn behind which one act alone may come
+abbrev IsBound : Turn → Type 0
+IsBound (Stuffed id kind) = Unit {0}
+IsBound (Leaving id kind) = Unit {0}
+IsBound _ = ⊥
 
-module _ {M N R : Type 0} (rules : Rules M N R) (m n : M) (r q : R) (s u : Service) (id kind : ℕ) (leaving : s.turn ≡ Leaving id kind) where
+-- that act: memory was lacking for its connection, or that is closed
+abbrev Follows : {N : Type 0} → Turn → Act N → Type 0
+Follows turn (Full k) = (kind : ℕ) × (turn ≡ Stuffed k kind)
+Follows turn (Ended k) = (kind : ℕ) × (turn ≡ Leaving k kind)
+Follows turn _ = ⊥
+
+module _ {M N R : Type 0} (rules : Rules M N R) (m n : M) (r q : R) (s u : Service) (bound : IsBound s.turn) where
   calm : Calm rules m s → ⊥
-  calm (inl is) = cc
-  calm (inr is) = let at = is.0 in cc
+  calm (inl is) = subst IsBound is bound
+  calm (inr is) = subst IsBound is.0 bound
 
   rests : Rests rules m s → ⊥
   rests (inl is) = calm is
-  rests (inr is) = cc
+  rests (inr is) = subst IsBound is bound
 
   may_wait : MayWait rules m s → ⊥
-  may_wait (inl is) = cc
+  may_wait (inl is) = subst IsBound is bound
   may_wait (inr is) = calm is.0
 
   tasks : (k count : ℕ) (wanted : Task) → Tasks rules m s k count wanted → ⊥
-  tasks k count wanted t = let at = t.busy in cc
+  tasks k count wanted t = subst IsBound t.busy bound
 
   reads : (k : ℕ) (to turn : Turn) → Reads rules m s k to turn → ⊥
   reads k to turn (inl t) = tasks k t.0 Hear t.1
@@ -45,46 +52,73 @@ module _ {M N R : Type 0} (rules : Rules M N R) (m n : M) (r q : R) (s u : Servi
   fails k to turn (inl t) = tasks k t.0 Send t.1
   fails k to turn (inr t) = reads k to turn t
 
-  lacks : (k : ℕ) → Lacks rules m s k n u → ⊥
-  lacks k (inl t) = let at = t.1 in cc
-  lacks k (inr (inl t)) = tasks k t.1.0 Step t.1.1
-  lacks k (inr (inr t)) = tasks k t.1.0 Rest t.1.1
+  lacks : (k : ℕ) → Lacks rules m s k n u → (kind : ℕ) × (s.turn ≡ Stuffed k kind)
+  lacks k (inl t) = (t.0, t.1)
+  lacks k (inr (inl t)) = absurd (tasks k t.1.0 Step t.1.1)
+  lacks k (inr (inr t)) = absurd (tasks k t.1.0 Rest t.1.1)
 
   yields : (k : ℕ) → Yields rules m s k → ⊥
-  yields k (inl t) = let at = t.1 in cc
+  yields k (inl t) = subst IsBound t.1 bound
   yields k (inr t) = tasks k t.0 Nothing t.1
 
-  may_end : (k j : ℕ) → MayEnd rules m s k j → k ≡ id
-  may_end k j (inl t) = cc
+  may_end : (k j : ℕ) → MayEnd rules m s k j → (kind : ℕ) × (s.turn ≡ Leaving k kind)
+  may_end k j (inl t) = (j, t)
   may_end k j (inr t) = absurd (tasks k t.0 End t.1)
 
+  follows : (act : Act N) (said : List ℕ) → Turns rules m r s act said n q u → Follows s.turn act
+  follows (Woke wakes) said t = may_wait t.1
+  follows (Timed moment) said t = subst IsBound t.1 bound
+  follows (Late k) said t = subst IsBound t.0 bound
+  follows (Began wake) said t = rests t.1
+  follows (Roused k) said t = rests t.1
+  follows (Worked note) said t = calm t.2.calm
+  follows (Came k door) said t = subst IsBound t.0.door bound
+  follows (NoneCame door) said t = subst IsBound t.1.door bound
+  follows (Crowded door) said t = subst IsBound t.1.none.door bound
+  follows (Displaced k) said t = subst IsBound t.0.1.door bound
+  follows (Listened door) said t = subst IsBound t.1.door bound
+  follows (InUse k) said t = subst IsBound t.1.door bound
+  follows (Heard k piece) said t = tasks k t.count Hear t.wanted
+  follows (ReadBlocked k) said t = reads k Free u.turn t.1
+  follows (Over k) said t = reads k (Leaving k (kind_of (client_of s k))) u.turn t.1
+  follows (Sent k octets) said t = tasks k t.1.0 Send t.1.1
+  follows (WriteBlocked k) said t = tasks k t.1.0 Send t.1.1
+  follows (Lost k) said t = fails k (Leaving k (kind_of (client_of s k))) u.turn t.1
+  follows (Noted k note) said t = tasks k t.1.0 Step t.1.1
+  follows (Waits k) said t = tasks k t.1.0 Rest t.1.1
+  follows (Full k) said t = lacks k t.1
+  follows (Again k) said t = yields k t.1
+  follows (Shut k) said t = tasks k t.1.0 HangUp t.1.1
+  follows (Dropped k count) said t = tasks k t.1.0 Drain t.1.1
+  follows (Ended k) said t = may_end k t.2.0 t.2.1
+
+-- the end of a connection, and that memory was lacking for it
+abbrev pub IsEnd : {N : Type 0} → ℕ → Act N → Type 0
+IsEnd id (Ended k) = k ≡ id
+IsEnd id _ = ⊥
+
+abbrev pub IsFull : {N : Type 0} → ℕ → Act N → Type 0
+IsFull id (Full k) = k ≡ id
+IsFull id _ = ⊥
+
+end_by : {N : Type 0} (id kind : ℕ) (turn : Turn) → turn ≡ Leaving id kind → (act : Act N) → Follows turn act → IsEnd id act
+end_by id kind turn leaving (Ended k) is = let one : Leaving k is.0 ≡ Leaving id kind = sym is.1 ∙ leaving in cc
+end_by id kind turn leaving (Full k) is = let never : Stuffed k is.0 ≡ Leaving id kind = sym is.1 ∙ leaving in cc
+end_by id kind turn leaving _ is = absurd is
+
+full_by : {N : Type 0} (id kind : ℕ) (turn : Turn) → turn ≡ Stuffed id kind → (act : Act N) → Follows turn act → IsFull id act
+full_by id kind turn stuffed (Full k) is = let one : Stuffed k is.0 ≡ Stuffed id kind = sym is.1 ∙ stuffed in cc
+full_by id kind turn stuffed (Ended k) is = let never : Leaving k is.0 ≡ Stuffed id kind = sym is.1 ∙ stuffed in cc
+full_by id kind turn stuffed _ is = absurd is
+
+module _ {M N R : Type 0} (rules : Rules M N R) (m n : M) (r q : R) (s u : Service) (id kind : ℕ) where
   -- one that has to be closed is closed
-  pub ends : (act : Act N) (said : List ℕ) → Turns rules m r s act said n q u → IsEnd id act
-  ends (Woke wakes) said t = may_wait t.1
-  ends (Timed moment) said t = let at = t.1 in cc
-  ends (Late k) said t = let at = t.0 in cc
-  ends (Began wake) said t = rests t.1
-  ends (Roused k) said t = rests t.1
-  ends (Worked note) said t = calm t.2.calm
-  ends (Came k door) said t = let at = t.0.door in cc
-  ends (NoneCame door) said t = let at = t.1.door in cc
-  ends (Crowded door) said t = let at = t.1.none.door in cc
-  ends (Displaced k) said t = let at = t.0.1.door in cc
-  ends (Listened door) said t = let at = t.1.door in cc
-  ends (InUse k) said t = let at = t.1.door in cc
-  ends (Heard k piece) said t = tasks k t.count Hear t.wanted
-  ends (ReadBlocked k) said t = reads k Free u.turn t.1
-  ends (Over k) said t = reads k (Leaving k (kind_of (client_of s k))) u.turn t.1
-  ends (Sent k octets) said t = tasks k t.1.0 Send t.1.1
-  ends (WriteBlocked k) said t = tasks k t.1.0 Send t.1.1
-  ends (Lost k) said t = fails k (Leaving k (kind_of (client_of s k))) u.turn t.1
-  ends (Noted k note) said t = tasks k t.1.0 Step t.1.1
-  ends (Waits k) said t = tasks k t.1.0 Rest t.1.1
-  ends (Full k) said t = lacks k t.1
-  ends (Again k) said t = yields k t.1
-  ends (Shut k) said t = tasks k t.1.0 HangUp t.1.1
-  ends (Dropped k count) said t = tasks k t.1.0 Drain t.1.1
-  ends (Ended k) said t = may_end k t.2.0 t.2.1
+  pub ends : s.turn ≡ Leaving id kind → (act : Act N) (said : List ℕ) → Turns rules m r s act said n q u → IsEnd id act
+  ends leaving act said t = end_by id kind s.turn leaving act (follows rules m n r q s u (subst IsBound (sym leaving) tt) act said t)
+
+  -- of one for which memory was lacking that is said
+  pub fulls : s.turn ≡ Stuffed id kind → (act : Act N) (said : List ℕ) → Turns rules m r s act said n q u → IsFull id act
+  fulls stuffed act said t = full_by id kind s.turn stuffed act (follows rules m n r q s u (subst IsBound (sym stuffed) tt) act said t)
 
 -- ---- a step is made of one that is open, to which all is sent and of which one is wanted
 

@@ -1,5 +1,5 @@
 -- What acts make of accounts and sessions, and what they say of one connection.
-use Rattle.std.specs.Prelude.{◌≡◌, ℕ, cond, nat_lt, List, [], ◌∷◌, ◌++◌, if◌then◌else◌}
+use Rattle.std.specs.Prelude.{◌≡◌, ◌⊎◌, ℕ, true, cond, nat_lt, List, [], ◌∷◌, ◌++◌, if◌then◌else◌}
 use Rattle.mailstore.specs.Account.{Accounts}
 use Rattle.mailengine.specs.World.{World, Next}
 use Rattle.mailengine.specs.declared.answer.Answer.{Answer}
@@ -7,8 +7,9 @@ use Rattle.mailengine.specs.declared.event.Event.{Event}
 use Rattle.mailengine.specs.declared.event.Event.TheVariants.{Open, Give, Close}
 use Rattle.wires.specs.Talk.{same}
 use Rattle.wires.specs.declared.act.Act.{Act}
-use Rattle.wires.specs.declared.act.Act.TheVariants.{Timed, Late, Displaced, Came, Heard, Sent, Noted, Ended}
+use Rattle.wires.specs.declared.act.Act.TheVariants.{Timed, Late, Displaced, Came, Heard, Sent, Noted, Full, Ended}
 use Rattle.sieveddaemon.specs.Desk.{DoneAt}
+use Rattle.sieveddaemon.specs.Places.{is_out}
 use Rattle.sieveddaemon.specs.Waiting.{Allows, waits_behind, said_with, greeting, idle}
 use Rattle.sieveddaemon.specs.declared.note.Note.{Note}
 use Rattle.sieveddaemon.specs.declared.note.Note.TheVariants.{Did, Freed}
@@ -24,17 +25,28 @@ LeadsBy w (Freed event answer) v =
     (v.accounts ≡ w.accounts) × ((accounts : Accounts) → Next (record w { accounts = accounts }) event answer (record v { accounts = accounts }))
 LeadsBy w _ v = v ≡ w
 
--- who comes opens a session, what is heard is given to it, who goes closes it: each is an event, with some answer
-abbrev pub Leads : World → Act Note → World → Type 0
-Leads w (Came id kind) v = (answer : Answer) × Next w (Open id) answer v
-Leads w (Heard id piece) v = (answer : Answer) × Next w (Give id piece) answer v
-Leads w (Ended id) v = (answer : Answer) × Next w (Close id) answer v
-Leads w (Noted id note) v = LeadsBy w note v
-Leads w _ v = v ≡ w
+-- memory was lacking for a connection: what follows says so at once, where something follows
+abbrev pub LacksThen : ℕ → List (Act Note) → Type 0
+LacksThen id [] = Unit {0}
+LacksThen id (Full n ∷ more) = n ≡ id
+LacksThen id (act ∷ more) = ⊥
+
+-- an event of a connection was made, or memory was lacking for it
+abbrev pub IsMadeOr : Answer → ℕ → List (Act Note) → Type 0
+IsMadeOr answer id more = (is_out answer ≡ true) ⊎ LacksThen id more
+
+-- who comes opens a session, what is heard is given to it, who goes closes it: each is an event, and none is passed over, but where memory
+-- was lacking, and then that connection ends. `more` follows
+abbrev pub Leads : World → Act Note → List (Act Note) → World → Type 0
+Leads w (Came id kind) more v = (answer : Answer) × IsMadeOr answer id more × Next w (Open id) answer v
+Leads w (Heard id piece) more v = (answer : Answer) × IsMadeOr answer id more × Next w (Give id piece) answer v
+Leads w (Ended id) more v = (answer : Answer) × Next w (Close id) answer v
+Leads w (Noted id note) more v = LeadsBy w note v
+Leads w _ more v = v ≡ w
 
 abbrev pub LeadsOn : World → List (Act Note) → World → Type 0
 LeadsOn w [] v = v ≡ w
-LeadsOn w (act ∷ acts) v = (mid : World) × Leads w act mid × LeadsOn mid acts v
+LeadsOn w (act ∷ acts) v = (mid : World) × Leads w act acts mid × LeadsOn mid acts v
 
 -- the same as a list of events
 abbrev pub events_by : Note → List Event

@@ -11,7 +11,7 @@ use Rattle.mailengine.specs.declared.event.Event.TheVariants.{Open, Give, Close}
 use Rattle.wires.specs.Rules.{Rules}
 use Rattle.wires.specs.Talk.{after_span, same}
 use Rattle.sieveddaemon.specs.Desk.{StillShows, IsDone, NothingDone}
-use Rattle.sieveddaemon.specs.Places.{client_at, want_of, due_of, new_place, place_given, place_behind, renewed, is_user}
+use Rattle.sieveddaemon.specs.Places.{client_at, want_of, due_of, new_place, place_given, place_behind, renewed, is_out, is_user}
 use Rattle.sieveddaemon.specs.Waiting.{Allows, IsDue, said_with, greeting, idle}
 use Rattle.sieveddaemon.specs.declared.daemon.Daemon.{Daemon}
 use Rattle.sieveddaemon.specs.declared.daemon.Holding.{Holding}
@@ -50,18 +50,22 @@ pub record Knows (d : Daemon) (id : ℕ) (place : Option Place) (e : Daemon) : T
 abbrev pub Happened : Event → Daemon → Daemon → Type 0
 Happened event d e = (answer : Answer) × IsSessionEvent event answer d.clients.sessions e.clients.sessions
 
+-- the same, and it was made
+abbrev pub Made : Event → Daemon → Daemon → Type 0
+Made event d e = (answer : Answer) × (is_out answer ≡ true) × IsSessionEvent event answer d.clients.sessions e.clients.sessions
+
 -- ---- connections come, say something, and go
 
 -- one is greeted, and its session begins
 pub record Opens (d : Daemon) (now id : ℕ) (said : List ℕ) (e : Daemon) : Type 0 where
   pub says : said ≡ greeting
-  pub event : Happened (Open id) d e
+  pub event : Made (Open id) d e
   pub place : Knows d id (Some (new_place now)) e
 
 -- octets of one join its session, and nothing is said
 pub record Gives (d : Daemon) (now id : ℕ) (piece said : List ℕ) (e : Daemon) : Type 0 where
   pub silent : said ≡ []
-  pub event : Happened (Give id piece) d e
+  pub event : Made (Give id piece) d e
   pub before : Place
   pub was : place_at d id ≡ Some before
   pub client : Client

@@ -1,6 +1,7 @@
 //! A daemon's life.
 ghost use Rattle.std.specs.Prelude.{IsTrue, OnOk, OnErr};
-ghost use Rattle.wires.specs.Life.{AddsIf};
+ghost use Rattle.wires.specs.Life.{AddsIf, LivesIf};
+ghost use Rattle.sieveddaemon.specs.DaemonRules.{daemon_rules};
 ghost use Rattle.sieveddaemon.specs.Headline.{Serves};
 
 use crate::daemon::Daemon;
@@ -23,6 +24,7 @@ pub fn serve<O: Sockets + Clock + Desk>(
 ) -> Result<(), Fault>
     ensures kept { IsTrue (O.tells outside.new) → IsTrue (O.tells outside.old) }
     ensures passed { OnOk result (AddsIf O.tells O.seen outside.old acts outside.new) }
+    ensures lives { LivesIf O.tells O.seen O.rest (daemon_rules O.shows) outside.old daemon.old service.old outside.new daemon.new service.new }
     ensures headline { Serves O.tells O.seen O.rest O.shows outside.old daemon.old service.old outside.new daemon.new }
     ensures broke { OnErr result (IsTrue (O.broken outside.new)) }
 {

@@ -30,6 +30,6 @@ returns-in-Ok-Some-clause-ok c =
     let put : tree.Updates nat_cmp c.args.daemon.now.places c.insert.new.self c.args.id (Some (new_place c.args.now)) = went_well c.insert.result (sym c.is_err.ensures.value ∙ c.if-is_err.false) c.insert.ensures.updates in
     record {
       says = c.octets_of.ensures ∙ greeted c.args.id c.in-Ok-Some.answer c.args.daemon.now.clients.sessions c.apply_free.new.clients.sessions out made;
-      event = (c.in-Ok-Some.answer, made);
+      event = (c.in-Ok-Some.answer, out, made);
       place = record { places = put.0; holding = refl };
     }

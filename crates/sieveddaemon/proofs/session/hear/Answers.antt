@@ -17,13 +17,14 @@ returns-then-not-is_out-clause-err c =
 
 pub returns-clause-ok : goal.returns-clause-ok
 returns-clause-ok c =
+    let out : is_out c.give.result ≡ true = search rules in
     let there : true ≡ is_some (tree.get nat_cmp c.args.daemon.now.places c.args.id) = search rules in
     let place = some_there (tree.get nat_cmp c.args.daemon.now.places c.args.id) there in
     let session : tree.get nat_cmp c.args.daemon.now.clients.sessions c.args.id ≡ Some c.in-Some.session.now = search rules in
     let begins : c.unread_len-begins.result == 0 ≡ (length c.in-Some.session.now.client.unread == 0) = ap (λ n. n == 0) c.unread_len-begins.ensures in
     record {
       silent = refl;
-      event = (c.give.result, c.give.ensures);
+      event = (c.give.result, out, c.give.ensures);
       before = place.0;
       was = place.1;
       client = c.in-Some.session.now.client;
