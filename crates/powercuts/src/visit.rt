@@ -40,10 +40,21 @@ pub fn open_files(alloc: Global, files: CutFiles, errand: Errand<'_>) -> (Visit,
     match Connection::open_files(alloc, files, Options::new(1)) {
         Err((_, left)) => (none, left.into_files()),
         Ok(conn) => {
-            let (visit, conn) = visited(alloc, conn, errand);
-            (visit, conn.into_store().close())
+            let (visit, store) = run_errand(alloc, conn, errand);
+            (visit, store.close())
         }
     }
+}
+
+/// Does what is to be done, and gives the store of the connection back. No other generic code is called at a store over a file.
+fn run_errand<S: Alter + Drop>(
+    alloc: Global,
+    conn: Connection<S>,
+    errand: Errand<'_>,
+) -> (Visit, S) {
+    let (visit, conn) = visited(alloc, conn, errand);
+    let store = conn.into_store();
+    (visit, store)
 }
 
 fn visited<S: Alter>(
