@@ -228,24 +228,28 @@ DeniedAtEnd Denied left fault = Denied fault × IsAtEnd left
 -- whoever denies the store at a path, why a sink refused, the clock, what was to be read and what is left of it, whether a sink tells what it keeps and
 -- what that was and is, and the output before and after
 module _ (Denied : List ℕ → Fault → Type 0) (Sunk : SinkError → Type 0) (clock : Option ℕ) (given left : Option (List ℕ)) (tells : Bool) (had has : List (List ℕ)) (out_old out_new : Option (List ℕ)) where
-  -- each word does its own work; only `init` makes a store, and only `drain` moves messages into the sink
+  -- no message came to the sink, and nothing of the input was read
+  abbrev pub Idle : Type 0
+  Idle = GrowsBy tells had has [] × (left ≡ given)
+
+  -- each word does its own work; only `init` makes a store, only `drain` moves messages into the sink, and only `adduser` and `deliver` read
   abbrev pub Does : Subcommand → Result (Unit {0}) Fault → Database → Database → Type 0
-  Does (word.Init a) result old new = GrowsBy tells had has [] × DoesInit (Denied a.location.path.now) out_old out_new result old new
+  Does (word.Init a) result old new = Idle × DoesInit (Denied a.location.path.now) out_old out_new result old new
   Does (word.AddUser a) result old new =
       GrowsBy tells had has [] × DoesEvent InputFailed (IsNoSalt a.salt.now) (DeniedAtEnd (Denied a.location.path.now) left) (Adds a.salt.now a.name.now a.address.now given) out_old out_new result old new
   Does (word.Deliver a) result old new =
       GrowsBy tells had has []
       × DoesEvent (PostFailed (option_copied a.at) clock) (HasNoNumber (option_copied a.at)) (DeniedAtEnd (Denied a.location.path.now) left) (Posts a.from.now a.to.now (option_copied a.at) a.user.now clock given) out_old out_new result old new
-  Does (word.Done a) result old new = GrowsBy tells had has [] × DoesEvent ⊥ (IsNoNumber a.id.now) (Denied a.location.path.now) (Dequeues a.user.now a.id.now) out_old out_new result old new
-  Does (word.Drain a) result old new = HasDrained Sunk (Denied a.location.path.now) a tells had has out_old out_new result old new
-  Does (word.Folders a) result old new = GrowsBy tells had has [] × DoesFolders (Denied a.location.path.now) out_old out_new a.user.now a.directories (option_copied a.separator) result old new
+  Does (word.Done a) result old new = Idle × DoesEvent ⊥ (IsNoNumber a.id.now) (Denied a.location.path.now) (Dequeues a.user.now a.id.now) out_old out_new result old new
+  Does (word.Drain a) result old new = (left ≡ given) × HasDrained Sunk (Denied a.location.path.now) a tells had has out_old out_new result old new
+  Does (word.Folders a) result old new = Idle × DoesFolders (Denied a.location.path.now) out_old out_new a.user.now a.directories (option_copied a.separator) result old new
   Does (word.Show a) result old new =
-      GrowsBy tells had has [] × DoesRead (IsNoNumber a.number.now) (Denied a.location.path.now) a.user.now (ShowsMessage a.folder.now a.number.now) (LacksMessage a.folder.now a.number.now) out_old out_new result old new
-  Does (word.Queue a) result old new = GrowsBy tells had has [] × DoesQueue (Denied a.location.path.now) out_old out_new a.user.now (option_copied a.id) result old new
-  Does (word.Notices a) result old new = GrowsBy tells had has [] × DoesRead ⊥ (Denied a.location.path.now) a.user.now ListsNotices LacksNothing out_old out_new result old new
-  Does (word.Try a) result old new = GrowsBy tells had has [] × DoesNothing out_old out_new result old new
-  Does (word.Serve a) result old new = GrowsBy tells had has [] × DoesNothing out_old out_new result old new
-  Does (word.Session a) result old new = GrowsBy tells had has [] × DoesNothing out_old out_new result old new
+      Idle × DoesRead (IsNoNumber a.number.now) (Denied a.location.path.now) a.user.now (ShowsMessage a.folder.now a.number.now) (LacksMessage a.folder.now a.number.now) out_old out_new result old new
+  Does (word.Queue a) result old new = Idle × DoesQueue (Denied a.location.path.now) out_old out_new a.user.now (option_copied a.id) result old new
+  Does (word.Notices a) result old new = Idle × DoesRead ⊥ (Denied a.location.path.now) a.user.now ListsNotices LacksNothing out_old out_new result old new
+  Does (word.Try a) result old new = Idle × DoesNothing out_old out_new result old new
+  Does (word.Serve a) result old new = Idle × DoesNothing out_old out_new result old new
+  Does (word.Session a) result old new = Idle × DoesNothing out_old out_new result old new
 
 -- the store that a word works on, and for `drain` the Maildir, are those that it names
 abbrev pub Reaches : (List ℕ → Type 0) → (List ℕ → Type 0) → Subcommand → Type 0
@@ -322,7 +326,7 @@ module _ (Denied : List ℕ → Fault → Type 0) (Sunk : SinkError → Type 0) 
   abbrev pub RunsAs : Result Subcommand ReadError → Type 0
   RunsAs (Ok (word.Try a)) = Runs (envelope_with a.from.now a.to.now) given out_old out_new err_old err_new status × Untouched tells had has old new
   RunsAs (Ok asked) = Works (λ ending. Does Denied Sunk clock given left tells had has out_old out_new asked ending old new) (Reaches Given At asked) err_old err_new status
-  RunsAs (Err error) = IsUnread error out_old out_new err_old err_new status × Untouched tells had has old new
+  RunsAs (Err error) = IsUnread error out_old out_new err_old err_new status × Untouched tells had has old new × (left ≡ given)
 
   -- a run of the program with these words
   abbrev pub RunsWords : CommandLine → Type 0

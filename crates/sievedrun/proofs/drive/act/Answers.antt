@@ -1,5 +1,5 @@
 -- Each word does its own work.
-use Rattle.std.proofs.Common.{Result, Ok, Err, OnOk, subst, sym}
+use Rattle.std.proofs.Common.{Result, Ok, Err, OnOk, refl, subst, sym}
 use Rattle.sievedrun.specs.declared.fault.Fault.{Fault}
 use Rattle.sievedrun.specs.Draining.{HasRefused}
 use Rattle.sievedrun.specs.Serving.{HasDenied, HasGiven}
@@ -15,7 +15,7 @@ pub returns-in-Init-clause-does : goal.returns-in-Init-clause-does
 returns-in-Init-clause-does g c tells =
     let kept = g.T.MailSink.kept c.args.sink.now in
     subst (λ asked. Does (HasDenied g.K.Keeper.refuses) (HasRefused g.T.MailSink.refuses) c.args.clock (g.R.Read.remaining c.args.input.now) (g.R.Read.remaining c.args.input.now) g.T.MailSink.tells kept kept (g.W.Write.contents c.args.output.now) (g.W.Write.contents c.run_init.new.output) asked c.run_init.result
-    (g.K.Keeper.holds c.args.keeper.now) (g.K.Keeper.holds c.run_init.new.keeper)) (sym c.in-Init.is) (grown_none g.T.MailSink.tells kept, c.run_init.ensures.does tells)
+    (g.K.Keeper.holds c.args.keeper.now) (g.K.Keeper.holds c.run_init.new.keeper)) (sym c.in-Init.is) ((grown_none g.T.MailSink.tells kept, refl), c.run_init.ensures.does tells)
 
 pub returns-in-Init-clause-reaches : goal.returns-in-Init-clause-reaches
 returns-in-Init-clause-reaches g c =
@@ -45,7 +45,7 @@ pub returns-in-Folders-clause-does : goal.returns-in-Folders-clause-does
 returns-in-Folders-clause-does g c tells =
     let kept = g.T.MailSink.kept c.args.sink.now in
     subst (λ asked. Does (HasDenied g.K.Keeper.refuses) (HasRefused g.T.MailSink.refuses) c.args.clock (g.R.Read.remaining c.args.input.now) (g.R.Read.remaining c.args.input.now) g.T.MailSink.tells kept kept (g.W.Write.contents c.args.output.now) (g.W.Write.contents c.run_folders.new.output) asked c.run_folders.result
-    (g.K.Keeper.holds c.args.keeper.now) (g.K.Keeper.holds c.run_folders.new.keeper)) (sym c.in-Folders.is) (grown_none g.T.MailSink.tells kept, c.run_folders.ensures.does tells)
+    (g.K.Keeper.holds c.args.keeper.now) (g.K.Keeper.holds c.run_folders.new.keeper)) (sym c.in-Folders.is) ((grown_none g.T.MailSink.tells kept, refl), c.run_folders.ensures.does tells)
 
 pub returns-in-Folders-clause-reaches : goal.returns-in-Folders-clause-reaches
 returns-in-Folders-clause-reaches g c =
@@ -55,7 +55,7 @@ pub returns-in-Show-clause-does : goal.returns-in-Show-clause-does
 returns-in-Show-clause-does g c tells =
     let kept = g.T.MailSink.kept c.args.sink.now in
     subst (λ asked. Does (HasDenied g.K.Keeper.refuses) (HasRefused g.T.MailSink.refuses) c.args.clock (g.R.Read.remaining c.args.input.now) (g.R.Read.remaining c.args.input.now) g.T.MailSink.tells kept kept (g.W.Write.contents c.args.output.now) (g.W.Write.contents c.run_show.new.output) asked c.run_show.result
-    (g.K.Keeper.holds c.args.keeper.now) (g.K.Keeper.holds c.run_show.new.keeper)) (sym c.in-Show.is) (grown_none g.T.MailSink.tells kept, c.run_show.ensures.does tells)
+    (g.K.Keeper.holds c.args.keeper.now) (g.K.Keeper.holds c.run_show.new.keeper)) (sym c.in-Show.is) ((grown_none g.T.MailSink.tells kept, refl), c.run_show.ensures.does tells)
 
 pub returns-in-Show-clause-reaches : goal.returns-in-Show-clause-reaches
 returns-in-Show-clause-reaches g c =
@@ -65,7 +65,7 @@ pub returns-in-Queue-clause-does : goal.returns-in-Queue-clause-does
 returns-in-Queue-clause-does g c tells =
     let kept = g.T.MailSink.kept c.args.sink.now in
     subst (λ asked. Does (HasDenied g.K.Keeper.refuses) (HasRefused g.T.MailSink.refuses) c.args.clock (g.R.Read.remaining c.args.input.now) (g.R.Read.remaining c.args.input.now) g.T.MailSink.tells kept kept (g.W.Write.contents c.args.output.now) (g.W.Write.contents c.run_queue.new.output) asked c.run_queue.result
-    (g.K.Keeper.holds c.args.keeper.now) (g.K.Keeper.holds c.run_queue.new.keeper)) (sym c.in-Queue.is) (grown_none g.T.MailSink.tells kept, c.run_queue.ensures.does tells)
+    (g.K.Keeper.holds c.args.keeper.now) (g.K.Keeper.holds c.run_queue.new.keeper)) (sym c.in-Queue.is) ((grown_none g.T.MailSink.tells kept, refl), c.run_queue.ensures.does tells)
 
 pub returns-in-Queue-clause-reaches : goal.returns-in-Queue-clause-reaches
 returns-in-Queue-clause-reaches g c =
@@ -75,7 +75,7 @@ pub returns-in-Done-clause-does : goal.returns-in-Done-clause-does
 returns-in-Done-clause-does g c tells =
     let kept = g.T.MailSink.kept c.args.sink.now in
     subst (λ asked. Does (HasDenied g.K.Keeper.refuses) (HasRefused g.T.MailSink.refuses) c.args.clock (g.R.Read.remaining c.args.input.now) (g.R.Read.remaining c.args.input.now) g.T.MailSink.tells kept kept (g.W.Write.contents c.args.output.now) (g.W.Write.contents c.run_done.new.output) asked c.run_done.result
-    (g.K.Keeper.holds c.args.keeper.now) (g.K.Keeper.holds c.run_done.new.keeper)) (sym c.in-Done.is) (grown_none g.T.MailSink.tells kept, c.run_done.ensures.does tells)
+    (g.K.Keeper.holds c.args.keeper.now) (g.K.Keeper.holds c.run_done.new.keeper)) (sym c.in-Done.is) ((grown_none g.T.MailSink.tells kept, refl), c.run_done.ensures.does tells)
 
 pub returns-in-Done-clause-reaches : goal.returns-in-Done-clause-reaches
 returns-in-Done-clause-reaches g c =
@@ -85,7 +85,7 @@ pub returns-in-Notices-clause-does : goal.returns-in-Notices-clause-does
 returns-in-Notices-clause-does g c tells =
     let kept = g.T.MailSink.kept c.args.sink.now in
     subst (λ asked. Does (HasDenied g.K.Keeper.refuses) (HasRefused g.T.MailSink.refuses) c.args.clock (g.R.Read.remaining c.args.input.now) (g.R.Read.remaining c.args.input.now) g.T.MailSink.tells kept kept (g.W.Write.contents c.args.output.now) (g.W.Write.contents c.run_notices.new.output) asked c.run_notices.result
-    (g.K.Keeper.holds c.args.keeper.now) (g.K.Keeper.holds c.run_notices.new.keeper)) (sym c.in-Notices.is) (grown_none g.T.MailSink.tells kept, c.run_notices.ensures.does tells)
+    (g.K.Keeper.holds c.args.keeper.now) (g.K.Keeper.holds c.run_notices.new.keeper)) (sym c.in-Notices.is) ((grown_none g.T.MailSink.tells kept, refl), c.run_notices.ensures.does tells)
 
 pub returns-in-Notices-clause-reaches : goal.returns-in-Notices-clause-reaches
 returns-in-Notices-clause-reaches g c =
@@ -95,7 +95,7 @@ pub returns-in-Drain-clause-does : goal.returns-in-Drain-clause-does
 returns-in-Drain-clause-does g c tells =
     let kept = g.T.MailSink.kept c.args.sink.now in
     subst (λ asked. Does (HasDenied g.K.Keeper.refuses) (HasRefused g.T.MailSink.refuses) c.args.clock (g.R.Read.remaining c.args.input.now) (g.R.Read.remaining c.args.input.now) g.T.MailSink.tells kept (g.T.MailSink.kept c.run_drain.new.sink) (g.W.Write.contents c.args.output.now) (g.W.Write.contents c.run_drain.new.output) asked c.run_drain.result
-    (g.K.Keeper.holds c.args.keeper.now) (g.K.Keeper.holds c.run_drain.new.keeper)) (sym c.in-Drain.is) (c.run_drain.ensures.drains tells)
+    (g.K.Keeper.holds c.args.keeper.now) (g.K.Keeper.holds c.run_drain.new.keeper)) (sym c.in-Drain.is) (refl, c.run_drain.ensures.drains tells)
 
 pub returns-in-Drain-clause-reaches : goal.returns-in-Drain-clause-reaches
 returns-in-Drain-clause-reaches g c =

@@ -48,4 +48,4 @@ returns-in-Try-clause-runs g c tells =
 pub returns-in-Err-clause-runs : goal.returns-in-Err-clause-runs
 returns-in-Err-clause-runs g c tells =
     let read = subst (WasRead c.args.words.now) c.in-Err.is c.read.ensures in
-    (Err c.in-Err.error, read, (c.tell_unread.ensures, (grown_none g.T.MailSink.tells (g.T.MailSink.kept c.args.sink.now), refl)))
+    (Err c.in-Err.error, read, (c.tell_unread.ensures, (grown_none g.T.MailSink.tells (g.T.MailSink.kept c.args.sink.now), refl), refl))
