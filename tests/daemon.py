@@ -9,7 +9,7 @@ does a tenth of what is done many times. It needs python3 alone.
 The trials: says, examples, octets, rubbish, silent, fifty, crowd, deaf, guesses, waits, away, fails, rests, killed, growth; without a
 word, all.
 """
-import fcntl, os, random, re, shutil, socket, subprocess, threading, time
+import fcntl, os, random, re, select, shutil, socket, subprocess, threading, time
 import trials
 from hostile import RULES, SESSION, Ledger, memory, said, until_ok
 from managesieve import HERE, SIEVED, Gone, Store, connect, end
@@ -203,16 +203,11 @@ def crowd():
     others = [logged_in(port) for _ in range(49)]
     others.append(logged_in(port))
     farewell = guest.reply()[-1]
-    next_one = connect(port, greeted=False, seconds=1)
-    try:
-        waited = not next_one.incoming.readline()
-    except TimeoutError:
-        waited = True
-    next_one.close()
-    late = connect(port, greeted=False)
+    next_one = connect(port, greeted=False)
+    waited = not select.select([next_one.sock], [], [], 1)[0]
     others[7].close()
-    late.reply()
-    assert late.log_in("alice").startswith(b"OK")
+    next_one.reply()
+    assert next_one.log_in("alice").startswith(b"OK")
     others[8].ask(b"LOGOUT")
     last = connect(port)
     end(server)
