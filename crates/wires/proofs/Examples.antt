@@ -1,17 +1,18 @@
 -- Right cases of the definitions, and near misses.
-use Rattle.std.proofs.Common.{◌≡◌, ℕ, true, false, List, [], ◌∷◌, Option, Some, None, refl, arith}
-use Rattle.wires.specs.declared.act.Act.TheVariants.{Began, Timed, Waits, Roused, Came, Sent, Noted, Ended}
+use Rattle.std.proofs.Common.{◌≡◌, ℕ, ◌-◌, ◌^◌, true, false, List, [], ◌∷◌, Option, Some, None, refl, arith}
+use Rattle.wires.specs.declared.act.Act.TheVariants.{Woke, Began, Timed, Waits, Roused, Came, Sent, Noted, Ended}
 use Rattle.wires.specs.declared.machine.Want.TheVariants as want
 use Rattle.wires.specs.declared.outcome.Wake.{Wake}
 use Rattle.wires.specs.declared.outcome.Wake.TheVariants.{Knock, Ready}
 use Rattle.wires.specs.declared.service.Client.{Client}
+use Rattle.wires.specs.declared.service.Service.{Service}
 use Rattle.wires.specs.declared.service.Phase.TheVariants as phase
 use Rattle.wires.specs.declared.turn.Task.TheVariants.{Send, Hear, Step, Rest, HangUp, Drain, End}
-use Rattle.wires.specs.Moves.{Queues, Waiters, Ticks, Leaves}
+use Rattle.wires.specs.Moves.{Queues, Waiters, Ticks, Marks, Leaves}
 use Rattle.wires.specs.Life.{Move, AreOpen}
 use Rattle.wires.specs.Rules.{Rules}
 use Rattle.wires.specs.Talk.{Sends, Talks, is_late, newcomer, task, task_by}
-use Rattle.wires.specs.Turns.{is_open_of}
+use Rattle.wires.specs.Turns.{is_open_of, numbers_between, came_among}
 
 -- ---- what is to be done
 
@@ -78,6 +79,28 @@ waits_no_more N = refl
 
 never_goes_back : (N : Type 0) → Ticks {N = N} 9 (Timed 8) 9
 never_goes_back N = refl
+
+-- ---- what came since the last wait
+
+numbers_go_round : numbers_between (2 ^ 32 - 1) 1 ≡ 2
+numbers_go_round = refl
+
+the_next_is_kept : (N : Type 0) (s : Service) → Marks {N = N} s (Woke 5 two_told) s.next
+the_next_is_kept N s = refl
+
+-- a near miss: one that comes changes it
+not_by_one_that_comes : (N : Type 0) (s : Service) → s.since ≡ 1 → Marks {N = N} s (Came 1 7) 2 → ⊥
+not_by_one_that_comes N s was is = omega (arith, was, is)
+
+one_that_came : came_among 7 5 6 (newcomer 0 5 7 [] ∷ []) ≡ true
+one_that_came = refl
+
+-- near misses: one from before, and one of another kind
+not_one_from_before : came_among 7 6 6 (newcomer 0 5 7 [] ∷ []) ≡ false
+not_one_from_before = refl
+
+not_one_that_came_elsewhere : came_among 8 5 6 (newcomer 0 5 7 [] ∷ []) ≡ false
+not_one_that_came_elsewhere = refl
 
 -- ---- what is neither sockets nor clock
 

@@ -43,6 +43,11 @@ Numbers next (Came id kind) later = later ≡ after_number id
 Numbers next (InUse id) later = later ≡ after_number id
 Numbers next _ later = later ≡ next
 
+-- the number that is next where a wait ends is kept until the next one ends
+abbrev pub Marks : {N : Type 0} → Service → Act N → ℕ → Type 0
+Marks s (Woke within wakes) later = later ≡ s.next
+Marks s _ later = later ≡ s.since
+
 -- what is neither sockets nor clock is changed by the machine alone, where it notes something
 abbrev pub Leaves : {N R : Type 0} → R → Act N → R → Type 0
 Leaves r (Noted id note) q = Unit {0}
@@ -60,6 +65,7 @@ pub record Moves {M N R : Type 0} (rules : Rules M N R) (m n : Moment M N R) : T
   pub waiters : Waiters m.service.waiting.items act n.service.waiting.items
   pub ticks : Ticks m.service.moment act n.service.moment
   pub numbers : Numbers m.service.next act n.service.next
+  pub marks : Marks m.service act n.service.since
   pub talks : (id : ℕ) → Talks m.service.moment id (client_of m.service id) act said (client_of n.service id)
   pub turns : Turns rules m.machine m.rest m.service act said n.machine n.rest n.service
 

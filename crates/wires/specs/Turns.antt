@@ -1,7 +1,8 @@
 -- Whose turn it is, act by act, and what the machine is asked for.
-use Rattle.std.specs.Prelude.{◌≡◌, ◌⊎◌, ℕ, ◌+◌, ◌%◌, ◌^◌, ◌≤◌, ◌<◌, ◌==◌, Bool, true, false, List, [], length, filter, find}
-use Rattle.std.specs.Prelude.{option_map, if◌then◌else◌, ◌&&◌, Option, Some, None, IsSome}
+use Rattle.std.specs.Prelude.{◌≡◌, ◌⊎◌, ℕ, ◌+◌, ◌-◌, ◌%◌, ◌^◌, ◌≤◌, ◌<◌, ◌==◌, Bool, true, false, List, [], length, filter, find}
+use Rattle.std.specs.Prelude.{nat_lt, not, option_map, if◌then◌else◌, ◌&&◌, Option, Some, None, IsSome}
 use Rattle.std.specs.BTreeMap as tree
+use Rattle.std.specs.List.{list_any}
 use Rattle.wires.specs.declared.act.Act.{Act}
 use Rattle.wires.specs.declared.act.Act.TheVariants.{Woke, Timed, Late, Began, Roused, Worked, Came, NoneCame, Crowded, Displaced}
 use Rattle.wires.specs.declared.act.Act.TheVariants.{Listened, InUse, Heard, ReadBlocked, Over, Sent, WriteBlocked, Lost, Noted}
@@ -41,8 +42,21 @@ abbrev pub turn_by : ℕ → Option Client → Turn
 turn_by id (Some c) = Busy id 0
 turn_by id None = Free
 
+-- how many numbers are given from one number to another; behind the last of all comes 0
+abbrev pub numbers_between : ℕ → ℕ → ℕ
+numbers_between first id = (id + (2 ^ 32 - first)) % 2 ^ 32
+
+-- whether one of that kind is there whose number was given from `since` up to `next`
+abbrev pub came_among : ℕ → ℕ → ℕ → List Client → Bool
+came_among kind since next clients = list_any (λ (c : Client). (c.kind == kind) && nat_lt (numbers_between since c.id) (numbers_between since next)) clients
+
+-- whether one of that kind came since the last wait
+abbrev pub came_since : ℕ → Service → Bool
+came_since kind s = came_among kind s.since s.next (tree.values s.clients)
+
+-- a knock counts only where none of its kind has come since it was told: who knocked may be the one that came
 abbrev pub turn_of : Wake → Service → Turn
-turn_of (Knock kind) s = Door kind true
+turn_of (Knock kind) s = Door kind (not (came_since kind s))
 turn_of (Ready id) s = turn_by id (client_of s id)
 
 -- a connection that is late, the first by number
@@ -114,6 +128,7 @@ pub record Enters {M N R : Type 0} (rules : Rules M N R) (m : M) (s : Service) (
   pub opens : Opens rules m s.moment id kind said n t
   pub others : (other : ℕ) → same id other ≡ false → client_of t other ≡ client_of s other
   pub next : t.next ≡ after_number id
+  pub since : t.since ≡ s.since
   pub ready : t.ready ≡ s.ready
   pub waiting : t.waiting ≡ s.waiting
   pub moment : t.moment ≡ s.moment
@@ -135,6 +150,7 @@ pub record Answered (id count : ℕ) (said : List ℕ) (s t : Service) : Type 0 
   pub turn : t.turn ≡ Busy id (count + 1)
   pub speaks : Alone id (Answers s.moment said) s t
   pub next : t.next ≡ s.next
+  pub since : t.since ≡ s.since
   pub ready : t.ready ≡ s.ready
   pub waiting : t.waiting ≡ s.waiting
   pub moment : t.moment ≡ s.moment
@@ -145,6 +161,7 @@ pub record Given {M N R : Type 0} (rules : Rules M N R) (m : M) (s : Service) (i
   pub goes : Goes (rules.gives m s.moment id piece said n) (rules.lacks m id n) id (kind_of (client_of s id)) count said t.turn
   pub talks : Alone id (MayAnswer s.moment said) s t
   pub next : t.next ≡ s.next
+  pub since : t.since ≡ s.since
   pub ready : t.ready ≡ s.ready
   pub waiting : t.waiting ≡ s.waiting
   pub moment : t.moment ≡ s.moment
@@ -189,6 +206,7 @@ pub record Parted {M N R : Type 0} (rules : Rules M N R) (m : M) (s : Service) (
   pub parting : Parting rules m s id said n t
   pub talks : Alone id (MayPart s.moment said) s t
   pub next : t.next ≡ s.next
+  pub since : t.since ≡ s.since
   pub ready : t.ready ≡ s.ready
   pub waiting : t.waiting ≡ s.waiting
   pub moment : t.moment ≡ s.moment

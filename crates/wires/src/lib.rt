@@ -9,4 +9,3 @@ pub mod outcome;
 pub mod outside;
 pub mod service;
 pub mod turn;
-pub mod unsent;

@@ -4,7 +4,7 @@ ghost use Rattle.std.specs.BTreeMap as tree;
 ghost use Rattle.wires.specs.Moves.{MovesIf, MovesOrIf};
 ghost use Rattle.wires.specs.Talk.{client_of, kind_of, is_open_by, is_quiet, is_late, task, task_by, task_wanted, drained};
 ghost use Rattle.wires.specs.Turns.{Tasks, Enters, Answered, Given, Parted, Yields, MayEnd, Admits, NoPlace, MayWait, Calm, Rests, Quiet};
-ghost use Rattle.wires.specs.Turns.{open_of, is_open_of, makes_room, turn_of, first_late, first_roused, goes_on};
+ghost use Rattle.wires.specs.Turns.{open_of, is_open_of, came_since, makes_room, turn_of, first_late, first_roused, goes_on};
 ghost use Rattle.wires.specs.declared.turn.Turn.TheVariants.{Free, Rested, Waked, Sweep, Door, Busy, Stuffed};
 ghost use Rattle.wires.specs.declared.turn.Task.TheVariants.{Send, Hear, Step, Rest, HangUp, Drain};
 
@@ -13,8 +13,7 @@ use crate::machine::{Machine, Want};
 use crate::outcome::{Accepted, Fault, Input, Output, Wake};
 use crate::outside::{Clock, Sockets};
 use crate::turn::{Task, Turn};
-use crate::unsent::Unsent;
-use octets::Octets;
+use octets::{Octets, Pending};
 use std::alloc::Global;
 use std::collections::{BTreeMap, VecDeque};
 
@@ -53,7 +52,7 @@ pub struct Client {
     /// Of which listener it is.
     pub kind: u32,
     /// What is to be sent.
-    pub unsent: Unsent,
+    pub unsent: Pending,
     pub phase: Phase,
     /// The moment by which it is late with what is to be sent, or dropped.
     pub until: u64,
@@ -73,6 +72,8 @@ pub struct Service {
     pub moment: u64,
     /// The number of the next to come.
     pub next: u32,
+    /// What that was when the last wait ended.
+    pub since: u32,
     pub turn: Turn,
 }
 
@@ -91,6 +92,7 @@ impl Service {
             waiting: Vec::new(alloc),
             moment: 0,
             next: 1,
+            since: 1,
             turn: Turn::Free,
         }
     }
@@ -384,7 +386,7 @@ fn part<O: Sockets + Clock, M: Machine<O>>(
     let Some(client) = service.clients.get_mut(&id) else {
         return;
     };
-    client.unsent = Unsent::from_octets(out);
+    client.unsent = Pending::from_octets(out);
     client.phase = Phase::Closing;
     client.until = service.moment.wrapping_add(MAX_PARTING);
 }
@@ -430,12 +432,21 @@ fn turn_of_wake(service: &Service, wake: Wake) -> Turn
     ensures { result ≡ turn_of wake service.now }
 {
     match wake {
-        Wake::Knock(kind) => Turn::Door(kind, true),
+        Wake::Knock(kind) => Turn::Door(kind, !has_come(service, kind)),
         Wake::Ready(id) => match service.clients.get(&id) {
             Some(_) => Turn::Busy(id, 0),
             None => Turn::Free,
         },
     }
+}
+
+/// Whether one of that kind has come since the last wait, and is there.
+fn has_come(service: &Service, kind: u32) -> bool
+    ensures { result ≡ came_since kind service.now }
+{
+    let given = service.next.wrapping_sub(service.since);
+    service.clients.values().any(|client| client.kind == kind
+        && client.id.wrapping_sub(service.since) < given)
 }
 
 /// The machine does something of its own.
@@ -467,6 +478,7 @@ fn wait_once<O: Sockets + Clock, M: Machine<O>>(
     ensures broke { OnErr result (IsTrue (O.broken outside.new)) }
 {
     outside.wait(machine.patience(), &mut service.ready)?;
+    service.since = service.next;
     service.turn = Turn::Waked;
     Ok(())
 }
@@ -627,7 +639,7 @@ fn admit<O: Sockets + Clock, M: Machine<O>>(
     let client = Client {
         id,
         kind,
-        unsent: Unsent::from_octets(out),
+        unsent: Pending::from_octets(out),
         phase: Phase::Open,
         until: service.moment.wrapping_add(MAX_UNSENT),
     };
@@ -805,7 +817,7 @@ fn answer(service: &mut Service, id: u32, count: u32, said: Octets)
     let Some(client) = service.clients.get_mut(&id) else {
         return;
     };
-    client.unsent = Unsent::from_octets(said);
+    client.unsent = Pending::from_octets(said);
     client.until = service.moment.wrapping_add(MAX_UNSENT);
 }
 

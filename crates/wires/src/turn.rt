@@ -10,7 +10,7 @@ pub enum Turn {
     Waked,
     /// Nobody's: the clock was read, and who is late comes first.
     Sweep,
-    /// That of those who come, of a kind, and whether somebody knocked and none was accepted since.
+    /// That of those who come, of a kind, and whether a wait told that somebody knocks, and none has come since that wait.
     Door(u32, bool),
     /// A connection's, after so many acts of it.
     Busy(u32, u32),
