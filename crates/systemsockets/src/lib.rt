@@ -3,9 +3,11 @@
 #![tactic(auto)]
 
 pub mod listener;
+pub mod place;
 pub mod sockets;
 pub mod stream;
 
 pub use listener::Listener;
+pub use place::{bind_path, inherit};
 pub use sockets::SystemSockets;
 pub use stream::Stream;
