@@ -122,7 +122,7 @@ line_goes r m s count before after reads found turns short unread takes =
 
 -- ---- a recipient is resolved
 
-other_stage : (at : Stage) (sender : List ℕ) (recipients : List (List ℕ)) (told : ℕ) (phase : Phase) → phase ≡ phase_by at sender recipients told → stage_of phase ≡ at
+pub other_stage : (at : Stage) (sender : List ℕ) (recipients : List (List ℕ)) (told : ℕ) (phase : Phase) → phase ≡ phase_by at sender recipients told → stage_of phase ≡ at
 other_stage at sender recipients told phase same = ap stage_of same ∙ stage_by at sender recipients told
 
 pub not_asked : (r : Receiver) (lookup : Lookup) (out : List ℕ) → (r.talk.stage ≡ stage.Asking → ⊥) → Goes (λ d. Resolves d lookup) r r out out

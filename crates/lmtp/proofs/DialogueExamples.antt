@@ -12,7 +12,7 @@ use Rattle.lmtp.specs.Orders.{ReadsOrder}
 use Rattle.lmtp.specs.Paths.{IsPath, is_plain}
 use Rattle.lmtp.specs.Replies.{line_of, said_of}
 use Rattle.lmtp.specs.Texts.{with_end, IsText, IsSentLine, RunsFrom, place_after}
-use Rattle.lmtp.specs.Turns.{Turn, says, is_too_large, mail_turn, rcpt_turn, turn_of, IsTurn, Answers, reply_to, taken_by, Replies, replied, Act, Hears, Says, Tells, Reports, Talks}
+use Rattle.lmtp.specs.Turns.{Turn, says, is_too_large, mail_turn, rcpt_turn, turn_of, IsTurn, Answers, lacks_room, Declines, reply_to, taken_by, Replies, replied, Act, Hears, Says, Tells, Reports, Talks}
 use Rattle.lmtp.specs.declared.name.Names.TheVariants.{Local, Whole}
 use Rattle.lmtp.specs.declared.order.Order.{Order}
 use Rattle.lmtp.specs.declared.order.Order.TheVariants as order
@@ -386,6 +386,24 @@ past_limit = refl
 -- one of 2^64 and more is a size, and too large
 beyond_limit : is_too_large (Some max_size) ≡ true
 beyond_limit = refl
+
+-- ---- room for a message
+
+more_than_there_is_room : lacks_room 100 (Some 101) ≡ true
+more_than_there_is_room = refl
+
+-- near misses: what fits, what no message may have at all, and what isn't announced
+just_room : lacks_room 100 (Some 100) ≡ false
+just_room = refl
+
+left_to_the_limit : lacks_room 100 (Some 33552233) ≡ false
+left_to_the_limit = refl
+
+not_announced : lacks_room 0 None ≡ false
+not_announced = refl
+
+not_in_a_transaction : (room : ℕ) (sender said rest : List ℕ) (e : Dialogue) → Declines room (stands (Opened sender []) rest) said e → ⊥
+not_in_a_transaction room sender said rest e is = let ready = is.ready in cc
 
 -- ---- names
 

@@ -14,6 +14,7 @@ pub mod ParameterLemmas
 pub mod PathLemmas
 pub mod ReadingLemmas
 pub mod ReceiverLemmas
+pub mod RefuseLemmas
 pub mod ReplyLemmas
 pub mod RouteLemmas
 pub mod SkipLemmas

@@ -10,7 +10,7 @@ use Rattle.lmtp.specs.Commands.{word_of, is_unspaced, Argues, IsCommandLine}
 use Rattle.lmtp.specs.Dialogues.{Phase, Dialogue, Item, Command, LongLine, Message}
 use Rattle.lmtp.specs.Orders.{Nothing, Something, ReadsOrder, ReadsName, ReadsSender, ReadsTarget, ReadsAlone}
 use Rattle.lmtp.specs.Paths.{IsPath, FollowsRoute}
-use Rattle.lmtp.specs.Turns.{Turn, says, hello_turn, mail_turn, rcpt_turn, turn_of, IsTurn, Answers, AnswersStand}
+use Rattle.lmtp.specs.Turns.{Turn, says, hello_turn, mail_turn, rcpt_turn, turn_of, IsTurn, Answers, AnswersStand, size_of}
 use Rattle.lmtp.specs.declared.argument.ArgumentFault.{ArgumentFault}
 use Rattle.lmtp.specs.declared.argument.ArgumentFault.TheVariants.{Syntax, Address, Parameter}
 use Rattle.lmtp.specs.declared.order.Order.{Order}
@@ -281,6 +281,61 @@ one_order hello phase line o p first second = elim (by_line line o first) [
         let both = one_command line a.word b.word a.argument b.argument a.is b.is in
         one_by_word hello phase b.word b.argument o p
         (subst (λ x. ReadsBy b.word x o) both.1 (subst (λ w. ReadsBy w a.argument o) both.0 a.reads)) b.reads
+  ]
+]
+
+-- ---- the size that is announced
+
+abbrev size_in : Result Sends ArgumentFault → Option ℕ
+size_in (Ok mail) = mail.size
+size_in (Err fault) = None
+
+sender_size : (argument : List ℕ) (o : Order) → ReadsSender argument o → (r : Result Sends ArgumentFault) × ReadsMail argument r × (size_of o ≡ size_in r)
+sender_size argument (order.Mail mail) is = (Ok (record { from = mail.from.now; size = mail.size }), is, refl)
+sender_size argument (order.Refused reply.BadArgument) is = (Err Syntax, is, refl)
+sender_size argument (order.Refused reply.BadSender) is = (Err Address, is, refl)
+sender_size argument (order.Refused reply.BadParameter) is = (Err Parameter, is, refl)
+sender_size argument other is = absurd is
+
+name_size : (argument : List ℕ) (o : Order) → ReadsName argument o → size_of o ≡ None
+name_size argument (order.Lhlo name) is = refl
+name_size argument (order.Refused reply.BadArgument) is = refl
+name_size argument other is = absurd is
+
+target_size : (argument : List ℕ) (o : Order) → ReadsTarget argument o → size_of o ≡ None
+target_size argument (order.Rcpt address) is = refl
+target_size argument (order.Refused reply.BadArgument) is = refl
+target_size argument (order.Refused reply.BadRecipient) is = refl
+target_size argument (order.Refused reply.BadParameter) is = refl
+target_size argument other is = absurd is
+
+size_by_word : (word : Verb) (argument : List ℕ) (o p : Order) → ReadsBy word argument o → ReadsBy word argument p → size_of o ≡ size_of p
+size_by_word verb.Lhlo argument o p first second = name_size argument o first ∙ sym (name_size argument p second)
+size_by_word verb.Mail argument o p first second =
+    let a = sender_size argument o first in
+    let b = sender_size argument p second in
+    a.2 ∙ (ap size_in (one_mail argument a.0 b.0 a.1 b.1) ∙ sym b.2)
+size_by_word verb.Rcpt argument o p first second = target_size argument o first ∙ sym (target_size argument p second)
+size_by_word verb.Data argument o p first second = ap size_of (one_alone argument order.Data o p first second)
+size_by_word verb.Rset argument o p first second = ap size_of (one_alone argument order.Rset o p first second)
+size_by_word verb.Quit argument o p first second = ap size_of (one_alone argument order.Quit o p first second)
+size_by_word verb.Noop argument o p first second = ap size_of (first ∙ sym second)
+size_by_word verb.Vrfy argument o p first second = ap size_of (first ∙ sym second)
+size_by_word verb.Help argument o p first second = ap size_of (first ∙ sym second)
+size_by_word verb.Helo argument o p first second = ap size_of (first ∙ sym second)
+size_by_word verb.Ehlo argument o p first second = ap size_of (first ∙ sym second)
+
+pub one_size : (line : List ℕ) (o p : Order) → ReadsOrder line o → ReadsOrder line p → size_of o ≡ size_of p
+one_size line o p first second = elim (by_line line o first) [
+  | inl a ↦ elim (by_line line p second) [
+    | inl b ↦ ap size_of (a.1 ∙ sym b.1)
+    | inr b ↦ absurd (a.0 b.word b.argument b.is)
+  ]
+  | inr a ↦ elim (by_line line p second) [
+    | inl b ↦ absurd (b.0 a.word a.argument a.is)
+    | inr b ↦
+        let both = one_command line a.word b.word a.argument b.argument a.is b.is in
+        size_by_word b.word b.argument o p (subst (λ x. ReadsBy b.word x o) both.1 (subst (λ w. ReadsBy w a.argument o) both.0 a.reads)) b.reads
   ]
 ]
 

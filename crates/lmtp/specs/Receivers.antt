@@ -1,12 +1,14 @@
 -- For which dialogue a receiver stands, and what its calls make of that.
-use Rattle.std.specs.Prelude.{◌≡◌, ◌≢◌, ◌⊎◌, ℕ, ◌+◌, ◌<◌, ◌≤◌, Bool, true, false, List, [], ◌∷◌, ◌++◌, length, Result, Ok, Err, IsSome}
+use Rattle.std.specs.Prelude.{◌≡◌, ◌≢◌, ◌⊎◌, ℕ, ◌+◌, ◌<◌, ◌≤◌, Bool, true, false, List, [], ◌∷◌, ◌++◌, length, take, Result, Ok, Err, IsSome}
 use Rattle.std.specs.Borrow.{Bor}
 use Rattle.lmtp.specs.Dialogues.{Phase, Asking, Sending, Over, Dialogue, given, Item, Message, IsFirst, Waits}
 use Rattle.lmtp.specs.Lines.{line_end, HasNoLineEnd, max_line, Finds}
+use Rattle.lmtp.specs.Orders.{ReadsOrder}
 use Rattle.lmtp.specs.Talks.{phase_of, IsSound}
 use Rattle.lmtp.specs.Texts.{StandsFor}
-use Rattle.lmtp.specs.Turns.{Answers, Resolves, Replies, max_text}
+use Rattle.lmtp.specs.Turns.{Answers, Resolves, Replies, max_text, Declines, size_of, lacks_room}
 use Rattle.lmtp.specs.declared.line.Found.TheVariants.{TooLong}
+use Rattle.lmtp.specs.declared.order.Order.{Order}
 use Rattle.lmtp.specs.declared.receiver.Delivery.{Delivery}
 use Rattle.lmtp.specs.declared.receiver.Lookup.{Lookup}
 use Rattle.lmtp.specs.declared.receiver.Next.{Next}
@@ -168,3 +170,14 @@ ComesNext d next.Over = d.phase ≡ Over
 -- a line that comes next was answered
 abbrev pub SaysNext : Receiver → Receiver → List ℕ → List ℕ → Type 0
 SaysNext r s before after = (d : Dialogue) → StandsIn r d → ComesNext d next.Line → DoesFrom (Answers r.talk.hello) d s before after
+
+-- a MAIL for whose size there is no room came next and was refused, or none did and nothing changed
+abbrev pub Refuses : ℕ → Receiver → Receiver → List ℕ → List ℕ → Bool → Type 0
+Refuses room r s before after true = (d : Dialogue) → StandsIn r d → DoesFrom (Declines room) d s before after
+Refuses room r s before after false =
+    (s ≡ r) × (after ≡ before) × ((d : Dialogue) → StandsIn r d → (said : List ℕ) (next : Dialogue) → Declines room d said next → ⊥)
+
+-- whether the line of so many octets that comes next is such a MAIL
+abbrev pub IsOver : ℕ → Receiver → ℕ → Bool → Type 0
+IsOver room r count over =
+    ((r.long ≡ true) × (over ≡ false)) ⊎ ((r.long ≡ false) × ((asked : Order) × ReadsOrder (take count r.unread) asked × (over ≡ lacks_room room (size_of asked))))

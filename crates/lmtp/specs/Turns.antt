@@ -1,5 +1,5 @@
 -- What is answered in a dialogue, and how it goes on: the table of docs/LMTP.md.
-use Rattle.std.specs.Prelude.{◌≡◌, ℕ, nat_le, nat_lt, Bool, false, if◌then◌else◌, List, [], ◌∷◌, ◌++◌, length, Option, Some, None}
+use Rattle.std.specs.Prelude.{◌≡◌, ℕ, nat_le, nat_lt, Bool, true, false, ◌&&◌, if◌then◌else◌, List, [], ◌∷◌, ◌++◌, length, Option, Some, None}
 use Rattle.lmtp.specs.Dialogues.{Phase, Greeted, Ready, Opened, Asking, Sending, Over, Dialogue, given, Item, Command, LongLine, Message, IsFirst}
 use Rattle.lmtp.specs.Orders.{ReadsOrder}
 use Rattle.lmtp.specs.Replies.{line_of, said_of}
@@ -105,6 +105,28 @@ pub record Answers (hello : List ℕ) (d : Dialogue) (said : List ℕ) (e : Dial
   pub takes : IsTurn hello d.phase item turn
   pub told : said ≡ turn.said
   pub leaves : e ≡ record { phase = turn.phase; unread = rest }
+
+-- the size that a MAIL announces
+abbrev pub size_of : Order → Option ℕ
+size_of (order.Mail mail) = mail.size
+size_of asked = None
+
+-- more is announced than there is room for, and no more than a message may have
+abbrev pub lacks_room : ℕ → Option ℕ → Bool
+lacks_room room None = false
+lacks_room room (Some size) = nat_lt room size && nat_le size max_text
+
+-- where a message of so many octets has room, the MAIL that comes first and may come now announces more: it is taken off and refused
+pub record Declines (room : ℕ) (d : Dialogue) (said : List ℕ) (e : Dialogue) : Type 0 where
+  pub line : List ℕ
+  pub rest : List ℕ
+  pub asked : Order
+  pub ready : d.phase ≡ Ready
+  pub first : IsFirst d (Command line) rest
+  pub reads : ReadsOrder line asked
+  pub lacks : lacks_room room (size_of asked) ≡ true
+  pub told : said ≡ line_of reply.NoRoom
+  pub leaves : e ≡ record d { unread = rest }
 
 -- the reply to a recipient
 abbrev pub reply_to : Lookup → Reply

@@ -1,12 +1,13 @@
 //! The server's side of a dialogue.
-ghost use Rattle.std.specs.Prelude.{◌≡◌, ◌≢◌, ◌⊎◌, ◌↔◌, ◌++◌, true, IsTrue, IfOk, OnOk, OnErr};
+ghost use Rattle.std.specs.Prelude.{◌≡◌, ◌≢◌, ◌⊎◌, ◌↔◌, ◌≤◌, length, ◌++◌, true, IsTrue, IfOk, OnOk, OnErr};
 ghost use Rattle.lmtp.specs.Dialogues.{Dialogue, new_dialogue};
 ghost use Rattle.lmtp.specs.Lines.{Finds};
 ghost use Rattle.lmtp.specs.Receivers as s;
 ghost use Rattle.lmtp.specs.Replies as r;
-ghost use Rattle.lmtp.specs.Turns.{Answers, Resolves, Replies, reply_to};
+ghost use Rattle.lmtp.specs.Turns.{Answers, Resolves, Replies, reply_to, lacks_room, size_of as spec_size};
 
 use crate::line::{Found, first_line, skip_line};
+use crate::order::{Order, read_order};
 use crate::recipients::Recipients;
 use crate::reply::{Outcome, Reply, capabilities, greeting};
 use crate::talk::{MAX_TEXT, Talk};
@@ -206,6 +207,52 @@ impl Receiver {
         Ok(())
     }
 
+    /// Where the line that comes next is a MAIL which may come now, and which announces more than `room` octets (RFC 1870), it is taken off and
+    /// refused for lack of room (452 4.3.1), and the answer is true; else nothing changes. One that announces more than a message may have
+    /// is left to `answer`, and so is one that announces nothing.
+    ///
+    /// Lack of memory is the only error; nothing changes then.
+    pub fn refuse(&mut self, room: u64, out: &mut Octets) -> Result<bool, AllocError>
+        ensures ok { IfOk result (λ did. s.Refuses room self.old self.new out.old out.new did) }
+        ensures hello { self.new.talk.hello ≡ self.old.talk.hello }
+        ensures err { OnErr result ((self.new ≡ self.old) × (out.new ≡ out.old)) }
+    {
+        match self.talk.stage {
+            Stage::Ready => self.refuse_line(room, out),
+            _ => Ok(false),
+        }
+    }
+
+    fn refuse_line(&mut self, room: u64, out: &mut Octets) -> Result<bool, AllocError>
+        requires { self.old.talk.stage ≡ Stage.Ready }
+        ensures ok { IfOk result (λ did. s.Refuses room self.old self.new out.old out.new did) }
+        ensures hello { self.new.talk.hello ≡ self.old.talk.hello }
+        ensures err { OnErr result ((self.new ≡ self.old) × (out.new ≡ out.old)) }
+    {
+        let Found::Line(count) = first_line(self.unread.as_slice()) else {
+            return Ok(false);
+        };
+        if !self.is_over(count, room) {
+            return Ok(false);
+        }
+        out.extend_from_slice(Reply::NoRoom.line())?;
+        self.unread.drop_front(count + 2);
+        self.take_in();
+        Ok(true)
+    }
+
+    // Whether the line of so many octets that comes next is a MAIL for whose size there is no room.
+    fn is_over(&self, count: usize, room: u64) -> bool
+        requires { count ≤ length self.now.unread }
+        ensures { s.IsOver room self.now count result }
+    {
+        if self.long {
+            return false;
+        }
+        let order = read_order(&self.unread.as_slice()[..count]);
+        is_over_room(size_of(order), room)
+    }
+
     /// It is told whether there is an account for the recipient that comes next; where none does, nothing changes.
     ///
     /// Lack of memory is the only error; nothing changes then.
@@ -368,5 +415,25 @@ fn is_too_long(octets: &[u8]) -> bool
     match first_line(octets) {
         Found::TooLong => true,
         _ => false,
+    }
+}
+
+// The size that a MAIL announces.
+fn size_of(order: Order<'_>) -> Option<u64>
+    ensures { result ≡ spec_size order.entry }
+{
+    match order {
+        Order::Mail(mail) => mail.size,
+        _ => None,
+    }
+}
+
+// Whether more is announced than there is room for, and no more than a message may have.
+fn is_over_room(size: Option<u64>, room: u64) -> bool
+    ensures { result ≡ lacks_room room size }
+{
+    match size {
+        Some(size) => room < size && size <= MAX_TEXT as u64,
+        None => false,
     }
 }
