@@ -100,20 +100,20 @@ impl<N: Drop, R: Drop> Stage<N, R> {
     }
 }
 
-/// What a wait tells: of listeners first, then of clients, in the order in which they came.
+/// What a wait tells: of clients first, in the order in which they came, then of listeners.
 fn tell_news(
     alloc: Global,
     knocks: &mut Vec<u32>,
     peers: &mut Vec<Peer>,
 ) -> Result<Vec<Wake>, AllocError> {
     let mut wakes = Vec::new(alloc);
+    for peer in peers.iter_mut() {
+        tell_of(&mut wakes, peer)?;
+    }
     for kind in knocks.as_slice() {
         tell_knock(&mut wakes, *kind, peers)?;
     }
     knocks.clear();
-    for peer in peers.iter_mut() {
-        tell_of(&mut wakes, peer)?;
-    }
     Ok(wakes)
 }
 
