@@ -11,6 +11,7 @@ pub mod KeyLemmas
 pub mod HeadLemmas
 pub mod KeyedLemmas
 pub mod EnterLemmas
+pub mod EachLemmas
 pub mod MapLemmas
 pub mod ReplyLemmas
 pub mod DecodeLemmas

@@ -2,6 +2,7 @@ pub mod Account
 pub mod AccountRows
 pub mod CopyRows
 pub mod Delivery
+pub mod EachRow
 pub mod FirstCells
 pub mod MessageRows
 pub mod Next

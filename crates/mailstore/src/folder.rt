@@ -1,7 +1,7 @@
 //! A user's folders.
 ghost use Rattle.std.specs.Prelude.{◌≡◌, ℕ, false, OnOk, List, map, option_map, slice_get, IfOk, IfErr};
 ghost use Rattle.sqlite.specs.Held.{state};
-ghost use Rattle.mailstore.specs.CopyRows.{AreMessageRows, AreMessagesOf, IsMessageAt, IsNthMessage};
+ghost use Rattle.mailstore.specs.CopyRows.{AreMessagesOf, IsMessageAt, IsNthMessage};
 ghost use Rattle.mailstore.specs.Promises.{Finds, Reads, ReadsEntered};
 ghost use Rattle.mailtables.specs.Connection.{Queries};
 ghost use Rattle.mailstore.specs.Tally.{AreFolderRows, tallied, AreFolders, counted};
@@ -11,7 +11,7 @@ ghost use Rattle.sqlite_value.specs.Order.{column};
 
 use crate::cell::text_at;
 use crate::refusal::Refusal;
-use crate::row::all_from_rows;
+use crate::row::read_each;
 use crate::store::Store;
 use crate::taking::NumberedMessage;
 use mailtables::query;
@@ -24,22 +24,6 @@ use std::alloc::Global;
 pub struct Folder {
     pub name: Octets,
     pub count: u64,
-}
-
-/// The messages of the folder, in the order of their numbers.
-fn find_messages<S: Alter>(
-    conn: &mut Connection<S>,
-    owner: &[u8],
-    folder: &[u8],
-) -> Result<Vec<Row>, Error>
-    requires { conn.old.in_transaction ≡ false }
-    ensures { Queries S.Store (Finds owner.now (AreMessageRows folder.now)) conn.old conn.new result }
-{
-    query(
-        conn,
-        "SELECT message.bytes FROM copy JOIN message ON message.owner = copy.owner AND message.id = copy.id WHERE copy.owner = ?1 AND copy.folder = ?2 ORDER BY copy.n",
-        params![owner, folder],
-    )
 }
 
 /// The folder of each copy, in the order of their octets.
@@ -122,8 +106,12 @@ impl<S: Alter> Store<S> {
     fn folder_of(&mut self, user: &[u8], folder: &[u8]) -> Result<Texts, Refusal>
         ensures { ReadsEntered user.now (AreMessagesOf folder.now) (state S.Store self.old) (state S.Store self.new) result }
     {
-        let rows = find_messages(&mut self.conn, user, folder)?;
-        all_from_rows(self.alloc, &rows)
+        read_each(
+            self.alloc,
+            &mut self.conn,
+            "SELECT message.bytes FROM copy JOIN message ON message.owner = copy.owner AND message.id = copy.id WHERE copy.owner = ?1 AND copy.folder = ?2 ORDER BY copy.n",
+            params![user, folder],
+        )
     }
 
     /// The message of the folder after that many, in the order in which they came; none where there are no more. No other

@@ -1,18 +1,17 @@
 //! The queue without its messages.
-ghost use Rattle.std.specs.Prelude.{◌≡◌, false, map};
+ghost use Rattle.std.specs.Prelude.{◌≡◌, map};
 ghost use Rattle.sqlite.specs.Held.{state};
-ghost use Rattle.mailtables.specs.Connection.{Queries};
-ghost use Rattle.mailstore.specs.Promises.{Finds, Reads, ReadsEntered};
-ghost use Rattle.mailstore.specs.HeadRows.{AreHeadRows, head_of};
+ghost use Rattle.mailstore.specs.Promises.{Reads, ReadsEntered};
+ghost use Rattle.mailstore.specs.HeadRows.{head_of};
 
 use crate::cell::text_at;
 use crate::queue::kind_at;
 use crate::refusal::Refusal;
-use crate::row::{FromRow, all_from_rows};
+use crate::row::{FromRow, read_each};
 use crate::store::Store;
-use mailtables::{Kind, query};
+use mailtables::Kind;
 use octets::{List, Octets};
-use sqlite::{Alter, Connection, Error, Row, params};
+use sqlite::{Alter, Row, params};
 
 /// A message on its way out, without its octets.
 #[derive(Debug, Drop)]
@@ -25,18 +24,6 @@ pub struct Head {
     pub target: Octets,
     /// How many octets the message has.
     pub len: u64,
-}
-
-/// The user's queue, in the order of its numbers, with the lengths of its messages.
-fn find_heads<S: Alter>(conn: &mut Connection<S>, owner: &[u8]) -> Result<Vec<Row>, Error>
-    requires { conn.old.in_transaction ≡ false }
-    ensures { Queries S.Store (Finds owner.now AreHeadRows) conn.old conn.new result }
-{
-    query(
-        conn,
-        "SELECT id, kind, sender, target, length(message) FROM outgoing WHERE owner = ?1 ORDER BY id",
-        params![owner],
-    )
 }
 
 impl FromRow for Head {
@@ -72,7 +59,11 @@ impl<S: Alter> Store<S> {
     fn queue_heads_of(&mut self, user: &[u8]) -> Result<List<Head>, Refusal>
         ensures { ReadsEntered user.now (λ heads a. heads ≡ map head_of a.queue) (state S.Store self.old) (state S.Store self.new) result }
     {
-        let rows = find_heads(&mut self.conn, user)?;
-        all_from_rows(self.alloc, &rows)
+        read_each(
+            self.alloc,
+            &mut self.conn,
+            "SELECT id, kind, sender, target, length(message) FROM outgoing WHERE owner = ?1 ORDER BY id",
+            params![user],
+        )
     }
 }

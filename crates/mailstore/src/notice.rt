@@ -1,17 +1,14 @@
 //! A user's notices.
-ghost use Rattle.std.specs.Prelude.{◌≡◌, false};
+ghost use Rattle.std.specs.Prelude.{◌≡◌};
 ghost use Rattle.sqlite.specs.Held.{state};
-ghost use Rattle.mailtables.specs.Connection.{Queries};
-ghost use Rattle.mailstore.specs.NoticeRows.{AreNoticeRows};
-ghost use Rattle.mailstore.specs.Promises.{Finds, Reads, ReadsEntered};
+ghost use Rattle.mailstore.specs.Promises.{Reads, ReadsEntered};
 
 use crate::cell::text_at;
 use crate::refusal::Refusal;
-use crate::row::{FromRow, all_from_rows};
+use crate::row::{FromRow, read_each};
 use crate::store::Store;
-use mailtables::query;
 use octets::{List, Octets};
-use sqlite::{Alter, Connection, Error, Row, params};
+use sqlite::{Alter, Row, params};
 
 /// A notice to the user: what went wrong with a delivery.
 #[derive(Debug, Drop)]
@@ -19,18 +16,6 @@ pub struct Notice {
     /// The moment of the delivery, in seconds since 1970-01-01 UTC.
     pub moment: u64,
     pub text: Octets,
-}
-
-/// The user's notices, in the order of their numbers.
-fn find_notices<S: Alter>(conn: &mut Connection<S>, owner: &[u8]) -> Result<Vec<Row>, Error>
-    requires { conn.old.in_transaction ≡ false }
-    ensures { Queries S.Store (Finds owner.now AreNoticeRows) conn.old conn.new result }
-{
-    query(
-        conn,
-        "SELECT moment, text FROM notice WHERE owner = ?1 ORDER BY id",
-        params![owner],
-    )
 }
 
 impl FromRow for Notice {
@@ -62,7 +47,11 @@ impl<S: Alter> Store<S> {
     fn notices_of(&mut self, user: &[u8]) -> Result<List<Notice>, Refusal>
         ensures { ReadsEntered user.now (λ notices a. notices ≡ a.notices) (state S.Store self.old) (state S.Store self.new) result }
     {
-        let rows = find_notices(&mut self.conn, user)?;
-        all_from_rows(self.alloc, &rows)
+        read_each(
+            self.alloc,
+            &mut self.conn,
+            "SELECT moment, text FROM notice WHERE owner = ?1 ORDER BY id",
+            params![user],
+        )
     }
 }

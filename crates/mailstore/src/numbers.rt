@@ -1,33 +1,15 @@
 //! The numbers of a folder's copies.
-ghost use Rattle.std.specs.Prelude.{◌≡◌, false, IfErr};
+ghost use Rattle.std.specs.Prelude.{◌≡◌, IfErr};
 ghost use Rattle.sqlite.specs.Held.{state};
-ghost use Rattle.mailtables.specs.Connection.{Queries};
-ghost use Rattle.mailstore.specs.FolderNumbers.{AreAsMany, AreNumberRows, AreNumbersOf};
+ghost use Rattle.mailstore.specs.FolderNumbers.{AreAsMany, AreNumbersOf};
 ghost use Rattle.mailstore.specs.Promises.{FindsAmong, Reads, ReadsOwn};
 ghost use Rattle.mailstore.specs.Refusals.{IsTransient};
 
 use crate::refusal::Refusal;
-use crate::row::{FromRow, all_from_rows};
+use crate::row::{FromRow, read_each};
 use crate::store::Store;
-use mailtables::query;
 use octets::List;
-use sqlite::{Alter, Connection, Error, Row, params};
-
-/// The numbers of the folder's copies, in their order.
-fn find_numbers<S: Alter>(
-    conn: &mut Connection<S>,
-    owner: &[u8],
-    folder: &[u8],
-) -> Result<Vec<Row>, Error>
-    requires { conn.old.in_transaction ≡ false }
-    ensures { Queries S.Store (FindsAmong owner.now (λ rows. AreNumberRows owner.now folder.now rows.items)) conn.old conn.new result }
-{
-    query(
-        conn,
-        "SELECT n FROM copy WHERE owner = ?1 AND folder = ?2 ORDER BY n",
-        params![owner, folder],
-    )
-}
+use sqlite::{Alter, Row, params};
 
 impl FromRow for u64 {
     ghost use Rattle.mailstore.specs.FirstCells.{first_one};
@@ -58,7 +40,11 @@ impl<S: Alter> Store<S> {
         ensures finds { FindsAmong user.now (AreNumbersOf user.now folder.now) (state S.Store self.old) (state S.Store self.new) result }
         ensures named { IfErr result IsTransient }
     {
-        let rows = find_numbers(&mut self.conn, user, folder)?;
-        all_from_rows(self.alloc, &rows)
+        read_each(
+            self.alloc,
+            &mut self.conn,
+            "SELECT n FROM copy WHERE owner = ?1 AND folder = ?2 ORDER BY n",
+            params![user, folder],
+        )
     }
 }

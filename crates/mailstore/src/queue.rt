@@ -6,13 +6,13 @@ ghost use Rattle.sqlite.specs.Held.{state};
 ghost use Rattle.mailstore.specs.Account.{row_with, takes_out};
 ghost use Rattle.mailtables.specs.Connection.{Queries};
 ghost use Rattle.mailstore.specs.Promises.{Finds, Reads, ReadsEntered, WritesUser};
-ghost use Rattle.mailstore.specs.QueueRows.{AreQueueRows, HasOutgoingRow, IsOutgoing};
+ghost use Rattle.mailstore.specs.QueueRows.{HasOutgoingRow, IsOutgoing};
 ghost use Rattle.mailtables.specs.QueueTable.{kind_number};
 ghost use Rattle.mailstore.specs.Refusals.{IsTransient};
 
 use crate::cell::{number, text_at};
 use crate::refusal::Refusal;
-use crate::row::{FromRow, all_from_rows, first_from_row};
+use crate::row::{FromRow, first_from_row, read_each};
 use crate::store::Store;
 use mailtables::{Change, Kind, query};
 use octets::{List, Octets};
@@ -62,18 +62,6 @@ fn cloned(alloc: Global, row: Option<&Outgoing>) -> Result<Option<Outgoing>, Ref
         Some(row) => Ok(Some(row.try_clone(alloc)?)),
         None => Ok(None),
     }
-}
-
-/// The user's queue, in the order of its numbers.
-fn find_queue<S: Alter>(conn: &mut Connection<S>, owner: &[u8]) -> Result<Vec<Row>, Error>
-    requires { conn.old.in_transaction ≡ false }
-    ensures { Queries S.Store (Finds owner.now AreQueueRows) conn.old conn.new result }
-{
-    query(
-        conn,
-        "SELECT id, kind, sender, target, message FROM outgoing WHERE owner = ?1 ORDER BY id",
-        params![owner],
-    )
 }
 
 /// The message of the user's queue with the number.
@@ -139,8 +127,12 @@ impl<S: Alter> Store<S> {
     fn queue_of(&mut self, user: &[u8]) -> Result<List<Outgoing>, Refusal>
         ensures { ReadsEntered user.now (λ queue a. queue ≡ a.queue) (state S.Store self.old) (state S.Store self.new) result }
     {
-        let rows = find_queue(&mut self.conn, user)?;
-        all_from_rows(self.alloc, &rows)
+        read_each(
+            self.alloc,
+            &mut self.conn,
+            "SELECT id, kind, sender, target, message FROM outgoing WHERE owner = ?1 ORDER BY id",
+            params![user],
+        )
     }
 
     /// The message on its way out with the number; none where no row of the queue has it. No other row is read.

@@ -5,12 +5,12 @@ ghost use Rattle.sqlite_value.specs.Order.{column};
 ghost use Rattle.mailstore.specs.Promises.{Finds, Reads, ReadsEntered};
 ghost use Rattle.mailtables.specs.Connection.{Queries};
 ghost use Rattle.mailstore.specs.Refusals.{IsTransient};
-ghost use Rattle.mailstore.specs.ReplyRows.{AreReplies, AreReplyRows, HasMomentRow, IsLastReply};
+ghost use Rattle.mailstore.specs.ReplyRows.{AreReplies, HasMomentRow, IsLastReply};
 ghost use Rattle.sqlite.specs.Held.{state};
 
 use crate::cell::text_at;
 use crate::refusal::Refusal;
-use crate::row::{FromRow, all_from_rows};
+use crate::row::{FromRow, read_each};
 use crate::store::Store;
 use mailtables::query;
 use octets::{List, Octets};
@@ -39,22 +39,6 @@ fn find_moment<S: Alter>(
         conn,
         "SELECT moment FROM reply WHERE owner = ?1 AND handle = ?2 AND sender = ?3",
         params![owner, handle, sender],
-    )
-}
-
-/// The replies to the sender, in the order of the octets of their handles' keys.
-fn find_replies<S: Alter>(
-    conn: &mut Connection<S>,
-    owner: &[u8],
-    sender: &[u8],
-) -> Result<Vec<Row>, Error>
-    requires { conn.old.in_transaction ≡ false }
-    ensures { Queries S.Store (Finds owner.now (AreReplyRows sender.now)) conn.old conn.new result }
-{
-    query(
-        conn,
-        "SELECT handle, moment FROM reply WHERE owner = ?1 AND sender = ?2 ORDER BY handle",
-        params![owner, sender],
     )
 }
 
@@ -130,7 +114,11 @@ impl<S: Alter> Store<S> {
         ensures { ReadsEntered user.now (AreReplies sender.now) (state S.Store self.old) (state S.Store self.new) result }
     {
         let sender = octets::lowered(self.alloc, sender)?;
-        let rows = find_replies(&mut self.conn, user, sender.as_slice())?;
-        all_from_rows(self.alloc, &rows)
+        read_each(
+            self.alloc,
+            &mut self.conn,
+            "SELECT handle, moment FROM reply WHERE owner = ?1 AND sender = ?2 ORDER BY handle",
+            params![user, sender.as_slice()],
+        )
     }
 }

@@ -1,11 +1,18 @@
 //! Values that the rows of a query show.
-ghost use Rattle.std.specs.Prelude.{◌≡◌, map, option_map, slice_get, IfOk, IfErr};
+ghost use Rattle.std.specs.Prelude.{◌≡◌, false, option_map, slice_get, IfOk, IfErr};
 ghost use Rattle.sqlite_value.specs.Order.{Row};
+ghost use Rattle.sqlite.specs.Values.{bound};
+ghost use Rattle.sqlite.specs.Listing.{understood};
+ghost use Rattle.sqlite.specs.Given.{IsPlain};
+ghost use Rattle.mailtables.specs.Schema.{mail_schema};
+ghost use Rattle.mailtables.specs.Connection.{Queries};
 ghost use Rattle.mailstore.specs.Refusals.{IsTransient};
+ghost use Rattle.mailstore.specs.EachRow.{ReadsEach};
 
 use crate::refusal::Refusal;
 use octets::List;
-use sqlite::Row;
+use sqlite::{Alter, Connection, Row};
+use sqlite_value::value::ValueRef;
 use std::alloc::Global;
 
 /// A value that a row shows.
@@ -36,14 +43,28 @@ pub fn first_from_row<T: FromRow>(rows: &[Row]) -> Result<Option<T>, Refusal>
     }
 }
 
-/// The values that the rows show, in their order.
-pub fn all_from_rows<T: FromRow>(alloc: Global, rows: &[Row]) -> Result<List<T>, Refusal>
-    ensures ok { IfOk result (λ all. map T.shows all ≡ map T.cells_of rows.now) }
-    ensures named { IfErr result IsTransient }
+/// The values that the rows of the query's answer show, in their order. Each row is read where it stands: no list of rows
+/// is made. Outside a transaction.
+pub fn read_each<S: Alter, T: FromRow>(
+    alloc: Global,
+    conn: &mut Connection<S>,
+    sql: &str,
+    params: &[ValueRef<'_>],
+) -> Result<List<T>, Refusal>
+    requires outside { conn.old.in_transaction ≡ false }
+    requires plain { IsPlain (understood mail_schema sql.now) }
+    ensures { Queries S.Store (ReadsEach T.shows T.cells_of sql.now (bound params.now)) conn.old conn.new result }
 {
-    let mut all = Vec::with_capacity(alloc, rows.len())?;
-    for row in rows {
+    // Outside a transaction what is seen is what was committed, which this call tells.
+    let _settled = conn.is_autocommit();
+    let mut all = Vec::new(alloc);
+    let mut rows = conn.query(sql, params)?;
+    'rows: for _ in 0..u64::MAX {
+        let Some(row) = rows.next()? else {
+            return Ok(List::from_vec(all));
+        };
         all.push(T::from_row(row)?)?;
     }
-    Ok(List::from_vec(all))
+    // No answer has so many rows.
+    Err(Refusal::Store)
 }

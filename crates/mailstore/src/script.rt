@@ -3,14 +3,14 @@ ghost use Rattle.std.specs.Prelude.{◌≡◌, false, option_map};
 ghost use Rattle.sqlite.specs.Held.{state};
 ghost use Rattle.mailstore.specs.Promises.{Finds, Reads, ReadsEntered, Renames, WritesAccount, WritesUser};
 ghost use Rattle.mailtables.specs.Connection.{Queries};
-ghost use Rattle.mailstore.specs.ScriptRows.{AreNameRows, HasTextAndActive, HasTextRow};
+ghost use Rattle.mailstore.specs.ScriptRows.{HasTextAndActive, HasTextRow};
 ghost use Rattle.mailtables.specs.Cells.{contents};
 ghost use Rattle.mailstore.specs.Account.{deletes_script, keeps_script, other_name, renames_script};
 ghost use Rattle.std.specs.FinMap.{get, keys};
 
 use crate::cell::first_text;
 use crate::refusal::Refusal;
-use crate::row::all_from_rows;
+use crate::row::read_each;
 use crate::store::Store;
 use mailtables::{Change, query};
 use octets::{Octets, Texts};
@@ -29,18 +29,6 @@ fn find_script<S: Alter>(
         conn,
         "SELECT text FROM script WHERE owner = ?1 AND name = ?2",
         params![owner, name],
-    )
-}
-
-/// The names of the scripts, in the order of their octets.
-fn find_names<S: Alter>(conn: &mut Connection<S>, owner: &[u8]) -> Result<Vec<Row>, Error>
-    requires { conn.old.in_transaction ≡ false }
-    ensures { Queries S.Store (Finds owner.now AreNameRows) conn.old conn.new result }
-{
-    query(
-        conn,
-        "SELECT name FROM script WHERE owner = ?1 ORDER BY name",
-        params![owner],
     )
 }
 
@@ -86,8 +74,12 @@ impl<S: Alter> Store<S> {
     pub fn scripts_of(&mut self, user: &[u8]) -> Result<Texts, Refusal>
         ensures { ReadsEntered user.now (λ names a. names ≡ keys a.scripts) (state S.Store self.old) (state S.Store self.new) result }
     {
-        let rows = find_names(&mut self.conn, user)?;
-        all_from_rows(self.alloc, &rows)
+        read_each(
+            self.alloc,
+            &mut self.conn,
+            "SELECT name FROM script WHERE owner = ?1 ORDER BY name",
+            params![user],
+        )
     }
 
     /// Keeps the script under the name, in place of one that has it. What comes of a user without an

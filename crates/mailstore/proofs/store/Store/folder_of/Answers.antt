@@ -1,21 +1,23 @@
-use Rattle.std.proofs.Common.{◌≡◌, ◌∙◌, Ok, Err, Vec, OnOk, IfErr, ap, rules}
-use Rattle.sqlite.specs.Held.{state}
-use Rattle.mailstore.specs.Refusals.{IsTransient}
+use Rattle.std.proofs.Common.{◌≡◌, Ok, rules}
 use Rattle.mailstore.specs.Account.{messages_in}
-use Rattle.mailstore.specs.CopyRows.{AreMessageRows}
+use Rattle.mailtables.proofs.ListLemmas.{pair_key}
+use Rattle.mailtables.specs.CopyTable.{select_folder}
+use Rattle.mailtables.proofs.TextFacts.{select_folder_plain}
+use Rattle.mailstore.specs.declared.refusal.Refusal.{Refusal}
+use Rattle.mailstore.specs.FirstCells.{first_one, text_cells}
+use Rattle.mailstore.specs.CopyRows.{AreMessageRows, AreMessagesOf}
+use Rattle.mailstore.proofs.ReadLemmas.{messages_read}
 use Rattle.mailstore.proofs.DecodeLemmas.{texts_are}
-use Rattle.mailstore.proofs.EnterLemmas.{entered_answer, entered_failed}
+use Rattle.mailstore.proofs.EachLemmas.{reads_entered}
 use Rattle.mailstore.proofs.store.Store.folder_of.Goals as goal
 
-pub returns-in_err-rows : goal.returns-in_err-rows
-returns-in_err-rows g c =
-    let same : c.self.inside.conn ≡ c.args.self.now = search rules in
-    let none : OnOk c.from_residual.result ⊥ = search rules in
-    let transient : IfErr c.from_residual.result IsTransient = search rules in
-    entered_failed c.args.user.now (AreMessageRows c.args.folder.now) (λ messages a. messages ≡ messages_in a.folders c.args.folder.now) (state g.S.Store c.args.self.now) (state g.S.Store c.find_messages.new.conn) c.find_messages.result (rw same at c.find_messages.ensures.finds) c.from_residual.result none transient
+pub read_each-requires-clause-plain : goal.read_each-requires-clause-plain
+read_each-requires-clause-plain g c = select_folder_plain.0
 
 pub returns : goal.returns
 returns g c =
     let same : c.self.inside.conn ≡ c.args.self.now = search rules in
-    entered_answer c.args.user.now (AreMessageRows c.args.folder.now) (λ messages a. messages ≡ messages_in a.folders c.args.folder.now) (state g.S.Store c.args.self.now) (state g.S.Store c.find_messages.new.conn) c.find_messages.result (rw same at c.find_messages.ensures.finds) c.all_from_rows.result c.in_ok-rows.rows c.in_ok-rows.was c.all_from_rows.ensures.named
-    (λ a is. texts_are c.all_from_rows.result c.deref.result.now (messages_in a.folders c.args.folder.now) (c.deref.ensures.value ∙ is) c.all_from_rows.ensures.ok)
+    let user = c.args.user.now in
+    let folder = c.args.folder.now in
+    (rw same at (reads_entered g.S.Store select_folder (pair_key user folder) text_cells first_one c.self.inside.conn c.read_each.new.conn c.read_each.result user (AreMessageRows folder) (AreMessagesOf folder)
+    (λ rows accounts p. messages_read _ _ rows accounts p user folder) (λ rows all a are is. texts_are {E = Refusal} (Ok all) rows (messages_in a.folders folder) is are) (rw (c.params-to_sql.ensures, c.params-to_sql-2.ensures) at c.read_each.ensures))).finds

@@ -1,25 +1,21 @@
-use Rattle.std.proofs.Common.{◌≡◌, ◌∙◌, OnOk, Vec, rules}
-use Rattle.std.specs.declared.alloc.Global.{Global}
-use Rattle.sqlite.specs.Held.{state}
-use Rattle.sqlite_value.specs.Order.{Row}
-use Rattle.mailstore.specs.FolderNumbers.{AreNumberRows, AreNumbersOf}
-use Rattle.mailstore.proofs.AmongLemmas.{among_made, among_failed}
-use Rattle.mailstore.proofs.ListedLemmas.{numbers_are}
+use Rattle.std.proofs.Common.{◌≡◌, Ok, rules}
+use Rattle.mailtables.proofs.ListLemmas.{pair_key}
+use Rattle.mailtables.specs.CopyTable.{select_numbers}
+use Rattle.mailtables.proofs.TextFacts.{select_numbers_plain}
+use Rattle.mailstore.specs.declared.refusal.Refusal.{Refusal}
+use Rattle.mailstore.specs.FirstCells.{first_one}
+use Rattle.mailstore.specs.FolderNumbers.{AreNumberRows, AreNumbersOf, number_cells}
+use Rattle.mailstore.proofs.ListedLemmas.{numbers_are, numbers_read}
+use Rattle.mailstore.proofs.EachLemmas.{finds_among}
 use Rattle.mailstore.proofs.store.Store.numbers_of.Goals as goal
 
-pub returns-in_err-rows-clause-finds : goal.returns-in_err-rows-clause-finds
-returns-in_err-rows-clause-finds g c =
-    let user = c.args.user.now in
-    let folder = c.args.folder.now in
-    let same : c.self.inside.conn ≡ c.args.self.now = search rules in
-    let none : OnOk c.from_residual.result ⊥ = search rules in
-    among_failed user (λ (rows : Vec Row Global). AreNumberRows user folder rows.items) (AreNumbersOf user folder) (state g.S.Store c.args.self.now) (state g.S.Store c.find_numbers.new.conn) c.find_numbers.result (rw same at c.find_numbers.ensures.finds)
-    c.from_residual.result none
+pub read_each-requires-clause-plain : goal.read_each-requires-clause-plain
+read_each-requires-clause-plain g c = select_numbers_plain.0
 
 pub returns-clause-finds : goal.returns-clause-finds
 returns-clause-finds g c =
+    let same : c.self.inside.conn ≡ c.args.self.now = search rules in
     let user = c.args.user.now in
     let folder = c.args.folder.now in
-    let same : c.self.inside.conn ≡ c.args.self.now = search rules in
-    among_made user (λ (rows : Vec Row Global). AreNumberRows user folder rows.items) (AreNumbersOf user folder) (state g.S.Store c.args.self.now) (state g.S.Store c.find_numbers.new.conn) c.find_numbers.result (rw same at c.find_numbers.ensures.finds)
-    c.in_ok-rows.rows c.in_ok-rows.was c.all_from_rows.result (λ own is. numbers_are user folder c.all_from_rows.result c.deref.result.now own (λ a s. c.deref.ensures.value ∙ is a s) c.all_from_rows.ensures.ok)
+    rw same at (finds_among g.S.Store select_numbers (pair_key user folder) number_cells first_one c.self.inside.conn c.read_each.new.conn c.read_each.result user (AreNumberRows user folder) (AreNumbersOf user folder)
+    (λ rows tables h. numbers_read _ _ rows tables h user folder) (λ rows all own are is. numbers_are {E = Refusal} user folder (Ok all) rows own is are) (rw (c.params-to_sql.ensures, c.params-to_sql-2.ensures) at c.read_each.ensures))

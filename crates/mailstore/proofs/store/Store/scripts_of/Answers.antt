@@ -1,21 +1,22 @@
-use Rattle.std.proofs.Common.{◌≡◌, ◌∙◌, Ok, Err, Vec, OnOk, IfErr, ap, rules}
-use Rattle.sqlite.specs.Held.{state}
-use Rattle.mailstore.specs.Refusals.{IsTransient}
+use Rattle.std.proofs.Common.{◌≡◌, Ok, rules}
 use Rattle.std.specs.FinMap.{keys}
+use Rattle.mailtables.proofs.ListLemmas.{owner_key}
+use Rattle.mailtables.specs.ScriptTable.{select_names}
+use Rattle.mailtables.proofs.TextFacts.{select_names_plain}
+use Rattle.mailstore.specs.declared.refusal.Refusal.{Refusal}
+use Rattle.mailstore.specs.FirstCells.{first_one, text_cells}
 use Rattle.mailstore.specs.ScriptRows.{AreNameRows}
+use Rattle.mailstore.proofs.ReadLemmas.{names_read}
 use Rattle.mailstore.proofs.DecodeLemmas.{texts_are}
-use Rattle.mailstore.proofs.EnterLemmas.{entered_answer, entered_failed}
+use Rattle.mailstore.proofs.EachLemmas.{reads_entered}
 use Rattle.mailstore.proofs.store.Store.scripts_of.Goals as goal
 
-pub returns-in_err-rows : goal.returns-in_err-rows
-returns-in_err-rows g c =
-    let same : c.self.inside.conn ≡ c.args.self.now = search rules in
-    let none : OnOk c.from_residual.result ⊥ = search rules in
-    let transient : IfErr c.from_residual.result IsTransient = search rules in
-    entered_failed c.args.user.now AreNameRows (λ names a. names ≡ keys a.scripts) (state g.S.Store c.args.self.now) (state g.S.Store c.find_names.new.conn) c.find_names.result (rw same at c.find_names.ensures.finds) c.from_residual.result none transient
+pub read_each-requires-clause-plain : goal.read_each-requires-clause-plain
+read_each-requires-clause-plain g c = select_names_plain.0
 
 pub returns : goal.returns
 returns g c =
     let same : c.self.inside.conn ≡ c.args.self.now = search rules in
-    entered_answer c.args.user.now AreNameRows (λ names a. names ≡ keys a.scripts) (state g.S.Store c.args.self.now) (state g.S.Store c.find_names.new.conn) c.find_names.result (rw same at c.find_names.ensures.finds) c.all_from_rows.result c.in_ok-rows.rows c.in_ok-rows.was c.all_from_rows.ensures.named
-    (λ a is. texts_are c.all_from_rows.result c.deref.result.now (keys a.scripts) (c.deref.ensures.value ∙ is) c.all_from_rows.ensures.ok)
+    let user = c.args.user.now in
+    (rw same at (reads_entered g.S.Store select_names (owner_key user) text_cells first_one c.self.inside.conn c.read_each.new.conn c.read_each.result user AreNameRows (λ names a. names ≡ keys a.scripts)
+    (λ rows accounts p. names_read _ _ rows accounts p user) (λ rows all a are is. texts_are {E = Refusal} (Ok all) rows (keys a.scripts) is are) (rw (c.params-to_sql.ensures) at c.read_each.ensures))).finds
