@@ -1,10 +1,11 @@
 -- For which dialogue a receiver stands once something was answered.
 use Rattle.std.proofs.Common.{◌≡◌, ℕ, ◌+◌, ◌-◌, true, false, List, [], ◌∷◌, length, take, drop, get_or, inl, inr, refl, sym, ap, ◌∙◌, subst, append-nil}
-use Rattle.lmtp.specs.Dialogues.{Phase, Opened, Asking, Sending, Dialogue, Item, Command, LongLine, Message, Spells, Waits}
+use Rattle.lmtp.specs.Dialogues.{Phase, Opened, Asking, Sending, Dialogue, Item, Command, LongLine, Message, Spells, IsFirst, Waits}
 use Rattle.lmtp.specs.Lines.{Finds}
-use Rattle.lmtp.specs.Receivers.{IsGone, Holds, IsTaken, StandsIn, TakesIn, GoesFrom, Goes, reads_lines, takes_lines}
+use Rattle.lmtp.specs.Receivers.{IsGone, Passes, Holds, IsTaken, StandsIn, TakesIn, GoesFrom, Goes, DoesFrom, Admits, reads_lines, takes_lines, is_line, SaysNext}
 use Rattle.lmtp.specs.Replies.{said_of}
-use Rattle.lmtp.specs.Talks.{phase_by, phase_of, item_by, TakesTurn, Obeys, Reports, resolved_turn, phase_replied, IsTextAfter}
+use Rattle.lmtp.specs.Talks.{phase_by, phase_of, item_by, TakesTurn, Obeys, Does, Reports, resolved_turn, phase_replied, IsTextAfter}
+use Rattle.lmtp.specs.Talks.{Passes as TalkPasses}
 use Rattle.lmtp.specs.Texts.{StandsFor, text_after}
 use Rattle.lmtp.specs.Turns.{Turn, IsTurn, Answers, Resolves, Replies, replied, taken_by, max_text}
 use Rattle.lmtp.specs.declared.line.Found.{Found}
@@ -39,31 +40,46 @@ pub no_line : (r : Receiver) (found : Found) (out : List ℕ) → reads_lines r.
 no_line r found out reads other finds = λ d stands.
     stays (Answers r.talk.hello) r d out (no_answer r.talk.hello d (no_line_in r d found reads stands other finds)) stands
 
--- where no lines are read none is answered
-unread_line : (at : Stage) (sender : List ℕ) (recipients : List (List ℕ)) (told : ℕ) (hello : List ℕ) (item : Item) (octets : List ℕ) (turn : Turn) (phase : Phase)
-    → reads_lines at ≡ false → Spells (phase_by at sender recipients told) item octets → IsTurn hello phase item turn → ⊥
-unread_line stage.Greeted sender recipients told hello item octets turn phase reads spelled is = absurd (cc reads)
-unread_line stage.Ready sender recipients told hello item octets turn phase reads spelled is = absurd (cc reads)
-unread_line stage.Opened sender recipients told hello item octets turn phase reads spelled is = absurd (cc reads)
-unread_line stage.Asking sender recipients told hello item octets turn phase reads spelled is = spelled
-unread_line stage.Sending sender recipients told hello (Message text) octets turn phase reads spelled is = is
-unread_line stage.Sending sender recipients told hello (Command line) octets turn phase reads spelled is = spelled
-unread_line stage.Sending sender recipients told hello LongLine octets turn phase reads spelled is = spelled
-unread_line stage.Over sender recipients told hello item octets turn phase reads spelled is = spelled
+-- where no lines are read none comes
+unread_line : (at : Stage) (sender : List ℕ) (recipients : List (List ℕ)) (told : ℕ) (item : Item) (octets : List ℕ)
+    → reads_lines at ≡ false → is_line item ≡ true → Spells (phase_by at sender recipients told) item octets → ⊥
+unread_line stage.Greeted sender recipients told item octets reads line spelled = absurd (cc reads)
+unread_line stage.Ready sender recipients told item octets reads line spelled = absurd (cc reads)
+unread_line stage.Opened sender recipients told item octets reads line spelled = absurd (cc reads)
+unread_line stage.Asking sender recipients told item octets reads line spelled = spelled
+unread_line stage.Sending sender recipients told (Message text) octets reads line spelled = absurd (cc line)
+unread_line stage.Sending sender recipients told (Command line) octets reads is spelled = spelled
+unread_line stage.Sending sender recipients told LongLine octets reads line spelled = spelled
+unread_line stage.Over sender recipients told item octets reads line spelled = spelled
+
+unread_in : (r : Receiver) (d : Dialogue) (item : Item) (rest : List ℕ) → reads_lines r.talk.stage ≡ false → StandsIn r d → is_line item ≡ true → IsFirst d item rest → ⊥
+unread_in r d item rest reads stands line first =
+    unread_line r.talk.stage r.talk.sender r.talk.recipients r.talk.told item first.octets reads line
+    (subst (λ p. Spells p item first.octets) stands.holds.phase first.spelled)
+
+turn_line : (hello : List ℕ) (phase : Phase) (item : Item) (turn : Turn) → IsTurn hello phase item turn → is_line item ≡ true
+turn_line hello phase (Command line) turn is = refl
+turn_line hello phase LongLine turn is = refl
+turn_line hello phase (Message text) turn is = absurd is
 
 pub no_lines : (r : Receiver) (out : List ℕ) → reads_lines r.talk.stage ≡ false → Goes (Answers r.talk.hello) r r out out
 no_lines r out reads = λ d stands.
     stays (Answers r.talk.hello) r d out
-    (λ octets later is. unread_line r.talk.stage r.talk.sender r.talk.recipients r.talk.told r.talk.hello is.item is.first.octets is.turn d.phase reads
-    (subst (λ p. Spells p is.item is.first.octets) stands.holds.phase is.first.spelled) is.takes)
-    stands
+    (λ octets later is. unread_in r d is.item is.rest reads stands (turn_line r.talk.hello d.phase is.item is.turn is.takes) is.first) stands
+
+pub no_lines_next : (r : Receiver) (out : List ℕ) → reads_lines r.talk.stage ≡ false → SaysNext r r out out
+no_lines_next r out reads = λ d stands comes. absurd (unread_in r d comes.0 comes.1 reads stands comes.3 comes.2)
+
+pub no_line_next : (r : Receiver) (found : Found) (out : List ℕ) → reads_lines r.talk.stage ≡ true → ((count : ℕ) → found ≡ Line count → ⊥) → Finds found r.unread
+    → SaysNext r r out out
+no_line_next r found out reads other finds = λ d stands comes. absurd (no_line_in r d found reads stands other finds comes.0 comes.1 comes.2)
 
 -- ---- a line is answered
 
-pub line_goes : (r m s : Receiver) (count : ℕ) (before after : List ℕ) → reads_lines r.talk.stage ≡ true → Finds (Line count) r.unread
+line_does : (r m s : Receiver) (count : ℕ) (before after : List ℕ) → reads_lines r.talk.stage ≡ true → Finds (Line count) r.unread
     → TakesTurn (item_by r.long (take count r.unread)) r.talk m.talk before after → m.long ≡ false → m.unread ≡ drop (count + 2) r.unread → TakesIn m s
-    → Goes (Answers r.talk.hello) r s before after
-line_goes r m s count before after reads found turns short unread takes = λ d stands.
+    → (d : Dialogue) → StandsIn r d → DoesFrom (Answers r.talk.hello) d s before after
+line_does r m s count before after reads found turns short unread takes = λ d stands.
     let rest = drop (count + 2) r.unread in
     let item = item_by r.long (take count r.unread) in
     let later : Dialogue = record { phase = turns.turn.phase; unread = rest } in
@@ -71,7 +87,7 @@ line_goes r m s count before after reads found turns short unread takes = λ d s
     record {
       said = turns.turn.said;
       next = later;
-      happens = inl (record {
+      does = record {
         item = item;
         rest = rest;
         turn = turns.turn;
@@ -79,7 +95,7 @@ line_goes r m s count before after reads found turns short unread takes = λ d s
         takes = subst (λ p. IsTurn r.talk.hello p item turns.turn) (sym stands.holds.phase) turns.takes;
         told = refl;
         leaves = refl;
-      });
+      };
       written = turns.obeys.said;
       stands = takes later (record {
         phase = sym turns.obeys.phase;
@@ -92,6 +108,17 @@ line_goes r m s count before after reads found turns short unread takes = λ d s
         limit = ap (λ t. let x : Text = t in x.limit) turns.obeys.text ∙ stands.holds.limit;
       });
     }
+
+does_so : (Is : Dialogue → List ℕ → Dialogue → Type 0) (d : Dialogue) (s : Receiver) (before after : List ℕ) → DoesFrom Is d s before after → GoesFrom Is d s before after
+does_so Is d s before after is = record { said = is.said; next = is.next; happens = inl is.does; written = is.written; stands = is.stands }
+
+-- it is answered, where it comes next and wherever the receiver stands
+pub line_goes : (r m s : Receiver) (count : ℕ) (before after : List ℕ) → reads_lines r.talk.stage ≡ true → Finds (Line count) r.unread
+    → TakesTurn (item_by r.long (take count r.unread)) r.talk m.talk before after → m.long ≡ false → m.unread ≡ drop (count + 2) r.unread → TakesIn m s
+    → Goes (Answers r.talk.hello) r s before after × SaysNext r s before after
+line_goes r m s count before after reads found turns short unread takes =
+    let does = line_does r m s count before after reads found turns short unread takes in
+    ((λ d stands. does_so (Answers r.talk.hello) d s before after (does d stands)), (λ d stands comes. does d stands))
 
 -- ---- a recipient is resolved
 
@@ -141,6 +168,13 @@ resolves r s lookup before after at obeys long unread = λ d stands.
       };
     }
 
+pub admits : (r s : Receiver) (lookup : Lookup) → r.talk.stage ≡ stage.Asking → Does (resolved_turn (phase_of r.talk) lookup) r.talk s.talk
+    → s.long ≡ r.long → s.unread ≡ r.unread → Admits lookup r s
+admits r s lookup at does long unread = (_, resolves r s lookup [] _ at does long unread)
+
+pub admits_none : (r : Receiver) (lookup : Lookup) → (r.talk.stage ≡ stage.Asking → ⊥) → Admits lookup r r
+admits_none r lookup other = ([], not_asked r lookup [] other)
+
 -- ---- a reply behind a text
 
 pub not_sent : (r : Receiver) (outcome : Outcome) (out : List ℕ) → (r.talk.stage ≡ stage.Sending → ⊥) → Goes (λ d. Replies d outcome) r r out out
@@ -189,7 +223,7 @@ report_goes r m s outcome before after at ended reports long unread takes = λ d
     let recipient = get_or r.talk.recipients r.talk.told [] in
     let left = drop (r.talk.told + 1) r.talk.recipients in
     let owed = owed_in r d at sends in
-    let phase : phase_of m.talk ≡ phase_replied (Sending r.talk.sender (recipient ∷ left)) = reports.phase ∙ ap phase_replied (sym stands.holds.phase ∙ owed) in
+    let phase : phase_of m.talk ≡ phase_replied (Sending r.talk.sender (recipient ∷ left)) = reports.passes.phase ∙ ap phase_replied (sym stands.holds.phase ∙ owed) in
     record {
       said = said_of outcome;
       next = replied r.talk.sender left d r.unread;
@@ -205,5 +239,14 @@ report_goes r m s outcome before after at ended reports long unread takes = λ d
         leaves = refl;
       });
       written = reports.written;
-      stands = takes (replied r.talk.sender left d r.unread) (held_after r m d left sends phase reports.text (reports.limit stands.holds.limit) long unread);
+      stands = takes (replied r.talk.sender left d r.unread) (held_after r m d left sends phase reports.passes.text (reports.passes.limit stands.holds.limit) long unread);
     }
+
+-- a reply is made, whatever it says
+pub pass_goes : (r m s : Receiver) → r.talk.stage ≡ stage.Sending → r.talk.text.place ≡ Ended → TalkPasses r.talk m.talk → m.long ≡ r.long
+    → m.unread ≡ r.unread → TakesIn m s → Passes r s
+pass_goes r m s at ended passes long unread takes = λ outcome.
+    (said_of outcome, report_goes r m s outcome [] (said_of outcome) at ended (record { written = refl; passes = passes }) long unread takes)
+
+pub pass_none : (r : Receiver) → ((outcome : Outcome) → Goes (λ d. Replies d outcome) r r [] []) → Passes r r
+pass_none r stays_so = λ outcome. ([], stays_so outcome)

@@ -48,6 +48,11 @@ feeds_one t u octet runs place keeps =
 pub feeds_none : (t : Text) → Feeds t [] t
 feeds_none t = λ sent stands. subst (StandsFor t) (sym (append-nil sent)) stands
 
+-- the same where it keeps less
+pub feeds_nothing : (t u : Text) → u.place ≡ t.place → ((text : List ℕ) → Keeps t text t.trouble → Keeps u text u.trouble) → Feeds t [] u
+feeds_nothing t u place keeps = λ sent stands.
+    subst (StandsFor u) (sym (append-nil sent)) (record { runs = stands.runs; place = place ∙ stands.place; keeps = keeps (text_after Start sent) stands.keeps })
+
 -- some, and then others
 pub feeds_on : (t u v : Text) (xs ys : List ℕ) → Feeds t xs u → Feeds u ys v → Feeds t (xs ++ ys) v
 feeds_on t u v xs ys one two = λ sent stands. subst (StandsFor v) (append_assoc sent xs ys) (two (sent ++ xs) (one sent stands))

@@ -6,7 +6,7 @@ use Rattle.std.proofs.lemmas.List.{take-append-drop, length-take-le, append_canc
 use Rattle.std.specs.Prelude.{◌⊎◌}
 use Rattle.lmtp.specs.Dialogues.{Dialogue, given}
 use Rattle.lmtp.specs.Lines.{line_end, HasNoLineEnd, IsFirstLine, Finds, Skips}
-use Rattle.lmtp.specs.Receivers.{JoinsNone, IsLineGone, IsGone, Holds, IsLineTaken, StandsIn, TakesIn, takes_lines}
+use Rattle.lmtp.specs.Receivers.{JoinsNone, IsLineGone, IsGone, Holds, IsLineTaken, IsTaken, StandsIn, TakesIn, takes_lines}
 use Rattle.lmtp.specs.Talks.{phase_of}
 use Rattle.lmtp.specs.Texts.{Feeds}
 use Rattle.lmtp.specs.declared.line.Found.TheVariants.{TooLong}
@@ -96,6 +96,14 @@ takes_text r s count sends after_that phase long unread feeds whole limit = λ d
       };
       taken = rw (after_that, unread) (λ goes. nothing_left r.unread count (whole goes));
     }
+
+-- where a text keeps less than before nothing is taken in
+pub keeps_less : (r s : Receiver) → r.talk.stage ≡ stage.Sending → s.talk.stage ≡ stage.Sending → phase_of s.talk ≡ phase_of r.talk → s.long ≡ r.long
+    → s.unread ≡ r.unread → Feeds r.talk.text [] s.talk.text → s.talk.text.place ≡ r.talk.text.place → s.talk.text.limit ≡ r.talk.text.limit
+    → (d : Dialogue) → StandsIn r d → StandsIn s d
+keeps_less r s sends after_that phase long unread feeds place limit = λ d stands.
+    let taken : IsTaken stage.Sending r.long r.talk.text r.unread = subst (λ a. IsTaken a r.long r.talk.text r.unread) sends stands.taken in
+    takes_text r s 0 sends after_that phase long unread feeds (λ goes. sym (ap (λ (u : List ℕ). length u) (taken (λ ended. goes (place ∙ ended))))) limit d stands.holds
 
 -- of a line that has as many octets as one may have, nothing
 pub takes_line : (r : Receiver) → takes_lines r.talk.stage ≡ true → r.long ≡ false → (Finds TooLong r.unread → ⊥) → TakesIn r r

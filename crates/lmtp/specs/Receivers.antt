@@ -1,18 +1,21 @@
 -- For which dialogue a receiver stands, and what its calls make of that.
-use Rattle.std.specs.Prelude.{◌≡◌, ◌≢◌, ◌⊎◌, ℕ, ◌+◌, ◌<◌, ◌≤◌, Bool, true, false, List, [], ◌∷◌, ◌++◌, length, Result, Ok, Err}
+use Rattle.std.specs.Prelude.{◌≡◌, ◌≢◌, ◌⊎◌, ℕ, ◌+◌, ◌<◌, ◌≤◌, Bool, true, false, List, [], ◌∷◌, ◌++◌, length, Result, Ok, Err, IsSome}
 use Rattle.std.specs.Borrow.{Bor}
 use Rattle.lmtp.specs.Dialogues.{Phase, Asking, Sending, Over, Dialogue, given, Item, Message, IsFirst, Waits}
 use Rattle.lmtp.specs.Lines.{line_end, HasNoLineEnd, max_line, Finds}
 use Rattle.lmtp.specs.Talks.{phase_of, IsSound}
 use Rattle.lmtp.specs.Texts.{StandsFor}
-use Rattle.lmtp.specs.Turns.{max_text}
+use Rattle.lmtp.specs.Turns.{Answers, Resolves, Replies, max_text}
 use Rattle.lmtp.specs.declared.line.Found.TheVariants.{TooLong}
 use Rattle.lmtp.specs.declared.receiver.Delivery.{Delivery}
+use Rattle.lmtp.specs.declared.receiver.Lookup.{Lookup}
 use Rattle.lmtp.specs.declared.receiver.Next.{Next}
 use Rattle.lmtp.specs.declared.receiver.Next.TheVariants as next
 use Rattle.lmtp.specs.declared.receiver.Receiver.{Receiver}
 use Rattle.lmtp.specs.declared.receiver.Stage.{Stage}
 use Rattle.lmtp.specs.declared.receiver.Stage.TheVariants as stage
+use Rattle.lmtp.specs.declared.reply.Outcome.{Outcome}
+use Rattle.lmtp.specs.declared.talk.Talk.{Talk}
 use Rattle.lmtp.specs.declared.text.Place.TheVariants.{Ended}
 use Rattle.lmtp.specs.declared.text.Text.{Text}
 use Rattle.lmtp.specs.declared.text.Trouble.{Trouble}
@@ -93,6 +96,30 @@ pub record GoesFrom (Is : Dialogue → List ℕ → Dialogue → Type 0) (d : Di
 abbrev pub Goes : (Dialogue → List ℕ → Dialogue → Type 0) → Receiver → Receiver → List ℕ → List ℕ → Type 0
 Goes Is r s before after = (d : Dialogue) → StandsIn r d → GoesFrom Is d s before after
 
+-- the same, and it happens
+pub record DoesFrom (Is : Dialogue → List ℕ → Dialogue → Type 0) (d : Dialogue) (s : Receiver) (before after : List ℕ) : Type 0 where
+  pub said : List ℕ
+  pub next : Dialogue
+  pub does : Is d said next
+  pub written : after ≡ before ++ said
+  pub stands : StandsIn s next
+
+-- it was found whether there is an account for the recipient that comes next, and the caller says it; where none does, nothing changes
+abbrev pub Admits : Lookup → Receiver → Receiver → Type 0
+Admits lookup r s = (said : List ℕ) × Goes (λ d. Resolves d lookup) r s [] said
+
+-- a reply is made to the next recipient to whom the message is to be delivered, whatever it says; where there is none, nothing changes
+abbrev pub Passes : Receiver → Receiver → Type 0
+Passes r s = (outcome : Outcome) → (said : List ℕ) × Goes (λ d. Replies d outcome) r s [] said
+
+-- where a text is sent, nothing of it is kept, and its recipients are told why
+abbrev pub IsDropped : Talk → Type 0
+IsDropped t = t.stage ≡ stage.Sending → (t.text.kept ≡ []) × IsSome t.text.trouble
+
+-- how many octets of lines and of a text it holds
+abbrev pub held_by : Receiver → ℕ
+held_by r = length r.unread + length r.talk.text.kept
+
 -- ---- what comes next
 
 abbrev pub reads_lines : Stage → Bool
@@ -137,3 +164,7 @@ ComesNext d next.Line = (item : Item) × (rest : List ℕ) × IsFirst d item res
 ComesNext d (next.Recipient address) = (sender : List ℕ) × (taken : List (List ℕ)) × (d.phase ≡ Asking sender taken address.now)
 ComesNext d (next.Delivery delivery) = IsDelivery d delivery
 ComesNext d next.Over = d.phase ≡ Over
+
+-- a line that comes next was answered
+abbrev pub SaysNext : Receiver → Receiver → List ℕ → List ℕ → Type 0
+SaysNext r s before after = (d : Dialogue) → StandsIn r d → ComesNext d next.Line → DoesFrom (Answers r.talk.hello) d s before after

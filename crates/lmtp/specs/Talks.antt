@@ -37,6 +37,10 @@ pub record Obeys (turn : Turn) (t u : Talk) (before after : List ℕ) : Type 0 w
   pub hello : u.hello ≡ t.hello
   pub text : u.text ≡ t.text
 
+-- the same, where another says it
+abbrev pub Does : Turn → Talk → Talk → Type 0
+Does turn t u = Obeys turn t u [] turn.said
+
 -- nothing changed
 pub record IsSame (t u : Talk) (before after : List ℕ) : Type 0 where
   pub talk : u ≡ t
@@ -69,12 +73,17 @@ abbrev pub IsTextAfter : Phase → Text → Text → Type 0
 IsTextAfter Ready old new = StandsFor new []
 IsTextAfter phase old new = new ≡ old
 
-pub record Reports (t u : Talk) (said before after : List ℕ) : Type 0 where
-  pub written : after ≡ before ++ said
+-- a reply was made for the next recipient
+pub record Passes (t u : Talk) : Type 0 where
   pub phase : phase_of u ≡ phase_replied (phase_of t)
   pub hello : u.hello ≡ t.hello
   pub text : IsTextAfter (phase_of u) t.text u.text
   pub limit : t.text.limit ≡ max_text → u.text.limit ≡ max_text
+
+-- and this is it
+pub record Reports (t u : Talk) (said before after : List ℕ) : Type 0 where
+  pub written : after ≡ before ++ said
+  pub passes : Passes t u
 
 -- the message is done with
 pub record EndsMessage (t u : Talk) : Type 0 where

@@ -18,6 +18,6 @@ pub mod verb;
 pub use copy::{copy_for, was_delivered};
 pub use line::{Found, first_line, skip_line};
 pub use name::{Names, name_forms};
-pub use receiver::{Delivery, Lookup, Next, Receiver};
+pub use receiver::{Delivery, Lookup, Next, Receiver, Stage};
 pub use reply::{Outcome, Reply};
 pub use text::{Place, Text, Trouble};

@@ -1,5 +1,5 @@
 //! The server's side of a dialogue.
-ghost use Rattle.std.specs.Prelude.{◌≡◌, ◌⊎◌, ◌↔◌, ◌++◌, true, IsTrue, IfOk, OnOk, OnErr};
+ghost use Rattle.std.specs.Prelude.{◌≡◌, ◌≢◌, ◌⊎◌, ◌↔◌, ◌++◌, true, IsTrue, IfOk, OnOk, OnErr};
 ghost use Rattle.lmtp.specs.Dialogues.{Dialogue, new_dialogue};
 ghost use Rattle.lmtp.specs.Lines.{Finds};
 ghost use Rattle.lmtp.specs.Receivers as s;
@@ -178,6 +178,7 @@ impl Receiver {
     /// Lack of memory is the only error; nothing changes then.
     pub fn answer(&mut self, out: &mut Octets) -> Result<(), AllocError>
         ensures ok { OnOk result (s.Goes (Answers self.old.talk.hello) self.old self.new out.old out.new) }
+        ensures line { OnOk result (s.SaysNext self.old self.new out.old out.new) }
         ensures hello { self.new.talk.hello ≡ self.old.talk.hello }
         ensures err { OnErr result ((self.new ≡ self.old) × (out.new ≡ out.old)) }
     {
@@ -190,6 +191,7 @@ impl Receiver {
     fn answer_line(&mut self, out: &mut Octets) -> Result<(), AllocError>
         requires { s.reads_lines self.old.talk.stage ≡ true }
         ensures ok { OnOk result (s.Goes (Answers self.old.talk.hello) self.old self.new out.old out.new) }
+        ensures line { OnOk result (s.SaysNext self.old self.new out.old out.new) }
         ensures hello { self.new.talk.hello ≡ self.old.talk.hello }
         ensures err { OnErr result ((self.new ≡ self.old) × (out.new ≡ out.old)) }
     {
@@ -221,6 +223,17 @@ impl Receiver {
         }
     }
 
+    /// The same, where the caller says the line, which `Lookup::reply` gives. Takes no memory, so that room can be had before it is asked.
+    pub fn admit(&mut self, lookup: Lookup)
+        ensures goes { s.Admits lookup self.old self.new }
+        ensures hello { self.new.talk.hello ≡ self.old.talk.hello }
+    {
+        match self.talk.stage {
+            Stage::Asking => self.talk.admit(lookup),
+            _ => {}
+        }
+    }
+
     /// It is told what became of the message for the recipient to whom it is to be delivered next; where there is none, nothing changes.
     /// Behind the last one the message is dropped.
     ///
@@ -248,6 +261,58 @@ impl Receiver {
         self.talk.report(outcome, out)?;
         self.take_in();
         Ok(())
+    }
+
+    /// A reply was made for the recipient to whom the message is to be delivered next: the caller says it, as `Outcome::line` gives it.
+    /// Where there is none, nothing changes. Takes no memory, so that room can be had before the message is delivered.
+    pub fn pass(&mut self)
+        ensures goes { s.Passes self.old self.new }
+        ensures hello { self.new.talk.hello ≡ self.old.talk.hello }
+    {
+        match self.talk.stage {
+            Stage::Sending => self.pass_next(),
+            _ => {}
+        }
+    }
+
+    fn pass_next(&mut self)
+        requires { self.old.talk.stage ≡ Stage.Sending }
+        ensures goes { s.Passes self.old self.new }
+        ensures hello { self.new.talk.hello ≡ self.old.talk.hello }
+    {
+        if !self.talk.text.has_ended() {
+            return;
+        }
+        self.talk.pass();
+        self.take_in();
+    }
+
+    /// A text that is sent, or was, isn't kept any more: memory is lacking for it. It is heard to its end, and the deliveries have no
+    /// text then. Where none is sent, nothing changes. Takes no memory.
+    pub fn drop_text(&mut self)
+        ensures stands { (d : Dialogue) → s.StandsIn self.old d → s.StandsIn self.new d }
+        ensures dropped { s.IsDropped self.new.talk }
+        ensures other { self.old.talk.stage ≢ Stage.Sending → self.new ≡ self.old }
+        ensures hello { self.new.talk.hello ≡ self.old.talk.hello }
+    {
+        match self.talk.stage {
+            Stage::Sending => self.talk.text.give_up(),
+            _ => {}
+        }
+    }
+
+    /// How many octets of lines and of a text it holds. A sender and recipients are held besides.
+    pub fn held(&self) -> usize
+        ensures { result ≡ s.held_by self.now }
+    {
+        self.unread.as_slice().len() + self.talk.text.kept.as_slice().len()
+    }
+
+    /// What goes on.
+    pub fn stage(&self) -> Stage
+        ensures { result ≡ self.now.talk.stage }
+    {
+        self.talk.stage
     }
 
     // What can't wait is taken in: octets of a text, those of a line that is too long, and what comes behind QUIT.

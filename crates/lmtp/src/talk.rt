@@ -211,12 +211,21 @@ impl Talk {
         ensures err { OnErr result (s.IsSame self.old self.new out.old out.new) }
     {
         out.extend_from_slice(lookup.reply().line())?;
+        self.admit(lookup);
+        Ok(())
+    }
+
+    /// The same, where the caller says the line.
+    pub fn admit(&mut self, lookup: Lookup)
+        requires asked { self.old.stage ≡ Stage.Asking }
+        requires some { 0 < length self.old.recipients }
+        ensures { s.Does (s.resolved_turn (s.phase_of self.old) lookup) self.old self.new }
+    {
         match lookup {
             Lookup::Known => {}
             _ => self.recipients.truncate(self.recipients.len() - 1),
         }
         self.stage = Stage::Opened;
-        Ok(())
     }
 
     /// A reply is made behind the text, for the next recipient to whom one is owed.
@@ -230,6 +239,16 @@ impl Talk {
     {
         let line = outcome.line(self.alloc)?;
         out.extend_from_slice(line.as_slice())?;
+        self.pass();
+        Ok(())
+    }
+
+    /// A reply was made behind the text, for the next recipient to whom one is owed.
+    pub fn pass(&mut self)
+        requires sends { self.old.stage ≡ Stage.Sending }
+        requires owed { self.old.told < length self.old.recipients }
+        ensures { s.Passes self.old self.new }
+    {
         let count = self.recipients.len();
         let told = self.told + 1;
         if told < count {
@@ -237,7 +256,6 @@ impl Talk {
         } else {
             self.end_message();
         }
-        Ok(())
     }
 
     // No reply is owed any more.

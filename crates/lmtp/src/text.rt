@@ -1,5 +1,5 @@
 //! The text of a message.
-ghost use Rattle.std.specs.Prelude.{if◌then◌else◌, ◌≡◌, ◌≢◌, ◌↔◌, ℕ, ◌==◌, true, ◌<◌, ◌≤◌, ◌++◌, ◌∷◌, [], List, Some, length, take, slice_index, IsTrue};
+ghost use Rattle.std.specs.Prelude.{if◌then◌else◌, ◌≡◌, ◌≢◌, ◌↔◌, ℕ, ◌==◌, true, ◌<◌, ◌≤◌, ◌++◌, ◌∷◌, [], List, Some, length, take, slice_index, IsSome, IsTrue};
 ghost use Rattle.lmtp.specs.declared.text.Place.TheVariants.{Ended as ended};
 ghost use Rattle.lmtp.specs.Texts as s;
 
@@ -200,6 +200,19 @@ impl Text {
             self.drop_text(Trouble::TooLarge);
         } else if self.kept.extend_from_slice(octets).is_err() {
             self.drop_text(Trouble::Memory);
+        }
+    }
+
+    // It isn't kept any more: there is no memory for it, if there was no other trouble before.
+    pub(crate) fn give_up(&mut self)
+        ensures keeps { (text : List ℕ) → s.Keeps self.old text self.old.trouble → s.Keeps self.new text self.new.trouble }
+        ensures dropped { (self.new.kept ≡ []) × IsSome self.new.trouble }
+        ensures place { self.new.place ≡ self.old.place }
+        ensures limit { self.new.limit ≡ self.old.limit }
+    {
+        match self.trouble {
+            None => self.drop_text(Trouble::Memory),
+            Some(trouble) => self.drop_text(trouble),
         }
     }
 
