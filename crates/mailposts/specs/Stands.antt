@@ -1,5 +1,5 @@
 -- For which connection the code stands, and what its calls make of that.
-use Rattle.std.specs.Prelude.{◌≡◌, ◌<◌, ℕ, ◌+◌, Bool, true, false, if◌then◌else◌, List, [], ◌∷◌, length, take, ◌≤◌, Option, Some, None}
+use Rattle.std.specs.Prelude.{◌≡◌, ◌⊎◌, ◌<◌, ℕ, ◌+◌, Bool, true, false, if◌then◌else◌, List, [], ◌∷◌, length, take, ◌≤◌, Option, Some, None}
 use Rattle.std.specs.Vec.{vec_len, vec_capacity}
 use Rattle.lmtp.specs.Dialogues.{Asking, Dialogue}
 use Rattle.lmtp.specs.Receivers.{StandsIn, ComesNext}
@@ -110,7 +110,7 @@ Follows tried count None = count ≡ tried + 1
 Follows tried count (Some next) = (next ≡ tried + 1) × (next < count)
 
 abbrev pub IsDemand : ℕ → Post → Demand → Type 0
-IsDemand now p demand.Nothing = Unit {0}
+IsDemand now p demand.Nothing = ComesNext p.dialogue next.Need ⊎ ComesNext p.dialogue next.Over
 IsDemand now p demand.Line = ComesNext p.dialogue next.Line
 IsDemand now p demand.PutOff = HasWaited now p.tally × Asks p
 IsDemand now p (demand.Account question) =

@@ -32,7 +32,8 @@ impl Post {
         ensures { IfOk result (s.Demands now self.now) }
     {
         match self.receiver.next() {
-            Next::Need | Next::Over => Ok(Demand::Nothing),
+            Next::Need => Ok(Demand::Nothing),
+            Next::Over => Ok(Demand::Nothing),
             Next::Line => Ok(Demand::Line),
             Next::Recipient(address) => self.demand_account(now, address),
             Next::Delivery(delivery) => self.demand_reply(now, delivery),
