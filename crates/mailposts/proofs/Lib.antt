@@ -1,0 +1,3 @@
+pub mod DemandLemmas
+mod Examples
+pub mod PostLemmas

@@ -1,0 +1,10 @@
+use Rattle.std.proofs.Common.{◌≡◌, ◌+◌, ◌++◌, take}
+use Rattle.mailposts.proofs.room.write.Given as goal
+
+-- what was written so far, and the room that is left
+abbrev pub invariant-loop-octet : goal.invariant-loop-octet
+invariant-loop-octet l = record {
+  items : l.text.items ≡ l.initial.text.items ++ take l.octet-index l.more;
+  len : l.text.len ≡ l.initial.text.len + l.octet-index;
+  cap : l.text.cap ≡ l.initial.text.cap;
+}

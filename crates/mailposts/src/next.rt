@@ -1,0 +1,213 @@
+//! What is to be done next for a connection.
+ghost use Rattle.std.specs.Prelude.{◌≡◌, ◌<◌, ◌≤◌, length, find, slice_get, None, IfOk, OnOk};
+ghost use Rattle.std.specs.Option.{option_copied};
+ghost use Rattle.lmtp.specs.Dialogues.{Dialogue};
+ghost use Rattle.lmtp.specs.Copies as copies;
+ghost use Rattle.lmtp.specs.Receivers.{StandsIn, ComesNext};
+ghost use Rattle.mailposts.specs.Posts as posts;
+ghost use Rattle.mailposts.specs.Stands as s;
+
+use crate::addressee::{Addressee, Became};
+use crate::demand::{Demand, Parcel, Question};
+use crate::post::Post;
+use lmtp::{Delivery, Next, Reply, Trouble, copy_for, name_forms, was_delivered};
+use mailhead::Head;
+use octets::Octets;
+use std::alloc::{AllocError, Global};
+
+impl Post {
+    /// What is to be done next. Time is linear in the text that is delivered, or in the address that is asked for.
+    ///
+    /// Lack of memory is the only error.
+    pub fn demand(&mut self, now: u64) -> Result<Demand, AllocError>
+        ensures keeps { s.Keeps self.old self.new }
+        ensures slot { OnOk result (s.HasSlot self.new) }
+        ensures demands { IfOk result (s.Demands now self.new) }
+    {
+        self.addressees.reserve(1)?;
+        self.next_demand(now)
+    }
+
+    fn next_demand(&self, now: u64) -> Result<Demand, AllocError>
+        ensures { IfOk result (s.Demands now self.now) }
+    {
+        match self.receiver.next() {
+            Next::Need => Ok(Demand::Nothing),
+            Next::Over => Ok(Demand::Nothing),
+            Next::Line => Ok(Demand::Line),
+            Next::Recipient(address) => self.demand_account(now, address),
+            Next::Delivery(delivery) => self.demand_reply(now, delivery),
+        }
+    }
+
+    // The recipient that comes next is asked for under the next form of its name.
+    fn demand_account(&self, now: u64, address: &[u8]) -> Result<Demand, AllocError>
+        requires { (d : Dialogue) → StandsIn self.now.receiver d → ComesNext d (Next.Recipient address) }
+        ensures { IfOk result (s.Demands now self.now) }
+    {
+        if !self.tally.may_ask(now) {
+            return Ok(Demand::PutOff);
+        }
+        let forms = name_forms(self.alloc, self.names, address)?;
+        let tried = self.tally.tried;
+        let Some(user) = form_at(forms.as_slice(), tried) else {
+            return Err(AllocError);
+        };
+        let user = user.try_clone(self.alloc)?;
+        let address = Octets::from_slice(self.alloc, address)?;
+        Ok(Demand::Account(Question {
+            user,
+            address,
+            next: following(tried, forms.len()),
+        }))
+    }
+
+    // A reply is owed to the next recipient.
+    fn demand_reply(&self, now: u64, delivery: Delivery<'_>) -> Result<Demand, AllocError>
+        requires { (d : Dialogue) → StandsIn self.now.receiver d → ComesNext d (Next.Delivery delivery) }
+        ensures { IfOk result (s.Demands now self.now) }
+    {
+        let Some(addressee) = addressee_at(self.addressees.as_slice(), self.tally.told) else {
+            return Err(AllocError);
+        };
+        if addressee.address.as_slice() != delivery.recipient {
+            return Err(AllocError);
+        }
+        match delivery.text {
+            Ok(text) => self.demand_delivery(now, addressee, delivery.sender, text),
+            Err(trouble) => Ok(Demand::Reply(Became::Refused(reply_for(trouble)))),
+        }
+    }
+
+    // The text is there, and goes to this recipient.
+    fn demand_delivery(
+        &self,
+        now: u64,
+        addressee: &Addressee,
+        sender: &[u8],
+        text: &[u8],
+    ) -> Result<Demand, AllocError>
+        requires some { self.now.tally.told ≤ length self.now.addressees.items }
+        requires owes { s.Owes self.now addressee.now sender.now text.now }
+        ensures { IfOk result (s.Demands now self.now) }
+    {
+        match earlier(self.told_before(), addressee) {
+            Some(became) => Ok(Demand::Reply(became.try_clone(self.alloc)?)),
+            None => self.demand_new(now, addressee, sender, text),
+        }
+    }
+
+    // It wasn't brought for the same recipient before.
+    fn demand_new(
+        &self,
+        now: u64,
+        addressee: &Addressee,
+        sender: &[u8],
+        text: &[u8],
+    ) -> Result<Demand, AllocError>
+        requires owes { s.Owes self.now addressee.now sender.now text.now }
+        requires once { posts.earlier (s.told_before self.now) addressee.now ≡ None }
+        ensures { IfOk result (s.Demands now self.now) }
+    {
+        if circles(self.alloc, text, addressee.address.as_slice())? {
+            return Ok(Demand::Reply(Became::Refused(Reply::MailLoop)));
+        }
+        if !self.tally.may_ask(now) {
+            return Ok(Demand::Reply(Became::Refused(Reply::StoreAway)));
+        }
+        let parcel = parcel_for(self.alloc, addressee, sender, text)?;
+        Ok(Demand::Delivery(parcel))
+    }
+
+    // Those to whom a reply was made behind the text.
+    fn told_before(&self) -> &[Addressee]
+        requires { self.now.tally.told ≤ length self.now.addressees.items }
+        ensures { result.now ≡ s.told_before self.now }
+    {
+        &self.addressees.as_slice()[..self.tally.told]
+    }
+}
+
+// What is said where the text isn't kept.
+fn reply_for(trouble: Trouble) -> Reply
+    ensures { result ≡ s.reply_for trouble }
+{
+    match trouble {
+        Trouble::TooLarge => Reply::MessageTooLarge,
+        Trouble::Memory => Reply::NoRoom,
+    }
+}
+
+fn form_at(forms: &[Octets], at: usize) -> Option<&Octets>
+    ensures { option_copied result ≡ slice_get forms.now at }
+{
+    forms.get(at)
+}
+
+fn addressee_at(addressees: &[Addressee], at: usize) -> Option<&Addressee>
+    ensures { option_copied result ≡ slice_get addressees.now at }
+{
+    addressees.get(at)
+}
+
+// How many forms were asked for, where another one follows.
+fn following(tried: usize, count: usize) -> Option<usize>
+    requires { tried < count }
+    ensures { s.Follows tried count result }
+{
+    let next = tried + 1;
+    if next < count { Some(next) } else { None }
+}
+
+// What became of the message for the same recipient among those before it.
+fn earlier<'a>(before: &'a [Addressee], addressee: &Addressee) -> Option<&'a Became>
+    ensures { option_copied result ≡ posts.earlier before.now addressee.now }
+{
+    match same_among(before, addressee) {
+        Some(other) => other.became.as_ref(),
+        None => None,
+    }
+}
+
+// The first of these that is the same recipient.
+fn same_among<'a>(before: &'a [Addressee], addressee: &Addressee) -> Option<&'a Addressee>
+    ensures { option_copied result ≡ find (posts.is_same addressee.now) before.now }
+{
+    before.iter().find(|other| is_same(addressee, other))
+}
+
+fn is_same(addressee: &Addressee, other: &Addressee) -> bool
+    ensures { result ≡ posts.is_same addressee.now other.now }
+{
+    other.user == addressee.user && other.address == addressee.address
+}
+
+// Whether the message came to this recipient before.
+fn circles(alloc: Global, text: &[u8], recipient: &[u8]) -> Result<bool, AllocError>
+    ensures { IfOk result (λ was. was ≡ copies.was_delivered recipient.now text.now) }
+{
+    let head = Head::read(alloc, text)?;
+    was_delivered(alloc, &head, recipient)
+}
+
+fn parcel_for(
+    alloc: Global,
+    addressee: &Addressee,
+    sender: &[u8],
+    text: &[u8],
+) -> Result<Parcel, AllocError>
+    ensures user { IfOk result (λ parcel. parcel.user ≡ addressee.now.user) }
+    ensures sender { IfOk result (λ parcel. parcel.sender ≡ sender.now) }
+    ensures recipient { IfOk result (λ parcel. parcel.recipient ≡ addressee.now.address) }
+    ensures copy { IfOk result (λ parcel. copies.IsCopy sender.now addressee.now.address text.now parcel.message) }
+{
+    let user = addressee.user.try_clone(alloc)?;
+    let recipient = addressee.address.try_clone(alloc)?;
+    let message = copy_for(alloc, sender, recipient.as_slice(), text)?;
+    Ok(Parcel {
+        user,
+        sender: Octets::from_slice(alloc, sender)?,
+        recipient,
+        message,
+    })
+}

@@ -1,0 +1,267 @@
+//! The state of one connection.
+ghost use Rattle.std.specs.Prelude.{◌≡◌, ◌<◌, List, [], ◌∷◌, ◌++◌, length, Some, IfOk, OnOk, OnErr};
+ghost use Rattle.mailposts.specs.declared.addressee.Addressee.{Addressee};
+ghost use Rattle.lmtp.specs.Replies as replies;
+ghost use Rattle.mailposts.specs.Posts as posts;
+ghost use Rattle.mailposts.specs.Posts.{Answered, Asked, Away, Brought};
+ghost use Rattle.mailposts.specs.Stands as s;
+ghost use Rattle.mailposts.specs.Tallies as tallies;
+ghost use Rattle.mailposts.specs.declared.demand.Demand.TheVariants as demands;
+
+use crate::addressee::{Addressee, Became};
+use crate::demand::{Parcel, Question};
+use crate::room::Room;
+use crate::tally::{Tally, Wanted};
+use lmtp::{Lookup, Names, Next, Outcome, Receiver, Stage};
+use octets::Octets;
+use std::alloc::{AllocError, Global};
+
+/// One connection of LMTP: its dialogue, and the accounts of the recipients of the message that goes on.
+///
+/// It knows no store: it says what is to be asked of one (`demand`), and is told what became of it. It holds what its
+/// receiver holds, and 1,000 recipients of twice 1,024 octets.
+#[derive(Drop)]
+pub struct Post {
+    pub(crate) alloc: Global,
+    pub(crate) names: Names,
+    pub(crate) receiver: Receiver,
+    /// What the dialogue wants.
+    pub(crate) comes: Wanted,
+    /// The recipients that were taken, with their accounts.
+    pub(crate) addressees: Vec<Addressee>,
+    pub(crate) tally: Tally,
+}
+
+impl Post {
+    /// One that has just come: it is greeted, by the host's name.
+    ///
+    /// Lack of memory is the only error, and the output then stays.
+    pub fn new(
+        alloc: Global,
+        names: Names,
+        host: &[u8],
+        now: u64,
+        out: &mut Octets,
+    ) -> Result<Post, AllocError>
+        requires { out.old ≡ [] }
+        ensures begins { IfOk result (λ post. s.Stands post (posts.new_post names host.now now)) }
+        ensures greets { OnOk result (out.new ≡ replies.greeting host.now) }
+        ensures err { OnErr result (out.new ≡ out.old) }
+    {
+        let receiver = Receiver::new(alloc, host, out)?;
+        let comes = wanted_for(receiver.next());
+        Ok(Post {
+            alloc,
+            names,
+            receiver,
+            comes,
+            addressees: Vec::new(alloc),
+            tally: Tally::fresh(now),
+        })
+    }
+
+    /// What is wanted of it, once all is sent.
+    pub fn wanted(&self) -> Wanted
+        ensures { result ≡ tallies.wanted self.now.comes self.now.tally }
+    {
+        self.tally.wanted(self.comes)
+    }
+
+    /// The moment by which its client is late.
+    pub fn due(&self) -> u64
+        ensures { result ≡ tallies.due self.now.tally }
+    {
+        self.tally.due()
+    }
+
+    /// Octets of the client come.
+    ///
+    /// Lack of memory is the only error; nothing changes then.
+    pub fn hear(&mut self, now: u64, piece: &[u8]) -> Result<(), AllocError>
+        ensures hears { OnOk result (s.Hears now piece.now self.old self.new) }
+        ensures err { OnErr result (self.new ≡ self.old) }
+    {
+        let sending = is_sending(self.receiver.stage());
+        self.receiver.give(piece)?;
+        self.comes = wanted_for(self.receiver.next());
+        self.tally = self.tally.heard(now, sending, piece.len());
+        Ok(())
+    }
+
+    /// The line that comes next is answered.
+    ///
+    /// Lack of memory is the only error.
+    pub fn answer(&mut self, now: u64, out: &mut Octets) -> Result<(), AllocError>
+        requires out { out.old ≡ [] }
+        requires line { s.Demands now self.old demands.Line }
+        ensures { OnOk result (s.Does now Answered out.new self.old self.new) }
+    {
+        self.receiver.answer(out)?;
+        self.go_on(now);
+        Ok(())
+    }
+
+    /// The recipient that is asked for is put off: the store was away for too long.
+    ///
+    /// Lack of memory is the only error.
+    pub fn put_off(&mut self, now: u64) -> Result<Octets, AllocError>
+        requires { s.Demands now self.old demands.PutOff }
+        ensures { IfOk result (λ said. s.Does now Answered said self.old self.new) }
+    {
+        let room = Room::new(self.alloc)?;
+        Ok(self.resolve(now, Lookup::Away, room))
+    }
+
+    /// The store isn't to be had, and is asked for again.
+    pub fn await_store(&mut self, now: u64)
+        requires { s.AsksIt now self.old }
+        ensures { s.Does now Away [] self.old self.new }
+    {
+        self.tally = self.tally.away(now);
+    }
+
+    /// The store was asked a question, and this is what was found. What is said. Takes no memory.
+    pub fn found(&mut self, now: u64, question: Question, lookup: Lookup, room: Room) -> Octets
+        requires found { posts.IsFound lookup }
+        requires asked { s.Demands now self.old (demands.Account question) }
+        requires slot { s.HasSlot self.old }
+        ensures { s.Does now (Asked question.user lookup) result self.old self.new }
+    {
+        let Question {
+            user,
+            address,
+            next,
+        } = question;
+        match lookup {
+            Lookup::Known => {
+                self.addressees.push_reserved(Addressee {
+                    user,
+                    address,
+                    became: None,
+                });
+                self.resolve(now, lookup, room)
+            }
+            Lookup::Unknown => match next {
+                Some(next) => self.try_next(now, next),
+                None => self.resolve(now, lookup, room),
+            },
+            Lookup::Fault => self.resolve(now, lookup, room),
+            Lookup::NoRoom => self.resolve(now, lookup, room),
+            Lookup::Away => self.resolve(now, lookup, room),
+        }
+    }
+
+    // The next form of the recipient's name is looked for.
+    fn try_next(&mut self, now: u64, next: usize) -> Octets
+        ensures said { result ≡ [] }
+        ensures tally { self.new.tally ≡ record (tallies.done now self.old.tally) { tried = next } }
+        ensures rest { self.new ≡ record self.old { tally = self.new.tally } }
+    {
+        self.tally = self.tally.done(now);
+        self.tally.tried = next;
+        Octets::new(self.alloc)
+    }
+
+    // The recipient is answered.
+    fn resolve(&mut self, now: u64, lookup: Lookup, room: Room) -> Octets
+        ensures { s.ResolvesIt now lookup result self.old self.new }
+    {
+        self.receiver.admit(lookup);
+        self.tally.tried = 0;
+        self.go_on(now);
+        room.say(Outcome::Refused(lookup.reply()))
+    }
+
+    /// A reply is made behind the text without the store. What is said.
+    ///
+    /// Lack of memory is the only error.
+    pub fn reply(&mut self, now: u64, became: Became) -> Result<Octets, AllocError>
+        requires { s.Demands now self.old (demands.Reply became) }
+        ensures { IfOk result (λ said. s.Does now Answered said self.old self.new) }
+    {
+        let room = Room::new(self.alloc)?;
+        Ok(self.tell(now, became, room))
+    }
+
+    /// A message was brought to the store, and this became of it. What is said. Takes no memory.
+    pub fn brought(&mut self, now: u64, parcel: &Parcel, became: Became, room: Room) -> Octets
+        requires { s.Demands now self.old (demands.Delivery parcel.now) }
+        ensures { s.Does now (Brought parcel.now became) result self.old self.new }
+    {
+        self.tell(now, became, room)
+    }
+
+    // The reply to the next recipient is made.
+    fn tell(&mut self, now: u64, became: Became, room: Room) -> Octets
+        ensures { s.TellsIt now became result self.old self.new }
+    {
+        let line = room.say(became.outcome());
+        self.receiver.pass();
+        self.note_became(became);
+        self.go_on(now);
+        line
+    }
+
+    // What became of the message for the next recipient is noted.
+    fn note_became(&mut self, became: Became)
+        ensures noted { (before after : List Addressee) (it : Addressee) → self.old.addressees.items ≡ before ++ it ∷ after → length before ≡ self.old.tally.told → self.new.addressees.items ≡ before ++ record it { became = Some became } ∷ after }
+        ensures counted { self.old.tally.told < length self.old.addressees.items → self.new.tally ≡ posts.next_recipient self.old.tally }
+        ensures receiver { self.new.receiver ≡ self.old.receiver }
+        ensures names { self.new.names ≡ self.old.names }
+    {
+        let told = self.tally.told;
+        if let Some(addressee) = self.addressees.get_mut(told) {
+            addressee.became = Some(became);
+            self.tally.told = told + 1;
+        }
+    }
+
+    // What follows from what goes on in the dialogue.
+    fn go_on(&mut self, now: u64)
+        ensures { s.GoesOn now self.old self.new }
+    {
+        self.settle(now);
+        self.comes = wanted_for(self.receiver.next());
+    }
+
+    // Of a transaction that isn't open any more nothing is left.
+    fn settle(&mut self, now: u64)
+        ensures { s.Settles now self.old self.new }
+    {
+        if is_open(self.receiver.stage()) {
+            self.tally = self.tally.done(now);
+            return;
+        }
+        self.addressees.truncate(0);
+        self.tally = Tally::fresh(now);
+    }
+}
+
+fn wanted_for(next: Next<'_>) -> Wanted
+    ensures { result ≡ s.wanted_for next.entry }
+{
+    match next {
+        Next::Need => Wanted::More,
+        Next::Line | Next::Recipient(_) | Next::Delivery(_) => Wanted::Step,
+        Next::Over => Wanted::Done,
+    }
+}
+
+// Whether a transaction is open.
+fn is_open(stage: Stage) -> bool
+    ensures { result ≡ s.is_open_at stage }
+{
+    match stage {
+        Stage::Opened | Stage::Asking | Stage::Sending => true,
+        Stage::Greeted | Stage::Ready | Stage::Over => false,
+    }
+}
+
+fn is_sending(stage: Stage) -> bool
+    ensures { result ≡ s.is_sending_at stage }
+{
+    match stage {
+        Stage::Sending => true,
+        _ => false,
+    }
+}

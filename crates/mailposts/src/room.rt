@@ -1,0 +1,87 @@
+//! Room for a reply, which is had before what is replied to is done.
+ghost use Rattle.std.specs.Prelude.{◌≡◌, ◌≤◌, ◌+◌, ◌++◌, [], length, map, take};
+ghost use Rattle.std.specs.Vec.{vec_len, vec_capacity};
+ghost use Rattle.lmtp.specs.Replies as replies;
+
+use lmtp::Outcome;
+use octets::{Octets, is_printable};
+use std::alloc::{AllocError, Global};
+
+/// The most octets of a line (RFC 5321, section 4.5.3.1.5).
+const MAX_LINE: usize = 512;
+
+/// The most octets of a report.
+const MAX_REPORT: usize = 500;
+
+/// Room for one line.
+#[derive(Drop)]
+pub struct Room {
+    line: Vec<u8>,
+    ghost empty: { vec_len line ≡ 0 },
+    ghost room: { 512 ≤ vec_capacity line },
+}
+
+impl Room {
+    /// Lack of memory is the only error.
+    pub fn new(alloc: Global) -> Result<Room, AllocError> {
+        Ok(Room {
+            line: Vec::with_capacity(alloc, MAX_LINE)?,
+        })
+    }
+
+    /// The line that tells an outcome, with CRLF. Takes no memory.
+    pub fn say(self, outcome: Outcome<'_>) -> Octets
+        ensures { result ≡ replies.said_of outcome.entry }
+    {
+        let Room { line: mut text } = self;
+        match outcome {
+            Outcome::Delivered(report) => {
+                write(&mut text, b"250 2.1.5 ");
+                write_shown(&mut text, front(report, MAX_REPORT));
+                write(&mut text, b"\r\n");
+            }
+            Outcome::Refused(reply) => write(&mut text, reply.line()),
+        }
+        Octets::from_vec(text)
+    }
+}
+
+// So many octets of a text at most.
+fn front(text: &[u8], most: usize) -> &[u8]
+    ensures value { result.now ≡ take most text.now }
+    ensures short { length result.now ≤ most }
+{
+    if text.len() <= most {
+        text
+    } else {
+        &text[..most]
+    }
+}
+
+fn write(text: &mut Vec<u8>, more: &[u8])
+    requires { vec_len text.old + length more.now ≤ vec_capacity text.old }
+    ensures items { text.new.items ≡ text.old.items ++ more.now }
+    ensures len { vec_len text.new ≡ vec_len text.old + length more.now }
+    ensures capacity { vec_capacity text.new ≡ vec_capacity text.old }
+{
+    for octet in more {
+        text.push_reserved(*octet);
+    }
+}
+
+fn write_shown(text: &mut Vec<u8>, more: &[u8])
+    requires { vec_len text.old + length more.now ≤ vec_capacity text.old }
+    ensures items { text.new.items ≡ text.old.items ++ map replies.shown_octet more.now }
+    ensures len { vec_len text.new ≡ vec_len text.old + length more.now }
+    ensures capacity { vec_capacity text.new ≡ vec_capacity text.old }
+{
+    for octet in more {
+        text.push_reserved(shown(*octet));
+    }
+}
+
+fn shown(octet: u8) -> u8
+    ensures { result ≡ replies.shown_octet octet }
+{
+    if is_printable(octet) { octet } else { b'?' }
+}

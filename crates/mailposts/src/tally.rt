@@ -1,0 +1,152 @@
+//! What a connection waits for, and since when. Moments are in milliseconds.
+ghost use Rattle.std.specs.Prelude.{◌≡◌, true, false};
+ghost use Rattle.mailposts.specs.Tallies as s;
+
+/// So many milliseconds the store is asked for in vain, for all recipients of a message together.
+const MAX_AWAY: u64 = 60000;
+
+/// So many milliseconds later it is asked for again.
+const RETRY_SPAN: u64 = 5;
+
+/// For so many milliseconds a client may say nothing (RFC 5321, section 4.5.3.2.7).
+const MAX_SILENCE: u64 = 300_000;
+
+/// What is wanted of a connection to which all is sent.
+#[derive(Clone, Copy, Debug, PartialEq, Eq)]
+pub enum Wanted {
+    /// More octets.
+    More,
+    /// To go on with what it has heard.
+    Step,
+    /// To go on at that moment.
+    Until(u64),
+    /// That it ends.
+    Done,
+}
+
+/// What a connection waits for, beside its socket.
+#[derive(Clone, Copy, Debug, PartialEq, Eq)]
+pub enum Waits {
+    /// Nothing.
+    Nothing,
+    /// The store, which wasn't to be had at the first moment, and is asked for again at the second.
+    Store(u64, u64),
+}
+
+/// How far a message has come, and the time that it took.
+#[derive(Clone, Copy, Debug, PartialEq, Eq)]
+pub struct Tally {
+    /// For so many forms of the recipient that is asked for there is no account.
+    pub tried: usize,
+    /// For so many recipients a reply was made behind the text.
+    pub told: usize,
+    pub waits: Waits,
+    /// For so many milliseconds the store was away before, for this message.
+    pub spent: u64,
+    /// The moment from which on the client's silence is counted.
+    pub since: u64,
+}
+
+impl Tally {
+    /// That of a new message.
+    pub fn fresh(now: u64) -> Tally
+        ensures { result ≡ s.fresh now }
+    {
+        Tally {
+            tried: 0,
+            told: 0,
+            waits: Waits::Nothing,
+            spent: 0,
+            since: now,
+        }
+    }
+
+    /// Whether the store may be asked: it wasn't away for too long.
+    pub fn may_ask(&self, now: u64) -> bool
+        ensures may { result ≡ true → s.MayAsk now self.now }
+        ensures waited { result ≡ false → s.HasWaited now self.now }
+    {
+        self.waited(now) < MAX_AWAY
+    }
+
+    /// For how many milliseconds the store was away in all.
+    fn waited(&self, now: u64) -> u64
+        ensures { result ≡ s.waited now self.now }
+    {
+        match self.waits {
+            Waits::Nothing => self.spent.min(MAX_AWAY),
+            Waits::Store(since, _) => self
+                .spent
+                .saturating_add(now.saturating_sub(since))
+                .min(MAX_AWAY),
+        }
+    }
+
+    /// Behind something that was done: the store isn't waited for.
+    pub fn done(&self, now: u64) -> Tally
+        ensures { result ≡ s.done now self.now }
+    {
+        Tally {
+            tried: self.tried,
+            told: self.told,
+            waits: Waits::Nothing,
+            spent: self.waited(now),
+            since: now,
+        }
+    }
+
+    /// Behind the store's absence.
+    pub fn away(&self, now: u64) -> Tally
+        ensures { result ≡ s.away now self.now }
+    {
+        let since = match self.waits {
+            Waits::Nothing => now,
+            Waits::Store(since, _) => since,
+        };
+        Tally {
+            tried: self.tried,
+            told: self.told,
+            waits: Waits::Store(since, now.wrapping_add(RETRY_SPAN)),
+            spent: self.spent,
+            since: self.since,
+        }
+    }
+
+    /// Behind so many octets that came; of a text that is sent each octet buys a millisecond.
+    pub fn heard(&self, now: u64, sending: bool, count: usize) -> Tally
+        ensures { result ≡ s.heard now sending count self.now }
+    {
+        let since = if sending {
+            self.since.wrapping_add(count as u64).min(now)
+        } else {
+            now
+        };
+        Tally {
+            tried: self.tried,
+            told: self.told,
+            waits: self.waits,
+            spent: self.spent,
+            since,
+        }
+    }
+
+    /// The moment by which the client is late.
+    pub fn due(&self) -> u64
+        ensures { result ≡ s.due self.now }
+    {
+        match self.waits {
+            Waits::Nothing => self.since.wrapping_add(MAX_SILENCE),
+            Waits::Store(_, _) => u64::MAX,
+        }
+    }
+
+    /// What is wanted, where `comes` is what the dialogue wants.
+    pub fn wanted(&self, comes: Wanted) -> Wanted
+        ensures { result ≡ s.wanted comes self.now }
+    {
+        match self.waits {
+            Waits::Nothing => comes,
+            Waits::Store(_, again) => Wanted::Until(again),
+        }
+    }
+}
