@@ -1,5 +1,6 @@
 -- What the definitions say of a few messages, and of what is near them.
-use Rattle.std.proofs.Common.{◌≡◌, true, false, [], ◌∷◌, refl}
+use Rattle.std.proofs.Common.{◌≡◌, true, false, [], ◌∷◌, refl, inl, inr, arith}
+use Rattle.smtpclient.specs.Replies.{IsReplyLine}
 use Rattle.smtpclient.specs.Sent.{mended, chomped, is_folded, sent_from, text_from}
 use Rattle.smtpclient.specs.declared.sent.Place.TheVariants.{Start}
 
@@ -55,3 +56,15 @@ unfolded = refl
 
 folded : is_folded (mended (9 ∷ 13 ∷ [])) ≡ true
 folded = refl
+
+-- ---- replies
+
+-- `250`, `250 a` and `250-a`; near misses: `250a`, `150 a`
+bare_line : IsReplyLine (50 ∷ 53 ∷ 48 ∷ []) 250 true []
+bare_line = record { first = 50; second = 53; third = 48; rest = []; written = refl; digits = record { class = (omega arith, omega arith); other = (omega arith, omega arith); last = (omega arith, omega arith); means = refl }; mark = inl (refl, refl) }
+
+last_line : IsReplyLine (50 ∷ 53 ∷ 48 ∷ 32 ∷ 97 ∷ []) 250 true (97 ∷ [])
+last_line = record { first = 50; second = 53; third = 48; rest = 32 ∷ 97 ∷ []; written = refl; digits = record { class = (omega arith, omega arith); other = (omega arith, omega arith); last = (omega arith, omega arith); means = refl }; mark = inr refl }
+
+other_line : IsReplyLine (50 ∷ 53 ∷ 48 ∷ 45 ∷ 97 ∷ []) 250 false (97 ∷ [])
+other_line = record { first = 50; second = 53; third = 48; rest = 45 ∷ 97 ∷ []; written = refl; digits = record { class = (omega arith, omega arith); other = (omega arith, omega arith); last = (omega arith, omega arith); means = refl }; mark = refl }
