@@ -2,7 +2,7 @@
 use Rattle.std.proofs.Common.{◌≡◌, ℕ, ◌==◌, ◌&&◌, Bool, true, false, if◌then◌else◌, List, [], ◌∷◌, ◌++◌, refl, sym, ap, ◌∙◌, append_assoc, append-nil, subst, arith}
 use Rattle.std.proofs.lemmas.List.Elements.{All-cons, All-head, All-nil, All-tail}
 use Rattle.std.specs.List.{All, flat_map}
-use Rattle.lmtp.specs.Lines.{line_end, HasNoLineEnd, IsLine}
+use Rattle.lmtp.specs.Lines.{line_end, IsLine}
 use Rattle.lmtp.specs.Texts.{with_end, undotted, IsSentLine, IsText}
 use Rattle.smtpclient.specs.Sent.{IsNoFeed, IsCut, is_none, chomped, spaced, mended, mended_lines, dotted, IsSent, begins_feed, sent_from, text_from, is_folded, SentStands}
 use Rattle.smtpclient.specs.declared.sent.Place.{Place}

@@ -5,5 +5,5 @@ pub mod laws;
 pub mod reply;
 pub mod sent;
 
-pub use reply::{ReplyLine, read_reply_line};
+pub use reply::{Heard, ReplyLine, first_reply, read_reply_line};
 pub use sent::{Place, Sent};

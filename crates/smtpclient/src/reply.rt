@@ -1,6 +1,8 @@
 //! What a server answers.
-ghost use Rattle.std.specs.Prelude.{◌≡◌, ◌≤◌, ◌<◌, ℕ, ◌∷◌, length, IfSome};
+ghost use Rattle.std.specs.Prelude.{◌≡◌, ◌≤◌, ◌<◌, ℕ, ◌∷◌, length, ◌↔◌, IsTrue};
 ghost use Rattle.smtpclient.specs.Replies as s;
+
+use lmtp::{Found, first_line};
 
 /// A line of a reply (RFC 5321, section 4.2).
 #[derive(Clone, Copy)]
@@ -57,5 +59,72 @@ fn read_mark(code: u16, rest: &[u8]) -> Option<ReplyLine<'_>>
             text,
         }),
         Some(_) => None,
+    }
+}
+
+/// What stands first in the octets that a server sent.
+#[derive(Clone, Copy)]
+pub enum Heard {
+    /// No whole reply yet.
+    Need,
+    /// A reply with this code, of so many octets with the CRLF of each line.
+    Reply { code: u16, count: usize },
+    /// None, whatever follows.
+    Bad,
+}
+
+/// What stands first in the octets that a server sent: a reply of one line or of several, all with the same code (RFC 5321, section 4.2.1).
+///
+/// A line has at most 2,048 octets with its CRLF. Time is linear in the octets of the reply; no memory is taken.
+pub fn first_reply(octets: &[u8]) -> Heard
+    ensures { s.Hears octets.now result }
+{
+    let mut at = 0;
+    let mut code = None;
+    loop {
+        let (_, left) = octets.split_at(at);
+        match first_line(left) {
+            Found::Need => return Heard::Need,
+            Found::TooLong => return Heard::Bad,
+            Found::Line(count) => {
+                let (octets, _) = left.split_at(count);
+                let Some(line) = line_of(code, octets) else {
+                    return Heard::Bad;
+                };
+                at += count + 2;
+                if line.is_last {
+                    return Heard::Reply {
+                        code: line.code,
+                        count: at,
+                    };
+                }
+                code = Some(line.code);
+            }
+        }
+    }
+}
+
+// The line of a reply that these octets are, where its code is that of the lines before it.
+fn line_of(code: Option<u16>, octets: &[u8]) -> Option<ReplyLine<'_>>
+    ensures { s.ReadsNext code octets.now result }
+{
+    match read_reply_line(octets) {
+        Some(line) => {
+            if agrees(code, line.code) {
+                Some(line)
+            } else {
+                None
+            }
+        }
+        None => None,
+    }
+}
+
+fn agrees(other: Option<u16>, code: u16) -> bool
+    ensures { IsTrue result ↔ s.Agrees other code }
+{
+    match other {
+        Some(other) => code == other,
+        None => true,
     }
 }
