@@ -1,0 +1,4 @@
+pub mod Examples
+pub mod ReplyLemmas
+pub mod RunLemmas
+pub mod SentLemmas

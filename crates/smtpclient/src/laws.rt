@@ -1,0 +1,8 @@
+//! Laws of the definitions, each the contract of a function that does nothing.
+ghost use Rattle.smtpclient.specs.Sent.{SentStands};
+
+/// What is sent of a message is one, whatever octets it has. What the other side takes off it are the message's lines, each with CRLF:
+/// so none ends it early, and none goes on with a field that didn't before.
+pub fn sent_stands()
+    ensures { SentStands }
+{}

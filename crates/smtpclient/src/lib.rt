@@ -1,0 +1,9 @@
+//! The client's side of SMTP (RFC 5321): what is sent of a message, and what a server answers.
+#![tactic(auto)]
+
+pub mod laws;
+pub mod reply;
+pub mod sent;
+
+pub use reply::{Heard, ReplyLine, first_reply, read_reply_line};
+pub use sent::{Place, Sent};

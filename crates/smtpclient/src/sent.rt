@@ -1,0 +1,128 @@
+//! The text of a message, as it is sent behind DATA.
+ghost use Rattle.std.specs.Prelude.{◌≡◌, ◌≢◌, ◌++◌, [], ◌∷◌, ℕ, ◌<◌, ◌≤◌, ◌==◌, true, length, slice_index};
+ghost use Rattle.smtpclient.specs.Sent as s;
+ghost use Rattle.smtpclient.specs.declared.sent.Place.TheVariants.{Over as over};
+
+use memchr::memchr2;
+
+/// Where the next octet of a message stands.
+#[derive(Clone, Copy, Debug, PartialEq, Eq)]
+pub enum Place {
+    /// At a line's front.
+    Start,
+    /// In a line.
+    Inside,
+    /// All is sent.
+    Over,
+}
+
+/// A message as it is sent behind DATA, in parts (RFC 5321, sections 2.3.8 and 4.5.2).
+///
+/// Its lines end at LF, with a CR before it or without one, and each is sent with CRLF, the last one too. A CR in a line is sent as a
+/// space, or as `?` where it begins the line, so that no line becomes the continuation of a field. A dot stands before each line that
+/// begins with one, and a dot alone on a line behind the last one. It takes no memory: the parts are those of the message, or of a few
+/// octets.
+pub struct Sent<'a> {
+    pub(crate) left: &'a [u8],
+    pub(crate) place: Place,
+}
+
+impl<'a> Sent<'a> {
+    /// The parts of a message, from the first one on.
+    pub fn new(message: &'a [u8]) -> Sent<'a>
+        ensures { s.left_of result ≡ s.sent_from s.start message.now }
+    {
+        Sent {
+            left: message,
+            place: Place::Start,
+        }
+    }
+
+    /// The next part, which isn't empty; none where all is sent. For all parts together time is linear in the message's octets.
+    pub fn next(&mut self) -> Option<&'a [u8]>
+        ensures { s.Hands result self.old self.new }
+    {
+        match self.place {
+            Place::Over => None,
+            Place::Start => Some(self.begin()),
+            Place::Inside => Some(self.go_on()),
+        }
+    }
+
+    // At a line's front: the end, a dot before one that is there, a CR that begins the line, or as in a line.
+    fn begin(&mut self) -> &'a [u8]
+        requires { self.old.place ≡ s.start }
+        ensures { s.Passes result self.old self.new }
+    {
+        match self.left {
+            [] => self.put(b".\r\n", self.left, Place::Over),
+            [b'.', ..] => self.put(b".", self.left, Place::Inside),
+            [b'\r', b'\n', ..] => self.go_on(),
+            [b'\r', rest @ ..] => self.put(b"?", rest, Place::Inside),
+            _ => self.go_on(),
+        }
+    }
+
+    // In a line: what stands before the next CR or LF, or what these are sent as.
+    fn go_on(&mut self) -> &'a [u8]
+        requires { s.IsWithin self.old }
+        ensures { s.Passes result self.old self.new }
+    {
+        let count = plain_length(self.left);
+        if count == 0 {
+            return self.end_line();
+        }
+        let (run, rest) = self.left.split_at(count);
+        self.put(run, rest, Place::Inside)
+    }
+
+    // Where no other octet stands before the end of the line.
+    fn end_line(&mut self) -> &'a [u8]
+        requires within { s.IsWithin self.old }
+        requires at { s.BeginsBreak self.old.left.now }
+        ensures { s.Passes result self.old self.new }
+    {
+        let Some((octet, rest)) = self.left.split_first() else {
+            return self.put(b"\r\n", self.left, Place::Start);
+        };
+        if *octet == b'\r' {
+            return self.end_at_return(rest);
+        }
+        self.put(b"\r\n", rest, Place::Start)
+    }
+
+    // Where a CR comes first, and then these: it is its LF's, or else a space.
+    fn end_at_return(&mut self, rest: &'a [u8]) -> &'a [u8]
+        requires within { s.IsWithin self.old }
+        requires first { self.old.left.now ≡ 13 ∷ rest.now }
+        ensures { s.Passes result self.old self.new }
+    {
+        match rest.split_first() {
+            Some((b'\n', behind)) => self.put(b"\r\n", behind, Place::Start),
+            _ => self.put(b" ", rest, Place::Inside),
+        }
+    }
+
+    // Hands out a part, behind which this is left.
+    fn put(&mut self, part: &'a [u8], left: &'a [u8], place: Place) -> &'a [u8]
+        ensures part { result.now ≡ part.now }
+        ensures left { self.new.left.now ≡ left.now }
+        ensures place { self.new.place ≡ place }
+    {
+        self.left = left;
+        self.place = place;
+        part
+    }
+}
+
+// How many octets stand before the first CR or LF.
+fn plain_length(octets: &[u8]) -> usize
+    ensures within { result ≤ length octets.now }
+    ensures plain { (j : ℕ) → j < result → s.is_break (slice_index octets.now j) ≡ true → ⊥ }
+    ensures next { result < length octets.now → s.is_break (slice_index octets.now result) ≡ true }
+{
+    match memchr2(b'\r', b'\n', octets) {
+        Some(count) => count,
+        None => octets.len(),
+    }
+}
