@@ -1,4 +1,4 @@
-//! Tries the cases of `data/` on the libraries, on the engine over a store in memory, and on the program over one in memory and one in a file, and says which rows fail.
+//! Tries the cases of `data/` on the libraries, on the engine and on the program's runs over a store in memory, and says which rows fail.
 //!
 //! Standard output has a line for each file with how many of its cases hold. Standard error has a line for each case
 //! that doesn't, and then the exit status is 1.
@@ -9,7 +9,6 @@ mod asked;
 mod call;
 mod cut;
 mod event;
-mod file;
 mod place;
 mod question;
 mod run;
@@ -43,7 +42,7 @@ fn try_file(rt: &HostRuntime, table: Table) -> io::Result<bool> {
 
 fn try_text(rt: &HostRuntime, table: Table, text: &str) -> io::Result<bool> {
     let mut tally = Tally::new(rt.alloc());
-    table.try_all(rt, &mut tally, text)?;
+    table.try_all(rt.alloc(), &mut tally, text)?;
     tell(rt, table.file(), &tally)
 }
 

@@ -1,10 +1,9 @@
 //! The files of cases.
 use crate::run::MemoryRuns;
-use crate::{asked, file, script, session, stream};
+use crate::{asked, script, session, stream};
 use casefiles::{Answers, Tally, try_rows};
 use octets::Octets;
 use std::alloc::{AllocError, Global};
-use std::io;
 use textcases::TextTable;
 
 /// A file of cases: in tables a line is a case, and its last column is what is wanted.
@@ -20,11 +19,10 @@ pub enum Table {
     Streams,
     Runs,
     Devices,
-    Files,
 }
 
 /// All of them, in the order in which they are tried.
-pub const TABLES: [Table; 26] = [
+pub const TABLES: [Table; 25] = [
     Table::Text(TextTable::Ascii),
     Table::Text(TextTable::Addresses),
     Table::Text(TextTable::Targets),
@@ -49,7 +47,6 @@ pub const TABLES: [Table; 26] = [
     Table::Streams,
     Table::Runs,
     Table::Devices,
-    Table::Files,
     Table::Text(TextTable::Vacations),
 ];
 
@@ -66,19 +63,11 @@ impl Table {
             Table::Streams => "streams.cases",
             Table::Runs => "runs.cases",
             Table::Devices => "devices.cases",
-            Table::Files => "files.cases",
         }
     }
 
     /// Tries each case of the file.
-    pub fn try_all(self, rt: &HostRuntime, tally: &mut Tally, file: &str) -> io::Result<()> {
-        match self {
-            Table::Files => file::try_all(rt, tally, file),
-            _ => Ok(self.try_each(rt.alloc(), tally, file)?),
-        }
-    }
-
-    fn try_each(self, alloc: Global, tally: &mut Tally, file: &str) -> Result<(), AllocError> {
+    pub fn try_all(self, alloc: Global, tally: &mut Tally, file: &str) -> Result<(), AllocError> {
         match self {
             Table::Text(table) => table.try_all(alloc, tally, file),
             Table::Scripts | Table::Tests => script::try_all(alloc, tally, file),
@@ -86,9 +75,7 @@ impl Table {
             Table::Runs | Table::Devices => {
                 try_rows(alloc, tally, &mut MemoryRuns::new(alloc)?, file)
             }
-            Table::Asked | Table::Streams | Table::Files => {
-                try_rows(alloc, tally, &mut Rows, file)
-            }
+            Table::Asked | Table::Streams => try_rows(alloc, tally, &mut Rows, file),
         }
     }
 }
