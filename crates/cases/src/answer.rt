@@ -1,9 +1,9 @@
 //! What is answered to events.
 use casefiles::Part::{Number, Text};
 use casefiles::add_parts;
-use mailengine::{Answer, Outgoing, Progress, Refusal};
+use mailengine::{Answer, Outgoing, Progress, Refusal, Report};
 use octets::Octets;
-use reportlines::of_report;
+use sievedrun::report::print_report;
 use std::alloc::{AllocError, Global};
 use std::format;
 
@@ -26,12 +26,21 @@ pub fn add_shown(
 fn add_answer(alloc: Global, out: &mut Octets, answer: &Answer) -> Result<(), AllocError> {
     match answer {
         Answer::Out(progress, octets) => add_sent(out, *progress, octets.as_slice()),
-        Answer::Delivered(report) => out.extend_from_slice(of_report(alloc, report)?.as_slice()),
+        Answer::Delivered(report) => add_report(alloc, out, report),
         Answer::Added => add_line(out, b"", b"added"),
         Answer::Taken(row) => add_row(out, row),
         Answer::MailTaken => add_line(out, b"", b"mail taken"),
         Answer::Ignored => add_line(out, b"", b"ignored"),
         Answer::Refused(refusal) => add_refusal(alloc, out, *refusal),
+    }
+}
+
+/// Appends the report on a delivery.
+fn add_report(alloc: Global, out: &mut Octets, report: &Report) -> Result<(), AllocError> {
+    let mut text = Vec::new(alloc);
+    match print_report(report, &mut text) {
+        Ok(()) => out.extend_from_slice(text.as_slice()),
+        Err(_) => Err(AllocError),
     }
 }
 

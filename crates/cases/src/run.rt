@@ -4,7 +4,7 @@ use crate::talk;
 use casefiles::Part::{Number, Text};
 use casefiles::{Answers, add_parts, text_in, words_of};
 use keepers::{Keeper, MemoryKeeper};
-use mailsinks::{MailSink, MemorySink};
+use mailsinks::{KeptMail, MailSink, MemorySink};
 use mailstore::Refusal;
 use octets::{Octets, parse_decimal, write_decimal};
 use sievedrun::drive::drive;
@@ -134,10 +134,10 @@ impl Answers for MemoryRuns {
 }
 
 /// Appends how many messages there are, and each of them after a `|`.
-fn add_messages(out: &mut Octets, messages: &[Octets]) -> Result<(), AllocError> {
+fn add_messages(out: &mut Octets, messages: &[KeptMail]) -> Result<(), AllocError> {
     write_decimal(out, messages.len() as u64)?;
-    for message in messages {
-        add_parts(out, &[Text(b"|"), Text(message.as_slice())])?;
+    for mail in messages {
+        add_parts(out, &[Text(b"|"), Text(mail.message.as_slice())])?;
     }
     Ok(())
 }

@@ -6,6 +6,7 @@ use keepers::Keeper;
 use octets::{Octets, parse_decimal};
 use sievedrun::fault::Fault;
 use sievedrun::session::{serve_client, serve_one};
+use sievedwords::StoreLocation;
 use std::alloc::{AllocError, Global};
 use std::format;
 use std::io::ErrorKind;
@@ -30,7 +31,7 @@ pub fn add_sent<K: Keeper>(
     let sent = after_login(alloc, command)?;
     let mut input = pieces_of(usize::MAX, sent.as_slice());
     let mut output = ShortWriter::new(alloc, NEVER);
-    let ended = serve_one(alloc, path, &mut input, &mut output, keeper);
+    let ended = serve_one(alloc, location_of(path), &mut input, &mut output, keeper);
     let answers = after_greeting(output.written.as_slice());
     match answers.strip_prefix(LOGGED_IN) {
         Some(answer) if ended.is_ok() => out.extend_from_slice(answer),
@@ -68,9 +69,21 @@ pub fn answer<K: Keeper>(
     };
     let (mut input, mut output) = (input, ShortWriter::new(alloc, writes));
     let mut errors = Vec::new(alloc);
-    let ended = serve_client(alloc, path, &mut input, &mut output, &mut errors, keeper);
+    let ended = serve_client(
+        alloc,
+        location_of(path),
+        &mut input,
+        &mut output,
+        &mut errors,
+        keeper,
+    );
     add_told(alloc, out, ended, output.written.as_slice(), is_greeted)?;
     add_errors(out, errors.as_slice())
+}
+
+/// The store at a path, which isn't waited for.
+fn location_of(path: &str) -> StoreLocation<'_> {
+    StoreLocation { path, waits: false }
 }
 
 /// What gives that many octets at a time at most.

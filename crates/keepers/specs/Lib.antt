@@ -1,3 +1,4 @@
+pub mod Causes
 pub mod Closing
 pub mod Laws
 pub mod Memory

@@ -1,4 +1,7 @@
 //! What the system and SQLite say of a failure, as texts for a person.
+ghost use Rattle.std.specs.Prelude.{◌≡◌, option_copied};
+ghost use Rattle.keepers.specs.Causes.{file_text};
+
 use sqlite::ErrorCode;
 use std::io::ErrorKind;
 
@@ -6,7 +9,9 @@ use std::io::ErrorKind;
 const NO_ROOM: &str = "disk is full: remove the reserve file beside the store";
 
 /// Of a file that can't be opened, written or renamed; none where nothing more is known of it.
-pub fn of_file(kind: ErrorKind) -> Option<&'static str> {
+pub fn of_file(kind: ErrorKind) -> Option<&'static str>
+    ensures { option_copied result ≡ file_text kind }
+{
     match kind {
         ErrorKind::NotFound => Some("no such directory"),
         ErrorKind::PermissionDenied => Some("permission denied"),

@@ -82,7 +82,7 @@ impl<'a> FileKeeper<'a> {
 impl Keeper for FileKeeper<'_> {
     type S = FileStore<Database>;
 
-    ghost use Rattle.std.specs.Prelude.{false, is_some};
+    ghost use Rattle.std.specs.Prelude.{false, is_some, option_copied};
     ghost use Rattle.keepers.specs.Memory.{no_database};
     ghost use Rattle.keepers.specs.Laws.{never_told};
 
@@ -94,6 +94,10 @@ impl Keeper for FileKeeper<'_> {
     ghost is_out = { λ k. is_some k.lock };
 
     ghost unclosed = { λ k. k.unclosed };
+
+    ghost will_wait = { λ k. k.waits };
+
+    ghost said = { λ k. option_copied k.cause };
 
     ghost closes = { λ _ given told. IsToldOfClosing given told };
 

@@ -1,5 +1,5 @@
 //! What a keeper of a store promises.
-ghost use Rattle.std.specs.Prelude.{◌≡◌, ⊤, ℕ, Bool, false, List, Option, None, is_some, IsTrue, IfOk, IfErr, IfSome, OnOk, OnErr};
+ghost use Rattle.std.specs.Prelude.{◌≡◌, ⊤, ℕ, Bool, false, List, Option, None, is_some, IsTrue, IfOk, IfErr, IfSome, OnOk, OnErr, option_copied};
 ghost use Rattle.sqlite.specs.Effect.{Database};
 ghost use Rattle.sqlite.specs.Held as sqlite;
 ghost use Rattle.sqlite.specs.Held.{state};
@@ -55,6 +55,12 @@ pub trait Keeper {
     /// Why the store that was handed back last couldn't be closed, until that is asked for.
     ghost unclosed: { Self → Option Refusal };
 
+    /// Whether it waits for a lock that another process has.
+    ghost will_wait: { Self → Bool };
+
+    /// What is known of the last failure.
+    ghost said: { Self → Option (List ℕ) };
+
     /// What may be told of the closing of a store that this keeper takes back.
     ghost closes: { Self → sqlite.Held Self.S → Option Refusal → Type 0 };
 
@@ -68,6 +74,7 @@ pub trait Keeper {
 
     /// From now on a call of `lock` or `take` waits for a lock that another process has, or answers Busy.
     fn wait_for_lock(&mut self, waits: bool)
+        ensures asked { will_wait self.new ≡ waits }
         ensures same { IsTrue tells → holds self.new ≡ holds self.old }
         ensures kept { is_out self.new ≡ is_out self.old }
         ensures closed { unclosed self.new ≡ unclosed self.old };
@@ -150,12 +157,14 @@ pub trait Keeper {
     fn take_close_error(&mut self) -> Option<Refusal>
         ensures error { result ≡ unclosed self.old }
         ensures asked { unclosed self.new ≡ None }
+        ensures said { said self.new ≡ said self.old }
         ensures same { IsTrue tells → holds self.new ≡ holds self.old }
         ensures kept { is_out self.new ≡ is_out self.old };
 
     /// What the system or SQLite said of the last failure that this keeper, or a store that it took back, answered as
     /// `Store`: a text for a person, without a line end. None where nothing is known of it.
-    fn cause(&self) -> Option<&'static str>;
+    fn cause(&self) -> Option<&'static str>
+        ensures { option_copied result ≡ said self.now };
 
     // Where it tells them, nothing shuts a store or makes it lie.
     ghost sure: { (held : sqlite.Held Self.S) → IsTrue tells → HasCleanDisk (state Self.S.Store held) × IsTrue (state Self.S.Store held).is_open };

@@ -8,13 +8,15 @@ use sqlite::{Connection, MemStore};
 use std::alloc::{AllocError, Global};
 
 /// Keeps one store in memory, whatever path it is asked for, answers one call for the lock that was chosen as Busy, and can't close
-/// at another one. Nobody waits for it.
+/// at another one. Nobody waits for it, whether or not that is asked for.
 #[derive(Drop)]
 pub struct MemoryKeeper {
     conn: Option<Connection<MemStore>>,
     alloc: Global,
     /// Whether the lock is out, alone or with the store.
     locked: bool,
+    /// Whether a lock is to be waited for.
+    waits: bool,
     /// How many times the lock is asked for before the one that is answered as Busy.
     busy_after: Option<u64>,
     /// How many stores are handed back before the one that can't be closed.
@@ -35,6 +37,7 @@ impl MemoryKeeper {
             conn: Some(conn),
             alloc,
             locked: false,
+            waits: false,
             busy_after: None,
             unclosed_after: None,
             unclosed: None,
@@ -83,7 +86,7 @@ impl MemoryKeeper {
 impl Keeper for MemoryKeeper {
     type S = MemStore;
 
-    ghost use Rattle.std.specs.Prelude.{true, refl};
+    ghost use Rattle.std.specs.Prelude.{true, None, refl};
     ghost use Rattle.sqlite.proofs.Callers.{memory_is_clean};
     ghost use Rattle.keepers.specs.Memory.{database_in};
 
@@ -95,9 +98,15 @@ impl Keeper for MemoryKeeper {
 
     ghost unclosed = { λ k. k.unclosed };
 
+    ghost will_wait = { λ k. k.waits };
+
+    ghost said = { λ _. None };
+
     ghost closes = { λ k _ told. told ≡ told_of_close k.unclosed_after };
 
-    fn wait_for_lock(&mut self, _waits: bool) {}
+    fn wait_for_lock(&mut self, waits: bool) {
+        self.waits = waits;
+    }
 
     fn lock(&mut self, _path: &str) -> Result<(), Unavailable> {
         if self.is_chosen() {

@@ -1,6 +1,11 @@
 -- What a sink keeps.
 use Rattle.std.specs.Prelude.{◌≡◌, ℕ, ◌⊎◌, List, [], ◌∷◌, ◌++◌}
+use Rattle.mailsinks.specs.declared.kept.KeptMail.{KeptMail}
+
+-- the message that has this number in the user's folder
+abbrev pub kept_mail : List ℕ → List ℕ → ℕ → List ℕ → KeptMail
+kept_mail user folder number message = record { user = user; folder = folder; number = number; message = message }
 
 -- after a try that was refused: the messages as they were, or with this one at their end
-abbrev pub MayKeep : List (List ℕ) → List ℕ → List (List ℕ) → Type 0
-MayKeep old message new = (new ≡ old) ⊎ (new ≡ old ++ message ∷ [])
+abbrev pub MayKeep : List KeptMail → KeptMail → List KeptMail → Type 0
+MayKeep old mail new = (new ≡ old) ⊎ (new ≡ old ++ mail ∷ [])

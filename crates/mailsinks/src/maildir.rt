@@ -48,6 +48,8 @@ impl MailSink for Maildir<'_> {
     // Any, since it tells none.
     ghost kept = { λ _. [] };
 
+    ghost said = { λ maildir. maildir.cause };
+
     ghost is_at = { λ maildir path. option_map string_bytes maildir.path ≡ Some path };
 
     fn open(&mut self, path: &str) -> Result<(), SinkError> {

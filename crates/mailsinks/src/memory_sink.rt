@@ -1,15 +1,16 @@
 //! A sink over memory, for tests.
 ghost use Rattle.std.specs.Prelude.{◌≡◌, []};
 
+use crate::kept::KeptMail;
 use crate::sink::{MailSink, SinkError};
-use octets::{Octets, Texts};
+use octets::{List, Octets};
 use std::alloc::Global;
 use std::io::ErrorKind;
 
 /// Keeps messages in memory, whatever path it is given, and fails at one call that was chosen.
 #[derive(Drop)]
 pub struct MemorySink {
-    messages: Texts,
+    messages: List<KeptMail>,
     alloc: Global,
     /// How many calls of `keep` come before the one that fails.
     fail_after: Option<u64>,
@@ -23,7 +24,7 @@ impl MemorySink {
         ensures { result.messages ≡ [] }
     {
         MemorySink {
-            messages: Texts::new(alloc),
+            messages: List::new(alloc),
             alloc,
             fail_after: None,
             refuses: false,
@@ -45,7 +46,7 @@ impl MemorySink {
     }
 
     /// What was kept, in order. Takes no memory.
-    pub fn messages(&self) -> &[Octets]
+    pub fn messages(&self) -> &[KeptMail]
         ensures { result.now ≡ self.now.messages }
     {
         self.messages.as_slice()
@@ -53,11 +54,13 @@ impl MemorySink {
 }
 
 impl MailSink for MemorySink {
-    ghost use Rattle.std.specs.Prelude.{true};
+    ghost use Rattle.std.specs.Prelude.{true, None};
 
     ghost tells = { true };
 
     ghost kept = { λ sink. sink.messages };
+
+    ghost said = { λ _. None };
 
     fn open(&mut self, _path: &str) -> Result<(), SinkError> {
         if self.refuses {
@@ -68,9 +71,9 @@ impl MailSink for MemorySink {
 
     fn keep(
         &mut self,
-        _user: &[u8],
-        _folder: &[u8],
-        _number: u64,
+        user: &[u8],
+        folder: &[u8],
+        number: u64,
         message: &[u8],
     ) -> Result<(), SinkError> {
         let calls = self.fail_after;
@@ -78,8 +81,13 @@ impl MailSink for MemorySink {
         if calls == Some(0) {
             return Err(SinkError::Failed);
         }
-        self.messages
-            .push(Octets::from_slice(self.alloc, message)?)?;
+        let mail = KeptMail {
+            user: Octets::from_slice(self.alloc, user)?,
+            folder: Octets::from_slice(self.alloc, folder)?,
+            number,
+            message: Octets::from_slice(self.alloc, message)?,
+        };
+        self.messages.push(mail)?;
         Ok(())
     }
 

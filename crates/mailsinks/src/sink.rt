@@ -1,7 +1,9 @@
 //! Where messages go that leave a store.
-ghost use Rattle.std.specs.Prelude.{◌≡◌, ⊤, ℕ, Bool, List, [], ◌∷◌, ◌++◌, IsTrue, IfErr, OnOk, OnErr};
+ghost use Rattle.std.specs.Prelude.{◌≡◌, ⊤, ℕ, Bool, List, [], ◌∷◌, ◌++◌, Option, IsTrue, IfErr, OnOk, OnErr};
+ghost use Rattle.std_io.specs.declared.io.kind.ErrorKind.{ErrorKind};
+ghost use Rattle.mailsinks.specs.declared.kept.KeptMail.{KeptMail};
 ghost use Rattle.mailsinks.specs.declared.sink.SinkError.{SinkError};
-ghost use Rattle.mailsinks.specs.Kept.{MayKeep};
+ghost use Rattle.mailsinks.specs.Kept.{MayKeep, kept_mail};
 
 use std::alloc::AllocError;
 use std::io::ErrorKind;
@@ -33,8 +35,11 @@ pub trait MailSink {
     /// Whether it tells what it keeps. One over memory does, one over files doesn't.
     ghost tells: { Bool };
 
-    /// The messages that it keeps, in the order in which they came, where it tells them.
-    ghost kept: { Self → List (List ℕ) };
+    /// The messages that it keeps, each with its user, folder and number, in the order in which they came, where it tells them.
+    ghost kept: { Self → List KeptMail };
+
+    /// What the system said of the last failure.
+    ghost said: { Self → Option ErrorKind };
 
     /// What is so of a sink that was opened at a path, until it is opened at another. Only an Ok of `open` says it, so who can say it of
     /// any sink opened it for that path.
@@ -69,10 +74,11 @@ pub trait MailSink {
         message: &[u8],
     ) -> Result<(), SinkError>
         ensures stays { (path : List ℕ) → is_at self.old path → is_at self.new path }
-        ensures kept { OnOk result (IsTrue tells → kept self.new ≡ kept self.old ++ message.now ∷ []) }
-        ensures refused { OnErr result (IsTrue tells → MayKeep (kept self.old) message.now (kept self.new)) }
+        ensures kept { OnOk result (IsTrue tells → kept self.new ≡ kept self.old ++ kept_mail user.now folder.now number message.now ∷ []) }
+        ensures refused { OnErr result (IsTrue tells → MayKeep (kept self.old) (kept_mail user.now folder.now number message.now) (kept self.new)) }
         ensures denied { IfErr result (refuses self.old) };
 
     /// What the system said of the last failure; none where it said nothing.
-    fn cause(&self) -> Option<ErrorKind>;
+    fn cause(&self) -> Option<ErrorKind>
+        ensures { result ≡ said self.now };
 }

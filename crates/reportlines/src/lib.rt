@@ -9,4 +9,4 @@ pub mod listing;
 pub mod report;
 
 pub use listing::{of_notices, of_queue};
-pub use report::{of_fault, of_outcome, of_report};
+pub use report::{of_fault, of_outcome};

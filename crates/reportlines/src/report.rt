@@ -1,18 +1,17 @@
 //! What is printed of an outcome, or of a fault of the script.
-ghost use Rattle.std.specs.Prelude.{◌≡◌, ◌++◌, codes, decimal, map, IfOk, OnOk};
+ghost use Rattle.std.specs.Prelude.{◌≡◌, ◌++◌, codes, map, IfOk, OnOk};
 ghost use Rattle.std.specs.List.{flat_map};
 ghost use Rattle.sievelex.specs.Faults.{fault_line};
 ghost use Rattle.sieveexec.specs.Runs.{failure_view, outcome_view};
 ghost use Rattle.deliverplan.specs.Delivered.{failure_text as failure_text_of};
 ghost use Rattle.addrparts.specs.Spelling.{spelling};
-ghost use Rattle.reportlines.specs.Reports.{delivery_lines, delivery_report, file_line, send_line, lines_of, notice_lines, or_discard, reply_lines, vacation_lines, with_end, report_of};
+ghost use Rattle.reportlines.specs.Reports.{file_line, send_line, lines_of, or_discard, reply_lines, with_end, report_of};
 
 use crate::line::add_line;
 use addrparts::{Addr, spell};
 use deliverplan::failure_text;
-use mailengine::{Failure, Outcome, Report};
-use mailstore::VacationReport;
-use octets::{Octets, write_decimal};
+use mailengine::{Failure, Outcome};
+use octets::Octets;
 use sievelex::ScriptFault;
 use std::alloc::{AllocError, Global};
 
@@ -29,70 +28,6 @@ pub fn of_outcome(alloc: Global, outcome: &Outcome) -> Result<Octets, AllocError
             sent.as_slice(),
             reply.is_some(),
         ),
-    }
-}
-
-/// The report on a delivery that was made: a line for each folder that the message joined, for each address that it goes
-/// on to, on a vacation reply and of a notice, in this order, or `discard` where there is none.
-pub fn of_report(alloc: Global, report: &Report) -> Result<Octets, AllocError>
-    ensures { IfOk result (λ text. text ≡ delivery_report report.now) }
-{
-    let text = of_delivery(alloc, report)?;
-    if text.is_empty() {
-        return Octets::from_slice(alloc, b"discard\n");
-    }
-    Ok(text)
-}
-
-/// The lines on what a delivery did.
-fn of_delivery(alloc: Global, report: &Report) -> Result<Octets, AllocError>
-    ensures { IfOk result (λ text. text ≡ flat_map with_end (delivery_lines report.now)) }
-{
-    let mut text = Octets::new(alloc);
-    add_mailboxes(&mut text, report.filed.as_slice())?;
-    add_addresses(&mut text, report.sent.as_slice())?;
-    add_vacation(&mut text, report.vacation)?;
-    add_notice(&mut text, &report.notice)?;
-    Ok(text)
-}
-
-/// Appends a line for each address that the message goes on to.
-fn add_addresses(text: &mut Octets, sent: &[Octets]) -> Result<(), AllocError>
-    ensures { OnOk result (text.new ≡ text.old ++ flat_map with_end (map send_line sent.now)) }
-{
-    for target in sent {
-        add_line(text, b"send ", target.as_slice())?;
-    }
-    Ok(())
-}
-
-/// Appends the line on a vacation reply, if the script asked for one.
-fn add_vacation(text: &mut Octets, vacation: VacationReport) -> Result<(), AllocError>
-    ensures { OnOk result (text.new ≡ text.old ++ flat_map with_end (vacation_lines vacation)) }
-{
-    match vacation {
-        VacationReport::None => Ok(()),
-        VacationReport::Sent => text.extend_from_slice(b"vacation sent\n"),
-        VacationReport::Quiet(reason) => add_reason(text, reason),
-    }
-}
-
-/// Appends the line on the rule that forbade a vacation reply.
-fn add_reason(text: &mut Octets, reason: u8) -> Result<(), AllocError>
-    ensures { OnOk result (text.new ≡ text.old ++ with_end (codes "vacation quiet " ++ decimal reason)) }
-{
-    text.extend_from_slice(b"vacation quiet ")?;
-    write_decimal(text, reason as u64)?;
-    text.push(b'\n')
-}
-
-/// Appends the line of a notice, if the user was left one.
-fn add_notice(text: &mut Octets, notice: &Option<Octets>) -> Result<(), AllocError>
-    ensures { OnOk result (text.new ≡ text.old ++ flat_map with_end (notice_lines notice.now)) }
-{
-    match notice {
-        Some(notice) => add_line(text, b"notice ", notice.as_slice()),
-        None => Ok(()),
     }
 }
 

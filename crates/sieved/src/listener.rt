@@ -3,7 +3,7 @@ use keepers::Keeper;
 use sievedrun::fault::{Fault, refuse};
 use sievedrun::session::serve_client;
 use sievedrun::values::{decimal, port_of};
-use sievedwords::Serve;
+use sievedwords::{Serve, StoreLocation};
 use std::alloc::Global;
 use std::io::{ErrorKind, Write};
 use std::net::{Ipv4Addr, Net, SocketAddr, TcpListener, TcpStream};
@@ -47,10 +47,9 @@ where
     let Ok(listener) = listen(rt, alloc, port, output) else {
         return Err(Fault::Stream);
     };
-    keeper.wait_for_lock(asked.location.waits);
     serve_all(
         alloc,
-        asked.location.path,
+        asked.location,
         &listener,
         sessions,
         errors,
@@ -82,7 +81,7 @@ pub fn tell_listening<W: Write>(
 /// trouble with the store that a client meets is told on the errors.
 fn serve_all<E: Write, K: Keeper>(
     alloc: Global,
-    path: &str,
+    location: StoreLocation<'_>,
     listener: &TcpListener,
     sessions: Option<u64>,
     errors: &mut E,
@@ -99,7 +98,7 @@ fn serve_all<E: Write, K: Keeper>(
             Err(_) => return Err(Fault::Stream),
         };
         let (mut input, mut output) = (&stream, &stream);
-        let _ = serve_client(alloc, path, &mut input, &mut output, errors, keeper);
+        let _ = serve_client(alloc, location, &mut input, &mut output, errors, keeper);
         left = match left {
             Some(0 | 1) => return Ok(()),
             Some(more) => Some(more - 1),

@@ -1,10 +1,10 @@
 -- A folder that was drained: what tables show, and what the whole program leaves.
-use Rattle.std.proofs.Common.{◌≡◌, ◌⊎◌, ℕ, suc, Bool, List, [], ◌++◌, take, arith, Option, Result, Ok, Err, is_ok, IfErr, OnOk, IsTrue, refl, sym, ◌∙◌, ap, subst, inl, inr}
+use Rattle.std.proofs.Common.{◌≡◌, ◌⊎◌, ℕ, suc, Bool, List, [], ◌++◌, take, arith, Option, Result, Ok, Err, is_ok, IfErr, IsTrue, refl, sym, ◌∙◌, ap, subst, inl, inr}
 use Rattle.std.proofs.lemmas.List.{append-nil}
-use Rattle.std.specs.Io.KnownBytes.{Appends}
 use Rattle.std.specs.Option.{option_copied}
 use Rattle.sqlite.specs.Effect.{Database}
 use Rattle.sqlite.specs.State.{State, HasCleanDisk}
+use Rattle.mailsinks.specs.declared.kept.KeptMail.{KeptMail}
 use Rattle.mailsinks.specs.declared.sink.SinkError.{SinkError}
 use Rattle.mailsinks.specs.declared.sink.SinkError.TheVariants as sink
 use Rattle.mailstore.specs.Account.{Accounts}
@@ -14,11 +14,10 @@ use Rattle.mailstore.specs.Shows.{OpensAs}
 use Rattle.sievedrun.specs.declared.fault.Fault.{Fault}
 use Rattle.sievedrun.specs.declared.fault.Fault.TheVariants.{Stream, NoMaildir}
 use Rattle.sievedwords.specs.declared.subcommand.drain.Drain.{Drain}
-use Rattle.sievedrun.specs.Faults.{no_user, status_of, sink_fault, IsCutOff, IsSudden, IsHindered}
+use Rattle.sievedrun.specs.Faults.{no_user, status_of, sink_fault, IsPrinted, IsSudden, IsHindered}
 use Rattle.sievedrun.specs.Draining.{mail_in, GrowsBy, StoppedShort, MovesMail, BrokeOff, Drained, Drains, IsUnkept, TurnsTables, MovesTables, IsMost, StopsDraining, WordDrained, HasDrained, drained_line}
 use Rattle.sievedrun.specs.Values.{HasNoNumber}
 use Rattle.sievedrun.proofs.LeaveLemmas.{grown_none}
-use Rattle.sievedrun.proofs.MoveLemmas.{}
 use Rattle.sievedrun.proofs.WordLemmas.{carried_turned, stays_turned, turned_wider, no_memory, broken, denied, sudden_hinders, kept_same}
 
 -- ---- over tables
@@ -47,24 +46,24 @@ stops Sunk Denied user (Err fault) named accounts free = elim named [
 ]
 
 -- a store was taken for the word, drained, and handed back
-pub drained_turned : (Sunk : SinkError → Type 0) (Denied : Fault → Type 0) (asked : Drain) (user folder : List ℕ) → user ≡ asked.user.now → folder ≡ asked.folder.now → (tells : Bool) (had has : List (List ℕ)) (most : ℕ) (q r : Result ℕ Fault) → q ≡ r
+pub drained_turned : (Sunk : SinkError → Type 0) (Denied : Fault → Type 0) (asked : Drain) (user folder : List ℕ) → user ≡ asked.user.now → folder ≡ asked.folder.now → (tells : Bool) (had has : List KeptMail) (most : ℕ) (q r : Result ℕ Fault) → q ≡ r
     → IfErr q (λ fault. IsSudden (IsUnkept Sunk) fault ⊎ (fault ≡ no_user)) → (held new : Database) (taken given : State) → OpensAs held taken.now → IsKnown held → HasCleanDisk given → IsTrue given.is_open → new ≡ given.now
     → Drains user folder tells had has most q taken given → MovesTables Sunk Denied asked tells had has most r held new
 drained_turned Sunk Denied asked user folder user_is folder_is tells had has most q r same named held new taken given opens ours clean live back moves =
-    let Grew = GrowsBy tells had has in
+    let Grew = GrowsBy user folder tells had has in
     let Became : Accounts → Accounts → Type 0 = λ accounts later. Drained user folder Grew most q accounts later × (q ≡ Err no_user → IsFree user accounts) in
-    let Wider : List ℕ → List ℕ → Result ℕ Fault → Accounts → Accounts → Type 0 = λ u f o accounts later. Drained u f Grew most o accounts later × IfErr o (λ fault. StopsDraining Sunk ⊥ Denied u fault accounts) in
+    let Wider : List ℕ → List ℕ → Result ℕ Fault → Accounts → Accounts → Type 0 = λ u f o accounts later. Drained u f (GrowsBy u f tells had has) most o accounts later × IfErr o (λ fault. StopsDraining Sunk ⊥ Denied u fault accounts) in
     let turned = turned_wider Became (Wider user folder q) held new (λ accounts later h. (h.0, stops Sunk Denied user q named accounts h.1)) (moves_turned user folder Grew (is_ok q) Became held new taken given opens ours clean live back moves) in
     subst (λ o. TurnsTables (Wider asked.user.now asked.folder.now o) held new) same
     (subst (λ u. TurnsTables (Wider u asked.folder.now q) held new) user_is (subst (λ f. TurnsTables (Wider user f q) held new) folder_is turned))
 
 -- no store was given out
-pub drained_denied : (Sunk : SinkError → Type 0) (Denied : Fault → Type 0) (asked : Drain) (tells : Bool) (kept : List (List ℕ)) (most : ℕ) (fault : Fault) (r : Result ℕ Fault) → r ≡ Err fault → Denied fault → (held new : Database) → new ≡ held
+pub drained_denied : (Sunk : SinkError → Type 0) (Denied : Fault → Type 0) (asked : Drain) (tells : Bool) (kept : List KeptMail) (most : ℕ) (fault : Fault) (r : Result ℕ Fault) → r ≡ Err fault → Denied fault → (held new : Database) → new ≡ held
     → MovesTables Sunk Denied asked tells kept kept most r held new
 drained_denied Sunk Denied asked tells kept most fault r is why held new same =
     subst (λ o. MovesTables Sunk Denied asked tells kept kept most o held new) (sym is)
-    (stays_turned (λ accounts later. Drained asked.user.now asked.folder.now (GrowsBy tells kept kept) most (Err fault) accounts later × StopsDraining Sunk ⊥ Denied asked.user.now fault accounts) held new same
-    (λ accounts. (nothing_drained asked.user.now asked.folder.now (GrowsBy tells kept kept) most fault accounts (grown_none tells kept), inl (denied (IsUnkept Sunk) ⊥ Denied fault why (λ no. no)))))
+    (stays_turned (λ accounts later. Drained asked.user.now asked.folder.now (GrowsBy asked.user.now asked.folder.now tells kept kept) most (Err fault) accounts later × StopsDraining Sunk ⊥ Denied asked.user.now fault accounts) held new same
+    (λ accounts. (nothing_drained asked.user.now asked.folder.now (GrowsBy asked.user.now asked.folder.now tells kept kept) most fault accounts (grown_none asked.user.now asked.folder.now tells kept), inl (denied (IsUnkept Sunk) ⊥ Denied fault why (λ no. no)))))
 
 -- a sink whose growth is told by another name
 module _ (user folder : List ℕ) (One Other : List (List ℕ) → Type 0) (told_so : (messages : List (List ℕ)) → One messages → Other messages) where
@@ -86,10 +85,10 @@ module _ (user folder : List ℕ) (One Other : List (List ℕ) → Type 0) (told
   drained_so most (Err fault) accounts later h = (h.0, stopped_so h.0 accounts later h.1, h.2, elim h.3 [ inl none ↦ inl (none.0, told_so [] none.1) | inr transient ↦ inr transient ])
 
 -- the word: the sink was opened, the store was drained, and the line was written
-module _ (Sunk : SinkError → Type 0) (Denied : Fault → Type 0) (asked : Drain) (tells : Bool) (had opened has : List (List ℕ)) (same : IsTrue tells → opened ≡ had) (most : ℕ) (digits : IsMost (option_copied asked.most) most) (right : HasNoNumber (option_copied asked.most) → ⊥) (q : Result ℕ Fault) (held new : Database)
+module _ (Sunk : SinkError → Type 0) (Denied : Fault → Type 0) (asked : Drain) (tells : Bool) (had opened has : List KeptMail) (same : IsTrue tells → opened ≡ had) (most : ℕ) (digits : IsMost (option_copied asked.most) most) (right : HasNoNumber (option_copied asked.most) → ⊥) (q : Result ℕ Fault) (held new : Database)
     (drained : MovesTables Sunk Denied asked tells opened has most q held new) where
   abbrev Gained : List (List ℕ) → Type 0
-  Gained = GrowsBy tells had has
+  Gained = GrowsBy asked.user.now asked.folder.now tells had has
 
   abbrev NoMost : Type 0
   NoMost = HasNoNumber (option_copied asked.most)
@@ -97,16 +96,16 @@ module _ (Sunk : SinkError → Type 0) (Denied : Fault → Type 0) (asked : Drai
   abbrev Did : Option (List ℕ) → Option (List ℕ) → Result (Unit {0}) Fault → Database → Database → Type 0
   Did = HasDrained Sunk Denied asked tells had has
 
-  as_told : (messages : List (List ℕ)) → GrowsBy tells opened has messages → Gained messages
-  as_told messages h told = h told ∙ ap (λ l. l ++ messages) (same told)
+  as_told : (messages : List (List ℕ)) → GrowsBy asked.user.now asked.folder.now tells opened has messages → Gained messages
+  as_told messages h told = let g = h told in (g.0, g.1 ∙ ap (λ l. l ++ g.0) (same told), g.2)
 
   abbrev Became : Result ℕ Fault → Accounts → Accounts → Type 0
   Became r accounts later = Drained asked.user.now asked.folder.now Gained most r accounts later × IfErr r (λ fault. StopsDraining Sunk ⊥ Denied asked.user.now fault accounts)
 
   as_drained : (r : Result ℕ Fault) → q ≡ r → TurnsTables (Became r) held new
   as_drained r is = subst (λ o. TurnsTables (Became o) held new) is
-      (turned_wider (λ accounts later. Drained asked.user.now asked.folder.now (GrowsBy tells opened has) most q accounts later × IfErr q (λ fault. StopsDraining Sunk ⊥ Denied asked.user.now fault accounts)) (Became q) held new
-      (λ accounts later h. (drained_so asked.user.now asked.folder.now (GrowsBy tells opened has) Gained as_told most q accounts later h.0, h.1)) drained)
+      (turned_wider (λ accounts later. Drained asked.user.now asked.folder.now (GrowsBy asked.user.now asked.folder.now tells opened has) most q accounts later × IfErr q (λ fault. StopsDraining Sunk ⊥ Denied asked.user.now fault accounts)) (Became q) held new
+      (λ accounts later h. (drained_so asked.user.now asked.folder.now (GrowsBy asked.user.now asked.folder.now tells opened has) Gained as_told most q accounts later h.0, h.1)) drained)
 
   still : (fault : Fault) → IsHindered (IsUnkept Sunk) ⊥ Denied fault → IsHindered (IsUnkept Sunk) NoMost Denied fault
   still fault h = elim h [
@@ -131,28 +130,23 @@ module _ (Sunk : SinkError → Type 0) (Denied : Fault → Type 0) (asked : Drai
       turned_wider (Became (Err fault)) (WordDrained Sunk Denied asked Gained out out (Err fault)) held new
       (λ accounts later h. (most, inl digits, h.0, inl (kept_same out, stops_wider fault accounts h.1))) (as_drained (Err fault) is)
 
-  -- what comes after it fails, and a front of the line is printed
-  pub word_failed : (old out : Option (List ℕ)) (count : ℕ) (fault : Fault) → q ≡ Ok count → IsCutOff fault old out (drained_line count) → Did old out (Err fault) held new
+  -- the line was printed, or a front of it
+  pub word_printed : (old out : Option (List ℕ)) (count : ℕ) (r : Result (Unit {0}) Fault) → q ≡ Ok count → IsPrinted r old out (drained_line count) → Did old out r held new
   unfolding drained_before
-  word_failed old out count fault is cut =
-      let transient : status_of fault ≡ 75 = elim cut [ inl e ↦ ap status_of e.0 | inr e ↦ ap status_of e.0 ] in
-      turned_wider (Became (Ok count)) (WordDrained Sunk Denied asked Gained old out (Err fault)) held new
-      (λ accounts later h. (most, inl digits, drained_before asked.user.now asked.folder.now Gained most count fault accounts later transient h.0, inr cut)) (as_drained (Ok count) is)
-
-  pub word_written : (old out : Option (List ℕ)) (count : ℕ) (r : Result (Unit {0}) Fault) → q ≡ Ok count → OnOk r (Appends old out (drained_line count)) → IfErr r (λ fault. IsCutOff fault old out (drained_line count))
-      → Did old out r held new
-  word_written old out count (Ok done) is printed cut =
+  word_printed old out count (Ok done) is printed =
       turned_wider (Became (Ok count)) (WordDrained Sunk Denied asked Gained old out (Ok done)) held new (λ accounts later h. (most, count, digits, h.0, printed)) (as_drained (Ok count) is)
-  word_written old out count (Err fault) is printed cut = word_failed old out count fault is cut
+  word_printed old out count (Err fault) is printed =
+      turned_wider (Became (Ok count)) (WordDrained Sunk Denied asked Gained old out (Err fault)) held new
+      (λ accounts later h. (most, inl digits, drained_before asked.user.now asked.folder.now Gained most count fault accounts later (ap status_of printed.0) h.0, inr printed)) (as_drained (Ok count) is)
 
 -- before the store was taken
-pub word_refused : (Sunk : SinkError → Type 0) (Denied : Fault → Type 0) (asked : Drain) (tells : Bool) (had has : List (List ℕ)) (same : IsTrue tells → has ≡ had) (fault : Fault)
+pub word_refused : (Sunk : SinkError → Type 0) (Denied : Fault → Type 0) (asked : Drain) (tells : Bool) (had has : List KeptMail) (same : IsTrue tells → has ≡ had) (fault : Fault)
     → IsHindered (IsUnkept Sunk) (HasNoNumber (option_copied asked.most)) Denied fault ⊎ ((fault ≡ NoMaildir) × Sunk sink.NoMaildir × (HasNoNumber (option_copied asked.most) → ⊥))
     → (out : Option (List ℕ)) (held : Database) → HasDrained Sunk Denied asked tells had has out out (Err fault) held held
 word_refused Sunk Denied asked tells had has same fault cause out held =
-    stays_turned (WordDrained Sunk Denied asked (GrowsBy tells had has) out out (Err fault)) held held refl
+    stays_turned (WordDrained Sunk Denied asked (GrowsBy asked.user.now asked.folder.now tells had has) out out (Err fault)) held held refl
     (λ accounts.
-    let none = nothing_drained asked.user.now asked.folder.now (GrowsBy tells had has) 0 fault accounts (λ told. same told ∙ sym (append-nil had)) in
+    let none = nothing_drained asked.user.now asked.folder.now (GrowsBy asked.user.now asked.folder.now tells had has) 0 fault accounts (λ told. ([], same told ∙ sym (append-nil had), tt)) in
     (0, inr refl, none, inl (kept_same out, elim cause [ inl hindered ↦ inl hindered | inr maildir ↦ inr (inl maildir) ])))
 
 -- why the place for the messages couldn't be opened

@@ -1,6 +1,6 @@
 -- Framing and rounds of a session by example: right ones, and what is near them.
 use Prim.Native.Nat.{zero}
-use Rattle.std.proofs.Common.{true, false, inl, inr, lit≤, suc, ◌<◌, get_or, refl, ap, ◌≡◌, ℕ, List, [], ◌∷◌, ◌++◌, arith}
+use Rattle.std.proofs.Common.{Bool, true, false, inl, inr, lit≤, suc, ◌<◌, get_or, refl, sym, ap, ◌∙◌, ◌≡◌, ℕ, List, [], ◌∷◌, ◌++◌, arith}
 use Rattle.std.specs.Prelude.{codes}
 use Rattle.octets.specs.Ascii.{is_digit}
 use Rattle.octets.specs.Decimal.{Writes, number_of}
@@ -12,6 +12,7 @@ use Rattle.sessions.specs.Replies.{done}
 use Rattle.keepers.specs.declared.keeper.Unavailable.{Unavailable}
 use Rattle.keepers.specs.declared.keeper.Unavailable.TheVariants.{Busy}
 use Rattle.sessions.specs.Refusing.{WasRefused}
+use Rattle.sievedwords.specs.declared.location.StoreLocation.{StoreLocation}
 use Rattle.sievedrun.specs.Framing.{IsFramed}
 use Rattle.sievedrun.specs.Serving.{Round, HasGiven, IsDenied, Hears, Steps, GivesUp, Leads, came_in, said_in}
 
@@ -106,22 +107,34 @@ half_answered r s = let ready : false ≡ true = s.ready in cc
 closed_hears : (r : Round) → Hears no_accounts (shut new_client) r → ⊥
 closed_hears r h = let live : true ≡ false = h.live in cc
 
--- a denial at a path is none at another one
+-- a denial at a path is none at another one, nor one of a keeper that waits otherwise; so with a store that was given
 abbrev RefusesA : ℕ → List ℕ → Unavailable → Type 0
 RefusesA keeper path denial = path ≡ codes "a.db"
 
-denied_there : IsDenied RefusesA (codes "a.db")
-denied_there = (0, Busy, refl)
-
-denied_elsewhere : IsDenied RefusesA (codes "b.db") → ⊥
-denied_elsewhere h = let first : 98 ≡ 97 = ap (λ l. get_or l 0 0) h.2 in absurd (omega (arith, first))
-
--- a store that was given at a path wasn't given at another one
 abbrev GivesA : ℕ → List ℕ → Type 0
 GivesA keeper path = path ≡ codes "a.db"
 
-given_there : HasGiven GivesA (codes "a.db")
-given_there = (0, refl)
+abbrev waits_never : ℕ → Bool
+waits_never keeper = false
 
-given_elsewhere : HasGiven GivesA (codes "b.db") → ⊥
-given_elsewhere h = let first : 98 ≡ 97 = ap (λ l. get_or l 0 0) h.1 in absurd (omega (arith, first))
+module _ (here there : StoreLocation) (a : here.path.now ≡ codes "a.db") (b : there.path.now ≡ codes "b.db") where
+  other_path : there.path.now ≡ codes "a.db" → ⊥
+  other_path is = let first : 98 ≡ 97 = ap (λ l. get_or l 0 0) (sym b ∙ is) in absurd (omega (arith, first))
+
+  denied_there : here.waits ≡ false → IsDenied RefusesA waits_never here
+  denied_there at_once = (0, Busy, a, sym at_once)
+
+  denied_elsewhere : IsDenied RefusesA waits_never there → ⊥
+  denied_elsewhere h = other_path h.2
+
+  denied_at_once : here.waits ≡ true → IsDenied RefusesA waits_never here → ⊥
+  denied_at_once waits h = let no : false ≡ true = h.3 ∙ waits in cc
+
+  given_there : here.waits ≡ false → HasGiven GivesA waits_never here
+  given_there at_once = (0, a, sym at_once)
+
+  given_elsewhere : HasGiven GivesA waits_never there → ⊥
+  given_elsewhere h = other_path h.1
+
+  given_at_once : here.waits ≡ true → HasGiven GivesA waits_never here → ⊥
+  given_at_once waits h = let no : false ≡ true = h.2 ∙ waits in cc

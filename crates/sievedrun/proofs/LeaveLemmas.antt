@@ -6,8 +6,10 @@ use Rattle.std.proofs.Math.Seq.{take-add}
 use Rattle.std.proofs.lemmas.List.{append-nil}
 use Rattle.std.specs.FinMap.{get}
 use Rattle.sqlite_typed.proofs.TestLemmas.{bytes_eq_refl}
-use Rattle.mailsinks.specs.Kept.{MayKeep}
+use Rattle.mailsinks.specs.Kept.{kept_mail, MayKeep}
+use Rattle.mailsinks.specs.declared.kept.KeptMail.{KeptMail}
 use Rattle.mailstore.specs.declared.refusal.Refusal.{Refusal}
+use Rattle.mailstore.specs.declared.taking.NumberedMessage.{NumberedMessage}
 use Rattle.mailstore.specs.Account.{Account, Accounts, with_user, messages_in, takes_mail}
 use Rattle.mailstore.proofs.TakingLemmas.{held_get, unless_none}
 use Rattle.mailengine.specs.declared.event.Event.TheVariants.{TakeMail}
@@ -16,7 +18,7 @@ use Rattle.mailengine.specs.declared.answer.Answer.TheVariants.{MailTaken, Refus
 use Rattle.mailengine.specs.AccountEvents.{TakesFirst, TakesMailIn, MailTaking}
 use Rattle.mailengine.specs.World.{World, Next, Runs}
 use Rattle.mailengine.proofs.AloneLemmas.{changed_own}
-use Rattle.sievedrun.specs.Draining.{mail_of, mail_in, Leave, GrowsBy}
+use Rattle.sievedrun.specs.Draining.{mail_of, mail_in, Leave, IsFirst, AreFirsts, GrowsBy}
 use Rattle.sievedrun.specs.Promise.{world_of}
 
 module _ (user folder : List ℕ) where
@@ -113,21 +115,35 @@ module _ (user folder : List ℕ) where
 
 -- ---- what a sink keeps
 
--- it is as it was
-pub grown_none : (tells : Bool) (old : List (List ℕ)) → GrowsBy tells old old []
-grown_none tells old told = sym (append-nil old)
+module _ (user folder : List ℕ) where
+  are_firsts_then : (mails others : List KeptMail) (xs ys : List (List ℕ)) → AreFirsts user folder mails xs → AreFirsts user folder others ys → AreFirsts user folder (mails ++ others) (xs ++ ys)
+  are_firsts_then [] others [] ys one two = two
+  are_firsts_then (mail ∷ mails) others (x ∷ xs) ys one two = (one.0, one.1, one.2, one.3, are_firsts_then mails others xs ys one.4 two)
+  are_firsts_then [] others (x ∷ xs) ys one two = absurd one
+  are_firsts_then (mail ∷ mails) others [] ys one two = absurd one
 
-pub grown_then : (tells : Bool) (old mid new xs ys : List (List ℕ)) → GrowsBy tells old mid xs → GrowsBy tells mid new ys → GrowsBy tells old new (xs ++ ys)
-grown_then tells old mid new xs ys one two told = two told ∙ (ap (λ l. l ++ ys) (one told) ∙ append_assoc old xs ys)
+  -- it is as it was
+  pub grown_none : (tells : Bool) (old : List KeptMail) → GrowsBy user folder tells old old []
+  grown_none tells old told = ([], sym (append-nil old), tt)
 
--- of a sink that tells, one of two; of another either
-pub either_told : (tells : Bool) (P Q : Type 0) → (IsTrue tells → P ⊎ Q) → (IsTrue tells → P) ⊎ (IsTrue tells → Q)
-either_told true P Q h = elim (h refl) [ inl p ↦ inl (λ told. p) | inr q ↦ inr (λ told. q) ]
-either_told false P Q h = inl (λ told. absurd (let no = told in cc))
+  pub grown_then : (tells : Bool) (old mid new : List KeptMail) (xs ys : List (List ℕ)) → GrowsBy user folder tells old mid xs → GrowsBy user folder tells mid new ys → GrowsBy user folder tells old new (xs ++ ys)
+  grown_then tells old mid new xs ys one two told =
+      let a = one told in
+      let b = two told in
+      (a.0 ++ b.0, b.1 ∙ (ap (λ l. l ++ b.0) a.1 ∙ append_assoc old a.0 b.0), are_firsts_then a.0 b.0 xs ys a.2 b.2)
 
--- a message that may be kept
-pub may_be_kept : (tells : Bool) (old new mail : List (List ℕ)) (message : List ℕ) (more : List (List ℕ)) → mail ≡ message ∷ more → (IsTrue tells → MayKeep old message new)
-    → GrowsBy tells old new (take 0 mail) ⊎ GrowsBy tells old new (take 1 mail)
-may_be_kept tells old new mail message more is may =
-    either_told tells (new ≡ old ++ take 0 mail) (new ≡ old ++ take 1 mail)
-    (λ told. elim (may told) [ inl same ↦ inl (same ∙ sym (append-nil old)) | inr one ↦ inr (one ∙ ap (λ l. old ++ take 1 l) (sym is)) ])
+  -- a message was told as the first of the folder, and it is the first of the mail
+  module _ (tells : Bool) (old new : List KeptMail) (mail : List (List ℕ)) (first : NumberedMessage) (more : List (List ℕ)) (is : mail ≡ first.message ∷ more) (told_first : IsFirst user folder first) where
+    one_is_first : AreFirsts user folder (kept_mail user folder first.number first.message ∷ []) (take 1 mail)
+    one_is_first = subst (λ l. AreFirsts user folder (kept_mail user folder first.number first.message ∷ []) (take 1 l)) (sym is) (first, told_first, refl, refl, tt)
+
+    pub one_kept : (IsTrue tells → new ≡ old ++ kept_mail user folder first.number first.message ∷ []) → GrowsBy user folder tells old new (take 1 mail)
+    one_kept kept told = (kept_mail user folder first.number first.message ∷ [], kept told, one_is_first)
+
+    -- it may be kept
+    pub may_be_kept : (IsTrue tells → MayKeep old (kept_mail user folder first.number first.message) new) → GrowsBy user folder tells old new (take 0 mail) ⊎ GrowsBy user folder tells old new (take 1 mail)
+    may_be_kept may = by tells may
+      where
+        by : (tells : Bool) → (IsTrue tells → MayKeep old (kept_mail user folder first.number first.message) new) → GrowsBy user folder tells old new (take 0 mail) ⊎ GrowsBy user folder tells old new (take 1 mail)
+        by true may = elim (may refl) [ inl same ↦ inl (λ told. ([], same ∙ sym (append-nil old), tt)) | inr one ↦ inr (λ told. (kept_mail user folder first.number first.message ∷ [], one, one_is_first)) ]
+        by false may = inl (λ told. absurd (let no = told in cc))

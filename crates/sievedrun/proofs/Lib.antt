@@ -3,6 +3,7 @@ mod DrainLemmas
 pub mod FramingLemmas
 mod LeaveLemmas
 mod MoveLemmas
+mod ReportLemmas
 mod WordExamples
 mod WordLemmas
 mod ServingLemmas

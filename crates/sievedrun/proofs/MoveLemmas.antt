@@ -6,15 +6,17 @@ use Rattle.std.proofs.lemmas.List.{append-nil}
 use Rattle.std.specs.FinMap.{get}
 use Rattle.sqlite.specs.State.{State, HasCleanDisk, Survives}
 use Rattle.sqlite.proofs.StateLemmas.{survives_then, survives_weaker}
-use Rattle.mailsinks.specs.Kept.{MayKeep}
+use Rattle.mailsinks.specs.Kept.{kept_mail, MayKeep}
+use Rattle.mailsinks.specs.declared.kept.KeptMail.{KeptMail}
 use Rattle.mailstore.specs.declared.refusal.Refusal.{Refusal}
 use Rattle.mailstore.specs.declared.profile.Profile.{Profile}
 use Rattle.mailstore.specs.declared.taking.NumberedMessage.{NumberedMessage}
 use Rattle.mailstore.specs.Account.{Account, Accounts, with_user, messages_in, takes_mail}
 use Rattle.mailstore.specs.AccountRows.{profile_of}
 use Rattle.mailstore.specs.CopyRows.{HasFirst}
-use Rattle.mailstore.specs.Promises.{HasOurTables, HasUser, IsFree, OfUser, Keeps, CrashLeavesAccounts, Reads, ReadsProfile, WritesAccount}
+use Rattle.mailstore.specs.Promises.{HasOurTables, HasUser, IsFree, OfUser, Keeps, CrashLeavesAccounts, Reads, ReadsOwn, ReadsProfile, WritesAccount}
 use Rattle.mailstore.specs.Refusals.{IsTransient}
+use Rattle.mailstore.specs.Shows.{IsFirstOf, rows_of}
 use Rattle.mailtables.proofs.WriteLemmas.{clean_before}
 use Rattle.sessions.specs.Acts.{HasAccounts, CrashLeaves}
 use Rattle.sessions.proofs.ActLemmas.{glanced, accounts_stay, read_shows}
@@ -23,14 +25,14 @@ use Rattle.mailengine.specs.AccountEvents.{MailTaking}
 use Rattle.mailengine.specs.Hosts.{TurnsBy, MayTurnBy, ActsMailTaking, answer_by}
 use Rattle.sievedrun.specs.declared.fault.Fault.{Fault}
 use Rattle.sievedrun.specs.Faults.{no_user, status_of}
-use Rattle.sievedrun.specs.Draining.{mail_of, mail_in, GrowsBy, Moved, StoppedShort, LostNone, MovesMail, FirstMoved, AllMoved, AnyMoved, Drained}
+use Rattle.sievedrun.specs.Draining.{mail_of, mail_in, IsFirst, GrowsBy, Moved, StoppedShort, LostNone, MovesMail, FirstMoved, AllMoved, AnyMoved, Drained}
 use Rattle.sievedrun.specs.Promise.{world_of}
-use Rattle.sievedrun.proofs.LeaveLemmas.{has_first, none_left, leave_one, leave_then, take_then, grown_none, grown_then, may_be_kept}
+use Rattle.sievedrun.proofs.LeaveLemmas.{has_first, none_left, leave_one, leave_then, take_then, grown_none, grown_then, one_kept, may_be_kept}
 
 -- ---- one message that is read, kept and taken
-module _ (user folder : List ℕ) (tells : Bool) (had has : List (List ℕ)) where
+module _ (user folder : List ℕ) (tells : Bool) (had has : List KeptMail) where
   abbrev Grew : List (List ℕ) → Type 0
-  Grew = GrowsBy tells had has
+  Grew = GrowsBy user folder tells had has
 
   abbrev First : Option NumberedMessage → Account → Type 0
   First first account = HasFirst first (messages_in account.folders folder)
@@ -72,25 +74,30 @@ module _ (user folder : List ℕ) (tells : Bool) (had has : List (List ℕ)) whe
         let none : mail_in accounts user folder ≡ [] = own_mail accounts own.0 own.1 ∙ none_first (messages_in own.0.folders folder) (subst (λ f. First f own.0) is own.2) in
         (record { left = refl; kept = same }, none))
 
-    module _ (message : NumberedMessage) (is : first ≡ Some message) where
+    module _ (message : NumberedMessage) (is : first ≡ Some message) (numbered : ReadsOwn user (IsFirstOf user folder) a b r) where
+      told_first : HasCleanDisk b → (accounts : Accounts) → HasAccounts a accounts → IsFirst user folder message
+      told_first clean accounts shown =
+          let (tables, held, shows) = (read_shows a b r first was reads.keeps clean accounts shown).0 in
+          (tables, accounts, shows, subst (λ q. IfOk q (λ x. IsFirstOf user folder x (rows_of user tables))) (was ∙ ap Ok is) (numbered.found clean tables held))
+
       is_first : HasCleanDisk b → (accounts : Accounts) → HasAccounts a accounts → (more : List (List ℕ)) × (mail_in accounts user folder ≡ message.message ∷ more)
       is_first clean accounts shown =
           let own = found clean accounts shown in
           (drop 1 (messages_in own.0.folders folder), own_mail accounts own.0 own.1 ∙ some_first (messages_in own.0.folders folder) message (subst (λ f. First f own.0) is own.2))
 
       -- the sink refused it
-      pub not_kept : (fault : Fault) → (IsTrue tells → MayKeep had message.message has) → MovesMail user folder Grew false (FirstMoved user folder Grew (Err fault)) a b
+      pub not_kept : (fault : Fault) → (IsTrue tells → MayKeep had (kept_mail user folder message.number message.message) has) → MovesMail user folder Grew false (FirstMoved user folder Grew (Err fault)) a b
       not_kept fault may = read_alone a b r false (FirstMoved user folder Grew (Err fault)) reads.keeps (λ told. absurd (false≢true told))
           (λ clean accounts shown.
           let mail = is_first clean accounts shown in
-          record { left = refl; kept = may_be_kept tells had has (mail_in accounts user folder) message.message mail.0 mail.1 may })
+          record { left = refl; kept = may_be_kept user folder tells had has (mail_in accounts user folder) message mail.0 mail.1 (told_first clean accounts shown) may })
 
-      module _ (c : State) (q : Result (Unit {0}) Refusal) (writes : WritesAccount user (takes_mail folder 1) b c q) (acts : ActsMailTaking user folder a c q) (kept : IsTrue tells → has ≡ had ++ message.message ∷ []) where
+      module _ (c : State) (q : Result (Unit {0}) Refusal) (writes : WritesAccount user (takes_mail folder 1) b c q) (acts : ActsMailTaking user folder a c q) (kept : IsTrue tells → has ≡ had ++ kept_mail user folder message.number message.message ∷ []) where
         before : HasCleanDisk c → HasCleanDisk b
         before = clean_before b c (CrashLeavesAccounts (HasUser user) (λ all. with_user all user (takes_mail folder 1)) b) writes.crash
 
-        one_kept : (mail : List (List ℕ)) (more : List (List ℕ)) → mail ≡ message.message ∷ more → Grew (take 1 mail)
-        one_kept mail more mail_is told = kept told ∙ ap (λ l. had ++ take 1 l) (sym mail_is)
+        is_kept : IsFirst user folder message → (mail : List (List ℕ)) (more : List (List ℕ)) → mail ≡ message.message ∷ more → Grew (take 1 mail)
+        is_kept told mail more mail_is = one_kept user folder tells had has mail message more mail_is told kept
 
         -- whatever was answered, where a crash comes the message is kept
         crashes : Survives a c (λ trees. IsTrue a.is_open → CrashLeaves (LostNone user folder Grew) a trees)
@@ -105,7 +112,7 @@ module _ (user folder : List ℕ) (tells : Bool) (had has : List (List ℕ)) whe
                 count = 1;
                 left = leave_one user folder accounts turned.0 taking;
                 others = [];
-                kept = λ told. one_kept (mail_in accounts user folder) mail.0 mail.1 told ∙ ap (λ l. had ++ l) (sym (append-nil (take 1 (mail_in accounts user folder))));
+                kept = subst Grew (sym (append-nil (take 1 (mail_in accounts user folder)))) (is_kept (told_first (before clean) accounts (λ _. p)) (mail_in accounts user folder) mail.0 mail.1);
               },
               turned.2,
             ))
@@ -117,16 +124,16 @@ module _ (user folder : List ℕ) (tells : Bool) (had has : List (List ℕ)) whe
           carries = λ clean accounts shown.
               let mail = is_first (before clean) accounts shown in
               let h = acts.carries clean accounts shown in
-              (h.0, by accounts h.0 mail.0 mail.1 (subst (λ o. TurnsBy (λ all. MailTaking all user folder) IsTransient (answer_by (λ done. MailTaken) o) accounts h.0) ok h.1), h.2);
+              (h.0, by accounts h.0 mail.0 mail.1 (told_first (before clean) accounts shown) (subst (λ o. TurnsBy (λ all. MailTaking all user folder) IsTransient (answer_by (λ done. MailTaken) o) accounts h.0) ok h.1), h.2);
           live = λ told clean was. subst (λ o. OnOk o (IsTrue c.is_open)) ok (acts.live clean was);
           shut = acts.shut;
           crash = crashes;
         }
           where
-            by : (accounts later : Accounts) (more : List (List ℕ)) → mail_in accounts user folder ≡ message.message ∷ more → TurnsBy (λ all. MailTaking all user folder) IsTransient MailTaken accounts later
+            by : (accounts later : Accounts) (more : List (List ℕ)) → mail_in accounts user folder ≡ message.message ∷ more → IsFirst user folder message → TurnsBy (λ all. MailTaking all user folder) IsTransient MailTaken accounts later
                 → Moved user folder Grew 1 accounts later
-            by accounts later more mail (inl row) = record { left = leave_one user folder accounts later row; kept = one_kept (mail_in accounts user folder) more mail }
-            by accounts later more mail (inr refused) = absurd (let no = refused.2 in cc)
+            by accounts later more mail told (inl row) = record { left = leave_one user folder accounts later row; kept = is_kept told (mail_in accounts user folder) more mail }
+            by accounts later more mail told (inr refused) = absurd (let no = refused.2 in cc)
 
         -- it is there still, and kept
         pub not_taken : (e : Refusal) (fault : Fault) → q ≡ Err e → MovesMail user folder Grew false (FirstMoved user folder Grew (Err fault)) a c
@@ -134,32 +141,32 @@ module _ (user folder : List ℕ) (tells : Bool) (had has : List (List ℕ)) whe
           carries = λ clean accounts shown.
               let mail = is_first (before clean) accounts shown in
               let h = acts.carries clean accounts shown in
-              (h.0, by accounts h.0 mail.0 mail.1 (subst (λ o. TurnsBy (λ all. MailTaking all user folder) IsTransient (answer_by (λ done. MailTaken) o) accounts h.0) refused h.1), h.2);
+              (h.0, by accounts h.0 mail.0 mail.1 (told_first (before clean) accounts shown) (subst (λ o. TurnsBy (λ all. MailTaking all user folder) IsTransient (answer_by (λ done. MailTaken) o) accounts h.0) refused h.1), h.2);
           live = λ told. absurd (false≢true told);
           shut = acts.shut;
           crash = crashes;
         }
           where
-            by : (accounts later : Accounts) (more : List (List ℕ)) → mail_in accounts user folder ≡ message.message ∷ more → TurnsBy (λ all. MailTaking all user folder) IsTransient (Refused e) accounts later
+            by : (accounts later : Accounts) (more : List (List ℕ)) → mail_in accounts user folder ≡ message.message ∷ more → IsFirst user folder message → TurnsBy (λ all. MailTaking all user folder) IsTransient (Refused e) accounts later
                 → StoppedShort user folder Grew 0 accounts later
-            by accounts later more mail (inl row) = absurd (let no = has_first user folder accounts later (Refused e) message.message more mail row in cc)
-            by accounts later more mail (inr stays) = record { left = ap world_of stays.3; kept = inr (one_kept (mail_in accounts user folder) more mail) }
+            by accounts later more mail told (inl row) = absurd (let no = has_first user folder accounts later (Refused e) message.message more mail row in cc)
+            by accounts later more mail told (inr stays) = record { left = ap world_of stays.3; kept = inr (is_kept told (mail_in accounts user folder) more mail) }
 
 -- ---- one call, and then another
-module _ (user folder : List ℕ) (tells : Bool) (had mid has : List (List ℕ)) where
+module _ (user folder : List ℕ) (tells : Bool) (had mid has : List KeptMail) where
   abbrev Before : List (List ℕ) → Type 0
-  Before = GrowsBy tells had mid
+  Before = GrowsBy user folder tells had mid
 
   abbrev After : List (List ℕ) → Type 0
-  After = GrowsBy tells mid has
+  After = GrowsBy user folder tells mid has
 
   abbrev Whole : List (List ℕ) → Type 0
-  Whole = GrowsBy tells had has
+  Whole = GrowsBy user folder tells had has
 
   -- the folder's first messages, and then more of them
   grown_on : (count more : ℕ) (accounts between : Accounts) → Moved user folder Before count accounts between → After (take more (mail_in between user folder)) → Whole (take (count + more) (mail_in accounts user folder))
   grown_on count more accounts between moved after =
-      subst Whole (sym (take_then user folder count more accounts between moved.left)) (grown_then tells had mid has (take count (mail_in accounts user folder)) (take more (mail_in between user folder)) moved.kept after)
+      subst Whole (sym (take_then user folder count more accounts between moved.left)) (grown_then user folder tells had mid has (take count (mail_in accounts user folder)) (take more (mail_in between user folder)) moved.kept after)
 
   pub moved_then : (count more : ℕ) (accounts between later : Accounts) → Moved user folder Before count accounts between → Moved user folder After more between later → Moved user folder Whole (count + more) accounts later
   moved_then count more accounts between later one two = record {
@@ -186,7 +193,7 @@ module _ (user folder : List ℕ) (tells : Bool) (had mid has : List (List ℕ))
         left = leave_then user folder count two.count accounts between later one.left two.left;
         others = two.others;
         kept = subst (λ l. Whole (l ++ two.others)) (sym (take_then user folder count two.count accounts between one.left))
-            (subst Whole (sym (append_assoc first rest two.others)) (grown_then tells had mid has first (rest ++ two.others) one.kept two.kept));
+            (subst Whole (sym (append_assoc first rest two.others)) (grown_then user folder tells had mid has first (rest ++ two.others) one.kept two.kept));
       }
 
   -- what a crash leaves after the first, once more is kept
@@ -197,7 +204,7 @@ module _ (user folder : List ℕ) (tells : Bool) (had mid has : List (List ℕ))
         count = one.count;
         left = one.left;
         others = one.others ++ more;
-        kept = subst Whole (append_assoc first one.others more) (grown_then tells had mid has (first ++ one.others) more one.kept after);
+        kept = subst Whole (append_assoc first one.others more) (grown_then user folder tells had mid has (first ++ one.others) more one.kept after);
       }
 
   module _ (a b c : State) (answers_ok : Bool) (First Second Became : Accounts → Accounts → Type 0) (count : ℕ) (moved : (accounts between : Accounts) → First accounts between → Moved user folder Before count accounts between)
@@ -230,12 +237,12 @@ module _ (user folder : List ℕ) (tells : Bool) (had mid has : List (List ℕ))
         before = clean_before b c (λ trees. IsTrue b.is_open → CrashLeaves (LostNone user folder After) b trees) two.crash
 
 -- ---- one message after the other
-module _ (user folder : List ℕ) (tells : Bool) (had mid has : List (List ℕ)) (count : ℕ) (a b c : State) (one : MovesMail user folder (GrowsBy tells had mid) true (Moved user folder (GrowsBy tells had mid) count) a b) where
+module _ (user folder : List ℕ) (tells : Bool) (had mid has : List KeptMail) (count : ℕ) (a b c : State) (one : MovesMail user folder (GrowsBy user folder tells had mid) true (Moved user folder (GrowsBy user folder tells had mid) count) a b) where
   abbrev Those : List (List ℕ) → Type 0
-  Those = GrowsBy tells had has
+  Those = GrowsBy user folder tells had has
 
   abbrev Last : List (List ℕ) → Type 0
-  Last = GrowsBy tells mid has
+  Last = GrowsBy user folder tells mid has
 
   -- the sink grew by something, whatever was answered
   grew_first : (r : Result Bool Fault) (between later : Accounts) → FirstMoved user folder Last r between later → (more : List (List ℕ)) × Last more
@@ -244,10 +251,10 @@ module _ (user folder : List ℕ) (tells : Bool) (had mid has : List (List ℕ))
   grew_first (Err fault) between later h = elim h.kept [ inl g ↦ (take 0 (mail_in between user folder), g) | inr g ↦ (take 1 (mail_in between user folder), g) ]
 
   step : (r : Result Bool Fault) (Became : Accounts → Accounts → Type 0)
-      → ((accounts between later : Accounts) → Moved user folder (GrowsBy tells had mid) count accounts between → FirstMoved user folder Last r between later → Became accounts later)
+      → ((accounts between later : Accounts) → Moved user folder (GrowsBy user folder tells had mid) count accounts between → FirstMoved user folder Last r between later → Became accounts later)
       → MovesMail user folder Last (is_ok r) (FirstMoved user folder Last r) b c → MovesMail user folder Those (is_ok r) Became a c
   step r Became became two =
-      moves_then user folder tells had mid has a b c (is_ok r) (Moved user folder (GrowsBy tells had mid) count) (FirstMoved user folder Last r) Became count (λ accounts between h. h) (grew_first r) became one two
+      moves_then user folder tells had mid has a b c (is_ok r) (Moved user folder (GrowsBy user folder tells had mid) count) (FirstMoved user folder Last r) Became count (λ accounts between h. h) (grew_first r) became one two
 
   pub one_more : (r : Result Bool Fault) → r ≡ Ok true → MovesMail user folder Last (is_ok r) (FirstMoved user folder Last r) b c → MovesMail user folder Those true (Moved user folder Those (count + 1)) a c
   one_more r is two =
@@ -273,9 +280,9 @@ module _ (user folder : List ℕ) (tells : Bool) (had mid has : List (List ℕ))
       (subst (λ q. MovesMail user folder Last (is_ok q) (FirstMoved user folder Last q) b c) is two)
 
 -- nothing moved yet
-pub none_moved : (user folder : List ℕ) (tells : Bool) (had : List (List ℕ)) (a : State) → MovesMail user folder (GrowsBy tells had had) true (Moved user folder (GrowsBy tells had had) 0) a a
+pub none_moved : (user folder : List ℕ) (tells : Bool) (had : List KeptMail) (a : State) → MovesMail user folder (GrowsBy user folder tells had had) true (Moved user folder (GrowsBy user folder tells had had) 0) a a
 none_moved user folder tells had a = record {
-  carries = λ clean accounts shown. (accounts, record { left = refl; kept = grown_none tells had }, shown);
+  carries = λ clean accounts shown. (accounts, record { left = refl; kept = grown_none user folder tells had }, shown);
   live = λ told clean was. was;
   shut = λ clean live. live;
   crash = record { clean = omega arith; shield = λ shielded. shielded; counts = omega arith; limit = refl; closes = λ clean is_open. inl is_open; crash = λ clean db left. inl left };
@@ -309,9 +316,9 @@ transient_user fault transient q was is =
     differ : (x y : ℕ) → x ≡ 67 → y ≡ 75 → x ≡ y → ⊥
     differ x y one two e = absurd (omega arith)
 
-module _ (user folder : List ℕ) (tells : Bool) (had has : List (List ℕ)) (most : ℕ) (a b : State) (r : Result (Option Profile) Refusal) (reads : ReadsProfile user a b r) where
+module _ (user folder : List ℕ) (tells : Bool) (had has : List KeptMail) (most : ℕ) (a b : State) (r : Result (Option Profile) Refusal) (reads : ReadsProfile user a b r) where
   abbrev Grown : List (List ℕ) → Type 0
-  Grown = GrowsBy tells had has
+  Grown = GrowsBy user folder tells had has
 
   abbrev Ended : Result ℕ Fault → Accounts → Accounts → Type 0
   Ended q accounts later = Drained user folder Grown most q accounts later × (q ≡ Err no_user → IsFree user accounts)
@@ -340,11 +347,11 @@ module _ (user folder : List ℕ) (tells : Bool) (had has : List (List ℕ)) (mo
   -- the account is there, and messages were moved
   module _ (c : State) (p : Profile) (was : r ≡ Ok (Some p)) (q : Result ℕ Fault) (transient : IfErr q (λ fault. status_of fault ≡ 75)) where
     abbrev Looked : Accounts → Accounts → Type 0
-    Looked accounts between = Moved user folder (GrowsBy tells had had) 0 accounts between × HasUser user accounts
+    Looked accounts between = Moved user folder (GrowsBy user folder tells had had) 0 accounts between × HasUser user accounts
 
-    looked : MovesMail user folder (GrowsBy tells had had) true Looked a b
+    looked : MovesMail user folder (GrowsBy user folder tells had had) true Looked a b
     looked = read_alone user folder tells had had a b r true Looked reads.keeps (λ told clean. subst (λ o. OnOk o (IsTrue b.is_open)) was (reads.keeps.live clean))
-        (λ clean accounts shown. (record { left = refl; kept = grown_none tells had }, some_is_there (get accounts user) p (profile_read (Some p) was clean accounts shown)))
+        (λ clean accounts shown. (record { left = refl; kept = grown_none user folder tells had }, some_is_there (get accounts user) p (profile_read (Some p) was clean accounts shown)))
 
     grew_any : (q : Result ℕ Fault) (between later : Accounts) → AnyMoved user folder Grown most q between later → (more : List (List ℕ)) × Grown more
     grew_any (Ok count) between later h = (take count (mail_in between user folder), h.moved.kept)

@@ -1,6 +1,6 @@
 -- Rounds of a session, one after the other.
-use Rattle.std.proofs.Common.{◌≡◌, ℕ, ◌+◌, ◌≤◌, Bool, true, false, List, [], ◌∷◌, ◌++◌, length, take, Option, Some, None, Result, Ok, Err, OnOk, IfErr, OnErr, IsTrue, refl, sym, ap, ◌∙◌, subst, inl, inr, append_assoc, append-nil}
-use Rattle.std.proofs.Math.Seq.{take-append_seam, take-append-add}
+use Rattle.std.proofs.Common.{◌≡◌, ℕ, ◌≤◌, Bool, true, false, List, [], ◌∷◌, ◌++◌, length, Option, Some, None, Result, Ok, Err, IfErr, OnErr, IsTrue, refl, sym, ap, ◌∙◌, subst, inl, inr, append_assoc, append-nil}
+use Rattle.std.proofs.Math.Seq.{take-append_seam}
 use Rattle.std.proofs.lemmas.Grind.{flat_map-append}
 use Rattle.std.specs.Io.KnownBytes.{Appends, Consumes}
 use Rattle.sqlite.specs.Effect.{Database}
@@ -17,11 +17,13 @@ use Rattle.sessions.specs.Steps.{StepsOver}
 use Rattle.sessions.specs.Replies.{capabilities}
 use Rattle.msproto.specs.Machine.{rows}
 use Rattle.msproto.specs.Replies.{spelled}
+use Rattle.sievedwords.specs.declared.location.StoreLocation.{StoreLocation}
 use Rattle.sievedrun.specs.declared.fault.Fault.{Fault}
 use Rattle.keepers.specs.declared.keeper.Unavailable.{Unavailable}
 use Rattle.sievedrun.specs.Serving.{Round, IsDenied, Hinders, IsRound, Leads, came_in, said_in, largest_piece, BeginsWith, Passes, Answered, Writes, Interrupted, WritesFirst, StepsOn, Served, BreaksOff, AreSeen, PresentsSeen, database_seen}
+use Rattle.sievedrun.specs.Faults.{IsPrinted}
 use Rattle.sievedrun.specs.Streams.{AppendsFront}
-use Rattle.sievedrun.proofs.StreamLemmas.{nothing_read, nothing_written, read_on, written_on}
+use Rattle.sievedrun.proofs.StreamLemmas.{front_on, nothing_read, nothing_written, read_on, written_on}
 
 -- ---- a step over a store that presents what was seen, open and over a disk that keeps what is written
 
@@ -49,9 +51,9 @@ offers_seen Given sees held new (Some store) is accounts (got, shown) = subst (�
 -- ---- why what comes first can't be answered
 
 -- the keeper denied its store
-pub denied_by : {X K : Type 0} (refuses : K → List ℕ → Unavailable → Type 0) (keeper : K) (path : List ℕ) (r : Result X Unavailable) → IfErr r (refuses keeper path) → OnErr r (IsDenied refuses path)
-denied_by refuses keeper path (Ok x) denied = tt
-denied_by refuses keeper path (Err held) denied = (keeper, held, denied)
+pub denied_by : {X K : Type 0} (refuses : K → List ℕ → Unavailable → Type 0) (waits : K → Bool) (keeper : K) (location : StoreLocation) (r : Result X Unavailable) → IfErr r (refuses keeper location.path.now) → waits keeper ≡ location.waits → OnErr r (IsDenied refuses waits location)
+denied_by refuses waits keeper location (Ok x) denied asked = tt
+denied_by refuses waits keeper location (Err held) denied asked = (keeper, held, denied, asked)
 
 -- where that is so of a keeper that refused
 module _ (Denied Given : Type 0) where
@@ -71,10 +73,6 @@ module _ (Denied Given : Type 0) where
   passes_one accounts c r Shown round shown = record { later = r.accounts; leads = (round, (refl, refl)); shown = shown }
 
   -- ---- what is written
-
-  -- a front of a text after all of another
-  pub front_on : (a b c : Option (List ℕ)) (first text : List ℕ) → Appends a b first → AppendsFront b c text → AppendsFront a c (first ++ text)
-  front_on a b c first text before more = (length first + more.0, subst (Appends a c) (sym (take-append-add first text more.0)) (written_on a b c first (take more.0 text) before more.1))
 
   -- all of a text is a front of it
   pub front_all : (a b : Option (List ℕ)) (first text : List ℕ) → Appends a b first → AppendsFront a b (first ++ text)
@@ -172,29 +170,29 @@ module _ (Denied Given : Type 0) where
 
   -- the answers are written, or that fails
   pub first_written : (accounts : Accounts) (c d : Client) (out out2 : Option (List ℕ)) (waits : List ℕ) (new : Database) → Answered Denied Given accounts c [] waits d (Offers new)
-      → (r : Result (Unit {0}) Fault) → OnOk r (Appends out out2 waits) → OnErr r (AppendsFront out out2 waits) → WritesFirst Denied Given accounts c out out2 d new r
-  first_written accounts c d out out2 waits new a (Ok done) whole broken = record { rounds = a.rounds; passes = a.passes; none = a.none; written = subst (Appends out out2) a.joins whole }
-  first_written accounts c d out out2 waits new a (Err fault) whole broken = record { rounds = a.rounds; client = d; passes = a.passes; none = a.none; written = subst (AppendsFront out out2) a.joins broken }
+      → (r : Result (Unit {0}) Fault) → IsPrinted r out out2 waits → WritesFirst Denied Given accounts c out out2 d new r
+  first_written accounts c d out out2 waits new a (Ok done) printed = record { rounds = a.rounds; passes = a.passes; none = a.none; written = subst (Appends out out2) a.joins printed.0 }
+  first_written accounts c d out out2 waits new a (Err fault) printed = record { rounds = a.rounds; client = d; passes = a.passes; none = a.none; written = subst (AppendsFront out out2) a.joins printed.1.0 }
 
   -- it is given up, or that can't be written
   pub first_given_up : (accounts : Accounts) (c d : Client) (out out2 : Option (List ℕ)) (text : List ℕ) (new : Database) → is_ready c ≡ true → Hinders Denied c → Offers new accounts → text ≡ text_given_up c → d ≡ client_given_up c
-      → (r : Result (Unit {0}) Fault) → OnOk r (Appends out out2 text) → OnErr r (AppendsFront out out2 text) → WritesFirst Denied Given accounts c out out2 d new r
-  first_given_up accounts c d out out2 text new ready cause shown told drops (Ok done) whole broken =
+      → (r : Result (Unit {0}) Fault) → IsPrinted r out out2 text → WritesFirst Denied Given accounts c out out2 d new r
+  first_given_up accounts c d out out2 text new ready cause shown told drops (Ok done) printed =
       let r : Round = record { came = []; said = text; accounts = accounts; client = d } in
       record {
         rounds = r ∷ [];
         passes = passes_one accounts c r (Offers new) (inr (inr (record { ready = ready; none = refl; cause = cause; told = told; drops = drops; same = refl }))) shown;
         none = refl;
-        written = subst (Appends out out2) (sym (append-nil text)) whole;
+        written = subst (Appends out out2) (sym (append-nil text)) printed.0;
       }
-  first_given_up accounts c d out out2 text new ready cause shown told drops (Err fault) whole broken =
+  first_given_up accounts c d out out2 text new ready cause shown told drops (Err fault) printed =
       let r : Round = record { came = []; said = text; accounts = accounts; client = d } in
       record {
         rounds = r ∷ [];
         client = d;
         passes = passes_one accounts c r (Offers new) (inr (inr (record { ready = ready; none = refl; cause = cause; told = told; drops = drops; same = refl }))) shown;
         none = refl;
-        written = subst (AppendsFront out out2) (sym (append-nil text)) broken;
+        written = subst (AppendsFront out out2) (sym (append-nil text)) printed.1.0;
       }
 
   -- what comes first is answered, or breaks off, after what was answered

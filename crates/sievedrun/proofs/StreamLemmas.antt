@@ -1,8 +1,12 @@
 -- Lemmas on what a run of reads takes from an input and a run of writes gives to an output.
-use Rattle.std.proofs.Common.{◌≡◌, ℕ, ◌+◌, List, Result, Ok, Err, OnErr, inl, [], ◌++◌, Option, Some, None, refl, sym, ap, ◌∙◌, subst, append_assoc, append-nil, take, drop}
-use Rattle.std.proofs.Math.Seq.{take-add}
+use Rattle.std.proofs.Common.{◌≡◌, ℕ, ◌+◌, List, Result, Ok, Err, OnErr, inl, [], ◌++◌, Option, Some, None, refl, sym, ap, ◌∙◌, subst, append_assoc, append-nil, take, drop, length, inr, is_ok, true, false}
+use Rattle.std.proofs.Math.Seq.{take-add, take-append_seam, take-append-add}
+use Rattle.std.proofs.lemmas.List.{take-append-drop}
 use Rattle.std.specs.Io.KnownBytes.{Appends, Consumes, Keeps}
-use Rattle.sievedrun.specs.Streams.{AppendsSome, IsTold}
+use Rattle.sievedrun.specs.Streams.{AppendsFront, IsWritten, WriteFailed}
+use Rattle.sievedrun.specs.Faults.{IsPut, IsPrinted}
+use Rattle.sievedrun.specs.declared.fault.Fault.{Fault}
+use Rattle.sievedrun.specs.declared.fault.Fault.TheVariants.{Stream}
 
 -- before the first read nothing is taken
 pub nothing_read : (a : Option (List ℕ)) → Consumes a a []
@@ -52,17 +56,66 @@ pub text_on : (a b c : Option (List ℕ)) (text rest : List ℕ) (at n : ℕ) �
 text_on a b c text rest at n split before more =
     subst (Appends a c) (sym (take-add at n text ∙ ap (λ l. take at text ++ take n l) (sym split))) (written_on a b c _ _ before more)
 
--- it grew, and grew again
-pub some_then : (a b c : Option (List ℕ)) → AppendsSome a b → AppendsSome b c → AppendsSome a c
-some_then a b c one two = (one.0 ++ two.0, written_on a b c one.0 two.0 one.1 two.1)
+-- what is kept grows by nothing
+pub kept_appends : (a b : Option (List ℕ)) → Keeps a b → Appends a b []
+kept_appends a b kept = written_none a a b [] (nothing_written a) kept
 
--- a text, and what follows it
-pub told_then : (a b c : Option (List ℕ)) (text : List ℕ) → Appends a b text → AppendsSome b c → IsTold a c text
-told_then a b c text one two = inl (two.0, written_on a b c text two.0 one two.1)
+-- no more of the text is written, since a write failed; or all of it is
+pub text_cut : (a b c : Option (List ℕ)) (text : List ℕ) (at : ℕ) (fault : Fault) (r : Result (Unit {0}) Fault) → r ≡ Err fault → fault ≡ Stream → Appends a b (take at text) → Keeps b c → WriteFailed c → IsPut r a c text
+text_cut a b c text at fault r is stream before kept failed = subst (λ q. IsPut q a c text) (sym is) (stream, ((at, written_none a b c (take at text) before kept), failed))
 
--- a text alone
-pub told_alone : (a b : Option (List ℕ)) (text : List ℕ) → Appends a b text → IsTold a b text
-told_alone a b text one = inl ([], subst (Appends a b) (sym (append-nil text)) one)
+pub text_whole : (a b : Option (List ℕ)) (text rest : List ℕ) (at : ℕ) → rest ≡ drop at text → rest ≡ [] → Appends a b (take at text) → Appends a b text
+text_whole a b text rest at split none before =
+    subst (Appends a b) (sym (append-nil (take at text)) ∙ ap (λ l. take at text ++ l) (sym none ∙ split) ∙ take-append-drop at text) before
+
+-- ---- texts in turn
+
+-- a front of a text after all of another
+pub front_on : (a b c : Option (List ℕ)) (first text : List ℕ) → Appends a b first → AppendsFront b c text → AppendsFront a c (first ++ text)
+front_on a b c first text before more = (length first + more.0, subst (Appends a c) (sym (take-append-add first text more.0)) (written_on a b c first (take more.0 text) before more.1))
+
+-- a front of a text is one of it and more
+front_of : (a b : Option (List ℕ)) (text more : List ℕ) → AppendsFront a b text → AppendsFront a b (text ++ more)
+front_of a b text more front =
+    let n = length (take front.0 text) in
+    (n, subst (Appends a b) (sym (ap (take n) (sym (ap (λ l. l ++ more) (take-append-drop front.0 text)) ∙ append_assoc (take front.0 text) (drop front.0 text) more) ∙ take-append_seam (take front.0 text) (drop front.0 text ++ more))) front.1)
+
+pub put_then : (a b c : Option (List ℕ)) (first text : List ℕ) (r : Result (Unit {0}) Fault) → IsPut (Ok tt) a b first → IsPut r b c text → IsPut r a c (first ++ text)
+put_then a b c first text (Ok done) one two = written_on a b c first text one two
+put_then a b c first text (Err fault) one two = (two.0, (front_on a b c first text one two.1.0, two.1.1))
+
+pub printed_then : (a b c : Option (List ℕ)) (first text : List ℕ) (r : Result (Unit {0}) Fault) → IsPut (Ok tt) a b first → IsPrinted r b c text → IsPrinted r a c (first ++ text)
+printed_then a b c first text (Ok done) one two = (written_on a b c first text one two.0, two.1)
+printed_then a b c first text (Err fault) one two = (two.0, (front_on a b c first text one two.1.0, two.1.1))
+
+-- all was flushed
+pub flushed_then : (a b c : Option (List ℕ)) (text : List ℕ) (r : Result (Unit {0}) Fault) → IsPut (Ok tt) a b text → IsPrinted r b c [] → IsPrinted r a c text
+flushed_then a b c text r one two = subst (IsPrinted r a c) (append-nil text) (printed_then a b c text [] r one two)
+
+-- it broke off before what follows
+pub put_cut : (a b : Option (List ℕ)) (text more : List ℕ) (fault : Fault) (r : Result (Unit {0}) Fault) → r ≡ Err fault → IsPut (Err fault) a b text → IsPut r a b (text ++ more)
+put_cut a b text more fault r is cut = subst (λ q. IsPut q a b (text ++ more)) (sym is) (cut.0, (front_of a b text more cut.1.0, cut.1.1))
+
+pub printed_cut : (a b : Option (List ℕ)) (text more : List ℕ) (fault : Fault) (r : Result (Unit {0}) Fault) → r ≡ Err fault → IsPut (Err fault) a b text → IsPrinted r a b (text ++ more)
+printed_cut a b text more fault r is cut = subst (λ q. IsPrinted q a b (text ++ more)) (sym is) (cut.0, (front_of a b text more cut.1.0, cut.1.1))
+
+pub printed_cut_whole : (a b : Option (List ℕ)) (text : List ℕ) (fault : Fault) (r : Result (Unit {0}) Fault) → r ≡ Err fault → IsPut (Err fault) a b text → IsPrinted r a b text
+printed_cut_whole a b text fault r is cut = subst (λ q. IsPrinted q a b text) (sym is) cut
+
+-- whether or not that is asked
+pub written : (a b : Option (List ℕ)) (text : List ℕ) (r : Result (Unit {0}) Fault) → IsPrinted r a b text → IsWritten a b text
+written a b text (Ok done) printed = inl printed.0
+written a b text (Err fault) printed = inr printed.1
+
+-- a text, and what follows where it was written
+pub written_then : (a b c : Option (List ℕ)) (text more : List ℕ) (r : Result (Unit {0}) Fault) → is_ok r ≡ true → IsPrinted r a b text → IsWritten b c more → IsWritten a c (text ++ more)
+written_then a b c text more (Ok done) ok one (inl two) = inl (written_on a b c text more one.0 two)
+written_then a b c text more (Ok done) ok one (inr two) = inr (front_on a b c text more one.0 two.0, two.1)
+written_then a b c text more (Err fault) ok one two = absurd (let no = ok in cc)
+
+pub written_cut : (a b : Option (List ℕ)) (text more : List ℕ) (r : Result (Unit {0}) Fault) → is_ok r ≡ false → IsPrinted r a b text → IsWritten a b (text ++ more)
+written_cut a b text more (Ok done) failed one = absurd (let no = failed in cc)
+written_cut a b text more (Err fault) failed one = inr (front_of a b text more one.1.0, one.1.1)
 
 -- what is so of a call that failed is so of whatever it answers
 pub failed_so : {X E : Type 0} (r : Result X E) (P : Type 0) → P → OnErr r P

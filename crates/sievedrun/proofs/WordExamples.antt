@@ -15,8 +15,8 @@ use Rattle.mailengine.specs.declared.answer.Answer.TheVariants as answer
 use Rattle.mailengine.specs.declared.event.Event.TheVariants.{Deliver, AddUser, TakeOut}
 use Rattle.sievedrun.specs.declared.fault.Fault.TheVariants.{Refused, Stream, NoMessage, NoMaildir, Busy}
 use Rattle.sievedrun.specs.Draining.{IsUnkept, StopsDraining}
-use Rattle.sievedrun.specs.Faults.{memory, no_user, store_failed, line_of, troubles, IsHindered}
-use Rattle.sievedrun.specs.Streams.{IsTold, WriteFailed}
+use Rattle.sievedrun.specs.Faults.{memory, no_user, store_failed, cause_of, told_of, troubles, IsHindered}
+use Rattle.sievedrun.specs.Streams.{IsWritten, WriteFailed}
 use Rattle.sievedrun.specs.declared.fault.Fault.{Fault}
 use Rattle.sievedrun.specs.Values.{WritesSalt, IsMoment, IsSeparator, envelope_with}
 use Rattle.sievedrun.specs.Words.{Adds, DeniedAtEnd, Posts, Dequeues, Tells, HasMessage, ShowsOutgoing}
@@ -216,12 +216,24 @@ unread-failed (inr (inr (inr (inr denied)))) = denied.0
 
 -- ---- what is told
 
-busy-told : IsTold (Some []) (Some (codes "sieved: busy\n")) (line_of Busy)
-busy-told = inl ([], refl)
+-- a failed store is told with what its keeper said of it, and near miss: with what a sink said
+abbrev causes : Fault → Option (List ℕ)
+causes = cause_of (Some (codes "disk is full")) (Some (codes "permission denied"))
+
+failed-told : IsWritten (Some []) (Some (codes "sieved: store failed\nsieved: disk is full\n")) (told_of causes store_failed)
+failed-told = inl refl
+
+failed-otherwise : IsWritten (Some []) (Some (codes "sieved: store failed\nsieved: permission denied\n")) (told_of causes store_failed) → WriteFailed (Some (codes "sieved: store failed\nsieved: permission denied\n"))
+failed-otherwise (inl more) = let no : 112 ≡ 100 = ap (λ l. get_or l 29 0) more in absurd (omega (arith, no))
+failed-otherwise (inr cut) = cut.1
+
+-- and of a user who is unknown nothing more is known
+unknown-told : IsWritten (Some []) (Some (codes "sieved: no such user\n")) (told_of causes no_user)
+unknown-told = inl refl
 
 -- nothing is told only where a write failed
-busy-untold : IsTold (Some []) (Some []) (line_of Busy) → WriteFailed (Some [])
-busy-untold (inl more) = let no = more.1 in cc
+busy-untold : IsWritten (Some []) (Some []) (told_of causes Busy) → WriteFailed (Some [])
+busy-untold (inl more) = let no = more in cc
 busy-untold (inr cut) = cut.1
 
 -- why the store couldn't be closed comes before why there is no answer, and where the store failed that tells of both

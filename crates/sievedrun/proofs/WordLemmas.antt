@@ -1,9 +1,9 @@
 -- What a word does, from what its steps do.
 use Prim.Native.Nat.{zero}
-use Rattle.std.proofs.Common.{◌≡◌, ◌⊎◌, ℕ, suc, List, Option, Some, None, Result, Ok, Err, OnOk, OnErr, IfOk, IfErr, IsTrue, codes, slice_get, refl, sym, ◌∙◌, ap, subst, inl, inr}
+use Rattle.std.proofs.Common.{◌≡◌, ◌⊎◌, ℕ, suc, List, Option, Some, None, Result, Ok, Err, IfOk, IfErr, IsTrue, codes, slice_get, refl, sym, ◌∙◌, ap, subst, inl, inr}
 use Rattle.std.specs.FinMap.{get}
 use Rattle.std.specs.Io.KnownBytes as output
-use Rattle.std.specs.Io.KnownBytes.{Appends, IsAtEnd}
+use Rattle.std.specs.Io.KnownBytes.{IsAtEnd}
 use Rattle.sqlite_schema.specs.declared.schema.Schema.{Schema}
 use Rattle.sqlite.specs.Effect.{Database}
 use Rattle.sqlite.specs.State.{State, HasCleanDisk}
@@ -32,9 +32,8 @@ use Rattle.mailengine.proofs.HostLemmas.{delivery_may, addition_may, taking_may}
 use Rattle.sievedrun.specs.declared.fault.Fault.{Fault}
 use Rattle.sievedrun.specs.declared.fault.Fault.TheVariants.{Refused, Stream, BadArgument}
 use Rattle.sievedrun.specs.Draining.{TurnsTables}
-use Rattle.sievedrun.specs.Faults.{memory, status_of, IsCutOff, IsFailure, IsSudden, IsHindered}
+use Rattle.sievedrun.specs.Faults.{memory, status_of, IsFailure, IsSudden, IsHindered, IsPrinted}
 use Rattle.sievedrun.specs.Promise.{world_of}
-use Rattle.sievedrun.specs.Streams.{AppendsFront, WriteFailed}
 use Rattle.sievedrun.specs.Words.{Finishes, DeniedAtEnd, Tells, Makes, RefusesEvent, Puts, DoesEvent, Shows, FindsIn, HasNone, DoesRead, HasMessage, DoesInit, DoesNothing, LacksNothing}
 
 -- ---- the output
@@ -107,15 +106,6 @@ module _ (Broken Wrong : Type 0) (Denied : Fault → Type 0) where
 -- what breaks suddenly keeps a word from its work
 pub sudden_hinders : (Broken Wrong : Type 0) (Denied : Fault → Type 0) (fault : Fault) → IsSudden Broken fault → IsHindered Broken Wrong Denied fault
 sudden_hinders Broken Wrong Denied fault sudden = elim sudden [ inl e ↦ inl e | inr more ↦ elim more [ inl e ↦ inr (inl e) | inr e ↦ broken Broken Wrong Denied fault e.0 e.1 ] ]
-
--- a write that failed cut a text off
-pub cut_off : (old out : Option (List ℕ)) (text : List ℕ) (r : Result (Unit {0}) Fault) → OnErr r (AppendsFront old out text) → OnErr r (WriteFailed out) → IfErr r (λ fault. fault ≡ Stream) → IfErr r (λ fault. IsCutOff fault old out text)
-cut_off old out text (Ok done) front failed is = tt
-cut_off old out text (Err fault) front failed is = inr (is, (front, failed))
-
--- without memory for it nothing of a text is printed
-pub cut_none : (out : Option (List ℕ)) (text : List ℕ) → IsCutOff memory out out text
-cut_none out text = inl (refl, kept_same out)
 
 -- ---- tables
 
@@ -331,17 +321,17 @@ module _ (Broken Wrong : Type 0) (Denied : Fault → Type 0) (Own : Event → Ty
 
     -- it was made, and this was printed
     pub event_made : (x : X) (text : List ℕ) → Tells event (told x) text → TurnsTables (Puts Denied event told (Ok x)) held new → (old out : Option (List ℕ)) (r : Result (Unit {0}) Fault)
-        → OnOk r (Appends old out text) → IfErr r (λ fault. IsCutOff fault old out text) → DoesEvent Broken Wrong Denied Own old out r held new
-    event_made x text tells put old out r printed cut =
-        turned_wider (Puts Denied event told (Ok x)) (Finishes (Makes Own) Cause old out r) held new (λ accounts later h. by r printed cut accounts later h) put
+        → IsPrinted r old out text → DoesEvent Broken Wrong Denied Own old out r held new
+    event_made x text tells put old out r printed =
+        turned_wider (Puts Denied event told (Ok x)) (Finishes (Makes Own) Cause old out r) held new (λ accounts later h. by r printed accounts later h) put
       where
         deed : (accounts later : Accounts) → Next (world_of accounts) event (told x) (world_of later) → Makes Own accounts later text
         deed accounts later h = record { event = event; own = own; answer = told x; next = h; tells = tells }
 
-        by : (r : Result (Unit {0}) Fault) → OnOk r (Appends old out text) → IfErr r (λ fault. IsCutOff fault old out text) → (accounts later : Accounts) → Next (world_of accounts) event (told x) (world_of later)
+        by : (r : Result (Unit {0}) Fault) → IsPrinted r old out text → (accounts later : Accounts) → Next (world_of accounts) event (told x) (world_of later)
             → Finishes (Makes Own) Cause old out r accounts later
-        by (Ok done) printed cut accounts later h = record { text = text; deed = deed accounts later h; printed = printed }
-        by (Err fault) printed cut accounts later h = inr (record { text = text; deed = deed accounts later h; printed = cut })
+        by (Ok done) printed accounts later h = record { text = text; deed = deed accounts later h; printed = printed }
+        by (Err fault) printed accounts later h = inr (record { text = text; deed = deed accounts later h; printed = printed })
 
 -- ---- a word that reads
 
@@ -454,15 +444,15 @@ module _ (Wrong : Type 0) (Denied : Fault → Type 0) (user : List ℕ) (IsShown
 
     -- it was shown
     pub read_shown : (x : X) (text : List ℕ) → ((a : Account) → Part x a → IsShown a text) → TurnsTables (Found (Ok x)) held new → (old out : Option (List ℕ)) (r : Result (Unit {0}) Fault)
-        → OnOk r (Appends old out text) → IfErr r (λ fault. IsCutOff fault old out text) → DoesRead Wrong Denied user IsShown Lacks old out r held new
-    read_shown x text shows found old out r printed cut = turned_wider (Found (Ok x)) (Ends old out r) held new (λ accounts later h. by r printed cut accounts later h) found
+        → IsPrinted r old out text → DoesRead Wrong Denied user IsShown Lacks old out r held new
+    read_shown x text shows found old out r printed = turned_wider (Found (Ok x)) (Ends old out r) held new (λ accounts later h. by r printed accounts later h) found
       where
         deed : (accounts later : Accounts) → Found (Ok x) accounts later → Shows user IsShown accounts later text
         deed accounts later h = record { stays = h.0; shown = (h.1.0, h.1.1, shows h.1.0 h.1.2) }
 
-        by : (r : Result (Unit {0}) Fault) → OnOk r (Appends old out text) → IfErr r (λ fault. IsCutOff fault old out text) → (accounts later : Accounts) → Found (Ok x) accounts later → Ends old out r accounts later
-        by (Ok done) printed cut accounts later h = record { text = text; deed = deed accounts later h; printed = printed }
-        by (Err fault) printed cut accounts later h = inr (record { text = text; deed = deed accounts later h; printed = cut })
+        by : (r : Result (Unit {0}) Fault) → IsPrinted r old out text → (accounts later : Accounts) → Found (Ok x) accounts later → Ends old out r accounts later
+        by (Ok done) printed accounts later h = record { text = text; deed = deed accounts later h; printed = printed }
+        by (Err fault) printed accounts later h = inr (record { text = text; deed = deed accounts later h; printed = printed })
 
 -- what is shown is told by another name, and another value of the words may be wrong
 pub read_told : (Wrong : Type 0) (Denied : Fault → Type 0) → (Wrong → ⊥) → (user : List ℕ) (IsShown Wider : Account → List ℕ → Type 0) → ((a : Account) (text : List ℕ) → IsShown a text → Wider a text) → (old out : Option (List ℕ)) (r : Result (Unit {0}) Fault) (held new : Database)
@@ -489,10 +479,10 @@ pub init_denied : (Denied : Fault → Type 0) (out : Option (List ℕ)) (fault :
 init_denied Denied out fault r is why held new same = subst (λ o. DoesInit Denied out out o held new) (sym is) (inl (denied ⊥ ⊥ Denied fault why (λ no. no), same, kept_same out))
 
 -- a store was made and handed back
-pub init_made : (Denied : Fault → Type 0) (old out : Option (List ℕ)) (r : Result (Unit {0}) Fault) → OnOk r (Appends old out (codes "ready\n")) → IfErr r (λ fault. IsCutOff fault old out (codes "ready\n"))
+pub init_made : (Denied : Fault → Type 0) (old out : Option (List ℕ)) (r : Result (Unit {0}) Fault) → IsPrinted r old out (codes "ready\n")
     → (held seen new : Database) → held.schema ≡ no_schema → Presents seen no_accounts → new ≡ seen → DoesInit Denied old out r held new
-init_made Denied old out (Ok done) printed cut held seen new blank made back = (blank, subst (λ db. Presents db no_accounts) (sym back) made, printed)
-init_made Denied old out (Err fault) printed cut held seen new blank made back = inr (blank, subst (λ db. Presents db no_accounts) (sym back) made, cut)
+init_made Denied old out (Ok done) printed held seen new blank made back = (blank, subst (λ db. Presents db no_accounts) (sym back) made, printed)
+init_made Denied old out (Err fault) printed held seen new blank made back = inr (blank, subst (λ db. Presents db no_accounts) (sym back) made, printed)
 
 -- ---- the words
 

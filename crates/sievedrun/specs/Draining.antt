@@ -1,6 +1,6 @@
 -- Messages that go from a folder into a sink.
-use Rattle.std.specs.Prelude.{◌≡◌, ◌⊎◌, ℕ, suc, ◌<◌, ◌≤◌, Bool, true, false, List, [], ◌++◌, codes, decimal, take, replicate, Option, Some, None, Result, Ok, Err, is_ok, IfErr, IsTrue, option_copied}
-use Rattle.std.specs.Io.KnownBytes.{Appends, Keeps}
+use Rattle.std.specs.Prelude.{◌≡◌, ◌⊎◌, ℕ, suc, ◌<◌, ◌≤◌, Bool, true, false, List, [], ◌∷◌, ◌++◌, codes, decimal, take, replicate, Option, Some, None, Result, Ok, Err, is_ok, IfErr, IsTrue, option_copied}
+use Rattle.std.specs.Io.KnownBytes.{Keeps}
 use Rattle.std.specs.FinMap.{get}
 use Rattle.octets.specs.Decimal.{Writes}
 use Rattle.sqlite.specs.Effect.{Database}
@@ -8,9 +8,13 @@ use Rattle.sqlite.specs.State.{State, HasCleanDisk, Survives}
 use Rattle.mailstore.specs.Account.{Account, Accounts, messages_in}
 use Rattle.mailstore.specs.Promises.{HasUser, IsFree}
 use Rattle.mailstore.specs.Schema.{no_schema}
+use Rattle.mailtables.specs.Rows.{Tables}
+use Rattle.mailsinks.specs.Kept.{kept_mail}
+use Rattle.mailsinks.specs.declared.kept.KeptMail.{KeptMail}
 use Rattle.mailsinks.specs.declared.sink.SinkError.{SinkError}
 use Rattle.mailsinks.specs.declared.sink.SinkError.TheVariants as sink
-use Rattle.mailstore.specs.Shows.{Presents, Offers}
+use Rattle.mailstore.specs.Shows.{Presents, Offers, ShowsAccounts, IsFirstOf, rows_of}
+use Rattle.mailstore.specs.declared.taking.NumberedMessage.{NumberedMessage}
 use Rattle.sessions.specs.Acts.{Carries, CrashLeaves}
 use Rattle.mailengine.specs.declared.event.Event.TheVariants.{TakeMail}
 use Rattle.mailengine.specs.declared.answer.Answer.TheVariants.{MailTaken}
@@ -19,7 +23,7 @@ use Rattle.sievedwords.specs.declared.subcommand.drain.Drain.{Drain}
 use Rattle.reportlines.specs.Reports.{with_end}
 use Rattle.sievedrun.specs.declared.fault.Fault.{Fault}
 use Rattle.sievedrun.specs.declared.fault.Fault.TheVariants.{NoMaildir}
-use Rattle.sievedrun.specs.Faults.{no_user, status_of, IsCutOff, IsHindered}
+use Rattle.sievedrun.specs.Faults.{no_user, status_of, IsHindered, IsPrinted}
 use Rattle.sievedrun.specs.Promise.{world_of}
 use Rattle.sievedrun.specs.Values.{HasNoNumber}
 
@@ -36,9 +40,24 @@ mail_in accounts user folder = mail_of (get accounts user) folder
 abbrev pub Leave : List ℕ → List ℕ → ℕ → Accounts → Accounts → Type 0
 Leave user folder count accounts later = Runs (world_of accounts) (replicate count (TakeMail user folder)) (replicate count MailTaken) (world_of later)
 
--- what a sink keeps grew by these messages, at its end; of one that doesn't tell what it keeps nothing is said
-abbrev pub GrowsBy : Bool → List (List ℕ) → List (List ℕ) → List (List ℕ) → Type 0
-GrowsBy tells old new messages = IsTrue tells → new ≡ old ++ messages
+-- tables that show accounts have this as the first message of the user's folder, with this number
+abbrev pub IsFirst : List ℕ → List ℕ → NumberedMessage → Type 0
+IsFirst user folder first = (tables : Tables) × (accounts : Accounts) × ShowsAccounts tables accounts × IsFirstOf user folder (Some first) (rows_of user tables)
+
+-- these are the messages, in turn, each kept under its user, its folder and the number that it had in tables where it was the first there
+abbrev pub AreFirsts : List ℕ → List ℕ → List KeptMail → List (List ℕ) → Type 0
+AreFirsts user folder [] [] = Unit {0}
+AreFirsts user folder (mail ∷ mails) (message ∷ messages) =
+    (first : NumberedMessage) × IsFirst user folder first × (mail ≡ kept_mail user folder first.number first.message) × (first.message ≡ message) × AreFirsts user folder mails messages
+AreFirsts user folder mails messages = ⊥
+
+-- what a sink keeps grew by these messages of the user's folder, at its end; of one that doesn't tell what it keeps nothing is said
+abbrev pub GrowsBy : List ℕ → List ℕ → Bool → List KeptMail → List KeptMail → List (List ℕ) → Type 0
+GrowsBy user folder tells old new messages = IsTrue tells → (mails : List KeptMail) × (new ≡ old ++ mails) × AreFirsts user folder mails messages
+
+-- it is as it was
+abbrev pub StaysAsItWas : Bool → List KeptMail → List KeptMail → Type 0
+StaysAsItWas tells old new = IsTrue tells → new ≡ old
 
 -- tables of today's version show what became of accounts; or the tables are as they were, and so are the accounts
 abbrev pub LeavesTables : Database → Database → Accounts → Accounts → Type 0
@@ -111,16 +130,16 @@ module _ (user folder : List ℕ) (Grew : List (List ℕ) → Type 0) where
 
 -- ---- a call over a store, and a sink that tells what it keeps or doesn't, before and afterwards
 
-abbrev pub MovesFirst : List ℕ → List ℕ → Bool → List (List ℕ) → List (List ℕ) → Result Bool Fault → State → State → Type 0
-MovesFirst user folder tells had has result = MovesMail user folder (GrowsBy tells had has) (is_ok result) (FirstMoved user folder (GrowsBy tells had has) result)
+abbrev pub MovesFirst : List ℕ → List ℕ → Bool → List KeptMail → List KeptMail → Result Bool Fault → State → State → Type 0
+MovesFirst user folder tells had has result = MovesMail user folder (GrowsBy user folder tells had has) (is_ok result) (FirstMoved user folder (GrowsBy user folder tells had has) result)
 
-abbrev pub MovesAll : List ℕ → List ℕ → Bool → List (List ℕ) → List (List ℕ) → ℕ → Result ℕ Fault → State → State → Type 0
-MovesAll user folder tells had has most result = MovesMail user folder (GrowsBy tells had has) (is_ok result) (AnyMoved user folder (GrowsBy tells had has) most result)
+abbrev pub MovesAll : List ℕ → List ℕ → Bool → List KeptMail → List KeptMail → ℕ → Result ℕ Fault → State → State → Type 0
+MovesAll user folder tells had has most result = MovesMail user folder (GrowsBy user folder tells had has) (is_ok result) (AnyMoved user folder (GrowsBy user folder tells had has) most result)
 
 -- and there is no such user where that is said
-abbrev pub Drains : List ℕ → List ℕ → Bool → List (List ℕ) → List (List ℕ) → ℕ → Result ℕ Fault → State → State → Type 0
+abbrev pub Drains : List ℕ → List ℕ → Bool → List KeptMail → List KeptMail → ℕ → Result ℕ Fault → State → State → Type 0
 Drains user folder tells had has most result =
-    MovesMail user folder (GrowsBy tells had has) (is_ok result) (λ accounts later. Drained user folder (GrowsBy tells had has) most result accounts later × (result ≡ Err no_user → IsFree user accounts))
+    MovesMail user folder (GrowsBy user folder tells had has) (is_ok result) (λ accounts later. Drained user folder (GrowsBy user folder tells had has) most result accounts later × (result ≡ Err no_user → IsFree user accounts))
 
 -- ---- the word
 
@@ -147,19 +166,19 @@ StopsDraining Sunk Wrong Denied user fault accounts =
     IsHindered (IsUnkept Sunk) Wrong Denied fault ⊎ ((fault ≡ NoMaildir) × Sunk sink.NoMaildir × (Wrong → ⊥)) ⊎ ((fault ≡ no_user) × IsFree user accounts × (Wrong → ⊥))
 
 -- over tables: a store of theirs was drained, and where it wasn't to its end the cause is told
-abbrev pub MovesTables : (SinkError → Type 0) → (Fault → Type 0) → Drain → Bool → List (List ℕ) → List (List ℕ) → ℕ → Result ℕ Fault → Database → Database → Type 0
+abbrev pub MovesTables : (SinkError → Type 0) → (Fault → Type 0) → Drain → Bool → List KeptMail → List KeptMail → ℕ → Result ℕ Fault → Database → Database → Type 0
 MovesTables Sunk Denied asked tells had has most result =
-    TurnsTables (λ accounts later. Drained asked.user.now asked.folder.now (GrowsBy tells had has) most result accounts later × IfErr result (λ fault. StopsDraining Sunk ⊥ Denied asked.user.now fault accounts))
+    TurnsTables (λ accounts later. Drained asked.user.now asked.folder.now (GrowsBy asked.user.now asked.folder.now tells had has) most result accounts later × IfErr result (λ fault. StopsDraining Sunk ⊥ Denied asked.user.now fault accounts))
 
 -- after Ok the word did what it was asked for, and printed how many messages moved; after a fault those that moved stay so, and nothing is printed, and
 -- the cause is told; or that line wasn't printed whole
 abbrev pub WordDrained : (SinkError → Type 0) → (Fault → Type 0) → Drain → (List (List ℕ) → Type 0) → Option (List ℕ) → Option (List ℕ) → Result (Unit {0}) Fault → Accounts → Accounts → Type 0
 WordDrained Sunk Denied asked Grew old new (Ok done) accounts later =
-    (most : ℕ) × (count : ℕ) × IsMost (option_copied asked.most) most × Drained asked.user.now asked.folder.now Grew most (Ok count) accounts later × Appends old new (drained_line count)
+    (most : ℕ) × (count : ℕ) × IsMost (option_copied asked.most) most × Drained asked.user.now asked.folder.now Grew most (Ok count) accounts later × IsPrinted (Ok tt) old new (drained_line count)
 WordDrained Sunk Denied asked Grew old new (Err fault) accounts later =
     (most : ℕ) × (IsMost (option_copied asked.most) most ⊎ (most ≡ 0)) × (broke : BrokeOff asked.user.now asked.folder.now Grew most fault accounts later)
-    × ((Keeps old new × StopsDraining Sunk (HasNoNumber (option_copied asked.most)) Denied asked.user.now fault accounts) ⊎ IsCutOff fault old new (drained_line broke.0))
+    × ((Keeps old new × StopsDraining Sunk (HasNoNumber (option_copied asked.most)) Denied asked.user.now fault accounts) ⊎ IsPrinted (Err fault) old new (drained_line broke.0))
 
 -- and over tables
-abbrev pub HasDrained : (SinkError → Type 0) → (Fault → Type 0) → Drain → Bool → List (List ℕ) → List (List ℕ) → Option (List ℕ) → Option (List ℕ) → Result (Unit {0}) Fault → Database → Database → Type 0
-HasDrained Sunk Denied asked tells had has old new result = TurnsTables (WordDrained Sunk Denied asked (GrowsBy tells had has) old new result)
+abbrev pub HasDrained : (SinkError → Type 0) → (Fault → Type 0) → Drain → Bool → List KeptMail → List KeptMail → Option (List ℕ) → Option (List ℕ) → Result (Unit {0}) Fault → Database → Database → Type 0
+HasDrained Sunk Denied asked tells had has old new result = TurnsTables (WordDrained Sunk Denied asked (GrowsBy asked.user.now asked.folder.now tells had has) old new result)

@@ -1,13 +1,15 @@
 -- What the program says where it gives no answer.
 use Rattle.std.specs.Prelude.{◌≡◌, ◌⊎◌, ℕ, List, [], ◌∷◌, ◌++◌, codes, Option, Some, None, Result, Ok, Err}
-use Rattle.std.specs.Io.KnownBytes.{Keeps}
+use Rattle.std.specs.Io.KnownBytes.{Appends}
+use Rattle.std_io.specs.declared.io.kind.ErrorKind.{ErrorKind}
+use Rattle.keepers.specs.Causes.{file_text}
 use Rattle.mailstore.specs.declared.refusal.Refusal.{Refusal}
 use Rattle.mailstore.specs.declared.refusal.Refusal.TheVariants as refusal
 use Rattle.keepers.specs.declared.keeper.Unavailable.{Unavailable}
 use Rattle.keepers.specs.declared.keeper.Unavailable.TheVariants as denial
 use Rattle.mailsinks.specs.declared.sink.SinkError.{SinkError}
 use Rattle.mailsinks.specs.declared.sink.SinkError.TheVariants as sink
-use Rattle.sievedrun.specs.Streams.{IsCut, IsTold}
+use Rattle.sievedrun.specs.Streams.{InputFailed, OutputFailed, IsCut, IsWritten, WasFlushed}
 use Rattle.sievedrun.specs.declared.fault.Fault.{Fault}
 use Rattle.sievedrun.specs.declared.fault.Fault.TheVariants.{Refused, Busy, Stream, NoMessage, NoMaildir, BadInput, BadArgument}
 
@@ -96,9 +98,19 @@ abbrev pub IsHindered : Type 0 → Type 0 → (Fault → Type 0) → Fault → T
 IsHindered Broken Wrong Denied fault =
     (fault ≡ memory) ⊎ (fault ≡ store_failed) ⊎ ((fault ≡ Stream) × Broken) ⊎ ((fault ≡ BadArgument) × Wrong) ⊎ (Denied fault × (Wrong → ⊥))
 
--- a text wasn't printed: there was no memory for it, or a write of it failed
-abbrev pub IsCutOff : Fault → Option (List ℕ) → Option (List ℕ) → List ℕ → Type 0
-IsCutOff fault old new text = ((fault ≡ memory) × Keeps old new) ⊎ ((fault ≡ Stream) × IsCut old new text)
+-- a session ended early: memory was refused, or a read or a write failed
+abbrev pub IsCutShort : Fault → Type 0
+IsCutShort fault = (fault ≡ memory) ⊎ ((fault ≡ Stream) × (InputFailed ⊎ OutputFailed))
+
+-- a text joined what was written; or a write of it failed, and a front of it did
+abbrev pub IsPut : Result (Unit {0}) Fault → Option (List ℕ) → Option (List ℕ) → List ℕ → Type 0
+IsPut (Ok done) old new text = Appends old new text
+IsPut (Err fault) old new text = (fault ≡ Stream) × IsCut old new text
+
+-- a text was written whole, and all was flushed; or a write of it failed, and a front of it is written
+abbrev pub IsPrinted : Result (Unit {0}) Fault → Option (List ℕ) → Option (List ℕ) → List ℕ → Type 0
+IsPrinted (Ok done) old new text = Appends old new text × WasFlushed new
+IsPrinted (Err fault) old new text = (fault ≡ Stream) × IsCut old new text
 
 -- what is told at the end: why the store couldn't be closed, and why there is no answer; that a call was refused since the store failed tells of both
 abbrev pub troubles : Option Refusal → Result (Unit {0}) Fault → List Fault
@@ -108,7 +120,28 @@ troubles unclosed (Err (Refused refusal.Store)) = store_failed ∷ []
 troubles None (Err fault) = fault ∷ []
 troubles (Some refusal) (Err fault) = Refused refusal ∷ fault ∷ []
 
--- each of these is told, in turn, each with what is known of its cause
-abbrev pub AreTold : Option (List ℕ) → Option (List ℕ) → List Fault → Type 0
-AreTold old new [] = new ≡ old
-AreTold old new (fault ∷ more) = (mid : Option (List ℕ)) × IsTold old mid (line_of fault) × AreTold mid new more
+-- what the system said of a sink's last failure, as a text; none where it said nothing
+abbrev pub text_said : Option ErrorKind → Option (List ℕ)
+text_said None = None
+text_said (Some kind) = file_text kind
+
+-- what is known of a fault's cause: where the store failed, what its keeper said; where a read, a write or a Maildir did, what the sink said
+abbrev pub cause_of : Option (List ℕ) → Option (List ℕ) → Fault → Option (List ℕ)
+cause_of store sink (Refused refusal.Store) = store
+cause_of store sink Stream = sink
+cause_of store sink NoMaildir = sink
+cause_of store sink _ = None
+
+-- the line on a cause, where one is known
+abbrev pub cause_line : Option (List ℕ) → List ℕ
+cause_line None = []
+cause_line (Some text) = (codes "sieved: " ++ text) ++ 10 ∷ []
+
+-- what is told of a fault with such a cause
+abbrev pub told_of : (Fault → Option (List ℕ)) → Fault → List ℕ
+told_of cause fault = line_of fault ++ cause_line (cause fault)
+
+-- each of these is told, in turn, each with its cause; or writing broke off in that
+abbrev pub AreTold : Option (List ℕ) → Option (List ℕ) → (Fault → Option (List ℕ)) → List Fault → Type 0
+AreTold old new cause [] = new ≡ old
+AreTold old new cause (fault ∷ more) = (mid : Option (List ℕ)) × IsWritten old mid (told_of cause fault) × AreTold mid new cause more

@@ -14,6 +14,7 @@ use Rattle.sessions.specs.Refusing.{WasRefused}
 use Rattle.sessions.specs.Replies.{capabilities}
 use Rattle.sessions.specs.Steps.{IsStep}
 use Rattle.keepers.specs.declared.keeper.Unavailable.{Unavailable}
+use Rattle.sievedwords.specs.declared.location.StoreLocation.{StoreLocation}
 use Rattle.sievedrun.specs.declared.fault.Fault.{Fault}
 use Rattle.sievedrun.specs.Faults.{denial_fault}
 use Rattle.sievedrun.specs.Streams.{AppendsFront}
@@ -50,17 +51,17 @@ pub record Steps (Given : Type 0) (accounts : Accounts) (c : Client) (r : Round)
   pub step : IsStep accounts c progress r.said r.client r.accounts
   pub reach : AsksNothing c r.said r.client ⊎ Given
 
--- a keeper refused the lock, which wasn't out, or its store at this path: what is so of one that did is so of some keeper
-abbrev pub IsDenied : {K : Type 0} → (K → List ℕ → Unavailable → Type 0) → List ℕ → Type 0
-IsDenied refuses path = (keeper : _) × (denial : Unavailable) × refuses keeper path denial
+-- a keeper that waits as it is said refused the lock, which wasn't out, or its store at this path: what is so of one that did is so of some keeper
+abbrev pub IsDenied : {K : Type 0} → (K → List ℕ → Unavailable → Type 0) → (K → Bool) → StoreLocation → Type 0
+IsDenied refuses waits location = (keeper : _) × (denial : Unavailable) × refuses keeper location.path.now denial × (waits keeper ≡ location.waits)
 
 -- the same, and this fault tells why
-abbrev pub HasDenied : {K : Type 0} → (K → List ℕ → Unavailable → Type 0) → List ℕ → Fault → Type 0
-HasDenied refuses path fault = (keeper : _) × (denial : Unavailable) × refuses keeper path denial × (fault ≡ denial_fault denial)
+abbrev pub HasDenied : {K : Type 0} → (K → List ℕ → Unavailable → Type 0) → (K → Bool) → StoreLocation → Fault → Type 0
+HasDenied refuses waits location fault = (keeper : _) × (denial : Unavailable) × refuses keeper location.path.now denial × (waits keeper ≡ location.waits) × (fault ≡ denial_fault denial)
 
--- a keeper gave its store out at this path
-abbrev pub HasGiven : {K : Type 0} → (K → List ℕ → Type 0) → List ℕ → Type 0
-HasGiven gives path = (keeper : _) × gives keeper path
+-- a keeper that waits so gave its store out at this path
+abbrev pub HasGiven : {K : Type 0} → (K → List ℕ → Type 0) → (K → Bool) → StoreLocation → Type 0
+HasGiven gives waits location = (keeper : _) × gives keeper location.path.now × (waits keeper ≡ location.waits)
 
 -- why what comes first can't be answered: the lock or the store was denied, or its step was refused
 abbrev pub Hinders : Type 0 → Client → Type 0
@@ -186,7 +187,7 @@ pub record Serves (Denied Given : Type 0) (in_old in_new out_old out_new : Optio
   pub none : old.schema ≡ no_schema → new.schema ≡ no_schema
 
 -- the same of a reader, a writer and a keeper, by what is still to be read of the one, what was written to the other, and the tables of the third, which
--- says by `refuses` that it refused the lock or the store at the path, and by `gives` that it gave the store out there
-abbrev pub ServesBy : {A B C : Type 0} → (A → Option (List ℕ)) → A → A → (B → Option (List ℕ)) → B → B → (C → List ℕ → Unavailable → Type 0) → (C → List ℕ → Type 0) → List ℕ → (C → Database) → C → C → Result (Unit {0}) Fault → Type 0
-ServesBy remaining in_old in_new contents out_old out_new refuses gives path holds old new result =
-    Serves (IsDenied refuses path) (HasGiven gives path) (remaining in_old) (remaining in_new) (contents out_old) (contents out_new) (holds old) (holds new) result
+-- says by `refuses` that it refused the lock or the store at the path, by `gives` that it gave the store out there, and by `waits` whether it waited
+abbrev pub ServesBy : {A B C : Type 0} → (A → Option (List ℕ)) → A → A → (B → Option (List ℕ)) → B → B → (C → List ℕ → Unavailable → Type 0) → (C → List ℕ → Type 0) → (C → Bool) → StoreLocation → (C → Database) → C → C → Result (Unit {0}) Fault → Type 0
+ServesBy remaining in_old in_new contents out_old out_new refuses gives waits location holds old new result =
+    Serves (IsDenied refuses waits location) (HasGiven gives waits location) (remaining in_old) (remaining in_new) (contents out_old) (contents out_new) (holds old) (holds new) result

@@ -1,6 +1,6 @@
 -- What a run on an input leaves on the output.
 use Rattle.std.specs.Prelude.{◌≡◌, ℕ, ◌+◌, ◌≤◌, ◌⊎◌, List, Option, Some, None, Result, Ok, Err}
-use Rattle.std.specs.Io.KnownBytes.{Appends, Keeps}
+use Rattle.std.specs.Io.KnownBytes.{Keeps}
 use Rattle.sievelex.specs.declared.fault.FaultKind.{FaultKind}
 use Rattle.sievelex.specs.Faults.{fault_line}
 use Rattle.sievelex.specs.Text.{line_ends}
@@ -14,7 +14,7 @@ use Rattle.mailstore.specs.declared.refusal.Refusal.TheVariants as refusal
 use Rattle.sievedrun.specs.declared.fault.Fault.TheVariants.{Refused, Stream, BadInput}
 use Rattle.sievedrun.specs.declared.answer.Answer.{Answer}
 use Rattle.sievedrun.specs.declared.answer.Answer.TheVariants.{Report, Refusal}
-use Rattle.sievedrun.specs.Faults.{status_of, line_of}
+use Rattle.sievedrun.specs.Faults.{status_of, line_of, IsPrinted}
 use Rattle.sievedrun.specs.Framing.{IsFramed}
 use Rattle.sievedrun.specs.Streams.{InputFailed, IsCut, IsWritten}
 use Rattle.reportlines.specs.Reports.{with_end, report_of}
@@ -67,7 +67,7 @@ status_at (Err fault) = status_of fault
 
 -- what is on the output in the end: the answer, or nothing, or where a write of it failed a front of the answer
 abbrev pub LeavesOutput : Envelope → Option (List ℕ) → Option (List ℕ) → Option (List ℕ) → Result Answer Fault → Type 0
-LeavesOutput envelope given old new (Ok answer) = OfInput given (λ input. Answers envelope input answer) × Appends old new (text_in answer)
+LeavesOutput envelope given old new (Ok answer) = OfInput given (λ input. Answers envelope input answer) × IsPrinted (Ok tt) old new (text_in answer)
 LeavesOutput envelope given old new (Err BadInput) = OfInput given IsNoInput × Keeps old new
 LeavesOutput envelope given old new (Err (Refused refusal.Memory)) = Keeps old new
 LeavesOutput envelope given old new (Err Stream) =

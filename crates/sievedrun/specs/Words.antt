@@ -1,13 +1,14 @@
 -- What a word of the command line does: what becomes of the accounts, what is printed, and why it is refused.
 use Prim.Native.Nat.{zero}
-use Rattle.std.specs.Prelude.{◌≡◌, ◌≢◌, ◌⊎◌, ℕ, suc, Bool, true, false, List, [], ◌++◌, codes, decimal, map, slice_get, Option, Some, None, option_copied, Result, Ok, Err, OnOk}
+use Rattle.std.specs.Prelude.{◌≡◌, ◌≢◌, ◌⊎◌, ℕ, suc, Bool, true, false, List, ◌++◌, codes, decimal, map, slice_get, Option, Some, None, option_copied, Result, Ok, Err, OnOk}
 use Rattle.std.specs.FinMap.{entries}
-use Rattle.std.specs.Io.KnownBytes.{Appends, IsAtEnd, Keeps}
+use Rattle.std.specs.Io.KnownBytes.{IsAtEnd, Keeps}
 use Rattle.std.specs.List.{flat_map}
 use Rattle.octets.specs.Decimal.{Writes}
 use Rattle.maildirs.specs.Directory.{directory}
 use Rattle.maildirs.specs.declared.separator.Separator.{Separator}
 use Rattle.sqlite.specs.Effect.{Database}
+use Rattle.mailsinks.specs.declared.kept.KeptMail.{KeptMail}
 use Rattle.mailsinks.specs.declared.sink.SinkError.{SinkError}
 use Rattle.mailstore.specs.Account.{Account, Accounts, no_accounts, messages_in, row_with}
 use Rattle.mailstore.specs.HeadRows.{head_of}
@@ -29,12 +30,13 @@ use Rattle.clap.specs.declared.error.Error.{Error}
 use Rattle.clap.specs.declared.error.kind.ErrorKind.TheVariants.{DisplayHelp, DisplayVersion}
 use Rattle.sievedwords.specs.Asks.{WasRead}
 use Rattle.sievedwords.specs.declared.command_line.CommandLine.{CommandLine}
+use Rattle.sievedwords.specs.declared.location.StoreLocation.{StoreLocation}
 use Rattle.sievedwords.specs.declared.reading.ReadError.{ReadError}
 use Rattle.sievedwords.specs.declared.reading.ReadError.TheVariants.{Said, NotText, Unknown}
 use Rattle.sievedwords.specs.declared.subcommand.Subcommand.{Subcommand}
 use Rattle.sievedwords.specs.declared.subcommand.Subcommand.TheVariants as word
-use Rattle.sievedrun.specs.Draining.{GrowsBy, TurnsTables, HasDrained}
-use Rattle.sievedrun.specs.Faults.{no_user, status_of, line_of, troubles, AreTold, IsCutOff, IsHindered}
+use Rattle.sievedrun.specs.Draining.{StaysAsItWas, TurnsTables, HasDrained}
+use Rattle.sievedrun.specs.Faults.{memory, no_user, status_of, line_of, troubles, AreTold, IsHindered, IsPrinted}
 use Rattle.sievedrun.specs.Promise.{first_line, world_of, status_after}
 use Rattle.sievedrun.specs.Streams.{ReadsAll, AppendsSome, InputFailed, IsWritten}
 use Rattle.sievedrun.specs.TryScript.{Runs}
@@ -56,10 +58,10 @@ pub record IsUndone (Cause : Fault → Accounts → Type 0) (old new : Option (L
   pub stays : later ≡ accounts
   pub silent : Keeps old new
 
--- after Ok it was done, and all of the text is printed; after a fault it wasn't, or it was, and there was no memory for the text or a write of it failed
+-- after Ok it was done, and all of the text is printed; after a fault it wasn't, or it was, and a write of the text failed
 abbrev pub Finishes : (Accounts → Accounts → List ℕ → Type 0) → (Fault → Accounts → Type 0) → Option (List ℕ) → Option (List ℕ) → Result (Unit {0}) Fault → Accounts → Accounts → Type 0
-Finishes Deed Cause old new (Ok done) accounts later = IsDone Deed (Appends old new) accounts later
-Finishes Deed Cause old new (Err fault) accounts later = IsUndone Cause old new fault accounts later ⊎ IsDone Deed (IsCutOff fault old new) accounts later
+Finishes Deed Cause old new (Ok done) accounts later = IsDone Deed (IsPrinted (Ok tt) old new) accounts later
+Finishes Deed Cause old new (Err fault) accounts later = IsUndone Cause old new fault accounts later ⊎ IsDone Deed (IsPrinted (Err fault) old new) accounts later
 
 -- ---- words that are an event of the machine
 
@@ -194,11 +196,11 @@ LacksNothing fault a = ⊥
 
 -- ---- `init`
 
--- where no table was there is a store without accounts then; after a fault only where memory or the output failed
+-- where no table was there is a store without accounts then; after a fault only where the output failed
 abbrev pub DoesInit : (Fault → Type 0) → Option (List ℕ) → Option (List ℕ) → Result (Unit {0}) Fault → Database → Database → Type 0
-DoesInit Denied out_old out_new (Ok done) old new = (old.schema ≡ no_schema) × Presents new no_accounts × Appends out_old out_new (codes "ready\n")
+DoesInit Denied out_old out_new (Ok done) old new = (old.schema ≡ no_schema) × Presents new no_accounts × IsPrinted (Ok tt) out_old out_new (codes "ready\n")
 DoesInit Denied out_old out_new (Err fault) old new =
-    (IsHindered ⊥ ⊥ Denied fault × (new ≡ old) × Keeps out_old out_new) ⊎ ((old.schema ≡ no_schema) × Presents new no_accounts × IsCutOff fault out_old out_new (codes "ready\n"))
+    (IsHindered ⊥ ⊥ Denied fault × (new ≡ old) × Keeps out_old out_new) ⊎ ((old.schema ≡ no_schema) × Presents new no_accounts × IsPrinted (Err fault) out_old out_new (codes "ready\n"))
 
 -- ---- the words
 
@@ -225,44 +227,44 @@ PostFailed at clock = InputFailed ⊎ ((at ≡ None) × (clock ≡ None))
 abbrev pub DeniedAtEnd : (Fault → Type 0) → Option (List ℕ) → Fault → Type 0
 DeniedAtEnd Denied left fault = Denied fault × IsAtEnd left
 
--- whoever denies the store at a path, why a sink refused, the clock, what was to be read and what is left of it, whether a sink tells what it keeps and
+-- whoever denies the store at a place, why a sink refused, the clock, what was to be read and what is left of it, whether a sink tells what it keeps and
 -- what that was and is, and the output before and after
-module _ (Denied : List ℕ → Fault → Type 0) (Sunk : SinkError → Type 0) (clock : Option ℕ) (given left : Option (List ℕ)) (tells : Bool) (had has : List (List ℕ)) (out_old out_new : Option (List ℕ)) where
+module _ (Denied : StoreLocation → Fault → Type 0) (Sunk : SinkError → Type 0) (clock : Option ℕ) (given left : Option (List ℕ)) (tells : Bool) (had has : List KeptMail) (out_old out_new : Option (List ℕ)) where
   -- no message came to the sink, and nothing of the input was read
   abbrev pub Idle : Type 0
-  Idle = GrowsBy tells had has [] × (left ≡ given)
+  Idle = StaysAsItWas tells had has × (left ≡ given)
 
   -- each word does its own work; only `init` makes a store, only `drain` moves messages into the sink, and only `adduser` and `deliver` read
   abbrev pub Does : Subcommand → Result (Unit {0}) Fault → Database → Database → Type 0
-  Does (word.Init a) result old new = Idle × DoesInit (Denied a.location.path.now) out_old out_new result old new
+  Does (word.Init a) result old new = Idle × DoesInit (Denied a.location) out_old out_new result old new
   Does (word.AddUser a) result old new =
-      GrowsBy tells had has [] × DoesEvent InputFailed (IsNoSalt a.salt.now) (DeniedAtEnd (Denied a.location.path.now) left) (Adds a.salt.now a.name.now a.address.now given) out_old out_new result old new
+      StaysAsItWas tells had has × DoesEvent InputFailed (IsNoSalt a.salt.now) (DeniedAtEnd (Denied a.location) left) (Adds a.salt.now a.name.now a.address.now given) out_old out_new result old new
   Does (word.Deliver a) result old new =
-      GrowsBy tells had has []
-      × DoesEvent (PostFailed (option_copied a.at) clock) (HasNoNumber (option_copied a.at)) (DeniedAtEnd (Denied a.location.path.now) left) (Posts a.from.now a.to.now (option_copied a.at) a.user.now clock given) out_old out_new result old new
-  Does (word.Done a) result old new = Idle × DoesEvent ⊥ (IsNoNumber a.id.now) (Denied a.location.path.now) (Dequeues a.user.now a.id.now) out_old out_new result old new
-  Does (word.Drain a) result old new = (left ≡ given) × HasDrained Sunk (Denied a.location.path.now) a tells had has out_old out_new result old new
-  Does (word.Folders a) result old new = Idle × DoesFolders (Denied a.location.path.now) out_old out_new a.user.now a.directories (option_copied a.separator) result old new
+      StaysAsItWas tells had has
+      × DoesEvent (PostFailed (option_copied a.at) clock) (HasNoNumber (option_copied a.at)) (DeniedAtEnd (Denied a.location) left) (Posts a.from.now a.to.now (option_copied a.at) a.user.now clock given) out_old out_new result old new
+  Does (word.Done a) result old new = Idle × DoesEvent ⊥ (IsNoNumber a.id.now) (Denied a.location) (Dequeues a.user.now a.id.now) out_old out_new result old new
+  Does (word.Drain a) result old new = (left ≡ given) × HasDrained Sunk (Denied a.location) a tells had has out_old out_new result old new
+  Does (word.Folders a) result old new = Idle × DoesFolders (Denied a.location) out_old out_new a.user.now a.directories (option_copied a.separator) result old new
   Does (word.Show a) result old new =
-      Idle × DoesRead (IsNoNumber a.number.now) (Denied a.location.path.now) a.user.now (ShowsMessage a.folder.now a.number.now) (LacksMessage a.folder.now a.number.now) out_old out_new result old new
-  Does (word.Queue a) result old new = Idle × DoesQueue (Denied a.location.path.now) out_old out_new a.user.now (option_copied a.id) result old new
-  Does (word.Notices a) result old new = Idle × DoesRead ⊥ (Denied a.location.path.now) a.user.now ListsNotices LacksNothing out_old out_new result old new
+      Idle × DoesRead (IsNoNumber a.number.now) (Denied a.location) a.user.now (ShowsMessage a.folder.now a.number.now) (LacksMessage a.folder.now a.number.now) out_old out_new result old new
+  Does (word.Queue a) result old new = Idle × DoesQueue (Denied a.location) out_old out_new a.user.now (option_copied a.id) result old new
+  Does (word.Notices a) result old new = Idle × DoesRead ⊥ (Denied a.location) a.user.now ListsNotices LacksNothing out_old out_new result old new
   Does (word.Try a) result old new = Idle × DoesNothing out_old out_new result old new
   Does (word.Serve a) result old new = Idle × DoesNothing out_old out_new result old new
   Does (word.Session a) result old new = Idle × DoesNothing out_old out_new result old new
   Does (word.Daemon a) result old new = Idle × DoesNothing out_old out_new result old new
 
--- the store that a word works on, and for `drain` the Maildir, are those that it names
-abbrev pub Reaches : (List ℕ → Type 0) → (List ℕ → Type 0) → Subcommand → Type 0
-Reaches Given At (word.Init a) = Given a.location.path.now
-Reaches Given At (word.AddUser a) = Given a.location.path.now
-Reaches Given At (word.Deliver a) = Given a.location.path.now
-Reaches Given At (word.Folders a) = Given a.location.path.now
-Reaches Given At (word.Show a) = Given a.location.path.now
-Reaches Given At (word.Queue a) = Given a.location.path.now
-Reaches Given At (word.Done a) = Given a.location.path.now
-Reaches Given At (word.Notices a) = Given a.location.path.now
-Reaches Given At (word.Drain a) = Given a.location.path.now × At a.maildir.now
+-- the store that a word works on, and for `drain` the Maildir, are those that it names, and the store was waited for as it says
+abbrev pub Reaches : (StoreLocation → Type 0) → (List ℕ → Type 0) → Subcommand → Type 0
+Reaches Given At (word.Init a) = Given a.location
+Reaches Given At (word.AddUser a) = Given a.location
+Reaches Given At (word.Deliver a) = Given a.location
+Reaches Given At (word.Folders a) = Given a.location
+Reaches Given At (word.Show a) = Given a.location
+Reaches Given At (word.Queue a) = Given a.location
+Reaches Given At (word.Done a) = Given a.location
+Reaches Given At (word.Notices a) = Given a.location
+Reaches Given At (word.Drain a) = Given a.location × At a.maildir.now
 Reaches Given At (word.Try a) = Unit {0}
 Reaches Given At (word.Serve a) = Unit {0}
 Reaches Given At (word.Session a) = Unit {0}
@@ -271,8 +273,8 @@ Reaches Given At (word.Daemon a) = Unit {0}
 -- ---- a run of the program
 
 -- no table changed, and no message came to the sink
-abbrev pub Untouched : Bool → List (List ℕ) → List (List ℕ) → Database → Database → Type 0
-Untouched tells had has old new = GrowsBy tells had has [] × (new ≡ old)
+abbrev pub Untouched : Bool → List KeptMail → List KeptMail → Database → Database → Type 0
+Untouched tells had has old new = StaysAsItWas tells had has × (new ≡ old)
 
 -- `clap` says that the words are wrong; else it shows help or a version
 abbrev pub IsMistake : Error → Type 0
@@ -295,7 +297,7 @@ pub record IsHelp (error : Error) (out_old out_new err_old err_new : Option (Lis
 -- there was no memory for the text, or a write of it failed
 pub record IsUnsaid (error : Error) (out_old out_new err_old err_new : Option (List ℕ)) (status : ℕ) : Type 0 where
   pub fault : Fault
-  pub cause : (text : List ℕ) × IsCutOff fault out_old out_new text
+  pub cause : ((fault ≡ memory) × Keeps out_old out_new) ⊎ ((text : List ℕ) × IsPrinted (Err fault) out_old out_new text)
   pub ended : status ≡ status_of fault
   pub told : IsWritten err_old err_new (line_of fault)
 
@@ -314,20 +316,20 @@ IsUnread (Said error) out_old out_new err_old err_new status = IsSaid error out_
 IsUnread NotText out_old out_new err_old err_new status = IsOnly BadArgument out_old out_new err_old err_new status
 IsUnread Unknown out_old out_new err_old err_new status = IsOnly BadArgument out_old out_new err_old err_new status
 
--- a word did its work: its status is that of how it ended, and what went wrong is told
-pub record Works (Did : Result (Unit {0}) Fault → Type 0) (Reached : Type 0) (err_old err_new : Option (List ℕ)) (status : ℕ) : Type 0 where
+-- a word did its work: its status is that of how it ended, and what went wrong is told, with its cause
+pub record Works (Did : Result (Unit {0}) Fault → Type 0) (Reached : Type 0) (cause : Fault → Option (List ℕ)) (err_old err_new : Option (List ℕ)) (status : ℕ) : Type 0 where
   pub ending : Result (Unit {0}) Fault
   pub ended : status ≡ status_after ending
   pub unclosed : Option Refusal
-  pub told : AreTold err_old err_new (troubles unclosed ending)
+  pub told : AreTold err_old err_new cause (troubles unclosed ending)
   pub did : Did ending
   pub reached : OnOk ending Reached
 
-module _ (Denied : List ℕ → Fault → Type 0) (Sunk : SinkError → Type 0) (Given At : List ℕ → Type 0) (clock : Option ℕ) (given left : Option (List ℕ)) (tells : Bool) (had has : List (List ℕ)) (out_old out_new err_old err_new : Option (List ℕ)) (status : ℕ) (old new : Database) where
+module _ (Denied : StoreLocation → Fault → Type 0) (Sunk : SinkError → Type 0) (Given : StoreLocation → Type 0) (At : List ℕ → Type 0) (cause : Fault → Option (List ℕ)) (clock : Option ℕ) (given left : Option (List ℕ)) (tells : Bool) (had has : List KeptMail) (out_old out_new err_old err_new : Option (List ℕ)) (status : ℕ) (old new : Database) where
   -- what comes of words that were read so: a script was tried; a word did its work; or the words ask for nothing, which is told
   abbrev pub RunsAs : Result Subcommand ReadError → Type 0
   RunsAs (Ok (word.Try a)) = Runs (envelope_with a.from.now a.to.now) given out_old out_new err_old err_new status × Untouched tells had has old new
-  RunsAs (Ok asked) = Works (λ ending. Does Denied Sunk clock given left tells had has out_old out_new asked ending old new) (Reaches Given At asked) err_old err_new status
+  RunsAs (Ok asked) = Works (λ ending. Does Denied Sunk clock given left tells had has out_old out_new asked ending old new) (Reaches Given At asked) cause err_old err_new status
   RunsAs (Err error) = IsUnread error out_old out_new err_old err_new status × Untouched tells had has old new × (left ≡ given)
 
   -- a run of the program with these words

@@ -162,9 +162,9 @@ pub fn read_once<Q: AccountRead, K: Keeper>(
 ) -> Result<Q::Found, Fault>
     ensures back { K.is_out keeper.old ≡ false → K.is_out keeper.new ≡ false }
     ensures found { IsTrue K.tells → TurnsTables
-        (λ accounts later. (later ≡ accounts) × FindsIn (HasDenied K.refuses location.entry.path.now) (Q.user wanted.now) (Q.finds wanted.now) result accounts)
+        (λ accounts later. (later ≡ accounts) × FindsIn (HasDenied K.refuses K.will_wait location.entry) (Q.user wanted.now) (Q.finds wanted.now) result accounts)
         (K.holds keeper.old) (K.holds keeper.new) }
-    ensures given { OnOk result (HasGiven K.gives location.entry.path.now) }
+    ensures given { OnOk result (HasGiven K.gives K.will_wait location.entry) }
 {
     let mut store = take_store(location, false, keeper)?;
     let found = wanted.read(&mut store);

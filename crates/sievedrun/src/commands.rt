@@ -1,13 +1,10 @@
 //! The words that work on a store, a function each.
-ghost use Rattle.std.specs.Prelude.{◌≡◌, ◌≢◌, ◌++◌, false, codes, IsTrue, IfOk, OnOk, OnErr, IfErr, option_copied};
-ghost use Rattle.std.specs.Io.KnownBytes.{Appends};
+ghost use Rattle.std.specs.Prelude.{◌≡◌, ◌≢◌, false, IsTrue, IfOk, OnOk, OnErr, IfErr, option_copied};
 ghost use Rattle.sqlite.specs.Held.{state};
 ghost use Rattle.keepers.specs.Taken.{IsTaken};
 ghost use Rattle.mailengine.specs.declared.answer.Answer.TheVariants.{Delivered, Added};
 ghost use Rattle.mailengine.specs.declared.event.Event.TheVariants as machine;
-ghost use Rattle.reportlines.specs.Reports.{with_end, delivery_report};
 ghost use Rattle.sievedrun.specs.Draining.{TurnsTables};
-ghost use Rattle.sievedrun.specs.Faults.{IsCutOff};
 ghost use Rattle.sievedrun.specs.Promise.{status_after};
 ghost use Rattle.sievedrun.specs.Serving.{HasDenied, HasGiven};
 ghost use Rattle.sievedrun.specs.Streams.{InputFailed};
@@ -16,15 +13,14 @@ ghost use Rattle.sievedrun.specs.Words.{Adds, Posts, PostFailed, DeniedAtEnd, Pu
 
 use crate::account_read::{MessageOf, read_once};
 use crate::fault::Fault;
-use crate::stream::{read_all, write_all};
+use crate::report::print_report;
+use crate::stream::{read_all, write_all, write_line};
 use crate::values::{decimal, envelope_of, first_line, moment_of, salt_of};
 use keepers::Keeper;
 use mailengine::{Envelope, Report, add_user, deliver};
 use mailstore::Store;
-use octets::Octets;
-use reportlines::of_report;
 use sievedwords::{AddUser, Deliver, Init, Show, StoreLocation};
-use std::alloc::{AllocError, Global};
+use std::alloc::Global;
 use std::io::{Read, Write};
 
 /// `init`: a new store.
@@ -34,9 +30,9 @@ pub fn run_init<W: Write, K: Keeper>(
     keeper: &mut K,
 ) -> Result<(), Fault>
     ensures back { K.is_out keeper.old ≡ false → K.is_out keeper.new ≡ false }
-    ensures does { IsTrue K.tells → DoesInit (HasDenied K.refuses asked.entry.location.path.now) (W.contents output.old) (W.contents output.new) result
+    ensures does { IsTrue K.tells → DoesInit (HasDenied K.refuses K.will_wait asked.entry.location) (W.contents output.old) (W.contents output.new) result
         (K.holds keeper.old) (K.holds keeper.new) }
-    ensures given { OnOk result (HasGiven K.gives asked.entry.location.path.now) }
+    ensures given { OnOk result (HasGiven K.gives K.will_wait asked.entry.location) }
 {
     let store = take_store(asked.location, true, keeper)?;
     keeper.hand_back(store);
@@ -54,13 +50,12 @@ pub fn run_adduser<R: Read, W: Write, K: Keeper>(
     ensures unread { status_after result ≡ 64 → input.new ≡ input.old }
     ensures back { K.is_out keeper.old ≡ false → K.is_out keeper.new ≡ false }
     ensures does { IsTrue K.tells → DoesEvent InputFailed (IsNoSalt asked.entry.salt.now)
-        (DeniedAtEnd (HasDenied K.refuses asked.entry.location.path.now) (R.remaining input.new))
+        (DeniedAtEnd (HasDenied K.refuses K.will_wait asked.entry.location) (R.remaining input.new))
         (Adds asked.entry.salt.now asked.entry.name.now asked.entry.address.now (R.remaining input.old))
         (W.contents output.old) (W.contents output.new) result (K.holds keeper.old) (K.holds keeper.new) }
-    ensures given { OnOk result (HasGiven K.gives asked.entry.location.path.now) }
+    ensures given { OnOk result (HasGiven K.gives K.will_wait asked.entry.location) }
 {
     let salt = salt_of(asked.salt)?;
-    let line = added_line(alloc, asked.name)?;
     let octets = read_all(alloc, input)?;
     let password = first_line(octets.as_slice());
     add(
@@ -72,7 +67,7 @@ pub fn run_adduser<R: Read, W: Write, K: Keeper>(
         password,
         keeper,
     )?;
-    write_all(output, line.as_slice())
+    write_line(output, b"added ", asked.name.as_bytes())
 }
 
 /// The account is added, in a store that is taken and handed back.
@@ -88,8 +83,8 @@ fn add<K: Keeper>(
     ensures late { status_after result ≢ 64 }
     ensures back { K.is_out keeper.old ≡ false → K.is_out keeper.new ≡ false }
     ensures puts { IsTrue K.tells → TurnsTables
-        (Puts (HasDenied K.refuses location.entry.path.now) (machine.AddUser name.now address.now salt password.now) (λ done. Added) result) (K.holds keeper.old) (K.holds keeper.new) }
-    ensures given { OnOk result (HasGiven K.gives location.entry.path.now) }
+        (Puts (HasDenied K.refuses K.will_wait location.entry) (machine.AddUser name.now address.now salt password.now) (λ done. Added) result) (K.holds keeper.old) (K.holds keeper.new) }
+    ensures given { OnOk result (HasGiven K.gives K.will_wait location.entry) }
 {
     let mut store = take_store(location, false, keeper)?;
     let added = add_user(alloc, &mut store, name, address, salt, password);
@@ -97,19 +92,10 @@ fn add<K: Keeper>(
     Ok(added?)
 }
 
-fn added_line(alloc: Global, name: &str) -> Result<Octets, AllocError>
-    ensures { IfOk result (λ line. line ≡ with_end (codes "added " ++ name.now)) }
-{
-    let mut line = Octets::from_slice(alloc, b"added ")?;
-    line.extend_from_slice(name.as_bytes())?;
-    line.push(b'\n')?;
-    Ok(line)
-}
-
 /// `deliver`: the input is a message for a user. `clock` is the moment where the words have none.
 ///
-/// The report is written once the store was handed back. What was delivered is on the disk by then, whether or not the store
-/// could be closed.
+/// The report is written once the store was handed back, and takes no memory. What was delivered is on the disk by then, whether or
+/// not the store could be closed.
 pub fn run_deliver<R: Read, W: Write, K: Keeper>(
     alloc: Global,
     asked: Deliver<'_>,
@@ -121,10 +107,10 @@ pub fn run_deliver<R: Read, W: Write, K: Keeper>(
     ensures unread { status_after result ≡ 64 → input.new ≡ input.old }
     ensures back { K.is_out keeper.old ≡ false → K.is_out keeper.new ≡ false }
     ensures does { IsTrue K.tells → DoesEvent (PostFailed (option_copied asked.entry.at) clock) (HasNoNumber (option_copied asked.entry.at))
-        (DeniedAtEnd (HasDenied K.refuses asked.entry.location.path.now) (R.remaining input.new))
+        (DeniedAtEnd (HasDenied K.refuses K.will_wait asked.entry.location) (R.remaining input.new))
         (Posts asked.entry.from.now asked.entry.to.now (option_copied asked.entry.at) asked.entry.user.now clock (R.remaining input.old))
         (W.contents output.old) (W.contents output.new) result (K.holds keeper.old) (K.holds keeper.new) }
-    ensures given { OnOk result (HasGiven K.gives asked.entry.location.path.now) }
+    ensures given { OnOk result (HasGiven K.gives K.will_wait asked.entry.location) }
 {
     let moment = moment_of(asked.at, clock)?;
     let envelope = envelope_of(alloc, asked.from, asked.to)?;
@@ -138,7 +124,7 @@ pub fn run_deliver<R: Read, W: Write, K: Keeper>(
         moment,
         keeper,
     )?;
-    print_report(alloc, &report, output)
+    print_report(&report, output)
 }
 
 /// The message is delivered, in a store that is taken and handed back.
@@ -154,21 +140,13 @@ fn post<K: Keeper>(
     ensures late { status_after result ≢ 64 }
     ensures back { K.is_out keeper.old ≡ false → K.is_out keeper.new ≡ false }
     ensures puts { IsTrue K.tells → TurnsTables
-        (Puts (HasDenied K.refuses location.entry.path.now) (machine.Deliver user.now envelope message.now moment) Delivered result) (K.holds keeper.old) (K.holds keeper.new) }
-    ensures given { OnOk result (HasGiven K.gives location.entry.path.now) }
+        (Puts (HasDenied K.refuses K.will_wait location.entry) (machine.Deliver user.now envelope message.now moment) Delivered result) (K.holds keeper.old) (K.holds keeper.new) }
+    ensures given { OnOk result (HasGiven K.gives K.will_wait location.entry) }
 {
     let mut store = take_store(location, false, keeper)?;
     let delivered = deliver(alloc, &mut store, user, envelope, message, moment);
     keeper.hand_back(store);
     Ok(delivered?)
-}
-
-fn print_report<W: Write>(alloc: Global, report: &Report, output: &mut W) -> Result<(), Fault>
-    ensures ok { OnOk result (Appends (W.contents output.old) (W.contents output.new) (delivery_report report.now)) }
-    ensures cut { IfErr result (λ fault. IsCutOff fault (W.contents output.old) (W.contents output.new) (delivery_report report.now)) }
-{
-    let text = of_report(alloc, report)?;
-    write_all(output, text.as_slice())
 }
 
 /// `show`: a message of a user's folder, by its number from 1. No other is read.
@@ -178,10 +156,10 @@ pub fn run_show<W: Write, K: Keeper>(
     keeper: &mut K,
 ) -> Result<(), Fault>
     ensures back { K.is_out keeper.old ≡ false → K.is_out keeper.new ≡ false }
-    ensures does { IsTrue K.tells → DoesRead (IsNoNumber asked.entry.number.now) (HasDenied K.refuses asked.entry.location.path.now) asked.entry.user.now
+    ensures does { IsTrue K.tells → DoesRead (IsNoNumber asked.entry.number.now) (HasDenied K.refuses K.will_wait asked.entry.location) asked.entry.user.now
         (ShowsMessage asked.entry.folder.now asked.entry.number.now) (LacksMessage asked.entry.folder.now asked.entry.number.now)
         (W.contents output.old) (W.contents output.new) result (K.holds keeper.old) (K.holds keeper.new) }
-    ensures given { OnOk result (HasGiven K.gives asked.entry.location.path.now) }
+    ensures given { OnOk result (HasGiven K.gives K.will_wait asked.entry.location) }
 {
     let number = decimal(asked.number)?;
     let wanted = MessageOf(asked.user, asked.folder, number);
@@ -201,8 +179,8 @@ pub fn take_store<K: Keeper>(
     ensures taken { IfOk result (λ store. IsTrue K.tells → IsTaken fresh (K.holds keeper.old) (state K.S.Store store).now) }
     ensures refused { OnErr result (IsTrue K.tells → K.holds keeper.new ≡ K.holds keeper.old) }
     ensures kept { OnErr result (K.is_out keeper.new ≡ K.is_out keeper.old) }
-    ensures given { OnOk result (HasGiven K.gives location.entry.path.now) }
-    ensures denied { IfErr result (HasDenied K.refuses location.entry.path.now) }
+    ensures given { OnOk result (HasGiven K.gives K.will_wait location.entry) }
+    ensures denied { IfErr result (HasDenied K.refuses K.will_wait location.entry) }
 {
     keeper.wait_for_lock(location.waits);
     Ok(keeper.take(location.path, fresh)?)

@@ -2,45 +2,40 @@
 ghost use Rattle.std.specs.Prelude.{◌≡◌, ◌⊎◌, ℕ, List, false, IfErr, IfOk, OnOk, IsTrue, option_copied};
 ghost use Rattle.sqlite.specs.Held.{state};
 ghost use Rattle.sievedrun.specs.Draining.{IsMost, MovesFirst, MovesAll, Drains, MovesTables, HasDrained, HasRefused, IsUnkept};
-ghost use Rattle.sievedrun.specs.Draining as draining;
 ghost use Rattle.sievedrun.specs.Faults.{no_user, IsFailure, IsSudden};
 ghost use Rattle.sievedrun.specs.Serving.{HasDenied, HasGiven};
 ghost use Rattle.sievedrun.specs.Values.{HasNoNumber};
 
 use crate::commands::take_store;
 use crate::fault::Fault;
-use crate::stream::write_all;
+use crate::stream::write_number;
 use crate::values::decimal;
 use keepers::Keeper;
 use mailengine::first_message;
 use mailsinks::{MailSink, SinkError};
 use mailstore::{Refusal, Store};
-use octets::{Octets, write_decimal};
 use sievedwords::Drain;
 use sqlite::Alter;
-use std::alloc::{AllocError, Global};
 use std::io::Write;
 
 /// `drain`: a folder's messages move into a Maildir, the first ones first. Where the words or the path are wrong no store is
 /// taken.
 pub fn run_drain<W: Write, K: Keeper, T: MailSink>(
-    alloc: Global,
     asked: Drain<'_>,
     output: &mut W,
     keeper: &mut K,
     sink: &mut T,
 ) -> Result<(), Fault>
     ensures back { K.is_out keeper.old ≡ false → K.is_out keeper.new ≡ false }
-    ensures drains { IsTrue K.tells → HasDrained (HasRefused T.refuses) (HasDenied K.refuses asked.entry.location.path.now) asked.entry
+    ensures drains { IsTrue K.tells → HasDrained (HasRefused T.refuses) (HasDenied K.refuses K.will_wait asked.entry.location) asked.entry
         T.tells (T.kept sink.old) (T.kept sink.new) (W.contents output.old) (W.contents output.new) result (K.holds keeper.old) (K.holds keeper.new) }
-    ensures given { OnOk result (HasGiven K.gives asked.entry.location.path.now) }
+    ensures given { OnOk result (HasGiven K.gives K.will_wait asked.entry.location) }
     ensures placed { OnOk result (T.is_at sink.new asked.entry.maildir.now) }
 {
     let most = most_of(asked.most)?;
     sink.open(asked.maildir)?;
     let moved = drain_store(asked, most, keeper, sink)?;
-    let line = drained_line(alloc, moved)?;
-    write_all(output, line.as_slice())
+    write_number(output, b"drained ", moved)
 }
 
 /// How many messages the words ask for, at most.
@@ -64,9 +59,9 @@ fn drain_store<K: Keeper, T: MailSink>(
     sink: &mut T,
 ) -> Result<u64, Fault>
     ensures back { K.is_out keeper.old ≡ false → K.is_out keeper.new ≡ false }
-    ensures moves { IsTrue K.tells → MovesTables (HasRefused T.refuses) (HasDenied K.refuses asked.entry.location.path.now) asked.entry
+    ensures moves { IsTrue K.tells → MovesTables (HasRefused T.refuses) (HasDenied K.refuses K.will_wait asked.entry.location) asked.entry
         T.tells (T.kept sink.old) (T.kept sink.new) most result (K.holds keeper.old) (K.holds keeper.new) }
-    ensures given { OnOk result (HasGiven K.gives asked.entry.location.path.now) }
+    ensures given { OnOk result (HasGiven K.gives K.will_wait asked.entry.location) }
     ensures stays { (path : List ℕ) → T.is_at sink.old path → T.is_at sink.new path }
 {
     let user = asked.user.as_bytes();
@@ -75,15 +70,6 @@ fn drain_store<K: Keeper, T: MailSink>(
     let drained = drain(&mut store, user, folder, most, sink);
     keeper.hand_back(store);
     drained
-}
-
-fn drained_line(alloc: Global, moved: u64) -> Result<Octets, AllocError>
-    ensures { IfOk result (λ line. line ≡ draining.drained_line moved) }
-{
-    let mut line = Octets::from_slice(alloc, b"drained ")?;
-    write_decimal(&mut line, moved)?;
-    line.push(b'\n')?;
-    Ok(line)
 }
 
 /// Moves the first message of the folder of a user who has an account: the sink keeps it, and then it leaves the store.

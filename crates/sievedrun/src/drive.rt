@@ -1,10 +1,10 @@
 //! A run of the program: the words, and what comes of them.
-ghost use Rattle.std.specs.Prelude.{◌≡◌, false, None, IsTrue, IfSome, OnOk};
+ghost use Rattle.std.specs.Prelude.{◌≡◌, false, None, IsTrue, IfSome, OnOk, option_copied};
 ghost use Rattle.sievedrun.specs.Draining.{HasRefused};
-ghost use Rattle.sievedrun.specs.Faults.{status_of, line_of, troubles, AreTold};
+ghost use Rattle.sievedrun.specs.Faults.{cause_of, status_of, text_said, told_of, troubles, AreTold};
 ghost use Rattle.sievedrun.specs.Promise.{status_after};
 ghost use Rattle.sievedrun.specs.Serving.{HasDenied, HasGiven};
-ghost use Rattle.sievedrun.specs.Streams.{IsTold};
+ghost use Rattle.sievedrun.specs.Streams.{IsWritten};
 ghost use Rattle.sievedrun.specs.TryScript.{Runs};
 ghost use Rattle.sievedrun.specs.Values.{envelope_with};
 ghost use Rattle.sievedrun.specs.Words.{Does, IsSaid, IsUnread, Reaches, RunsWords};
@@ -50,7 +50,8 @@ pub fn drive<R: Read, W: Write, E: Write, K: Keeper, T: MailSink>(
 ) -> u8
     ensures unread { result ≡ 64 → input.new ≡ input.old }
     ensures back { K.is_out keeper.old ≡ false → K.is_out keeper.new ≡ false }
-    ensures runs { IsTrue K.tells → RunsWords (HasDenied K.refuses) (HasRefused T.refuses) (HasGiven K.gives) (T.is_at sink.new) clock
+    ensures runs { IsTrue K.tells → RunsWords (HasDenied K.refuses K.will_wait) (HasRefused T.refuses) (HasGiven K.gives K.will_wait) (T.is_at sink.new)
+        (cause_of (K.said keeper.new) (text_said (T.said sink.new))) clock
         (R.remaining input.old) (R.remaining input.new) T.tells (T.kept sink.old) (T.kept sink.new) (W.contents output.old) (W.contents output.new)
         (E.contents errors.old) (E.contents errors.new) result (K.holds keeper.old) (K.holds keeper.new) words.now }
     ensures asked { K.unclosed keeper.old ≡ None → K.unclosed keeper.new ≡ None }
@@ -98,10 +99,10 @@ fn act<R: Read, W: Write, K: Keeper, T: MailSink>(
 ) -> Result<(), Fault>
     ensures unread { status_after result ≡ 64 → input.new ≡ input.old }
     ensures back { K.is_out keeper.old ≡ false → K.is_out keeper.new ≡ false }
-    ensures does { IsTrue K.tells → Does (HasDenied K.refuses) (HasRefused T.refuses) clock (R.remaining input.old) (R.remaining input.new)
+    ensures does { IsTrue K.tells → Does (HasDenied K.refuses K.will_wait) (HasRefused T.refuses) clock (R.remaining input.old) (R.remaining input.new)
         T.tells (T.kept sink.old) (T.kept sink.new) (W.contents output.old) (W.contents output.new) asked.entry result
         (K.holds keeper.old) (K.holds keeper.new) }
-    ensures reaches { OnOk result (Reaches (HasGiven K.gives) (T.is_at sink.new) asked.entry) }
+    ensures reaches { OnOk result (Reaches (HasGiven K.gives K.will_wait) (T.is_at sink.new) asked.entry) }
 {
     match asked {
         Subcommand::Init(asked) => run_init(asked, output, keeper),
@@ -110,9 +111,9 @@ fn act<R: Read, W: Write, K: Keeper, T: MailSink>(
         Subcommand::Folders(asked) => run_folders(alloc, asked, output, keeper),
         Subcommand::Show(asked) => run_show(asked, output, keeper),
         Subcommand::Queue(asked) => run_queue(alloc, asked, output, keeper),
-        Subcommand::Done(asked) => run_done(alloc, asked, output, keeper),
+        Subcommand::Done(asked) => run_done(asked, output, keeper),
         Subcommand::Notices(asked) => run_notices(alloc, asked, output, keeper),
-        Subcommand::Drain(asked) => run_drain(alloc, asked, output, keeper, sink),
+        Subcommand::Drain(asked) => run_drain(asked, output, keeper, sink),
         Subcommand::Try(_)
         | Subcommand::Serve(_)
         | Subcommand::Session(_)
@@ -129,7 +130,8 @@ fn conclude<E: Write, K: Keeper, T: MailSink>(
     sink: &T,
 ) -> u8
     ensures status { result ≡ status_after done }
-    ensures told { AreTold (E.contents errors.old) (E.contents errors.new) (troubles (K.unclosed keeper.old) done) }
+    ensures told { AreTold (E.contents errors.old) (E.contents errors.new) (cause_of (K.said keeper.new) (text_said (T.said sink.now)))
+        (troubles (K.unclosed keeper.old) done) }
     ensures asked { K.unclosed keeper.new ≡ None }
     ensures same { IsTrue K.tells → K.holds keeper.new ≡ K.holds keeper.old }
     ensures kept { K.is_out keeper.new ≡ K.is_out keeper.old }
@@ -137,26 +139,32 @@ fn conclude<E: Write, K: Keeper, T: MailSink>(
     let unclosed = keeper.take_close_error();
     match done {
         Ok(()) => {
-            tell_unclosed(errors, unclosed, keeper);
+            tell_unclosed(errors, unclosed, keeper, sink);
             0
         }
         Err(fault) => {
             if fault.is_store_failure() {
                 return tell_fault(errors, fault, keeper, sink);
             }
-            tell_unclosed(errors, unclosed, keeper);
+            tell_unclosed(errors, unclosed, keeper, sink);
             tell_fault(errors, fault, keeper, sink)
         }
     }
 }
 
 /// Tells why the store couldn't be closed, where it couldn't.
-fn tell_unclosed<E: Write, K: Keeper>(errors: &mut E, unclosed: Option<Refusal>, keeper: &K)
-    ensures some { IfSome unclosed (λ refusal. IsTold (E.contents errors.old) (E.contents errors.new) (line_of (Fault.Refused refusal))) }
+fn tell_unclosed<E: Write, K: Keeper, T: MailSink>(
+    errors: &mut E,
+    unclosed: Option<Refusal>,
+    keeper: &K,
+    sink: &T,
+)
+    ensures some { IfSome unclosed (λ refusal. IsWritten (E.contents errors.old) (E.contents errors.new)
+        (told_of (cause_of (K.said keeper.now) (text_said (T.said sink.now))) (Fault.Refused refusal))) }
     ensures none { unclosed ≡ None → E.contents errors.new ≡ E.contents errors.old }
 {
     if let Some(refusal) = unclosed {
-        Trouble::of_store(Fault::Refused(refusal), keeper).tell(errors);
+        tell_fault(errors, Fault::Refused(refusal), keeper, sink);
     }
 }
 
@@ -168,17 +176,31 @@ fn tell_fault<E: Write, K: Keeper, T: MailSink>(
     sink: &T,
 ) -> u8
     ensures status { result ≡ status_of fault }
-    ensures line { IsTold (E.contents errors.old) (E.contents errors.new) (line_of fault) }
+    ensures line { IsWritten (E.contents errors.old) (E.contents errors.new) (told_of (cause_of (K.said keeper.now) (text_said (T.said sink.now))) fault) }
 {
-    let trouble = match fault {
+    trouble_of(fault, keeper, sink).tell(errors);
+    fault.status()
+}
+
+/// A fault with what the keeper or the sink knows of it.
+fn trouble_of<K: Keeper, T: MailSink>(fault: Fault, keeper: &K, sink: &T) -> Trouble
+    ensures fault { result.fault ≡ fault }
+    ensures cause { option_copied result.cause ≡ cause_of (K.said keeper.now) (text_said (T.said sink.now)) fault }
+{
+    match fault {
         Fault::Stream | Fault::NoMaildir => Trouble {
             fault,
-            cause: sink.cause().and_then(of_file),
+            cause: sink_cause(sink),
         },
         _ => Trouble::of_store(fault, keeper),
-    };
-    trouble.tell(errors);
-    fault.status()
+    }
+}
+
+/// What is known of the last failure of a sink.
+fn sink_cause<T: MailSink>(sink: &T) -> Option<&'static str>
+    ensures { option_copied result ≡ text_said (T.said sink.now) }
+{
+    of_file(sink.cause()?)
 }
 
 /// Tells why words ask for nothing.

@@ -10,6 +10,7 @@ pub mod fault;
 mod framing;
 mod listing;
 mod queue;
+pub mod report;
 pub mod session;
 mod stream;
 pub mod trouble;

@@ -127,9 +127,9 @@ pub fn run_listing<Q: Listing, W: Write, K: Keeper>(
     keeper: &mut K,
 ) -> Result<(), Fault>
     ensures back { K.is_out keeper.old ≡ false → K.is_out keeper.new ≡ false }
-    ensures does { IsTrue K.tells → DoesRead ⊥ (HasDenied K.refuses location.entry.path.now) (Q.user wanted.now) (Q.shows wanted.now) LacksNothing
+    ensures does { IsTrue K.tells → DoesRead ⊥ (HasDenied K.refuses K.will_wait location.entry) (Q.user wanted.now) (Q.shows wanted.now) LacksNothing
         (W.contents output.old) (W.contents output.new) result (K.holds keeper.old) (K.holds keeper.new) }
-    ensures given { OnOk result (HasGiven K.gives location.entry.path.now) }
+    ensures given { OnOk result (HasGiven K.gives K.will_wait location.entry) }
 {
     let found = read_once(location, wanted, keeper)?;
     let text = wanted.lines(alloc, &found)?;
@@ -145,9 +145,9 @@ pub fn run_folders<W: Write, K: Keeper>(
     keeper: &mut K,
 ) -> Result<(), Fault>
     ensures back { K.is_out keeper.old ≡ false → K.is_out keeper.new ≡ false }
-    ensures does { IsTrue K.tells → DoesFolders (HasDenied K.refuses asked.entry.location.path.now) (W.contents output.old) (W.contents output.new)
+    ensures does { IsTrue K.tells → DoesFolders (HasDenied K.refuses K.will_wait asked.entry.location) (W.contents output.old) (W.contents output.new)
         asked.entry.user.now asked.entry.directories (option_copied asked.entry.separator) result (K.holds keeper.old) (K.holds keeper.new) }
-    ensures given { OnOk result (HasGiven K.gives asked.entry.location.path.now) }
+    ensures given { OnOk result (HasGiven K.gives K.will_wait asked.entry.location) }
 {
     if asked.directories {
         let separator = separator_of(asked.separator)?;
@@ -174,9 +174,9 @@ pub fn run_notices<W: Write, K: Keeper>(
     keeper: &mut K,
 ) -> Result<(), Fault>
     ensures back { K.is_out keeper.old ≡ false → K.is_out keeper.new ≡ false }
-    ensures does { IsTrue K.tells → DoesRead ⊥ (HasDenied K.refuses asked.entry.location.path.now) asked.entry.user.now ListsNotices LacksNothing
+    ensures does { IsTrue K.tells → DoesRead ⊥ (HasDenied K.refuses K.will_wait asked.entry.location) asked.entry.user.now ListsNotices LacksNothing
         (W.contents output.old) (W.contents output.new) result (K.holds keeper.old) (K.holds keeper.new) }
-    ensures given { OnOk result (HasGiven K.gives asked.entry.location.path.now) }
+    ensures given { OnOk result (HasGiven K.gives K.will_wait asked.entry.location) }
 {
     run_listing(
         alloc,

@@ -1,8 +1,7 @@
 //! The words on one message of a user's queue: its octets, and that it went out.
-ghost use Rattle.std.specs.Prelude.{◌≡◌, ◌≢◌, ◌++◌, false, codes, decimal, IsTrue, IfOk, OnOk, option_copied};
+ghost use Rattle.std.specs.Prelude.{◌≡◌, ◌≢◌, false, IsTrue, OnOk, option_copied};
 ghost use Rattle.mailengine.specs.declared.answer.Answer.TheVariants.{Taken};
 ghost use Rattle.mailengine.specs.declared.event.Event.TheVariants.{TakeOut};
-ghost use Rattle.reportlines.specs.Reports.{with_end};
 ghost use Rattle.sievedrun.specs.Draining.{TurnsTables};
 ghost use Rattle.sievedrun.specs.Promise.{status_after};
 ghost use Rattle.sievedrun.specs.Serving.{HasDenied, HasGiven};
@@ -13,14 +12,13 @@ use crate::account_read::{OutgoingOf, QueueOf, read_once};
 use crate::commands::take_store;
 use crate::fault::Fault;
 use crate::listing::run_listing;
-use crate::stream::write_all;
+use crate::stream::{write_all, write_number};
 use crate::values::decimal;
 use keepers::Keeper;
 use mailengine::take_out;
 use mailstore::{Outgoing, Refusal};
-use octets::{Octets, write_decimal};
 use sievedwords::{Done, Queue, StoreLocation};
-use std::alloc::{AllocError, Global};
+use std::alloc::Global;
 use std::io::Write;
 
 /// `queue`: the user's messages on their way out, or the octets of the one with the number.
@@ -31,9 +29,9 @@ pub fn run_queue<W: Write, K: Keeper>(
     keeper: &mut K,
 ) -> Result<(), Fault>
     ensures back { K.is_out keeper.old ≡ false → K.is_out keeper.new ≡ false }
-    ensures does { IsTrue K.tells → DoesQueue (HasDenied K.refuses asked.entry.location.path.now) (W.contents output.old) (W.contents output.new)
+    ensures does { IsTrue K.tells → DoesQueue (HasDenied K.refuses K.will_wait asked.entry.location) (W.contents output.old) (W.contents output.new)
         asked.entry.user.now (option_copied asked.entry.id) result (K.holds keeper.old) (K.holds keeper.new) }
-    ensures given { OnOk result (HasGiven K.gives asked.entry.location.path.now) }
+    ensures given { OnOk result (HasGiven K.gives K.will_wait asked.entry.location) }
 {
     match asked.id {
         None => run_listing(alloc, asked.location, &QueueOf(asked.user), output, keeper),
@@ -50,9 +48,9 @@ fn run_queued<W: Write, K: Keeper>(
     keeper: &mut K,
 ) -> Result<(), Fault>
     ensures back { K.is_out keeper.old ≡ false → K.is_out keeper.new ≡ false }
-    ensures does { IsTrue K.tells → DoesRead (IsNoNumber id.now) (HasDenied K.refuses location.entry.path.now) user.now (ShowsOutgoing id.now) (LacksOutgoing id.now)
+    ensures does { IsTrue K.tells → DoesRead (IsNoNumber id.now) (HasDenied K.refuses K.will_wait location.entry) user.now (ShowsOutgoing id.now) (LacksOutgoing id.now)
         (W.contents output.old) (W.contents output.new) result (K.holds keeper.old) (K.holds keeper.new) }
-    ensures given { OnOk result (HasGiven K.gives location.entry.path.now) }
+    ensures given { OnOk result (HasGiven K.gives K.will_wait location.entry) }
 {
     let id = decimal(id)?;
     let Some(row) = read_once(location, &OutgoingOf(user, id), keeper)? else {
@@ -63,21 +61,19 @@ fn run_queued<W: Write, K: Keeper>(
 
 /// `done`: a message leaves the queue, since it went out.
 pub fn run_done<W: Write, K: Keeper>(
-    alloc: Global,
     asked: Done<'_>,
     output: &mut W,
     keeper: &mut K,
 ) -> Result<(), Fault>
     ensures back { K.is_out keeper.old ≡ false → K.is_out keeper.new ≡ false }
-    ensures does { IsTrue K.tells → DoesEvent ⊥ (IsNoNumber asked.entry.id.now) (HasDenied K.refuses asked.entry.location.path.now)
+    ensures does { IsTrue K.tells → DoesEvent ⊥ (IsNoNumber asked.entry.id.now) (HasDenied K.refuses K.will_wait asked.entry.location)
         (Dequeues asked.entry.user.now asked.entry.id.now)
         (W.contents output.old) (W.contents output.new) result (K.holds keeper.old) (K.holds keeper.new) }
-    ensures given { OnOk result (HasGiven K.gives asked.entry.location.path.now) }
+    ensures given { OnOk result (HasGiven K.gives K.will_wait asked.entry.location) }
 {
     let id = decimal(asked.id)?;
-    let line = done_line(alloc, id)?;
     dequeue(asked.location, asked.user.as_bytes(), id, keeper)?;
-    write_all(output, line.as_slice())
+    write_number(output, b"taken ", id)
 }
 
 /// The message with the number leaves the queue, in a store that is taken and handed back.
@@ -90,20 +86,11 @@ fn dequeue<K: Keeper>(
     ensures late { status_after result ≢ 64 }
     ensures back { K.is_out keeper.old ≡ false → K.is_out keeper.new ≡ false }
     ensures puts { IsTrue K.tells → TurnsTables
-        (Puts (HasDenied K.refuses location.entry.path.now) (TakeOut user.now id) Taken result) (K.holds keeper.old) (K.holds keeper.new) }
-    ensures given { OnOk result (HasGiven K.gives location.entry.path.now) }
+        (Puts (HasDenied K.refuses K.will_wait location.entry) (TakeOut user.now id) Taken result) (K.holds keeper.old) (K.holds keeper.new) }
+    ensures given { OnOk result (HasGiven K.gives K.will_wait location.entry) }
 {
     let mut store = take_store(location, false, keeper)?;
     let row = take_out(&mut store, user, id);
     keeper.hand_back(store);
     Ok(row?)
-}
-
-fn done_line(alloc: Global, id: u64) -> Result<Octets, AllocError>
-    ensures { IfOk result (λ line. line ≡ with_end (codes "taken " ++ decimal id)) }
-{
-    let mut line = Octets::from_slice(alloc, b"taken ")?;
-    write_decimal(&mut line, id)?;
-    line.push(b'\n')?;
-    Ok(line)
 }

@@ -1,5 +1,5 @@
 //! One client's session over a reader and a writer, and a store that is taken for the commands that came together.
-ghost use Rattle.std.specs.Prelude.{◌≡◌, ◌≢◌, ℕ, List, Option, Some, None, Result, is_ok, is_some, false, true, IsTrue, IfOk, IfErr, IfSome, OnOk, OnErr};
+ghost use Rattle.std.specs.Prelude.{◌≡◌, ◌≢◌, ℕ, List, Option, Some, None, Result, is_ok, is_some, false, true, IsTrue, IfOk, IfErr, IfSome, OnOk, OnErr, option_copied};
 ghost use Rattle.keepers.specs.declared.keeper.Unavailable.TheVariants.{Busy};
 ghost use Rattle.sqlite.specs.Held.{state};
 ghost use Rattle.mailstore.specs.Account.{Accounts};
@@ -10,9 +10,10 @@ ghost use Rattle.sessions.specs.Clients.{is_ready};
 ghost use Rattle.sessions.specs.Steps.{Asked};
 ghost use Rattle.sievedrun.specs.declared.fault.Fault.{Fault};
 ghost use Rattle.sievedrun.specs.declared.fault.Fault.TheVariants.{Stream};
-ghost use Rattle.sievedrun.specs.Faults.{IsFailure};
+ghost use Rattle.sievedrun.specs.Faults.{IsCutShort, store_failed};
 ghost use Rattle.sievedrun.specs.Promise.{status_after};
 ghost use Rattle.sievedrun.specs.Serving.{Answered, AreSeen, Converses, HasGiven, IsDenied, Hinders, PresentsSeen, Served};
+ghost use Rattle.sievedrun.specs.Streams.{OutputFailed};
 ghost use Rattle.sievedrun.specs.Serving.{ServesBy, StepsOn, WritesAll, WritesFirst, database_seen};
 
 use crate::fault::{Fault, refuse};
@@ -34,7 +35,7 @@ const PIECE: usize = 4096;
 const MAX_WAITING: usize = 65_536;
 
 /// Serves one client of ManageSieve (RFC 5804) over a reader and a writer: greets, and answers each command as soon as it
-/// is whole. For the commands that came together the lock of the store at the path is asked for once, and the store is opened
+/// is whole. For the commands that came together the lock of the store there is asked for once, and the store is opened
 /// once, for the first that asks it; both are given back before anything is written or waited for. Where the lock or the store
 /// can't be had, or the store refuses the step, the client is put off (`NO (TRYLATER)`), and the command is dropped.
 ///
@@ -47,25 +48,25 @@ const MAX_WAITING: usize = 65_536;
 /// fails, or after 40,000,000 reads. The session has ended then; the store has what its steps wrote.
 pub fn serve_one<R: Read, W: Write, K: Keeper>(
     alloc: Global,
-    path: &str,
+    location: StoreLocation<'_>,
     input: &mut R,
     output: &mut W,
     keeper: &mut K,
 ) -> Result<(), Fault>
     ensures back { K.is_out keeper.old ≡ false → K.is_out keeper.new ≡ false }
     ensures serves { IsTrue K.tells → K.is_out keeper.old ≡ false
-        → ServesBy R.remaining input.old input.new W.contents output.old output.new K.refuses K.gives path.now K.holds keeper.old keeper.new result }
-    ensures fault { IfErr result IsFailure }
+        → ServesBy R.remaining input.old input.new W.contents output.old output.new K.refuses K.gives K.will_wait location.entry K.holds keeper.old keeper.new result }
+    ensures fault { IfErr result IsCutShort }
 {
     let mut errors = io::sink();
-    serve_client(alloc, path, input, output, &mut errors, keeper)
+    serve_client(alloc, location, input, output, &mut errors, keeper)
 }
 
 /// Serves one client as `serve_one` does, with the same errors. The first trouble with the store is told on the errors: why it
 /// can't be had, refused a step or couldn't be closed. That another process has it is no trouble, and passes.
 pub fn serve_client<R: Read, W: Write, E: Write, K: Keeper>(
     alloc: Global,
-    path: &str,
+    location: StoreLocation<'_>,
     input: &mut R,
     output: &mut W,
     errors: &mut E,
@@ -73,13 +74,13 @@ pub fn serve_client<R: Read, W: Write, E: Write, K: Keeper>(
 ) -> Result<(), Fault>
     ensures back { K.is_out keeper.old ≡ false → K.is_out keeper.new ≡ false }
     ensures serves { IsTrue K.tells → K.is_out keeper.old ≡ false
-        → ServesBy R.remaining input.old input.new W.contents output.old output.new K.refuses K.gives path.now K.holds keeper.old keeper.new result }
-    ensures fault { IfErr result IsFailure }
+        → ServesBy R.remaining input.old input.new W.contents output.old output.new K.refuses K.gives K.will_wait location.entry K.holds keeper.old keeper.new result }
+    ensures fault { IfErr result IsCutShort }
 {
     let mut greeting = Octets::new(alloc);
     let mut session = Session::new(alloc, &mut greeting)?;
     write_all(output, greeting.as_slice())?;
-    converse(alloc, &mut session, path, input, output, errors, keeper)
+    converse(alloc, &mut session, location, input, output, errors, keeper)
 }
 
 /// `session`: serves one client, and answers the exit status. What goes wrong is told on the errors.
@@ -92,12 +93,11 @@ pub fn run_session<R: Read, W: Write, E: Write, K: Keeper>(
     keeper: &mut K,
 ) -> u8
     ensures back { K.is_out keeper.old ≡ false → K.is_out keeper.new ≡ false }
-    ensures serves { IsTrue K.tells → K.is_out keeper.old ≡ false → (ending : Result (Unit {0}) Fault) × (result ≡ status_after ending) × IfErr ending IsFailure
-        × ServesBy R.remaining input.old input.new W.contents output.old output.new K.refuses K.gives location.entry.path.now K.holds keeper.old keeper.new
+    ensures serves { IsTrue K.tells → K.is_out keeper.old ≡ false → (ending : Result (Unit {0}) Fault) × (result ≡ status_after ending) × IfErr ending IsCutShort
+        × ServesBy R.remaining input.old input.new W.contents output.old output.new K.refuses K.gives K.will_wait location.entry K.holds keeper.old keeper.new
         ending }
 {
-    keeper.wait_for_lock(location.waits);
-    match serve_client(alloc, location.path, input, output, errors, keeper) {
+    match serve_client(alloc, location, input, output, errors, keeper) {
         Ok(()) => 0,
         Err(fault) => refuse(errors, fault),
     }
@@ -107,7 +107,7 @@ pub fn run_session<R: Read, W: Write, E: Write, K: Keeper>(
 fn converse<R: Read, W: Write, E: Write, K: Keeper>(
     alloc: Global,
     session: &mut Session,
-    path: &str,
+    location: StoreLocation<'_>,
     input: &mut R,
     output: &mut W,
     errors: &mut E,
@@ -116,13 +116,13 @@ fn converse<R: Read, W: Write, E: Write, K: Keeper>(
     requires { session.old.client.closed ≡ false }
     ensures back { K.is_out keeper.old ≡ false → K.is_out keeper.new ≡ false }
     ensures serves { IsTrue K.tells → K.is_out keeper.old ≡ false → (accounts : Accounts) (first_in first_out : Option (List ℕ))
-        → Served (IsDenied K.refuses path.now) (HasGiven K.gives path.now) accounts first_in (R.remaining input.old) first_out
+        → Served (IsDenied K.refuses K.will_wait location.entry) (HasGiven K.gives K.will_wait location.entry) accounts first_in (R.remaining input.old) first_out
         (W.contents output.old) session.old.client
         (K.holds keeper.old)
-        → Converses (IsDenied K.refuses path.now) (HasGiven K.gives path.now) accounts first_in (R.remaining input.new) first_out
+        → Converses (IsDenied K.refuses K.will_wait location.entry) (HasGiven K.gives K.will_wait location.entry) accounts first_in (R.remaining input.new) first_out
         (W.contents output.new) (K.holds keeper.new) result }
     ensures none { IsTrue K.tells → (K.holds keeper.old).schema ≡ no_schema → (K.holds keeper.new).schema ≡ no_schema }
-    ensures fault { IfErr result IsFailure }
+    ensures fault { IfErr result IsCutShort }
 {
     let mut piece = [0u8; PIECE];
     let mut trouble = FirstTrouble::none();
@@ -131,7 +131,7 @@ fn converse<R: Read, W: Write, E: Write, K: Keeper>(
             return Ok(());
         };
         session.give(&piece[..len])?;
-        let answered = answer_all(alloc, session, path, output, &mut trouble, keeper);
+        let answered = answer_all(alloc, session, location, output, &mut trouble, keeper);
         trouble.tell(errors);
         answered?;
         let is_over = session.is_closed();
@@ -146,24 +146,24 @@ fn converse<R: Read, W: Write, E: Write, K: Keeper>(
 fn answer_all<W: Write, K: Keeper>(
     alloc: Global,
     session: &mut Session,
-    path: &str,
+    location: StoreLocation<'_>,
     output: &mut W,
     trouble: &mut FirstTrouble,
     keeper: &mut K,
 ) -> Result<(), Fault>
     ensures back { K.is_out keeper.old ≡ false → K.is_out keeper.new ≡ false }
     ensures answers { IsTrue K.tells → K.is_out keeper.old ≡ false → (accounts : Accounts) → Offers (K.holds keeper.old) accounts
-        → WritesAll (IsDenied K.refuses path.now) (HasGiven K.gives path.now) accounts session.old.client (W.contents output.old)
+        → WritesAll (IsDenied K.refuses K.will_wait location.entry) (HasGiven K.gives K.will_wait location.entry) accounts session.old.client (W.contents output.old)
         (W.contents output.new) session.new.client
         (K.holds keeper.new) result }
     ensures none { IsTrue K.tells → (K.holds keeper.old).schema ≡ no_schema → (K.holds keeper.new).schema ≡ no_schema }
-    ensures fault { IfErr result (λ fault. fault ≡ Stream) }
+    ensures fault { IfErr result (λ fault. (fault ≡ Stream) × OutputFailed) }
 {
     for _ in 0..u64::MAX {
         if !session.ready() {
             return Ok(());
         }
-        answer_some(alloc, session, path, output, trouble, keeper)?;
+        answer_some(alloc, session, location, output, trouble, keeper)?;
     }
     Err(Fault::Stream)
 }
@@ -173,7 +173,7 @@ fn answer_all<W: Write, K: Keeper>(
 fn answer_some<W: Write, K: Keeper>(
     alloc: Global,
     session: &mut Session,
-    path: &str,
+    location: StoreLocation<'_>,
     output: &mut W,
     trouble: &mut FirstTrouble,
     keeper: &mut K,
@@ -181,14 +181,14 @@ fn answer_some<W: Write, K: Keeper>(
     requires { is_ready session.old.client ≡ true }
     ensures back { K.is_out keeper.old ≡ false → K.is_out keeper.new ≡ false }
     ensures answers { IsTrue K.tells → K.is_out keeper.old ≡ false → (accounts : Accounts) → Offers (K.holds keeper.old) accounts
-        → WritesFirst (IsDenied K.refuses path.now) (HasGiven K.gives path.now) accounts session.old.client (W.contents output.old)
+        → WritesFirst (IsDenied K.refuses K.will_wait location.entry) (HasGiven K.gives K.will_wait location.entry) accounts session.old.client (W.contents output.old)
         (W.contents output.new) session.new.client
         (K.holds keeper.new) result }
     ensures none { IsTrue K.tells → (K.holds keeper.old).schema ≡ no_schema → (K.holds keeper.new).schema ≡ no_schema }
-    ensures fault { IfErr result (λ fault. fault ≡ Stream) }
+    ensures fault { IfErr result (λ fault. (fault ≡ Stream) × OutputFailed) }
 {
     let mut answers = Octets::new(alloc);
-    let answered = answer_under_lock(session, path, &mut answers, trouble, keeper);
+    let answered = answer_under_lock(session, location, &mut answers, trouble, keeper);
     write_all(output, answers.as_slice())?;
     if answered {
         return Ok(());
@@ -200,7 +200,7 @@ fn answer_some<W: Write, K: Keeper>(
 /// first, and both it and the store are given back. Trouble is noted.
 fn answer_under_lock<K: Keeper>(
     session: &mut Session,
-    path: &str,
+    location: StoreLocation<'_>,
     answers: &mut Octets,
     trouble: &mut FirstTrouble,
     keeper: &mut K,
@@ -208,19 +208,20 @@ fn answer_under_lock<K: Keeper>(
     requires { is_ready session.old.client ≡ true }
     ensures back { K.is_out keeper.old ≡ false → K.is_out keeper.new ≡ false }
     ensures answers { IsTrue K.tells → (accounts : Accounts) → Offers (K.holds keeper.old) accounts
-        → Answered (IsDenied K.refuses path.now) (HasGiven K.gives path.now) accounts session.old.client answers.old answers.new session.new.client
+        → Answered (IsDenied K.refuses K.will_wait location.entry) (HasGiven K.gives K.will_wait location.entry) accounts session.old.client answers.old answers.new session.new.client
         (Offers (K.holds keeper.new)) }
     ensures stopped { result ≡ false → is_ready session.new.client ≡ true }
-    ensures cause { result ≡ false → K.is_out keeper.old ≡ false → Hinders (IsDenied K.refuses path.now) session.new.client }
+    ensures cause { result ≡ false → K.is_out keeper.old ≡ false → Hinders (IsDenied K.refuses K.will_wait location.entry) session.new.client }
     ensures none { IsTrue K.tells → (K.holds keeper.old).schema ≡ no_schema → (K.holds keeper.new).schema ≡ no_schema }
     ensures asked { K.unclosed keeper.old ≡ None → K.unclosed keeper.new ≡ None }
 {
-    if let Err(denial) = keeper.lock(path) {
+    keeper.wait_for_lock(location.waits);
+    if let Err(denial) = keeper.lock(location.path) {
         note_denial(trouble, denial, keeper);
         return false;
     }
     let mut store = None;
-    let answered = answer_ready(session, path, answers, &mut store, keeper);
+    let answered = answer_ready(session, location, answers, &mut store, keeper);
     let unclosed = give_back(store, keeper);
     match answered {
         Ok(()) => {
@@ -258,17 +259,17 @@ fn give_back<K: Keeper>(store: Option<Store<K::S>>, keeper: &mut K) -> Option<Re
 /// that couldn't be answered wasn't. The lock is held; the store is opened for the first one that asks for it, and stays open.
 fn answer_ready<K: Keeper>(
     session: &mut Session,
-    path: &str,
+    location: StoreLocation<'_>,
     answers: &mut Octets,
     store: &mut Option<Store<K::S>>,
     keeper: &mut K,
 ) -> Result<(), Unavailable>
     ensures answers { IsTrue K.tells → (accounts : Accounts)
-        → AreSeen (HasGiven K.gives path.now) (λ s. (state K.S.Store s).now) (K.holds keeper.old) store.old accounts
-        → Answered (IsDenied K.refuses path.now) (HasGiven K.gives path.now) accounts session.old.client answers.old answers.new session.new.client
-        (AreSeen (HasGiven K.gives path.now) (λ s. (state K.S.Store s).now) (K.holds keeper.new) store.new) }
+        → AreSeen (HasGiven K.gives K.will_wait location.entry) (λ s. (state K.S.Store s).now) (K.holds keeper.old) store.old accounts
+        → Answered (IsDenied K.refuses K.will_wait location.entry) (HasGiven K.gives K.will_wait location.entry) accounts session.old.client answers.old answers.new session.new.client
+        (AreSeen (HasGiven K.gives K.will_wait location.entry) (λ s. (state K.S.Store s).now) (K.holds keeper.new) store.new) }
     ensures stopped { OnErr result (is_ready session.new.client ≡ true) }
-    ensures cause { OnErr result (Hinders (IsDenied K.refuses path.now) session.new.client) }
+    ensures cause { OnErr result (Hinders (IsDenied K.refuses K.will_wait location.entry) session.new.client) }
     ensures none { IsTrue K.tells → (K.holds keeper.old).schema ≡ no_schema → store.old ≡ None
         → (K.holds keeper.new ≡ K.holds keeper.old) × (store.new ≡ None) }
     ensures closed { K.unclosed keeper.new ≡ K.unclosed keeper.old }
@@ -277,7 +278,7 @@ fn answer_ready<K: Keeper>(
         if !session.ready() || answers.len() >= MAX_WAITING {
             return Ok(());
         }
-        answer_first(session, path, answers, store, keeper)?;
+        answer_first(session, location, answers, store, keeper)?;
     }
     Ok(())
 }
@@ -286,17 +287,17 @@ fn answer_ready<K: Keeper>(
 /// the store may be open.
 fn answer_first<K: Keeper>(
     session: &mut Session,
-    path: &str,
+    location: StoreLocation<'_>,
     answers: &mut Octets,
     store: &mut Option<Store<K::S>>,
     keeper: &mut K,
 ) -> Result<(), Unavailable>
     ensures steps { IsTrue K.tells → (accounts : Accounts)
-        → AreSeen (HasGiven K.gives path.now) (λ s. (state K.S.Store s).now) (K.holds keeper.old) store.old accounts
-        → StepsOn (HasGiven K.gives path.now) accounts session.old.client answers.old answers.new session.new.client
-        (AreSeen (HasGiven K.gives path.now) (λ s. (state K.S.Store s).now) (K.holds keeper.new) store.new) (is_ok result) }
+        → AreSeen (HasGiven K.gives K.will_wait location.entry) (λ s. (state K.S.Store s).now) (K.holds keeper.old) store.old accounts
+        → StepsOn (HasGiven K.gives K.will_wait location.entry) accounts session.old.client answers.old answers.new session.new.client
+        (AreSeen (HasGiven K.gives K.will_wait location.entry) (λ s. (state K.S.Store s).now) (K.holds keeper.new) store.new) (is_ok result) }
     ensures same { OnErr result ((session.new ≡ session.old) × (answers.new ≡ answers.old)) }
-    ensures cause { OnErr result (Hinders (IsDenied K.refuses path.now) session.new.client) }
+    ensures cause { OnErr result (Hinders (IsDenied K.refuses K.will_wait location.entry) session.new.client) }
     ensures none { IsTrue K.tells → (K.holds keeper.old).schema ≡ no_schema → store.old ≡ None
         → (K.holds keeper.new ≡ K.holds keeper.old) × (store.new ≡ None) }
     ensures closed { K.unclosed keeper.new ≡ K.unclosed keeper.old }
@@ -304,7 +305,7 @@ fn answer_first<K: Keeper>(
     match session.step_free(answers) {
         Ok(Stepped::Made(_)) => Ok(()),
         Ok(Stepped::Asks(order)) => answer_over_store(
-            session, path, &order, answers, store, keeper,
+            session, location, &order, answers, store, keeper,
         ),
         Err(AllocError) => Err(Unavailable::Refused(Refusal::Memory)),
     }
@@ -313,7 +314,7 @@ fn answer_first<K: Keeper>(
 /// Answers what comes first and asks the store, which is opened where none is.
 fn answer_over_store<K: Keeper>(
     session: &mut Session,
-    path: &str,
+    location: StoreLocation<'_>,
     order: &Order,
     answers: &mut Octets,
     store: &mut Option<Store<K::S>>,
@@ -321,16 +322,16 @@ fn answer_over_store<K: Keeper>(
 ) -> Result<(), Unavailable>
     requires { Asked session.old.client order.now }
     ensures steps { IsTrue K.tells → (accounts : Accounts)
-        → AreSeen (HasGiven K.gives path.now) (λ s. (state K.S.Store s).now) (K.holds keeper.old) store.old accounts
-        → StepsOn (HasGiven K.gives path.now) accounts session.old.client answers.old answers.new session.new.client
-        (AreSeen (HasGiven K.gives path.now) (λ s. (state K.S.Store s).now) (K.holds keeper.new) store.new) (is_ok result) }
+        → AreSeen (HasGiven K.gives K.will_wait location.entry) (λ s. (state K.S.Store s).now) (K.holds keeper.old) store.old accounts
+        → StepsOn (HasGiven K.gives K.will_wait location.entry) accounts session.old.client answers.old answers.new session.new.client
+        (AreSeen (HasGiven K.gives K.will_wait location.entry) (λ s. (state K.S.Store s).now) (K.holds keeper.new) store.new) (is_ok result) }
     ensures same { OnErr result ((session.new ≡ session.old) × (answers.new ≡ answers.old)) }
-    ensures cause { OnErr result (Hinders (IsDenied K.refuses path.now) session.new.client) }
+    ensures cause { OnErr result (Hinders (IsDenied K.refuses K.will_wait location.entry) session.new.client) }
     ensures none { IsTrue K.tells → (K.holds keeper.old).schema ≡ no_schema → store.old ≡ None
         → (K.holds keeper.new ≡ K.holds keeper.old) × (store.new ≡ None) }
     ensures closed { K.unclosed keeper.new ≡ K.unclosed keeper.old }
 {
-    let mut opened = open_store(path, store, keeper)?;
+    let mut opened = open_store(location, store, keeper)?;
     let made = session.step_asked(&mut opened, order, answers);
     *store = Some(opened);
     match made {
@@ -341,21 +342,24 @@ fn answer_over_store<K: Keeper>(
 
 /// The store, out of its place; where none is there it is opened under the lock that is held.
 fn open_store<K: Keeper>(
-    path: &str,
+    location: StoreLocation<'_>,
     store: &mut Option<Store<K::S>>,
     keeper: &mut K,
 ) -> Result<Store<K::S>, Unavailable>
     ensures opened { IfOk result (λ opened. IsTrue K.tells
-        → PresentsSeen (HasGiven K.gives path.now) (AreSeen (HasGiven K.gives path.now) (λ s. (state K.S.Store s).now) (K.holds keeper.old) store.old)
+        → PresentsSeen (HasGiven K.gives K.will_wait location.entry) (AreSeen (HasGiven K.gives K.will_wait location.entry) (λ s. (state K.S.Store s).now) (K.holds keeper.old) store.old)
         (state K.S.Store opened).now) }
     ensures ours { OnOk result (IsTrue K.tells → store.old ≡ None → IsKnown (K.holds keeper.old)) }
     ensures refused { OnErr result ((IsTrue K.tells → K.holds keeper.new ≡ K.holds keeper.old) × (store.new ≡ store.old)) }
-    ensures denied { OnErr result (IsDenied K.refuses path.now) }
+    ensures denied { OnErr result (IsDenied K.refuses K.will_wait location.entry) }
     ensures closed { K.unclosed keeper.new ≡ K.unclosed keeper.old }
 {
     match store.take() {
         Some(opened) => Ok(opened),
-        None => keeper.take(path, false),
+        None => {
+            keeper.wait_for_lock(location.waits);
+            keeper.take(location.path, false)
+        }
     }
 }
 
@@ -375,6 +379,8 @@ fn note_refusal<K: Keeper>(trouble: &mut FirstTrouble, refusal: Option<Refusal>,
     ensures none { refusal ≡ None → trouble.new ≡ trouble.old }
     ensures noted { IfSome refusal (λ refusal. IsTrue (is_some trouble.new.trouble)) }
     ensures first { trouble.old.trouble ≡ None → IfSome refusal (λ refusal. IfSome trouble.new.trouble (λ t. t.fault ≡ Fault.Refused refusal)) }
+    ensures cause { trouble.old.trouble ≡ None → IfSome refusal (λ refusal. Fault.Refused refusal ≡ store_failed
+        → IfSome trouble.new.trouble (λ t. option_copied t.cause ≡ K.said keeper.now)) }
     ensures later { IfSome trouble.old.trouble (λ first. trouble.new.trouble ≡ Some first) }
     ensures told { trouble.new.is_told ≡ trouble.old.is_told }
 {

@@ -1,10 +1,13 @@
 //! Reading all of an input, and writing a text, with what is left where that fails.
-ghost use Rattle.std.specs.Prelude.{◌≡◌, ◌+◌, ◌<◌, ◌≤◌, take, drop, length, vec_len, unwrap_or, IfOk, IfErr, OnOk, OnErr};
+ghost use Rattle.std.specs.Prelude.{◌≡◌, ◌≢◌, ◌+◌, ◌<◌, ◌≤◌, ◌++◌, [], take, drop, decimal, length, vec_len, unwrap_or, IfOk, IfErr, OnOk, OnErr};
 ghost use Rattle.std.specs.Io.KnownBytes.{Appends, Consumes, IsAtEnd, Keeps};
-ghost use Rattle.sievedrun.specs.Faults.{IsFailure};
-ghost use Rattle.sievedrun.specs.Streams.{ReadsAll, AppendsFront, InputFailed, ReadFailed, WriteFailed};
+ghost use Rattle.std.specs.IoError.{error_kind};
+ghost use Rattle.reportlines.specs.Reports.{with_end};
+ghost use Rattle.sievedrun.specs.Faults.{IsFailure, IsPrinted, IsPut};
+ghost use Rattle.sievedrun.specs.Streams.{ReadsAll, InputFailed, ReadFailed, WriteFailed};
 
 use crate::fault::Fault;
+use itoa::Buffer;
 use std::alloc::{AllocError, Global};
 use std::io;
 use std::io::{ErrorKind, Read, Write};
@@ -73,26 +76,57 @@ pub fn read_at<R: Read>(input: &mut R, room: &mut [u8], at: usize) -> Result<Opt
 
 /// Refuses each failure but that a signal came before the call, which is then made again.
 fn allow_retry(error: &io::Error) -> Result<(), Fault>
-    ensures { IfErr result (λ fault. fault ≡ Fault.Stream) }
+    ensures retried { OnOk result (error_kind error.now ≡ ErrorKind.Interrupted) }
+    ensures refused { OnErr result (error_kind error.now ≢ ErrorKind.Interrupted) }
+    ensures fault { IfErr result (λ fault. fault ≡ Fault.Stream) }
 {
-    if error.kind() == ErrorKind::Interrupted {
-        Ok(())
-    } else {
-        Err(Fault::Stream)
+    match error.kind() {
+        ErrorKind::Interrupted => Ok(()),
+        _ => Err(Fault::Stream),
     }
 }
 
-/// Writes the whole text. Where that fails, a front of it is written.
+/// Writes the whole text, and flushes. Where that fails, a front of it is written.
 pub fn write_all<W: Write>(output: &mut W, text: &[u8]) -> Result<(), Fault>
-    ensures ok { OnOk result (Appends (W.contents output.old) (W.contents output.new) text.now) }
-    ensures err { OnErr result (AppendsFront (W.contents output.old) (W.contents output.new) text.now) }
-    ensures failed { OnErr result (WriteFailed (W.contents output.new)) }
-    ensures fault { IfErr result (λ fault. fault ≡ Fault.Stream) }
+    ensures { IsPrinted result (W.contents output.old) (W.contents output.new) text.now }
+{
+    put(output, text)?;
+    flush(output)
+}
+
+/// Writes a word and what it is said of, as a line, and flushes. Takes no memory.
+pub fn write_line<W: Write>(output: &mut W, word: &[u8], what: &[u8]) -> Result<(), Fault>
+    ensures { IsPrinted result (W.contents output.old) (W.contents output.new) (with_end (word.now ++ what.now)) }
+{
+    put_line(output, word, what)?;
+    flush(output)
+}
+
+/// Writes a word and a number in decimal, as a line, and flushes. Takes no memory.
+pub fn write_number<W: Write>(output: &mut W, word: &[u8], number: u64) -> Result<(), Fault>
+    ensures { IsPrinted result (W.contents output.old) (W.contents output.new) (with_end (word.now ++ decimal number)) }
+{
+    let mut buffer = Buffer::new();
+    write_line(output, word, buffer.format(number).as_bytes())
+}
+
+/// Writes a word and what it is said of, as a line, which isn't flushed yet. Takes no memory.
+pub fn put_line<W: Write>(output: &mut W, word: &[u8], what: &[u8]) -> Result<(), Fault>
+    ensures { IsPut result (W.contents output.old) (W.contents output.new) (with_end (word.now ++ what.now)) }
+{
+    put(output, word)?;
+    put(output, what)?;
+    put(output, b"\n")
+}
+
+/// Writes the whole text, which isn't flushed yet.
+pub fn put<W: Write>(output: &mut W, text: &[u8]) -> Result<(), Fault>
+    ensures { IsPut result (W.contents output.old) (W.contents output.new) text.now }
 {
     let mut rest = text;
     for _ in 0..u64::MAX {
         if rest.is_empty() {
-            return flush(output);
+            return Ok(());
         }
         let written = write_some(output, rest)?;
         rest = rest.split_at(written).1;
@@ -118,10 +152,9 @@ fn write_some<W: Write>(output: &mut W, text: &[u8]) -> Result<usize, Fault>
     }
 }
 
-fn flush<W: Write>(output: &mut W) -> Result<(), Fault>
-    ensures kept { Keeps (W.contents output.old) (W.contents output.new) }
-    ensures failed { OnErr result (WriteFailed (W.contents output.new)) }
-    ensures fault { IfErr result (λ fault. fault ≡ Fault.Stream) }
+/// Flushes what was written.
+pub fn flush<W: Write>(output: &mut W) -> Result<(), Fault>
+    ensures { IsPrinted result (W.contents output.old) (W.contents output.new) [] }
 {
     match output.flush() {
         Ok(()) => Ok(()),

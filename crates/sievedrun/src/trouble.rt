@@ -1,11 +1,10 @@
 //! What goes wrong with a store, or on the way to one, as it is told on standard error.
-ghost use Rattle.std.specs.Prelude.{◌≡◌, ◌≢◌, false, Some, None, IsTrue, IfSome};
-ghost use Rattle.std.specs.Io.KnownBytes.{Keeps};
-ghost use Rattle.sievedrun.specs.Faults.{line_of, store_failed};
-ghost use Rattle.sievedrun.specs.Streams.{IsTold, AppendsSome};
+ghost use Rattle.std.specs.Prelude.{◌≡◌, ◌≢◌, ◌++◌, false, Some, None, IsTrue, IfSome, option_copied};
+ghost use Rattle.sievedrun.specs.Faults.{cause_line, line_of, store_failed};
+ghost use Rattle.sievedrun.specs.Streams.{IsWritten};
 
 use crate::fault::Fault;
-use crate::stream::write_all;
+use crate::stream::{write_all, write_line};
 use keepers::Keeper;
 use mailstore::Refusal;
 use std::io::Write;
@@ -22,7 +21,8 @@ impl Trouble {
     /// A fault of the store, with what its keeper knows of the cause.
     pub fn of_store<K: Keeper>(fault: Fault, keeper: &K) -> Trouble
         ensures fault { result.fault ≡ fault }
-        ensures quiet { fault ≢ store_failed → result.cause ≡ None }
+        ensures cause { fault ≡ store_failed → option_copied result.cause ≡ K.said keeper.now }
+        ensures quiet { fault ≢ store_failed → option_copied result.cause ≡ None }
     {
         let cause = match fault {
             Fault::Refused(Refusal::Store) => keeper.cause(),
@@ -31,10 +31,9 @@ impl Trouble {
         Trouble { fault, cause }
     }
 
-    /// Tells of it, on a line, and of its cause, where that is known, on a second one. Where the first can't be written nothing
-    /// more can be done.
+    /// Tells of it, on a line, and of its cause, where that is known, on a second one. Where a write fails nothing more is told.
     pub fn tell<E: Write>(self, errors: &mut E)
-        ensures { IsTold (E.contents errors.old) (E.contents errors.new) (line_of self.fault) }
+        ensures { IsWritten (E.contents errors.old) (E.contents errors.new) (line_of self.fault ++ cause_line (option_copied self.cause)) }
     {
         if write_all(errors, self.fault.line()).is_ok() {
             tell_cause(errors, self.cause);
@@ -44,20 +43,11 @@ impl Trouble {
 
 /// The line on a cause.
 fn tell_cause<E: Write>(errors: &mut E, cause: Option<&'static str>)
-    ensures { AppendsSome (E.contents errors.old) (E.contents errors.new) }
+    ensures { IsWritten (E.contents errors.old) (E.contents errors.new) (cause_line (option_copied cause.entry)) }
 {
     if let Some(text) = cause {
-        write_some(errors, b"sieved: ");
-        write_some(errors, text.as_bytes());
-        write_some(errors, b"\n");
+        let _ = write_line(errors, b"sieved: ", text.as_bytes());
     }
-}
-
-/// Writes a text, or as much of it as can be written.
-fn write_some<E: Write>(errors: &mut E, text: &[u8])
-    ensures { AppendsSome (E.contents errors.old) (E.contents errors.new) }
-{
-    let _ = write_all(errors, text);
 }
 
 /// The first trouble that a connection has with the store, which is told once; those after it aren't.
@@ -92,7 +82,8 @@ impl FirstTrouble {
         ensures once { IsTrue self.old.is_told → E.contents errors.new ≡ E.contents errors.old }
         ensures none { self.old.trouble ≡ None → E.contents errors.new ≡ E.contents errors.old }
         ensures tells { self.old.is_told ≡ false
-            → IfSome self.old.trouble (λ trouble. IsTold (E.contents errors.old) (E.contents errors.new) (line_of trouble.fault)) }
+            → IfSome self.old.trouble (λ trouble. IsWritten (E.contents errors.old) (E.contents errors.new)
+            (line_of trouble.fault ++ cause_line (option_copied trouble.cause))) }
         ensures same { self.new.trouble ≡ self.old.trouble }
         ensures told { IfSome self.old.trouble (λ trouble. IsTrue self.new.is_told) }
     {

@@ -7,13 +7,13 @@ use Rattle.sievedrun.proofs.account_read.read_once.Goals as goal
 
 pub returns-in_err-store-clause-found : goal.returns-in_err-store-clause-found
 returns-in_err-store-clause-found g c tells =
-    find_denied (HasDenied g.K.Keeper.refuses c.args.location.path.now) (g.Q.AccountRead.user c.args.wanted.now) (g.Q.AccountRead.finds c.args.wanted.now) c.in_err-store.field-0.0 c.from_residual.result (search rules) c.in_err-store.ensures.denied (g.K.Keeper.holds c.args.keeper.now) (g.K.Keeper.holds c.take_store.new.keeper) (c.in_err-store.ensures.refused tells)
+    find_denied (HasDenied g.K.Keeper.refuses g.K.Keeper.will_wait c.args.location) (g.Q.AccountRead.user c.args.wanted.now) (g.Q.AccountRead.finds c.args.wanted.now) c.in_err-store.field-0.0 c.from_residual.result (search rules) c.in_err-store.ensures.denied (g.K.Keeper.holds c.args.keeper.now) (g.K.Keeper.holds c.take_store.new.keeper) (c.in_err-store.ensures.refused tells)
 
 pub returns-in_err-found-clause-found : goal.returns-in_err-found-clause-found
 returns-in_err-found-clause-found g c tells =
     let got = c.in_ok-store.ensures.taken tells in
     let sure = g.met.K.Keeper.sure c.read-found.new.store tells in
-    let Denied = HasDenied g.K.Keeper.refuses c.args.location.path.now in
+    let Denied = HasDenied g.K.Keeper.refuses g.K.Keeper.will_wait c.args.location in
     let user = g.Q.AccountRead.user c.args.wanted.now in
     let Part = g.Q.AccountRead.finds c.args.wanted.now in
     let e = c.in_err-found.field-0.0 in
@@ -25,7 +25,7 @@ pub returns-clause-found : goal.returns-clause-found
 returns-clause-found g c tells =
     let got = c.in_ok-store.ensures.taken tells in
     let sure = g.met.K.Keeper.sure c.read-found.new.store tells in
-    let Denied = HasDenied g.K.Keeper.refuses c.args.location.path.now in
+    let Denied = HasDenied g.K.Keeper.refuses g.K.Keeper.will_wait c.args.location in
     let user = g.Q.AccountRead.user c.args.wanted.now in
     let Part = g.Q.AccountRead.finds c.args.wanted.now in
     read_turned (g.K.Keeper.holds c.args.keeper.now) (g.K.Keeper.holds c.hand_back.new.self) (state g.K.S.Store c.in_ok-store.store) (state g.K.S.Store c.read-found.new.store) got.0 got.2 sure.0 sure.1 (c.hand_back.ensures.held tells)

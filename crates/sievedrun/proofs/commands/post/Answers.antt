@@ -12,14 +12,14 @@ use Rattle.sievedrun.proofs.commands.post.Goals as goal
 
 pub returns-in_err-store-clause-puts : goal.returns-in_err-store-clause-puts
 returns-in_err-store-clause-puts g c tells =
-    put_denied (HasDenied g.K.Keeper.refuses c.args.location.path.now) (Deliver c.args.user.now c.args.envelope c.args.message.now c.args.moment) Delivered c.in_err-store.field-0.0 c.from_residual.result (search rules)
+    put_denied (HasDenied g.K.Keeper.refuses g.K.Keeper.will_wait c.args.location) (Deliver c.args.user.now c.args.envelope c.args.message.now c.args.moment) Delivered c.in_err-store.field-0.0 c.from_residual.result (search rules)
     c.in_err-store.ensures.denied (g.K.Keeper.holds c.args.keeper.now) (g.K.Keeper.holds c.take_store.new.keeper) (c.in_err-store.ensures.refused tells)
 
 pub returns-in_err-delivered-clause-puts : goal.returns-in_err-delivered-clause-puts
 returns-in_err-delivered-clause-puts g c tells =
     let got = c.in_ok-store.ensures.taken tells in
     let sure = g.met.K.Keeper.sure c.deliver-delivered.new.store tells in
-    let Denied = HasDenied g.K.Keeper.refuses c.args.location.path.now in
+    let Denied = HasDenied g.K.Keeper.refuses g.K.Keeper.will_wait c.args.location in
     let refusal = c.in_err-delivered.field-0.0 in
     let event = Deliver c.args.user.now c.args.envelope c.args.message.now c.args.moment in
     let is : c.from_residual-in_err-delivered.result ≡ Err (Refused refusal) = search rules in
@@ -34,7 +34,7 @@ pub returns-clause-puts : goal.returns-clause-puts
 returns-clause-puts g c tells =
     let got = c.in_ok-store.ensures.taken tells in
     let sure = g.met.K.Keeper.sure c.deliver-delivered.new.store tells in
-    let Denied = HasDenied g.K.Keeper.refuses c.args.location.path.now in
+    let Denied = HasDenied g.K.Keeper.refuses g.K.Keeper.will_wait c.args.location in
     carried_turned (g.K.Keeper.holds c.args.keeper.now) (g.K.Keeper.holds c.hand_back.new.self) (state g.K.S.Store c.in_ok-store.store) (state g.K.S.Store c.deliver-delivered.new.store) got.0 got.2 sure.0 sure.1
     (c.hand_back.ensures.held tells) _
     (λ clean accounts shown.

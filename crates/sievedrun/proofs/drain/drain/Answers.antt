@@ -27,12 +27,12 @@ returns-in_err-_account-clause-moves g c =
     let transient : IsTransient refusal = c.in_err-_account.ensures.named in
     subst (λ r. Drains c.args.user.now c.args.folder.now g.T.MailSink.tells kept kept c.args.most r (state g.S.Store c.args.store.now) (state g.S.Store c.account.new.self)) (sym is)
     (not_looked c.args.user.now c.args.folder.now g.T.MailSink.tells (g.T.MailSink.kept c.args.sink.now) (g.T.MailSink.kept c.args.sink.now) c.args.most (state g.S.Store c.args.store.now) (state g.S.Store c.account.new.self) c.account.result
-    c.account.ensures (Refused refusal) (elim transient [ inl e ↦ ap (λ r. status_of (Refused r)) e | inr e ↦ ap (λ r. status_of (Refused r)) e ]) (grown_none g.T.MailSink.tells (g.T.MailSink.kept c.args.sink.now)))
+    c.account.ensures (Refused refusal) (elim transient [ inl e ↦ ap (λ r. status_of (Refused r)) e | inr e ↦ ap (λ r. status_of (Refused r)) e ]) (grown_none c.args.user.now c.args.folder.now g.T.MailSink.tells (g.T.MailSink.kept c.args.sink.now)))
 
 pub returns-in_default-clause-moves : goal.returns-in_default-clause-moves
 returns-in_default-clause-moves g c =
     no_account c.args.user.now c.args.folder.now g.T.MailSink.tells (g.T.MailSink.kept c.args.sink.now) (g.T.MailSink.kept c.args.sink.now) c.args.most (state g.S.Store c.args.store.now) (state g.S.Store c.account.new.self) c.account.result
-    c.account.ensures (c.in_ok-_account.was ∙ ap Ok c.in_default.is) (grown_none g.T.MailSink.tells (g.T.MailSink.kept c.args.sink.now))
+    c.account.ensures (c.in_ok-_account.was ∙ ap Ok c.in_default.is) (grown_none c.args.user.now c.args.folder.now g.T.MailSink.tells (g.T.MailSink.kept c.args.sink.now))
 
 pub returns-clause-moves : goal.returns-clause-moves
 returns-clause-moves g c =

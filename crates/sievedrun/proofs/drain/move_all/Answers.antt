@@ -29,7 +29,7 @@ returns-then-not-branch-clause-moves g c =
 pub returns-in_err-move_first-clause-moves : goal.returns-in_err-move_first-clause-moves
 returns-in_err-move_first-clause-moves g c =
     let fault = c.in_err-move_first.field-0.0 in
-    let Grew = GrowsBy g.T.MailSink.tells (g.T.MailSink.kept c.args.sink.now) (g.T.MailSink.kept c.move_first.new.sink) in
+    let Grew = GrowsBy c.args.user.now c.args.folder.now g.T.MailSink.tells (g.T.MailSink.kept c.args.sink.now) (g.T.MailSink.kept c.move_first.new.sink) in
     let is : c.from_residual.result ≡ Err fault = search rules in
     subst (λ r. MovesMail c.args.user.now c.args.folder.now Grew (is_ok r) (AnyMoved c.args.user.now c.args.folder.now Grew c.args.most r) (state g.S.Store c.args.store.now) (state g.S.Store c.move_first.new.store)) (sym is)
     (stops c.args.user.now c.args.folder.now g.T.MailSink.tells (g.T.MailSink.kept c.args.sink.now) (g.T.MailSink.kept c.loop-moved.sink) (g.T.MailSink.kept c.move_first.new.sink) c.loop-moved.moved
@@ -37,5 +37,5 @@ returns-in_err-move_first-clause-moves g c =
 
 pub returns-clause-moves : goal.returns-clause-moves
 returns-clause-moves g c =
-    let Grew = GrowsBy g.T.MailSink.tells (g.T.MailSink.kept c.args.sink.now) (g.T.MailSink.kept c.loop-moved.sink) in
+    let Grew = GrowsBy c.args.user.now c.args.folder.now g.T.MailSink.tells (g.T.MailSink.kept c.args.sink.now) (g.T.MailSink.kept c.loop-moved.sink) in
     most_moved c.args.user.now c.args.folder.now Grew c.args.most c.loop-moved.moved (state g.S.Store c.args.store.now) (state g.S.Store c.loop-moved.store) (omega arith) c.loop-moved.invariant.moves

@@ -1,18 +1,16 @@
 -- The sink was opened, the store drained, and the line written, as far as that went.
-use Rattle.std.proofs.Common.{◌≡◌, option_copied, Err, OnOk, OnErr, refl, inl, subst, sym, rules}
-use Rattle.std.specs.Io.KnownBytes.{Appends}
-use Rattle.sievedrun.specs.Draining.{HasDrained, HasRefused, IsUnkept, drained_line}
-use Rattle.sievedrun.specs.Faults.{sink_fault, memory}
+use Rattle.std.proofs.Common.{◌≡◌, option_copied, Err, refl, inl, subst, sym, rules}
+use Rattle.sievedrun.specs.Draining.{HasDrained, HasRefused, IsUnkept}
+use Rattle.sievedrun.specs.Faults.{sink_fault}
 use Rattle.sievedrun.specs.Serving.{HasDenied}
-use Rattle.sievedrun.specs.Streams.{AppendsFront}
 use Rattle.sievedrun.specs.Values.{HasNoNumber}
-use Rattle.sievedrun.proofs.DrainLemmas.{word_refused, word_broke_off, word_failed, word_written, sunk_cause}
-use Rattle.sievedrun.proofs.WordLemmas.{wrong, cut_off, cut_none}
+use Rattle.sievedrun.proofs.DrainLemmas.{word_refused, word_broke_off, word_printed, sunk_cause}
+use Rattle.sievedrun.proofs.WordLemmas.{wrong}
 use Rattle.sievedrun.proofs.drain.run_drain.Goals as goal
 
 pub returns-in_err-most-clause-drains : goal.returns-in_err-most-clause-drains
 returns-in_err-most-clause-drains g c tells =
-    let Denied = HasDenied g.K.Keeper.refuses c.args.asked.location.path.now in
+    let Denied = HasDenied g.K.Keeper.refuses g.K.Keeper.will_wait c.args.asked.location in
     let kept = g.T.MailSink.kept c.args.sink.now in
     let held = g.K.Keeper.holds c.args.keeper.now in
     let out = g.W.Write.contents c.args.output.now in
@@ -22,7 +20,7 @@ returns-in_err-most-clause-drains g c tells =
 
 pub returns-in_err-open-clause-drains : goal.returns-in_err-open-clause-drains
 returns-in_err-open-clause-drains g c tells =
-    let Denied = HasDenied g.K.Keeper.refuses c.args.asked.location.path.now in
+    let Denied = HasDenied g.K.Keeper.refuses g.K.Keeper.will_wait c.args.asked.location in
     let had = g.T.MailSink.kept c.args.sink.now in
     let has = g.T.MailSink.kept c.open.new.self in
     let held = g.K.Keeper.holds c.args.keeper.now in
@@ -33,7 +31,7 @@ returns-in_err-open-clause-drains g c tells =
 
 pub returns-in_err-moved-clause-drains : goal.returns-in_err-moved-clause-drains
 returns-in_err-moved-clause-drains g c tells =
-    let Denied = HasDenied g.K.Keeper.refuses c.args.asked.location.path.now in
+    let Denied = HasDenied g.K.Keeper.refuses g.K.Keeper.will_wait c.args.asked.location in
     let had = g.T.MailSink.kept c.args.sink.now in
     let opened = g.T.MailSink.kept c.open.new.self in
     let has = g.T.MailSink.kept c.drain_store.new.sink in
@@ -45,31 +43,14 @@ returns-in_err-moved-clause-drains g c tells =
     subst (λ r. HasDrained (HasRefused g.T.MailSink.refuses) Denied c.args.asked g.T.MailSink.tells had has out out r held new) (sym is)
     (word_broke_off (HasRefused g.T.MailSink.refuses) Denied c.args.asked g.T.MailSink.tells had opened has c.open.ensures.same c.in_ok-most.most c.in_ok-most.ensures.ok c.in_ok-most.ensures.right c.drain_store.result held new (c.drain_store.ensures.moves tells) out fault c.in_err-moved.was)
 
-pub returns-in_err-line-clause-drains : goal.returns-in_err-line-clause-drains
-returns-in_err-line-clause-drains g c tells =
-    let Denied = HasDenied g.K.Keeper.refuses c.args.asked.location.path.now in
-    let had = g.T.MailSink.kept c.args.sink.now in
-    let opened = g.T.MailSink.kept c.open.new.self in
-    let has = g.T.MailSink.kept c.drain_store.new.sink in
-    let held = g.K.Keeper.holds c.args.keeper.now in
-    let new = g.K.Keeper.holds c.drain_store.new.keeper in
-    let out = g.W.Write.contents c.args.output.now in
-    let is : c.from_residual-in_err-line.result ≡ Err memory = search rules in
-    subst (λ r. HasDrained (HasRefused g.T.MailSink.refuses) Denied c.args.asked g.T.MailSink.tells had has out out r held new) (sym is)
-    (word_failed (HasRefused g.T.MailSink.refuses) Denied c.args.asked g.T.MailSink.tells had opened has c.open.ensures.same c.in_ok-most.most c.in_ok-most.ensures.ok c.in_ok-most.ensures.right c.drain_store.result held new (c.drain_store.ensures.moves tells) out out c.in_ok-moved.moved memory c.in_ok-moved.was
-    (cut_none out (drained_line c.in_ok-moved.moved)))
-
 pub returns-clause-drains : goal.returns-clause-drains
 returns-clause-drains g c tells =
-    let Denied = HasDenied g.K.Keeper.refuses c.args.asked.location.path.now in
+    let Denied = HasDenied g.K.Keeper.refuses g.K.Keeper.will_wait c.args.asked.location in
     let had = g.T.MailSink.kept c.args.sink.now in
     let opened = g.T.MailSink.kept c.open.new.self in
     let has = g.T.MailSink.kept c.drain_store.new.sink in
     let held = g.K.Keeper.holds c.args.keeper.now in
     let new = g.K.Keeper.holds c.drain_store.new.keeper in
     let old = g.W.Write.contents c.args.output.now in
-    let out = g.W.Write.contents c.write_all.new.output in
-    let text : c.as_slice.result.now ≡ drained_line c.in_ok-moved.moved = search rules in
-    word_written (HasRefused g.T.MailSink.refuses) Denied c.args.asked g.T.MailSink.tells had opened has c.open.ensures.same c.in_ok-most.most c.in_ok-most.ensures.ok c.in_ok-most.ensures.right c.drain_store.result held new (c.drain_store.ensures.moves tells) old out c.in_ok-moved.moved c.write_all.result c.in_ok-moved.was
-    (subst (λ t. OnOk c.write_all.result (Appends old out t)) text c.write_all.ensures.ok)
-    (cut_off old out (drained_line c.in_ok-moved.moved) c.write_all.result (subst (λ t. OnErr c.write_all.result (AppendsFront old out t)) text c.write_all.ensures.err) c.write_all.ensures.failed c.write_all.ensures.fault)
+    let out = g.W.Write.contents c.write_number.new.output in
+    word_printed (HasRefused g.T.MailSink.refuses) Denied c.args.asked g.T.MailSink.tells had opened has c.open.ensures.same c.in_ok-most.most c.in_ok-most.ensures.ok c.in_ok-most.ensures.right c.drain_store.result held new (c.drain_store.ensures.moves tells) old out c.in_ok-moved.moved c.write_number.result c.in_ok-moved.was c.write_number.ensures

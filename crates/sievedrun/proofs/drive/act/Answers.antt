@@ -4,7 +4,6 @@ use Rattle.sievedrun.specs.declared.fault.Fault.{Fault}
 use Rattle.sievedrun.specs.Draining.{HasRefused}
 use Rattle.sievedrun.specs.Serving.{HasDenied, HasGiven}
 use Rattle.sievedrun.specs.Words.{Does, Reaches}
-use Rattle.sievedrun.proofs.LeaveLemmas.{grown_none}
 use Rattle.sievedrun.proofs.drive.act.Goals as goal
 
 both : (P Q : Type 0) (r : Result (Unit {0}) Fault) → OnOk r P → OnOk r Q → OnOk r (P × Q)
@@ -14,89 +13,89 @@ both P Q (Err fault) p q = tt
 pub returns-in-Init-clause-does : goal.returns-in-Init-clause-does
 returns-in-Init-clause-does g c tells =
     let kept = g.T.MailSink.kept c.args.sink.now in
-    subst (λ asked. Does (HasDenied g.K.Keeper.refuses) (HasRefused g.T.MailSink.refuses) c.args.clock (g.R.Read.remaining c.args.input.now) (g.R.Read.remaining c.args.input.now) g.T.MailSink.tells kept kept (g.W.Write.contents c.args.output.now) (g.W.Write.contents c.run_init.new.output) asked c.run_init.result
-    (g.K.Keeper.holds c.args.keeper.now) (g.K.Keeper.holds c.run_init.new.keeper)) (sym c.in-Init.is) ((grown_none g.T.MailSink.tells kept, refl), c.run_init.ensures.does tells)
+    subst (λ asked. Does (HasDenied g.K.Keeper.refuses g.K.Keeper.will_wait) (HasRefused g.T.MailSink.refuses) c.args.clock (g.R.Read.remaining c.args.input.now) (g.R.Read.remaining c.args.input.now) g.T.MailSink.tells kept kept (g.W.Write.contents c.args.output.now) (g.W.Write.contents c.run_init.new.output) asked c.run_init.result
+    (g.K.Keeper.holds c.args.keeper.now) (g.K.Keeper.holds c.run_init.new.keeper)) (sym c.in-Init.is) (((λ told. refl), refl), c.run_init.ensures.does tells)
 
 pub returns-in-Init-clause-reaches : goal.returns-in-Init-clause-reaches
 returns-in-Init-clause-reaches g c =
-    subst (λ asked. OnOk c.run_init.result (Reaches (HasGiven g.K.Keeper.gives) (g.T.MailSink.is_at c.args.sink.now) asked)) (sym c.in-Init.is) (c.run_init.ensures.given)
+    subst (λ asked. OnOk c.run_init.result (Reaches (HasGiven g.K.Keeper.gives g.K.Keeper.will_wait) (g.T.MailSink.is_at c.args.sink.now) asked)) (sym c.in-Init.is) (c.run_init.ensures.given)
 
 pub returns-in-AddUser-clause-does : goal.returns-in-AddUser-clause-does
 returns-in-AddUser-clause-does g c tells =
     let kept = g.T.MailSink.kept c.args.sink.now in
-    subst (λ asked. Does (HasDenied g.K.Keeper.refuses) (HasRefused g.T.MailSink.refuses) c.args.clock (g.R.Read.remaining c.args.input.now) (g.R.Read.remaining c.run_adduser.new.input) g.T.MailSink.tells kept kept (g.W.Write.contents c.args.output.now) (g.W.Write.contents c.run_adduser.new.output) asked c.run_adduser.result
-    (g.K.Keeper.holds c.args.keeper.now) (g.K.Keeper.holds c.run_adduser.new.keeper)) (sym c.in-AddUser.is) (grown_none g.T.MailSink.tells kept, c.run_adduser.ensures.does tells)
+    subst (λ asked. Does (HasDenied g.K.Keeper.refuses g.K.Keeper.will_wait) (HasRefused g.T.MailSink.refuses) c.args.clock (g.R.Read.remaining c.args.input.now) (g.R.Read.remaining c.run_adduser.new.input) g.T.MailSink.tells kept kept (g.W.Write.contents c.args.output.now) (g.W.Write.contents c.run_adduser.new.output) asked c.run_adduser.result
+    (g.K.Keeper.holds c.args.keeper.now) (g.K.Keeper.holds c.run_adduser.new.keeper)) (sym c.in-AddUser.is) ((λ told. refl), c.run_adduser.ensures.does tells)
 
 pub returns-in-AddUser-clause-reaches : goal.returns-in-AddUser-clause-reaches
 returns-in-AddUser-clause-reaches g c =
-    subst (λ asked. OnOk c.run_adduser.result (Reaches (HasGiven g.K.Keeper.gives) (g.T.MailSink.is_at c.args.sink.now) asked)) (sym c.in-AddUser.is) (c.run_adduser.ensures.given)
+    subst (λ asked. OnOk c.run_adduser.result (Reaches (HasGiven g.K.Keeper.gives g.K.Keeper.will_wait) (g.T.MailSink.is_at c.args.sink.now) asked)) (sym c.in-AddUser.is) (c.run_adduser.ensures.given)
 
 pub returns-in-Deliver-clause-does : goal.returns-in-Deliver-clause-does
 returns-in-Deliver-clause-does g c tells =
     let kept = g.T.MailSink.kept c.args.sink.now in
-    subst (λ asked. Does (HasDenied g.K.Keeper.refuses) (HasRefused g.T.MailSink.refuses) c.args.clock (g.R.Read.remaining c.args.input.now) (g.R.Read.remaining c.run_deliver.new.input) g.T.MailSink.tells kept kept (g.W.Write.contents c.args.output.now) (g.W.Write.contents c.run_deliver.new.output) asked c.run_deliver.result
-    (g.K.Keeper.holds c.args.keeper.now) (g.K.Keeper.holds c.run_deliver.new.keeper)) (sym c.in-Deliver.is) (grown_none g.T.MailSink.tells kept, c.run_deliver.ensures.does tells)
+    subst (λ asked. Does (HasDenied g.K.Keeper.refuses g.K.Keeper.will_wait) (HasRefused g.T.MailSink.refuses) c.args.clock (g.R.Read.remaining c.args.input.now) (g.R.Read.remaining c.run_deliver.new.input) g.T.MailSink.tells kept kept (g.W.Write.contents c.args.output.now) (g.W.Write.contents c.run_deliver.new.output) asked c.run_deliver.result
+    (g.K.Keeper.holds c.args.keeper.now) (g.K.Keeper.holds c.run_deliver.new.keeper)) (sym c.in-Deliver.is) ((λ told. refl), c.run_deliver.ensures.does tells)
 
 pub returns-in-Deliver-clause-reaches : goal.returns-in-Deliver-clause-reaches
 returns-in-Deliver-clause-reaches g c =
-    subst (λ asked. OnOk c.run_deliver.result (Reaches (HasGiven g.K.Keeper.gives) (g.T.MailSink.is_at c.args.sink.now) asked)) (sym c.in-Deliver.is) (c.run_deliver.ensures.given)
+    subst (λ asked. OnOk c.run_deliver.result (Reaches (HasGiven g.K.Keeper.gives g.K.Keeper.will_wait) (g.T.MailSink.is_at c.args.sink.now) asked)) (sym c.in-Deliver.is) (c.run_deliver.ensures.given)
 
 pub returns-in-Folders-clause-does : goal.returns-in-Folders-clause-does
 returns-in-Folders-clause-does g c tells =
     let kept = g.T.MailSink.kept c.args.sink.now in
-    subst (λ asked. Does (HasDenied g.K.Keeper.refuses) (HasRefused g.T.MailSink.refuses) c.args.clock (g.R.Read.remaining c.args.input.now) (g.R.Read.remaining c.args.input.now) g.T.MailSink.tells kept kept (g.W.Write.contents c.args.output.now) (g.W.Write.contents c.run_folders.new.output) asked c.run_folders.result
-    (g.K.Keeper.holds c.args.keeper.now) (g.K.Keeper.holds c.run_folders.new.keeper)) (sym c.in-Folders.is) ((grown_none g.T.MailSink.tells kept, refl), c.run_folders.ensures.does tells)
+    subst (λ asked. Does (HasDenied g.K.Keeper.refuses g.K.Keeper.will_wait) (HasRefused g.T.MailSink.refuses) c.args.clock (g.R.Read.remaining c.args.input.now) (g.R.Read.remaining c.args.input.now) g.T.MailSink.tells kept kept (g.W.Write.contents c.args.output.now) (g.W.Write.contents c.run_folders.new.output) asked c.run_folders.result
+    (g.K.Keeper.holds c.args.keeper.now) (g.K.Keeper.holds c.run_folders.new.keeper)) (sym c.in-Folders.is) (((λ told. refl), refl), c.run_folders.ensures.does tells)
 
 pub returns-in-Folders-clause-reaches : goal.returns-in-Folders-clause-reaches
 returns-in-Folders-clause-reaches g c =
-    subst (λ asked. OnOk c.run_folders.result (Reaches (HasGiven g.K.Keeper.gives) (g.T.MailSink.is_at c.args.sink.now) asked)) (sym c.in-Folders.is) (c.run_folders.ensures.given)
+    subst (λ asked. OnOk c.run_folders.result (Reaches (HasGiven g.K.Keeper.gives g.K.Keeper.will_wait) (g.T.MailSink.is_at c.args.sink.now) asked)) (sym c.in-Folders.is) (c.run_folders.ensures.given)
 
 pub returns-in-Show-clause-does : goal.returns-in-Show-clause-does
 returns-in-Show-clause-does g c tells =
     let kept = g.T.MailSink.kept c.args.sink.now in
-    subst (λ asked. Does (HasDenied g.K.Keeper.refuses) (HasRefused g.T.MailSink.refuses) c.args.clock (g.R.Read.remaining c.args.input.now) (g.R.Read.remaining c.args.input.now) g.T.MailSink.tells kept kept (g.W.Write.contents c.args.output.now) (g.W.Write.contents c.run_show.new.output) asked c.run_show.result
-    (g.K.Keeper.holds c.args.keeper.now) (g.K.Keeper.holds c.run_show.new.keeper)) (sym c.in-Show.is) ((grown_none g.T.MailSink.tells kept, refl), c.run_show.ensures.does tells)
+    subst (λ asked. Does (HasDenied g.K.Keeper.refuses g.K.Keeper.will_wait) (HasRefused g.T.MailSink.refuses) c.args.clock (g.R.Read.remaining c.args.input.now) (g.R.Read.remaining c.args.input.now) g.T.MailSink.tells kept kept (g.W.Write.contents c.args.output.now) (g.W.Write.contents c.run_show.new.output) asked c.run_show.result
+    (g.K.Keeper.holds c.args.keeper.now) (g.K.Keeper.holds c.run_show.new.keeper)) (sym c.in-Show.is) (((λ told. refl), refl), c.run_show.ensures.does tells)
 
 pub returns-in-Show-clause-reaches : goal.returns-in-Show-clause-reaches
 returns-in-Show-clause-reaches g c =
-    subst (λ asked. OnOk c.run_show.result (Reaches (HasGiven g.K.Keeper.gives) (g.T.MailSink.is_at c.args.sink.now) asked)) (sym c.in-Show.is) (c.run_show.ensures.given)
+    subst (λ asked. OnOk c.run_show.result (Reaches (HasGiven g.K.Keeper.gives g.K.Keeper.will_wait) (g.T.MailSink.is_at c.args.sink.now) asked)) (sym c.in-Show.is) (c.run_show.ensures.given)
 
 pub returns-in-Queue-clause-does : goal.returns-in-Queue-clause-does
 returns-in-Queue-clause-does g c tells =
     let kept = g.T.MailSink.kept c.args.sink.now in
-    subst (λ asked. Does (HasDenied g.K.Keeper.refuses) (HasRefused g.T.MailSink.refuses) c.args.clock (g.R.Read.remaining c.args.input.now) (g.R.Read.remaining c.args.input.now) g.T.MailSink.tells kept kept (g.W.Write.contents c.args.output.now) (g.W.Write.contents c.run_queue.new.output) asked c.run_queue.result
-    (g.K.Keeper.holds c.args.keeper.now) (g.K.Keeper.holds c.run_queue.new.keeper)) (sym c.in-Queue.is) ((grown_none g.T.MailSink.tells kept, refl), c.run_queue.ensures.does tells)
+    subst (λ asked. Does (HasDenied g.K.Keeper.refuses g.K.Keeper.will_wait) (HasRefused g.T.MailSink.refuses) c.args.clock (g.R.Read.remaining c.args.input.now) (g.R.Read.remaining c.args.input.now) g.T.MailSink.tells kept kept (g.W.Write.contents c.args.output.now) (g.W.Write.contents c.run_queue.new.output) asked c.run_queue.result
+    (g.K.Keeper.holds c.args.keeper.now) (g.K.Keeper.holds c.run_queue.new.keeper)) (sym c.in-Queue.is) (((λ told. refl), refl), c.run_queue.ensures.does tells)
 
 pub returns-in-Queue-clause-reaches : goal.returns-in-Queue-clause-reaches
 returns-in-Queue-clause-reaches g c =
-    subst (λ asked. OnOk c.run_queue.result (Reaches (HasGiven g.K.Keeper.gives) (g.T.MailSink.is_at c.args.sink.now) asked)) (sym c.in-Queue.is) (c.run_queue.ensures.given)
+    subst (λ asked. OnOk c.run_queue.result (Reaches (HasGiven g.K.Keeper.gives g.K.Keeper.will_wait) (g.T.MailSink.is_at c.args.sink.now) asked)) (sym c.in-Queue.is) (c.run_queue.ensures.given)
 
 pub returns-in-Done-clause-does : goal.returns-in-Done-clause-does
 returns-in-Done-clause-does g c tells =
     let kept = g.T.MailSink.kept c.args.sink.now in
-    subst (λ asked. Does (HasDenied g.K.Keeper.refuses) (HasRefused g.T.MailSink.refuses) c.args.clock (g.R.Read.remaining c.args.input.now) (g.R.Read.remaining c.args.input.now) g.T.MailSink.tells kept kept (g.W.Write.contents c.args.output.now) (g.W.Write.contents c.run_done.new.output) asked c.run_done.result
-    (g.K.Keeper.holds c.args.keeper.now) (g.K.Keeper.holds c.run_done.new.keeper)) (sym c.in-Done.is) ((grown_none g.T.MailSink.tells kept, refl), c.run_done.ensures.does tells)
+    subst (λ asked. Does (HasDenied g.K.Keeper.refuses g.K.Keeper.will_wait) (HasRefused g.T.MailSink.refuses) c.args.clock (g.R.Read.remaining c.args.input.now) (g.R.Read.remaining c.args.input.now) g.T.MailSink.tells kept kept (g.W.Write.contents c.args.output.now) (g.W.Write.contents c.run_done.new.output) asked c.run_done.result
+    (g.K.Keeper.holds c.args.keeper.now) (g.K.Keeper.holds c.run_done.new.keeper)) (sym c.in-Done.is) (((λ told. refl), refl), c.run_done.ensures.does tells)
 
 pub returns-in-Done-clause-reaches : goal.returns-in-Done-clause-reaches
 returns-in-Done-clause-reaches g c =
-    subst (λ asked. OnOk c.run_done.result (Reaches (HasGiven g.K.Keeper.gives) (g.T.MailSink.is_at c.args.sink.now) asked)) (sym c.in-Done.is) (c.run_done.ensures.given)
+    subst (λ asked. OnOk c.run_done.result (Reaches (HasGiven g.K.Keeper.gives g.K.Keeper.will_wait) (g.T.MailSink.is_at c.args.sink.now) asked)) (sym c.in-Done.is) (c.run_done.ensures.given)
 
 pub returns-in-Notices-clause-does : goal.returns-in-Notices-clause-does
 returns-in-Notices-clause-does g c tells =
     let kept = g.T.MailSink.kept c.args.sink.now in
-    subst (λ asked. Does (HasDenied g.K.Keeper.refuses) (HasRefused g.T.MailSink.refuses) c.args.clock (g.R.Read.remaining c.args.input.now) (g.R.Read.remaining c.args.input.now) g.T.MailSink.tells kept kept (g.W.Write.contents c.args.output.now) (g.W.Write.contents c.run_notices.new.output) asked c.run_notices.result
-    (g.K.Keeper.holds c.args.keeper.now) (g.K.Keeper.holds c.run_notices.new.keeper)) (sym c.in-Notices.is) ((grown_none g.T.MailSink.tells kept, refl), c.run_notices.ensures.does tells)
+    subst (λ asked. Does (HasDenied g.K.Keeper.refuses g.K.Keeper.will_wait) (HasRefused g.T.MailSink.refuses) c.args.clock (g.R.Read.remaining c.args.input.now) (g.R.Read.remaining c.args.input.now) g.T.MailSink.tells kept kept (g.W.Write.contents c.args.output.now) (g.W.Write.contents c.run_notices.new.output) asked c.run_notices.result
+    (g.K.Keeper.holds c.args.keeper.now) (g.K.Keeper.holds c.run_notices.new.keeper)) (sym c.in-Notices.is) (((λ told. refl), refl), c.run_notices.ensures.does tells)
 
 pub returns-in-Notices-clause-reaches : goal.returns-in-Notices-clause-reaches
 returns-in-Notices-clause-reaches g c =
-    subst (λ asked. OnOk c.run_notices.result (Reaches (HasGiven g.K.Keeper.gives) (g.T.MailSink.is_at c.args.sink.now) asked)) (sym c.in-Notices.is) (c.run_notices.ensures.given)
+    subst (λ asked. OnOk c.run_notices.result (Reaches (HasGiven g.K.Keeper.gives g.K.Keeper.will_wait) (g.T.MailSink.is_at c.args.sink.now) asked)) (sym c.in-Notices.is) (c.run_notices.ensures.given)
 
 pub returns-in-Drain-clause-does : goal.returns-in-Drain-clause-does
 returns-in-Drain-clause-does g c tells =
     let kept = g.T.MailSink.kept c.args.sink.now in
-    subst (λ asked. Does (HasDenied g.K.Keeper.refuses) (HasRefused g.T.MailSink.refuses) c.args.clock (g.R.Read.remaining c.args.input.now) (g.R.Read.remaining c.args.input.now) g.T.MailSink.tells kept (g.T.MailSink.kept c.run_drain.new.sink) (g.W.Write.contents c.args.output.now) (g.W.Write.contents c.run_drain.new.output) asked c.run_drain.result
+    subst (λ asked. Does (HasDenied g.K.Keeper.refuses g.K.Keeper.will_wait) (HasRefused g.T.MailSink.refuses) c.args.clock (g.R.Read.remaining c.args.input.now) (g.R.Read.remaining c.args.input.now) g.T.MailSink.tells kept (g.T.MailSink.kept c.run_drain.new.sink) (g.W.Write.contents c.args.output.now) (g.W.Write.contents c.run_drain.new.output) asked c.run_drain.result
     (g.K.Keeper.holds c.args.keeper.now) (g.K.Keeper.holds c.run_drain.new.keeper)) (sym c.in-Drain.is) (refl, c.run_drain.ensures.drains tells)
 
 pub returns-in-Drain-clause-reaches : goal.returns-in-Drain-clause-reaches
 returns-in-Drain-clause-reaches g c =
-    subst (λ asked. OnOk c.run_drain.result (Reaches (HasGiven g.K.Keeper.gives) (g.T.MailSink.is_at c.run_drain.new.sink) asked)) (sym c.in-Drain.is) (both _ _ c.run_drain.result c.run_drain.ensures.given c.run_drain.ensures.placed)
+    subst (λ asked. OnOk c.run_drain.result (Reaches (HasGiven g.K.Keeper.gives g.K.Keeper.will_wait) (g.T.MailSink.is_at c.run_drain.new.sink) asked)) (sym c.in-Drain.is) (both _ _ c.run_drain.result c.run_drain.ensures.given c.run_drain.ensures.placed)

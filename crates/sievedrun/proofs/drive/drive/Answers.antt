@@ -3,16 +3,16 @@ use Rattle.std.proofs.Common.{Ok, Err, refl, sym, ◌∙◌, subst}
 use Rattle.sievedwords.specs.Asks.{WasRead}
 use Rattle.sievedwords.specs.declared.subcommand.Subcommand.TheVariants.{Try}
 use Rattle.sievedrun.specs.Draining.{HasRefused}
+use Rattle.sievedrun.specs.Faults.{cause_of, text_said}
 use Rattle.sievedrun.specs.Serving.{HasDenied, HasGiven}
 use Rattle.sievedrun.specs.Words.{Does}
-use Rattle.sievedrun.proofs.LeaveLemmas.{grown_none}
 use Rattle.sievedrun.proofs.RunLemmas.{ran}
 use Rattle.sievedrun.proofs.drive.drive.Goals as goal
 
 pub returns-in_default : goal.returns-in_default
 returns-in_default g c =
     let told = c.conclude.ensures in
-    let Denied = HasDenied g.K.Keeper.refuses in
+    let Denied = HasDenied g.K.Keeper.refuses g.K.Keeper.will_wait in
     let given = g.R.Read.remaining c.args.input.now in
     let had = g.T.MailSink.kept c.args.sink.now in
     let has = g.T.MailSink.kept c.act-done.new.sink in
@@ -26,7 +26,7 @@ returns-in_default g c =
       runs = λ tells. (
         Ok asked,
         subst (WasRead c.args.words.now) c.in-Ok.is c.read.ensures,
-        ran Denied (HasRefused g.T.MailSink.refuses) (HasGiven g.K.Keeper.gives) (g.T.MailSink.is_at c.act-done.new.sink) c.args.clock given (g.R.Read.remaining c.act-done.new.input) g.T.MailSink.tells had has out_old out_new (g.E.Write.contents c.args.errors.now) (g.E.Write.contents c.conclude.new.errors) c.conclude.result held
+        ran Denied (HasRefused g.T.MailSink.refuses) (HasGiven g.K.Keeper.gives g.K.Keeper.will_wait) (g.T.MailSink.is_at c.act-done.new.sink) (cause_of (g.K.Keeper.said c.conclude.new.keeper) (text_said (g.T.MailSink.said c.act-done.new.sink))) c.args.clock given (g.R.Read.remaining c.act-done.new.input) g.T.MailSink.tells had has out_old out_new (g.E.Write.contents c.args.errors.now) (g.E.Write.contents c.conclude.new.errors) c.conclude.result held
             (g.K.Keeper.holds c.conclude.new.keeper) asked c.in_default.not-Try (record {
               ending = c.act-done.result;
               ended = told.status;
@@ -43,9 +43,9 @@ pub returns-in-Try-clause-runs : goal.returns-in-Try-clause-runs
 returns-in-Try-clause-runs g c tells =
     let line = c.args.words.now in
     let read = subst (WasRead line) c.in-Ok.is c.read.ensures in
-    (Ok (Try c.in-Try.asked), subst (λ asked. WasRead line (Ok asked)) c.in-Try.is read, (c.try_script.ensures.runs, (grown_none g.T.MailSink.tells (g.T.MailSink.kept c.args.sink.now), refl)))
+    (Ok (Try c.in-Try.asked), subst (λ asked. WasRead line (Ok asked)) c.in-Try.is read, (c.try_script.ensures.runs, ((λ told. refl), refl)))
 
 pub returns-in-Err-clause-runs : goal.returns-in-Err-clause-runs
 returns-in-Err-clause-runs g c tells =
     let read = subst (WasRead c.args.words.now) c.in-Err.is c.read.ensures in
-    (Err c.in-Err.error, read, (c.tell_unread.ensures, (grown_none g.T.MailSink.tells (g.T.MailSink.kept c.args.sink.now), refl), refl))
+    (Err c.in-Err.error, read, (c.tell_unread.ensures, ((λ told. refl), refl), refl))

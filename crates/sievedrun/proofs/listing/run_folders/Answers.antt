@@ -9,7 +9,7 @@ use Rattle.sievedrun.proofs.listing.run_folders.Goals as goal
 
 pub returns-in_err-separator-clause-does : goal.returns-in_err-separator-clause-does
 returns-in_err-separator-clause-does g c tells =
-    let Denied = HasDenied g.K.Keeper.refuses c.args.asked.location.path.now in
+    let Denied = HasDenied g.K.Keeper.refuses g.K.Keeper.will_wait c.args.asked.location in
     let levels = option_copied c.args.asked.separator in
     let out = g.W.Write.contents c.args.output.now in
     let held = g.K.Keeper.holds c.args.keeper.now in
@@ -19,7 +19,7 @@ returns-in_err-separator-clause-does g c tells =
 
 pub returns-then-asked-clause-does : goal.returns-then-asked-clause-does
 returns-then-asked-clause-does g c tells =
-    let Denied = HasDenied g.K.Keeper.refuses c.args.asked.location.path.now in
+    let Denied = HasDenied g.K.Keeper.refuses g.K.Keeper.will_wait c.args.asked.location in
     let levels = option_copied c.args.asked.separator in
     let out = g.W.Write.contents c.args.output.now in
     let new = g.W.Write.contents c.run_listing.new.output in
@@ -32,7 +32,7 @@ returns-then-asked-clause-does g c tells =
 
 pub returns-in-None-clause-does : goal.returns-in-None-clause-does
 returns-in-None-clause-does g c tells =
-    let Denied = HasDenied g.K.Keeper.refuses c.args.asked.location.path.now in
+    let Denied = HasDenied g.K.Keeper.refuses g.K.Keeper.will_wait c.args.asked.location in
     let out = g.W.Write.contents c.args.output.now in
     let new = g.W.Write.contents c.run_listing-in-None.new.output in
     let held = g.K.Keeper.holds c.args.keeper.now in

@@ -1,14 +1,15 @@
 -- Rounds before, and the one of what comes first.
-use Rattle.std.proofs.Common.{◌≡◌, Err, false, rules, sym, subst}
+use Rattle.std.proofs.Common.{◌≡◌, None, Err, false, refl, rules, sym, subst}
 use Rattle.sessions.specs.Clients.{is_ready}
 use Rattle.sievedrun.specs.Serving.{HasGiven, IsDenied, WritesAll}
+use Rattle.sievedrun.specs.Streams.{writes_end}
 use Rattle.sievedrun.proofs.ServingLemmas.{interrupted_on, interrupted_so, writes_none, writes_on}
 use Rattle.sievedrun.proofs.session.answer_all.Goals as goal
 
 pub loop-init : goal.loop-init
 loop-init g c = record {
   back = λ h. h;
-  written = λ tells idle accounts shown. writes_none (IsDenied g.K.Keeper.refuses c.args.path.now) (HasGiven g.K.Keeper.gives c.args.path.now) accounts c.args.session.now.client (g.W.Write.contents c.args.output.now) (g.K.Keeper.holds c.args.keeper.now) shown;
+  written = λ tells idle accounts shown. writes_none (IsDenied g.K.Keeper.refuses g.K.Keeper.will_wait c.args.location) (HasGiven g.K.Keeper.gives g.K.Keeper.will_wait c.args.location) accounts c.args.session.now.client (g.W.Write.contents c.args.output.now) (g.K.Keeper.holds c.args.keeper.now) shown;
   none = λ tells h. h;
 }
 
@@ -19,7 +20,7 @@ loop-preserved g c =
     record {
       back = λ h. now.back (was.back h);
       written = λ tells idle accounts shown.
-          writes_on (IsDenied g.K.Keeper.refuses c.args.path.now) (HasGiven g.K.Keeper.gives c.args.path.now) accounts c.args.session.now.client c.loop.session.client c.answer_some.new.session.client (g.W.Write.contents c.args.output.now) (g.W.Write.contents c.loop.output) (g.W.Write.contents c.answer_some.new.output)
+          writes_on (IsDenied g.K.Keeper.refuses g.K.Keeper.will_wait c.args.location) (HasGiven g.K.Keeper.gives g.K.Keeper.will_wait c.args.location) accounts c.args.session.now.client c.loop.session.client c.answer_some.new.session.client (g.W.Write.contents c.args.output.now) (g.W.Write.contents c.loop.output) (g.W.Write.contents c.answer_some.new.output)
           (g.K.Keeper.holds c.loop.keeper) (g.K.Keeper.holds c.answer_some.new.keeper) (was.written tells idle accounts shown) (now.answers tells (was.back idle));
       none = λ tells h. now.none tells (was.none tells h);
     }
@@ -32,10 +33,13 @@ returns-then-not-ready-clause-answers g c tells idle accounts shown =
 pub returns-in_err-answer_some-clause-answers : goal.returns-in_err-answer_some-clause-answers
 returns-in_err-answer_some-clause-answers g c tells idle accounts shown =
     let is : c.from_residual.result ≡ Err c.in_err-answer_some.field-0.0 = search rules in
-    subst (WritesAll (IsDenied g.K.Keeper.refuses c.args.path.now) (HasGiven g.K.Keeper.gives c.args.path.now) accounts c.args.session.now.client (g.W.Write.contents c.args.output.now) (g.W.Write.contents c.answer_some.new.output) c.answer_some.new.session.client (g.K.Keeper.holds c.answer_some.new.keeper)) (sym is)
-    (interrupted_on (IsDenied g.K.Keeper.refuses c.args.path.now) (HasGiven g.K.Keeper.gives c.args.path.now) accounts c.args.session.now.client c.loop.session.client (g.W.Write.contents c.args.output.now) (g.W.Write.contents c.loop.output) (g.W.Write.contents c.answer_some.new.output)
+    subst (WritesAll (IsDenied g.K.Keeper.refuses g.K.Keeper.will_wait c.args.location) (HasGiven g.K.Keeper.gives g.K.Keeper.will_wait c.args.location) accounts c.args.session.now.client (g.W.Write.contents c.args.output.now) (g.W.Write.contents c.answer_some.new.output) c.answer_some.new.session.client (g.K.Keeper.holds c.answer_some.new.keeper)) (sym is)
+    (interrupted_on (IsDenied g.K.Keeper.refuses g.K.Keeper.will_wait c.args.location) (HasGiven g.K.Keeper.gives g.K.Keeper.will_wait c.args.location) accounts c.args.session.now.client c.loop.session.client (g.W.Write.contents c.args.output.now) (g.W.Write.contents c.loop.output) (g.W.Write.contents c.answer_some.new.output)
     (g.K.Keeper.holds c.loop.keeper) (g.K.Keeper.holds c.answer_some.new.keeper) (c.loop.invariant.written tells idle accounts shown) (c.in_err-answer_some.ensures.answers tells (c.loop.invariant.back idle)))
 
 pub returns-clause-answers : goal.returns-clause-answers
 returns-clause-answers g c tells idle accounts shown =
-    interrupted_so (IsDenied g.K.Keeper.refuses c.args.path.now) (HasGiven g.K.Keeper.gives c.args.path.now) accounts c.args.session.now.client c.loop.session.client (g.W.Write.contents c.args.output.now) (g.W.Write.contents c.loop.output) (g.K.Keeper.holds c.loop.keeper) (c.loop.invariant.written tells idle accounts shown)
+    interrupted_so (IsDenied g.K.Keeper.refuses g.K.Keeper.will_wait c.args.location) (HasGiven g.K.Keeper.gives g.K.Keeper.will_wait c.args.location) accounts c.args.session.now.client c.loop.session.client (g.W.Write.contents c.args.output.now) (g.W.Write.contents c.loop.output) (g.K.Keeper.holds c.loop.keeper) (c.loop.invariant.written tells idle accounts shown)
+
+pub returns-clause-fault : goal.returns-clause-fault
+returns-clause-fault g c = (refl, (None, writes_end None))

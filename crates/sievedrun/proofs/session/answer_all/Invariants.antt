@@ -10,6 +10,6 @@ abbrev pub invariant-loop : goal.invariant-loop
 invariant-loop g l = record {
   back : g.K.Keeper.is_out l.initial.keeper ≡ false → g.K.Keeper.is_out l.keeper ≡ false;
   written : IsTrue g.K.Keeper.tells → g.K.Keeper.is_out l.initial.keeper ≡ false → (accounts : Accounts) → Offers (g.K.Keeper.holds l.initial.keeper) accounts
-      → Writes (IsDenied g.K.Keeper.refuses l.path) (HasGiven g.K.Keeper.gives l.path) accounts l.initial.session.client (g.W.Write.contents l.initial.output) (g.W.Write.contents l.output) l.session.client (g.K.Keeper.holds l.keeper);
+      → Writes (IsDenied g.K.Keeper.refuses g.K.Keeper.will_wait l.location) (HasGiven g.K.Keeper.gives g.K.Keeper.will_wait l.location) accounts l.initial.session.client (g.W.Write.contents l.initial.output) (g.W.Write.contents l.output) l.session.client (g.K.Keeper.holds l.keeper);
   none : IsTrue g.K.Keeper.tells → (g.K.Keeper.holds l.initial.keeper).schema ≡ no_schema → (g.K.Keeper.holds l.keeper).schema ≡ no_schema;
 }

@@ -9,7 +9,7 @@ use Rattle.sievedrun.proofs.session.answer_ready.Goals as goal
 
 pub loop-init : goal.loop-init
 loop-init g c = record {
-  answered = λ tells accounts shown. answered_none (IsDenied g.K.Keeper.refuses c.args.path.now) (HasGiven g.K.Keeper.gives c.args.path.now) accounts c.args.session.now.client c.args.answers.now (AreSeen (HasGiven g.K.Keeper.gives c.args.path.now) (λ s. (state g.K.S.Store s).now) (g.K.Keeper.holds c.args.keeper.now) c.args.store.now) shown;
+  answered = λ tells accounts shown. answered_none (IsDenied g.K.Keeper.refuses g.K.Keeper.will_wait c.args.location) (HasGiven g.K.Keeper.gives g.K.Keeper.will_wait c.args.location) accounts c.args.session.now.client c.args.answers.now (AreSeen (HasGiven g.K.Keeper.gives g.K.Keeper.will_wait c.args.location) (λ s. (state g.K.S.Store s).now) (g.K.Keeper.holds c.args.keeper.now) c.args.store.now) shown;
   none = λ tells empty none. (refl, none);
   closed = refl;
 }
@@ -17,19 +17,19 @@ loop-init g c = record {
 pub returns-in_err-answer_first-clause-answers : goal.returns-in_err-answer_first-clause-answers
 returns-in_err-answer_first-clause-answers g c tells accounts shown =
     let ready : is_ready c.loop.session.client ≡ true = search rules in
-    let Shown = AreSeen (HasGiven g.K.Keeper.gives c.args.path.now) (λ s. (state g.K.S.Store s).now) (g.K.Keeper.holds c.answer_first.new.keeper) c.answer_first.new.store in
-    answered_on (IsDenied g.K.Keeper.refuses c.args.path.now) (HasGiven g.K.Keeper.gives c.args.path.now) accounts c.args.session.now.client c.loop.session.client c.answer_first.new.session.client c.args.answers.now c.loop.answers c.answer_first.new.answers
-    (AreSeen (HasGiven g.K.Keeper.gives c.args.path.now) (λ s. (state g.K.S.Store s).now) (g.K.Keeper.holds c.loop.keeper) c.loop.store) Shown (c.loop.invariant.answered tells accounts shown)
-    (λ a there. step_answers (IsDenied g.K.Keeper.refuses c.args.path.now) (HasGiven g.K.Keeper.gives c.args.path.now) a c.loop.session.client c.answer_first.new.session.client c.loop.answers c.answer_first.new.answers Shown (is_ok c.answer_first.result) ready (c.answer_first.ensures.steps tells a there))
+    let Shown = AreSeen (HasGiven g.K.Keeper.gives g.K.Keeper.will_wait c.args.location) (λ s. (state g.K.S.Store s).now) (g.K.Keeper.holds c.answer_first.new.keeper) c.answer_first.new.store in
+    answered_on (IsDenied g.K.Keeper.refuses g.K.Keeper.will_wait c.args.location) (HasGiven g.K.Keeper.gives g.K.Keeper.will_wait c.args.location) accounts c.args.session.now.client c.loop.session.client c.answer_first.new.session.client c.args.answers.now c.loop.answers c.answer_first.new.answers
+    (AreSeen (HasGiven g.K.Keeper.gives g.K.Keeper.will_wait c.args.location) (λ s. (state g.K.S.Store s).now) (g.K.Keeper.holds c.loop.keeper) c.loop.store) Shown (c.loop.invariant.answered tells accounts shown)
+    (λ a there. step_answers (IsDenied g.K.Keeper.refuses g.K.Keeper.will_wait c.args.location) (HasGiven g.K.Keeper.gives g.K.Keeper.will_wait c.args.location) a c.loop.session.client c.answer_first.new.session.client c.loop.answers c.answer_first.new.answers Shown (is_ok c.answer_first.result) ready (c.answer_first.ensures.steps tells a there))
 
 pub loop-preserved : goal.loop-preserved
 loop-preserved g c =
     let ready : is_ready c.loop.session.client ≡ true = search rules in
-    let Shown = AreSeen (HasGiven g.K.Keeper.gives c.args.path.now) (λ s. (state g.K.S.Store s).now) (g.K.Keeper.holds c.answer_first.new.keeper) c.answer_first.new.store in
+    let Shown = AreSeen (HasGiven g.K.Keeper.gives g.K.Keeper.will_wait c.args.location) (λ s. (state g.K.S.Store s).now) (g.K.Keeper.holds c.answer_first.new.keeper) c.answer_first.new.store in
     record {
-      answered = λ tells accounts shown. answered_on (IsDenied g.K.Keeper.refuses c.args.path.now) (HasGiven g.K.Keeper.gives c.args.path.now) accounts c.args.session.now.client c.loop.session.client c.answer_first.new.session.client c.args.answers.now c.loop.answers c.answer_first.new.answers
-          (AreSeen (HasGiven g.K.Keeper.gives c.args.path.now) (λ s. (state g.K.S.Store s).now) (g.K.Keeper.holds c.loop.keeper) c.loop.store) Shown (c.loop.invariant.answered tells accounts shown)
-          (λ a there. step_answers (IsDenied g.K.Keeper.refuses c.args.path.now) (HasGiven g.K.Keeper.gives c.args.path.now) a c.loop.session.client c.answer_first.new.session.client c.loop.answers c.answer_first.new.answers Shown (is_ok c.answer_first.result) ready (c.answer_first.ensures.steps tells a there));
+      answered = λ tells accounts shown. answered_on (IsDenied g.K.Keeper.refuses g.K.Keeper.will_wait c.args.location) (HasGiven g.K.Keeper.gives g.K.Keeper.will_wait c.args.location) accounts c.args.session.now.client c.loop.session.client c.answer_first.new.session.client c.args.answers.now c.loop.answers c.answer_first.new.answers
+          (AreSeen (HasGiven g.K.Keeper.gives g.K.Keeper.will_wait c.args.location) (λ s. (state g.K.S.Store s).now) (g.K.Keeper.holds c.loop.keeper) c.loop.store) Shown (c.loop.invariant.answered tells accounts shown)
+          (λ a there. step_answers (IsDenied g.K.Keeper.refuses g.K.Keeper.will_wait c.args.location) (HasGiven g.K.Keeper.gives g.K.Keeper.will_wait c.args.location) a c.loop.session.client c.answer_first.new.session.client c.loop.answers c.answer_first.new.answers Shown (is_ok c.answer_first.result) ready (c.answer_first.ensures.steps tells a there));
       none = λ tells empty none.
           let was = c.loop.invariant.none tells empty none in
           let now = c.answer_first.ensures.none tells (ap (λ (db : Database). db.schema) was.0 ∙ empty) was.1 in

@@ -1,18 +1,19 @@
 -- A piece comes, and all that is whole is answered; or the session ends there, or breaks off.
-use Rattle.std.proofs.Common.{◌≡◌, ◌≤◌, ℕ, [], Option, Ok, Err, unwrap_or, length, take, drop, sym, ap, subst, inl, inr, true, false, rules, arith}
+use Rattle.std.proofs.Common.{◌≡◌, ◌≤◌, ℕ, [], Option, None, Ok, Err, refl, unwrap_or, length, take, drop, sym, ap, subst, inl, inr, true, false, rules, arith}
 use Rattle.std.proofs.lemmas.List.{length-take}
 use Rattle.std.specs.Io.KnownBytes.{Consumes}
 use Rattle.sessions.specs.Clients.{client_given}
 use Rattle.sievedrun.specs.Faults.{memory}
 use Rattle.sievedrun.specs.Serving.{Converses, HasGiven, IsDenied}
+use Rattle.sievedrun.specs.Streams.{reads_end}
 use Rattle.sievedrun.proofs.ServingLemmas.{broken_served, served_at_end, served_on, broken_on}
 use Rattle.sievedrun.proofs.session.converse.Goals as goal
 
 pub returns-in_err-len-clause-serves : goal.returns-in_err-len-clause-serves
 returns-in_err-len-clause-serves g c tells idle accounts first_in first_out first =
     let is : c.from_residual.result ≡ Err c.in_err-len.field-0.0 = search rules in
-    subst (Converses (IsDenied g.K.Keeper.refuses c.args.path.now) (HasGiven g.K.Keeper.gives c.args.path.now) accounts first_in (g.R.Read.remaining c.read_at.new.input) first_out (g.W.Write.contents c.loop.output) (g.K.Keeper.holds c.loop.keeper)) (sym is)
-    (broken_served (IsDenied g.K.Keeper.refuses c.args.path.now) (HasGiven g.K.Keeper.gives c.args.path.now) accounts first_in (g.R.Read.remaining c.loop.input) first_out (g.W.Write.contents c.loop.output) c.loop.session.client (g.K.Keeper.holds c.loop.keeper) (c.loop.invariant.served tells idle accounts first_in first_out first))
+    subst (Converses (IsDenied g.K.Keeper.refuses g.K.Keeper.will_wait c.args.location) (HasGiven g.K.Keeper.gives g.K.Keeper.will_wait c.args.location) accounts first_in (g.R.Read.remaining c.read_at.new.input) first_out (g.W.Write.contents c.loop.output) (g.K.Keeper.holds c.loop.keeper)) (sym is)
+    (broken_served (IsDenied g.K.Keeper.refuses g.K.Keeper.will_wait c.args.location) (HasGiven g.K.Keeper.gives g.K.Keeper.will_wait c.args.location) accounts first_in (g.R.Read.remaining c.loop.input) first_out (g.W.Write.contents c.loop.output) c.loop.session.client (g.K.Keeper.holds c.loop.keeper) (c.loop.invariant.served tells idle accounts first_in first_out first))
 
 pub returns-in_default-clause-serves : goal.returns-in_default-clause-serves
 returns-in_default-clause-serves g c tells idle accounts first_in first_out first =
@@ -20,7 +21,7 @@ returns-in_default-clause-serves g c tells idle accounts first_in first_out firs
     let nothing : Consumes (g.R.Read.remaining c.loop.input) (g.R.Read.remaining c.read_at.new.input) [] = subst (λ n. Consumes (g.R.Read.remaining c.loop.input) (g.R.Read.remaining c.read_at.new.input) (take n (drop 0 c.read_at.new.room))) none c.in_ok-len.ensures.read in
     record {
       client = c.loop.session.client;
-      served = served_at_end (IsDenied g.K.Keeper.refuses c.args.path.now) (HasGiven g.K.Keeper.gives c.args.path.now) accounts first_in (g.R.Read.remaining c.loop.input) (g.R.Read.remaining c.read_at.new.input) first_out (g.W.Write.contents c.loop.output) c.loop.session.client (g.K.Keeper.holds c.loop.keeper)
+      served = served_at_end (IsDenied g.K.Keeper.refuses g.K.Keeper.will_wait c.args.location) (HasGiven g.K.Keeper.gives g.K.Keeper.will_wait c.args.location) accounts first_in (g.R.Read.remaining c.loop.input) (g.R.Read.remaining c.read_at.new.input) first_out (g.W.Write.contents c.loop.output) c.loop.session.client (g.K.Keeper.holds c.loop.keeper)
           (c.loop.invariant.served tells idle accounts first_in first_out first) nothing;
       over = inr (c.in_ok-len.ensures.end (ap (λ (o : Option ℕ). Ok o) c.in_default.is));
     }
@@ -28,8 +29,8 @@ returns-in_default-clause-serves g c tells idle accounts first_in first_out firs
 pub returns-in_err-give-clause-serves : goal.returns-in_err-give-clause-serves
 returns-in_err-give-clause-serves g c tells idle accounts first_in first_out first =
     let is : c.from_residual-in_err-give.result ≡ Err memory = search rules in
-    subst (Converses (IsDenied g.K.Keeper.refuses c.args.path.now) (HasGiven g.K.Keeper.gives c.args.path.now) accounts first_in (g.R.Read.remaining c.read_at.new.input) first_out (g.W.Write.contents c.loop.output) (g.K.Keeper.holds c.loop.keeper)) (sym is)
-    (broken_served (IsDenied g.K.Keeper.refuses c.args.path.now) (HasGiven g.K.Keeper.gives c.args.path.now) accounts first_in (g.R.Read.remaining c.loop.input) first_out (g.W.Write.contents c.loop.output) c.loop.session.client (g.K.Keeper.holds c.loop.keeper) (c.loop.invariant.served tells idle accounts first_in first_out first))
+    subst (Converses (IsDenied g.K.Keeper.refuses g.K.Keeper.will_wait c.args.location) (HasGiven g.K.Keeper.gives g.K.Keeper.will_wait c.args.location) accounts first_in (g.R.Read.remaining c.read_at.new.input) first_out (g.W.Write.contents c.loop.output) (g.K.Keeper.holds c.loop.keeper)) (sym is)
+    (broken_served (IsDenied g.K.Keeper.refuses g.K.Keeper.will_wait c.args.location) (HasGiven g.K.Keeper.gives g.K.Keeper.will_wait c.args.location) accounts first_in (g.R.Read.remaining c.loop.input) first_out (g.W.Write.contents c.loop.output) c.loop.session.client (g.K.Keeper.holds c.loop.keeper) (c.loop.invariant.served tells idle accounts first_in first_out first))
 
 pub returns-in_err-answered-clause-serves : goal.returns-in_err-answered-clause-serves
 returns-in_err-answered-clause-serves g c tells idle accounts first_in first_out first =
@@ -41,8 +42,8 @@ returns-in_err-answered-clause-serves g c tells idle accounts first_in first_out
     let short : length (take len room) ≤ 4096 = omega (arith, whole, length-take len room) in
     let joins : c.give.new.self.client ≡ client_given (take len room) c.loop.session.client = search rules in
     let is : c.from_residual-in_err-answered.result ≡ Err c.in_err-answered.field-0.0 = search rules in
-    subst (Converses (IsDenied g.K.Keeper.refuses c.args.path.now) (HasGiven g.K.Keeper.gives c.args.path.now) accounts first_in (g.R.Read.remaining c.read_at.new.input) first_out (g.W.Write.contents c.answer_all-answered.new.output) (g.K.Keeper.holds c.answer_all-answered.new.keeper)) (sym is)
-    (broken_on (IsDenied g.K.Keeper.refuses c.args.path.now) (HasGiven g.K.Keeper.gives c.args.path.now) accounts first_in (g.R.Read.remaining c.loop.input) (g.R.Read.remaining c.read_at.new.input) first_out (g.W.Write.contents c.loop.output) (g.W.Write.contents c.answer_all-answered.new.output) (take len room)
+    subst (Converses (IsDenied g.K.Keeper.refuses g.K.Keeper.will_wait c.args.location) (HasGiven g.K.Keeper.gives g.K.Keeper.will_wait c.args.location) accounts first_in (g.R.Read.remaining c.read_at.new.input) first_out (g.W.Write.contents c.answer_all-answered.new.output) (g.K.Keeper.holds c.answer_all-answered.new.keeper)) (sym is)
+    (broken_on (IsDenied g.K.Keeper.refuses g.K.Keeper.will_wait c.args.location) (HasGiven g.K.Keeper.gives g.K.Keeper.will_wait c.args.location) accounts first_in (g.R.Read.remaining c.loop.input) (g.R.Read.remaining c.read_at.new.input) first_out (g.W.Write.contents c.loop.output) (g.W.Write.contents c.answer_all-answered.new.output) (take len room)
     c.loop.session.client c.give.new.self.client c.answer_all-answered.new.session.client (g.K.Keeper.holds c.loop.keeper) (g.K.Keeper.holds c.answer_all-answered.new.keeper) (c.loop.invariant.served tells idle accounts first_in first_out first) took c.loop.invariant.live short joins
     (c.in_err-answered.ensures.answers tells (c.loop.invariant.back idle)))
 
@@ -58,7 +59,7 @@ returns-then-is_over-clause-serves g c tells idle accounts first_in first_out fi
     let shut : c.answer_all-answered.new.session.client.closed ≡ true = search rules in
     record {
       client = c.answer_all-answered.new.session.client;
-      served = served_on (IsDenied g.K.Keeper.refuses c.args.path.now) (HasGiven g.K.Keeper.gives c.args.path.now) accounts first_in (g.R.Read.remaining c.loop.input) (g.R.Read.remaining c.read_at.new.input) first_out (g.W.Write.contents c.loop.output) (g.W.Write.contents c.answer_all-answered.new.output) (take len room)
+      served = served_on (IsDenied g.K.Keeper.refuses g.K.Keeper.will_wait c.args.location) (HasGiven g.K.Keeper.gives g.K.Keeper.will_wait c.args.location) accounts first_in (g.R.Read.remaining c.loop.input) (g.R.Read.remaining c.read_at.new.input) first_out (g.W.Write.contents c.loop.output) (g.W.Write.contents c.answer_all-answered.new.output) (take len room)
           c.loop.session.client c.give.new.self.client c.answer_all-answered.new.session.client (g.K.Keeper.holds c.loop.keeper) (g.K.Keeper.holds c.answer_all-answered.new.keeper) (c.loop.invariant.served tells idle accounts first_in first_out first) took c.loop.invariant.live short joins
           (c.in_ok-answered.ensures.answers tells (c.loop.invariant.back idle));
       over = inl shut;
@@ -79,7 +80,7 @@ loop-preserved g c =
     record {
       live = live;
       back = λ h. now.back (was.back h);
-      served = λ tells idle accounts first_in first_out first. served_on (IsDenied g.K.Keeper.refuses c.args.path.now) (HasGiven g.K.Keeper.gives c.args.path.now) accounts first_in (g.R.Read.remaining c.loop.input) (g.R.Read.remaining c.read_at.new.input) first_out (g.W.Write.contents c.loop.output) (g.W.Write.contents c.answer_all-answered.new.output) (take len room)
+      served = λ tells idle accounts first_in first_out first. served_on (IsDenied g.K.Keeper.refuses g.K.Keeper.will_wait c.args.location) (HasGiven g.K.Keeper.gives g.K.Keeper.will_wait c.args.location) accounts first_in (g.R.Read.remaining c.loop.input) (g.R.Read.remaining c.read_at.new.input) first_out (g.W.Write.contents c.loop.output) (g.W.Write.contents c.answer_all-answered.new.output) (take len room)
           c.loop.session.client c.give.new.self.client c.answer_all-answered.new.session.client (g.K.Keeper.holds c.loop.keeper) (g.K.Keeper.holds c.answer_all-answered.new.keeper) (c.loop.invariant.served tells idle accounts first_in first_out first) took c.loop.invariant.live short joins
           (c.in_ok-answered.ensures.answers tells (c.loop.invariant.back idle));
       none = λ tells h. now.none tells (was.none tells h);
@@ -87,4 +88,7 @@ loop-preserved g c =
 
 pub returns-clause-serves : goal.returns-clause-serves
 returns-clause-serves g c tells idle accounts first_in first_out first =
-    broken_served (IsDenied g.K.Keeper.refuses c.args.path.now) (HasGiven g.K.Keeper.gives c.args.path.now) accounts first_in (g.R.Read.remaining c.loop.input) first_out (g.W.Write.contents c.loop.output) c.loop.session.client (g.K.Keeper.holds c.loop.keeper) (c.loop.invariant.served tells idle accounts first_in first_out first)
+    broken_served (IsDenied g.K.Keeper.refuses g.K.Keeper.will_wait c.args.location) (HasGiven g.K.Keeper.gives g.K.Keeper.will_wait c.args.location) accounts first_in (g.R.Read.remaining c.loop.input) first_out (g.W.Write.contents c.loop.output) c.loop.session.client (g.K.Keeper.holds c.loop.keeper) (c.loop.invariant.served tells idle accounts first_in first_out first)
+
+pub returns-clause-fault : goal.returns-clause-fault
+returns-clause-fault g c = inr (refl, inl (None, reads_end None))

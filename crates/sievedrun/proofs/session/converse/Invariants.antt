@@ -10,7 +10,7 @@ invariant-loop g l = record {
   live : l.session.client.closed ≡ false;
   back : g.K.Keeper.is_out l.initial.keeper ≡ false → g.K.Keeper.is_out l.keeper ≡ false;
   served : IsTrue g.K.Keeper.tells → g.K.Keeper.is_out l.initial.keeper ≡ false → (accounts : Accounts) (first_in first_out : Option (List ℕ))
-      → Served (IsDenied g.K.Keeper.refuses l.path) (HasGiven g.K.Keeper.gives l.path) accounts first_in (g.R.Read.remaining l.initial.input) first_out (g.W.Write.contents l.initial.output) l.initial.session.client (g.K.Keeper.holds l.initial.keeper)
-      → Served (IsDenied g.K.Keeper.refuses l.path) (HasGiven g.K.Keeper.gives l.path) accounts first_in (g.R.Read.remaining l.input) first_out (g.W.Write.contents l.output) l.session.client (g.K.Keeper.holds l.keeper);
+      → Served (IsDenied g.K.Keeper.refuses g.K.Keeper.will_wait l.location) (HasGiven g.K.Keeper.gives g.K.Keeper.will_wait l.location) accounts first_in (g.R.Read.remaining l.initial.input) first_out (g.W.Write.contents l.initial.output) l.initial.session.client (g.K.Keeper.holds l.initial.keeper)
+      → Served (IsDenied g.K.Keeper.refuses g.K.Keeper.will_wait l.location) (HasGiven g.K.Keeper.gives g.K.Keeper.will_wait l.location) accounts first_in (g.R.Read.remaining l.input) first_out (g.W.Write.contents l.output) l.session.client (g.K.Keeper.holds l.keeper);
   none : IsTrue g.K.Keeper.tells → (g.K.Keeper.holds l.initial.keeper).schema ≡ no_schema → (g.K.Keeper.holds l.keeper).schema ≡ no_schema;
 }

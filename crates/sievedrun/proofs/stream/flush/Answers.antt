@@ -1,6 +1,11 @@
--- The flush failed.
-use Rattle.sievedrun.specs.Streams.{write_failed}
+-- It was flushed, or that failed.
+use Rattle.std.proofs.Common.{refl}
+use Rattle.sievedrun.specs.Streams.{was_flushed, writes_end}
+use Rattle.sievedrun.proofs.StreamLemmas.{kept_appends}
 use Rattle.sievedrun.proofs.stream.flush.Goals as goal
 
-pub returns-in-Err-clause-failed : goal.returns-in-Err-clause-failed
-returns-in-Err-clause-failed g c = write_failed _
+pub returns-in-Ok : goal.returns-in-Ok
+returns-in-Ok g c = (kept_appends _ _ c.flush.ensures.bytes, was_flushed _)
+
+pub returns-in-Err : goal.returns-in-Err
+returns-in-Err g c = (refl, ((0, kept_appends _ _ c.flush.ensures.bytes), writes_end _))

@@ -1,7 +1,7 @@
 use Rattle.std.proofs.Common.{◌≡◌, None, ◌+◌, ◌≤◌, length, take, drop, unwrap_or, ap, subst, ◌∙◌, rules, arith}
 use Rattle.std.proofs.lemmas.List.{with_items_is, places}
 use Rattle.std.specs.Io.KnownBytes.{Consumes}
-use Rattle.sievedrun.specs.Streams.{read_failed}
+use Rattle.sievedrun.specs.Streams.{reads_end}
 use Rattle.sievedrun.proofs.StreamLemmas.{filled_on}
 use Rattle.sievedrun.proofs.stream.read_all.Goals as goal
 
@@ -19,4 +19,4 @@ loop-preserved g c =
     (omega (arith, fits, whole), filled_on _ _ _ c.loop.octets.items room filled more front c.loop.invariant.1 (subst (λ n. Consumes (g.R.Read.remaining c.loop.input) (g.R.Read.remaining c.read_at.new.input) (take n (drop filled room))) came read.read))
 
 pub returns-clause-failed : goal.returns-clause-failed
-returns-clause-failed g c is = (None, read_failed None)
+returns-clause-failed g c is = (None, reads_end None)

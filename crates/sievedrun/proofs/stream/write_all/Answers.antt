@@ -1,14 +1,10 @@
-use Rattle.std.proofs.Common.{◌+◌, drop, ap, ◌∙◌}
-use Rattle.std.proofs.lemmas.List.{drop-drop}
-use Rattle.sievedrun.proofs.StreamLemmas.{text_on}
-use Rattle.sievedrun.specs.Streams.{write_failed}
+-- It was written and flushed.
+use Rattle.std.proofs.Common.{rules}
+use Rattle.sievedrun.proofs.StreamLemmas.{flushed_then, printed_cut_whole}
 use Rattle.sievedrun.proofs.stream.write_all.Goals as goal
 
-pub loop-preserved : goal.loop-preserved
-loop-preserved g c =
-    let (at, split, before) = c.loop.invariant in
-    let n = c.in_ok-written.written in
-    (at + n, c.split_at.ensures.back ∙ ap (drop n) split ∙ drop-drop n at c.args.text.now, text_on _ _ _ c.args.text.now c.loop.rest.now at n split before c.in_ok-written.ensures.ok)
+pub returns-in_err-put : goal.returns-in_err-put
+returns-in_err-put g c = printed_cut_whole _ _ _ c.in_err-put.field-0.0 c.from_residual.result (search rules) c.in_err-put.ensures
 
-pub returns-clause-failed : goal.returns-clause-failed
-returns-clause-failed g c = write_failed _
+pub returns : goal.returns
+returns g c = flushed_then _ _ _ c.args.text.now c.flush.result c.in_ok-put.ensures c.flush.ensures

@@ -1,11 +1,14 @@
--- Three texts in turn.
-use Rattle.sievedrun.proofs.StreamLemmas.{some_then}
+-- One line, or nothing.
+use Rattle.std.proofs.Common.{subst, sym, Some}
+use Rattle.std.specs.Option.{option_copied}
+use Rattle.sievedrun.specs.Faults.{cause_line}
+use Rattle.sievedrun.specs.Streams.{IsWritten}
+use Rattle.sievedrun.proofs.StreamLemmas.{written}
 use Rattle.sievedrun.proofs.trouble.tell_cause.Goals as goal
 
 pub returns-in-Some : goal.returns-in-Some
 returns-in-Some g c =
     let old = g.E.Write.contents c.args.errors.now in
-    let first = g.E.Write.contents c.write_some.new.errors in
-    let second = g.E.Write.contents c.write_some-in-Some.new.errors in
-    let new = g.E.Write.contents c.write_some-in-Some-2.new.errors in
-    some_then old second new (some_then old first second c.write_some.ensures c.write_some-in-Some.ensures) c.write_some-in-Some-2.ensures
+    let new = g.E.Write.contents c.write_line.new.output in
+    subst (λ o. IsWritten old new (cause_line (option_copied o))) (sym c.in-Some.is)
+    (subst (λ t. IsWritten old new (cause_line (Some t))) c.as_bytes.ensures.value (written old new _ c.write_line.result c.write_line.ensures))
