@@ -1,5 +1,4 @@
 use Rattle.std.proofs.Common.{inl, inr}
-use Rattle.lmtp.specs.Receivers.{ComesNext}
 use Rattle.mailposts.proofs.post.Post.next_demand.Goals as goal
 
 pub returns-in-Need : goal.returns-in-Need
