@@ -77,7 +77,7 @@ pub fn apply<S: Alter>(
     ensures crash { SurvivesEvent event.now (host_with S.Store store.old clients.old) (host_with S.Store store.new clients.new) }
     ensures shut { HasCleanDisk (state S.Store store.new) → IsTrue (state S.Store store.new).is_open → IsTrue (state S.Store store.old).is_open }
 {
-    let text = prepared(clients.alloc, &clients.sessions, event)?;
+    let text = prepare(clients.alloc, &clients.sessions, event)?;
     Ok(carry_out(clients.alloc, store, &mut clients.sessions, event, text))
 }
 
@@ -94,12 +94,12 @@ pub fn apply_free(clients: &mut Clients, event: &Event) -> Result<Option<Answer>
     ensures lacks { OnErr result (IsGivenUp event.now) }
     ensures err { OnErr result (clients.new ≡ clients.old) }
 {
-    let text = prepared(clients.alloc, &clients.sessions, event)?;
+    let text = prepare(clients.alloc, &clients.sessions, event)?;
     Ok(carry_out_free(clients.alloc, &mut clients.sessions, event, text))
 }
 
 /// What an event answers is had before it, where it may not be refused for memory: the text of giving up.
-fn prepared(
+fn prepare(
     alloc: Global,
     sessions: &BTreeMap<u32, Session>,
     event: &Event,
@@ -140,7 +140,7 @@ fn carry_out<S: Alter>(
             message,
             moment,
         } => {
-            let report = deliver_borrowed(
+            let report = carry_out_delivery(
                 alloc,
                 store,
                 user.as_slice(),
@@ -206,7 +206,7 @@ fn carry_out_free(
 
 /// A delivery with a borrowed envelope. It is copied once no limit stands against the delivery, so those causes are told
 /// without memory.
-fn deliver_borrowed<S: Alter>(
+fn carry_out_delivery<S: Alter>(
     alloc: Global,
     store: &mut Store<S>,
     user: &[u8],

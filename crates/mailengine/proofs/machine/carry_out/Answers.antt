@@ -44,16 +44,16 @@ pub returns-in-Deliver-clause-event : goal.returns-in-Deliver-clause-event
 returns-in-Deliver-clause-event g c =
     let event : Event = Deliver c.as_slice-in-Deliver.result.now c.in-Deliver.envelope c.as_slice-in-Deliver-2.result.now c.in-Deliver.moment in
     let is : c.args.event.now ≡ event = cc in
-    event_is c.args.event.now event c.answer_of-in-Deliver.result (answer_by Delivered c.deliver_borrowed-report.result) (state g.S.Store c.args.store.now) (state g.S.Store c.deliver_borrowed-report.new.store) c.args.sessions.now c.args.sessions.now is
-    (told_by Delivered c.deliver_borrowed-report.result c.map.result c.answer_of-in-Deliver.result c.map.ensures.cases c.answer_of-in-Deliver.ensures)
-    (account_event event (λ accounts. Delivery accounts c.as_slice-in-Deliver.result.now c.in-Deliver.envelope c.as_slice-in-Deliver-2.result.now c.in-Deliver.moment) (MayRefuseDelivery c.in-Deliver.envelope c.as_slice-in-Deliver-2.result.now c.in-Deliver.moment) (λ w answer next made. made) (delivery_may c.as_slice-in-Deliver.result.now c.as_slice-in-Deliver-2.result.now c.in-Deliver.envelope c.in-Deliver.moment) (state g.S.Store c.args.store.now) (state g.S.Store c.deliver_borrowed-report.new.store) c.args.sessions.now Delivered c.deliver_borrowed-report.result c.deliver_borrowed-report.ensures)
+    event_is c.args.event.now event c.answer_of-in-Deliver.result (answer_by Delivered c.carry_out_delivery-report.result) (state g.S.Store c.args.store.now) (state g.S.Store c.carry_out_delivery-report.new.store) c.args.sessions.now c.args.sessions.now is
+    (told_by Delivered c.carry_out_delivery-report.result c.map.result c.answer_of-in-Deliver.result c.map.ensures.cases c.answer_of-in-Deliver.ensures)
+    (account_event event (λ accounts. Delivery accounts c.as_slice-in-Deliver.result.now c.in-Deliver.envelope c.as_slice-in-Deliver-2.result.now c.in-Deliver.moment) (MayRefuseDelivery c.in-Deliver.envelope c.as_slice-in-Deliver-2.result.now c.in-Deliver.moment) (λ w answer next made. made) (delivery_may c.as_slice-in-Deliver.result.now c.as_slice-in-Deliver-2.result.now c.in-Deliver.envelope c.in-Deliver.moment) (state g.S.Store c.args.store.now) (state g.S.Store c.carry_out_delivery-report.new.store) c.args.sessions.now Delivered c.carry_out_delivery-report.result c.carry_out_delivery-report.ensures)
 
 pub returns-in-Deliver-clause-crash : goal.returns-in-Deliver-clause-crash
 returns-in-Deliver-clause-crash g c =
     let event : Event = Deliver c.as_slice-in-Deliver.result.now c.in-Deliver.envelope c.as_slice-in-Deliver-2.result.now c.in-Deliver.moment in
     let is : c.args.event.now ≡ event = cc in
-    crash_is c.args.event.now event (state g.S.Store c.args.store.now) (state g.S.Store c.deliver_borrowed-report.new.store) c.args.sessions.now is
-    (account_crash event (λ accounts. Delivery accounts c.as_slice-in-Deliver.result.now c.in-Deliver.envelope c.as_slice-in-Deliver-2.result.now c.in-Deliver.moment) (MayRefuseDelivery c.in-Deliver.envelope c.as_slice-in-Deliver-2.result.now c.in-Deliver.moment) (λ w answer next made. made) (delivery_may c.as_slice-in-Deliver.result.now c.as_slice-in-Deliver-2.result.now c.in-Deliver.envelope c.in-Deliver.moment) (state g.S.Store c.args.store.now) (state g.S.Store c.deliver_borrowed-report.new.store) c.args.sessions.now c.deliver_borrowed-report.result (answer_by Delivered c.deliver_borrowed-report.result) c.deliver_borrowed-report.ensures)
+    crash_is c.args.event.now event (state g.S.Store c.args.store.now) (state g.S.Store c.carry_out_delivery-report.new.store) c.args.sessions.now is
+    (account_crash event (λ accounts. Delivery accounts c.as_slice-in-Deliver.result.now c.in-Deliver.envelope c.as_slice-in-Deliver-2.result.now c.in-Deliver.moment) (MayRefuseDelivery c.in-Deliver.envelope c.as_slice-in-Deliver-2.result.now c.in-Deliver.moment) (λ w answer next made. made) (delivery_may c.as_slice-in-Deliver.result.now c.as_slice-in-Deliver-2.result.now c.in-Deliver.envelope c.in-Deliver.moment) (state g.S.Store c.args.store.now) (state g.S.Store c.carry_out_delivery-report.new.store) c.args.sessions.now c.carry_out_delivery-report.result (answer_by Delivered c.carry_out_delivery-report.result) c.carry_out_delivery-report.ensures)
 
 pub returns-in-AddUser-clause-event : goal.returns-in-AddUser-clause-event
 returns-in-AddUser-clause-event g c =

@@ -3,7 +3,7 @@ use Rattle.sqlite.specs.Held.{state}
 use Rattle.mailstore.specs.Refusals.{IsTransient}
 use Rattle.mailengine.specs.Limits.{limit_refusal}
 use Rattle.mailengine.proofs.DeliveryLemmas.{delivery_limited, delivery_lacks}
-use Rattle.mailengine.proofs.machine.deliver_borrowed.Goals as goal
+use Rattle.mailengine.proofs.machine.carry_out_delivery.Goals as goal
 
 pub returns-in-Some : goal.returns-in-Some
 returns-in-Some g c = delivery_limited c.args.user.now c.args.envelope.now c.args.message.now c.args.moment (state g.S.Store c.args.store.now) c.in-Some.refusal (sym c.limit_refusal.ensures ∙ c.in-Some.is)
