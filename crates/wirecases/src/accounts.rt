@@ -7,7 +7,7 @@ use mailengine::add_user;
 use mailstore::Store;
 use octets::{List, Octets, write_decimal};
 use sieveddaemon::note::Note;
-use sqlite::{Connection, MemStore};
+use sqlite::{Alter, Connection};
 use std::alloc::{AllocError, Global};
 use std::collections::VecDeque;
 use wirefakes::play::{Check, Owner};
@@ -69,7 +69,11 @@ fn add<T: Drop>(queue: &mut VecDeque<T>, it: T) -> Result<(), AllocError> {
 }
 
 /// `NAME ADDRESS PASSWORD`: an account that is there at the start.
-fn begin_with(alloc: Global, store: &mut Store<MemStore>, text: &[u8]) -> Result<(), AllocError> {
+fn begin_with<S: Alter>(
+    alloc: Global,
+    store: &mut Store<S>,
+    text: &[u8],
+) -> Result<(), AllocError> {
     let (name, rest) = split_word(text);
     let (address, password) = split_word(rest);
     match add_user(alloc, store, name, address, SALT, password) {
@@ -120,7 +124,7 @@ impl Accounts {
 }
 
 /// How many a user has of what is asked for: `filed` of messages in INBOX, `queued`, `noticed`, `scripts`.
-fn count_in(store: &mut Store<MemStore>, word: &[u8], user: &[u8]) -> Option<u64> {
+fn count_in<S: Alter>(store: &mut Store<S>, word: &[u8], user: &[u8]) -> Option<u64> {
     match word {
         b"filed" => match store.numbers(user, b"INBOX") {
             Ok(numbers) => Some(numbers.len() as u64),

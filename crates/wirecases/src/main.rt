@@ -1,16 +1,19 @@
-//! Plays the schedules of `data/` on the loop, with the echo or the daemon, and says which entries don't hold.
+//! Plays the schedules of `data/` on the loop, with the echo or the daemon, and the dialogues of LMTP, and says which entries don't
+//! hold.
 //!
 //! Standard output has a line for each file with how many of its entries hold, and a last one with how many files do. Standard
 //! error has a line for each entry that doesn't, and then the exit status is 1.
 #![tactic(auto)]
 
 mod accounts;
+mod dialogue;
 mod others;
 mod total;
 
 use accounts::{Accounts, new_shelf};
-use casefiles::Tally;
+use casefiles::{Tally, try_rows};
 use daemonfakes::desk::DeskFake;
+use dialogue::Dialogues;
 use octets::List;
 use sieveddaemon::daemon::Daemon;
 use std::alloc::{AllocError, Global};
@@ -24,7 +27,7 @@ use wirefakes::stage::Stage;
 use wires::service::Service;
 
 /// Those of the echo, in the order in which they are played.
-const ECHOES: [&str; 18] = [
+const ECHOES: [&str; 19] = [
     "two-mixed.schedule",
     "pieces.schedule",
     "slow-reader.schedule",
@@ -37,6 +40,7 @@ const ECHOES: [&str; 18] = [
     "room-for-two.schedule",
     "room-at-once.schedule",
     "room-twice.schedule",
+    "room-for-nobody.schedule",
     "hang-up.schedule",
     "sixty.schedule",
     "three-hundred.schedule",
@@ -47,6 +51,9 @@ const ECHOES: [&str; 18] = [
 
 /// Those of the daemon, in the order in which they are played.
 const DAEMONS: [&str; 2] = ["one-session.daemon", "forty-lives.daemon"];
+
+/// The dialogues of LMTP.
+const DIALOGUES: &str = "lmtp.cases";
 
 /// What is played on.
 #[derive(Clone, Copy)]
@@ -62,6 +69,7 @@ fn main(rt: HostRuntime) -> io::Result<ExitCode> {
     };
     try_files(&rt, Server::Echo, &ECHOES, &mut counts)?;
     try_files(&rt, Server::Daemon, &DAEMONS, &mut counts)?;
+    try_dialogues(&rt, &mut counts)?;
     println!(rt; "{} passed, {} failed", counts.passed, counts.failed)?;
     Ok(status(counts.failed))
 }
@@ -73,6 +81,24 @@ struct Counts {
     failed: u32,
 }
 
+impl Counts {
+    fn note(&mut self, holds: bool) {
+        if holds {
+            self.passed = self.passed.saturating_add(1);
+        } else {
+            self.failed = self.failed.saturating_add(1);
+        }
+    }
+}
+
+fn try_dialogues(rt: &HostRuntime, counts: &mut Counts) -> io::Result<()> {
+    let text = fs::read_to_string(rt, DIALOGUES)?;
+    let mut tally = Tally::new(rt.alloc());
+    try_rows(rt.alloc(), &mut tally, &mut Dialogues, text.as_str())?;
+    counts.note(tell(rt, DIALOGUES, &tally)?);
+    Ok(())
+}
+
 fn try_files(
     rt: &HostRuntime,
     server: Server,
@@ -80,11 +106,7 @@ fn try_files(
     counts: &mut Counts,
 ) -> io::Result<()> {
     for file in files {
-        if try_file(rt, server, file)? {
-            counts.passed = counts.passed.saturating_add(1);
-        } else {
-            counts.failed = counts.failed.saturating_add(1);
-        }
+        counts.note(try_file(rt, server, file)?);
     }
     Ok(())
 }

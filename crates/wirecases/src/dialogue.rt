@@ -1,0 +1,193 @@
+//! Dialogues of LMTP: what a client is answered, by `lmtp` alone, whose questions the address of a recipient answers.
+use casefiles::Answers;
+use lmtp::reply::{Outcome, Reply};
+use lmtp::{Delivery, Lookup, Next, Receiver, Stage, Trouble};
+use octets::Octets;
+use std::alloc::{AllocError, Global};
+
+/// No dialogue has more lines, recipients and deliveries.
+const MAX_ITEMS: usize = 10_000;
+
+/// The rows of the table, which know nothing of each other.
+#[derive(Drop)]
+pub struct Dialogues;
+
+impl Answers for Dialogues {
+    fn answer(
+        &mut self,
+        alloc: Global,
+        out: &mut Octets,
+        given: &[Octets],
+    ) -> Result<(), AllocError> {
+        match given {
+            [state, pieces @ ..] => answer_in(alloc, out, state.as_slice(), pieces),
+            [] => Ok(()),
+        }
+    }
+}
+
+/// A server's side, and of a message of how many octets it has room.
+#[derive(Drop)]
+struct Server {
+    receiver: Receiver,
+    room: u64,
+}
+
+/// What is said to the pieces of a client where this goes on, and what goes on then.
+fn answer_in(
+    alloc: Global,
+    out: &mut Octets,
+    state: &[u8],
+    pieces: &[Octets],
+) -> Result<(), AllocError> {
+    let mut before = Octets::new(alloc);
+    let mut server = Server {
+        receiver: Receiver::new(alloc, b"host.example", &mut before)?,
+        room: u64::MAX,
+    };
+    server.hear(lines_up_to(state), &mut before)?;
+    if state == b"new".as_slice() {
+        out.extend_from_slice(before.as_slice())?;
+    }
+    for piece in pieces {
+        server.hear_piece(piece.as_slice(), out)?;
+    }
+    out.extend_from_slice(name_of(server.receiver.stage()))
+}
+
+/// The lines by which a client comes to a state.
+fn lines_up_to(state: &[u8]) -> &'static [u8] {
+    match state {
+        b"ready" => b"LHLO c\r\n",
+        b"opened" => b"LHLO c\r\nMAIL FROM:<s@x>\r\n",
+        b"taken" => b"LHLO c\r\nMAIL FROM:<s@x>\r\nRCPT TO:<r@x>\r\n",
+        b"sending" => b"LHLO c\r\nMAIL FROM:<s@x>\r\nRCPT TO:<r@x>\r\nDATA\r\n",
+        _ => b"",
+    }
+}
+
+fn name_of(stage: Stage) -> &'static [u8] {
+    match stage {
+        Stage::Greeted => b"greeted",
+        Stage::Ready => b"ready",
+        Stage::Opened => b"opened",
+        Stage::Asking => b"asking",
+        Stage::Sending => b"sending",
+        Stage::Over => b"over",
+    }
+}
+
+impl Server {
+    /// The piece `@drop` is none: the text that is sent is dropped for lack of memory; nor is `@room`: there is room for 1,000 octets.
+    fn hear_piece(&mut self, piece: &[u8], out: &mut Octets) -> Result<(), AllocError> {
+        match piece {
+            b"@drop" => {
+                self.receiver.drop_text();
+                Ok(())
+            }
+            b"@room" => {
+                self.room = 1000;
+                Ok(())
+            }
+            _ => self.hear(piece, out),
+        }
+    }
+
+    /// Octets come, and all that can be answered is.
+    fn hear(&mut self, octets: &[u8], out: &mut Octets) -> Result<(), AllocError> {
+        self.receiver.give(octets)?;
+        for _ in 0..MAX_ITEMS {
+            if !self.go_on(out)? {
+                return Ok(());
+            }
+        }
+        Ok(())
+    }
+
+    /// Answers what comes next; false where nothing can be answered.
+    fn go_on(&mut self, out: &mut Octets) -> Result<bool, AllocError> {
+        match self.receiver.next() {
+            Next::Need | Next::Over => return Ok(false),
+            Next::Line => self.answer(out)?,
+            Next::Recipient(address) => {
+                let lookup = lookup_of(address);
+                self.receiver.resolve(lookup, out)?;
+            }
+            Next::Delivery(delivery) => {
+                show(out, delivery)?;
+                let outcome = outcome_of(delivery);
+                self.receiver.report(outcome, out)?;
+            }
+        }
+        Ok(true)
+    }
+
+    fn answer(&mut self, out: &mut Octets) -> Result<(), AllocError> {
+        if self.receiver.refuse(self.room, out)? {
+            return Ok(());
+        }
+        self.receiver.answer(out)
+    }
+}
+
+/// What is found of an account, by the first word of its address.
+fn lookup_of(address: &[u8]) -> Lookup {
+    match front(address) {
+        b"nobody" => Lookup::Unknown,
+        b"busy" => Lookup::Away,
+        b"broken" => Lookup::Fault,
+        b"full" => Lookup::NoRoom,
+        _ => Lookup::Known,
+    }
+}
+
+/// What becomes of a message, by the first word of its recipient's address and whether its text is kept.
+fn outcome_of(delivery: Delivery<'_>) -> Outcome<'static> {
+    match delivery.text {
+        Ok(_) => outcome_for(front(delivery.recipient)),
+        Err(Trouble::TooLarge) => Outcome::Refused(Reply::MessageTooLarge),
+        Err(Trouble::Memory) => Outcome::Refused(Reply::NoRoom),
+    }
+}
+
+fn outcome_for(word: &[u8]) -> Outcome<'static> {
+    match word {
+        b"gone" => Outcome::Refused(Reply::NoSuchUser),
+        b"from" => Outcome::Refused(Reply::BadSender),
+        b"bad" => Outcome::Refused(Reply::BadRecipient),
+        b"loop" => Outcome::Refused(Reply::MailLoop),
+        b"crowded" => Outcome::Refused(Reply::NoRoom),
+        b"late" => Outcome::Refused(Reply::StoreAway),
+        b"faulty" => Outcome::Refused(Reply::LocalFault),
+        b"lines" => Outcome::Delivered(b"file A\r\n550 B"),
+        _ => Outcome::Delivered(b"file INBOX"),
+    }
+}
+
+/// What stands before an address' first hyphen or at sign.
+fn front(address: &[u8]) -> &[u8] {
+    let end = address
+        .iter()
+        .position(|octet| *octet == b'-' || *octet == b'@');
+    match end {
+        Some(end) => &address[..end],
+        None => address,
+    }
+}
+
+/// A delivery, as `{SENDER RECIPIENT TEXT}`; of a text of more than 200 octets that it is long, and of one that isn't kept nothing.
+fn show(out: &mut Octets, delivery: Delivery<'_>) -> Result<(), AllocError> {
+    out.extend_from_slice(b"{")?;
+    out.extend_from_slice(delivery.sender)?;
+    out.extend_from_slice(b" ")?;
+    out.extend_from_slice(delivery.recipient)?;
+    match delivery.text {
+        Ok(text) if text.len() > 200 => out.extend_from_slice(b" long")?,
+        Ok(text) => {
+            out.extend_from_slice(b" ")?;
+            out.extend_from_slice(text)?;
+        }
+        Err(_) => {}
+    }
+    out.extend_from_slice(b"}")
+}
