@@ -47,14 +47,7 @@ where
     let Ok(listener) = listen(rt, alloc, port, output) else {
         return Err(Fault::Stream);
     };
-    serve_all(
-        alloc,
-        asked.location,
-        &listener,
-        sessions,
-        errors,
-        keeper,
-    )
+    serve_all(alloc, asked.location, &listener, sessions, errors, keeper)
 }
 
 /// A listener on the loopback address, of which the first line of the output tells.
