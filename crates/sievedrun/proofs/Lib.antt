@@ -7,6 +7,8 @@ mod ReportLemmas
 mod WordExamples
 mod WordLemmas
 mod ServingLemmas
+mod StatusLemmas
+mod StreamExamples
 mod RunLemmas
 pub mod StreamLemmas
 pub mod Examples

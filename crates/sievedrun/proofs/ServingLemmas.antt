@@ -1,5 +1,5 @@
 -- Rounds of a session, one after the other.
-use Rattle.std.proofs.Common.{◌≡◌, ℕ, ◌≤◌, Bool, true, false, List, [], ◌∷◌, ◌++◌, length, Option, Some, None, Result, Ok, Err, IfErr, OnErr, IsTrue, refl, sym, ap, ◌∙◌, subst, inl, inr, append_assoc, append-nil}
+use Rattle.std.proofs.Common.{◌≡◌, ◌≢◌, ◌⊎◌, ℕ, ◌≤◌, Bool, true, false, List, [], ◌∷◌, ◌++◌, length, Option, Some, None, Result, Ok, Err, IfErr, OnErr, OnOk, IfSome, IsTrue, is_some, refl, sym, ap, ◌∙◌, subst, inl, inr, append_assoc, append-nil}
 use Rattle.std.proofs.Math.Seq.{take-append_seam}
 use Rattle.std.proofs.lemmas.Grind.{flat_map-append}
 use Rattle.std.specs.Io.KnownBytes.{Appends, Consumes}
@@ -20,7 +20,10 @@ use Rattle.msproto.specs.Replies.{spelled}
 use Rattle.sievedwords.specs.declared.location.StoreLocation.{StoreLocation}
 use Rattle.sievedrun.specs.declared.fault.Fault.{Fault}
 use Rattle.keepers.specs.declared.keeper.Unavailable.{Unavailable}
-use Rattle.sievedrun.specs.Serving.{Round, IsDenied, Hinders, IsRound, Leads, came_in, said_in, largest_piece, BeginsWith, Passes, Answered, Writes, Interrupted, WritesFirst, StepsOn, Served, BreaksOff, AreSeen, PresentsSeen, database_seen}
+use Rattle.keepers.specs.declared.keeper.Unavailable.TheVariants.{Busy, Refused}
+use Rattle.sievedrun.specs.declared.trouble.Trouble.{Trouble}
+use Rattle.sievedrun.specs.declared.trouble.FirstTrouble.{FirstTrouble}
+use Rattle.sievedrun.specs.Serving.{Round, IsDenied, IsDeniedBy, IsNoted, KeepsFirst, Hinders, IsRound, Leads, came_in, said_in, largest_piece, BeginsWith, Passes, Answered, Writes, Interrupted, WritesFirst, StepsOn, Served, BreaksOff, AreSeen, PresentsSeen, database_seen}
 use Rattle.sievedrun.specs.Faults.{IsPrinted}
 use Rattle.sievedrun.specs.Streams.{AppendsFront}
 use Rattle.sievedrun.proofs.StreamLemmas.{front_on, nothing_read, nothing_written, read_on, written_on}
@@ -54,6 +57,38 @@ offers_seen Given sees held new (Some store) is accounts (got, shown) = subst (�
 pub denied_by : {X K : Type 0} (refuses : K → List ℕ → Unavailable → Type 0) (waits : K → Bool) (keeper : K) (location : StoreLocation) (r : Result X Unavailable) → IfErr r (refuses keeper location.path.now) → waits keeper ≡ location.waits → OnErr r (IsDenied refuses waits location)
 denied_by refuses waits keeper location (Ok x) denied asked = tt
 denied_by refuses waits keeper location (Err held) denied asked = (keeper, held, denied, asked)
+
+-- the same, with what it denied
+pub busy_by : {X K : Type 0} (refuses : K → List ℕ → Unavailable → Type 0) (waits : K → Bool) (keeper : K) (location : StoreLocation) (r : Result X Unavailable) → IfErr r (refuses keeper location.path.now) → waits keeper ≡ location.waits → r ≡ Err Busy → IsDeniedBy refuses waits location Busy
+busy_by refuses waits keeper location r denied asked is = (keeper, subst (λ q. IfErr q (refuses keeper location.path.now)) is denied, asked)
+
+-- it was noted, or another process had the store
+pub noted_or_busy : (Denied : Unavailable → Type 0) (noted : FirstTrouble) (denial : Unavailable) → (denial ≢ Busy → IsTrue (is_some noted.trouble)) → (denial ≡ Busy → Denied Busy) → IsNoted Denied noted
+noted_or_busy Denied noted Busy told was = inr (was refl)
+noted_or_busy Denied noted (Refused refusal) told was = inl (told (λ e. cc))
+
+-- ---- the first trouble
+
+pub kept_same : (a : FirstTrouble) → KeepsFirst a a
+kept_same a = (refl, some_same a.trouble)
+  where
+    some_same : (o : Option Trouble) → IfSome o (λ first. o ≡ Some first)
+    some_same None = tt
+    some_same (Some first) = refl
+
+pub kept_then : (a b c : FirstTrouble) → KeepsFirst a b → KeepsFirst b c → KeepsFirst a c
+kept_then a b c one two = (two.0 ∙ one.0, some_then a.trouble one.1)
+  where
+    some_then : (o : Option Trouble) → IfSome o (λ first. b.trouble ≡ Some first) → IfSome o (λ first. c.trouble ≡ Some first)
+    some_then None one = tt
+    some_then (Some first) one = subst (λ o. IfSome o (λ first. c.trouble ≡ Some first)) one two.1
+
+-- ---- reads
+
+-- of a session that ended
+pub reads_out : {X E : Type 0} (r : Result X E) (ToEnd Closed On : Type 0) → OnOk r (ToEnd ⊎ (Closed × On)) → OnOk r (ToEnd ⊎ On)
+reads_out (Ok x) ToEnd Closed On read = elim read [ inl all ↦ inl all | inr on ↦ inr on.1 ]
+reads_out (Err e) ToEnd Closed On read = tt
 
 -- where that is so of a keeper that refused
 module _ (Denied Given : Type 0) where

@@ -1,12 +1,29 @@
 -- Lemmas on what a run of reads takes from an input and a run of writes gives to an output.
-use Rattle.std.proofs.Common.{◌≡◌, ℕ, ◌+◌, List, Result, Ok, Err, OnErr, inl, [], ◌++◌, Option, Some, None, refl, sym, ap, ◌∙◌, subst, append_assoc, append-nil, take, drop, length, inr, is_ok, true, false}
+use Rattle.std.proofs.Common.{◌≡◌, ℕ, ◌+◌, List, Result, Ok, Err, OnErr, OnOk, inl, [], ◌++◌, Option, Some, None, refl, sym, ap, ◌∙◌, subst, append_assoc, append-nil, add-one, take, drop, length, inr, is_ok, true, false}
 use Rattle.std.proofs.Math.Seq.{take-add, take-append_seam, take-append-add}
 use Rattle.std.proofs.lemmas.List.{take-append-drop}
 use Rattle.std.specs.Io.KnownBytes.{Appends, Consumes, Keeps}
-use Rattle.sievedrun.specs.Streams.{AppendsFront, IsWritten, WriteFailed}
+use Rattle.sievedrun.specs.Streams.{AppendsFront, InTurn, IsWritten, ReadsAllOrNone, ReadsToEnd}
+use Rattle.sievedrun.specs.Streams.InTurn.{one_more}
 use Rattle.sievedrun.specs.Faults.{IsPut, IsPrinted}
 use Rattle.sievedrun.specs.declared.fault.Fault.{Fault}
-use Rattle.sievedrun.specs.declared.fault.Fault.TheVariants.{Stream}
+
+-- ---- turns
+
+-- one turn more
+pub one_turn : {X : Type 0} (Step : X → X → Type 0) (old : X) (count : ℕ) (mid new : X) → InTurn Step old count mid → Step mid new → InTurn Step old (count + 1) new
+one_turn Step old count mid new here step = rw add-one (one_more count mid new here step)
+
+-- so many are that many
+pub turns_as : {X : Type 0} (Step : X → X → Type 0) (old new : X) (count most : ℕ) → count ≡ most → InTurn Step old count new → InTurn Step old most new
+turns_as Step old new count most is turns = subst (λ n. InTurn Step old n new) is turns
+
+-- ---- reads
+
+-- an input that was read to its end was read to its end or not at all
+pub all_or_none : {R X E : Type 0} (remaining : R → Option (List ℕ)) (old new : R) (r : Result X E) → OnOk r (ReadsToEnd remaining old new) → OnOk r (ReadsAllOrNone remaining old new)
+all_or_none remaining old new (Ok x) read = inr read
+all_or_none remaining old new (Err e) read = tt
 
 -- before the first read nothing is taken
 pub nothing_read : (a : Option (List ℕ)) → Consumes a a []
@@ -19,13 +36,6 @@ read_on None b c read more first second = tt
 read_on (Some x) None c read more first second = absurd first
 read_on (Some x) (Some y) None read more first second = absurd second
 read_on (Some x) (Some y) (Some z) read more first second = first ∙ ap (λ l. read ++ l) second ∙ sym (append_assoc read more z)
-
--- a read that failed takes nothing
-pub read_none : (a b c : Option (List ℕ)) (read : List ℕ) → Consumes a b read → Keeps b c → Consumes a c read
-read_none None b c read first kept = tt
-read_none (Some x) None c read first kept = absurd first
-read_none (Some x) (Some y) None read first kept = absurd kept
-read_none (Some x) (Some y) (Some z) read first kept = first ∙ ap (λ l. read ++ l) (sym kept)
 
 -- the filled front of the room, and what one read put after it
 pub filled_on : (a b c : Option (List ℕ)) (old new : List ℕ) (filled n : ℕ) → take filled new ≡ take filled old → Consumes a b (take filled old) → Consumes b c (take n (drop filled new)) → Consumes a c (take (filled + n) new)
@@ -60,14 +70,6 @@ text_on a b c text rest at n split before more =
 pub kept_appends : (a b : Option (List ℕ)) → Keeps a b → Appends a b []
 kept_appends a b kept = written_none a a b [] (nothing_written a) kept
 
--- no more of the text is written, since a write failed; or all of it is
-pub text_cut : (a b c : Option (List ℕ)) (text : List ℕ) (at : ℕ) (fault : Fault) (r : Result (Unit {0}) Fault) → r ≡ Err fault → fault ≡ Stream → Appends a b (take at text) → Keeps b c → WriteFailed c → IsPut r a c text
-text_cut a b c text at fault r is stream before kept failed = subst (λ q. IsPut q a c text) (sym is) (stream, ((at, written_none a b c (take at text) before kept), failed))
-
-pub text_whole : (a b : Option (List ℕ)) (text rest : List ℕ) (at : ℕ) → rest ≡ drop at text → rest ≡ [] → Appends a b (take at text) → Appends a b text
-text_whole a b text rest at split none before =
-    subst (Appends a b) (sym (append-nil (take at text)) ∙ ap (λ l. take at text ++ l) (sym none ∙ split) ∙ take-append-drop at text) before
-
 -- ---- texts in turn
 
 -- a front of a text after all of another
@@ -95,9 +97,6 @@ flushed_then a b c text r one two = subst (IsPrinted r a c) (append-nil text) (p
 -- it broke off before what follows
 pub put_cut : (a b : Option (List ℕ)) (text more : List ℕ) (fault : Fault) (r : Result (Unit {0}) Fault) → r ≡ Err fault → IsPut (Err fault) a b text → IsPut r a b (text ++ more)
 put_cut a b text more fault r is cut = subst (λ q. IsPut q a b (text ++ more)) (sym is) (cut.0, (front_of a b text more cut.1.0, cut.1.1))
-
-pub printed_cut : (a b : Option (List ℕ)) (text more : List ℕ) (fault : Fault) (r : Result (Unit {0}) Fault) → r ≡ Err fault → IsPut (Err fault) a b text → IsPrinted r a b (text ++ more)
-printed_cut a b text more fault r is cut = subst (λ q. IsPrinted q a b (text ++ more)) (sym is) (cut.0, (front_of a b text more cut.1.0, cut.1.1))
 
 pub printed_cut_whole : (a b : Option (List ℕ)) (text : List ℕ) (fault : Fault) (r : Result (Unit {0}) Fault) → r ≡ Err fault → IsPut (Err fault) a b text → IsPrinted r a b text
 printed_cut_whole a b text fault r is cut = subst (λ q. IsPrinted q a b text) (sym is) cut

@@ -34,7 +34,7 @@ use Rattle.sievedrun.specs.declared.fault.Fault.TheVariants.{Refused, Stream, Ba
 use Rattle.sievedrun.specs.Draining.{TurnsTables}
 use Rattle.sievedrun.specs.Faults.{memory, status_of, IsFailure, IsSudden, IsHindered, IsPrinted}
 use Rattle.sievedrun.specs.Promise.{world_of}
-use Rattle.sievedrun.specs.Words.{Finishes, DeniedAtEnd, Tells, Makes, RefusesEvent, Puts, DoesEvent, Shows, FindsIn, HasNone, DoesRead, HasMessage, DoesInit, DoesNothing, LacksNothing}
+use Rattle.sievedrun.specs.Words.{Finishes, DeniedAtEnd, Tells, Makes, RefusesEvent, Puts, DoesEvent, Shows, FindsIn, HasNone, DoesRead, HasMessage, DoesInit, LacksNothing}
 
 -- ---- the output
 
@@ -483,9 +483,3 @@ pub init_made : (Denied : Fault → Type 0) (old out : Option (List ℕ)) (r : R
     → (held seen new : Database) → held.schema ≡ no_schema → Presents seen no_accounts → new ≡ seen → DoesInit Denied old out r held new
 init_made Denied old out (Ok done) printed held seen new blank made back = (blank, subst (λ db. Presents db no_accounts) (sym back) made, printed)
 init_made Denied old out (Err fault) printed held seen new blank made back = inr (blank, subst (λ db. Presents db no_accounts) (sym back) made, printed)
-
--- ---- the words
-
--- the words ask for nothing that there is
-pub nothing_done : (out : Option (List ℕ)) (held : Database) → DoesNothing out out (Err BadArgument) held held
-nothing_done out held = (refl, refl, kept_same out)

@@ -1,5 +1,5 @@
 -- One session over a reader, a writer and a keeper: in rounds, and what they leave.
-use Rattle.std.specs.Prelude.{◌≡◌, ◌⊎◌, ℕ, ◌≤◌, Bool, true, false, List, [], ◌∷◌, ◌++◌, length, Option, Some, None, Result, Ok, Err}
+use Rattle.std.specs.Prelude.{◌≡◌, ◌⊎◌, ℕ, ◌≤◌, Bool, true, false, List, [], ◌∷◌, ◌++◌, length, Option, Some, None, Result, Ok, Err, IfSome, IsTrue, is_some}
 use Rattle.std.specs.List.{flat_map}
 use Rattle.std.specs.Io.KnownBytes.{Appends, Consumes, IsAtEnd}
 use Rattle.sqlite.specs.Effect.{Database}
@@ -14,10 +14,12 @@ use Rattle.sessions.specs.Refusing.{WasRefused}
 use Rattle.sessions.specs.Replies.{capabilities}
 use Rattle.sessions.specs.Steps.{IsStep}
 use Rattle.keepers.specs.declared.keeper.Unavailable.{Unavailable}
+use Rattle.keepers.specs.declared.keeper.Unavailable.TheVariants.{Busy}
 use Rattle.sievedwords.specs.declared.location.StoreLocation.{StoreLocation}
 use Rattle.sievedrun.specs.declared.fault.Fault.{Fault}
 use Rattle.sievedrun.specs.Faults.{denial_fault}
-use Rattle.sievedrun.specs.Streams.{AppendsFront}
+use Rattle.sievedrun.specs.Streams.{AppendsFront, InTurn}
+use Rattle.sievedrun.specs.declared.trouble.FirstTrouble.{FirstTrouble}
 
 -- a piece of the client's octets has at most that many
 abbrev pub largest_piece : ℕ
@@ -55,6 +57,10 @@ pub record Steps (Given : Type 0) (accounts : Accounts) (c : Client) (r : Round)
 abbrev pub IsDenied : {K : Type 0} → (K → List ℕ → Unavailable → Type 0) → (K → Bool) → StoreLocation → Type 0
 IsDenied refuses waits location = (keeper : _) × (denial : Unavailable) × refuses keeper location.path.now denial × (waits keeper ≡ location.waits)
 
+-- such a keeper refused so
+abbrev pub IsDeniedBy : {K : Type 0} → (K → List ℕ → Unavailable → Type 0) → (K → Bool) → StoreLocation → Unavailable → Type 0
+IsDeniedBy refuses waits location denial = (keeper : _) × refuses keeper location.path.now denial × (waits keeper ≡ location.waits)
+
 -- the same, and this fault tells why
 abbrev pub HasDenied : {K : Type 0} → (K → List ℕ → Unavailable → Type 0) → (K → Bool) → StoreLocation → Fault → Type 0
 HasDenied refuses waits location fault = (keeper : _) × (denial : Unavailable) × refuses keeper location.path.now denial × (waits keeper ≡ location.waits) × (fault ≡ denial_fault denial)
@@ -66,6 +72,26 @@ HasGiven gives waits location = (keeper : _) × gives keeper location.path.now �
 -- why what comes first can't be answered: the lock or the store was denied, or its step was refused
 abbrev pub Hinders : Type 0 → Client → Type 0
 Hinders Denied c = Denied ⊎ WasRefused c
+
+-- answers of that many octets, or more, aren't held back for those of other commands
+abbrev pub largest_wait : ℕ
+largest_wait = 65536
+
+-- something stood ready
+abbrev pub StoodReady : Client → Client → Type 0
+StoodReady c d = is_ready c ≡ true
+
+-- where answering stops: nothing stands ready, so much waits to be written, or as many answers were given as are given at all
+abbrev pub StopsAt : Client → List ℕ → Client → Type 0
+StopsAt c waits d = (is_ready d ≡ false) ⊎ (largest_wait ≤ length waits) ⊎ InTurn StoodReady c 18446744073709551615 d
+
+-- of the troubles of a connection the first is kept, and whether it was told
+abbrev pub KeepsFirst : FirstTrouble → FirstTrouble → Type 0
+KeepsFirst old new = (new.is_told ≡ old.is_told) × IfSome old.trouble (λ first. new.trouble ≡ Some first)
+
+-- a trouble is noted; or another process had the store, which is none
+abbrev pub IsNoted : (Unavailable → Type 0) → FirstTrouble → Type 0
+IsNoted Denied noted = IsTrue (is_some noted.trouble) ⊎ Denied Busy
 
 -- what comes first can't be answered now, and was given up
 pub record GivesUp (Denied : Type 0) (accounts : Accounts) (c : Client) (r : Round) : Type 0 where

@@ -1,6 +1,6 @@
 -- What is read of an input and written to an output, where their octets are known.
-use Rattle.std.specs.Prelude.{◌≡◌, ◌≢◌, ◌⊎◌, ℕ, List, Option, Some, None, take}
-use Rattle.std.specs.Io.KnownBytes.{Appends}
+use Rattle.std.specs.Prelude.{◌≡◌, ◌≢◌, ◌⊎◌, ℕ, suc, List, [], Option, Some, None, take}
+use Rattle.std.specs.Io.KnownBytes.{Appends, Consumes, IsAtEnd}
 use Rattle.std.specs.IoError.{error_kind}
 use Rattle.std_io.specs.declared.io.error.Error.{Error}
 use Rattle.std_io.specs.declared.io.kind.ErrorKind.TheVariants.{Interrupted}
@@ -18,8 +18,57 @@ AppendsFront old new text = (k : ℕ) × Appends old new (take k text)
 abbrev pub AppendsSome : Option (List ℕ) → Option (List ℕ) → Type 0
 AppendsSome old new = (more : List ℕ) × Appends old new more
 
--- a read of a reader that has these octets left failed, not since a signal came before it; or more reads were needed than are made. The definition is
--- shut, and only the functions of `stream`, and `converse` behind its last read, say it: so who can say it made such a read
+-- ---- calls of a reader or writer, one after the other. Which octets a state of it has left, or holds, is told by a function, where those are known
+
+-- a signal came before a call that led from one state of a reader or writer to the other. The definition is shut, and `read_at` and `write_some` alone
+-- say it: so who can say it made such a call
+pub WasInterrupted : {X : Type 0} → X → X → Type 0
+WasInterrupted old new = Unit {0}
+
+-- a read that led from one state of a reader to the other told that nothing is left. This too is shut, and `read_at` alone says it
+pub TellsEnd : {R : Type 0} → R → R → Type 0
+TellsEnd old new = Unit {0}
+
+-- for the proofs of those functions alone
+pub was_interrupted : {X : Type 0} (old new : X) (error : Error) → error_kind error ≡ Interrupted → WasInterrupted old new
+unfolding WasInterrupted
+was_interrupted old new error signal = tt
+
+pub tells_end : {R : Type 0} (remaining : R → Option (List ℕ)) (old new : R) → Consumes (remaining old) (remaining new) [] → IsAtEnd (remaining new) → TellsEnd old new
+unfolding TellsEnd
+tells_end remaining old new nothing none = tt
+
+-- a read gave octets, at least one; or a signal came before it
+abbrev pub GoesOn : {R : Type 0} → (R → Option (List ℕ)) → R → R → Type 0
+GoesOn remaining old new = ((octets : List ℕ) × (octets ≢ []) × Consumes (remaining old) (remaining new) octets) ⊎ WasInterrupted old new
+
+-- a write took octets, at least one; or a signal came before it
+abbrev pub Takes : {W : Type 0} → (W → Option (List ℕ)) → W → W → Type 0
+Takes contents old new = ((octets : List ℕ) × (octets ≢ []) × Appends (contents old) (contents new) octets) ⊎ WasInterrupted old new
+
+-- so many steps in turn led here
+pub data InTurn {X : Type 0} (Step : X → X → Type 0) (old : X) : ℕ → X → Type 0 where
+  none_yet : InTurn Step old 0 old
+  one_more : (count : ℕ) (mid new : X) → InTurn Step old count mid → Step mid new → InTurn Step old (suc count) new
+
+-- reads in turn, each of which went on
+abbrev pub ReadsOn : {R : Type 0} → (R → Option (List ℕ)) → R → R → Type 0
+ReadsOn remaining old new = (count : ℕ) × InTurn (GoesOn remaining) old count new
+
+-- reads in turn went on, and the one after them, which is the last, told that nothing is left
+pub record ReadsToEnd {R : Type 0} (remaining : R → Option (List ℕ)) (old new : R) : Type 0 where
+  pub mid : R
+  pub reads : ReadsOn remaining old mid
+  pub ends : TellsEnd mid new
+
+-- no read was made, or the input was read to its end
+abbrev pub ReadsAllOrNone : {R : Type 0} → (R → Option (List ℕ)) → R → R → Type 0
+ReadsAllOrNone remaining old new = (new ≡ old) ⊎ ReadsToEnd remaining old new
+
+-- ---- failures
+
+-- a read of a reader that has these octets left failed, not since a signal came before it; or as many reads as are made went on, and none told the end.
+-- The definition is shut, and only the functions of `stream`, and `converse` behind its last read, say it: so who can say it made such reads
 pub ReadFailed : Option (List ℕ) → Type 0
 ReadFailed left = Unit {0}
 
@@ -28,22 +77,30 @@ pub read_failed : (left : Option (List ℕ)) (error : Error) → error_kind erro
 unfolding ReadFailed
 read_failed left error other = tt
 
-pub reads_end : (left : Option (List ℕ)) → ReadFailed left
+pub reads_end : {R : Type 0} (remaining : R → Option (List ℕ)) (old new : R) → InTurn (GoesOn remaining) old 40000000 new → ReadFailed (remaining new)
 unfolding ReadFailed
-reads_end left = tt
+reads_end remaining old new all = tt
 
--- a write to a writer that has these octets failed so, or took nothing, or its flush failed; or more writes were needed than are made
+-- a write to a writer that has these octets failed so, or took nothing, or its flush failed; or as many turns as are made went on, and none was the last
 pub WriteFailed : Option (List ℕ) → Type 0
 WriteFailed held = Unit {0}
 
--- of a write, and of all else
+-- of a write; of one that took nothing of a text, or of a flush; and behind the last turn
 pub write_failed : (held : Option (List ℕ)) (error : Error) → error_kind error ≢ Interrupted → WriteFailed held
 unfolding WriteFailed
 write_failed held error other = tt
 
-pub writes_end : (held : Option (List ℕ)) → WriteFailed held
+pub took_nothing : (held : Option (List ℕ)) (text : List ℕ) → text ≢ [] → WriteFailed held
 unfolding WriteFailed
-writes_end held = tt
+took_nothing held text some = tt
+
+pub flush_failed : (held : Option (List ℕ)) (error : Error) → WriteFailed held
+unfolding WriteFailed
+flush_failed held error = tt
+
+pub turns_end : {X : Type 0} (held : Option (List ℕ)) (Step : X → X → Type 0) (old new : X) → InTurn Step old 18446744073709551615 new → WriteFailed held
+unfolding WriteFailed
+turns_end held Step old new all = tt
 
 -- a writer that has these octets was flushed. This too is shut, and `flush` alone says it
 pub WasFlushed : Option (List ℕ) → Type 0

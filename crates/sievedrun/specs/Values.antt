@@ -20,6 +20,10 @@ HasNoNumber None = ⊥
 abbrev pub WritesSalt : List ℕ → List ℕ → Type 0
 WritesSalt digits salt = decode_sized digits 16 ≡ Ok salt
 
+-- these digits write no port
+abbrev pub IsNoPort : List ℕ → Type 0
+IsNoPort digits = (port : ℕ) → port < 65536 → Writes digits port → ⊥
+
 -- no salt is written so
 abbrev pub IsNoSalt : List ℕ → Type 0
 IsNoSalt digits = (salt : List ℕ) → WritesSalt digits salt → ⊥

@@ -7,7 +7,7 @@ ghost use Rattle.mailengine.specs.declared.event.Event.TheVariants as machine;
 ghost use Rattle.sievedrun.specs.Draining.{TurnsTables};
 ghost use Rattle.sievedrun.specs.Promise.{status_after};
 ghost use Rattle.sievedrun.specs.Serving.{HasDenied, HasGiven};
-ghost use Rattle.sievedrun.specs.Streams.{InputFailed};
+ghost use Rattle.sievedrun.specs.Streams.{InputFailed, ReadsToEnd};
 ghost use Rattle.sievedrun.specs.Values.{IsNoNumber, HasNoNumber, IsNoSalt};
 ghost use Rattle.sievedrun.specs.Words.{Adds, Posts, PostFailed, DeniedAtEnd, Puts, DoesEvent, DoesRead, DoesInit, ShowsMessage, LacksMessage};
 
@@ -48,6 +48,7 @@ pub fn run_adduser<R: Read, W: Write, K: Keeper>(
     keeper: &mut K,
 ) -> Result<(), Fault>
     ensures unread { status_after result ≡ 64 → input.new ≡ input.old }
+    ensures reads { OnOk result (ReadsToEnd R.remaining input.old input.new) }
     ensures back { K.is_out keeper.old ≡ false → K.is_out keeper.new ≡ false }
     ensures does { IsTrue K.tells → DoesEvent InputFailed (IsNoSalt asked.entry.salt.now)
         (DeniedAtEnd (HasDenied K.refuses K.will_wait asked.entry.location) (R.remaining input.new))
@@ -105,6 +106,7 @@ pub fn run_deliver<R: Read, W: Write, K: Keeper>(
     keeper: &mut K,
 ) -> Result<(), Fault>
     ensures unread { status_after result ≡ 64 → input.new ≡ input.old }
+    ensures reads { OnOk result (ReadsToEnd R.remaining input.old input.new) }
     ensures back { K.is_out keeper.old ≡ false → K.is_out keeper.new ≡ false }
     ensures does { IsTrue K.tells → DoesEvent (PostFailed (option_copied asked.entry.at) clock) (HasNoNumber (option_copied asked.entry.at))
         (DeniedAtEnd (HasDenied K.refuses K.will_wait asked.entry.location) (R.remaining input.new))

@@ -4,7 +4,7 @@ ghost use Rattle.sievedrun.specs.Draining.{HasRefused};
 ghost use Rattle.sievedrun.specs.Faults.{cause_of, status_of, text_said, told_of, troubles, AreTold};
 ghost use Rattle.sievedrun.specs.Promise.{status_after};
 ghost use Rattle.sievedrun.specs.Serving.{HasDenied, HasGiven};
-ghost use Rattle.sievedrun.specs.Streams.{IsWritten};
+ghost use Rattle.sievedrun.specs.Streams.{IsWritten, ReadsAllOrNone, ReadsToEnd};
 ghost use Rattle.sievedrun.specs.TryScript.{Runs};
 ghost use Rattle.sievedrun.specs.Values.{envelope_with};
 ghost use Rattle.sievedrun.specs.Words.{Does, IsSaid, IsUnread, Reaches, RunsWords};
@@ -49,6 +49,7 @@ pub fn drive<R: Read, W: Write, E: Write, K: Keeper, T: MailSink>(
     sink: &mut T,
 ) -> u8
     ensures unread { result ≡ 64 → input.new ≡ input.old }
+    ensures reads { result ≡ 0 → ReadsAllOrNone R.remaining input.old input.new }
     ensures back { K.is_out keeper.old ≡ false → K.is_out keeper.new ≡ false }
     ensures runs { IsTrue K.tells → RunsWords (HasDenied K.refuses K.will_wait) (HasRefused T.refuses) (HasGiven K.gives K.will_wait) (T.is_at sink.new)
         (cause_of (K.said keeper.new) (text_said (T.said sink.new))) clock
@@ -78,6 +79,7 @@ fn try_script<R: Read, W: Write, E: Write>(
     errors: &mut E,
 ) -> u8
     ensures unread { result ≡ 64 → input.new ≡ input.old }
+    ensures reads { result ≡ 0 → ReadsToEnd R.remaining input.old input.new }
     ensures runs { Runs (envelope_with asked.entry.from.now asked.entry.to.now) (R.remaining input.old) (W.contents output.old) (W.contents output.new)
         (E.contents errors.old) (E.contents errors.new) result }
 {
@@ -98,6 +100,7 @@ fn act<R: Read, W: Write, K: Keeper, T: MailSink>(
     sink: &mut T,
 ) -> Result<(), Fault>
     ensures unread { status_after result ≡ 64 → input.new ≡ input.old }
+    ensures reads { OnOk result (ReadsAllOrNone R.remaining input.old input.new) }
     ensures back { K.is_out keeper.old ≡ false → K.is_out keeper.new ≡ false }
     ensures does { IsTrue K.tells → Does (HasDenied K.refuses K.will_wait) (HasRefused T.refuses) clock (R.remaining input.old) (R.remaining input.new)
         T.tells (T.kept sink.old) (T.kept sink.new) (W.contents output.old) (W.contents output.new) asked.entry result

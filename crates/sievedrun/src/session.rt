@@ -1,5 +1,5 @@
 //! One client's session over a reader and a writer, and a store that is taken for the commands that came together.
-ghost use Rattle.std.specs.Prelude.{◌≡◌, ◌≢◌, ℕ, List, Option, Some, None, Result, is_ok, is_some, false, true, IsTrue, IfOk, IfErr, IfSome, OnOk, OnErr, option_copied};
+ghost use Rattle.std.specs.Prelude.{◌≡◌, ◌≢◌, ◌⊎◌, ℕ, List, Option, Some, None, Result, is_ok, is_some, false, true, IsTrue, IfOk, IfErr, IfSome, OnOk, OnErr, option_copied};
 ghost use Rattle.keepers.specs.declared.keeper.Unavailable.TheVariants.{Busy};
 ghost use Rattle.sqlite.specs.Held.{state};
 ghost use Rattle.mailstore.specs.Account.{Accounts};
@@ -12,9 +12,9 @@ ghost use Rattle.sievedrun.specs.declared.fault.Fault.{Fault};
 ghost use Rattle.sievedrun.specs.declared.fault.Fault.TheVariants.{Stream};
 ghost use Rattle.sievedrun.specs.Faults.{IsCutShort, store_failed};
 ghost use Rattle.sievedrun.specs.Promise.{status_after};
-ghost use Rattle.sievedrun.specs.Serving.{Answered, AreSeen, Converses, HasGiven, IsDenied, Hinders, PresentsSeen, Served};
-ghost use Rattle.sievedrun.specs.Streams.{OutputFailed};
-ghost use Rattle.sievedrun.specs.Serving.{ServesBy, StepsOn, WritesAll, WritesFirst, database_seen};
+ghost use Rattle.sievedrun.specs.Serving.{Answered, AreSeen, Converses, HasGiven, Hinders, IsDenied, IsDeniedBy, IsNoted, KeepsFirst, PresentsSeen, Served};
+ghost use Rattle.sievedrun.specs.Serving.{ServesBy, StepsOn, StopsAt, WritesAll, WritesFirst, database_seen};
+ghost use Rattle.sievedrun.specs.Streams.{OutputFailed, ReadsOn, ReadsToEnd};
 
 use crate::fault::{Fault, refuse};
 use crate::stream::{MAX_READS, read_at, write_all};
@@ -56,6 +56,7 @@ pub fn serve_one<R: Read, W: Write, K: Keeper>(
     ensures back { K.is_out keeper.old ≡ false → K.is_out keeper.new ≡ false }
     ensures serves { IsTrue K.tells → K.is_out keeper.old ≡ false
         → ServesBy R.remaining input.old input.new W.contents output.old output.new K.refuses K.gives K.will_wait location.entry K.holds keeper.old keeper.new result }
+    ensures reads { OnOk result (ReadsToEnd R.remaining input.old input.new ⊎ ReadsOn R.remaining input.old input.new) }
     ensures fault { IfErr result IsCutShort }
 {
     let mut errors = io::sink();
@@ -75,6 +76,7 @@ pub fn serve_client<R: Read, W: Write, E: Write, K: Keeper>(
     ensures back { K.is_out keeper.old ≡ false → K.is_out keeper.new ≡ false }
     ensures serves { IsTrue K.tells → K.is_out keeper.old ≡ false
         → ServesBy R.remaining input.old input.new W.contents output.old output.new K.refuses K.gives K.will_wait location.entry K.holds keeper.old keeper.new result }
+    ensures reads { OnOk result (ReadsToEnd R.remaining input.old input.new ⊎ ReadsOn R.remaining input.old input.new) }
     ensures fault { IfErr result IsCutShort }
 {
     let mut greeting = Octets::new(alloc);
@@ -93,6 +95,7 @@ pub fn run_session<R: Read, W: Write, E: Write, K: Keeper>(
     keeper: &mut K,
 ) -> u8
     ensures back { K.is_out keeper.old ≡ false → K.is_out keeper.new ≡ false }
+    ensures reads { result ≡ 0 → ReadsToEnd R.remaining input.old input.new ⊎ ReadsOn R.remaining input.old input.new }
     ensures serves { IsTrue K.tells → K.is_out keeper.old ≡ false → (ending : Result (Unit {0}) Fault) × (result ≡ status_after ending) × IfErr ending IsCutShort
         × ServesBy R.remaining input.old input.new W.contents output.old output.new K.refuses K.gives K.will_wait location.entry K.holds keeper.old keeper.new
         ending }
@@ -114,6 +117,8 @@ fn converse<R: Read, W: Write, E: Write, K: Keeper>(
     keeper: &mut K,
 ) -> Result<(), Fault>
     requires { session.old.client.closed ≡ false }
+    ensures reads { OnOk result (ReadsToEnd R.remaining input.old input.new
+        ⊎ ((session.new.client.closed ≡ true) × ReadsOn R.remaining input.old input.new)) }
     ensures back { K.is_out keeper.old ≡ false → K.is_out keeper.new ≡ false }
     ensures serves { IsTrue K.tells → K.is_out keeper.old ≡ false → (accounts : Accounts) (first_in first_out : Option (List ℕ))
         → Served (IsDenied K.refuses K.will_wait location.entry) (HasGiven K.gives K.will_wait location.entry) accounts first_in (R.remaining input.old) first_out
@@ -151,6 +156,7 @@ fn answer_all<W: Write, K: Keeper>(
     trouble: &mut FirstTrouble,
     keeper: &mut K,
 ) -> Result<(), Fault>
+    ensures kept { KeepsFirst trouble.old trouble.new }
     ensures back { K.is_out keeper.old ≡ false → K.is_out keeper.new ≡ false }
     ensures answers { IsTrue K.tells → K.is_out keeper.old ≡ false → (accounts : Accounts) → Offers (K.holds keeper.old) accounts
         → WritesAll (IsDenied K.refuses K.will_wait location.entry) (HasGiven K.gives K.will_wait location.entry) accounts session.old.client (W.contents output.old)
@@ -179,6 +185,7 @@ fn answer_some<W: Write, K: Keeper>(
     keeper: &mut K,
 ) -> Result<(), Fault>
     requires { is_ready session.old.client ≡ true }
+    ensures kept { KeepsFirst trouble.old trouble.new }
     ensures back { K.is_out keeper.old ≡ false → K.is_out keeper.new ≡ false }
     ensures answers { IsTrue K.tells → K.is_out keeper.old ≡ false → (accounts : Accounts) → Offers (K.holds keeper.old) accounts
         → WritesFirst (IsDenied K.refuses K.will_wait location.entry) (HasGiven K.gives K.will_wait location.entry) accounts session.old.client (W.contents output.old)
@@ -210,7 +217,10 @@ fn answer_under_lock<K: Keeper>(
     ensures answers { IsTrue K.tells → (accounts : Accounts) → Offers (K.holds keeper.old) accounts
         → Answered (IsDenied K.refuses K.will_wait location.entry) (HasGiven K.gives K.will_wait location.entry) accounts session.old.client answers.old answers.new session.new.client
         (Offers (K.holds keeper.new)) }
+    ensures whole { IsTrue result → StopsAt session.old.client answers.new session.new.client }
     ensures stopped { result ≡ false → is_ready session.new.client ≡ true }
+    ensures noted { result ≡ false → K.is_out keeper.old ≡ false → IsNoted (IsDeniedBy K.refuses K.will_wait location.entry) trouble.new }
+    ensures kept { KeepsFirst trouble.old trouble.new }
     ensures cause { result ≡ false → K.is_out keeper.old ≡ false → Hinders (IsDenied K.refuses K.will_wait location.entry) session.new.client }
     ensures none { IsTrue K.tells → (K.holds keeper.old).schema ≡ no_schema → (K.holds keeper.new).schema ≡ no_schema }
     ensures asked { K.unclosed keeper.old ≡ None → K.unclosed keeper.new ≡ None }
@@ -268,7 +278,9 @@ fn answer_ready<K: Keeper>(
         → AreSeen (HasGiven K.gives K.will_wait location.entry) (λ s. (state K.S.Store s).now) (K.holds keeper.old) store.old accounts
         → Answered (IsDenied K.refuses K.will_wait location.entry) (HasGiven K.gives K.will_wait location.entry) accounts session.old.client answers.old answers.new session.new.client
         (AreSeen (HasGiven K.gives K.will_wait location.entry) (λ s. (state K.S.Store s).now) (K.holds keeper.new) store.new) }
+    ensures whole { OnOk result (StopsAt session.old.client answers.new session.new.client) }
     ensures stopped { OnErr result (is_ready session.new.client ≡ true) }
+    ensures busy { result ≡ Err Busy → IsDeniedBy K.refuses K.will_wait location.entry Busy }
     ensures cause { OnErr result (Hinders (IsDenied K.refuses K.will_wait location.entry) session.new.client) }
     ensures none { IsTrue K.tells → (K.holds keeper.old).schema ≡ no_schema → store.old ≡ None
         → (K.holds keeper.new ≡ K.holds keeper.old) × (store.new ≡ None) }
@@ -298,6 +310,7 @@ fn answer_first<K: Keeper>(
         (AreSeen (HasGiven K.gives K.will_wait location.entry) (λ s. (state K.S.Store s).now) (K.holds keeper.new) store.new) (is_ok result) }
     ensures same { OnErr result ((session.new ≡ session.old) × (answers.new ≡ answers.old)) }
     ensures cause { OnErr result (Hinders (IsDenied K.refuses K.will_wait location.entry) session.new.client) }
+    ensures busy { result ≡ Err Busy → IsDeniedBy K.refuses K.will_wait location.entry Busy }
     ensures none { IsTrue K.tells → (K.holds keeper.old).schema ≡ no_schema → store.old ≡ None
         → (K.holds keeper.new ≡ K.holds keeper.old) × (store.new ≡ None) }
     ensures closed { K.unclosed keeper.new ≡ K.unclosed keeper.old }
@@ -327,6 +340,7 @@ fn answer_over_store<K: Keeper>(
         (AreSeen (HasGiven K.gives K.will_wait location.entry) (λ s. (state K.S.Store s).now) (K.holds keeper.new) store.new) (is_ok result) }
     ensures same { OnErr result ((session.new ≡ session.old) × (answers.new ≡ answers.old)) }
     ensures cause { OnErr result (Hinders (IsDenied K.refuses K.will_wait location.entry) session.new.client) }
+    ensures busy { result ≡ Err Busy → IsDeniedBy K.refuses K.will_wait location.entry Busy }
     ensures none { IsTrue K.tells → (K.holds keeper.old).schema ≡ no_schema → store.old ≡ None
         → (K.holds keeper.new ≡ K.holds keeper.old) × (store.new ≡ None) }
     ensures closed { K.unclosed keeper.new ≡ K.unclosed keeper.old }
@@ -352,6 +366,7 @@ fn open_store<K: Keeper>(
     ensures ours { OnOk result (IsTrue K.tells → store.old ≡ None → IsKnown (K.holds keeper.old)) }
     ensures refused { OnErr result ((IsTrue K.tells → K.holds keeper.new ≡ K.holds keeper.old) × (store.new ≡ store.old)) }
     ensures denied { OnErr result (IsDenied K.refuses K.will_wait location.entry) }
+    ensures busy { result ≡ Err Busy → IsDeniedBy K.refuses K.will_wait location.entry Busy }
     ensures closed { K.unclosed keeper.new ≡ K.unclosed keeper.old }
 {
     match store.take() {
@@ -367,6 +382,7 @@ fn open_store<K: Keeper>(
 fn note_denial<K: Keeper>(trouble: &mut FirstTrouble, denial: Unavailable, keeper: &K)
     ensures busy { denial ≡ Busy → trouble.new ≡ trouble.old }
     ensures noted { denial ≢ Busy → IsTrue (is_some trouble.new.trouble) }
+    ensures later { IfSome trouble.old.trouble (λ first. trouble.new.trouble ≡ Some first) }
     ensures told { trouble.new.is_told ≡ trouble.old.is_told }
 {
     if let Unavailable::Refused(refusal) = denial {

@@ -1,10 +1,10 @@
 //! Reading all of an input, and writing a text, with what is left where that fails.
-ghost use Rattle.std.specs.Prelude.{◌≡◌, ◌≢◌, ◌+◌, ◌<◌, ◌≤◌, ◌++◌, [], take, drop, decimal, length, vec_len, unwrap_or, IfOk, IfErr, OnOk, OnErr};
+ghost use Rattle.std.specs.Prelude.{◌≡◌, ◌≢◌, ◌+◌, ◌<◌, ◌≤◌, ◌++◌, [], Some, None, take, drop, decimal, length, vec_len, unwrap_or, IfOk, IfErr, IfSome, OnOk, OnErr};
 ghost use Rattle.std.specs.Io.KnownBytes.{Appends, Consumes, IsAtEnd, Keeps};
 ghost use Rattle.std.specs.IoError.{error_kind};
 ghost use Rattle.reportlines.specs.Reports.{with_end};
 ghost use Rattle.sievedrun.specs.Faults.{IsFailure, IsPrinted, IsPut};
-ghost use Rattle.sievedrun.specs.Streams.{ReadsAll, InputFailed, ReadFailed, WriteFailed};
+ghost use Rattle.sievedrun.specs.Streams.{GoesOn, InputFailed, ReadFailed, ReadsAll, ReadsToEnd, Takes, TellsEnd, WasInterrupted, WriteFailed};
 
 use crate::fault::Fault;
 use itoa::Buffer;
@@ -22,6 +22,7 @@ const PIECE: usize = 262_144;
 pub fn read_all<R: Read>(alloc: Global, input: &mut R) -> Result<Vec<u8>, Fault>
     ensures ok { IfOk result (λ octets. ReadsAll (R.remaining input.old) octets.items) }
     ensures end { OnOk result (IsAtEnd (R.remaining input.new)) }
+    ensures reads { OnOk result (ReadsToEnd R.remaining input.old input.new) }
     ensures err { IfErr result IsFailure }
     ensures failed { IfErr result (λ fault. fault ≡ Fault.Stream → InputFailed) }
 {
@@ -60,7 +61,10 @@ pub fn read_at<R: Read>(input: &mut R, room: &mut [u8], at: usize) -> Result<Opt
     ensures fits { IfOk result (λ more. at + unwrap_or more 0 ≤ length room.new) }
     ensures read { IfOk result (λ more. Consumes (R.remaining input.old) (R.remaining input.new)
         (take (unwrap_or more 0) (drop at room.new))) }
+    ensures goes { IfOk result (λ more. IfSome more (λ count. GoesOn R.remaining input.old input.new)) }
+    ensures interrupted { result ≡ Ok (Some 0) → WasInterrupted input.old input.new }
     ensures end { result ≡ Ok None → IsAtEnd (R.remaining input.new) }
+    ensures tells { result ≡ Ok None → TellsEnd input.old input.new }
     ensures fault { IfErr result (λ fault. fault ≡ Fault.Stream) }
     ensures failed { OnErr result (ReadFailed (R.remaining input.new)) }
 {
@@ -136,8 +140,11 @@ pub fn put<W: Write>(output: &mut W, text: &[u8]) -> Result<(), Fault>
 
 /// One write: how many octets of the text are written, none of them where a signal came first.
 fn write_some<W: Write>(output: &mut W, text: &[u8]) -> Result<usize, Fault>
+    requires { text.now ≢ [] }
     ensures bound { IfOk result (λ n. n ≤ length text.now) }
     ensures ok { IfOk result (λ n. Appends (W.contents output.old) (W.contents output.new) (take n text.now)) }
+    ensures takes { OnOk result (Takes W.contents output.old output.new) }
+    ensures interrupted { result ≡ Ok 0 → WasInterrupted output.old output.new }
     ensures err { OnErr result (Keeps (W.contents output.old) (W.contents output.new)) }
     ensures failed { OnErr result (WriteFailed (W.contents output.new)) }
     ensures fault { IfErr result (λ fault. fault ≡ Fault.Stream) }

@@ -59,7 +59,10 @@ pub struct FirstTrouble {
 
 impl FirstTrouble {
     /// None yet.
-    pub fn none() -> FirstTrouble {
+    pub fn none() -> FirstTrouble
+        ensures none { result.trouble ≡ None }
+        ensures untold { result.is_told ≡ false }
+    {
         FirstTrouble {
             trouble: None,
             is_told: false,

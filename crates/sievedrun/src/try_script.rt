@@ -1,5 +1,6 @@
 //! One script tried on one message.
-ghost use Rattle.std.specs.Prelude.{◌≡◌};
+ghost use Rattle.std.specs.Prelude.{◌≡◌, OnOk};
+ghost use Rattle.sievedrun.specs.Streams.{ReadsToEnd};
 ghost use Rattle.sievedrun.specs.TryScript.{LeavesOutput, Runs};
 
 use crate::answer::{Answer, answer_to};
@@ -20,7 +21,8 @@ pub fn try_run<R: Read, W: Write, E: Write>(
     output: &mut W,
     errors: &mut E,
 ) -> u8
-    ensures { Runs envelope (R.remaining input.old) (W.contents output.old) (W.contents output.new)
+    ensures reads { result ≡ 0 → ReadsToEnd R.remaining input.old input.new }
+    ensures runs { Runs envelope (R.remaining input.old) (W.contents output.old) (W.contents output.new)
         (E.contents errors.old) (E.contents errors.new) result }
 {
     match print_answer(alloc, envelope, input, output) {
@@ -36,7 +38,8 @@ fn print_answer<R: Read, W: Write>(
     input: &mut R,
     output: &mut W,
 ) -> Result<Answer, Fault>
-    ensures { LeavesOutput envelope (R.remaining input.old) (W.contents output.old) (W.contents output.new) result }
+    ensures reads { OnOk result (ReadsToEnd R.remaining input.old input.new) }
+    ensures leaves { LeavesOutput envelope (R.remaining input.old) (W.contents output.old) (W.contents output.new) result }
 {
     let octets = stream::read_all(alloc, input)?;
     let answer = answer_to(alloc, envelope, octets.as_slice())?;

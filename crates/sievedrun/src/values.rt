@@ -4,7 +4,7 @@ ghost use Rattle.std.specs.List.{prefix_len};
 ghost use Rattle.octets.specs.Decimal.{Writes};
 ghost use Rattle.sievedrun.specs.Promise as promise;
 ghost use Rattle.sievedrun.specs.Promise.{is_in_line};
-ghost use Rattle.sievedrun.specs.Values.{IsNoNumber, HasNoNumber, WritesSalt, IsNoSalt, IsMoment, IsSeparator, HasNoSeparator, envelope_with};
+ghost use Rattle.sievedrun.specs.Values.{IsNoNumber, HasNoNumber, IsNoPort, WritesSalt, IsNoSalt, IsMoment, IsSeparator, HasNoSeparator, envelope_with};
 
 use crate::fault::Fault;
 use hex::FromHex;
@@ -27,6 +27,7 @@ pub fn decimal(text: &str) -> Result<u64, Fault>
 pub fn port_of(text: &str) -> Result<u16, Fault>
     ensures ok { IfOk result (λ port. Writes text.now port) }
     ensures fault { IfErr result (λ fault. fault ≡ Fault.BadArgument) }
+    ensures none { IfErr result (λ fault. IsNoPort text.now) }
 {
     match u16::try_from(decimal(text)?) {
         Ok(port) => Ok(port),

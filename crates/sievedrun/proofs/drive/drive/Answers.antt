@@ -7,6 +7,7 @@ use Rattle.sievedrun.specs.Faults.{cause_of, text_said}
 use Rattle.sievedrun.specs.Serving.{HasDenied, HasGiven}
 use Rattle.sievedrun.specs.Words.{Does}
 use Rattle.sievedrun.proofs.RunLemmas.{ran}
+use Rattle.sievedrun.proofs.StatusLemmas.{done_so}
 use Rattle.sievedrun.proofs.drive.drive.Goals as goal
 
 pub returns-in_default : goal.returns-in_default
@@ -22,6 +23,7 @@ returns-in_default g c =
     let asked = c.in-Ok.asked in
     record {
       unread = λ is. c.act-done.ensures.unread (sym told.status ∙ is);
+      reads = λ is. done_so c.act-done.result _ c.act-done.ensures.reads (sym told.status ∙ is);
       back = λ h. told.kept ∙ c.act-done.ensures.back h;
       runs = λ tells. (
         Ok asked,

@@ -8,7 +8,7 @@ use Rattle.sievedrun.proofs.drive.try_script.Goals as goal
 pub returns-in-Ok-clause-runs : goal.returns-in-Ok-clause-runs
 returns-in-Ok-clause-runs g c =
     subst (λ envelope. Runs envelope (g.R.Read.remaining c.args.input.now) (g.W.Write.contents c.args.output.now) (g.W.Write.contents c.try_run.new.output) (g.E.Write.contents c.args.errors.now) (g.E.Write.contents c.try_run.new.errors) c.try_run.result)
-    c.in-Ok.ensures c.try_run.ensures
+    c.in-Ok.ensures c.try_run.ensures.runs
 
 pub returns-in-Err-clause-runs : goal.returns-in-Err-clause-runs
 returns-in-Err-clause-runs g c =

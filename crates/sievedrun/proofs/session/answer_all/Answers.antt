@@ -1,14 +1,18 @@
 -- Rounds before, and the one of what comes first.
-use Rattle.std.proofs.Common.{◌≡◌, None, Err, false, refl, rules, sym, subst}
+use Rattle.std.proofs.Common.{◌≡◌, None, Err, false, true, refl, rules, sym, subst, arith}
 use Rattle.sessions.specs.Clients.{is_ready}
-use Rattle.sievedrun.specs.Serving.{HasGiven, IsDenied, WritesAll}
-use Rattle.sievedrun.specs.Streams.{writes_end}
-use Rattle.sievedrun.proofs.ServingLemmas.{interrupted_on, interrupted_so, writes_none, writes_on}
+use Rattle.sievedrun.specs.Serving.{HasGiven, IsDenied, StoodReady, WritesAll}
+use Rattle.sievedrun.specs.Streams.{turns_end}
+use Rattle.sievedrun.specs.Streams.InTurn.{none_yet}
+use Rattle.sievedrun.proofs.StreamLemmas.{one_turn, turns_as}
+use Rattle.sievedrun.proofs.ServingLemmas.{interrupted_on, interrupted_so, kept_same, kept_then, writes_none, writes_on}
 use Rattle.sievedrun.proofs.session.answer_all.Goals as goal
 
 pub loop-init : goal.loop-init
 loop-init g c = record {
   back = λ h. h;
+  turns = none_yet;
+  kept = kept_same c.args.trouble.now;
   written = λ tells idle accounts shown. writes_none (IsDenied g.K.Keeper.refuses g.K.Keeper.will_wait c.args.location) (HasGiven g.K.Keeper.gives g.K.Keeper.will_wait c.args.location) accounts c.args.session.now.client (g.W.Write.contents c.args.output.now) (g.K.Keeper.holds c.args.keeper.now) shown;
   none = λ tells h. h;
 }
@@ -17,8 +21,11 @@ pub loop-preserved : goal.loop-preserved
 loop-preserved g c =
     let was = c.loop.invariant in
     let now = c.in_ok-answer_some.ensures in
+    let ready : is_ready c.loop.session.client ≡ true = search rules in
     record {
       back = λ h. now.back (was.back h);
+      turns = one_turn _ _ c.loop.counter c.loop.session.client c.answer_some.new.session.client was.turns ready;
+      kept = kept_then c.args.trouble.now c.loop.trouble c.answer_some.new.trouble was.kept now.kept;
       written = λ tells idle accounts shown.
           writes_on (IsDenied g.K.Keeper.refuses g.K.Keeper.will_wait c.args.location) (HasGiven g.K.Keeper.gives g.K.Keeper.will_wait c.args.location) accounts c.args.session.now.client c.loop.session.client c.answer_some.new.session.client (g.W.Write.contents c.args.output.now) (g.W.Write.contents c.loop.output) (g.W.Write.contents c.answer_some.new.output)
           (g.K.Keeper.holds c.loop.keeper) (g.K.Keeper.holds c.answer_some.new.keeper) (was.written tells idle accounts shown) (now.answers tells (was.back idle));
@@ -42,4 +49,9 @@ returns-clause-answers g c tells idle accounts shown =
     interrupted_so (IsDenied g.K.Keeper.refuses g.K.Keeper.will_wait c.args.location) (HasGiven g.K.Keeper.gives g.K.Keeper.will_wait c.args.location) accounts c.args.session.now.client c.loop.session.client (g.W.Write.contents c.args.output.now) (g.W.Write.contents c.loop.output) (g.K.Keeper.holds c.loop.keeper) (c.loop.invariant.written tells idle accounts shown)
 
 pub returns-clause-fault : goal.returns-clause-fault
-returns-clause-fault g c = (refl, (None, writes_end None))
+returns-clause-fault g c =
+    let all : c.loop.counter ≡ 18446744073709551615 = omega arith in
+    (refl, (None, turns_end None StoodReady c.args.session.now.client c.loop.session.client (turns_as _ _ _ _ _ all c.loop.invariant.turns)))
+
+pub returns-in_err-answer_some-clause-kept : goal.returns-in_err-answer_some-clause-kept
+returns-in_err-answer_some-clause-kept g c = kept_then c.args.trouble.now c.loop.trouble c.answer_some.new.trouble c.loop.invariant.kept c.in_err-answer_some.ensures.kept

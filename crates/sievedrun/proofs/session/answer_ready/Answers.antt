@@ -1,16 +1,19 @@
 -- Each step answers what comes first, after what was answered.
-use Rattle.std.proofs.Common.{◌≡◌, ◌∙◌, ap, refl, rules, true, is_ok}
+use Rattle.std.proofs.Common.{◌≡◌, ◌∙◌, ap, refl, rules, true, is_ok, inr, arith}
 use Rattle.sqlite.specs.Effect.{Database}
 use Rattle.sqlite.specs.Held.{state}
 use Rattle.sessions.specs.Clients.{is_ready}
 use Rattle.sievedrun.specs.Serving.{AreSeen, HasGiven, IsDenied}
 use Rattle.sievedrun.proofs.ServingLemmas.{answered_none, answered_on, step_answers}
+use Rattle.sievedrun.proofs.StreamLemmas.{one_turn, turns_as}
+use Rattle.sievedrun.specs.Streams.InTurn.{none_yet}
 use Rattle.sievedrun.proofs.session.answer_ready.Goals as goal
 
 pub loop-init : goal.loop-init
 loop-init g c = record {
   answered = λ tells accounts shown. answered_none (IsDenied g.K.Keeper.refuses g.K.Keeper.will_wait c.args.location) (HasGiven g.K.Keeper.gives g.K.Keeper.will_wait c.args.location) accounts c.args.session.now.client c.args.answers.now (AreSeen (HasGiven g.K.Keeper.gives g.K.Keeper.will_wait c.args.location) (λ s. (state g.K.S.Store s).now) (g.K.Keeper.holds c.args.keeper.now) c.args.store.now) shown;
   none = λ tells empty none. (refl, none);
+  turns = none_yet;
   closed = refl;
 }
 
@@ -34,5 +37,11 @@ loop-preserved g c =
           let was = c.loop.invariant.none tells empty none in
           let now = c.answer_first.ensures.none tells (ap (λ (db : Database). db.schema) was.0 ∙ empty) was.1 in
           (now.0 ∙ was.0, now.1);
+      turns = one_turn _ _ c.loop.counter c.loop.session.client c.answer_first.new.session.client c.loop.invariant.turns ready;
       closed = c.answer_first.ensures.closed ∙ c.loop.invariant.closed;
     }
+
+pub returns-clause-whole : goal.returns-clause-whole
+returns-clause-whole g c =
+    let all : c.loop.counter ≡ 18446744073709551615 = omega arith in
+    inr (inr (turns_as _ _ _ _ _ all c.loop.invariant.turns))

@@ -1,10 +1,11 @@
 -- What was answered under the lock, or nothing, is what the keeper holds once all is given back.
-use Rattle.std.proofs.Common.{◌∙◌, sym, subst}
+use Rattle.std.proofs.Common.{Err, ap, ◌∙◌, sym, subst}
 use Rattle.sqlite.specs.Effect.{Database}
 use Rattle.sqlite.specs.Held.{state}
+use Rattle.keepers.specs.declared.keeper.Unavailable.{Unavailable}
 use Rattle.mailstore.specs.Shows.{Offers}
-use Rattle.sievedrun.specs.Serving.{HasGiven, IsDenied}
-use Rattle.sievedrun.proofs.ServingLemmas.{answered_back, answered_none}
+use Rattle.sievedrun.specs.Serving.{HasGiven, IsDenied, IsDeniedBy}
+use Rattle.sievedrun.proofs.ServingLemmas.{answered_back, answered_none, noted_or_busy}
 use Rattle.sievedrun.proofs.session.answer_under_lock.Goals as goal
 
 pub returns-in-Err-clause-answers : goal.returns-in-Err-clause-answers
@@ -22,3 +23,15 @@ returns-in-Err-answered-clause-answers g c tells accounts shown =
     answered_back (IsDenied g.K.Keeper.refuses g.K.Keeper.will_wait c.args.location) (HasGiven g.K.Keeper.gives g.K.Keeper.will_wait c.args.location) (λ s. (state g.K.S.Store s).now) (g.K.Keeper.holds c.answer_ready-answered.new.keeper) (g.K.Keeper.holds c.give_back-unclosed.new.keeper) c.answer_ready-answered.new.store (c.give_back-unclosed.ensures.held tells)
     accounts c.args.session.now.client c.answer_ready-answered.new.session.client c.args.answers.now c.answer_ready-answered.new.answers
     (c.answer_ready-answered.ensures.answers tells accounts (subst (λ (db : Database). Offers db accounts) (sym (c.lock.ensures.same tells ∙ c.wait_for_lock.ensures.same tells)) shown))
+
+pub returns-in-Err-clause-noted : goal.returns-in-Err-clause-noted
+returns-in-Err-clause-noted g c was idle =
+    let Denied = IsDeniedBy g.K.Keeper.refuses g.K.Keeper.will_wait c.args.location in
+    let keeper = c.wait_for_lock.new.self in
+    let free = c.wait_for_lock.ensures.kept ∙ idle in
+    noted_or_busy Denied c.note_denial.new.trouble c.in-Err.denial c.note_denial.ensures.noted (λ is. (keeper, subst (g.K.Keeper.refuses keeper c.args.location.path.now) is (c.in-Err.ensures.denied free), c.wait_for_lock.ensures.asked))
+
+pub returns-in-Err-answered-clause-noted : goal.returns-in-Err-answered-clause-noted
+returns-in-Err-answered-clause-noted g c was idle =
+    let Denied = IsDeniedBy g.K.Keeper.refuses g.K.Keeper.will_wait c.args.location in
+    noted_or_busy Denied c.note_denial-in-Err-answered.new.trouble c.in-Err-answered.denial c.note_denial-in-Err-answered.ensures.noted (λ is. c.in-Err-answered.ensures.busy (ap (λ (d : Unavailable). Err d) is))

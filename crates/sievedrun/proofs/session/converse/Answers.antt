@@ -1,11 +1,13 @@
 -- A piece comes, and all that is whole is answered; or the session ends there, or breaks off.
-use Rattle.std.proofs.Common.{◌≡◌, ◌≤◌, ℕ, [], Option, None, Ok, Err, refl, unwrap_or, length, take, drop, sym, ap, subst, inl, inr, true, false, rules, arith}
+use Rattle.std.proofs.Common.{◌≡◌, ◌≤◌, ℕ, [], Option, Ok, Err, ◌+◌, IfSome, refl, unwrap_or, length, take, drop, sym, ap, subst, inl, inr, true, false, rules, arith}
 use Rattle.std.proofs.lemmas.List.{length-take}
 use Rattle.std.specs.Io.KnownBytes.{Consumes}
 use Rattle.sessions.specs.Clients.{client_given}
 use Rattle.sievedrun.specs.Faults.{memory}
 use Rattle.sievedrun.specs.Serving.{Converses, HasGiven, IsDenied}
-use Rattle.sievedrun.specs.Streams.{reads_end}
+use Rattle.sievedrun.specs.Streams.{GoesOn, reads_end}
+use Rattle.sievedrun.specs.Streams.InTurn.{none_yet}
+use Rattle.sievedrun.proofs.StreamLemmas.{one_turn, turns_as}
 use Rattle.sievedrun.proofs.ServingLemmas.{broken_served, served_at_end, served_on, broken_on}
 use Rattle.sievedrun.proofs.session.converse.Goals as goal
 
@@ -77,7 +79,9 @@ loop-preserved g c =
     let was = c.loop.invariant in
     let now = c.in_ok-answered.ensures in
     let live : c.answer_all-answered.new.session.client.closed ≡ false = search rules in
+    let goes : GoesOn g.R.Read.remaining c.loop.input c.read_at.new.input = subst (λ o. IfSome o (λ count. GoesOn g.R.Read.remaining c.loop.input c.read_at.new.input)) c.in-Some.is c.in_ok-len.ensures.goes in
     record {
+      reads = one_turn _ _ c.loop.counter c.loop.input c.read_at.new.input was.reads goes;
       live = live;
       back = λ h. now.back (was.back h);
       served = λ tells idle accounts first_in first_out first. served_on (IsDenied g.K.Keeper.refuses g.K.Keeper.will_wait c.args.location) (HasGiven g.K.Keeper.gives g.K.Keeper.will_wait c.args.location) accounts first_in (g.R.Read.remaining c.loop.input) (g.R.Read.remaining c.read_at.new.input) first_out (g.W.Write.contents c.loop.output) (g.W.Write.contents c.answer_all-answered.new.output) (take len room)
@@ -91,4 +95,29 @@ returns-clause-serves g c tells idle accounts first_in first_out first =
     broken_served (IsDenied g.K.Keeper.refuses g.K.Keeper.will_wait c.args.location) (HasGiven g.K.Keeper.gives g.K.Keeper.will_wait c.args.location) accounts first_in (g.R.Read.remaining c.loop.input) first_out (g.W.Write.contents c.loop.output) c.loop.session.client (g.K.Keeper.holds c.loop.keeper) (c.loop.invariant.served tells idle accounts first_in first_out first)
 
 pub returns-clause-fault : goal.returns-clause-fault
-returns-clause-fault g c = inr (refl, inl (None, reads_end None))
+returns-clause-fault g c =
+    let remaining = g.R.Read.remaining in
+    let all : c.loop.counter ≡ 40000000 = omega arith in
+    inr (refl, inl (remaining c.loop.input, reads_end remaining c.args.input.now c.loop.input (turns_as _ _ _ _ _ all c.loop.invariant.reads)))
+
+pub loop-init : goal.loop-init
+loop-init g c = record {
+  reads = none_yet;
+  live = c.requires;
+  back = λ h. h;
+  served = λ tells idle accounts first_in first_out first. first;
+  none = λ tells h. h;
+}
+
+pub returns-in_default-clause-reads : goal.returns-in_default-clause-reads
+returns-in_default-clause-reads g c =
+    let ends = c.in_ok-len.ensures.tells (ap (λ (o : Option ℕ). Ok o) c.in_default.is) in
+    inl (record { mid = c.loop.input; reads = (c.loop.counter, c.loop.invariant.reads); ends = ends })
+
+pub returns-then-is_over-clause-reads : goal.returns-then-is_over-clause-reads
+returns-then-is_over-clause-reads g c =
+    let old = c.loop.input in
+    let new = c.read_at.new.input in
+    let shut : c.answer_all-answered.new.session.client.closed ≡ true = search rules in
+    let goes : GoesOn g.R.Read.remaining old new = subst (λ o. IfSome o (λ count. GoesOn g.R.Read.remaining old new)) c.in-Some.is c.in_ok-len.ensures.goes in
+    inr (shut, (c.loop.counter + 1, one_turn _ _ c.loop.counter old new c.loop.invariant.reads goes))

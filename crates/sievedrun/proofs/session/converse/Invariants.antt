@@ -3,10 +3,12 @@ use Rattle.std.proofs.Common.{◌≡◌, ℕ, List, Option, false, IsTrue}
 use Rattle.mailstore.specs.Account.{Accounts}
 use Rattle.mailstore.specs.Schema.{no_schema}
 use Rattle.sievedrun.specs.Serving.{HasGiven, IsDenied, Served}
+use Rattle.sievedrun.specs.Streams.{GoesOn, InTurn}
 use Rattle.sievedrun.proofs.session.converse.Given as goal
 
 abbrev pub invariant-loop : goal.invariant-loop
 invariant-loop g l = record {
+  reads : InTurn (GoesOn g.R.Read.remaining) l.initial.input l.counter l.input;
   live : l.session.client.closed ≡ false;
   back : g.K.Keeper.is_out l.initial.keeper ≡ false → g.K.Keeper.is_out l.keeper ≡ false;
   served : IsTrue g.K.Keeper.tells → g.K.Keeper.is_out l.initial.keeper ≡ false → (accounts : Accounts) (first_in first_out : Option (List ℕ))

@@ -7,7 +7,7 @@ use Rattle.mailstore.specs.Shows.{Offers}
 use Rattle.keepers.specs.Taken.{IsTaken}
 use Rattle.sievedwords.specs.declared.location.StoreLocation.{StoreLocation}
 use Rattle.sievedrun.specs.Serving.{AreSeen, HasGiven, PresentsSeen}
-use Rattle.sievedrun.proofs.ServingLemmas.{denied_by}
+use Rattle.sievedrun.proofs.ServingLemmas.{busy_by, denied_by}
 use Rattle.sievedrun.proofs.session.open_store.Goals as goal
 
 known_where : {X E : Type 0} (r : Result X E) (Tells Absent : Type 0) (Seen : X → Type 0) (seen held : Database) → (Tells → seen ≡ held) → ((x : X) → Seen x → IsKnown seen) → IfOk r (λ x. Tells → Seen x) → OnOk r (Tells → Absent → IsKnown held)
@@ -40,3 +40,6 @@ returns-in-None-clause-ours g c =
     let held = g.K.Keeper.holds c.args.keeper.now in
     let seen = g.K.Keeper.holds c.wait_for_lock.new.self in
     known_where c.take-in-None.result (IsTrue g.K.Keeper.tells) (c.args.store.now ≡ None) (λ store. IsTaken false seen (state g.K.S.Store store).now) seen held c.wait_for_lock.ensures.same (λ store taken. taken.2) c.take-in-None.ensures.taken
+
+pub returns-in-None-clause-busy : goal.returns-in-None-clause-busy
+returns-in-None-clause-busy g c is = busy_by g.K.Keeper.refuses g.K.Keeper.will_wait c.wait_for_lock.new.self c.args.location c.take-in-None.result c.take-in-None.ensures.denied c.wait_for_lock.ensures.asked is

@@ -7,7 +7,7 @@ use Rattle.sessions.specs.Replies.{capabilities}
 use Rattle.sievedrun.specs.Faults.{memory}
 use Rattle.sievedrun.specs.Serving.{HasGiven, IsDenied, Serves}
 use Rattle.sievedrun.proofs.StreamLemmas.{nothing_written}
-use Rattle.sievedrun.proofs.ServingLemmas.{broken_first, served_first}
+use Rattle.sievedrun.proofs.ServingLemmas.{broken_first, reads_out, served_first}
 use Rattle.sievedrun.proofs.session.serve_client.Goals as goal
 
 pub returns-in_err-session-clause-serves : goal.returns-in_err-session-clause-serves
@@ -40,3 +40,6 @@ returns-clause-serves g c tells idle =
           (served_first (IsDenied g.K.Keeper.refuses g.K.Keeper.will_wait c.args.location) (HasGiven g.K.Keeper.gives g.K.Keeper.will_wait c.args.location) accounts input out out2 c.in_ok-session.session.client c.as_slice.result.now (g.K.Keeper.holds c.args.keeper.now) shown begins greets c.in_ok-write_all.ensures.0);
       none = c.converse.ensures.none tells;
     }
+
+pub returns-clause-reads : goal.returns-clause-reads
+returns-clause-reads g c = reads_out c.converse.result _ _ _ c.converse.ensures.reads

@@ -1,6 +1,6 @@
 -- It was flushed, or that failed.
 use Rattle.std.proofs.Common.{refl}
-use Rattle.sievedrun.specs.Streams.{was_flushed, writes_end}
+use Rattle.sievedrun.specs.Streams.{flush_failed, was_flushed}
 use Rattle.sievedrun.proofs.StreamLemmas.{kept_appends}
 use Rattle.sievedrun.proofs.stream.flush.Goals as goal
 
@@ -8,4 +8,4 @@ pub returns-in-Ok : goal.returns-in-Ok
 returns-in-Ok g c = (kept_appends _ _ c.flush.ensures.bytes, was_flushed _)
 
 pub returns-in-Err : goal.returns-in-Err
-returns-in-Err g c = (refl, ((0, kept_appends _ _ c.flush.ensures.bytes), writes_end _))
+returns-in-Err g c = (refl, ((0, kept_appends _ _ c.flush.ensures.bytes), flush_failed _ c.in-Err.field-0))

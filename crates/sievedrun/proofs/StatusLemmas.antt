@@ -1,0 +1,31 @@
+-- Exit statuses.
+use Rattle.std.proofs.Common.{◌≡◌, ◌<◌, lit<, Result, Ok, Err, OnOk, arith}
+use Rattle.mailstore.specs.declared.refusal.Refusal.TheVariants as refusal
+use Rattle.sievedrun.specs.declared.fault.Fault.{Fault}
+use Rattle.sievedrun.specs.declared.fault.Fault.TheVariants.{Refused, Busy, Stream, NoMessage, NoMaildir, BadInput, BadArgument}
+use Rattle.sievedrun.specs.Faults.{status_of}
+use Rattle.sievedrun.specs.Promise.{status_after}
+
+-- no fault has the status of what was done
+pub status_some : (fault : Fault) → 0 < status_of fault
+status_some (Refused refusal.Memory) = lit< tt
+status_some (Refused refusal.Store) = lit< tt
+status_some (Refused refusal.NotOurs) = lit< tt
+status_some (Refused refusal.NoUser) = lit< tt
+status_some (Refused refusal.TooLarge) = lit< tt
+status_some (Refused refusal.BadEnvelope) = lit< tt
+status_some (Refused refusal.BadMoment) = lit< tt
+status_some (Refused refusal.UserExists) = lit< tt
+status_some (Refused refusal.BadUser) = lit< tt
+status_some (Refused refusal.NoRow) = lit< tt
+status_some Busy = lit< tt
+status_some Stream = lit< tt
+status_some NoMessage = lit< tt
+status_some NoMaildir = lit< tt
+status_some BadInput = lit< tt
+status_some BadArgument = lit< tt
+
+-- so what was done alone has it
+pub done_so : {X : Type 0} (r : Result X Fault) (P : Type 0) → OnOk r P → status_after r ≡ 0 → P
+done_so (Ok x) P p is = p
+done_so (Err fault) P p is = absurd (omega (arith, status_some fault, is))
