@@ -1,5 +1,5 @@
 -- What a store shows that is had now and then.
-use Rattle.std.specs.Prelude.{◌≡◌, Bool, List, [], Option, Some, None, IsTrue}
+use Rattle.std.specs.Prelude.{◌≡◌, ℕ, Bool, false, List, [], Option, Some, None, IsTrue}
 use Rattle.sqlite_trees.specs.declared.store.Store.{Ghosts}
 use Rattle.sqlite.specs.Effect.{Database}
 use Rattle.sqlite.specs.Held.{Held, state}
@@ -10,6 +10,7 @@ use Rattle.sessions.specs.Acts.{HasAccounts}
 use Rattle.mailengine.specs.Hosts.{Kept}
 use Rattle.mailengine.specs.declared.answer.Answer.{Answer}
 use Rattle.mailengine.specs.declared.event.Event.{Event}
+use Rattle.keepers.specs.declared.keeper.Unavailable.{Unavailable}
 use Rattle.sieveddaemon.specs.Desk.{StillShows, IsDone, NothingDone}
 use Rattle.daemonhosts.specs.declared.held.HeldStore.{HeldStore}
 
@@ -41,3 +42,11 @@ Changes shows clean event None r before q after = NothingDone shows r before q a
 
 abbrev pub Brings : {K S : Type 0} → Ghosts S → Bool → (K → Database) → Event → Option Answer → HeldStore K S → Kept → HeldStore K S → Kept → Type 0
 Brings g tells holds event answer held before later after = Changes (Shows g tells holds) (IsClean g tells) event answer held before later after
+
+-- a keeper that waits for nobody refused the store at this path so
+abbrev pub DeniesAtOnce : {K : Type 0} → (K → List ℕ → Unavailable → Type 0) → (K → Bool) → List ℕ → Unavailable → Type 0
+DeniesAtOnce refuses waits path denial = (keeper : _) × refuses keeper path denial × (waits keeper ≡ false)
+
+-- one that waits for nobody gave it out at this path
+abbrev pub GivesAtOnce : {K : Type 0} → (K → List ℕ → Type 0) → (K → Bool) → List ℕ → Type 0
+GivesAtOnce gives waits path = (keeper : _) × gives keeper path × (waits keeper ≡ false)

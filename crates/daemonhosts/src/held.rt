@@ -1,7 +1,7 @@
 //! A store, where it is had, and its keeper.
-ghost use Rattle.std.specs.Prelude.{◌≡◌, None, IsTrue, IfSome, OnOk, is_some};
+ghost use Rattle.std.specs.Prelude.{◌≡◌, None, IsTrue, IfErr, IfSome, OnOk, is_some};
 ghost use Rattle.mailengine.specs.Hosts.{IsGivenUp};
-ghost use Rattle.daemonhosts.specs.Held.{IsClean, StillShown, Brings};
+ghost use Rattle.daemonhosts.specs.Held.{IsClean, StillShown, Brings, DeniesAtOnce, GivesAtOnce};
 
 use keepers::{Keeper, Unavailable};
 use mailengine::{Answer, Clients, Event, Refusal, apply};
@@ -47,17 +47,20 @@ impl<K: Keeper + Drop> HeldStore<K> {
         self.keeper.is_awaited(path)
     }
 
-    /// Takes the store, where it isn't had.
+    /// Takes the store, where it isn't had. Nobody is waited for.
     ///
     /// # Errors
     ///
     /// Those of [`Keeper::take`].
     pub fn take(&mut self, path: &str) -> Result<(), Unavailable>
+        ensures denied { IfErr result (DeniesAtOnce K.refuses K.will_wait path.now) }
+        ensures given { OnOk result (self.old.store ≡ None → GivesAtOnce K.gives K.will_wait path.now) }
         ensures shown { StillShown K.S.Store K.tells K.holds self.old self.new }
     {
         if self.store.is_some() {
             return Ok(());
         }
+        self.keeper.wait_for_lock(false);
         let store = self.keeper.take(path, false)?;
         self.store = Some(store);
         Ok(())

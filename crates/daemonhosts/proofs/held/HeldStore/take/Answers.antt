@@ -1,13 +1,17 @@
--- A store that was taken shows what the tables offered.
+-- A store that was taken shows what the tables offered, and nobody was waited for.
 use Rattle.std.proofs.Common.{◌≡◌, None, rules, subst}
 use Rattle.daemonhosts.specs.Held.{ShowsBy}
-use Rattle.daemonhosts.proofs.HeldLemmas.{taken}
+use Rattle.daemonhosts.proofs.HeldLemmas.{kept, taken}
 use Rattle.daemonhosts.proofs.held.HeldStore.take.Goals as goal
 
-pub returns : goal.returns
-returns g c = record {
-  shown = λ accounts shown.
-      let none : c.args.self.now.store ≡ None = search rules in
-      taken g.K.S.Store g.K.Keeper.tells (g.K.Keeper.holds c.args.self.now.keeper) (g.K.Keeper.holds c.take.new.self) c.in_ok-store.store c.in_ok-store.ensures.taken accounts
-      (subst (λ o. ShowsBy g.K.S.Store g.K.Keeper.tells (g.K.Keeper.holds c.args.self.now.keeper) o accounts) none shown);
-}
+pub returns-clause-shown : goal.returns-clause-shown
+returns-clause-shown g c accounts shown =
+    let tells = g.K.Keeper.tells in
+    let held = g.K.Keeper.holds c.args.self.now.keeper in
+    let asked = g.K.Keeper.holds c.wait_for_lock.new.self in
+    let none : c.args.self.now.store ≡ None = search rules in
+    let here = subst (λ o. ShowsBy g.K.S.Store tells held o accounts) none shown in
+    taken g.K.S.Store tells asked (g.K.Keeper.holds c.take.new.self) c.in_ok-store.store c.in_ok-store.ensures.taken accounts (kept g.K.S.Store tells held asked None c.wait_for_lock.ensures.same accounts here)
+
+pub returns-clause-given : goal.returns-clause-given
+returns-clause-given g c none = (c.wait_for_lock.new.self, c.in_ok-store.ensures.given, c.wait_for_lock.ensures.asked)
