@@ -113,6 +113,7 @@ impl MemoryRuns {
             input: b"Subject: more\n\n",
             writes: NEVER,
             clock: CLOCK,
+            shows_words: false,
         };
         let mut out = Octets::new(alloc);
         add_run(alloc, &mut out, &mut self.keeper, &mut self.sink, run)
@@ -142,7 +143,7 @@ fn add_messages(out: &mut Octets, messages: &[KeptMail]) -> Result<(), AllocErro
     Ok(())
 }
 
-/// Appends what comes of a row that any keeper can have: `run`, `full` and `timeless` are runs of the program, `send` is a
+/// Appends what comes of a row that any keeper can have: `run`, `full`, `timeless` and `said` are runs of the program, `send` is a
 /// command, and `greet`, `talk`, `gone` and `deaf` are sessions.
 pub fn answer<K: Keeper, T: MailSink>(
     alloc: Global,
@@ -157,13 +158,14 @@ pub fn answer<K: Keeper, T: MailSink>(
     };
     let (words, input) = (text.as_slice(), input.as_slice());
     match text_in(call.as_slice()) {
-        call @ ("run" | "full" | "timeless") => {
+        call @ ("run" | "full" | "timeless" | "said") => {
             let run = Run {
                 path,
                 words,
                 input,
                 writes: if call == "full" { 0 } else { NEVER },
                 clock: if call == "timeless" { None } else { CLOCK },
+                shows_words: call == "said",
             };
             add_run(alloc, out, keeper, sink, run)
         }
@@ -184,6 +186,8 @@ pub struct Run<'a> {
     pub writes: u64,
     /// The moment in seconds since 1970; none where the clock can't be read.
     pub clock: Option<u64>,
+    /// Whether all is shown of what is told of wrong words.
+    pub shows_words: bool,
 }
 
 /// Appends what a run leaves.
@@ -208,11 +212,16 @@ pub fn add_run<K: Keeper, T: MailSink>(
         run.clock,
         sink,
     );
+    let told = errors.as_slice();
     add_all_left(
         out,
         status,
         output.written.as_slice(),
-        errors.as_slice(),
+        if run.shows_words {
+            told
+        } else {
+            beginning_of(told)
+        },
         left.len(),
     )
 }
@@ -248,15 +257,21 @@ fn add_all_left(
     add_parts(out, &[Text(b"|unread "), Number(unread as u64)])
 }
 
-/// Appends `STATUS|OUTPUT|FAULTS`. Of a fault of the words only its beginning, `error: `, is shown.
+/// What is shown of what was told: of wrong words only the beginning, `error: `.
+fn beginning_of(told: &[u8]) -> &[u8] {
+    if told.starts_with(b"error: ") {
+        return b"error: ";
+    }
+    told
+}
+
+/// Appends `STATUS|OUTPUT|FAULTS`.
 pub fn add_left<'a>(
     out: &mut Octets,
     status: u8,
     output: &'a [u8],
     errors: &'a [u8],
 ) -> Result<(), AllocError> {
-    let is_usage = errors.starts_with(b"error: ");
-    let errors = if is_usage { b"error: " } else { errors };
     add_parts(
         out,
         &[
