@@ -1,16 +1,17 @@
 -- What a store shows that is had now and then.
-use Rattle.std.specs.Prelude.{◌≡◌, Bool, List, [], Option, Some, None, IsTrue}
+use Rattle.std.specs.Prelude.{◌≡◌, ℕ, Bool, List, [], Option, Some, None, IsTrue}
 use Rattle.sqlite_trees.specs.declared.store.Store.{Ghosts}
 use Rattle.sqlite.specs.Effect.{Database}
 use Rattle.sqlite.specs.Held.{Held, state}
 use Rattle.sqlite.specs.State.{HasCleanDisk}
+use Rattle.lmtp.specs.declared.receiver.Lookup.{Lookup}
 use Rattle.mailstore.specs.Account.{Accounts}
 use Rattle.mailstore.specs.Shows.{Offers}
 use Rattle.sessions.specs.Acts.{HasAccounts}
 use Rattle.mailengine.specs.Hosts.{Kept}
 use Rattle.mailengine.specs.declared.answer.Answer.{Answer}
 use Rattle.mailengine.specs.declared.event.Event.{Event}
-use Rattle.sieveddaemon.specs.Desk.{StillShows, IsDone, NothingDone}
+use Rattle.sieveddaemon.specs.Desk.{StillShows, IsDone, NothingDone, IsFoundIn}
 use Rattle.daemonhosts.specs.declared.held.HeldStore.{HeldStore}
 
 -- while it is had the store shows the accounts; else they are those of its keeper's tables, and none can be claimed where it doesn't tell these
@@ -41,3 +42,11 @@ Changes shows clean event None r before q after = NothingDone shows r before q a
 
 abbrev pub Brings : {K S : Type 0} → Ghosts S → Bool → (K → Database) → Event → Option Answer → HeldStore K S → Kept → HeldStore K S → Kept → Type 0
 Brings g tells holds event answer held before later after = Changes (Shows g tells holds) (IsClean g tells) event answer held before later after
+
+-- that was found of an account of that name, and the accounts are as they were; or nothing was asked
+abbrev pub Finds : {R : Type 0} → (R → Accounts → Type 0) → (R → Type 0) → List ℕ → Option Lookup → R → R → Type 0
+Finds shows clean user (Some lookup) r q = clean q → (accounts : Accounts) → shows r accounts → IsFoundIn accounts user lookup × shows q accounts
+Finds shows clean user None r q = StillShows shows r q
+
+abbrev pub Seeks : {K S : Type 0} → Ghosts S → Bool → (K → Database) → List ℕ → Option Lookup → HeldStore K S → HeldStore K S → Type 0
+Seeks g tells holds user lookup held later = Finds (Shows g tells holds) (IsClean g tells) user lookup held later

@@ -4,8 +4,10 @@ use daemonhosts::host::Host;
 use keepers::Keeper;
 use keepers::cause::of_socket;
 use mio::net::TcpListener;
-use sieveddaemon::daemon::Daemon;
+use lmtp::Names;
+use octets::Octets;
 use sieveddaemon::life;
+use sieveddaemon::mail::MailDaemon;
 use sievedrun::fault::Fault;
 use sievedrun::trouble::Trouble;
 use sievedrun::values::port_of;
@@ -28,7 +30,10 @@ pub fn serve_many<N: Net + Clock, W: Write, E: Write + Drop, K: Keeper + Drop>(
     mut keeper: K,
 ) -> u8 {
     match listen(system, alloc, asked, output, &mut errors, &mut keeper) {
-        Ok(Some(sockets)) => live(alloc, Host::new(alloc, sockets, keeper, asked.path, errors)),
+        Ok(Some(sockets)) => live(
+            alloc,
+            Host::new(alloc, system, sockets, keeper, asked.path, errors),
+        ),
         Ok(None) => 0,
         Err(trouble) => refuse(&mut errors, trouble),
     }
@@ -101,7 +106,7 @@ fn live<N: Net + Clock, E: Write + Drop, K: Keeper + Drop>(
     alloc: Global,
     mut host: Host<'_, N, E, K>,
 ) -> u8 {
-    let mut daemon = Daemon::new(alloc);
+    let mut daemon = MailDaemon::new(alloc, Names::Local, Octets::new(alloc));
     let mut service = Service::new(alloc);
     match life::serve(&mut host, &mut daemon, &mut service, u64::MAX) {
         Ok(()) => 0,
