@@ -4,6 +4,7 @@ pub mod Examples
 pub mod HeadlineLemmas
 pub mod LeadLemmas
 pub mod LineLemmas
+pub mod MailExamples
 pub mod MailLemmas
 pub mod RoomLemmas
 pub mod SentLemmas
