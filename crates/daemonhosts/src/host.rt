@@ -128,9 +128,13 @@ impl<'a, N: Net + time::Clock, E: Write + Drop, K: Keeper + Drop> Host<'a, N, E,
         }
         self.reach();
         let moment = seconds(self.system);
-        let answer = self.held.deliver(self.alloc, parcel, moment)?;
-        self.note_answer(&answer);
-        Some(answer)
+        match self.held.deliver(self.alloc, parcel, moment) {
+            Some(answer) => {
+                self.note_answer(&answer);
+                Some(answer)
+            }
+            None => None,
+        }
     }
 
     /// Takes the store, where it isn't had and isn't left alone.
